@@ -1,0 +1,15 @@
+-- The numbers of what is wrong with an element of a trace.
+use Rattle.std.specs.Prelude.{ℕ}
+use Rattle.span_read.specs.declared.item.ItemFault.{ItemFault}
+use Rattle.span_read.specs.declared.item.ItemFault.TheVariants.{NotObject, NoPhase, NoTime, NotWhole, NoDuration, BadField, NoId, BadReach, BadSeries}
+
+abbrev pub code_of : ItemFault → ℕ
+code_of NotObject = 11
+code_of NoPhase = 12
+code_of NoTime = 13
+code_of NotWhole = 14
+code_of NoDuration = 15
+code_of (BadField f) = 16
+code_of NoId = 17
+code_of BadReach = 18
+code_of BadSeries = 19

@@ -1,0 +1,3 @@
+pub mod Args
+pub mod Event
+pub mod Item

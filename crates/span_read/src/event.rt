@@ -1,0 +1,67 @@
+use crate::args::Args;
+use crate::text::Text;
+
+/// What an event says, by the letter of its `ph`; `I` is read as `i`.
+#[derive(Clone, Copy, Debug, PartialEq, Eq)]
+pub enum Phase {
+    /// `B`: a span begins.
+    SpanBegin,
+    /// `E`: the span that began last ends.
+    SpanEnd,
+    /// `X`: a whole span, with its length.
+    Complete,
+    /// `b`: an asynchronous span begins.
+    AsyncBegin,
+    /// `n`: a point of an asynchronous span.
+    AsyncPoint,
+    /// `e`: an asynchronous span ends.
+    AsyncEnd,
+    /// `s`: a flow chain starts.
+    FlowStart,
+    /// `t`: a point of a flow chain.
+    FlowStep,
+    /// `f`: the last point of a flow chain.
+    FlowEnd,
+    /// `C`: a sample of counters.
+    Counter,
+    /// `i` or `I`: an instant.
+    Instant,
+    /// `M`: a name, label or sort index of a process or a thread.
+    Meta,
+}
+
+/// The id of an asynchronous span, a flow chain or a counter. Where `home` is a process, the id is known in that process alone.
+#[derive(Debug, Drop, PartialEq, Eq, PartialOrd, Ord, Hash)]
+pub struct IdKey {
+    pub home: Option<i64>,
+    pub id: Text,
+}
+
+/// How far an instant reaches.
+#[derive(Clone, Copy, Debug, PartialEq, Eq, PartialOrd, Ord, Hash)]
+pub enum Reach {
+    Global,
+    Process,
+    Thread,
+}
+
+/// One event of a trace. Times and lengths are whole microseconds.
+///
+/// A field that the phase does not read has its default: `ts` 0 at `Meta`, `dur` 0 but at `Complete`, no `key`,
+/// an empty `scope`, no `reach`.
+#[derive(Debug, Drop)]
+pub struct Event {
+    pub phase: Phase,
+    pub name: Text,
+    pub cat: Text,
+    /// From -9007199254740991 to 9007199254740991.
+    pub ts: i64,
+    /// From 0 to 9007199254740991.
+    pub dur: u64,
+    pub pid: i64,
+    pub tid: i64,
+    pub key: Option<IdKey>,
+    pub scope: Text,
+    pub reach: Option<Reach>,
+    pub args: Args,
+}

@@ -1,0 +1,14 @@
+//! Reads the bytes of a trace file into typed items: good events, numbered faults, and events of phases that are not used.
+#![tactic(auto)]
+
+mod args;
+mod event;
+mod item;
+mod items;
+mod text;
+
+pub use args::{ArgValue, Args};
+pub use event::{Event, IdKey, Phase, Reach};
+pub use item::{Field, Item, ItemFault};
+pub use items::Items;
+pub use text::Text;
