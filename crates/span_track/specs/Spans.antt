@@ -1,0 +1,78 @@
+-- Closed spans of one thread, and how its microseconds are shared among them. A name is of a type N: a text, or its number.
+use Rattle.std.specs.Prelude.{ℕ, zero, suc, ◌+◌, nat_lt, Bool, true, false, not, ◌&&◌, ◌||◌, if◌then◌else◌, ℤ, pos, negsuc, ◌+ℤ◌, ◌-ℤ◌, int_lt, int_le, List, [], ◌∷◌, filter, sum_by}
+use Rattle.std.specs.List.{list_any}
+use Rattle.std.specs.Ordering.{int_eq}
+use Rattle.std.specs.Int.{int_min, int_max}
+use Rattle.span_read.specs.declared.args.ArgValue.{ArgValue}
+
+-- the arguments of an event, as its reader gives them
+abbrev pub Arguments : Type 0
+Arguments = List (List ℕ × ArgValue)
+
+-- a closed span: it covers each microsecond from `start` to before `until`; `at` is the journal's position of the event that opened it
+pub record Span (N : Type 0) : Type 0 where
+  pub name : N
+  pub start : ℤ
+  pub until : ℤ
+  pub at : ℕ
+  pub args : Arguments
+
+-- how many whole numbers lie from a to before b
+abbrev pub natural : ℤ → ℕ
+natural (pos n) = n
+natural (negsuc n) = 0
+
+abbrev pub distance : ℤ → ℤ → ℕ
+distance a b = natural (b -ℤ a)
+
+module _ {N : Type 0} where
+  -- the span's length in microseconds
+  abbrev pub length_of : Span N → ℕ
+  length_of s = distance s.start s.until
+
+  abbrev pub covers : Span N → ℤ → Bool
+  covers s u = int_le s.start u && int_lt u s.until
+
+  -- a ranks above b: it starts later; or together with b and ends sooner; or both ends agree and it was opened later
+  abbrev pub outranks : Span N → Span N → Bool
+  outranks a b = int_lt b.start a.start || (int_eq a.start b.start && (int_lt a.until b.until || (int_eq a.until b.until && nat_lt b.at a.at)))
+
+  -- some span that covers u ranks above s
+  abbrev pub is_outranked : List (Span N) → Span N → ℤ → Bool
+  is_outranked spans s u = list_any (λ a. covers a u && outranks a s) spans
+
+  abbrev pub is_covered : List (Span N) → ℤ → Bool
+  is_covered spans u = list_any (λ s. covers s u) spans
+
+  -- a time from which on all spans lie, and one before which they all end
+  abbrev pub earliest : List (Span N) → ℤ
+  earliest [] = pos 0
+  earliest (s ∷ spans) = int_min s.start (earliest spans)
+
+  abbrev pub latest : List (Span N) → ℤ
+  latest [] = pos 0
+  latest (s ∷ spans) = int_max s.until (latest spans)
+
+-- how many of the n whole numbers from t on pass the test
+abbrev pub count_from : ℤ → ℕ → (ℤ → Bool) → ℕ
+count_from t zero p = 0
+count_from t (suc n) p = (if p t then 1 else 0) + count_from (t +ℤ pos 1) n p
+
+module _ {N : Type 0} where
+  -- the microseconds of s that no span above it covers
+  abbrev pub self_time : List (Span N) → Span N → ℕ
+  self_time spans s = count_from s.start (length_of s) (λ u. not (is_outranked spans s u))
+
+  -- the microseconds that at least one span covers
+  abbrev pub busy_time : List (Span N) → ℕ
+  busy_time spans = count_from (earliest spans) (distance (earliest spans) (latest spans)) (λ u. is_covered spans u)
+
+  -- the spans of one name, how long they are together, and their self times together
+  abbrev pub named : (N → N → Bool) → N → List (Span N) → List (Span N)
+  named same name spans = filter (λ s. same s.name name) spans
+
+  abbrev pub total_of : (N → N → Bool) → N → List (Span N) → ℕ
+  total_of same name spans = sum_by (λ s. length_of s) (named same name spans)
+
+  abbrev pub self_of : (N → N → Bool) → N → List (Span N) → ℕ
+  self_of same name spans = sum_by (λ s. self_time spans s) (named same name spans)

@@ -1,0 +1,2 @@
+//! What the events of one thread stand for: nested spans, and their self and busy times.
+#![tactic(auto)]
