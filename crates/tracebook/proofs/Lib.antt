@@ -1,1 +1,3 @@
+pub mod EndLines
 pub mod Padding
+pub mod Taking

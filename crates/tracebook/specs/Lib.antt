@@ -1,2 +1,5 @@
+pub mod FaultLines
 pub mod Lines
 pub mod Report
+pub mod Sink
+pub mod Words

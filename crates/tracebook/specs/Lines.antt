@@ -17,10 +17,14 @@ line_of (word ∷ next ∷ words) = word ++ 32 ∷ line_of (next ∷ words)
 abbrev pub right_in : ℕ → List ℕ → List ℕ
 right_in width digits = replicate (width - length digits) 32 ++ digits
 
+-- a text as JSON text
+unfoldable pub json_text_of : List ℕ → List ℕ
+json_text_of text = quoted text
+
 -- the name as JSON text, or `-` where there is none
 abbrev pub name_text : Option (List ℕ) → List ℕ
 name_text None = codes "-"
-name_text (Some name) = quoted name
+name_text (Some name) = json_text_of name
 
 unfoldable pub first_line : List ℕ
 first_line = line_of (codes "tracebook" ∷ codes "1" ∷ [])
@@ -35,4 +39,4 @@ unfoldable pub thread_line : ThreadRow → List ℕ
 thread_line row = line_of (codes "thread" ∷ signed_decimal row.pid ∷ signed_decimal row.tid ∷ name_text row.name ∷ codes "open" ∷ decimal row.unclosed ∷ codes "busy" ∷ decimal row.busy ∷ [])
 
 unfoldable pub span_line : SpanRow → List ℕ
-span_line row = line_of (codes "span" ∷ right_in 8 (decimal row.count) ∷ right_in 16 (decimal row.total) ∷ right_in 16 (decimal row.self_time) ∷ quoted row.name ∷ [])
+span_line row = line_of (codes "span" ∷ right_in 8 (decimal row.count) ∷ right_in 16 (decimal row.total) ∷ right_in 16 (decimal row.self_time) ∷ json_text_of row.name ∷ [])

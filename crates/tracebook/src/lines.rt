@@ -1,15 +1,15 @@
 //! The lines of a report, each appended to a text.
 ghost use Rattle.std.specs.Prelude.{◌≡◌, ◌++◌, string_bytes, OnOk, IfOk};
-ghost use Rattle.json.specs.Print.{quoted};
-ghost use Rattle.tracebook.specs.Lines.{first_line, count_line, process_line, thread_line, span_line, name_text};
+ghost use Rattle.tracebook.specs.Lines.{first_line, count_line, process_line, thread_line, span_line, name_text, json_text_of};
 
 use serde_json::Value;
 use span_ledger::{CountRow, ProcessRow, SpanRow, Text, ThreadRow};
 use std::alloc::{AllocError, Global};
 
 /// The text as JSON text.
+#[tactic(auto, unfolding(crate::specs::Lines::json_text_of))]
 pub fn json_text(alloc: Global, text: &Text) -> Result<String, AllocError>
-    ensures { IfOk result (λ s. string_bytes s ≡ quoted text.now) }
+    ensures { IfOk result (λ s. string_bytes s ≡ json_text_of text.now) }
 {
     Value::try_from_str(alloc, text.as_str())?.to_string(alloc)
 }
