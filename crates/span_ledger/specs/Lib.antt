@@ -1,0 +1,5 @@
+pub mod Answers
+pub mod Journal
+pub mod Legal
+pub mod Refusal
+pub mod Rows

@@ -1,0 +1,40 @@
+use span_read::Text;
+
+/// How many entries of each kind a journal holds.
+#[derive(Clone, Copy, Debug, PartialEq, Eq)]
+pub struct CountRow {
+    pub accepted: u32,
+    pub refused: u32,
+    pub skipped: u32,
+    pub queries: u32,
+}
+
+/// A process that has an accepted event. Its name is None where no event gave one.
+#[derive(Debug, Drop, PartialEq, Eq)]
+pub struct ProcessRow {
+    pub pid: i64,
+    pub name: Option<Text>,
+}
+
+/// A thread that has an accepted event. `busy` is in microseconds.
+#[derive(Debug, Drop, PartialEq, Eq)]
+pub struct ThreadRow {
+    pub pid: i64,
+    pub tid: i64,
+    pub name: Option<Text>,
+    /// How many spans are open.
+    pub unclosed: u32,
+    /// The microseconds that at least one closed span covers.
+    pub busy: u64,
+}
+
+/// The closed spans of one name on one thread: how many, and their length and self time together, in microseconds.
+#[derive(Debug, Drop, PartialEq, Eq)]
+pub struct SpanRow {
+    pub pid: i64,
+    pub tid: i64,
+    pub name: Text,
+    pub count: u32,
+    pub total: u128,
+    pub self_time: u64,
+}
