@@ -2,6 +2,7 @@
 #![tactic(auto)]
 
 mod entry;
+mod history;
 mod ledger;
 mod refusal;
 mod rows;

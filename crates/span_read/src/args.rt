@@ -1,9 +1,10 @@
-ghost use Rattle.std.specs.Prelude.{◌≡◌, List, ℕ, [], option_copied};
+ghost use Rattle.std.specs.Prelude.{◌≡◌, List, ℕ, [], ◌∷◌, ◌++◌, option_copied, IfOk, IfSome, IfNone};
 ghost use Rattle.span_read.specs.declared.args.ArgValue.{ArgValue};
-ghost use Rattle.span_read.specs.Args.{IsInNameOrder, value_of};
+ghost use Rattle.span_read.specs.Args.{IsInNameOrder, value_of, merged};
 
 use crate::text::Text;
-use std::alloc::Global;
+use std::alloc::{AllocError, Global};
+use std::cmp::Ordering;
 use std::marker::Model;
 
 /// A value of an event's arguments. Arrays, objects and numbers that are not whole are kept as `Other`.
@@ -14,6 +15,20 @@ pub enum ArgValue {
     Flag(bool),
     Nil,
     Other,
+}
+
+impl ArgValue {
+    pub fn try_clone(&self, alloc: Global) -> Result<ArgValue, AllocError>
+        ensures { IfOk result (λ v. v ≡ self.now) }
+    {
+        match self {
+            ArgValue::Whole(number) => Ok(ArgValue::Whole(*number)),
+            ArgValue::Words(text) => Ok(ArgValue::Words(text.try_clone(alloc)?)),
+            ArgValue::Flag(flag) => Ok(ArgValue::Flag(*flag)),
+            ArgValue::Nil => Ok(ArgValue::Nil),
+            ArgValue::Other => Ok(ArgValue::Other),
+        }
+    }
 }
 
 /// The arguments of an event: pairs of a name and a value, each name once, in byte order of names.
@@ -50,4 +65,79 @@ impl Args {
         }
         None
     }
+}
+
+impl Args {
+    pub fn try_clone(&self, alloc: Global) -> Result<Args, AllocError>
+        ensures { IfOk result (λ a. a ≡ self.now) }
+    {
+        let mut pairs = Vec::with_capacity(alloc, self.pairs.len())?;
+        for pair in &self.pairs {
+            pairs.push(copy_of_pair(alloc, pair)?)?;
+        }
+        Ok(Args { pairs })
+    }
+}
+
+/// The arguments of a span from those of its begin and of its end: where both have a name, the end's value is taken.
+pub fn merge_args(alloc: Global, begin: &Args, end: &Args) -> Result<Args, AllocError>
+    ensures { IfOk result (λ args. args ≡ merged begin.now end.now) }
+{
+    let pairs = merge_pairs(alloc, &begin.pairs, &end.pairs)?;
+    Ok(Args { pairs })
+}
+
+fn merge_pairs(
+    alloc: Global,
+    begin: &[(Text, ArgValue)],
+    end: &[(Text, ArgValue)],
+) -> Result<Vec<(Text, ArgValue)>, AllocError>
+    requires begin_in_order { IsInNameOrder begin.now }
+    requires end_in_order { IsInNameOrder end.now }
+    ensures { IfOk result (λ pairs. pairs.items ≡ merged begin.now end.now) }
+{
+    let mut pairs = Vec::new(alloc);
+    let mut from_begin = begin;
+    let mut from_end = end;
+    'names: while let Some((pair, begin_rest, end_rest)) = next_pair(from_begin, from_end) {
+        pairs.push(copy_of_pair(alloc, pair)?)?;
+        from_begin = begin_rest;
+        from_end = end_rest;
+    }
+    Ok(pairs)
+}
+
+type Pairs<'a> = &'a [(Text, ArgValue)];
+
+// The first pair of both lists merged, and what is then left of each.
+fn next_pair<'a>(
+    begin: Pairs<'a>,
+    end: Pairs<'a>,
+) -> Option<(&'a (Text, ArgValue), Pairs<'a>, Pairs<'a>)>
+    requires begin_in_order { IsInNameOrder begin.now }
+    requires end_in_order { IsInNameOrder end.now }
+    ensures none { IfNone result (merged begin.now end.now ≡ []) }
+    ensures first { IfSome result
+        (λ next. merged begin.now end.now ≡ next.0.now ∷ merged next.1.now next.2.now) }
+    ensures in_order { IfSome result
+        (λ next. IsInNameOrder next.1.now × IsInNameOrder next.2.now) }
+{
+    match (begin.split_first(), end.split_first()) {
+        (None, None) => None,
+        (Some((pair, rest)), None) => Some((pair, rest, end)),
+        (None, Some((pair, rest))) => Some((pair, begin, rest)),
+        (Some((b, begin_rest)), Some((e, end_rest))) => match b.0.cmp(&e.0) {
+            Ordering::Less => Some((b, begin_rest, end)),
+            Ordering::Equal => Some((e, begin_rest, end_rest)),
+            Ordering::Greater => Some((e, begin, end_rest)),
+        },
+    }
+}
+
+fn copy_of_pair(alloc: Global, pair: &(Text, ArgValue)) -> Result<(Text, ArgValue), AllocError>
+    ensures { IfOk result (λ copy. copy ≡ pair.now) }
+{
+    let name = pair.0.try_clone(alloc)?;
+    let value = pair.1.try_clone(alloc)?;
+    Ok((name, value))
 }

@@ -1,5 +1,8 @@
+ghost use Rattle.std.specs.Prelude.{◌≡◌, IfOk};
+
 use crate::args::Args;
 use crate::text::Text;
+use std::alloc::{AllocError, Global};
 
 /// What an event says, by the letter of its `ph`; `I` is read as `i`.
 #[derive(Clone, Copy, Debug, PartialEq, Eq)]
@@ -37,6 +40,18 @@ pub struct IdKey {
     pub id: Text,
 }
 
+impl IdKey {
+    pub fn try_clone(&self, alloc: Global) -> Result<IdKey, AllocError>
+        ensures { IfOk result (λ key. key ≡ self.now) }
+    {
+        let id = self.id.try_clone(alloc)?;
+        Ok(IdKey {
+            home: self.home,
+            id,
+        })
+    }
+}
+
 /// How far an instant reaches.
 #[derive(Clone, Copy, Debug, PartialEq, Eq, PartialOrd, Ord, Hash)]
 pub enum Reach {
@@ -64,4 +79,32 @@ pub struct Event {
     pub scope: Text,
     pub reach: Option<Reach>,
     pub args: Args,
+}
+
+impl Event {
+    pub fn try_clone(&self, alloc: Global) -> Result<Event, AllocError>
+        ensures { IfOk result (λ event. event ≡ self.now) }
+    {
+        let name = self.name.try_clone(alloc)?;
+        let cat = self.cat.try_clone(alloc)?;
+        let key = match &self.key {
+            Some(key) => Some(key.try_clone(alloc)?),
+            None => None,
+        };
+        let scope = self.scope.try_clone(alloc)?;
+        let args = self.args.try_clone(alloc)?;
+        Ok(Event {
+            phase: self.phase,
+            name,
+            cat,
+            ts: self.ts,
+            dur: self.dur,
+            pid: self.pid,
+            tid: self.tid,
+            key,
+            scope,
+            reach: self.reach,
+            args,
+        })
+    }
 }

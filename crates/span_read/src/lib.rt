@@ -7,7 +7,7 @@ mod item;
 mod items;
 mod text;
 
-pub use args::{ArgValue, Args};
+pub use args::{ArgValue, Args, merge_args};
 pub use event::{Event, IdKey, Phase, Reach};
 pub use item::{Field, Item, ItemFault};
 pub use items::Items;

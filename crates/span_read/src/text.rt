@@ -38,6 +38,12 @@ impl Text {
     {
         self.text.as_str()
     }
+
+    pub fn try_clone(&self, alloc: Global) -> Result<Text, AllocError>
+        ensures { IfOk result (λ t. t ≡ self.now) }
+    {
+        Text::of(alloc, self.as_str())
+    }
 }
 
 impl PartialEq for Text {

@@ -1,2 +1,4 @@
 //! What the events of one thread stand for: nested spans, and their self and busy times.
 #![tactic(auto)]
+
+pub mod laws;

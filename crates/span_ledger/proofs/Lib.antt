@@ -1,0 +1,3 @@
+pub mod Balance
+pub mod Good
+pub mod Later

@@ -1,0 +1,4 @@
+pub mod Counts
+pub mod OpenSpans
+pub mod Ranks
+pub mod Tops
