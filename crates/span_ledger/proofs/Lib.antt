@@ -1,3 +1,4 @@
 pub mod Balance
 pub mod Good
 pub mod Later
+pub mod LegalJournals

@@ -1,6 +1,7 @@
 //! The journal of a collection, and the sequential ledger that answers each operation from the entries before it.
 #![tactic(auto)]
 
+mod answers;
 mod entry;
 mod history;
 mod ledger;
