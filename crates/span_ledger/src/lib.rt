@@ -5,6 +5,7 @@ mod answers;
 mod entry;
 mod history;
 mod ledger;
+mod listing;
 mod refusal;
 mod rows;
 
