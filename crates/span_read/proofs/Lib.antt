@@ -1,1 +1,3 @@
 pub mod Merged
+pub mod NameOrder
+pub mod Taken

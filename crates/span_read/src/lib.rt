@@ -1,13 +1,22 @@
 //! Reads the bytes of a trace file into typed items: good events, numbered faults, and events of phases that are not used.
 #![tactic(auto)]
 
+mod arg_values;
 mod args;
+mod build;
+mod check;
+mod element;
 mod event;
 mod item;
 mod items;
+mod key;
+mod members;
+mod phase;
+mod reach;
 mod text;
 
 pub use args::{ArgValue, Args, merge_args};
+pub use element::item_of;
 pub use event::{Event, IdKey, Phase, Reach};
 pub use item::{Field, Item, ItemFault};
 pub use items::Items;
