@@ -1,3 +1,4 @@
+pub mod Documents
 pub mod Merged
 pub mod NameOrder
 pub mod Taken
