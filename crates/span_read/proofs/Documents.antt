@@ -1,5 +1,5 @@
 -- The document of bytes that are UTF-8, and of bytes that are not; the elements of a trace that keep the limit.
-use Rattle.std.proofs.Common.{◌≡◌, ℕ, ◌<◌, ◌≤◌, List, length, refl, Bool, true, false, true≢false, None, Some, Ok, Err, sym, ap, ◌∙◌, nat_lt, arith, rules, tests}
+use Rattle.std.proofs.Common.{◌≡◌, ℕ, ◌<◌, ◌≤◌, List, length, refl, Bool, true, false, None, Some, Ok, Err, rules, tests}
 use Rattle.std.specs.Str.{IsUtf8, is_utf8}
 use Rattle.std.proofs.lemmas.Str.{is_utf8-from_IsUtf8, IsUtf8-from_is_utf8}
 use Rattle.serde_json.specs.View.{items_view}

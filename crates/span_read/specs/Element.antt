@@ -52,9 +52,9 @@ abbrev pub first_fault : List (Option ItemFault) → Option ItemFault
 first_fault [] = None
 first_fault (f ∷ fs) = option_or f (first_fault fs)
 
--- the first fault of an event's members, in the order in which they are looked at
-abbrev pub fault_of : Phase → Members → Option ItemFault
-fault_of phase ms = first_fault (
+-- what may be wrong with an event's members, in the order in which they are looked at
+abbrev pub faults : Phase → Members → List (Option ItemFault)
+faults phase ms =
     where_read (reads_time phase) (time_fault (get_member (codes "ts") ms))
     ∷ where_read (reads_duration phase) (duration_fault (get_member (codes "dur") ms))
     ∷ whole_fault Pid (get_member (codes "pid") ms)
@@ -66,7 +66,11 @@ fault_of phase ms = first_fault (
     ∷ where_read (needs_id phase) (unless (is_some (get_member (codes "id") ms) || is_some (get_member (codes "id2") ms)) NoId)
     ∷ where_read (reads_reach phase) (unless (is_some (reach_of (get_member (codes "s") ms))) BadReach)
     ∷ where_read (wants_whole_args phase) (unless (all_whole (args_of (get_member (codes "args") ms))) BadSeries)
-    ∷ [])
+    ∷ []
+
+-- the first fault of an event's members
+abbrev pub fault_of : Phase → Members → Option ItemFault
+fault_of phase ms = first_fault (faults phase ms)
 
 -- the event that members without a fault give
 abbrev pub event_of : Phase → Members → Event

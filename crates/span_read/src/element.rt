@@ -1,6 +1,7 @@
 // The item of one element of a trace.
 ghost use Rattle.std.specs.Prelude.{◌≡◌, IfOk};
 ghost use Rattle.serde_json.specs.View.{view, members_view};
+ghost use Rattle.span_read.specs.Item.{IsGoodItem};
 ghost use Rattle.span_read.specs.Element.{item_of_data, item_of_members};
 
 use crate::build::event_of;
@@ -13,7 +14,8 @@ use std::alloc::{AllocError, Global};
 
 /// The item that a value of a trace's array is. A fault of the item is no error of the call.
 pub fn item_of(alloc: Global, value: &Value) -> Result<Item, AllocError>
-    ensures { IfOk result (λ item. item ≡ item_of_data (view value.now)) }
+    ensures item { IfOk result (λ item. item ≡ item_of_data (view value.now)) }
+    ensures good { IfOk result IsGoodItem }
 {
     item_of_element(alloc, value.clone()?)
 }

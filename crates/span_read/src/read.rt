@@ -2,6 +2,7 @@
 ghost use Rattle.std.specs.Prelude.{◌≡◌, ◌≢◌, ◌<◌, ◌↔◌, length, IfOk, IfErr, Ok, Err, Some, All, option_map};
 ghost use Rattle.serde_json.specs.View.{view, items_view};
 ghost use Rattle.span_read.specs.Document.{document, elements_of, items_of, doc, doc_of_elements, most_bytes};
+ghost use Rattle.span_read.specs.Item.{IsGoodItem};
 ghost use Rattle.span_read.specs.declared.error.ReadError.TheVariants.{TooLarge, Memory};
 
 use crate::candidates::first_read;
@@ -22,6 +23,7 @@ const MOST_ITEMS: usize = 4_194_304;
 pub fn read_items(alloc: Global, bytes: &[u8]) -> Result<Items, ReadError>
     ensures items { IfOk result (λ items. doc bytes.now ≡ Ok items) }
     ensures refused { IfErr result (λ error. error ≢ Memory → doc bytes.now ≡ Err error) }
+    ensures good { IfOk result (All IsGoodItem) }
     ensures too_large { result ≡ Err TooLarge ↔ (most_bytes < length bytes.now) }
 {
     if bytes.len() > MOST_BYTES {
@@ -64,6 +66,7 @@ fn items_within_limit(alloc: Global, elements: Vec<Value>) -> Result<Items, Read
         (λ items. doc_of_elements (Some (items_view elements.items)) ≡ Ok items) }
     ensures refused { IfErr result
         (λ error. error ≢ Memory → doc_of_elements (Some (items_view elements.items)) ≡ Err error) }
+    ensures good { IfOk result (All IsGoodItem) }
     ensures not_too_large { result ≢ Err TooLarge }
 {
     if elements.len() > MOST_ITEMS {
