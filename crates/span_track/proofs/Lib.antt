@@ -1,4 +1,6 @@
 pub mod Counts
+pub mod Numbers
 pub mod OpenSpans
+pub mod Places
 pub mod Ranks
 pub mod Tops

@@ -1,3 +1,4 @@
 pub mod Laws
 pub mod Nesting
+pub mod Numbering
 pub mod Spans

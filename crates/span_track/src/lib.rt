@@ -2,3 +2,6 @@
 #![tactic(auto)]
 
 pub mod laws;
+mod names;
+
+pub use names::Names;
