@@ -3,4 +3,6 @@ pub mod Numbers
 pub mod OpenSpans
 pub mod Places
 pub mod Ranks
+pub mod Sound
+pub mod ThreadSpans
 pub mod Tops
