@@ -1,3 +1,7 @@
+pub mod Fault
+pub mod Kept
 pub mod Laws
 pub mod Nesting
+pub mod Numbering
 pub mod Spans
+pub mod Thread

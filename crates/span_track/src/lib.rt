@@ -1,4 +1,13 @@
 //! What the events of one thread stand for: nested spans, and their self and busy times.
 #![tactic(auto)]
 
+mod closed;
+mod fault;
 pub mod laws;
+mod names;
+mod thread;
+
+pub use closed::{ClosedSpan, NameTotal};
+pub use fault::TrackFault;
+pub use names::Names;
+pub use thread::ThreadTrack;

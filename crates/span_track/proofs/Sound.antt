@@ -1,0 +1,89 @@
+-- That a track stays sound from event to event.
+use Rattle.std.proofs.Common.{◌≡◌, ℕ, ◌<◌, ◌≢◌, ℤ, pos, negsuc, ◌≤ℤ◌, List, [], ◌∷◌, ◌++◌, Option, Some, None, false, refl, sym, arith, All, length-append, get_or}
+use Rattle.std.proofs.lemmas.Int.{ints}
+use Rattle.std.proofs.lemmas.List.Elements.{All-weaker, All-push, All-pop, All-head, All-tail, All-nil, All-cons}
+use Rattle.span_track.specs.Spans.{Span, Arguments}
+use Rattle.span_track.specs.Nesting.{Begin}
+use Rattle.span_track.specs.Laws.{IsApart, AreSpans}
+use Rattle.span_track.specs.Thread.{ThreadSpans, HasRoom, IsNext, goes_back}
+use Rattle.span_track.specs.Kept.{IsSound, IsInTime, IsUpTo, AreRising}
+use Rattle.span_track.proofs.ThreadSpans.{with_begin, with_whole}
+
+IsApart-append : (at : ℕ) (spans : List (Span ℕ)) (s : Span ℕ) → IsApart at spans → s.at ≢ at → IsApart at (spans ++ s ∷ [])
+IsApart-append at [] s apart differs = (differs, tt)
+IsApart-append at (x ∷ spans) s apart differs = (apart.0, IsApart-append at spans s apart.1 differs)
+
+AreSpans-append : (spans : List (Span ℕ)) (s : Span ℕ) → AreSpans spans → All (λ x. x.at ≢ s.at) spans → s.start ≤ℤ s.until → AreSpans (spans ++ s ∷ [])
+AreSpans-append [] s are apart lasts = (lasts, tt, tt)
+AreSpans-append (x ∷ spans) s are apart lasts =
+    let here = All-head (λ (y : Span ℕ). y.at ≢ s.at) x spans apart in
+    let later = All-tail (λ (y : Span ℕ). y.at ≢ s.at) x spans apart in
+    (are.0, IsApart-append x.at spans s are.1 (λ same. here (sym same)), AreSpans-append spans s are.2 later lasts)
+
+AreRising-append : (bs : List (Begin ℕ)) (b : Begin ℕ) → AreRising bs → All (λ c. c.at < b.at) bs → AreRising (bs ++ b ∷ [])
+AreRising-append [] b rising below = (All-nil _, tt)
+AreRising-append (c ∷ bs) b rising below =
+    let here = All-head (λ (d : Begin ℕ). d.at < b.at) c bs below in
+    let later = All-tail (λ (d : Begin ℕ). d.at < b.at) c bs below in
+    (All-push (λ (d : Begin ℕ). c.at < d.at) bs b rising.0 here, AreRising-append bs b rising.1 later)
+
+AreRising-front : (bs : List (Begin ℕ)) (b : Begin ℕ) → AreRising (bs ++ b ∷ []) → AreRising bs × All (λ c. c.at < b.at) bs
+AreRising-front [] b rising = (tt, All-nil _)
+AreRising-front (c ∷ bs) b rising =
+    let front = All-pop (λ (d : Begin ℕ). c.at < d.at) (bs ++ b ∷ []) bs (Some b) refl rising.0 in
+    let rest = AreRising-front bs b rising.1 in
+    ((front.0, rest.0), All-cons (λ (d : Begin ℕ). d.at < b.at) c bs front.1 rest.1)
+
+-- a time that is not before the last is no earlier than what was up to it
+IsUpTo-later : (t ts : ℤ) (last : Option ℤ) → IsUpTo t last → goes_back ts last ≡ false → t ≤ℤ ts
+IsUpTo-later t ts None up_to later = absurd up_to
+IsUpTo-later t ts (Some last) up_to later =
+    let from : last ≤ℤ ts = grind (arith, ints) in omega (arith, ints)
+
+All-IsUpTo-later : (ts : ℤ) (last : Option ℤ) (bs : List (Begin ℕ)) → goes_back ts last ≡ false → All (λ b. IsUpTo b.ts last) bs → All (λ b. IsUpTo b.ts (Some ts)) bs
+All-IsUpTo-later ts last bs later up_to =
+    All-weaker (λ (b : Begin ℕ). IsUpTo b.ts last) (λ (b : Begin ℕ). IsUpTo b.ts (Some ts)) (λ b h. IsUpTo-later b.ts ts last h later) bs up_to
+
+pub IsSound-with_begin : (t : ThreadSpans ℕ) (b : Begin ℕ) → IsSound t → HasRoom t → IsNext b.at t → negsuc 9007199254740990 ≤ℤ b.ts → goes_back b.ts t.last ≡ false → IsSound (with_begin t b)
+IsSound-with_begin t b sound room next from later = record {
+  spans = sound.spans;
+  in_time = sound.in_time;
+  from = All-push (λ (c : Begin ℕ). negsuc 9007199254740990 ≤ℤ c.ts) t.opened b sound.from from;
+  up_to = All-push (λ (c : Begin ℕ). IsUpTo c.ts (Some b.ts)) t.opened b (All-IsUpTo-later b.ts t.last t.opened later sound.up_to) (omega (arith, ints));
+  apart = All-push (λ (c : Begin ℕ). All (λ s. s.at ≢ c.at) t.closed) t.opened b sound.apart (All-weaker (λ (s : Span ℕ). s.at < b.at) (λ (s : Span ℕ). s.at ≢ b.at) (λ s h same. omega arith) t.closed next.1);
+  rising = AreRising-append t.opened b sound.rising next.0;
+  few = omega (arith, length-append t.opened (b ∷ []));
+}
+
+pub IsSound-with_whole : (t : ThreadSpans ℕ) (s : Span ℕ) → IsSound t → HasRoom t → IsNext s.at t → IsInTime s → s.start ≤ℤ s.until → IsSound (with_whole t s)
+IsSound-with_whole t s sound room next in_time lasts = record {
+  spans = AreSpans-append t.closed s sound.spans (All-weaker (λ (x : Span ℕ). x.at < s.at) (λ (x : Span ℕ). x.at ≢ s.at) (λ x h same. omega arith) t.closed next.1) lasts;
+  in_time = All-push IsInTime t.closed s sound.in_time in_time;
+  from = sound.from;
+  up_to = sound.up_to;
+  apart = All-weaker-apart t.opened sound.apart next.0;
+  rising = sound.rising;
+  few = omega (arith, length-append t.closed (s ∷ []));
+}
+  where
+    All-weaker-apart : (bs : List (Begin ℕ)) → All (λ b. All (λ x. x.at ≢ b.at) t.closed) bs → All (λ b. b.at < s.at) bs → All (λ b. All (λ x. x.at ≢ b.at) (t.closed ++ s ∷ [])) bs
+    All-weaker-apart bs apart below = λ k d within.
+        All-push (λ (x : Span ℕ). x.at ≢ (get_or bs k d).at) t.closed s (apart k d within) (λ same. let h = below k d within in omega arith)
+
+pub IsSound-with_end : (opened : List (Begin ℕ)) (closed : List (Span ℕ)) (last : Option ℤ) (b : Begin ℕ) (ts : ℤ) (args : Arguments) → IsSound (record { opened = opened ++ b ∷ []; closed = closed; last = last }) → ts ≤ℤ pos 9007199254740991 → goes_back ts last ≡ false → IsSound (record { opened = opened; closed = closed ++ record { name = b.name; start = b.ts; until = ts; at = b.at; args = args } ∷ []; last = Some ts })
+IsSound-with_end opened closed last b ts args sound in_time later =
+    let from = All-pop (λ (c : Begin ℕ). negsuc 9007199254740990 ≤ℤ c.ts) (opened ++ b ∷ []) opened (Some b) refl sound.from in
+    let up_to = All-pop (λ (c : Begin ℕ). IsUpTo c.ts last) (opened ++ b ∷ []) opened (Some b) refl sound.up_to in
+    let apart = All-pop (λ (c : Begin ℕ). All (λ s. s.at ≢ c.at) closed) (opened ++ b ∷ []) opened (Some b) refl sound.apart in
+    let rising = AreRising-front opened b sound.rising in
+    let lasts = IsUpTo-later b.ts ts last up_to.1 later in
+    let span : Span ℕ = record { name = b.name; start = b.ts; until = ts; at = b.at; args = args } in
+    record {
+      spans = AreSpans-append closed span sound.spans apart.1 lasts;
+      in_time = All-push IsInTime closed span sound.in_time (from.1, omega (arith, ints));
+      from = from.0;
+      up_to = All-IsUpTo-later ts last opened later up_to.0;
+      apart = λ k d within. All-push (λ (x : Span ℕ). x.at ≢ (get_or opened k d).at) closed span (apart.0 k d within) (λ same. let h = rising.1 k d within in omega arith);
+      rising = rising.0;
+      few = omega (arith, length-append opened (b ∷ []), length-append closed (span ∷ []), sound.few);
+    }

@@ -1,0 +1,39 @@
+-- What the track of a thread keeps, and when it refuses an event.
+use Rattle.std.specs.Prelude.{◌≡◌, ℕ, ◌+◌, ◌<◌, ◌^◌, ◌-◌, Bool, false, if◌then◌else◌, ℤ, int_lt, List, length, All, Option, Some, None, ◌==◌}
+use Rattle.span_track.specs.Spans.{Span}
+use Rattle.span_track.specs.Nesting.{Begin, ThreadEvent, open_spans, closed_spans, last_time}
+
+-- the open spans, the closed spans, and the time of the last begin or end
+pub record ThreadSpans (N : Type 0) : Type 0 where
+  pub opened : List (Begin N)
+  pub closed : List (Span N)
+  pub last : Option ℤ
+
+-- the time is below that of the last begin or end
+abbrev pub goes_back : ℤ → Option ℤ → Bool
+goes_back ts None = false
+goes_back ts (Some last) = int_lt ts last
+
+module _ {N : Type 0} where
+  abbrev pub thread_spans : List (ThreadEvent N) → ThreadSpans N
+  thread_spans es = record { opened = open_spans es; closed = closed_spans es; last = last_time es }
+
+  -- the track keeps what these events give
+  abbrev pub StandsFor : ThreadSpans N → List (ThreadEvent N) → Type 0
+  StandsFor track es = track ≡ thread_spans es
+
+  -- there is room for the number of one more span
+  abbrev pub HasRoom : ThreadSpans N → Type 0
+  HasRoom track = length track.opened + length track.closed < 2 ^ 32 - 1
+
+  -- every span was opened before this position
+  abbrev pub IsNext : ℕ → ThreadSpans N → Type 0
+  IsNext at track = All (λ b. b.at < at) track.opened × All (λ s. s.at < at) track.closed
+
+  -- a begin: 22 where time goes back
+  abbrev pub begin_refusal : ThreadSpans N → ℤ → Option ℕ
+  begin_refusal track ts = if goes_back ts track.last then Some 22 else None
+
+  -- an end: 21 where no span is open, then 22 as for a begin
+  abbrev pub end_refusal : ThreadSpans N → ℤ → Option ℕ
+  end_refusal track ts = if length track.opened == 0 then Some 21 else begin_refusal track ts

@@ -1,0 +1,27 @@
+use span_read::Args;
+
+/// A begin that no end has matched yet.
+#[derive(Debug, Drop)]
+pub(crate) struct OpenSpan {
+    pub(crate) name: u32,
+    pub(crate) ts: i64,
+    pub(crate) at: u32,
+    pub(crate) args: Args,
+}
+
+/// A span that has ended. It covers the microseconds from `start` to before `until`; `at` is the position of the event that opened it.
+#[derive(Debug, Drop)]
+pub struct ClosedSpan {
+    pub name: u32,
+    pub start: i64,
+    pub until: i64,
+    pub at: u32,
+    pub args: Args,
+}
+
+/// The closed spans of one name: how many there are, and their lengths together, in microseconds.
+#[derive(Clone, Copy, Debug, PartialEq, Eq)]
+pub struct NameTotal {
+    pub count: u32,
+    pub total: u128,
+}

@@ -1,0 +1,79 @@
+//! The numbers of names.
+ghost use Rattle.std.specs.Prelude.{◌≡◌, ◌-◌, ◌<◌, ◌^◌, List, ℕ, [], Some, length, slice_get, take, option_copied, IfOk, OnOk, OnErr};
+ghost use Rattle.span_track.specs.Numbering.{number_in, with_name};
+
+use indexmap::IndexSet;
+use span_read::Text;
+use std::alloc::{AllocError, Global};
+use std::marker::Model;
+
+/// Distinct texts, numbered from 0 in the order of their first use.
+#[derive(Drop)]
+pub struct Names {
+    texts: IndexSet<Text>,
+}
+
+impl Model for Names {
+    ghost use Rattle.std.specs.Prelude.{◌<◌, ◌^◌, List, ℕ, length};
+
+    ghost Value = { List (List ℕ) };
+
+    ghost view = { λ n. n.texts.keys };
+
+    ghost invariant = { λ n. length n.texts.keys < 2 ^ 32 };
+}
+
+impl Names {
+    /// No names. Takes no memory.
+    pub fn new(alloc: Global) -> Names
+        ensures { result ≡ [] }
+    {
+        Names {
+            texts: IndexSet::new(alloc),
+        }
+    }
+
+    /// How many names there are.
+    pub fn count(&self) -> u32
+        ensures { result ≡ length self.now }
+    {
+        self.texts.len() as u32
+    }
+
+    /// The number of `text`, which gets the next one where it has none. Only a new text takes memory.
+    pub fn number_of(&mut self, text: &Text) -> Result<u32, AllocError>
+        requires { length self.old < 2 ^ 32 - 1 }
+        ensures number { IfOk result (λ number. number_in self.new text.now ≡ Some number) }
+        ensures names { OnOk result (self.new ≡ with_name self.old text.now) }
+        ensures err { OnErr result (self.new ≡ self.old) }
+    {
+        if let Some(number) = self.find(text) {
+            return Ok(number);
+        }
+        let copy = text.try_clone(*self.texts.allocator())?;
+        let (index, _) = self.texts.insert_full(copy)?;
+        Ok(index as u32)
+    }
+
+    /// The number of `text`, where it has one.
+    pub fn find(&self, text: &Text) -> Option<u32>
+        ensures { result ≡ number_in self.now text.now }
+    {
+        let index = self.texts.get_index_of(text)?;
+        Some(index as u32)
+    }
+
+    /// The text that has this number.
+    pub fn text_of(&self, number: u32) -> Option<&Text>
+        ensures { option_copied result ≡ slice_get self.now number }
+    {
+        self.texts.get_index(number as usize)
+    }
+
+    /// Keeps the first `count` names, as before the later ones were numbered.
+    pub fn truncate(&mut self, count: u32)
+        ensures { self.new ≡ take count self.old }
+    {
+        self.texts.truncate(count as usize);
+    }
+}
