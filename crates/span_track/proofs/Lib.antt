@@ -1,3 +1,4 @@
+pub mod Apart
 pub mod Counts
 pub mod Numbers
 pub mod OpenSpans
@@ -6,3 +7,4 @@ pub mod Ranks
 pub mod Sound
 pub mod ThreadSpans
 pub mod Tops
+pub mod Totals

@@ -1,3 +1,4 @@
+pub mod Closed
 pub mod Fault
 pub mod Kept
 pub mod Laws

@@ -5,9 +5,10 @@ mod closed;
 mod fault;
 pub mod laws;
 mod names;
+mod span;
 mod thread;
 
-pub use closed::{ClosedSpan, NameTotal};
 pub use fault::TrackFault;
 pub use names::Names;
+pub use span::{ClosedSpan, NameTotal};
 pub use thread::ThreadTrack;
