@@ -3,7 +3,7 @@ ghost use Rattle.std.specs.Prelude.{◌≡◌, ◌+◌, ◌≤◌, ℕ, List, []
 ghost use Rattle.std.specs.Option.{option_map};
 ghost use Rattle.span_read.specs.Event.{IsTime, greatest_time};
 ghost use Rattle.span_track.specs.Fault.{Answers};
-ghost use Rattle.span_track.specs.Nesting.{ThreadEvent, began, ended, completed, closed_by};
+ghost use Rattle.span_track.specs.Nesting.{ThreadEvent, began, ended, completed, closed_by, opener};
 ghost use Rattle.span_track.specs.Thread.{StandsFor, HasRoom, IsNext, goes_back, begin_refusal, end_refusal};
 ghost use Rattle.span_track.specs.Closed.{span_of, total_for};
 
@@ -144,6 +144,16 @@ impl ThreadTrack {
             args,
         });
         Ok(())
+    }
+
+    /// The arguments of the begin that the next end matches. Takes no memory.
+    pub fn open_args(&self) -> Option<&Args>
+        ensures { (es : List (ThreadEvent ℕ)) → StandsFor self.now es → option_copied result ≡ option_map (λ begin. begin.args) (opener es) }
+    {
+        match self.opened.last() {
+            Some(begin) => Some(&begin.args),
+            None => None,
+        }
     }
 
     fn goes_back(&self, ts: i64) -> bool
