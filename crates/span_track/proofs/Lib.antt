@@ -3,6 +3,7 @@ pub mod Counts
 pub mod Numbers
 pub mod OpenSpans
 pub mod Places
+pub mod Positions
 pub mod Ranks
 pub mod Sound
 pub mod ThreadSpans
