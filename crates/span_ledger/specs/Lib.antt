@@ -1,5 +1,6 @@
 pub mod Answers
 pub mod Journal
 pub mod Legal
+pub mod Numbered
 pub mod Refusal
 pub mod Rows

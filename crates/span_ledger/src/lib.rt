@@ -1,9 +1,11 @@
 //! The journal of a collection, and the sequential ledger that answers each operation from the entries before it.
 #![tactic(auto)]
 
+mod answers;
 mod entry;
 mod history;
 mod ledger;
+mod listing;
 mod refusal;
 mod rows;
 

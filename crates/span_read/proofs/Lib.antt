@@ -1,1 +1,5 @@
+pub mod Documents
+pub mod Good
 pub mod Merged
+pub mod NameOrder
+pub mod Taken

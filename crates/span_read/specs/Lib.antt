@@ -1,3 +1,9 @@
 pub mod Args
+pub mod Document
+pub mod Element
 pub mod Event
+pub mod Fields
 pub mod Item
+pub mod Members
+pub mod Phase
+pub mod ReadError

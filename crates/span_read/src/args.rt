@@ -68,6 +68,14 @@ impl Args {
 }
 
 impl Args {
+    /// The pairs as they are. Takes no memory.
+    pub(crate) fn of_pairs(pairs: Vec<(Text, ArgValue)>) -> Args
+        requires { IsInNameOrder pairs.items }
+        ensures { result ≡ pairs.items }
+    {
+        Args { pairs }
+    }
+
     pub fn try_clone(&self, alloc: Global) -> Result<Args, AllocError>
         ensures { IfOk result (λ a. a ≡ self.now) }
     {

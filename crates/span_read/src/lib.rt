@@ -1,14 +1,28 @@
 //! Reads the bytes of a trace file into typed items: good events, numbered faults, and events of phases that are not used.
 #![tactic(auto)]
 
+mod arg_values;
 mod args;
+mod build;
+mod candidates;
+mod check;
+mod element;
+mod error;
 mod event;
 mod item;
 mod items;
+mod key;
+mod members;
+mod phase;
+mod reach;
+mod read;
 mod text;
 
 pub use args::{ArgValue, Args, merge_args};
+pub use element::item_of;
+pub use error::ReadError;
 pub use event::{Event, IdKey, Phase, Reach};
 pub use item::{Field, Item, ItemFault};
 pub use items::Items;
+pub use read::read_items;
 pub use text::Text;

@@ -1,4 +1,4 @@
-ghost use Rattle.std.specs.Prelude.{◌≡◌, List, ℕ, string_bytes, nat_eq, IfOk, Some, refl};
+ghost use Rattle.std.specs.Prelude.{◌≡◌, List, ℕ, [], string_bytes, nat_eq, IfOk, Some, refl};
 ghost use Rattle.std.specs.Ordering.{nat_cmp};
 ghost use Rattle.std.specs.Hash as fed;
 ghost use Rattle.std.specs.Cmp.Lexicographic.{pointwise, slice_cmp, nat_list_eq_equiv, nat_list_cmp_total, texts_ties, texts_po};
@@ -25,6 +25,15 @@ impl Model for Text {
 }
 
 impl Text {
+    /// The empty text. Takes no memory.
+    pub fn empty(alloc: Global) -> Text
+        ensures { result ≡ [] }
+    {
+        Text {
+            text: String::new(alloc),
+        }
+    }
+
     /// A copy of `text`.
     pub fn of(alloc: Global, text: &str) -> Result<Text, AllocError>
         ensures { IfOk result (λ t. t ≡ text.now) }
@@ -43,6 +52,15 @@ impl Text {
         ensures { IfOk result (λ t. t ≡ self.now) }
     {
         Text::of(alloc, self.as_str())
+    }
+}
+
+/// The string itself. Takes no memory.
+impl From<String> for Text {
+    ghost from_gives = { λ text t. t ≡ string_bytes text };
+
+    fn from(text: String) -> Text {
+        Text { text }
     }
 }
 

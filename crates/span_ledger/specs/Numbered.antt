@@ -1,0 +1,19 @@
+-- The events of a thread with each name in place of another, as a number in place of a text.
+use Rattle.std.specs.Prelude.{ℕ, List, map}
+use Rattle.span_track.specs.Spans.{Span}
+use Rattle.span_track.specs.Nesting.{Begin, ThreadEvent, began, ended, completed}
+
+module _ {N M : Type 0} (rename : N → M) where
+  abbrev pub renamed_begin : Begin N → Begin M
+  renamed_begin b = record { name = rename b.name; ts = b.ts; at = b.at; args = b.args }
+
+  abbrev pub renamed_span : Span N → Span M
+  renamed_span s = record { name = rename s.name; start = s.start; until = s.until; at = s.at; args = s.args }
+
+  abbrev pub renamed_event : ThreadEvent N → ThreadEvent M
+  renamed_event (began b) = began (renamed_begin b)
+  renamed_event (ended ts args) = ended ts args
+  renamed_event (completed s) = completed (renamed_span s)
+
+  abbrev pub renamed : List (ThreadEvent N) → List (ThreadEvent M)
+  renamed es = map renamed_event es

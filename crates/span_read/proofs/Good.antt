@@ -1,0 +1,175 @@
+-- Members without a fault give a good event, so each item of an element is good.
+use Rattle.std.proofs.Common.{◌≡◌, ℕ, ℤ, pos, ◌≤◌, ◌≤ℤ◌, List, [], ◌∷◌, Bool, true, false, ◌&&◌, ◌||◌, Option, Some, None, IsSome, is_some, All, unwrap_or, option_map, option_and_then, codes, if◌then◌else◌, nat_lt, ◌^◌, refl, sym, subst, ◌∙◌, arith}
+use Rattle.std.specs.List.{AllByRecursion as ByRecursion}
+use Rattle.std.specs.Int.RustNames.{int_le}
+use Rattle.std.proofs.lemmas.Int.{ints}
+use Rattle.std.proofs.lemmas.List.Elements.{All-from_recursion}
+use Rattle.serde_json.specs.Data.{Data, null, boolean, number, string, array, object, Items, no_items, item, Members, Num, unsigned, negative, float}
+use Rattle.serde_json.specs.Find.{get, get_member, as_str, as_i64, as_u64}
+use Rattle.span_read.specs.declared.args.ArgValue.{ArgValue}
+use Rattle.span_read.specs.declared.args.ArgValue.TheVariants.{Whole, Words, Flag, Nil, Other}
+use Rattle.span_read.specs.declared.event.Phase.{Phase}
+use Rattle.span_read.specs.declared.event.Phase.TheVariants.{SpanBegin, SpanEnd, Complete, AsyncBegin, AsyncPoint, AsyncEnd, FlowStart, FlowStep, FlowEnd, Counter, Instant, Meta}
+use Rattle.span_read.specs.declared.event.IdKey.{IdKey}
+use Rattle.span_read.specs.declared.item.Field.TheVariants.{Id}
+use Rattle.span_read.specs.declared.item.Item.{Item}
+use Rattle.span_read.specs.declared.item.ItemFault.{ItemFault}
+use Rattle.span_read.specs.declared.item.ItemFault.TheVariants.{NotWhole, BadField, NoId, BadReach, BadSeries}
+use Rattle.span_read.specs.Event.{IsTime, IsGood, IsGoodAt, AllWhole, greatest_time}
+use Rattle.span_read.specs.Item.{IsGoodItem}
+use Rattle.span_read.specs.Phase.{reads_time, reads_duration, reads_id, needs_id, reads_reach, wants_whole_args, phase_of}
+use Rattle.span_read.specs.Fields.{whole, is_time, is_duration, whole_or_zero, duration_or_zero, id_text, parts_key, key_of, reach_of, args_of, all_whole}
+use Rattle.span_read.specs.Element.{unless, where_read, time_fault, duration_fault, id_fault, first_fault, faults, fault_of, event_of, item_at, item_of_phase, item_of_letter, item_of_data}
+use Rattle.span_read.specs.Document.{items_of}
+
+-- ---- no fault in a list is no fault in each
+
+all_none : (fs : List (Option ItemFault)) → first_fault fs ≡ None → ByRecursion (λ f. f ≡ None) fs
+all_none [] none = tt
+all_none (None ∷ fs) none = (refl, all_none fs none)
+all_none (Some fault ∷ fs) none = cc
+
+-- a test that gives no fault holds
+holds : (b : Bool) (fault : ItemFault) → unless b fault ≡ None → b ≡ true
+holds true fault none = refl
+holds false fault none = cc
+
+-- ---- field by field
+
+abbrev key_record : Option ℤ → List ℕ → IdKey
+key_record home id = record { home = home; id = id }
+
+within : (low high z : ℤ) → (int_le low z && int_le z high) ≡ true → (low ≤ℤ z) × (z ≤ℤ high)
+within low high z h = (grind (arith, ints), grind (arith, ints))
+
+time_of_number : (o : Option ℤ) → is_time o ≡ true → IsTime (unwrap_or o (pos 0))
+time_of_number None right = cc
+time_of_number (Some z) right = within _ _ z right
+
+zero_time : IsTime (pos 0)
+zero_time = (omega (arith, ints), omega (arith, ints))
+
+-- the time of an event, where it is read, is in range; else it is 0
+time_at : (read : Bool) (m : Option Data) → where_read read (time_fault m) ≡ None → IsTime (if read then whole_or_zero m else pos 0)
+time_at false m none = zero_time
+time_at true None none = cc
+time_at true (Some d) none = time_of_number (whole d) (holds _ NotWhole none)
+
+duration_of_unsigned : (fits : Bool) (n : ℕ) → is_duration (if fits then Some (pos n) else None) ≡ true → n ≤ greatest_time
+duration_of_unsigned true n right = omega (arith, ints, (within (pos 0) (pos greatest_time) (pos n) right).1)
+duration_of_unsigned false n right = cc
+
+duration_of_number : (n : Num) → is_duration (as_i64 n) ≡ true → unwrap_or (as_u64 n) 0 ≤ greatest_time
+duration_of_number (unsigned n) right = duration_of_unsigned (nat_lt n (2 ^ 63)) n right
+duration_of_number (negative z) right = omega arith
+duration_of_number (float x) right = omega arith
+
+duration_of_data : (d : Data) → is_duration (whole d) ≡ true → duration_or_zero (Some d) ≤ greatest_time
+duration_of_data (number n) right = duration_of_number n right
+duration_of_data null right = omega arith
+duration_of_data (boolean b) right = omega arith
+duration_of_data (string s) right = omega arith
+duration_of_data (array ds) right = omega arith
+duration_of_data (object ms) right = omega arith
+
+duration_at : (m : Option Data) → duration_fault m ≡ None → duration_or_zero m ≤ greatest_time
+duration_at None none = cc
+duration_at (Some d) none = duration_of_data d (holds _ NotWhole none)
+
+-- whether there is a key doesn't turn on the process
+same_home : (home other : Option ℤ) (t : Option (List ℕ)) → is_some (option_map (key_record home) t) ≡ is_some (option_map (key_record other) t)
+same_home home other None = refl
+same_home home other (Some t) = refl
+
+is_some-parts_key : (pid : ℤ) (global local : Option Data) → is_some (parts_key pid global local) ≡ is_some (parts_key (pos 0) global local)
+is_some-parts_key pid (Some g) local = refl
+is_some-parts_key pid None (Some l) = same_home (Some pid) (Some (pos 0)) (id_text l)
+is_some-parts_key pid None None = refl
+
+is_some-key_of : (pid : ℤ) (id id2 : Option Data) → is_some (key_of pid id id2) ≡ is_some (key_of (pos 0) id id2)
+is_some-key_of pid (Some d) id2 = refl
+is_some-key_of pid None (Some d) = is_some-parts_key pid (get (codes "global") d) (get (codes "local") d)
+is_some-key_of pid None None = refl
+
+key_at_zero : (id id2 : Option Data) → id_fault id id2 ≡ None → unless (is_some id || is_some id2) NoId ≡ None → is_some (key_of (pos 0) id id2) ≡ true
+key_at_zero (Some d) id2 right there = holds _ (BadField Id) right
+key_at_zero None (Some d) right there = holds _ (BadField Id) right
+key_at_zero None None right there = cc
+
+key_there : (pid : ℤ) (id id2 : Option Data) → id_fault id id2 ≡ None → unless (is_some id || is_some id2) NoId ≡ None → IsSome (key_of pid id id2)
+key_there pid id id2 right there = is_some-key_of pid id id2 ∙ key_at_zero id id2 right there
+
+all_whole-rest : (a b : Bool) → (a && b) ≡ true → b ≡ true
+all_whole-rest true b h = h
+all_whole-rest false b h = cc
+
+AllWhole-from_test : (ps : List (List ℕ × ArgValue)) → all_whole ps ≡ true → AllWhole ps
+AllWhole-from_test [] right = tt
+AllWhole-from_test ((name, Whole n) ∷ ps) right = AllWhole-from_test ps right
+AllWhole-from_test ((name, Words w) ∷ ps) right = cc
+AllWhole-from_test ((name, Flag b) ∷ ps) right = cc
+AllWhole-from_test ((name, Nil) ∷ ps) right = cc
+AllWhole-from_test ((name, Other) ∷ ps) right = cc
+
+-- ---- phase by phase
+
+-- what the absence of each fault says of an event
+record NoFaults (phase : Phase) (ms : Members) : Type 0 where
+  no_time : where_read (reads_time phase) (time_fault (get_member (codes "ts") ms)) ≡ None
+  no_duration : where_read (reads_duration phase) (duration_fault (get_member (codes "dur") ms)) ≡ None
+  no_id : where_read (reads_id phase) (id_fault (get_member (codes "id") ms) (get_member (codes "id2") ms)) ≡ None
+  no_lack : where_read (needs_id phase) (unless (is_some (get_member (codes "id") ms) || is_some (get_member (codes "id2") ms)) NoId) ≡ None
+  no_reach : where_read (reads_reach phase) (unless (is_some (reach_of (get_member (codes "s") ms))) BadReach) ≡ None
+  no_series : where_read (wants_whole_args phase) (unless (all_whole (args_of (get_member (codes "args") ms))) BadSeries) ≡ None
+
+no_faults : (phase : Phase) (ms : Members) → fault_of phase ms ≡ None → NoFaults phase ms
+no_faults phase ms none =
+    let each = all_none (faults phase ms) none in
+    let from_id = each.1.1.1.1.1.1 in
+    record { no_time = each.0; no_duration = each.1.0; no_id = from_id.0; no_lack = from_id.1.1.0; no_reach = from_id.1.1.1.0; no_series = from_id.1.1.1.1.0 }
+
+good_at : (phase : Phase) (ms : Members) → NoFaults phase ms → IsGoodAt phase (event_of phase ms)
+good_at SpanBegin ms none = (refl, refl, refl, refl)
+good_at SpanEnd ms none = (refl, refl, refl, refl)
+good_at Complete ms none = (duration_at (get_member (codes "dur") ms) none.no_duration, refl, refl, refl)
+good_at AsyncBegin ms none = (refl, key_there _ _ _ none.no_id none.no_lack, refl)
+good_at AsyncPoint ms none = (refl, key_there _ _ _ none.no_id none.no_lack, refl)
+good_at AsyncEnd ms none = (refl, key_there _ _ _ none.no_id none.no_lack, refl)
+good_at FlowStart ms none = (refl, key_there _ _ _ none.no_id none.no_lack, refl, refl)
+good_at FlowStep ms none = (refl, key_there _ _ _ none.no_id none.no_lack, refl, refl)
+good_at FlowEnd ms none = (refl, key_there _ _ _ none.no_id none.no_lack, refl, refl)
+good_at Counter ms none = (refl, refl, refl, AllWhole-from_test (args_of (get_member (codes "args") ms)) (holds _ BadSeries none.no_series))
+good_at Instant ms none = (refl, refl, refl, holds _ BadReach none.no_reach)
+good_at Meta ms none = (refl, refl, refl, refl, refl)
+
+IsGood-event_of : (phase : Phase) (ms : Members) → NoFaults phase ms → IsGood (event_of phase ms)
+IsGood-event_of phase ms none = record { in_time = time_at (reads_time phase) (get_member (codes "ts") ms) none.no_time; by_phase = good_at phase ms none }
+
+-- ---- the items
+
+good_item_at : (phase : Phase) (ms : Members) (fault : Option ItemFault) → fault_of phase ms ≡ fault → IsGoodItem (item_at phase ms fault)
+good_item_at phase ms None is = IsGood-event_of phase ms (no_faults phase ms is)
+good_item_at phase ms (Some fault) is = tt
+
+good_item_of_phase : (ms : Members) (phase : Option Phase) → IsGoodItem (item_of_phase ms phase)
+good_item_of_phase ms None = tt
+good_item_of_phase ms (Some phase) = good_item_at phase ms _ refl
+
+good_item_of_letter : (ms : Members) (letter : Option (List ℕ)) → IsGoodItem (item_of_letter ms letter)
+good_item_of_letter ms None = tt
+good_item_of_letter ms (Some letter) = good_item_of_phase ms (phase_of letter)
+
+pub IsGoodItem-item_of_data : (d : Data) → IsGoodItem (item_of_data d)
+IsGoodItem-item_of_data (object ms) = good_item_of_letter ms (option_and_then as_str (get_member (codes "ph") ms))
+IsGoodItem-item_of_data null = tt
+IsGoodItem-item_of_data (boolean b) = tt
+IsGoodItem-item_of_data (number n) = tt
+IsGoodItem-item_of_data (string s) = tt
+IsGoodItem-item_of_data (array ds) = tt
+
+are_good : (ds : Items) → ByRecursion IsGoodItem (items_of ds)
+are_good no_items = tt
+are_good (item d ds) = (IsGoodItem-item_of_data d, are_good ds)
+
+pub All-good_items_of : (ds : Items) (items : List Item) → items ≡ items_of ds → All IsGoodItem items
+All-good_items_of ds items is = All-from_recursion IsGoodItem items (subst (ByRecursion IsGoodItem) (sym is) (are_good ds))

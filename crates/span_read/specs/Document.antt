@@ -1,0 +1,74 @@
+-- What the bytes of a file are: the items of a trace, or why the file is refused.
+use Rattle.std.specs.Prelude.{ℕ, ◌-◌, ◌==◌, ◌||◌, List, [], ◌∷◌, ◌++◌, take, length, slice_index, Bool, false, Option, Some, None, option_and_then, Result, Ok, Err, nat_lt, codes, if◌then◌else◌}
+use Rattle.std.specs.Option.{option_or}
+use Rattle.std.specs.List.{suffix_len}
+use Rattle.std.specs.Str.{is_utf8}
+use Rattle.serde_json.specs.Data.{Data, array, object, Items, no_items, item}
+use Rattle.serde_json.specs.Events.{items_len}
+use Rattle.serde_json.specs.Find.{get_member, as_array}
+use Rattle.serde_json.specs.Read.{read}
+use Rattle.span_read.specs.declared.item.Item.{Item}
+use Rattle.span_read.specs.declared.error.ReadError.{ReadError}
+use Rattle.span_read.specs.declared.error.ReadError.TheVariants.{TooLarge, NotJson, NotTrace, TooMany}
+use Rattle.span_read.specs.Element.{item_of_data}
+
+-- the most bytes in one file, and the most items
+abbrev pub most_bytes : ℕ
+most_bytes = 67108864
+
+abbrev pub most_items : ℕ
+most_items = 4194304
+
+-- blanks are space, tab, line feed and carriage return
+abbrev pub is_blank : ℕ → Bool
+is_blank b = b == 32 || b == 9 || b == 10 || b == 13
+
+-- the first byte that is no blank is an opening bracket
+abbrev pub opens_array : List ℕ → Bool
+opens_array [] = false
+opens_array (b ∷ text) = if is_blank b then opens_array text else b == 91
+
+abbrev pub without_trailing_blanks : List ℕ → List ℕ
+without_trailing_blanks text = take (length text - suffix_len is_blank text) text
+
+-- one comma at the end is left out
+abbrev pub without_trailing_comma : List ℕ → List ℕ
+without_trailing_comma text = if slice_index text (length text - 1) == 44 then take (length text - 1) text else text
+
+-- an array without the blanks, the one comma and then the blanks at its end
+abbrev pub cut_text : List ℕ → List ℕ
+cut_text text = without_trailing_blanks (without_trailing_comma (without_trailing_blanks text))
+
+-- an array may lack its closing bracket, and may have a comma after its last element, or after the bracket
+abbrev pub read_unfinished : List ℕ → Option Data
+read_unfinished text = option_or (read (cut_text text)) (read (cut_text text ++ 93 ∷ []))
+
+-- the value of the first candidate that reads: the text itself, and of an array also the text cut, and closed
+abbrev pub first_read : List ℕ → Option Data
+first_read text = option_or (read text) (if opens_array text then read_unfinished text else None)
+
+-- the value that the bytes are, which must be UTF-8
+abbrev pub document : List ℕ → Option Data
+document bytes = if is_utf8 bytes then first_read bytes else None
+
+-- the elements of a trace: the array itself, or the member `traceEvents` of an object
+abbrev pub elements_of : Data → Option Items
+elements_of (array ds) = Some ds
+elements_of (object ms) = option_and_then as_array (get_member (codes "traceEvents") ms)
+elements_of _ = None
+
+abbrev pub items_of : Items → List Item
+items_of no_items = []
+items_of (item d ds) = item_of_data d ∷ items_of ds
+
+abbrev pub doc_of_elements : Option Items → Result (List Item) ReadError
+doc_of_elements None = Err NotTrace
+doc_of_elements (Some ds) = if nat_lt most_items (items_len ds) then Err TooMany else Ok (items_of ds)
+
+abbrev pub doc_of_document : Option Data → Result (List Item) ReadError
+doc_of_document None = Err NotJson
+doc_of_document (Some d) = doc_of_elements (elements_of d)
+
+-- the items of a file's bytes, or the first reason why it is refused
+abbrev pub doc : List ℕ → Result (List Item) ReadError
+doc bytes = if nat_lt most_bytes (length bytes) then Err TooLarge else doc_of_document (document bytes)

@@ -1,0 +1,57 @@
+-- The letters of the phases, and which phases read which field.
+use Rattle.std.specs.Prelude.{ℕ, List, [], ◌∷◌, Bool, true, false, Option, codes, nat_eq}
+use Rattle.std.specs.Cmp.Lexicographic.{pointwise}
+use Rattle.std.specs.Map.{lookup}
+use Rattle.span_read.specs.declared.event.Phase.{Phase}
+use Rattle.span_read.specs.declared.event.Phase.TheVariants.{SpanBegin, SpanEnd, Complete, AsyncBegin, AsyncPoint, AsyncEnd, FlowStart, FlowStep, FlowEnd, Counter, Instant, Meta}
+
+-- each letter with its phase
+abbrev pub letters : List (List ℕ × Phase)
+letters = (codes "B", SpanBegin) ∷ (codes "E", SpanEnd) ∷ (codes "X", Complete) ∷ (codes "b", AsyncBegin) ∷ (codes "n", AsyncPoint) ∷ (codes "e", AsyncEnd) ∷ (codes "s", FlowStart) ∷ (codes "t", FlowStep)
+    ∷ (codes "f", FlowEnd) ∷ (codes "C", Counter) ∷ (codes "i", Instant) ∷ (codes "I", Instant) ∷ (codes "M", Meta) ∷ []
+
+-- the phase of a `ph`, if it is one of the letters
+abbrev pub phase_of : List ℕ → Option Phase
+phase_of letter = lookup (pointwise nat_eq letter) letters
+
+-- `ts` is read at all phases but metadata
+abbrev pub reads_time : Phase → Bool
+reads_time Meta = false
+reads_time _ = true
+
+-- `dur` is read at complete events
+abbrev pub reads_duration : Phase → Bool
+reads_duration Complete = true
+reads_duration _ = false
+
+-- an id is needed at asynchronous and flow events
+abbrev pub needs_id : Phase → Bool
+needs_id AsyncBegin = true
+needs_id AsyncPoint = true
+needs_id AsyncEnd = true
+needs_id FlowStart = true
+needs_id FlowStep = true
+needs_id FlowEnd = true
+needs_id _ = false
+
+-- and counters may have one
+abbrev pub reads_id : Phase → Bool
+reads_id Counter = true
+reads_id phase = needs_id phase
+
+-- `scope` is read at asynchronous events
+abbrev pub reads_scope : Phase → Bool
+reads_scope AsyncBegin = true
+reads_scope AsyncPoint = true
+reads_scope AsyncEnd = true
+reads_scope _ = false
+
+-- `s` is read at instants
+abbrev pub reads_reach : Phase → Bool
+reads_reach Instant = true
+reads_reach _ = false
+
+-- each member of `args` must be a whole number at counters
+abbrev pub wants_whole_args : Phase → Bool
+wants_whole_args Counter = true
+wants_whole_args _ = false

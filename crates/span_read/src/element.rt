@@ -1,0 +1,46 @@
+// The item of one element of a trace.
+ghost use Rattle.std.specs.Prelude.{◌≡◌, IfOk};
+ghost use Rattle.serde_json.specs.View.{view, members_view};
+ghost use Rattle.span_read.specs.Item.{IsGoodItem};
+ghost use Rattle.span_read.specs.Element.{item_of_data, item_of_members};
+
+use crate::build::event_of;
+use crate::check::check_members;
+use crate::item::{Item, ItemFault};
+use crate::members::{Members, text_at};
+use crate::phase::phase_of;
+use serde_json::Value;
+use std::alloc::{AllocError, Global};
+
+/// The item that a value of a trace's array is. A fault of the item is no error of the call.
+pub fn item_of(alloc: Global, value: &Value) -> Result<Item, AllocError>
+    ensures item { IfOk result (λ item. item ≡ item_of_data (view value.now)) }
+    ensures good { IfOk result IsGoodItem }
+{
+    item_of_element(alloc, value.clone()?)
+}
+
+/// The same of a value that is taken apart, so that its texts move into the event.
+pub(crate) fn item_of_element(alloc: Global, element: Value) -> Result<Item, AllocError>
+    ensures { IfOk result (λ item. item ≡ item_of_data (view element)) }
+{
+    match element {
+        Value::Object(members) => item_of_members(alloc, members),
+        _ => Ok(Item::Bad(ItemFault::NotObject)),
+    }
+}
+
+fn item_of_members(alloc: Global, members: Members) -> Result<Item, AllocError>
+    ensures { IfOk result (λ item. item ≡ item_of_members (members_view members.entries)) }
+{
+    let Some(letter) = text_at(&members, "ph") else {
+        return Ok(Item::Bad(ItemFault::NoPhase));
+    };
+    let Some(phase) = phase_of(letter) else {
+        return Ok(Item::Other);
+    };
+    match check_members(phase, &members) {
+        Ok(()) => Ok(Item::Good(event_of(alloc, phase, members)?)),
+        Err(fault) => Ok(Item::Bad(fault)),
+    }
+}

@@ -1,0 +1,40 @@
+// Why a file is refused as a whole.
+ghost use Rattle.std.specs.Prelude.{◌≡◌};
+
+use thiserror::Error;
+
+/// Why a file is refused, each with its number.
+#[derive(Debug, Drop, Error)]
+pub enum ReadError {
+    /// 3: the file has more than 67,108,864 bytes.
+    #[error("the file is too large")]
+    TooLarge,
+    /// 1: no candidate text reads as JSON.
+    #[error("the file is not JSON")]
+    NotJson,
+    /// 2: the document is neither an array nor an object with an array `traceEvents`.
+    #[error("the file is not a trace")]
+    NotTrace,
+    /// 4: the trace has more than 4,194,304 items.
+    #[error("the trace has too many items")]
+    TooMany,
+    /// 31: memory ran out.
+    #[error("out of memory")]
+    Memory,
+}
+
+impl ReadError {
+    ghost use Rattle.span_read.specs.ReadError.{code_of};
+
+    pub fn code(&self) -> u16
+        ensures { result ≡ code_of self.now }
+    {
+        match self {
+            ReadError::TooLarge => 3,
+            ReadError::NotJson => 1,
+            ReadError::NotTrace => 2,
+            ReadError::TooMany => 4,
+            ReadError::Memory => 31,
+        }
+    }
+}
