@@ -3,8 +3,12 @@ pub mod Counts
 pub mod Numbers
 pub mod OpenSpans
 pub mod Places
+pub mod Positions
 pub mod Ranks
+pub mod SelfSums
+pub mod SelfTimes
 pub mod Sound
 pub mod ThreadSpans
 pub mod Tops
 pub mod Totals
+pub mod Unbroken

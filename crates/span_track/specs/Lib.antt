@@ -6,3 +6,4 @@ pub mod Nesting
 pub mod Numbering
 pub mod Spans
 pub mod Thread
+pub mod Walk

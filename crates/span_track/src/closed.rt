@@ -1,10 +1,10 @@
 //! The closed spans of a thread, with the totals of their names.
 ghost use Rattle.std.specs.Prelude.{◌≡◌, ◌≢◌, ◌+◌, ◌<◌, ◌^◌, ◌==◌, ℕ, [], ◌∷◌, ◌++◌, ◌≤ℤ◌, if◌then◌else◌, length, map, All, OnOk};
 ghost use Rattle.indexmap.specs.IndexMap.{spare};
-ghost use Rattle.span_track.specs.Spans.{distance};
 ghost use Rattle.span_track.specs.Closed.{total_in, total_for, span_of, IsInTime, AreClosed};
 
 use crate::span::{ClosedSpan, NameTotal};
+use crate::walk::distance;
 use indexmap::IndexMap;
 use std::alloc::{AllocError, Global};
 use std::marker::Model;
@@ -64,7 +64,7 @@ impl ClosedSpans {
         requires apart { All (λ s. s.at ≢ span.at) self.old.spans }
         ensures { self.new.spans ≡ self.old.spans ++ span_of span ∷ [] }
     {
-        let length = length_of(&span);
+        let length = distance(span.start, span.until);
         add_to_total(&mut self.totals, span.name, length);
         self.list.push_reserved(span);
     }
@@ -74,14 +74,6 @@ impl ClosedSpans {
     {
         total_in(&self.totals, name)
     }
-}
-
-fn length_of(span: &ClosedSpan) -> u64
-    requires lasts { span.now.start ≤ℤ span.now.until }
-    requires in_time { IsInTime (span_of span.now) }
-    ensures { result ≡ distance span.now.start span.now.until }
-{
-    (span.until - span.start) as u64
 }
 
 fn total_in(totals: &IndexMap<u32, NameTotal>, name: u32) -> NameTotal

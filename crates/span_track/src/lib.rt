@@ -7,6 +7,7 @@ pub mod laws;
 mod names;
 mod span;
 mod thread;
+mod walk;
 
 pub use fault::TrackFault;
 pub use names::Names;

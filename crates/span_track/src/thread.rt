@@ -1,14 +1,16 @@
 //! The track of one thread.
-ghost use Rattle.std.specs.Prelude.{◌≡◌, ◌+◌, ◌≤◌, ℕ, List, [], ◌∷◌, ◌++◌, length, map, slice_get, None, pos, ◌+ℤ◌, option_copied, IfOk, OnOk, OnErr};
+ghost use Rattle.std.specs.Prelude.{◌≡◌, nat_eq, ◌+◌, ◌≤◌, ℕ, List, [], ◌∷◌, ◌++◌, length, map, slice_get, None, pos, ◌+ℤ◌, option_copied, IfOk, OnOk, OnErr};
 ghost use Rattle.std.specs.Option.{option_map};
 ghost use Rattle.span_read.specs.Event.{IsTime, greatest_time};
 ghost use Rattle.span_track.specs.Fault.{Answers};
 ghost use Rattle.span_track.specs.Nesting.{ThreadEvent, began, ended, completed, closed_by, opener};
+ghost use Rattle.span_track.specs.Spans.{self_of, busy_time};
 ghost use Rattle.span_track.specs.Thread.{StandsFor, HasRoom, IsNext, goes_back, begin_refusal, end_refusal};
-ghost use Rattle.span_track.specs.Closed.{span_of, total_for};
+ghost use Rattle.span_track.specs.Closed.{span_of, total_for, AreClosed};
 
 use crate::closed::ClosedSpans;
 use crate::fault::{NO_OPEN_SPAN, TIME_GOES_BACK, TrackFault};
+use crate::laws::{busy_plain, self_plain};
 use crate::span::{ClosedSpan, NameTotal};
 use span_read::{Args, merge_args};
 use std::alloc::Global;
@@ -198,6 +200,27 @@ impl ThreadTrack {
         ensures { result ≡ total_for self.now.closed name }
     {
         self.closed.total_of(name)
+    }
+
+    /// The microseconds that belong to the closed spans of one name, as no span that ranks above covers them.
+    pub fn self_of(&self, name: u32) -> u64
+        ensures { result ≡ self_of nat_eq name self.now.closed }
+    {
+        self_plain(self, name)
+    }
+
+    /// The microseconds that at least one closed span covers.
+    pub fn busy(&self) -> u64
+        ensures { result ≡ busy_time self.now.closed }
+    {
+        busy_plain(self)
+    }
+
+    pub(crate) fn spans(&self) -> &[ClosedSpan]
+        ensures spans { map span_of result.now ≡ self.now.closed }
+        ensures closed { AreClosed self.now.closed }
+    {
+        self.closed.as_slice()
     }
 }
 
