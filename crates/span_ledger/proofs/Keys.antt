@@ -5,8 +5,8 @@ use Rattle.std.specs.List.{list_any, AllByRecursion}
 use Rattle.std.specs.List.Sorted.{IsStrictlySortedBy}
 use Rattle.std.specs.declared.cmp.Ordering.{Ordering}
 use Rattle.std.specs.declared.cmp.Ordering.TheVariants.{Less, Equal, Greater}
-use Rattle.std.specs.Ordering.{is_eq, match_ordering}
-use Rattle.std.specs.Cmp.{IsTotalOrder}
+use Rattle.std.specs.Ordering.{is_eq, match_ordering, ordering_reverse}
+use Rattle.std.specs.Cmp.{IsTotalOrder, tied_itself}
 use Rattle.std.specs.Map.{lookup, keys_of}
 use Rattle.std.specs.BTreeSet.{insert_key}
 use Rattle.std.specs.BTreeMap.{insert_entry}
@@ -51,3 +51,22 @@ is_some-lookup test (e ∷ es) = elim (test e.0) as (λ b. is_some (cond b (Some
 pub fold-append : {A B : Type 0} (f : B → A → B) (b : B) (xs ys : List A) → fold f b (xs ++ ys) ≡ fold f (fold f b xs) ys
 fold-append f b [] ys = refl
 fold-append f b (x ∷ xs) ys = fold-append f (f b x) xs ys
+
+-- a key after the first is not found at the first
+lookup-later : {K X : Type 0} {R : K → K → Ordering} (o : IsTotalOrder R) (e : K × X) (es : List (K × X)) (k : K) → R e.0 k ≡ Less → lookup (λ x. is_eq (R k x)) (e ∷ es) ≡ lookup (λ x. is_eq (R k x)) es
+lookup-later {R} o e es k h = ap (λ b. cond b (Some e.1) (lookup (λ x. is_eq (R k x)) es)) (ap is_eq (o.antisymm k e.0) ∙ ap (λ s. is_eq (ordering_reverse s)) h)
+
+module _ {K X Y : Type 0} {R : K → K → Ordering} (o : IsTotalOrder R) where
+  map-later : (g : K → Option X → Y) (e : K × X) (es : List (K × X)) (ks : List K) → AllByRecursion (λ k. R e.0 k ≡ Less) ks →
+    map (λ k. g k (lookup (λ x. is_eq (R k x)) (e ∷ es))) ks ≡ map (λ k. g k (lookup (λ x. is_eq (R k x)) es)) ks
+  map-later g e es [] below = refl
+  map-later g e es (k ∷ ks) below = ap₂ (λ y ys. y ∷ ys) (ap (g k) (lookup-later o e es k below.0)) (map-later g e es ks below.1)
+
+  -- going over the entries is going over the keys with what is found there
+  pub map-keys_of : (g : K → Option X → Y) (es : List (K × X)) → IsStrictlySortedBy R (keys_of es) →
+    map (λ k. g k (lookup (λ x. is_eq (R k x)) es)) (keys_of es) ≡ map (λ e. g e.0 (Some e.1)) es
+  unfolding IsStrictlySortedBy
+  map-keys_of g [] sorted = refl
+  map-keys_of g (e ∷ es) sorted =
+      ap₂ (λ y ys. y ∷ ys) (ap (λ b. g e.0 (cond b (Some e.1) (lookup (λ x. is_eq (R e.0 x)) es))) (ap is_eq (tied_itself o e.0)))
+        (map-later g e es (keys_of es) sorted.0 ∙ map-keys_of g es sorted.1)

@@ -1,6 +1,9 @@
-pub mod Balance
 pub mod Good
 pub mod Keys
 pub mod Later
 pub mod LegalJournals
 pub mod Renaming
+pub mod Following
+pub mod Totals
+pub mod Tracks
+pub mod Taking

@@ -4,3 +4,4 @@ pub mod Legal
 pub mod Numbered
 pub mod Refusal
 pub mod Rows
+pub mod Tracked

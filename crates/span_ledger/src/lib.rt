@@ -3,11 +3,13 @@
 
 mod answers;
 mod entry;
-mod history;
 mod ledger;
 mod listing;
+mod on_track;
 mod refusal;
 mod rows;
+mod thread;
+mod threads;
 
 pub use entry::{Answer, Entry, Op};
 pub use ledger::Ledger;

@@ -1,12 +1,13 @@
 //! The processes of a journal, and how many entries of each kind it has.
-ghost use Rattle.std.specs.Prelude.{◌≡◌, ◌<◌, ◌^◌, length, IfOk};
-ghost use Rattle.span_ledger.specs.Rows.{count_row, process_keys, process_rows, thread_keys};
+ghost use Rattle.std.specs.Prelude.{◌≡◌, ◌<◌, ◌^◌, length, option_copied, IfOk};
+ghost use Rattle.span_ledger.specs.Journal.{accepted_event};
+ghost use Rattle.span_ledger.specs.Rows.{count_row, process_keys, process_rows};
 
-use crate::entry::{Answer, Entry};
-use crate::history::{Thread, accepted_event};
+use crate::entry::{Answer, Entry, Op};
 use crate::rows::{CountRow, ProcessRow};
 use std::alloc::{AllocError, Global};
 use std::collections::BTreeSet;
+use span_read::{Event, Item};
 
 // How many entries were accepted, refused and skipped.
 pub(crate) fn counts(journal: &[Entry]) -> CountRow
@@ -18,7 +19,7 @@ pub(crate) fn counts(journal: &[Entry]) -> CountRow
     let mut skipped = 0u32;
     for entry in journal {
         match entry.answer {
-            Answer::Opened { .. } | Answer::Closed { .. } => accepted += 1,
+            Answer::Opened { .. } | Answer::Closed { .. } | Answer::Completed => accepted += 1,
             Answer::Refused(_) => refused += 1,
             Answer::Skipped => skipped += 1,
         }
@@ -28,6 +29,19 @@ pub(crate) fn counts(journal: &[Entry]) -> CountRow
         refused,
         skipped,
         queries: 0,
+    }
+}
+
+// The entry's event, where it was accepted.
+fn accepted_event(entry: &Entry) -> Option<&Event>
+    ensures { option_copied result ≡ accepted_event entry.now }
+{
+    match (&entry.answer, &entry.op) {
+        (
+            Answer::Opened { .. } | Answer::Closed { .. } | Answer::Completed,
+            Op::One(Item::Good(event)),
+        ) => Some(event),
+        _ => None,
     }
 }
 
@@ -53,20 +67,4 @@ pub(crate) fn processes(alloc: Global, journal: &[Entry]) -> Result<Vec<ProcessR
             name: None,
         })
         .collect(alloc)
-}
-
-// The threads that have an accepted event.
-pub(crate) fn thread_keys(alloc: Global, journal: &[Entry]) -> Result<BTreeSet<Thread>, AllocError>
-    ensures { IfOk result (λ keys. keys.keys ≡ thread_keys journal.now) }
-{
-    let mut keys = BTreeSet::new(alloc);
-    for entry in journal {
-        if let Some(event) = accepted_event(entry) {
-            keys.insert(Thread {
-                pid: event.pid,
-                tid: event.tid,
-            })?;
-        }
-    }
-    Ok(keys)
 }

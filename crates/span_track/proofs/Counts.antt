@@ -1,5 +1,5 @@
 -- How many microseconds of a stretch of time pass a test.
-use Rattle.std.proofs.Common.{◌≡◌, ℕ, zero, suc, ◌+◌, Bool, true, false, ◌&&◌, ℤ, pos, negsuc, ◌+ℤ◌, ◌-ℤ◌, ◌≤ℤ◌, ◌<ℤ◌, int_lt, int_le, refl, sym, ap, ap₂, ◌∙◌, arith, zero-add, List, [], ◌∷◌}
+use Rattle.std.proofs.Common.{◌≡◌, cond, ◌≤◌, ℕ, zero, suc, ◌+◌, Bool, true, false, ◌&&◌, ℤ, pos, negsuc, ◌+ℤ◌, ◌-ℤ◌, ◌≤ℤ◌, ◌<ℤ◌, int_lt, int_le, refl, sym, ap, ap₂, ◌∙◌, arith, zero-add, List, [], ◌∷◌}
 use Rattle.std.specs.List.{sum_by}
 use Rattle.std.proofs.lemmas.Bool.{and_left, and_right, and_from}
 use Rattle.std.proofs.lemmas.Int.{ints}
@@ -95,3 +95,31 @@ module _ {N : Type 0} where
       let between : count_from (a +ℤ pos before) (length_of s) here ≡ count_from s.start (length_of s) p =
       rw start (count_from-same here p s.start (length_of s) (λ u from under. ap (λ b. b && p u) (covers-between s u from (omega (arith, ints))))) in
       rw parts (omega (arith, first, second, none_before, none_after, between))
+
+pub count_from-le : (p : ℤ → Bool) (t : ℤ) (n : ℕ) → count_from t n p ≤ n
+count_from-le p t zero = omega arith
+count_from-le p t (suc n) = let rest = count_from-le p (t +ℤ pos 1) n in by_test (p t) rest
+  where
+    by_test : (b : Bool) → count_from (t +ℤ pos 1) n p ≤ n → one_if b + count_from (t +ℤ pos 1) n p ≤ suc n
+    by_test true h = omega arith
+    by_test false h = omega arith
+
+count_from-all : (p : ℤ → Bool) (t : ℤ) (n : ℕ) → ((u : ℤ) → t ≤ℤ u → u <ℤ (t +ℤ pos n) → p u ≡ true) → count_from t n p ≡ n
+count_from-all p t zero all = refl
+count_from-all p t (suc n) all =
+    let here = ap one_if (all t (omega (arith, ints)) (omega (arith, ints))) in
+    let rest = count_from-all p (t +ℤ pos 1) n (λ u from before. all u (omega (arith, ints)) (omega (arith, ints))) in
+    omega (arith, here, rest)
+
+-- through a stretch in which the test doesn't change, all pass or none
+pub count_from-unbroken : (p : ℤ → Bool) (u v w : ℤ) → u ≤ℤ v → v ≤ℤ w → ((x : ℤ) → u ≤ℤ x → x <ℤ v → p x ≡ p u) → count_from u (distance u w) p ≡ cond (p u) (distance u v) 0 + count_from v (distance v w) p
+count_from-unbroken p u v w first then same =
+    let here = add-distance u v first in
+    let later = add-distance v w then in
+    let whole = add-distance u w (omega (arith, ints)) in
+    let parts : distance u w ≡ distance u v + distance v w = omega (arith, ints, here, later, whole) in
+    rw parts (count_from-add p u (distance u v) (distance v w) ∙ rw here (ap (λ n. n + count_from v (distance v w) p) (by_test (p u) refl)))
+  where
+    by_test : (b : Bool) → p u ≡ b → count_from u (distance u v) p ≡ cond b (distance u v) 0
+    by_test true h = count_from-all p u (distance u v) (λ x from before. let here = add-distance u v first in same x from (omega (arith, ints, here)) ∙ h)
+    by_test false h = count_from-none p u (distance u v) (λ x from before. let here = add-distance u v first in same x from (omega (arith, ints, here)) ∙ h)

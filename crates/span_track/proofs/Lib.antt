@@ -1,8 +1,14 @@
+pub mod Apart
 pub mod Counts
 pub mod Numbers
 pub mod OpenSpans
 pub mod Places
+pub mod Positions
 pub mod Ranks
+pub mod SelfSums
+pub mod SelfTimes
 pub mod Sound
 pub mod ThreadSpans
 pub mod Tops
+pub mod Totals
+pub mod Unbroken

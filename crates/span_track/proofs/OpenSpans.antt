@@ -37,7 +37,7 @@ take-without_last (x ∷ y ∷ ys) =
     let fewer : length (x ∷ y ∷ ys) - 1 ≡ suc (length (y ∷ ys) - 1) = omega arith in
     rw fewer (ap (λ l. x ∷ l) (take-without_last (y ∷ ys)))
 
-option_or-some : {A : Type 0} (o : Option A) (x : A) (other : Option A) → option_or (option_or o (Some x)) other ≡ option_or o (Some x)
+pub option_or-some : {A : Type 0} (o : Option A) (x : A) (other : Option A) → option_or (option_or o (Some x)) other ≡ option_or o (Some x)
 option_or-some None x other = refl
 option_or-some (Some y) x other = refl
 

@@ -1,24 +1,12 @@
 -- That a track stays sound from event to event.
-use Rattle.std.proofs.Common.{◌≡◌, ℕ, ◌<◌, ◌≢◌, ℤ, pos, negsuc, ◌≤ℤ◌, List, [], ◌∷◌, ◌++◌, Option, Some, None, false, refl, sym, arith, All, length-append, get_or}
+use Rattle.std.proofs.Common.{◌≡◌, ℕ, ◌+◌, ◌<◌, ◌^◌, ◌≢◌, ℤ, negsuc, ◌≤ℤ◌, List, [], ◌∷◌, ◌++◌, Option, Some, None, false, refl, arith, All, length-append, get_or, length}
 use Rattle.std.proofs.lemmas.Int.{ints}
 use Rattle.std.proofs.lemmas.List.Elements.{All-weaker, All-push, All-pop, All-head, All-tail, All-nil, All-cons}
-use Rattle.span_track.specs.Spans.{Span, Arguments}
+use Rattle.span_track.specs.Spans.{Span}
 use Rattle.span_track.specs.Nesting.{Begin}
-use Rattle.span_track.specs.Laws.{IsApart, AreSpans}
 use Rattle.span_track.specs.Thread.{ThreadSpans, HasRoom, IsNext, goes_back}
-use Rattle.span_track.specs.Kept.{IsSound, IsInTime, IsUpTo, AreRising}
+use Rattle.span_track.specs.Kept.{IsSound, IsUpTo, AreRising}
 use Rattle.span_track.proofs.ThreadSpans.{with_begin, with_whole}
-
-IsApart-append : (at : ℕ) (spans : List (Span ℕ)) (s : Span ℕ) → IsApart at spans → s.at ≢ at → IsApart at (spans ++ s ∷ [])
-IsApart-append at [] s apart differs = (differs, tt)
-IsApart-append at (x ∷ spans) s apart differs = (apart.0, IsApart-append at spans s apart.1 differs)
-
-AreSpans-append : (spans : List (Span ℕ)) (s : Span ℕ) → AreSpans spans → All (λ x. x.at ≢ s.at) spans → s.start ≤ℤ s.until → AreSpans (spans ++ s ∷ [])
-AreSpans-append [] s are apart lasts = (lasts, tt, tt)
-AreSpans-append (x ∷ spans) s are apart lasts =
-    let here = All-head (λ (y : Span ℕ). y.at ≢ s.at) x spans apart in
-    let later = All-tail (λ (y : Span ℕ). y.at ≢ s.at) x spans apart in
-    (are.0, IsApart-append x.at spans s are.1 (λ same. here (sym same)), AreSpans-append spans s are.2 later lasts)
 
 AreRising-append : (bs : List (Begin ℕ)) (b : Begin ℕ) → AreRising bs → All (λ c. c.at < b.at) bs → AreRising (bs ++ b ∷ [])
 AreRising-append [] b rising below = (All-nil _, tt)
@@ -46,8 +34,6 @@ All-IsUpTo-later ts last bs later up_to =
 
 pub IsSound-with_begin : (t : ThreadSpans ℕ) (b : Begin ℕ) → IsSound t → HasRoom t → IsNext b.at t → negsuc 9007199254740990 ≤ℤ b.ts → goes_back b.ts t.last ≡ false → IsSound (with_begin t b)
 IsSound-with_begin t b sound room next from later = record {
-  spans = sound.spans;
-  in_time = sound.in_time;
   from = All-push (λ (c : Begin ℕ). negsuc 9007199254740990 ≤ℤ c.ts) t.opened b sound.from from;
   up_to = All-push (λ (c : Begin ℕ). IsUpTo c.ts (Some b.ts)) t.opened b (All-IsUpTo-later b.ts t.last t.opened later sound.up_to) (omega (arith, ints));
   apart = All-push (λ (c : Begin ℕ). All (λ s. s.at ≢ c.at) t.closed) t.opened b sound.apart (All-weaker (λ (s : Span ℕ). s.at < b.at) (λ (s : Span ℕ). s.at ≢ b.at) (λ s h same. omega arith) t.closed next.1);
@@ -55,10 +41,8 @@ IsSound-with_begin t b sound room next from later = record {
   few = omega (arith, length-append t.opened (b ∷ []));
 }
 
-pub IsSound-with_whole : (t : ThreadSpans ℕ) (s : Span ℕ) → IsSound t → HasRoom t → IsNext s.at t → IsInTime s → s.start ≤ℤ s.until → IsSound (with_whole t s)
-IsSound-with_whole t s sound room next in_time lasts = record {
-  spans = AreSpans-append t.closed s sound.spans (All-weaker (λ (x : Span ℕ). x.at < s.at) (λ (x : Span ℕ). x.at ≢ s.at) (λ x h same. omega arith) t.closed next.1) lasts;
-  in_time = All-push IsInTime t.closed s sound.in_time in_time;
+pub IsSound-with_whole : (t : ThreadSpans ℕ) (s : Span ℕ) → IsSound t → HasRoom t → IsNext s.at t → IsSound (with_whole t s)
+IsSound-with_whole t s sound room next = record {
   from = sound.from;
   up_to = sound.up_to;
   apart = All-weaker-apart t.opened sound.apart next.0;
@@ -70,20 +54,35 @@ IsSound-with_whole t s sound room next in_time lasts = record {
     All-weaker-apart bs apart below = λ k d within.
         All-push (λ (x : Span ℕ). x.at ≢ (get_or bs k d).at) t.closed s (apart k d within) (λ same. let h = below k d within in omega arith)
 
-pub IsSound-with_end : (opened : List (Begin ℕ)) (closed : List (Span ℕ)) (last : Option ℤ) (b : Begin ℕ) (ts : ℤ) (args : Arguments) → IsSound (record { opened = opened ++ b ∷ []; closed = closed; last = last }) → ts ≤ℤ pos 9007199254740991 → goes_back ts last ≡ false → IsSound (record { opened = opened; closed = closed ++ record { name = b.name; start = b.ts; until = ts; at = b.at; args = args } ∷ []; last = Some ts })
-IsSound-with_end opened closed last b ts args sound in_time later =
+-- what may be said of the span that an end closes
+pub record MayClose (b : Begin ℕ) (closed : List (Span ℕ)) (ts : ℤ) : Type 0 where
+  pub from : negsuc 9007199254740990 ≤ℤ b.ts
+  pub lasts : b.ts ≤ℤ ts
+  pub apart : All (λ s. s.at ≢ b.at) closed
+  pub few : length closed + 1 < 2 ^ 32
+
+pub MayClose-sound : (opened : List (Begin ℕ)) (closed : List (Span ℕ)) (last : Option ℤ) (b : Begin ℕ) (ts : ℤ) → IsSound (record { opened = opened ++ b ∷ []; closed = closed; last = last }) → goes_back ts last ≡ false → MayClose b closed ts
+MayClose-sound opened closed last b ts sound later =
     let from = All-pop (λ (c : Begin ℕ). negsuc 9007199254740990 ≤ℤ c.ts) (opened ++ b ∷ []) opened (Some b) refl sound.from in
     let up_to = All-pop (λ (c : Begin ℕ). IsUpTo c.ts last) (opened ++ b ∷ []) opened (Some b) refl sound.up_to in
     let apart = All-pop (λ (c : Begin ℕ). All (λ s. s.at ≢ c.at) closed) (opened ++ b ∷ []) opened (Some b) refl sound.apart in
-    let rising = AreRising-front opened b sound.rising in
-    let lasts = IsUpTo-later b.ts ts last up_to.1 later in
-    let span : Span ℕ = record { name = b.name; start = b.ts; until = ts; at = b.at; args = args } in
     record {
-      spans = AreSpans-append closed span sound.spans apart.1 lasts;
-      in_time = All-push IsInTime closed span sound.in_time (from.1, omega (arith, ints));
+      from = from.1;
+      lasts = IsUpTo-later b.ts ts last up_to.1 later;
+      apart = apart.1;
+      few = omega (arith, length-append opened (b ∷ []), sound.few);
+    }
+
+pub IsSound-with_end : (opened : List (Begin ℕ)) (closed : List (Span ℕ)) (last : Option ℤ) (b : Begin ℕ) (s : Span ℕ) (ts : ℤ) → s.at ≡ b.at → IsSound (record { opened = opened ++ b ∷ []; closed = closed; last = last }) → goes_back ts last ≡ false → IsSound (record { opened = opened; closed = closed ++ s ∷ []; last = Some ts })
+IsSound-with_end opened closed last b s ts same_at sound later =
+    let from = All-pop (λ (c : Begin ℕ). negsuc 9007199254740990 ≤ℤ c.ts) (opened ++ b ∷ []) opened (Some b) refl sound.from in
+    let up_to = All-pop (λ (c : Begin ℕ). IsUpTo c.ts last) (opened ++ b ∷ []) opened (Some b) refl sound.up_to in
+    let apart = All-pop (λ (c : Begin ℕ). All (λ x. x.at ≢ c.at) closed) (opened ++ b ∷ []) opened (Some b) refl sound.apart in
+    let rising = AreRising-front opened b sound.rising in
+    record {
       from = from.0;
       up_to = All-IsUpTo-later ts last opened later up_to.0;
-      apart = λ k d within. All-push (λ (x : Span ℕ). x.at ≢ (get_or opened k d).at) closed span (apart.0 k d within) (λ same. let h = rising.1 k d within in omega arith);
+      apart = λ k d within. All-push (λ (x : Span ℕ). x.at ≢ (get_or opened k d).at) closed s (apart.0 k d within) (λ same. let h = rising.1 k d within in omega arith);
       rising = rising.0;
-      few = omega (arith, length-append opened (b ∷ []), length-append closed (span ∷ []), sound.few);
+      few = omega (arith, length-append opened (b ∷ []), length-append closed (s ∷ []), sound.few);
     }

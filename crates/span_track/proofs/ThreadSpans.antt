@@ -1,9 +1,9 @@
 -- What the track of a thread keeps after one more event.
-use Rattle.std.proofs.Common.{◌≡◌, ℤ, List, [], ◌∷◌, ◌++◌, Some, refl, sym, append_assoc, append-nil}
+use Rattle.std.proofs.Common.{◌≡◌, ℤ, List, [], ◌∷◌, ◌++◌, Option, Some, refl, sym, append_assoc, append-nil}
 use Rattle.span_track.specs.Spans.{Span, Arguments}
 use Rattle.span_track.specs.Nesting.{Begin, ThreadEvent, began, ended, completed, matched_span, closed_by, closed_after, closed_spans, last_time}
 use Rattle.span_track.specs.Thread.{ThreadSpans, thread_spans}
-use Rattle.span_track.proofs.OpenSpans.{last_of, without_last, opener-open_spans, open_spans-began, open_spans-ended, open_spans-completed}
+use Rattle.span_track.proofs.OpenSpans.{last_of, without_last, last_of-append, without_last-append, opener-open_spans, open_spans-began, open_spans-ended, open_spans-completed}
 
 module _ {N : Type 0} where
   closed_after-append : (earlier later : List (ThreadEvent N)) (e : ThreadEvent N) → closed_after earlier (later ++ e ∷ []) ≡ closed_after earlier later ++ closed_by (earlier ++ later) e
@@ -50,3 +50,7 @@ module _ {N : Type 0} where
 
   pub thread_spans-completed : (es : List (ThreadEvent N)) (s : Span N) → thread_spans (es ++ completed s ∷ []) ≡ with_whole (thread_spans es) s
   thread_spans-completed es s = cc (open_spans-completed es s, closed_spans-append es (completed s), last_time-completed es s)
+
+  -- an end closes the last open span
+  pub with_end-append : (opened : List (Begin N)) (closed : List (Span N)) (last : Option ℤ) (b : Begin N) (ts : ℤ) (args : Arguments) → with_end (record { opened = opened ++ b ∷ []; closed = closed; last = last }) ts args ≡ record { opened = opened; closed = closed ++ matched_span (Some b) ts args; last = Some ts }
+  with_end-append opened closed last b ts args = λ i. record { opened = without_last-append opened b i; closed = closed ++ matched_span (last_of-append opened b i) ts args; last = Some ts }

@@ -1,3 +1,4 @@
+pub mod Closed
 pub mod Fault
 pub mod Kept
 pub mod Laws
@@ -5,3 +6,4 @@ pub mod Nesting
 pub mod Numbering
 pub mod Spans
 pub mod Thread
+pub mod Walk

@@ -5,9 +5,11 @@ mod closed;
 mod fault;
 pub mod laws;
 mod names;
+mod span;
 mod thread;
+mod walk;
 
-pub use closed::{ClosedSpan, NameTotal};
 pub use fault::TrackFault;
 pub use names::Names;
+pub use span::{ClosedSpan, NameTotal};
 pub use thread::ThreadTrack;

@@ -1,25 +1,36 @@
 //! The track of one thread.
-ghost use Rattle.std.specs.Prelude.{◌≡◌, ◌+◌, ◌≤◌, ℕ, List, [], ◌∷◌, ◌++◌, length, map, slice_get, None, pos, ◌+ℤ◌, option_copied, IfOk, OnOk, OnErr};
+ghost use Rattle.std.specs.Prelude.{◌≡◌, nat_eq, ◌+◌, ◌≤◌, ℕ, List, [], ◌∷◌, ◌++◌, length, map, slice_get, None, pos, ◌+ℤ◌, option_copied, IfOk, OnOk, OnErr};
 ghost use Rattle.std.specs.Option.{option_map};
 ghost use Rattle.span_read.specs.Event.{IsTime, greatest_time};
 ghost use Rattle.span_track.specs.Fault.{Answers};
-ghost use Rattle.span_track.specs.Nesting.{ThreadEvent, began};
-ghost use Rattle.span_track.specs.Thread.{StandsFor, HasRoom, IsNext, goes_back, begin_refusal};
+ghost use Rattle.span_track.specs.Nesting.{ThreadEvent, began, ended, completed, closed_by, opener};
+ghost use Rattle.span_track.specs.Spans.{self_of, busy_time};
+ghost use Rattle.span_track.specs.Thread.{StandsFor, HasRoom, IsNext, goes_back, begin_refusal, end_refusal};
+ghost use Rattle.span_track.specs.Closed.{span_of, total_for, AreClosed};
 
-use crate::closed::{ClosedSpan, NameTotal, OpenSpan};
+use crate::closed::ClosedSpans;
 use crate::fault::{NO_OPEN_SPAN, TIME_GOES_BACK, TrackFault};
-use indexmap::IndexMap;
+use crate::laws::{busy_plain, self_plain};
+use crate::span::{ClosedSpan, NameTotal};
 use span_read::{Args, merge_args};
 use std::alloc::Global;
 use std::marker::Model;
+
+// A begin that no end has matched yet.
+#[derive(Debug, Drop)]
+struct OpenSpan {
+    name: u32,
+    ts: i64,
+    at: u32,
+    args: Args,
+}
 
 /// The nested spans of one thread.
 #[derive(Drop)]
 pub struct ThreadTrack {
     opened: Vec<OpenSpan>,
-    closed: Vec<ClosedSpan>,
+    closed: ClosedSpans,
     last: Option<i64>,
-    totals: IndexMap<u32, NameTotal>,
 }
 
 impl Model for ThreadTrack {
@@ -28,12 +39,11 @@ impl Model for ThreadTrack {
 
     ghost Value = { ThreadSpans ℕ };
 
-    ghost use Rattle.span_track.specs.Kept.{begin_of, span_of, IsSound, AreTotals};
+    ghost use Rattle.span_track.specs.Kept.{begin_of, IsSound};
 
-    ghost view = { λ t. record { opened = map begin_of t.opened.items; closed = map span_of t.closed.items; last = t.last } };
+    ghost view = { λ t. record { opened = map begin_of t.opened.items; closed = t.closed.spans; last = t.last } };
 
-    ghost invariant = { λ t. IsSound (record { opened = map begin_of t.opened.items; closed = map span_of t.closed.items; last = t.last })
-        × AreTotals t.totals (map span_of t.closed.items) };
+    ghost invariant = { λ t. IsSound (record { opened = map begin_of t.opened.items; closed = t.closed.spans; last = t.last }) };
 }
 
 impl ThreadTrack {
@@ -43,9 +53,8 @@ impl ThreadTrack {
     {
         ThreadTrack {
             opened: Vec::new(alloc),
-            closed: Vec::new(alloc),
+            closed: ClosedSpans::new(alloc),
             last: None,
-            totals: IndexMap::new(alloc),
         }
     }
 
@@ -78,6 +87,77 @@ impl ThreadTrack {
         Ok(self.opened.len() as u32)
     }
 
+    /// The span that began last ends. Answers it with the arguments of both events, or 21 where no span is open,
+    /// or 22 where `ts` is below the time of the last begin or end.
+    pub fn end_span(&mut self, ts: i64, args: &Args) -> Result<ClosedSpan, TrackFault>
+        requires in_time { IsTime ts }
+        ensures refusal { Answers result (end_refusal self.old ts) }
+        ensures span { IfOk result (λ span. (es : List (ThreadEvent ℕ)) → StandsFor self.old es
+            → closed_by es (ended ts args.now) ≡ span_of span ∷ []) }
+        ensures stands { OnOk result ((es : List (ThreadEvent ℕ)) → StandsFor self.old es
+            → StandsFor self.new (es ++ ended ts args.now ∷ [])) }
+        ensures err { OnErr result (self.new ≡ self.old) }
+    {
+        let Some(begin) = self.opened.last() else {
+            return Err(TrackFault::Refused(NO_OPEN_SPAN));
+        };
+        if self.goes_back(ts) {
+            return Err(TrackFault::Refused(TIME_GOES_BACK));
+        }
+        let alloc = *self.opened.allocator();
+        let merged = merge_args(alloc, &begin.args, args).map_err(|_| TrackFault::Memory)?;
+        let copy = merged.try_clone(alloc).map_err(|_| TrackFault::Memory)?;
+        self.closed.reserve().map_err(|_| TrackFault::Memory)?;
+        let Some(begin) = self.opened.pop() else {
+            unreachable!();
+        };
+        self.closed.add(closed_at(&begin, ts, merged));
+        self.last = Some(ts);
+        Ok(closed_at(&begin, ts, copy))
+    }
+
+    /// A whole span, of `dur` microseconds from `ts` on.
+    pub fn complete(
+        &mut self,
+        name: u32,
+        ts: i64,
+        dur: u64,
+        at: u32,
+        args: &Args,
+    ) -> Result<(), TrackFault>
+        requires room { HasRoom self.old }
+        requires next { IsNext at self.old }
+        requires in_time { IsTime ts }
+        requires lasts { dur ≤ greatest_time }
+        ensures refusal { Answers result None }
+        ensures stands { OnOk result ((es : List (ThreadEvent ℕ)) → StandsFor self.old es
+            → StandsFor self.new (es ++ completed (record { name = name; start = ts; until = ts +ℤ pos dur; at = at; args = args.now }) ∷ [])) }
+        ensures err { OnErr result (self.new ≡ self.old) }
+    {
+        let args = args
+            .try_clone(*self.opened.allocator())
+            .map_err(|_| TrackFault::Memory)?;
+        self.closed.reserve().map_err(|_| TrackFault::Memory)?;
+        self.closed.add(ClosedSpan {
+            name,
+            start: ts,
+            until: ts + dur as i64,
+            at,
+            args,
+        });
+        Ok(())
+    }
+
+    /// The arguments of the begin that the next end matches. Takes no memory.
+    pub fn open_args(&self) -> Option<&Args>
+        ensures { (es : List (ThreadEvent ℕ)) → StandsFor self.now es → option_copied result ≡ option_map (λ begin. begin.args) (opener es) }
+    {
+        match self.opened.last() {
+            Some(begin) => Some(&begin.args),
+            None => None,
+        }
+    }
+
     fn goes_back(&self, ts: i64) -> bool
         ensures { result ≡ goes_back ts self.now.last }
     {
@@ -99,5 +179,60 @@ impl ThreadTrack {
         ensures { result ≡ self.now.last }
     {
         self.last
+    }
+
+    /// How many spans have closed.
+    pub fn closed_count(&self) -> u32
+        ensures { result ≡ length self.now.closed }
+    {
+        self.closed.as_slice().len() as u32
+    }
+
+    /// A closed span, in the order of the events that closed them, counted from 0.
+    pub fn closed(&self, i: u32) -> Option<&ClosedSpan>
+        ensures { option_map (λ span. span_of span.now) result ≡ slice_get self.now.closed i }
+    {
+        self.closed.as_slice().get(i as usize)
+    }
+
+    /// The number and the lengths of the closed spans of one name.
+    pub fn total_of(&self, name: u32) -> NameTotal
+        ensures { result ≡ total_for self.now.closed name }
+    {
+        self.closed.total_of(name)
+    }
+
+    /// The microseconds that belong to the closed spans of one name, as no span that ranks above covers them.
+    pub fn self_of(&self, name: u32) -> u64
+        ensures { result ≡ self_of nat_eq name self.now.closed }
+    {
+        self_plain(self, name)
+    }
+
+    /// The microseconds that at least one closed span covers.
+    pub fn busy(&self) -> u64
+        ensures { result ≡ busy_time self.now.closed }
+    {
+        busy_plain(self)
+    }
+
+    pub(crate) fn spans(&self) -> &[ClosedSpan]
+        ensures spans { map span_of result.now ≡ self.now.closed }
+        ensures closed { AreClosed self.now.closed }
+    {
+        self.closed.as_slice()
+    }
+}
+
+// The span that ends at `until`.
+fn closed_at(begin: &OpenSpan, until: i64, args: Args) -> ClosedSpan
+    ensures { result ≡ record { name = begin.now.name; start = begin.now.ts; until = until; at = begin.now.at; args = args } }
+{
+    ClosedSpan {
+        name: begin.name,
+        start: begin.ts,
+        until,
+        at: begin.at,
+        args,
     }
 }

@@ -1,16 +1,16 @@
 use Rattle.std.proofs.Common.{rules, ◌≡◌, ℕ, [], ◌∷◌, ◌++◌, false, map, sym, ap, ◌∙◌, subst, w64, to_z, of_z, to_z-of_z}
 use Rattle.std.proofs.lemmas.List.{map_push}
-use Rattle.span_track.specs.declared.closed.OpenSpan.{OpenSpan}
+use Rattle.span_track.specs.declared.thread.OpenSpan.{OpenSpan}
 use Rattle.span_track.specs.Nesting.{Begin}
 use Rattle.span_track.specs.Thread.{ThreadSpans, thread_spans, HasRoom, IsNext, goes_back}
-use Rattle.span_track.specs.Kept.{begin_of, span_of, IsSound}
+use Rattle.span_track.specs.Kept.{begin_of, IsSound}
 use Rattle.span_track.proofs.Sound.{IsSound-with_begin}
 use Rattle.span_track.proofs.ThreadSpans.{with_begin, thread_spans-began}
 use Rattle.span_track.proofs.thread.ThreadTrack.begin_span.Goals as goal
 
 pub invariant_of-self-2 : goal.invariant_of-self-2
 invariant_of-self-2 c =
-    let old : ThreadSpans ℕ = record { opened = map begin_of c.self.inside.opened.items; closed = map span_of c.self.inside.closed.items; last = c.self.inside.last } in
+    let old : ThreadSpans ℕ = record { opened = map begin_of c.self.inside.opened.items; closed = c.self.inside.closed.spans; last = c.self.inside.last } in
     let new : OpenSpan = record { name = c.args.name; ts = to_z w64 (of_z w64 c.args.ts); at = c.args.at; args = c.in_ok-args.args } in
     let ts : to_z w64 (of_z w64 c.args.ts) ≡ c.args.ts = to_z-of_z c.ranges.ts in
     let items : c.push_reserved.new.self.items ≡ c.self.inside.opened.items ++ new ∷ [] = cc in
@@ -19,8 +19,8 @@ invariant_of-self-2 c =
     let next : IsNext c.args.at old = subst (λ (t : ThreadSpans ℕ). IsNext c.args.at t) (sym c.self.view_is) c.requires.next in
     let later : goes_back c.args.ts c.self.inside.last ≡ false = search rules in
     let sound : IsSound (with_begin old (record { name = c.args.name; ts = c.args.ts; at = c.args.at; args = c.in_ok-args.args })) =
-    IsSound-with_begin old (record { name = c.args.name; ts = c.args.ts; at = c.args.at; args = c.in_ok-args.args }) c.self.invariant.0 room next c.requires.in_time.0 later in
-    rw (opened, ts) (sound, c.self.invariant.1)
+    IsSound-with_begin old (record { name = c.args.name; ts = c.args.ts; at = c.args.at; args = c.in_ok-args.args }) c.self.invariant room next c.requires.in_time.0 later in
+    rw (opened, ts) sound
 
 pub returns-clause-stands : goal.returns-clause-stands
 returns-clause-stands c = λ es stands.
@@ -30,5 +30,5 @@ returns-clause-stands c = λ es stands.
     let items : c.push_reserved.new.self.items ≡ c.self.inside.opened.items ++ new ∷ [] = cc in
     let opened : map begin_of c.push_reserved.new.self.items ≡ map begin_of c.self.inside.opened.items ++ begin_of new ∷ [] = ap (map begin_of) items ∙ map_push begin_of c.self.inside.opened.items new in
     let begin : Begin ℕ = record { name = c.args.name; ts = c.args.ts; at = c.args.at; args = c.args.args.now } in
-    let before : record { opened = map begin_of c.self.inside.opened.items; closed = map span_of c.self.inside.closed.items; last = c.self.inside.last } ≡ thread_spans es = c.self.view_is ∙ stands in
+    let before : record { opened = map begin_of c.self.inside.opened.items; closed = c.self.inside.closed.spans; last = c.self.inside.last } ≡ thread_spans es = c.self.view_is ∙ stands in
     rw (opened, ts, args) (ap (λ t. with_begin t begin) before ∙ sym (thread_spans-began es begin))

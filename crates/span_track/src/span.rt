@@ -1,0 +1,18 @@
+use span_read::Args;
+
+/// A span that has ended. It covers the microseconds from `start` to before `until`; `at` is the position of the event that opened it.
+#[derive(Debug, Drop)]
+pub struct ClosedSpan {
+    pub name: u32,
+    pub start: i64,
+    pub until: i64,
+    pub at: u32,
+    pub args: Args,
+}
+
+/// The closed spans of one name: how many there are, and their lengths together, in microseconds.
+#[derive(Clone, Copy, Debug, PartialEq, Eq)]
+pub struct NameTotal {
+    pub count: u32,
+    pub total: u128,
+}
