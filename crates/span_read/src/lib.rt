@@ -9,6 +9,7 @@ mod check;
 mod element;
 mod error;
 mod event;
+mod fields;
 mod item;
 mod items;
 mod key;
