@@ -47,7 +47,7 @@ read_unfinished text = option_or (read (cut_text text)) (read (cut_text text ++ 
 abbrev pub first_read : List ℕ → Option Data
 first_read text = option_or (read text) (if opens_array text then read_unfinished text else None)
 
--- the value that the bytes are, which must be UTF-8
+-- the value that the bytes are, which must be UTF-8; what a candidate lacks or adds is ASCII, so all candidates are UTF-8 or none
 abbrev pub document : List ℕ → Option Data
 document bytes = if is_utf8 bytes then first_read bytes else None
 
