@@ -1,5 +1,5 @@
 -- Keys in ascending order, and the maps that have them.
-use Rattle.std.proofs.Common.{◌≡◌, ℕ, List, [], ◌∷◌, ◌++◌, Bool, true, false, ◌||◌, cond, Option, Some, None, refl, sym, ap, ap₂, subst, ◌∙◌, map}
+use Rattle.std.proofs.Common.{◌≡◌, List, [], ◌∷◌, ◌++◌, Bool, true, false, ◌||◌, cond, Option, Some, refl, sym, ap, ap₂, ◌∙◌, map}
 use Rattle.std.specs.Prelude.{fold, is_some}
 use Rattle.std.specs.List.{list_any, AllByRecursion}
 use Rattle.std.specs.List.Sorted.{IsStrictlySortedBy}
@@ -32,9 +32,9 @@ module _ {K : Type 0} {R : K → K → Ordering} (o : IsTotalOrder R) where
   insert_key-present k [] sorted has = cc
   insert_key-present k (x ∷ xs) sorted has =
       insert_key-by (R k x) k x xs (insert_key R xs k) refl
-        (λ (e : R k x ≡ Less). let none : (is_eq (R k x) || has_key R k xs) ≡ false = ap₂ (λ r b. is_eq r || b) e (has_key-below k x xs e sorted.0) in
-          let clash : true ≡ false = sym has ∙ none in cc)
-        (λ (e : R k x ≡ Greater). insert_key-present k xs sorted.1 (sym (ap (λ r. is_eq r || has_key R k xs) e) ∙ has))
+      (λ (e : R k x ≡ Less). let none : (is_eq (R k x) || has_key R k xs) ≡ false = ap₂ (λ r b. is_eq r || b) e (has_key-below k x xs e sorted.0) in
+      let clash : true ≡ false = sym has ∙ none in cc)
+      (λ (e : R k x ≡ Greater). insert_key-present k xs sorted.1 (sym (ap (λ r. is_eq r || has_key R k xs) e) ∙ has))
 
 -- the keys of a map after an insertion
 pub keys_of-insert_entry : {K X : Type 0} (R : K → K → Ordering) (es : List (K × X)) (k : K) (v : X) → keys_of (insert_entry R es k v) ≡ insert_key R (keys_of es) k
@@ -58,15 +58,15 @@ lookup-later {R} o e es k h = ap (λ b. cond b (Some e.1) (lookup (λ x. is_eq (
 
 module _ {K X Y : Type 0} {R : K → K → Ordering} (o : IsTotalOrder R) where
   map-later : (g : K → Option X → Y) (e : K × X) (es : List (K × X)) (ks : List K) → AllByRecursion (λ k. R e.0 k ≡ Less) ks →
-    map (λ k. g k (lookup (λ x. is_eq (R k x)) (e ∷ es))) ks ≡ map (λ k. g k (lookup (λ x. is_eq (R k x)) es)) ks
+      map (λ k. g k (lookup (λ x. is_eq (R k x)) (e ∷ es))) ks ≡ map (λ k. g k (lookup (λ x. is_eq (R k x)) es)) ks
   map-later g e es [] below = refl
   map-later g e es (k ∷ ks) below = ap₂ (λ y ys. y ∷ ys) (ap (g k) (lookup-later o e es k below.0)) (map-later g e es ks below.1)
 
   -- going over the entries is going over the keys with what is found there
   pub map-keys_of : (g : K → Option X → Y) (es : List (K × X)) → IsStrictlySortedBy R (keys_of es) →
-    map (λ k. g k (lookup (λ x. is_eq (R k x)) es)) (keys_of es) ≡ map (λ e. g e.0 (Some e.1)) es
+      map (λ k. g k (lookup (λ x. is_eq (R k x)) es)) (keys_of es) ≡ map (λ e. g e.0 (Some e.1)) es
   unfolding IsStrictlySortedBy
   map-keys_of g [] sorted = refl
   map-keys_of g (e ∷ es) sorted =
       ap₂ (λ y ys. y ∷ ys) (ap (λ b. g e.0 (cond b (Some e.1) (lookup (λ x. is_eq (R e.0 x)) es))) (ap is_eq (tied_itself o e.0)))
-        (map-later g e es (keys_of es) sorted.0 ∙ map-keys_of g es sorted.1)
+      (map-later g e es (keys_of es) sorted.0 ∙ map-keys_of g es sorted.1)

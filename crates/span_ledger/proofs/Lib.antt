@@ -7,3 +7,4 @@ pub mod Following
 pub mod Totals
 pub mod Tracks
 pub mod Taking
+pub mod TrackRows

@@ -1,11 +1,11 @@
 -- What names there are changes no nesting and no time.
-use Rattle.std.proofs.Common.{◌≡◌, ℕ, zero, suc, ◌+◌, List, [], ◌∷◌, ◌++◌, length, map, Bool, true, false, cond, not, ◌&&◌, ◌||◌, Option, Some, None, is_none, refl, sym, ap, ap₂, ◌∙◌, nat_eq}
+use Rattle.std.proofs.Common.{◌≡◌, ℕ, zero, suc, ◌+◌, List, [], ◌∷◌, ◌++◌, map, Bool, true, false, cond, not, ◌&&◌, ◌||◌, Option, Some, None, is_none, refl, sym, ap, ap₂, ◌∙◌, nat_eq}
 use Rattle.std.specs.Prelude.{ℤ, pos, ◌+ℤ◌, option_map}
 use Rattle.std.specs.Option.{option_or}
 use Rattle.std.specs.List.{list_any}
 use Rattle.std.specs.Int.{int_min, int_max}
 use Rattle.span_track.specs.Spans.{Span, Arguments, distance, covers, outranks, is_outranked, is_covered, earliest, latest, count_from, self_time, busy_time}
-use Rattle.span_track.specs.Nesting.{Begin, ThreadEvent, began, ended, completed, begins, ends, is_balanced, opener, is_match, is_matched_after, open_spans, depth_of, matched_span, closed_by, closed_after, closed_spans, last_time}
+use Rattle.span_track.specs.Nesting.{Begin, ThreadEvent, began, ended, completed, begins, ends, is_balanced, opener, is_match, is_matched_after, open_spans, matched_span, closed_by, closed_after, closed_spans, last_time}
 use Rattle.span_ledger.specs.Numbered.{renamed_begin, renamed_span, renamed_event, renamed}
 
 pub map-append : {A B : Type 0} (f : A → B) (xs ys : List A) → map f (xs ++ ys) ≡ map f xs ++ map f ys
@@ -69,7 +69,7 @@ module _ {N M : Type 0} (f : N → M) where
       ap (λ es. is_matched_after es (renamed f later)) (next-renamed between (began b)) ∙ is_matched_after-renamed (between ++ began b ∷ []) later
   is_matched_after-renamed between (ended ts args ∷ later) =
       ap₂ (λ a b. a || b) (is_match-renamed between)
-        (ap (λ es. is_matched_after es (renamed f later)) (next-renamed between (ended ts args)) ∙ is_matched_after-renamed (between ++ ended ts args ∷ []) later)
+      (ap (λ es. is_matched_after es (renamed f later)) (next-renamed between (ended ts args)) ∙ is_matched_after-renamed (between ++ ended ts args ∷ []) later)
   is_matched_after-renamed between (completed s ∷ later) =
       ap (λ es. is_matched_after es (renamed f later)) (next-renamed between (completed s)) ∙ is_matched_after-renamed (between ++ completed s ∷ []) later
 
@@ -98,7 +98,7 @@ module _ {N M : Type 0} (f : N → M) where
   closed_after-renamed earlier [] = refl
   closed_after-renamed earlier (e ∷ later) =
       ap₂ (λ xs ys. xs ++ ys) (closed_by-renamed earlier e)
-        (ap (λ es. closed_after es (renamed f later)) (next-renamed earlier e) ∙ closed_after-renamed (earlier ++ e ∷ []) later)
+      (ap (λ es. closed_after es (renamed f later)) (next-renamed earlier e) ∙ closed_after-renamed (earlier ++ e ∷ []) later)
       ∙ sym (map-append (renamed_span f) (closed_by earlier e) (closed_after (earlier ++ e ∷ []) later))
 
   pub closed_spans-renamed : (es : List (ThreadEvent N)) → closed_spans (renamed f es) ≡ map (renamed_span f) (closed_spans es)
@@ -129,4 +129,4 @@ module _ {N M : Type 0} (f : N → M) where
   pub self_time-renamed : (spans : List (Span N)) (s : Span N) → self_time (map (renamed_span f) spans) (renamed_span f s) ≡ self_time spans s
   self_time-renamed spans s =
       count_from-same s.start (distance s.start s.until) (λ u. not (is_outranked (map (renamed_span f) spans) (renamed_span f s) u)) (λ u. not (is_outranked spans s u))
-        (λ u. ap not (list_any-map (λ a. covers a u && outranks a (renamed_span f s)) (renamed_span f) spans))
+      (λ u. ap not (list_any-map (λ a. covers a u && outranks a (renamed_span f s)) (renamed_span f) spans))

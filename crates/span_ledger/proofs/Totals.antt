@@ -1,14 +1,14 @@
 -- The totals of a name are those of its number.
 use Rattle.std.proofs.Common.{◌≡◌, ℕ, ◌+◌, List, [], ◌∷◌, ◌++◌, length, map, Bool, true, false, cond, ◌&&◌, Option, Some, None, refl, sym, ap, ap₂, subst, ◌∙◌, nat_eq, eq-eqb, eqb-true}
-use Rattle.std.specs.Prelude.{ℤ, is_some, unwrap_or, option_map, filter, sum_by, slice_get}
+use Rattle.std.specs.Prelude.{is_some, unwrap_or, sum_by, slice_get}
 use Rattle.std.specs.Option.{option_or}
 use Rattle.std.specs.List.{list_all}
-use Rattle.std.specs.Bool.{one_answer, Decides}
+use Rattle.std.specs.Bool.{one_answer}
 use Rattle.std.specs.Cmp.Lexicographic.{bytes_decides}
 use Rattle.std.proofs.lemmas.List.{length-map}
 use Rattle.std.proofs.lemmas.List.Sums.{sum_by-cons}
 use Rattle.std.proofs.lemmas.List.Folds.{list_all-append}
-use Rattle.span_track.specs.Spans.{Span, Arguments, length_of, self_time, named, total_of, self_of}
+use Rattle.span_track.specs.Spans.{Span, length_of, self_time, named, total_of, self_of}
 use Rattle.span_track.specs.Nesting.{Begin, ThreadEvent, began, ended, completed, is_balanced, opener, matched_span, closed_by, closed_after, closed_spans}
 use Rattle.span_track.specs.Numbering.{number_in}
 use Rattle.span_track.proofs.Numbers.{slice_get-number_in}
@@ -53,7 +53,7 @@ module _ (names : List Words) where
       let all = list_all-append (is_numbered names) earlier (e ∷ []) ∙ and_true (list_all (is_numbered names) earlier) (is_numbered names e && true) p (and_true (is_numbered names e) true parts.0 refl) in
       list_all-append (is_numbered_span names) (closed_by earlier e) (closed_after (earlier ++ e ∷ []) later)
       ∙ and_true (list_all (is_numbered_span names) (closed_by earlier e)) (list_all (is_numbered_span names) (closed_after (earlier ++ e ∷ []) later))
-          (closed_by-numbered earlier e p parts.0) (closed_after-numbered (earlier ++ e ∷ []) later all parts.1)
+      (closed_by-numbered earlier e p parts.0) (closed_after-numbered (earlier ++ e ∷ []) later all parts.1)
 
   -- the names of closed spans have numbers where those of the events do
   pub closed_spans-numbered : (es : List (ThreadEvent Words)) → list_all (is_numbered names) es ≡ true → list_all (is_numbered_span names) (closed_spans es) ≡ true
@@ -62,13 +62,14 @@ module _ (names : List Words) where
   -- two texts are the same just where their numbers are
   nat_eq-number_in : (a b : Words) (i n : ℕ) → number_in names a ≡ Some i → number_in names b ≡ Some n → nat_eq i n ≡ same_text a b
   nat_eq-number_in a b i n p q =
-      one_answer {P = a ≡ b} (nat_eq i n) (same_text a b)
-        ((λ (e : nat_eq i n ≡ true). let same : i ≡ n = eqb-true i n e in
+      one_answer {P = a ≡ b} (nat_eq i n) (same_text a b) (
+        (λ (e : nat_eq i n ≡ true). let same : i ≡ n = eqb-true i n e in
             let at : Some a ≡ Some b = sym (slice_get-number_in names a i p) ∙ ap (λ k. slice_get names k) same ∙ slice_get-number_in names b n q in cc),
-         (λ (e : a ≡ b). let same : Some i ≡ Some n = sym p ∙ ap (λ t. number_in names t) e ∙ q in let numbers : i ≡ n = cc in eq-eqb i n numbers))
-        (bytes_decides a b)
+        (λ (e : a ≡ b). let same : Some i ≡ Some n = sym p ∙ ap (λ t. number_in names t) e ∙ q in let numbers : i ≡ n = cc in eq-eqb i n numbers),
+      )
+      (bytes_decides a b)
 
-  number_for-is : (text : Words) → is_some (number_in names text) ≡ true → number_in names text ≡ Some (number_for names text)
+  pub number_for-is : (text : Words) → is_some (number_in names text) ≡ true → number_in names text ≡ Some (number_for names text)
   number_for-is text h = by (number_in names text) refl h
     where
       by : (o : Option ℕ) → number_in names text ≡ o → is_some o ≡ true → number_in names text ≡ Some (unwrap_or o 0)
@@ -76,7 +77,7 @@ module _ (names : List Words) where
       by (Some n) e k = e
 
   named-renamed : (text : Words) (n : ℕ) (spans : List (Span Words)) → number_in names text ≡ Some n → list_all (is_numbered_span names) spans ≡ true →
-    named nat_eq n (map (renamed_span (number_for names)) spans) ≡ map (renamed_span (number_for names)) (named same_text text spans)
+      named nat_eq n (map (renamed_span (number_for names)) spans) ≡ map (renamed_span (number_for names)) (named same_text text spans)
   named-renamed text n [] at known = refl
   named-renamed text n (s ∷ spans) at known =
       let parts = both_true (is_numbered_span names s) (list_all (is_numbered_span names) spans) known in
@@ -93,17 +94,17 @@ module _ (names : List Words) where
   sum_by-map f g h same (x ∷ xs) = sum_by-cons f (g x) (map g xs) ∙ ap₂ (λ a b. a + b) (same x) (sum_by-map f g h same xs) ∙ sym (sum_by-cons h x xs)
 
   pub count-renamed : (text : Words) (n : ℕ) (spans : List (Span Words)) → number_in names text ≡ Some n → list_all (is_numbered_span names) spans ≡ true →
-    length (named nat_eq n (map (renamed_span (number_for names)) spans)) ≡ length (named same_text text spans)
+      length (named nat_eq n (map (renamed_span (number_for names)) spans)) ≡ length (named same_text text spans)
   count-renamed text n spans at known = ap length (named-renamed text n spans at known) ∙ length-map (named same_text text spans) (renamed_span (number_for names))
 
   pub total_of-renamed : (text : Words) (n : ℕ) (spans : List (Span Words)) → number_in names text ≡ Some n → list_all (is_numbered_span names) spans ≡ true →
-    total_of nat_eq n (map (renamed_span (number_for names)) spans) ≡ total_of same_text text spans
+      total_of nat_eq n (map (renamed_span (number_for names)) spans) ≡ total_of same_text text spans
   total_of-renamed text n spans at known =
       ap (λ xs. sum_by (λ s. length_of s) xs) (named-renamed text n spans at known)
       ∙ sum_by-map (λ s. length_of s) (renamed_span (number_for names)) (λ s. length_of s) (λ s. refl) (named same_text text spans)
 
   pub self_of-renamed : (text : Words) (n : ℕ) (spans : List (Span Words)) → number_in names text ≡ Some n → list_all (is_numbered_span names) spans ≡ true →
-    self_of nat_eq n (map (renamed_span (number_for names)) spans) ≡ self_of same_text text spans
+      self_of nat_eq n (map (renamed_span (number_for names)) spans) ≡ self_of same_text text spans
   self_of-renamed text n spans at known =
       ap (λ xs. sum_by (λ s. self_time (map (renamed_span (number_for names)) spans) s) xs) (named-renamed text n spans at known)
       ∙ sum_by-map (λ s. self_time (map (renamed_span (number_for names)) spans) s) (renamed_span (number_for names)) (λ s. self_time spans s) (self_time-renamed (number_for names) spans) (named same_text text spans)

@@ -1,5 +1,5 @@
 -- The events of a thread with each name in place of another, as a number in place of a text.
-use Rattle.std.specs.Prelude.{ℕ, List, map}
+use Rattle.std.specs.Prelude.{List, map}
 use Rattle.span_track.specs.Spans.{Span}
 use Rattle.span_track.specs.Nesting.{Begin, ThreadEvent, began, ended, completed}
 

@@ -10,6 +10,7 @@ mod refusal;
 mod rows;
 mod thread;
 mod threads;
+mod track_rows;
 
 pub use entry::{Answer, Entry, Op};
 pub use ledger::Ledger;

@@ -5,9 +5,9 @@ ghost use Rattle.span_ledger.specs.Rows.{count_row, process_keys, process_rows};
 
 use crate::entry::{Answer, Entry, Op};
 use crate::rows::{CountRow, ProcessRow};
+use span_read::{Event, Item};
 use std::alloc::{AllocError, Global};
 use std::collections::BTreeSet;
-use span_read::{Event, Item};
 
 // How many entries were accepted, refused and skipped.
 pub(crate) fn counts(journal: &[Entry]) -> CountRow

@@ -6,9 +6,9 @@ use Rattle.serde_json.specs.View.{items_view}
 use Rattle.serde_json.specs.declared.value.Value.{Value}
 use Rattle.serde_json.proofs.Views.{items_len-items_view}
 use Rattle.span_read.specs.declared.error.ReadError.TheVariants.{TooMany}
-use Rattle.span_read.specs.Document.{document, first_read, doc_of_elements, items_of, most_items}
+use Rattle.span_read.specs.Document.{document, candidates, first_read, doc_of_elements, items_of, most_items}
 
-pub document-of_utf8 : (bytes : List ℕ) → IsUtf8 bytes → document bytes ≡ first_read bytes
+pub document-of_utf8 : (bytes : List ℕ) → IsUtf8 bytes → document bytes ≡ first_read (candidates bytes)
 document-of_utf8 bytes is = rw (is_utf8-from_IsUtf8 bytes is)
 
 test_fails : (b : Bool) → (b ≡ true → ⊥) → b ≡ false

@@ -4,8 +4,8 @@ use Rattle.std.specs.List.{AllByRecursion as ByRecursion}
 use Rattle.std.specs.Int.RustNames.{int_le}
 use Rattle.std.proofs.lemmas.Int.{ints}
 use Rattle.std.proofs.lemmas.List.Elements.{All-from_recursion}
-use Rattle.serde_json.specs.Data.{Data, null, boolean, number, string, array, object, Items, no_items, item, Members, Num, unsigned, negative, float}
-use Rattle.serde_json.specs.Find.{get, get_member, as_str, as_i64, as_u64}
+use Rattle.serde_json.specs.Data.{Data, null, boolean, number, string, array, object, Items, no_items, item, Num, unsigned, negative, float}
+use Rattle.serde_json.specs.Find.{get, as_str, as_i64, as_u64}
 use Rattle.span_read.specs.declared.args.ArgValue.{ArgValue}
 use Rattle.span_read.specs.declared.args.ArgValue.TheVariants.{Whole, Words, Flag, Nil, Other}
 use Rattle.span_read.specs.declared.event.Phase.{Phase}
@@ -18,7 +18,7 @@ use Rattle.span_read.specs.declared.item.ItemFault.TheVariants.{NotWhole, BadFie
 use Rattle.span_read.specs.Event.{IsTime, IsGood, IsGoodAt, AllWhole, greatest_time}
 use Rattle.span_read.specs.Item.{IsGoodItem}
 use Rattle.span_read.specs.Phase.{reads_time, reads_duration, reads_id, needs_id, reads_reach, wants_whole_args, phase_of}
-use Rattle.span_read.specs.Fields.{whole, is_time, is_duration, whole_or_zero, duration_or_zero, id_text, parts_key, key_of, reach_of, args_of, all_whole}
+use Rattle.span_read.specs.Fields.{FieldData, fields_of, whole, is_time, is_duration, whole_or_zero, duration_or_zero, id_text, parts_key, key_of, reach_of, args_of, all_whole}
 use Rattle.span_read.specs.Element.{unless, where_read, time_fault, duration_fault, id_fault, first_fault, faults, fault_of, event_of, item_at, item_of_phase, item_of_letter, item_of_data}
 use Rattle.span_read.specs.Document.{items_of}
 
@@ -114,53 +114,53 @@ AllWhole-from_test ((name, Other) ∷ ps) right = cc
 -- ---- phase by phase
 
 -- what the absence of each fault says of an event
-record NoFaults (phase : Phase) (ms : Members) : Type 0 where
-  no_time : where_read (reads_time phase) (time_fault (get_member (codes "ts") ms)) ≡ None
-  no_duration : where_read (reads_duration phase) (duration_fault (get_member (codes "dur") ms)) ≡ None
-  no_id : where_read (reads_id phase) (id_fault (get_member (codes "id") ms) (get_member (codes "id2") ms)) ≡ None
-  no_lack : where_read (needs_id phase) (unless (is_some (get_member (codes "id") ms) || is_some (get_member (codes "id2") ms)) NoId) ≡ None
-  no_reach : where_read (reads_reach phase) (unless (is_some (reach_of (get_member (codes "s") ms))) BadReach) ≡ None
-  no_series : where_read (wants_whole_args phase) (unless (all_whole (args_of (get_member (codes "args") ms))) BadSeries) ≡ None
+record NoFaults (phase : Phase) (f : FieldData) : Type 0 where
+  no_time : where_read (reads_time phase) (time_fault f.ts) ≡ None
+  no_duration : where_read (reads_duration phase) (duration_fault f.dur) ≡ None
+  no_id : where_read (reads_id phase) (id_fault f.id f.id2) ≡ None
+  no_lack : where_read (needs_id phase) (unless (is_some f.id || is_some f.id2) NoId) ≡ None
+  no_reach : where_read (reads_reach phase) (unless (is_some (reach_of f.s)) BadReach) ≡ None
+  no_series : where_read (wants_whole_args phase) (unless (all_whole (args_of f.args)) BadSeries) ≡ None
 
-no_faults : (phase : Phase) (ms : Members) → fault_of phase ms ≡ None → NoFaults phase ms
-no_faults phase ms none =
-    let each = all_none (faults phase ms) none in
+no_faults : (phase : Phase) (f : FieldData) → fault_of phase f ≡ None → NoFaults phase f
+no_faults phase f none =
+    let each = all_none (faults phase f) none in
     let from_id = each.1.1.1.1.1.1 in
     record { no_time = each.0; no_duration = each.1.0; no_id = from_id.0; no_lack = from_id.1.1.0; no_reach = from_id.1.1.1.0; no_series = from_id.1.1.1.1.0 }
 
-good_at : (phase : Phase) (ms : Members) → NoFaults phase ms → IsGoodAt phase (event_of phase ms)
-good_at SpanBegin ms none = (refl, refl, refl, refl)
-good_at SpanEnd ms none = (refl, refl, refl, refl)
-good_at Complete ms none = (duration_at (get_member (codes "dur") ms) none.no_duration, refl, refl, refl)
-good_at AsyncBegin ms none = (refl, key_there _ _ _ none.no_id none.no_lack, refl)
-good_at AsyncPoint ms none = (refl, key_there _ _ _ none.no_id none.no_lack, refl)
-good_at AsyncEnd ms none = (refl, key_there _ _ _ none.no_id none.no_lack, refl)
-good_at FlowStart ms none = (refl, key_there _ _ _ none.no_id none.no_lack, refl, refl)
-good_at FlowStep ms none = (refl, key_there _ _ _ none.no_id none.no_lack, refl, refl)
-good_at FlowEnd ms none = (refl, key_there _ _ _ none.no_id none.no_lack, refl, refl)
-good_at Counter ms none = (refl, refl, refl, AllWhole-from_test (args_of (get_member (codes "args") ms)) (holds _ BadSeries none.no_series))
-good_at Instant ms none = (refl, refl, refl, holds _ BadReach none.no_reach)
-good_at Meta ms none = (refl, refl, refl, refl, refl)
+good_at : (phase : Phase) (f : FieldData) → NoFaults phase f → IsGoodAt phase (event_of phase f)
+good_at SpanBegin f none = (refl, refl, refl, refl)
+good_at SpanEnd f none = (refl, refl, refl, refl)
+good_at Complete f none = (duration_at f.dur none.no_duration, refl, refl, refl)
+good_at AsyncBegin f none = (refl, key_there _ _ _ none.no_id none.no_lack, refl)
+good_at AsyncPoint f none = (refl, key_there _ _ _ none.no_id none.no_lack, refl)
+good_at AsyncEnd f none = (refl, key_there _ _ _ none.no_id none.no_lack, refl)
+good_at FlowStart f none = (refl, key_there _ _ _ none.no_id none.no_lack, refl, refl)
+good_at FlowStep f none = (refl, key_there _ _ _ none.no_id none.no_lack, refl, refl)
+good_at FlowEnd f none = (refl, key_there _ _ _ none.no_id none.no_lack, refl, refl)
+good_at Counter f none = (refl, refl, refl, AllWhole-from_test (args_of f.args) (holds _ BadSeries none.no_series))
+good_at Instant f none = (refl, refl, refl, holds _ BadReach none.no_reach)
+good_at Meta f none = (refl, refl, refl, refl, refl)
 
-IsGood-event_of : (phase : Phase) (ms : Members) → NoFaults phase ms → IsGood (event_of phase ms)
-IsGood-event_of phase ms none = record { in_time = time_at (reads_time phase) (get_member (codes "ts") ms) none.no_time; by_phase = good_at phase ms none }
+IsGood-event_of : (phase : Phase) (f : FieldData) → NoFaults phase f → IsGood (event_of phase f)
+IsGood-event_of phase f none = record { in_time = time_at (reads_time phase) f.ts none.no_time; by_phase = good_at phase f none }
 
 -- ---- the items
 
-good_item_at : (phase : Phase) (ms : Members) (fault : Option ItemFault) → fault_of phase ms ≡ fault → IsGoodItem (item_at phase ms fault)
-good_item_at phase ms None is = IsGood-event_of phase ms (no_faults phase ms is)
-good_item_at phase ms (Some fault) is = tt
+good_item_at : (phase : Phase) (f : FieldData) (fault : Option ItemFault) → fault_of phase f ≡ fault → IsGoodItem (item_at phase f fault)
+good_item_at phase f None is = IsGood-event_of phase f (no_faults phase f is)
+good_item_at phase f (Some fault) is = tt
 
-good_item_of_phase : (ms : Members) (phase : Option Phase) → IsGoodItem (item_of_phase ms phase)
-good_item_of_phase ms None = tt
-good_item_of_phase ms (Some phase) = good_item_at phase ms _ refl
+good_item_of_phase : (f : FieldData) (phase : Option Phase) → IsGoodItem (item_of_phase f phase)
+good_item_of_phase f None = tt
+good_item_of_phase f (Some phase) = good_item_at phase f _ refl
 
-good_item_of_letter : (ms : Members) (letter : Option (List ℕ)) → IsGoodItem (item_of_letter ms letter)
-good_item_of_letter ms None = tt
-good_item_of_letter ms (Some letter) = good_item_of_phase ms (phase_of letter)
+good_item_of_letter : (f : FieldData) (letter : Option (List ℕ)) → IsGoodItem (item_of_letter f letter)
+good_item_of_letter f None = tt
+good_item_of_letter f (Some letter) = good_item_of_phase f (phase_of letter)
 
 pub IsGoodItem-item_of_data : (d : Data) → IsGoodItem (item_of_data d)
-IsGoodItem-item_of_data (object ms) = good_item_of_letter ms (option_and_then as_str (get_member (codes "ph") ms))
+IsGoodItem-item_of_data (object ms) = good_item_of_letter (fields_of ms) (option_and_then as_str (fields_of ms).ph)
 IsGoodItem-item_of_data null = tt
 IsGoodItem-item_of_data (boolean b) = tt
 IsGoodItem-item_of_data (number n) = tt

@@ -2,4 +2,5 @@ pub mod Documents
 pub mod Good
 pub mod Merged
 pub mod NameOrder
+pub mod Slots
 pub mod Taken

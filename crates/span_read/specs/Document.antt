@@ -39,17 +39,18 @@ without_trailing_comma text = if slice_index text (length text - 1) == 44 then t
 abbrev pub cut_text : List ℕ → List ℕ
 cut_text text = without_trailing_blanks (without_trailing_comma (without_trailing_blanks text))
 
--- an array may lack its closing bracket, and may have a comma after its last element, or after the bracket
-abbrev pub read_unfinished : List ℕ → Option Data
-read_unfinished text = option_or (read (cut_text text)) (read (cut_text text ++ 93 ∷ []))
+-- the texts that are tried in turn: an array may lack its closing bracket, and may have a comma after its last element or after the bracket
+abbrev pub candidates : List ℕ → List (List ℕ)
+candidates text = text ∷ (if opens_array text then cut_text text ∷ (cut_text text ++ 93 ∷ []) ∷ [] else [])
 
--- the value of the first candidate that reads: the text itself, and of an array also the text cut, and closed
-abbrev pub first_read : List ℕ → Option Data
-first_read text = option_or (read text) (if opens_array text then read_unfinished text else None)
+-- the value of the first text that reads
+abbrev pub first_read : List (List ℕ) → Option Data
+first_read [] = None
+first_read (text ∷ texts) = option_or (read text) (first_read texts)
 
--- the value that the bytes are, which must be UTF-8
+-- the value that the bytes are, which must be UTF-8; what a candidate lacks or adds is ASCII, so all candidates are UTF-8 or none
 abbrev pub document : List ℕ → Option Data
-document bytes = if is_utf8 bytes then first_read bytes else None
+document bytes = if is_utf8 bytes then first_read (candidates bytes) else None
 
 -- the elements of a trace: the array itself, or the member `traceEvents` of an object
 abbrev pub elements_of : Data → Option Items

@@ -1,8 +1,8 @@
 -- What one element of a trace is: a good event, its first fault, or an event of a phase that is not used.
-use Rattle.std.specs.Prelude.{ℕ, pos, List, [], ◌∷◌, ◌||◌, Bool, true, false, Option, Some, None, is_some, option_and_then, codes, if◌then◌else◌}
+use Rattle.std.specs.Prelude.{ℕ, pos, List, [], ◌∷◌, ◌||◌, Bool, true, false, Option, Some, None, is_some, option_and_then, if◌then◌else◌}
 use Rattle.std.specs.Option.{option_or}
-use Rattle.serde_json.specs.Data.{Data, object, Members}
-use Rattle.serde_json.specs.Find.{get_member, as_str}
+use Rattle.serde_json.specs.Data.{Data, object}
+use Rattle.serde_json.specs.Find.{as_str}
 use Rattle.span_read.specs.declared.event.Event.{Event}
 use Rattle.span_read.specs.declared.event.Phase.{Phase}
 use Rattle.span_read.specs.declared.item.Field.{Field}
@@ -12,7 +12,7 @@ use Rattle.span_read.specs.declared.item.Item.TheVariants.{Good, Bad, Other}
 use Rattle.span_read.specs.declared.item.ItemFault.{ItemFault}
 use Rattle.span_read.specs.declared.item.ItemFault.TheVariants.{NotObject, NoPhase, NoTime, NotWhole, NoDuration, BadField, NoId, BadReach, BadSeries}
 use Rattle.span_read.specs.Phase.{phase_of, reads_time, reads_duration, needs_id, reads_id, reads_scope, reads_reach, wants_whole_args}
-use Rattle.span_read.specs.Fields.{whole, is_time, is_duration, whole_or_zero, text_or_empty, duration_or_zero, key_of, reach_of, args_of, all_whole}
+use Rattle.span_read.specs.Fields.{FieldData, fields_of, whole, is_time, is_duration, whole_or_zero, text_or_empty, duration_or_zero, key_of, reach_of, args_of, all_whole}
 
 -- the fault where the test fails
 abbrev pub unless : Bool → ItemFault → Option ItemFault
@@ -52,60 +52,60 @@ abbrev pub first_fault : List (Option ItemFault) → Option ItemFault
 first_fault [] = None
 first_fault (f ∷ fs) = option_or f (first_fault fs)
 
--- what may be wrong with an event's members, in the order in which they are looked at
-abbrev pub faults : Phase → Members → List (Option ItemFault)
-faults phase ms =
-    where_read (reads_time phase) (time_fault (get_member (codes "ts") ms))
-    ∷ where_read (reads_duration phase) (duration_fault (get_member (codes "dur") ms))
-    ∷ whole_fault Pid (get_member (codes "pid") ms)
-    ∷ whole_fault Tid (get_member (codes "tid") ms)
-    ∷ text_fault Name (get_member (codes "name") ms)
-    ∷ text_fault Cat (get_member (codes "cat") ms)
-    ∷ where_read (reads_id phase) (id_fault (get_member (codes "id") ms) (get_member (codes "id2") ms))
-    ∷ where_read (reads_scope phase) (text_fault Scope (get_member (codes "scope") ms))
-    ∷ where_read (needs_id phase) (unless (is_some (get_member (codes "id") ms) || is_some (get_member (codes "id2") ms)) NoId)
-    ∷ where_read (reads_reach phase) (unless (is_some (reach_of (get_member (codes "s") ms))) BadReach)
-    ∷ where_read (wants_whole_args phase) (unless (all_whole (args_of (get_member (codes "args") ms))) BadSeries)
+-- what may be wrong with an event's fields, in the order in which they are looked at
+abbrev pub faults : Phase → FieldData → List (Option ItemFault)
+faults phase f =
+    where_read (reads_time phase) (time_fault f.ts)
+    ∷ where_read (reads_duration phase) (duration_fault f.dur)
+    ∷ whole_fault Pid f.pid
+    ∷ whole_fault Tid f.tid
+    ∷ text_fault Name f.name
+    ∷ text_fault Cat f.cat
+    ∷ where_read (reads_id phase) (id_fault f.id f.id2)
+    ∷ where_read (reads_scope phase) (text_fault Scope f.scope)
+    ∷ where_read (needs_id phase) (unless (is_some f.id || is_some f.id2) NoId)
+    ∷ where_read (reads_reach phase) (unless (is_some (reach_of f.s)) BadReach)
+    ∷ where_read (wants_whole_args phase) (unless (all_whole (args_of f.args)) BadSeries)
     ∷ []
 
--- the first fault of an event's members
-abbrev pub fault_of : Phase → Members → Option ItemFault
-fault_of phase ms = first_fault (faults phase ms)
+-- the first fault of an event's fields
+abbrev pub fault_of : Phase → FieldData → Option ItemFault
+fault_of phase f = first_fault (faults phase f)
 
--- the event that members without a fault give
-abbrev pub event_of : Phase → Members → Event
-event_of phase ms = record {
+-- the event that fields without a fault give
+abbrev pub event_of : Phase → FieldData → Event
+event_of phase f = record {
   phase = phase;
-  name = text_or_empty (get_member (codes "name") ms);
-  cat = text_or_empty (get_member (codes "cat") ms);
-  ts = if reads_time phase then whole_or_zero (get_member (codes "ts") ms) else pos 0;
-  dur = if reads_duration phase then duration_or_zero (get_member (codes "dur") ms) else 0;
-  pid = whole_or_zero (get_member (codes "pid") ms);
-  tid = whole_or_zero (get_member (codes "tid") ms);
-  key = if reads_id phase then key_of (whole_or_zero (get_member (codes "pid") ms)) (get_member (codes "id") ms) (get_member (codes "id2") ms) else None;
-  scope = if reads_scope phase then text_or_empty (get_member (codes "scope") ms) else [];
-  reach = if reads_reach phase then reach_of (get_member (codes "s") ms) else None;
-  args = args_of (get_member (codes "args") ms);
+  name = text_or_empty f.name;
+  cat = text_or_empty f.cat;
+  ts = if reads_time phase then whole_or_zero f.ts else pos 0;
+  dur = if reads_duration phase then duration_or_zero f.dur else 0;
+  pid = whole_or_zero f.pid;
+  tid = whole_or_zero f.tid;
+  key = if reads_id phase then key_of (whole_or_zero f.pid) f.id f.id2 else None;
+  scope = if reads_scope phase then text_or_empty f.scope else [];
+  reach = if reads_reach phase then reach_of f.s else None;
+  args = args_of f.args;
 }
 
--- the item of an event's members at a phase
-abbrev pub item_at : Phase → Members → Option ItemFault → Item
-item_at phase ms None = Good (event_of phase ms)
-item_at phase ms (Some fault) = Bad fault
+-- the item of an event's fields at a phase
+abbrev pub item_at : Phase → FieldData → Option ItemFault → Item
+item_at phase f None = Good (event_of phase f)
+item_at phase f (Some fault) = Bad fault
 
 -- the item of an object whose `ph` is that text, if it is one
-abbrev pub item_of_phase : Members → Option Phase → Item
-item_of_phase ms None = Other
-item_of_phase ms (Some phase) = item_at phase ms (fault_of phase ms)
+abbrev pub item_of_phase : FieldData → Option Phase → Item
+item_of_phase f None = Other
+item_of_phase f (Some phase) = item_at phase f (fault_of phase f)
 
-abbrev pub item_of_letter : Members → Option (List ℕ) → Item
-item_of_letter ms None = Bad NoPhase
-item_of_letter ms (Some letter) = item_of_phase ms (phase_of letter)
+abbrev pub item_of_letter : FieldData → Option (List ℕ) → Item
+item_of_letter f None = Bad NoPhase
+item_of_letter f (Some letter) = item_of_phase f (phase_of letter)
 
-abbrev pub item_of_members : Members → Item
-item_of_members ms = item_of_letter ms (option_and_then as_str (get_member (codes "ph") ms))
+abbrev pub item_of_fields : FieldData → Item
+item_of_fields f = item_of_letter f (option_and_then as_str f.ph)
 
 -- the item of an element
 abbrev pub item_of_data : Data → Item
-item_of_data (object ms) = item_of_members ms
+item_of_data (object ms) = item_of_fields (fields_of ms)
 item_of_data _ = Bad NotObject

@@ -7,13 +7,44 @@ use Rattle.std.specs.List.{list_all}
 use Rattle.std.specs.Map.{lookup}
 use Rattle.std.specs.Cmp.Lexicographic.{pointwise}
 use Rattle.serde_json.specs.Data.{Data, null, boolean, number, string, array, object, Members, no_members, member}
-use Rattle.serde_json.specs.Find.{get, as_number, as_str, as_object, as_i64, as_u64}
+use Rattle.serde_json.specs.Find.{get, get_member, as_number, as_str, as_object, as_i64, as_u64}
 use Rattle.span_read.specs.declared.args.ArgValue.{ArgValue}
 use Rattle.span_read.specs.declared.args.ArgValue.TheVariants.{Whole, Words, Flag, Nil, Other}
 use Rattle.span_read.specs.declared.event.IdKey.{IdKey}
 use Rattle.span_read.specs.declared.event.Reach.{Reach}
 use Rattle.span_read.specs.declared.event.Reach.TheVariants.{Global, Process, Thread}
 use Rattle.span_read.specs.Event.{greatest_time}
+
+-- the members of an event's object that are read, each under its name
+pub record FieldData : Type 0 where
+  pub ph : Option Data
+  pub ts : Option Data
+  pub dur : Option Data
+  pub pid : Option Data
+  pub tid : Option Data
+  pub name : Option Data
+  pub cat : Option Data
+  pub id : Option Data
+  pub id2 : Option Data
+  pub scope : Option Data
+  pub s : Option Data
+  pub args : Option Data
+
+abbrev pub fields_of : Members → FieldData
+fields_of ms = record {
+  ph = get_member (codes "ph") ms;
+  ts = get_member (codes "ts") ms;
+  dur = get_member (codes "dur") ms;
+  pid = get_member (codes "pid") ms;
+  tid = get_member (codes "tid") ms;
+  name = get_member (codes "name") ms;
+  cat = get_member (codes "cat") ms;
+  id = get_member (codes "id") ms;
+  id2 = get_member (codes "id2") ms;
+  scope = get_member (codes "scope") ms;
+  s = get_member (codes "s") ms;
+  args = get_member (codes "args") ms;
+}
 
 -- a number that is whole and fits 64 bits with its sign; `1.0` and `1e3` are not whole
 abbrev pub whole : Data → Option ℤ

@@ -7,3 +7,4 @@ pub mod Item
 pub mod Members
 pub mod Phase
 pub mod ReadError
+pub mod Slots

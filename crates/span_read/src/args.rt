@@ -87,7 +87,7 @@ impl Args {
     }
 }
 
-/// The arguments of a span from those of its begin and of its end: where both have a name, the end's value is taken.
+/// The arguments of a span, from those of its begin and of its end. Where both have a name, the end's value is taken.
 pub fn merge_args(alloc: Global, begin: &Args, end: &Args) -> Result<Args, AllocError>
     ensures { IfOk result (λ args. args ≡ merged begin.now end.now) }
 {

@@ -3,14 +3,14 @@ ghost use Rattle.std.specs.Prelude.{◌≡◌, ◌+◌, ◌<◌, ◌≤◌, ◌�
 ghost use Rattle.std.specs.String.{string_bytes};
 ghost use Rattle.serde_json.specs.Read.{read};
 ghost use Rattle.serde_json.specs.View.{view};
-ghost use Rattle.span_read.specs.Document.{is_blank, opens_array, without_trailing_blanks, without_trailing_comma, cut_text, read_unfinished, first_read};
+ghost use Rattle.span_read.specs.Document.{is_blank, opens_array, without_trailing_blanks, without_trailing_comma, cut_text, candidates, first_read};
 
 use serde_json::Value;
 use std::alloc::{AllocError, Global};
 
 /// The value of the first candidate that reads. Only the last candidate is a copy.
 pub(crate) fn first_read(alloc: Global, text: &str) -> Result<Option<Value>, AllocError>
-    ensures { IfOk result (λ found. option_map view found ≡ first_read text.now) }
+    ensures { IfOk result (λ found. option_map view found ≡ first_read (candidates text.now)) }
 {
     if let Some(value) = read(alloc, text)? {
         return Ok(Some(value));
@@ -23,7 +23,7 @@ pub(crate) fn first_read(alloc: Global, text: &str) -> Result<Option<Value>, All
 }
 
 fn read_unfinished(alloc: Global, text: &str) -> Result<Option<Value>, AllocError>
-    ensures { IfOk result (λ found. option_map view found ≡ read_unfinished text.now) }
+    ensures { IfOk result (λ found. option_map view found ≡ first_read (cut_text text.now ∷ (cut_text text.now ++ 93 ∷ []) ∷ [])) }
 {
     let cut = cut_text(text);
     if let Some(value) = read(alloc, cut)? {

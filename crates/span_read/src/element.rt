@@ -1,13 +1,14 @@
 // The item of one element of a trace.
 ghost use Rattle.std.specs.Prelude.{◌≡◌, IfOk};
-ghost use Rattle.serde_json.specs.View.{view, members_view};
+ghost use Rattle.serde_json.specs.View.{view};
 ghost use Rattle.span_read.specs.Item.{IsGoodItem};
-ghost use Rattle.span_read.specs.Element.{item_of_data, item_of_members};
+ghost use Rattle.span_read.specs.Element.{item_of_data, item_of_fields};
+ghost use Rattle.span_read.specs.Slots.{data_of};
 
 use crate::build::event_of;
-use crate::check::check_members;
+use crate::check::check_fields;
+use crate::fields::Fields;
 use crate::item::{Item, ItemFault};
-use crate::members::{Members, text_at};
 use crate::phase::phase_of;
 use serde_json::Value;
 use std::alloc::{AllocError, Global};
@@ -25,22 +26,22 @@ pub(crate) fn item_of_element(alloc: Global, element: Value) -> Result<Item, All
     ensures { IfOk result (λ item. item ≡ item_of_data (view element)) }
 {
     match element {
-        Value::Object(members) => item_of_members(alloc, members),
+        Value::Object(members) => item_of_fields(alloc, Fields::of_members(members)),
         _ => Ok(Item::Bad(ItemFault::NotObject)),
     }
 }
 
-fn item_of_members(alloc: Global, members: Members) -> Result<Item, AllocError>
-    ensures { IfOk result (λ item. item ≡ item_of_members (members_view members.entries)) }
+fn item_of_fields(alloc: Global, fields: Fields) -> Result<Item, AllocError>
+    ensures { IfOk result (λ item. item ≡ item_of_fields (data_of fields)) }
 {
-    let Some(letter) = text_at(&members, "ph") else {
+    let Some(Value::String(letter)) = &fields.ph else {
         return Ok(Item::Bad(ItemFault::NoPhase));
     };
-    let Some(phase) = phase_of(letter) else {
+    let Some(phase) = phase_of(letter.as_str()) else {
         return Ok(Item::Other);
     };
-    match check_members(phase, &members) {
-        Ok(()) => Ok(Item::Good(event_of(alloc, phase, members)?)),
+    match check_fields(phase, &fields) {
+        Ok(()) => Ok(Item::Good(event_of(alloc, phase, fields)?)),
         Err(fault) => Ok(Item::Bad(fault)),
     }
 }

@@ -1,5 +1,5 @@
 // The id of an event, as its `id` or `id2` gives it.
-ghost use Rattle.std.specs.Prelude.{◌≡◌, ◌&&◌, codes, is_some, pos, Some, None, IfOk, if◌then◌else◌};
+ghost use Rattle.std.specs.Prelude.{◌≡◌, ◌&&◌, codes, is_some, pos, Some, None, IfOk, option_map, if◌then◌else◌};
 ghost use Rattle.std.specs.Fmt.{signed_decimal};
 ghost use Rattle.serde_json.specs.Find.{get_member};
 ghost use Rattle.serde_json.specs.View.{view, members_view};
@@ -7,7 +7,7 @@ ghost use Rattle.span_read.specs.Phase.{reads_id};
 ghost use Rattle.span_read.specs.Fields.{id_text, key_of, key_with, parts_key};
 
 use crate::event::{IdKey, Phase};
-use crate::members::{Members, take, take_object};
+use crate::members::{Members, object_of, take};
 use crate::phase::reads_id;
 use crate::text::Text;
 use serde_json::Value;
@@ -29,25 +29,24 @@ pub(crate) fn is_id2(value: &Value) -> bool
     }
 }
 
-/// Takes the id out of an event's members, where the phase reads one.
-pub(crate) fn take_key(
+/// The key that `id` or `id2` gives, where the phase reads one.
+pub(crate) fn key_at(
     alloc: Global,
     phase: Phase,
     pid: i64,
-    members: &mut Members,
+    id: Option<Value>,
+    id2: Option<Value>,
 ) -> Result<Option<IdKey>, AllocError>
     ensures { IfOk result (λ key. key ≡ (if reads_id phase
-        then key_of pid (get_member (codes "id") (members_view members.old.entries))
-        (get_member (codes "id2") (members_view members.old.entries))
-        else None)) }
+        then key_of pid (option_map view id) (option_map view id2) else None)) }
 {
     if !reads_id(phase) {
         return Ok(None);
     }
-    if let Some(id) = take(members, "id") {
+    if let Some(id) = id {
         return key_with(alloc, None, id);
     }
-    match take_object(members, "id2") {
+    match object_of(id2) {
         Some(parts) => take_part(alloc, pid, parts),
         None => Ok(None),
     }

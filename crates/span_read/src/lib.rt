@@ -9,6 +9,7 @@ mod check;
 mod element;
 mod error;
 mod event;
+mod fields;
 mod item;
 mod items;
 mod key;
@@ -26,3 +27,6 @@ pub use item::{Field, Item, ItemFault};
 pub use items::Items;
 pub use read::read_items;
 pub use text::Text;
+
+#[cfg(test)]
+mod tests;

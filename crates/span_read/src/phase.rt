@@ -27,11 +27,7 @@ pub(crate) fn phase_of(letter: &str) -> Option<Phase>
 pub(crate) fn needs_id(phase: Phase) -> bool
     ensures { result ≡ needs_id phase }
 {
-    match phase {
-        Phase::AsyncBegin | Phase::AsyncPoint | Phase::AsyncEnd => true,
-        Phase::FlowStart | Phase::FlowStep | Phase::FlowEnd => true,
-        _ => false,
-    }
+    reads_scope(phase) || matches!(phase, Phase::FlowStart | Phase::FlowStep | Phase::FlowEnd)
 }
 
 pub(crate) fn reads_id(phase: Phase) -> bool

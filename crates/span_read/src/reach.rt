@@ -1,17 +1,16 @@
 // How far an instant reaches, as its `s` says.
-ghost use Rattle.std.specs.Prelude.{◌≡◌, codes};
-ghost use Rattle.serde_json.specs.Find.{get_member};
-ghost use Rattle.serde_json.specs.View.{members_view};
+ghost use Rattle.std.specs.Prelude.{◌≡◌, option_map};
+ghost use Rattle.serde_json.specs.View.{view};
 ghost use Rattle.span_read.specs.Fields.{reach_of};
 
 use crate::event::Reach;
-use crate::members::{Members, member};
+use serde_json::Value;
 
 /// None where `s` is there and is none of the words for a reach.
-pub(crate) fn reach_of(members: &Members) -> Option<Reach>
-    ensures { result ≡ reach_of (get_member (codes "s") (members_view members.now.entries)) }
+pub(crate) fn reach_of(s: &Option<Value>) -> Option<Reach>
+    ensures { result ≡ reach_of (option_map view s.now) }
 {
-    let Some(value) = member(members, "s") else {
+    let Some(value) = s else {
         return Some(Reach::Thread);
     };
     match value.as_str()? {

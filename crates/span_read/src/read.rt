@@ -19,12 +19,15 @@ const MOST_BYTES: usize = 67_108_864;
 
 const MOST_ITEMS: usize = 4_194_304;
 
-/// The items of the bytes of a trace file, in order.
+/// The items of a trace file, in the order in which its elements stand.
+///
+/// A file is refused for the first of these that applies: 3 `TooLarge`, 1 `NotJson`, 2 `NotTrace`, 4 `TooMany`.
+/// 31 `Memory` can come at any step after the first.
 pub fn read_items(alloc: Global, bytes: &[u8]) -> Result<Items, ReadError>
     ensures items { IfOk result (λ items. doc bytes.now ≡ Ok items) }
     ensures refused { IfErr result (λ error. error ≢ Memory → doc bytes.now ≡ Err error) }
     ensures good { IfOk result (All IsGoodItem) }
-    ensures too_large { result ≡ Err TooLarge ↔ (most_bytes < length bytes.now) }
+    ensures too_large { (result ≡ Err TooLarge) ↔ (most_bytes < length bytes.now) }
 {
     if bytes.len() > MOST_BYTES {
         return Err(ReadError::TooLarge);

@@ -39,7 +39,7 @@ count_from-none p t (suc n) none =
     let rest = count_from-none p (t +ℤ pos 1) n (λ u from before. none u (omega (arith, ints)) (omega (arith, ints))) in
     omega (arith, here, rest)
 
-sum_by-nothing : {A : Type 0} (xs : List A) → sum_by (λ x. 0) xs ≡ 0
+pub sum_by-nothing : {A : Type 0} (xs : List A) → sum_by (λ x. 0) xs ≡ 0
 sum_by-nothing [] = refl
 sum_by-nothing (x ∷ xs) = sum_by-nothing xs
 
@@ -104,7 +104,7 @@ count_from-le p t (suc n) = let rest = count_from-le p (t +ℤ pos 1) n in by_te
     by_test true h = omega arith
     by_test false h = omega arith
 
-count_from-all : (p : ℤ → Bool) (t : ℤ) (n : ℕ) → ((u : ℤ) → t ≤ℤ u → u <ℤ (t +ℤ pos n) → p u ≡ true) → count_from t n p ≡ n
+pub count_from-all : (p : ℤ → Bool) (t : ℤ) (n : ℕ) → ((u : ℤ) → t ≤ℤ u → u <ℤ (t +ℤ pos n) → p u ≡ true) → count_from t n p ≡ n
 count_from-all p t zero all = refl
 count_from-all p t (suc n) all =
     let here = ap one_if (all t (omega (arith, ints)) (omega (arith, ints))) in

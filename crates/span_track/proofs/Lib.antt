@@ -1,4 +1,5 @@
 pub mod Apart
+pub mod Children
 pub mod Counts
 pub mod Numbers
 pub mod OpenSpans

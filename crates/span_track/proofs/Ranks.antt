@@ -7,7 +7,7 @@ use Rattle.span_track.specs.Spans.{Span, outranks}
 use Rattle.span_track.specs.Laws.{IsApart, AreSpans}
 use Rattle.span_track.proofs.Tops.{IsConnected, IsRanked}
 
-Decides-int_lt : (a b : ℤ) → Decides (int_lt a b) (a <ℤ b)
+pub Decides-int_lt : (a b : ℤ) → Decides (int_lt a b) (a <ℤ b)
 Decides-int_lt a b = (λ h. grind (arith, ints), λ h. grind (arith, ints))
 
 module _ {N : Type 0} where
@@ -15,10 +15,10 @@ module _ {N : Type 0} where
   outranks-itself a = grind (arith, ints, nat_tests)
 
   -- what `outranks` tests
-  abbrev IsAbove : Span N → Span N → Type 0
+  abbrev pub IsAbove : Span N → Span N → Type 0
   IsAbove a b = (b.start <ℤ a.start) ⊎ ((a.start ≡ b.start) × ((a.until <ℤ b.until) ⊎ ((a.until ≡ b.until) × (b.at < a.at))))
 
-  Decides-outranks : (a b : Span N) → Decides (outranks a b) (IsAbove a b)
+  pub Decides-outranks : (a b : Span N) → Decides (outranks a b) (IsAbove a b)
   Decides-outranks a b =
       Decides-or _ _ (Decides-int_lt b.start a.start)
       (Decides-and _ _ (Decides-int_eq a.start b.start)

@@ -1,0 +1,53 @@
+//! Reads a trace from standard input and counts its items by kind: a program to be timed.
+//! With the word `json` the text is only parsed.
+#![tactic(auto)]
+
+use serde_json::Value;
+use span_read::{Item, Items, ReadError, read_items};
+use std::alloc::Global;
+use std::io::{self, Read};
+use std::{env, str};
+
+// How many items are good events, faults, and other events.
+fn counts(items: Items) -> (u64, u64, u64) {
+    let mut good = 0u64;
+    let mut faults = 0u64;
+    let mut others = 0u64;
+    for item in items.into_list() {
+        match item {
+            Item::Good(_) => good = good.saturating_add(1),
+            Item::Bad(_) => faults = faults.saturating_add(1),
+            Item::Other => others = others.saturating_add(1),
+        }
+    }
+    (good, faults, others)
+}
+
+fn is_json(alloc: Global, bytes: &[u8]) -> bool {
+    match str::from_utf8(bytes) {
+        Ok(text) => Value::from_str(alloc, text).is_ok(),
+        Err(_) => false,
+    }
+}
+
+fn print_counts(rt: &impl Print, read: Result<Items, ReadError>) -> io::Result<()> {
+    match read {
+        Ok(items) => {
+            let (good, faults, others) = counts(items);
+            println!(rt; "good {good} faults {faults} others {others}")
+        }
+        Err(error) => println!(rt; "{error}"),
+    }
+}
+
+fn main(rt: HostRuntime) -> io::Result<()> {
+    let alloc = rt.alloc();
+    let mut bytes = Vec::new(alloc);
+    rt.stdin().read_to_end(&mut bytes)?;
+    let only_parses = env::args(&rt)?.any(|word| word.as_str() == "json");
+    if only_parses {
+        let is_json = is_json(alloc, &bytes);
+        return println!(rt; "json {is_json}");
+    }
+    print_counts(&rt, read_items(alloc, &bytes))
+}

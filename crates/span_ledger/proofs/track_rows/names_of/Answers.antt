@@ -1,0 +1,56 @@
+use Rattle.std.proofs.Common.{◌≡◌, ℕ, suc, ◌+◌, ◌<◌, List, [], length, get_or, drop, drop-cons, Option, Some, None, refl, sym, ap, ◌∙◌, arith}
+use Rattle.std.specs.Prelude.{pos, fold, filter_map, slice_get, option_and_then}
+use Rattle.std.specs.List.{cons_option}
+use Rattle.std.specs.BTreeSet.{insert_key, keys}
+use Rattle.span_track.specs.Spans.{Span}
+use Rattle.std.proofs.lemmas.Option.{slice_get-get_or}
+use Rattle.span_ledger.specs.Rows.{text_cmp}
+use Rattle.span_ledger.proofs.track_rows.names_of.Goals as goal
+use Rattle.span_ledger.proofs.track_rows.names_of.Goals.{in-Some+in_ok-add_name, in_default}
+
+fold-cons_option : {A B : Type 0} (f : B → A → B) (b : B) (o : Option A) (xs : List A) (c : B) → ((x : A) → o ≡ Some x → f b x ≡ c) → (o ≡ None → b ≡ c) → fold f b (cons_option o xs) ≡ fold f c xs
+fold-cons_option f b None xs c some none = ap (λ d. fold f d xs) (none refl)
+fold-cons_option f b (Some x) xs c some none = ap (λ d. fold f d xs) (some x refl)
+
+-- one more element is passed
+filter_map-step : {A B : Type 0} (h : A → Option B) (xs : List A) (i : ℕ) (x : A) → i < length xs → filter_map h (drop i xs) ≡ cons_option (option_and_then h (slice_get xs i)) (filter_map h (drop (i + 1) xs))
+filter_map-step h xs i x within =
+    let next : suc i ≡ i + 1 = omega arith in
+    ap (filter_map h) (drop-cons xs i x within)
+    ∙ ap (λ k. cons_option (h (get_or xs i x)) (filter_map h (drop k xs))) next
+    ∙ ap (λ o. cons_option (option_and_then h o) (filter_map h (drop (i + 1) xs))) (sym (slice_get-get_or xs i x within))
+
+-- any span, for a default
+blank : Span ℕ
+blank = record { name = 0; start = pos 0; until = pos 0; at = 0; args = [] }
+
+-- the names after one more span, of which this one is the name
+more_names : (names : List (List ℕ)) (closed : List (Span ℕ)) (i : ℕ) (o : Option (List ℕ)) (before after all : List (List ℕ)) → i < length closed → o ≡ option_and_then (λ s. slice_get names s.name) (slice_get closed i) →
+    ((x : List ℕ) → o ≡ Some x → insert_key text_cmp before x ≡ after) → (o ≡ None → before ≡ after) →
+    fold (insert_key text_cmp) before (filter_map (λ s. slice_get names s.name) (drop i closed)) ≡ all → fold (insert_key text_cmp) after (filter_map (λ s. slice_get names s.name) (drop (i + 1) closed)) ≡ all
+more_names names closed i o before after all within is some none whole =
+    sym (fold-cons_option (insert_key text_cmp) before o (filter_map (λ s. slice_get names s.name) (drop (i + 1) closed)) after some none)
+    ∙ ap (λ p. fold (insert_key text_cmp) before (cons_option p (filter_map (λ s. slice_get names s.name) (drop (i + 1) closed)))) is
+    ∙ ap (fold (insert_key text_cmp) before) (sym (filter_map-step (λ s. slice_get names s.name) closed i blank within))
+    ∙ whole
+
+pub loop-i-preserved : goal.loop-i-preserved
+loop-i-preserved c =
+    let within : c.loop-i.i < length c.args.track.now.closed = omega (arith, c.loop-i-test.true, c.closed_count-i-end.ensures) in
+    elim c.match-closed_name.branch [
+      | in-Some+in_ok-add_name w ↦ record {
+        ordered = rw w.found-is w.add_name.ensures.ordered;
+        all = more_names c.args.names.now c.args.track.now.closed c.loop-i.i (Some w.in-Some.name.now) c.loop-i.found.keys c.match-closed_name.found.keys _ within w.in-Some.ensures
+            (λ (x : List ℕ) (e : Some w.in-Some.name.now ≡ Some x). let same : w.in-Some.name.now ≡ x = cc in
+            ap (insert_key text_cmp c.loop-i.found.keys) (sym same) ∙ sym w.in_ok-add_name.ensures.added ∙ ap keys (sym w.found-is))
+            (λ (e : ◌≡◌ {A = Option (List ℕ)} (Some w.in-Some.name.now) None). cc)
+            c.loop-i.invariant.all;
+      }
+      | in_default w ↦ record {
+        ordered = rw w.found-is c.loop-i.invariant.ordered;
+        all = more_names c.args.names.now c.args.track.now.closed c.loop-i.i None c.loop-i.found.keys c.match-closed_name.found.keys _ within w.in_default.ensures
+            (λ (x : List ℕ) (e : ◌≡◌ {A = Option (List ℕ)} None (Some x)). cc)
+            (λ (e : ◌≡◌ {A = Option (List ℕ)} None None). ap keys (sym w.found-is))
+            c.loop-i.invariant.all;
+      }
+    ]

@@ -1,0 +1,30 @@
+// What the definitions are compared with: texts and their items, worked out by hand.
+mod documents;
+mod elements;
+mod values;
+
+use crate::{Item, read_items};
+use std::alloc::{AllocError, Global};
+
+// One word for each item of a text, or the word of its refusal.
+fn described(alloc: Global, bytes: &[u8]) -> Result<String, AllocError> {
+    match read_items(alloc, bytes) {
+        Ok(items) => {
+            let mut words = String::new(alloc);
+            for item in items.into_list() {
+                words.push_str(word_of(alloc, &item)?.as_str())?;
+                words.push(' ')?;
+            }
+            Ok(words)
+        }
+        Err(error) => format!(in alloc; "{error:?}"),
+    }
+}
+
+fn word_of(alloc: Global, item: &Item) -> Result<String, AllocError> {
+    match item {
+        Item::Good(_) => String::from_str(alloc, "Good"),
+        Item::Bad(fault) => format!(in alloc; "{fault:?}"),
+        Item::Other => String::from_str(alloc, "Other"),
+    }
+}

@@ -1,0 +1,103 @@
+// Texts and arguments, their copies, and two arguments merged.
+use crate::{ArgValue, Args, Event, Item, Text, item_of, merge_args};
+use serde_json::Value;
+use std::alloc::{AllocError, Global};
+use std::test::Fail;
+
+fn event_with(alloc: Global, args: &str) -> Result<Event, Fail> {
+    let text = format!(in alloc; r#"{{"ph":"b","ts":1,"name":"a","id":"5","args":{args}}}"#)?;
+    let value = Value::from_str(alloc, text.as_str())?;
+    match item_of(alloc, &value)? {
+        Item::Good(event) => Ok(event),
+        _ => Err("no event")?,
+    }
+}
+
+#[test]
+fn a_text_equals_its_copy(rt: HostRuntime) -> Result<(), Fail> {
+    let text = Text::of(rt.alloc(), "a")?;
+    assert_eq!(rt; text.as_str(), "a");
+    assert!(rt; text == text.try_clone(rt.alloc())?);
+    assert!(rt; text != Text::empty(rt.alloc()));
+    let made = Text::from(String::from_str(rt.alloc(), "a")?);
+    assert!(rt; text == made);
+    Ok(())
+}
+
+#[test]
+fn texts_are_ordered_by_bytes(rt: HostRuntime) -> Result<(), Fail> {
+    let upper = Text::of(rt.alloc(), "Z")?;
+    let lower = Text::of(rt.alloc(), "a")?;
+    let longer = Text::of(rt.alloc(), "aa")?;
+    assert!(rt; upper < lower);
+    assert!(rt; lower < longer);
+    Ok(())
+}
+
+fn shown(alloc: Global, args: &Args) -> Result<String, AllocError> {
+    format!(in alloc; "{args:?}")
+}
+
+#[test]
+fn values_of_arguments_are_kept_by_kind(rt: HostRuntime) -> Result<(), Fail> {
+    let event = event_with(
+        rt.alloc(),
+        r#"{"n":1,"w":"x","f":true,"z":null,"d":1.5,"a":[],"o":{}}"#,
+    )?;
+    let kinds = [
+        ("n", "Whole(1)"),
+        ("w", r#"Words("x")"#),
+        ("f", "Flag(true)"),
+        ("z", "Nil"),
+        ("d", "Other"),
+        ("a", "Other"),
+        ("o", "Other"),
+    ];
+    for (name, kind) in kinds {
+        let value = event.args.get(name).ok_or("a value")?;
+        assert_eq!(rt;
+            format!(in rt.alloc(); "{value:?}")?.as_str(),
+            kind,
+            "{name}"
+        );
+    }
+    assert!(rt; event.args.get("missing").is_none());
+    Ok(())
+}
+
+#[test]
+fn the_value_of_the_end_is_taken(rt: HostRuntime) -> Result<(), Fail> {
+    let alloc = rt.alloc();
+    let begin = event_with(alloc, r#"{"x":1,"y":2}"#)?;
+    let end = event_with(alloc, r#"{"y":3,"z":true}"#)?;
+    let merged = merge_args(alloc, &begin.args, &end.args)?;
+    let whole = event_with(alloc, r#"{"x":1,"y":3,"z":true}"#)?;
+    assert_eq!(rt;
+        shown(alloc, &merged)?.as_str(),
+        shown(alloc, &whole.args)?.as_str()
+    );
+    let none = Args::empty(alloc);
+    let first = merge_args(alloc, &begin.args, &none)?;
+    assert_eq!(rt;
+        shown(alloc, &first)?.as_str(),
+        shown(alloc, &begin.args)?.as_str()
+    );
+    Ok(())
+}
+
+#[test]
+fn an_event_equals_its_copy(rt: HostRuntime) -> Result<(), Fail> {
+    let alloc = rt.alloc();
+    let event = event_with(alloc, r#"{"x":1,"y":2}"#)?;
+    let copy = event.try_clone(alloc)?;
+    assert_eq!(rt;
+        format!(in alloc; "{copy:?}")?.as_str(),
+        format!(in alloc; "{event:?}")?.as_str()
+    );
+    let args = event.args.try_clone(alloc)?;
+    assert_eq!(rt;
+        shown(alloc, &args)?.as_str(),
+        shown(alloc, &event.args)?.as_str()
+    );
+    Ok(())
+}

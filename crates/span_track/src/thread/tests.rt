@@ -1,0 +1,237 @@
+ghost use Rattle.std.specs.Prelude.{◌<◌, ◌≤◌, All, IsTrue, length};
+ghost use Rattle.span_read.specs.Event.{IsTime, greatest_time};
+ghost use Rattle.span_track.specs.Thread.{IsNext};
+
+use super::{OpenSpan, ThreadTrack};
+use crate::fault::TrackFault;
+use crate::laws::{busy_plain, self_law, self_plain};
+use crate::span::{ClosedSpan, NameTotal};
+use span_read::{ArgValue, Args, Item, Items, merge_args, read_items};
+use std::alloc::Global;
+use std::process::Abort;
+use std::test::Fail;
+
+fn all_opened_before(opened: &[OpenSpan], at: u32) -> bool
+    ensures { IsTrue result → All (λ begin. begin.at < at) opened.now }
+{
+    opened.iter().all(|begin| begin.at < at)
+}
+
+fn all_closed_before(closed: &[ClosedSpan], at: u32) -> bool
+    ensures { IsTrue result → All (λ span. span.at < at) closed.now }
+{
+    closed.iter().all(|span| span.at < at)
+}
+
+fn is_next(track: &ThreadTrack, at: u32) -> bool
+    ensures { IsTrue result → IsNext at track.now }
+{
+    all_opened_before(&track.opened, at) && all_closed_before(track.spans(), at)
+}
+
+// What a call that opens a span asks of the track.
+fn ready(rt: &impl Abort, track: &ThreadTrack, at: u32)
+    ensures next { IsNext at track.now }
+    ensures few_opened { length track.now.opened < 1000 }
+    ensures few_closed { length track.now.closed < 1000 }
+{
+    assert!(rt; is_next(track, at));
+    assert!(rt; track.depth() < 1000);
+    assert!(rt; track.closed_count() < 1000);
+}
+
+fn begin(
+    rt: &impl Abort,
+    track: &mut ThreadTrack,
+    at: u32,
+    name: u32,
+    ts: i64,
+) -> Result<u32, TrackFault>
+    requires { IsTime ts }
+{
+    ready(rt, track, at);
+    let none = Args::empty(*track.opened.allocator());
+    track.begin_span(name, ts, at, &none)
+}
+
+fn end(track: &mut ThreadTrack, ts: i64) -> Result<ClosedSpan, TrackFault>
+    requires { IsTime ts }
+{
+    let none = Args::empty(*track.opened.allocator());
+    track.end_span(ts, &none)
+}
+
+fn complete(
+    rt: &impl Abort,
+    track: &mut ThreadTrack,
+    at: u32,
+    name: u32,
+    ts: i64,
+    dur: u64,
+) -> Result<(), TrackFault>
+    requires in_time { IsTime ts }
+    requires lasts { dur ≤ greatest_time }
+{
+    ready(rt, track, at);
+    let none = Args::empty(*track.opened.allocator());
+    track.complete(name, ts, dur, at, &none)
+}
+
+// The number, the lengths and the self times of a name.
+fn expect_name(rt: &impl Abort, track: &ThreadTrack, name: u32, count: u32, total: u128, own: u64) {
+    assert_eq!(rt;
+        track.total_of(name),
+        NameTotal { count, total },
+        "name {name}"
+    );
+    assert_eq!(rt; track.self_of(name), own, "self time of name {name}");
+    assert_eq!(rt;
+        self_plain(track, name),
+        own,
+        "plain self time of name {name}"
+    );
+}
+
+fn expect_busy(rt: &impl Abort, track: &ThreadTrack, busy: u64) {
+    assert_eq!(rt; track.busy(), busy);
+    assert_eq!(rt; busy_plain(track), busy);
+}
+
+#[test]
+fn a_track_without_events(rt: HostRuntime) {
+    self_law::<u32>();
+    let track = ThreadTrack::new(rt.alloc());
+    assert_eq!(rt; track.depth(), 0);
+    assert_eq!(rt; track.last_time(), None);
+    assert_eq!(rt; track.closed_count(), 0);
+    assert!(rt; track.closed(0).is_none());
+    expect_name(&rt, &track, 0, 0, 0, 0);
+    expect_busy(&rt, &track, 0);
+}
+
+#[test]
+fn a_span_in_a_span(rt: HostRuntime) -> Result<(), Fail> {
+    let mut track = ThreadTrack::new(rt.alloc());
+    assert_eq!(rt; begin(&rt, &mut track, 0, 0, 0)?, 1);
+    assert_eq!(rt; begin(&rt, &mut track, 1, 1, 2)?, 2);
+    let inner = end(&mut track, 5)?;
+    assert!(rt; inner.name == 1 && inner.start == 2 && inner.until == 5 && inner.at == 1);
+    assert_eq!(rt; track.depth(), 1);
+    let outer = end(&mut track, 10)?;
+    assert!(rt; outer.name == 0 && outer.start == 0 && outer.until == 10 && outer.at == 0);
+    assert_eq!(rt; track.last_time(), Some(10));
+    assert_eq!(rt; track.closed_count(), 2);
+    let first = track.closed(0).ok_or("a closed span")?;
+    assert!(rt; first.name == 1 && first.start == 2 && first.until == 5 && first.at == 1);
+    expect_name(&rt, &track, 0, 1, 10, 7);
+    expect_name(&rt, &track, 1, 1, 3, 3);
+    expect_busy(&rt, &track, 10);
+    Ok(())
+}
+
+#[test]
+fn a_child_that_came_first(rt: HostRuntime) -> Result<(), Fail> {
+    let mut track = ThreadTrack::new(rt.alloc());
+    complete(&rt, &mut track, 0, 2, 2, 3)?;
+    complete(&rt, &mut track, 1, 3, 0, 10)?;
+    expect_name(&rt, &track, 3, 1, 10, 7);
+    expect_name(&rt, &track, 2, 1, 3, 3);
+    expect_busy(&rt, &track, 10);
+    Ok(())
+}
+
+#[test]
+fn spans_that_cross(rt: HostRuntime) -> Result<(), Fail> {
+    let mut track = ThreadTrack::new(rt.alloc());
+    complete(&rt, &mut track, 0, 3, 0, 10)?;
+    complete(&rt, &mut track, 1, 4, 5, 10)?;
+    expect_name(&rt, &track, 3, 1, 10, 5);
+    expect_name(&rt, &track, 4, 1, 10, 10);
+    expect_busy(&rt, &track, 15);
+    Ok(())
+}
+
+#[test]
+fn equal_spans_and_an_empty_one(rt: HostRuntime) -> Result<(), Fail> {
+    let mut track = ThreadTrack::new(rt.alloc());
+    complete(&rt, &mut track, 0, 0, 0, 4)?;
+    complete(&rt, &mut track, 1, 1, 0, 4)?;
+    complete(&rt, &mut track, 2, 25, 9, 0)?;
+    expect_name(&rt, &track, 0, 1, 4, 0);
+    expect_name(&rt, &track, 1, 1, 4, 4);
+    expect_name(&rt, &track, 25, 1, 0, 0);
+    expect_busy(&rt, &track, 4);
+    Ok(())
+}
+
+#[test]
+fn the_longest_span_twice(rt: HostRuntime) -> Result<(), Fail> {
+    let mut track = ThreadTrack::new(rt.alloc());
+    complete(&rt, &mut track, 0, 7, 0, 9_007_199_254_740_991)?;
+    complete(&rt, &mut track, 1, 7, 0, 9_007_199_254_740_991)?;
+    expect_name(
+        &rt,
+        &track,
+        7,
+        2,
+        18_014_398_509_481_982,
+        9_007_199_254_740_991,
+    );
+    expect_busy(&rt, &track, 9_007_199_254_740_991);
+    Ok(())
+}
+
+#[test]
+fn an_end_without_a_begin(rt: HostRuntime) -> Result<(), Fail> {
+    let mut track = ThreadTrack::new(rt.alloc());
+    assert!(rt; matches!(end(&mut track, 3), Err(TrackFault::Refused(21))));
+    assert_eq!(rt; begin(&rt, &mut track, 1, 0, 1)?, 1);
+    Ok(())
+}
+
+#[test]
+fn times_that_go_back(rt: HostRuntime) -> Result<(), Fail> {
+    let mut track = ThreadTrack::new(rt.alloc());
+    assert_eq!(rt; begin(&rt, &mut track, 0, 0, 10)?, 1);
+    assert!(rt; matches!(end(&mut track, 9), Err(TrackFault::Refused(22))));
+    let span = end(&mut track, 10)?;
+    assert!(rt; span.start == 10 && span.until == 10);
+    assert!(rt; matches!(end(&mut track, 9), Err(TrackFault::Refused(21))));
+    assert_eq!(rt;
+        begin(&rt, &mut track, 4, 1, 9),
+        Err(TrackFault::Refused(22))
+    );
+    Ok(())
+}
+
+fn args_at(items: &Items, i: usize) -> Option<&Args> {
+    match items.get(i)? {
+        Item::Good(event) => Some(&event.args),
+        _ => None,
+    }
+}
+
+fn expect_merged(rt: &impl Abort, args: &Args) {
+    assert!(rt; matches!(args.get("x"), Some(ArgValue::Whole(1))));
+    assert!(rt; matches!(args.get("y"), Some(ArgValue::Whole(3))));
+    assert!(rt; matches!(args.get("z"), Some(ArgValue::Flag(true))));
+}
+
+#[test]
+fn arguments_of_begin_and_end(rt: HostRuntime) -> Result<(), Fail> {
+    let items = read_items(
+        rt.alloc(),
+        br#"[{"ph":"B","ts":0,"args":{"x":1,"y":2}},{"ph":"E","ts":1,"args":{"y":3,"z":true}}]"#,
+    )?;
+    let first = args_at(&items, 0).ok_or("a begin")?;
+    let second = args_at(&items, 1).ok_or("an end")?;
+    let mut track = ThreadTrack::new(rt.alloc());
+    ready(&rt, &track, 0);
+    track.begin_span(0, 0, 0, first)?;
+    let span = track.end_span(1, second)?;
+    expect_merged(&rt, &span.args);
+    expect_merged(&rt, &merge_args(rt.alloc(), first, second)?);
+    let kept = track.closed(0).ok_or("a closed span")?;
+    expect_merged(&rt, &kept.args);
+    Ok(())
+}
