@@ -11,7 +11,7 @@ all: tracebook
 
 # Proves every crate, which takes minutes the first time, and prints each function as it is proved.
 tracebook: $(SOURCES)
-	cd crates/tracebook && rt run
+	cd crates/tracebook && rt run < stdin
 	cp crates/tracebook/out/tracebook $@
 
 demo: tracebook
