@@ -1,5 +1,5 @@
 -- What is read of a source.
-use Rattle.std.specs.Prelude.{◌≡◌, ℕ, ◌<◌, List, ◌++◌, length, take, IfSome, Option}
+use Rattle.std.specs.Prelude.{◌≡◌, ℕ, List, ◌++◌, length, take, IfSome, Option}
 use Rattle.std.specs.Io.KnownBytes.{Consumes, IsAtEnd}
 
 -- the bytes are the first of those that the source has, where they are known: all, but not more than this many
