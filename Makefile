@@ -1,0 +1,31 @@
+# Builds, tries and tests tracebook. It needs the toolchain's command `rt` on the path.
+
+PREFIX ?= /usr/local
+DESTDIR ?=
+
+SOURCES := crates.txt HANDLES $(shell find crates -name out -prune -o -type f -print)
+
+.PHONY: all demo test install clean
+
+all: tracebook
+
+# Proves every crate, which takes minutes the first time, and prints each function as it is proved.
+tracebook: $(SOURCES)
+	cd crates/tracebook && rt run < stdin
+	cp crates/tracebook/out/tracebook $@
+
+demo: tracebook
+	./tracebook < examples/page_load.json
+
+# The merge gate, and then the built program on each case of tests/acceptance.
+test: tracebook
+	rt ci
+	tests/acceptance/run ./tracebook
+
+install: tracebook
+	install -d $(DESTDIR)$(PREFIX)/bin
+	install -m 755 tracebook $(DESTDIR)$(PREFIX)/bin/tracebook
+
+clean:
+	rm -f tracebook
+	rm -rf crates/*/out

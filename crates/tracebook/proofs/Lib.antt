@@ -1,0 +1,4 @@
+pub mod EndLines
+pub mod OneFile
+pub mod Padding
+pub mod Taking

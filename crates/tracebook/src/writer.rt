@@ -1,0 +1,44 @@
+//! The sink over a writer of the standard library.
+ghost use Rattle.std.specs.Prelude.{◌≡◌};
+ghost use Rattle.tracebook.specs.Sink.{SinkState};
+
+use crate::sink::{Sink, SinkFault};
+use std::io::Write;
+
+/// A sink over a writer. An error, an interruption or 0 bytes taken is a fault: nothing is tried again.
+#[derive(Drop)]
+pub struct Writer<I: Write> {
+    inner: I,
+    failures: u64,
+}
+
+impl<I: Write> Writer<I> {
+    /// A sink with no failure so far.
+    pub fn new(inner: I) -> Writer<I>
+        ensures { ⟦<Writer<I> as Sink>⟧.state result ≡ record { taken = I.contents inner; failures = 0 } }
+    {
+        Writer { inner, failures: 0 }
+    }
+}
+
+impl<I: Write> Sink for Writer<I> {
+    ghost state = { λ w. record { taken = I.contents w.inner; failures = w.failures } };
+
+    fn put(&mut self, bytes: &[u8]) -> Result<usize, SinkFault> {
+        match self.inner.write(bytes) {
+            Ok(n) if n > 0 => Ok(n),
+            _ => {
+                self.failures += 1;
+                Err(SinkFault)
+            }
+        }
+    }
+
+    fn finish(&mut self) -> Result<(), SinkFault> {
+        if self.inner.flush().is_ok() {
+            return Ok(());
+        }
+        self.failures += 1;
+        Err(SinkFault)
+    }
+}
