@@ -19,3 +19,6 @@ pub use rows::{CountRow, ProcessRow, SpanRow, ThreadRow};
 pub use span_read::{
     ArgValue, Args, Event, Field, IdKey, Item, ItemFault, Items, Phase, Reach, Text,
 };
+
+#[cfg(test)]
+mod tests;

@@ -1,5 +1,5 @@
 -- What the track of a thread keeps after one more event.
-use Rattle.std.proofs.Common.{◌≡◌, ℤ, List, [], ◌∷◌, ◌++◌, Option, Some, refl, sym, append_assoc, append-nil}
+use Rattle.std.proofs.Common.{ap, ◌∙◌, ◌≡◌, ℤ, List, [], ◌∷◌, ◌++◌, Option, Some, refl, sym, append_assoc, append-nil}
 use Rattle.span_track.specs.Spans.{Span, Arguments}
 use Rattle.span_track.specs.Nesting.{Begin, ThreadEvent, began, ended, completed, matched_span, closed_by, closed_after, closed_spans, last_time}
 use Rattle.span_track.specs.Thread.{ThreadSpans, thread_spans}
@@ -52,5 +52,8 @@ module _ {N : Type 0} where
   thread_spans-completed es s = cc (open_spans-completed es s, closed_spans-append es (completed s), last_time-completed es s)
 
   -- an end closes the last open span
-  pub with_end-append : (opened : List (Begin N)) (closed : List (Span N)) (last : Option ℤ) (b : Begin N) (ts : ℤ) (args : Arguments) → with_end (record { opened = opened ++ b ∷ []; closed = closed; last = last }) ts args ≡ record { opened = opened; closed = closed ++ matched_span (Some b) ts args; last = Some ts }
-  with_end-append opened closed last b ts args = λ i. record { opened = without_last-append opened b i; closed = closed ++ matched_span (last_of-append opened b i) ts args; last = Some ts }
+  pub thread_spans-closing : (es : List (ThreadEvent N)) (all opened : List (Begin N)) (closed : List (Span N)) (last : Option ℤ) (b : Begin N) (ts : ℤ) (args : Arguments) → all ≡ opened ++ b ∷ [] → record { opened = all; closed = closed; last = last } ≡ thread_spans es → record { opened = opened; closed = closed ++ matched_span (Some b) ts args; last = Some ts } ≡ thread_spans (es ++ ended ts args ∷ [])
+  thread_spans-closing es all opened closed last b ts args split before =
+      let popped : with_end (record { opened = all; closed = closed; last = last }) ts args ≡ record { opened = opened; closed = closed ++ matched_span (Some b) ts args; last = Some ts } =
+      rw split (λ i. record { opened = without_last-append opened b i; closed = closed ++ matched_span (last_of-append opened b i) ts args; last = Some ts }) in
+      sym popped ∙ ap (λ (t : ThreadSpans N). with_end t ts args) before ∙ sym (thread_spans-ended es ts args)

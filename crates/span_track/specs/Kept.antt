@@ -1,12 +1,15 @@
--- What the open spans that a track keeps mean.
-use Rattle.std.specs.Prelude.{ℕ, ◌+◌, ◌<◌, ◌≢◌, ◌^◌, ℤ, negsuc, ◌≤ℤ◌, List, [], ◌∷◌, length, All, Option, Some, None}
+-- What holds of what a track keeps.
+use Rattle.std.specs.Prelude.{ℕ, ◌+◌, ◌<◌, ◌≢◌, ◌^◌, ℤ, ◌≤ℤ◌, List, [], ◌∷◌, length, All, Option, Some, None}
 use Rattle.span_track.specs.declared.thread.OpenSpan.{OpenSpan}
 use Rattle.span_track.specs.Nesting.{Begin}
 use Rattle.span_track.specs.Thread.{ThreadSpans}
+use Rattle.span_track.specs.Closed.{least_start}
 
+-- an open span of the program, as a begin
 abbrev pub begin_of : OpenSpan → Begin ℕ
 begin_of o = record { name = o.name; ts = o.ts; at = o.at; args = o.args }
 
+-- the time is not after the last
 abbrev pub IsUpTo : ℤ → Option ℤ → Type 0
 IsUpTo ts None = ⊥
 IsUpTo ts (Some last) = ts ≤ℤ last
@@ -16,8 +19,9 @@ abbrev pub AreRising : List (Begin ℕ) → Type 0
 AreRising [] = Unit {0}
 AreRising (b ∷ bs) = All (λ c. b.at < c.at) bs × AreRising bs
 
+-- what holds of the open spans of a track beside its closed ones
 pub record IsSound (t : ThreadSpans ℕ) : Type 0 where
-  pub from : All (λ b. negsuc 9007199254740990 ≤ℤ b.ts) t.opened
+  pub from : All (λ b. least_start ≤ℤ b.ts) t.opened
   pub up_to : All (λ b. IsUpTo b.ts t.last) t.opened
   pub apart : All (λ b. All (λ s. s.at ≢ b.at) t.closed) t.opened
   pub rising : AreRising t.opened

@@ -1,6 +1,7 @@
 use span_read::Args;
 
-/// A span that has ended. It covers the microseconds from `start` to before `until`; `at` is the position of the event that opened it.
+/// A span that has ended, with the number of its name. It covers the microseconds from `start` to before `until`; `at` is the
+/// position in the journal of the event that opened it.
 #[derive(Debug, Drop)]
 pub struct ClosedSpan {
     pub name: u32,

@@ -1,7 +1,7 @@
 //! Self and busy times of a list of spans, found by walking from each start or end to the next. Takes no memory.
-ghost use Rattle.std.specs.Prelude.{◌≡◌, ◌⊎◌, ◌≤◌, ◌^◌, ℤ, pos, negsuc, ◌≤ℤ◌, ◌<ℤ◌, nat_eq, map, All};
+ghost use Rattle.std.specs.Prelude.{◌≡◌, ◌⊎◌, ◌≤◌, ◌^◌, ℤ, ◌≤ℤ◌, ◌<ℤ◌, nat_eq, map, All};
 ghost use Rattle.span_track.specs.Spans.{distance, covers, outranks, is_outranked, is_covered, earliest, latest, self_time, busy_time, self_of};
-ghost use Rattle.span_track.specs.Closed.{span_of, IsInTime, AreClosed};
+ghost use Rattle.span_track.specs.Closed.{span_of, least_start, greatest_until, IsInTime, AreClosed};
 ghost use Rattle.span_track.specs.Walk.{IsUnbroken};
 
 use crate::span::ClosedSpan;
@@ -68,8 +68,8 @@ fn next_boundary(spans: &[ClosedSpan], u: i64, end: i64) -> i64
 // How many microseconds there are from one time to another.
 pub(crate) fn distance(from: i64, to: i64) -> u64
     requires forward { from ≤ℤ to }
-    requires from_in_time { negsuc 9007199254740990 ≤ℤ from }
-    requires to_in_time { to ≤ℤ pos 18014398509481982 }
+    requires from_in_time { least_start ≤ℤ from }
+    requires to_in_time { to ≤ℤ greatest_until }
     ensures value { result ≡ distance from to }
     ensures small { result ≤ 2 ^ 55 }
 {

@@ -5,12 +5,12 @@ use Rattle.span_read.specs.Args.{merged}
 use Rattle.span_track.specs.declared.thread.OpenSpan.{OpenSpan}
 use Rattle.span_track.specs.Spans.{Span}
 use Rattle.span_track.specs.Nesting.{Begin, ThreadEvent, opener, open_spans}
-use Rattle.span_track.specs.Thread.{ThreadSpans, thread_spans, goes_back, end_refusal}
+use Rattle.span_track.specs.Thread.{ThreadSpans, goes_back, end_refusal}
 use Rattle.span_track.specs.Kept.{begin_of, IsSound}
 use Rattle.span_track.specs.Closed.{span_of}
 use Rattle.span_track.proofs.OpenSpans.{opener-open_spans, last_of, last_of-append}
 use Rattle.span_track.proofs.Sound.{IsSound-with_end, MayClose-sound}
-use Rattle.span_track.proofs.ThreadSpans.{with_end, with_end-append, thread_spans-ended}
+use Rattle.span_track.proofs.ThreadSpans.{thread_spans-closing}
 use Rattle.span_track.proofs.thread.ThreadTrack.end_span.Goals as goal
 
 -- the track, of which the last open span is taken
@@ -96,9 +96,4 @@ returns-clause-stands c = λ es stands.
     let span_is : span_of c.closed_at.result ≡ span = rw (c.closed_at.ensures, ts, args) refl in
     let closed : c.add.new.self.spans ≡ c.self.inside.closed.spans ++ span ∷ [] = c.add.ensures ∙ ap₂ (λ (l : List (Span ℕ)) (s : Span ℕ). l ++ s ∷ []) c.reserve.ensures.spans span_is in
     let split = ap (map begin_of) c.in-Some-pop.ensures.items ∙ map_push begin_of c.pop.new.self.items c.in-Some-pop.begin in
-    let before : record { opened = map begin_of c.pop.new.self.items ++ begin ∷ []; closed = c.self.inside.closed.spans; last = c.self.inside.last } ≡ thread_spans es =
-    ap (λ (l : List (Begin ℕ)). record { opened = l; closed = c.self.inside.closed.spans; last = c.self.inside.last }) (sym split) ∙ (c.self.view_is ∙ stands) in
-    rw (closed, ts)
-    (sym (with_end-append (map begin_of c.pop.new.self.items) c.self.inside.closed.spans c.self.inside.last begin c.args.ts c.args.args.now)
-    ∙ ap (λ (t : ThreadSpans ℕ). with_end t c.args.ts c.args.args.now) before
-    ∙ sym (thread_spans-ended es c.args.ts c.args.args.now))
+    rw (closed, ts) (thread_spans-closing es _ _ c.self.inside.closed.spans c.self.inside.last begin c.args.ts c.args.args.now split (c.self.view_is ∙ stands))

@@ -1,0 +1,176 @@
+use crate::{Cause, CountRow, Item, Ledger, Op, ProcessRow};
+use span_read::read_items;
+use std::alloc::Global;
+use std::test::Fail;
+
+// What the ledger answers to the events of a text, one answer a line.
+fn answers(alloc: Global, ledger: &mut Ledger, text: &str) -> Result<String, Fail> {
+    let items = read_items(alloc, text.as_bytes())?;
+    let mut lines = String::new(alloc);
+    for item in items.into_list() {
+        match ledger.apply(1, Op::One(item)) {
+            Ok(answer) => writeln!(lines, "{answer:?}")?,
+            Err(back) => writeln!(lines, "{:?}", back.cause)?,
+        }
+    }
+    Ok(lines)
+}
+
+// The rows of names and then of threads, as a report has them.
+fn rows(alloc: Global, ledger: &Ledger) -> Result<String, Fail> {
+    let mut lines = String::new(alloc);
+    for row in &ledger.span_rows(alloc)? {
+        let name = row.name.as_str();
+        let (count, total, own) = (row.count, row.total, row.self_time);
+        writeln!(lines, "{name} {count} {total} {own}")?;
+    }
+    for row in &ledger.threads(alloc)? {
+        let (unclosed, busy) = (row.unclosed, row.busy);
+        writeln!(lines, "open {unclosed} busy {busy}")?;
+    }
+    Ok(lines)
+}
+
+#[test]
+fn spans_nest(rt: HostRuntime) -> Result<(), Fail> {
+    let alloc = rt.alloc();
+    let mut ledger = Ledger::new(alloc, 100);
+    let told = answers(
+        alloc,
+        &mut ledger,
+        "[{\"ph\":\"B\",\"name\":\"a\",\"ts\":0,\"pid\":1,\"tid\":1},{\"ph\":\"B\",\"name\":\"b\",\"ts\":2,\"pid\":1,\"tid\":1},{\"ph\":\"E\",\"ts\":5,\"pid\":1,\"tid\":1},{\"ph\":\"E\",\"ts\":10,\"pid\":1,\"tid\":1}]",
+    )?;
+    assert_eq!(rt;
+        told.as_str(),
+        "Opened { depth: 1 }\nOpened { depth: 2 }\nClosed { start: 2, length: 3, args: Args { pairs: [] } }\nClosed { start: 0, length: 10, args: Args { pairs: [] } }\n"
+    );
+    assert_eq!(rt;
+        rows(alloc, &ledger)?.as_str(),
+        "a 1 10 7\nb 1 3 3\nopen 0 busy 10\n"
+    );
+    assert_eq!(rt; ledger.len(), 4);
+    assert!(rt; !ledger.is_empty());
+    assert_eq!(rt; ledger.limit(), 100);
+    assert_eq!(rt; ledger.entry(3).ok_or("no entry")?.caller, 1);
+    assert!(rt; ledger.entry(4).is_none());
+    Ok(())
+}
+
+#[test]
+fn later_and_inner_spans_own_their_time(rt: HostRuntime) -> Result<(), Fail> {
+    let alloc = rt.alloc();
+    for (events, want) in [
+        (
+            "[{\"ph\":\"X\",\"name\":\"c\",\"ts\":2,\"dur\":3},{\"ph\":\"X\",\"name\":\"p\",\"ts\":0,\"dur\":10}]",
+            "c 1 3 3\np 1 10 7\nopen 0 busy 10\n",
+        ),
+        (
+            "[{\"ph\":\"X\",\"name\":\"p\",\"ts\":0,\"dur\":10},{\"ph\":\"X\",\"name\":\"q\",\"ts\":5,\"dur\":10}]",
+            "p 1 10 5\nq 1 10 10\nopen 0 busy 15\n",
+        ),
+        (
+            "[{\"ph\":\"X\",\"name\":\"a\",\"ts\":0,\"dur\":4},{\"ph\":\"X\",\"name\":\"b\",\"ts\":0,\"dur\":4}]",
+            "a 1 4 0\nb 1 4 4\nopen 0 busy 4\n",
+        ),
+        (
+            "[{\"ph\":\"X\",\"name\":\"a\",\"ts\":0,\"dur\":4},{\"ph\":\"X\",\"name\":\"b\",\"ts\":0,\"dur\":4},{\"ph\":\"X\",\"name\":\"z\",\"ts\":9,\"dur\":0}]",
+            "a 1 4 0\nb 1 4 4\nz 1 0 0\nopen 0 busy 4\n",
+        ),
+        (
+            "[{\"ph\":\"X\",\"name\":\"m\",\"ts\":0,\"dur\":9007199254740991},{\"ph\":\"X\",\"name\":\"m\",\"ts\":0,\"dur\":9007199254740991}]",
+            "m 2 18014398509481982 9007199254740991\nopen 0 busy 9007199254740991\n",
+        ),
+        (
+            "[{\"ph\":\"X\",\"name\":\"a\",\"ts\":0,\"dur\":10},{\"ph\":\"X\",\"name\":\"b\",\"ts\":20,\"dur\":10},{\"ph\":\"X\",\"name\":\"c\",\"ts\":5,\"dur\":20}]",
+            "a 1 10 5\nb 1 10 10\nc 1 20 15\nopen 0 busy 30\n",
+        ),
+    ] {
+        let mut ledger = Ledger::new(alloc, 100);
+        answers(alloc, &mut ledger, events)?;
+        assert_eq!(rt; rows(alloc, &ledger)?.as_str(), want);
+    }
+    Ok(())
+}
+
+#[test]
+fn refusals_are_entries(rt: HostRuntime) -> Result<(), Fail> {
+    let alloc = rt.alloc();
+    for (events, want) in [
+        (
+            "[{\"ph\":\"E\",\"ts\":3},{\"ph\":\"B\",\"name\":\"a\",\"ts\":1}]",
+            "Refused(21)\nOpened { depth: 1 }\n",
+        ),
+        (
+            "[{\"ph\":\"B\",\"name\":\"a\",\"ts\":10},{\"ph\":\"E\",\"ts\":9},{\"ph\":\"E\",\"ts\":10},{\"ph\":\"E\",\"ts\":9},{\"ph\":\"B\",\"name\":\"a\",\"ts\":9}]",
+            "Opened { depth: 1 }\nRefused(22)\nClosed { start: 10, length: 0, args: Args { pairs: [] } }\nRefused(21)\nRefused(22)\n",
+        ),
+        (
+            "[5,{\"ph\":\"R\",\"ts\":1},{\"ph\":\"X\",\"ts\":1}]",
+            "Refused(11)\nSkipped\nRefused(15)\n",
+        ),
+    ] {
+        let mut ledger = Ledger::new(alloc, 100);
+        assert_eq!(rt; answers(alloc, &mut ledger, events)?.as_str(), want);
+    }
+    let mut ledger = Ledger::new(alloc, 100);
+    answers(
+        alloc,
+        &mut ledger,
+        "[{\"ph\":\"E\",\"ts\":3},{\"ph\":\"B\",\"name\":\"a\",\"ts\":1}]",
+    )?;
+    assert_eq!(rt;
+        ledger.counts(),
+        CountRow {
+            accepted: 1,
+            refused: 1,
+            skipped: 0,
+            queries: 0
+        }
+    );
+    let processes = ledger.processes(alloc)?;
+    assert_eq!(rt;
+        processes.as_slice(),
+        [ProcessRow { pid: 0, name: None }].as_slice()
+    );
+    Ok(())
+}
+
+#[test]
+fn an_end_merges_the_arguments_of_both(rt: HostRuntime) -> Result<(), Fail> {
+    let alloc = rt.alloc();
+    let mut ledger = Ledger::new(alloc, 100);
+    let told = answers(
+        alloc,
+        &mut ledger,
+        "[{\"ph\":\"B\",\"name\":\"a\",\"ts\":0,\"args\":{\"x\":1,\"y\":2}},{\"ph\":\"E\",\"ts\":1,\"args\":{\"y\":3,\"z\":true}}]",
+    )?;
+    assert_eq!(rt;
+        told.as_str(),
+        "Opened { depth: 1 }\nClosed { start: 0, length: 1, args: Args { pairs: [(\"x\", Whole(1)), (\"y\", Whole(3)), (\"z\", Flag(true))] } }\n"
+    );
+    let entry = ledger.entry(1).ok_or("no entry")?;
+    let again = entry.answer.try_clone(alloc)?;
+    let text = format!(in alloc; "{again:?}")?;
+    assert!(rt; told.as_str().contains(text.as_str()));
+    Ok(())
+}
+
+#[test]
+fn a_full_journal_gives_the_operation_back(rt: HostRuntime) -> Result<(), Fail> {
+    let alloc = rt.alloc();
+    let mut ledger = Ledger::new(alloc, 3);
+    let begin = "{\"ph\":\"B\",\"name\":\"a\",\"ts\":0}";
+    let events = format!(in alloc; "[{begin},{begin},{begin},{begin}]")?;
+    let told = answers(alloc, &mut ledger, events.as_str())?;
+    assert_eq!(rt;
+        told.as_str(),
+        "Opened { depth: 1 }\nOpened { depth: 2 }\nOpened { depth: 3 }\nFull\n"
+    );
+    let Err(back) = ledger.apply(1, Op::One(Item::Other)) else {
+        return Err(Fail::from("taken"));
+    };
+    assert_eq!(rt; back.cause, Cause::Full);
+    assert_eq!(rt; back.cause.code(), 32);
+    assert!(rt; matches!(back.op, Op::One(Item::Other)));
+    Ok(())
+}
