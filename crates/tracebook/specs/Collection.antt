@@ -1,5 +1,5 @@
 -- What the collection of a file does.
-use Rattle.std.specs.Prelude.{◌≡◌, ℕ, ◌<◌, ◌≤◌, ◌⊎◌, List, [], length, map, Result, Ok, Err}
+use Rattle.std.specs.Prelude.{◌≡◌, ◌≢◌, ℕ, ◌<◌, ◌≤◌, ◌⊎◌, List, [], length, map, Result, Ok, Err}
 use Rattle.span_read.specs.declared.item.Item.{Item}
 use Rattle.span_read.specs.declared.error.ReadError.{ReadError}
 use Rattle.span_read.specs.ReadError.{code_of}
@@ -42,7 +42,7 @@ HasMoreThan (Err error) done = ⊥
 
 -- why items were left: memory was refused, after some items or in the reading, or the journal holds as many entries as the limit allows
 abbrev pub IsStop : Result (List Item) ReadError → ℕ → ℕ → Cause → Type 0
-IsStop document limit done Memory = HasMoreThan document done ⊎ (done ≡ 0)
+IsStop document limit done Memory = (HasMoreThan document done × (done ≢ limit)) ⊎ (done ≡ 0)
 IsStop document limit done Full = HasMoreThan document done × (done ≡ limit)
 IsStop document limit done (Busy front) = ⊥
 

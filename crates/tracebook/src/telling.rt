@@ -1,5 +1,5 @@
 //! Tells a ledger the items of a file.
-ghost use Rattle.std.specs.Prelude.{◌≡◌, ◌+◌, ◌<◌, ◌≤◌, ◌⊎◌, [], ◌∷◌, ◌++◌, All, length, OnOk, OnErr, IfErr};
+ghost use Rattle.std.specs.Prelude.{◌≡◌, ◌≢◌, ◌+◌, ◌<◌, ◌≤◌, ◌⊎◌, [], ◌∷◌, ◌++◌, All, length, OnOk, OnErr, IfErr};
 ghost use Rattle.span_read.specs.Item.{IsGoodItem};
 ghost use Rattle.span_ledger.specs.declared.entry.Op.TheVariants.{One};
 ghost use Rattle.span_ledger.specs.declared.refusal.Cause.TheVariants.{Memory, Full};
@@ -18,6 +18,8 @@ fn tell_one(ledger: &mut Ledger, caller: u32, item: Item) -> Result<(), Cause>
     ensures limit { ledger.new.limit ≡ ledger.old.limit }
     ensures full { IfErr result
         (λ cause. cause ≡ Full → length ledger.old.journal ≡ ledger.old.limit) }
+    ensures memory { IfErr result
+        (λ cause. cause ≡ Memory → length ledger.old.journal ≢ ledger.old.limit) }
     ensures cause { IfErr result (λ cause. (cause ≡ Full) ⊎ (cause ≡ Memory)) }
 {
     match ledger.apply(caller, Op::One(item)) {
@@ -41,6 +43,8 @@ pub fn tell(ledger: &mut Ledger, caller: u32, items: Items) -> Result<(), Cause>
     ensures limit { ledger.new.limit ≡ ledger.old.limit }
     ensures full { IfErr result
         (λ cause. cause ≡ Full → length ledger.new.journal ≡ ledger.new.limit) }
+    ensures memory { IfErr result
+        (λ cause. cause ≡ Memory → length ledger.new.journal ≢ ledger.new.limit) }
     ensures cause { IfErr result (λ cause. (cause ≡ Full) ⊎ (cause ≡ Memory)) }
 {
     for item in items.into_list() {

@@ -26,6 +26,7 @@ fn one_file(alloc: Global, text: &str) -> Result<Vec<Input>, AllocError>
 struct Short {
     room: usize,
     taken: Vec<u8>,
+    flushes: bool,
 }
 
 impl Write for Short {
@@ -40,7 +41,19 @@ impl Write for Short {
     }
 
     fn flush(&mut self) -> io::Result<()> {
-        Ok(())
+        if self.flushes {
+            return Ok(());
+        }
+        Err(io::Error::from(ErrorKind::BrokenPipe))
+    }
+}
+
+fn short_of(alloc: Global, room: usize, flushes: bool) -> Short {
+    let taken = Vec::new(alloc);
+    Short {
+        room,
+        taken,
+        flushes,
     }
 }
 
@@ -137,18 +150,19 @@ fn says_how_much_a_failed_output_took(rt: HostRuntime) -> Result<(), Fail> {
     let ledger = Ledger::new(alloc, 1);
     let report = EMPTY_REPORT.as_bytes();
     for room in 0..report.len() {
-        let taken = Vec::new(alloc);
-        let mut short = Short { room, taken };
+        let mut short = short_of(alloc, room, true);
         let result = write_report(alloc, &ledger, &mut Writer::new(&mut short));
         let written = room as u64;
         assert!(rt; result == Err(WriteFault::Output { written }), "at {room}");
         assert!(rt; short.taken.as_slice() == &report[..room], "at {room}");
     }
-    let taken = Vec::new(alloc);
-    let mut enough = Short { room: 51, taken };
+    let mut enough = short_of(alloc, 51, true);
     let result = write_report(alloc, &ledger, &mut Writer::new(&mut enough));
     assert!(rt; result == Ok(()));
     assert!(rt; enough.taken.as_slice() == report);
+    let mut unflushed = short_of(alloc, 51, false);
+    let result = write_report(alloc, &ledger, &mut Writer::new(&mut unflushed));
+    assert!(rt; result == Err(WriteFault::Output { written: 51 }));
     Ok(())
 }
 

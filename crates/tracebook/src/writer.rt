@@ -1,5 +1,5 @@
 //! The sink over a writer of the standard library.
-ghost use Rattle.std.specs.Prelude.{◌≡◌};
+ghost use Rattle.std.specs.Prelude.{◌≡◌, ◌+◌, ◌-◌, ◌^◌, ◌<◌};
 ghost use Rattle.tracebook.specs.Sink.{SinkState};
 
 use crate::sink::{Sink, SinkFault};
@@ -19,6 +19,14 @@ impl<I: Write> Writer<I> {
     {
         Writer { inner, failures: 0 }
     }
+
+    fn count_failure(&mut self) -> SinkFault
+        requires { self.old.failures < 2 ^ 64 - 1 }
+        ensures { self.new ≡ record self.old { failures = self.old.failures + 1 } }
+    {
+        self.failures += 1;
+        SinkFault
+    }
 }
 
 impl<I: Write> Sink for Writer<I> {
@@ -26,19 +34,15 @@ impl<I: Write> Sink for Writer<I> {
 
     fn put(&mut self, bytes: &[u8]) -> Result<usize, SinkFault> {
         match self.inner.write(bytes) {
-            Ok(n) if n > 0 => Ok(n),
-            _ => {
-                self.failures += 1;
-                Err(SinkFault)
-            }
+            Ok(count) if count > 0 => Ok(count),
+            _ => Err(self.count_failure()),
         }
     }
 
     fn finish(&mut self) -> Result<(), SinkFault> {
-        if self.inner.flush().is_ok() {
-            return Ok(());
+        match self.inner.flush() {
+            Ok(()) => Ok(()),
+            Err(_) => Err(self.count_failure()),
         }
-        self.failures += 1;
-        Err(SinkFault)
     }
 }
