@@ -5,7 +5,7 @@ DESTDIR ?=
 
 SOURCES := crates.txt HANDLES $(shell find crates -name out -prune -o -type f -print)
 
-.PHONY: all demo test install clean
+.PHONY: all demo test bench install clean
 
 all: tracebook
 
@@ -17,10 +17,19 @@ tracebook: $(SOURCES)
 demo: tracebook
 	./tracebook < examples/page_load.json
 
-# The merge gate, and then the built program on each case of tests/acceptance.
+# The merge gate, then the built program on each case of tests/acceptance, and then each growth refused in turn.
 test: tracebook
 	rt ci
 	tests/acceptance/run ./tracebook
+	cd crates/span_ledger && rt test
+	tests/refused_growths
+	cd crates/reading_time && rt run < stdin
+	tests/refused_reading
+
+# Times the reading of traces beside that of other readers.
+bench:
+	cd crates/reading_time && rt run < stdin
+	bench/reading
 
 install: tracebook
 	install -d $(DESTDIR)$(PREFIX)/bin

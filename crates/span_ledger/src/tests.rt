@@ -1,6 +1,9 @@
+ghost use Rattle.span_read.specs.Item.{IsGoodItem};
+
 use crate::{Cause, CountRow, Item, Ledger, Op, ProcessRow};
 use span_read::read_items;
-use std::alloc::Global;
+use std::alloc::{AllocError, Global};
+use std::process::Abort;
 use std::test::Fail;
 
 // What the ledger answers to the events of a text, one answer a line.
@@ -17,7 +20,7 @@ fn answers(alloc: Global, ledger: &mut Ledger, text: &str) -> Result<String, Fai
 }
 
 // The rows of names and then of threads, as a report has them.
-fn rows(alloc: Global, ledger: &Ledger) -> Result<String, Fail> {
+fn rows(alloc: Global, ledger: &Ledger) -> Result<String, AllocError> {
     let mut lines = String::new(alloc);
     for row in &ledger.span_rows(alloc)? {
         let name = row.name.as_str();
@@ -172,5 +175,73 @@ fn a_full_journal_gives_the_operation_back(rt: HostRuntime) -> Result<(), Fail> 
     assert_eq!(rt; back.cause, Cause::Full);
     assert_eq!(rt; back.cause.code(), 32);
     assert!(rt; matches!(back.op, Op::One(Item::Other)));
+    Ok(())
+}
+
+// All that the readers tell, in lines.
+fn seen(alloc: Global, ledger: &Ledger) -> Result<String, AllocError> {
+    let mut lines = rows(alloc, ledger)?;
+    for row in &ledger.processes(alloc)? {
+        let pid = row.pid;
+        writeln!(lines, "process {pid}")?;
+    }
+    let counts = ledger.counts();
+    let (accepted, refused, skipped) = (counts.accepted, counts.refused, counts.skipped);
+    let length = ledger.len();
+    writeln!(
+        lines,
+        "entries {length} accepted {accepted} refused {refused} skipped {skipped}"
+    )?;
+    Ok(lines)
+}
+
+// The same, where one growth may be refused.
+fn seen_at_last(alloc: Global, ledger: &Ledger) -> Result<String, AllocError> {
+    match seen(alloc, ledger) {
+        Ok(lines) => Ok(lines),
+        Err(_) => seen(alloc, ledger),
+    }
+}
+
+// Tells an item, again where memory was refused: then the readers must tell what they told before.
+fn tell_at_last(
+    rt: &(impl Abort + AllocGlobal),
+    ledger: &mut Ledger,
+    item: Item,
+) -> Result<(), Fail>
+    requires { IsGoodItem item }
+{
+    let alloc = rt.alloc();
+    let before = seen_at_last(alloc, ledger)?;
+    let Err(back) = ledger.apply(1, Op::One(item)) else {
+        return Ok(());
+    };
+    assert_eq!(rt; back.cause, Cause::Memory);
+    assert_eq!(rt; seen_at_last(alloc, ledger)?.as_str(), before.as_str());
+    match ledger.apply(1, back.op) {
+        Ok(_) => Ok(()),
+        Err(_) => Err(Fail::from("refused twice")),
+    }
+}
+
+// Runs with each growth refused in turn, by tests/refused_growths.
+#[test]
+fn a_refused_growth_changes_nothing(rt: HostRuntime) -> Result<(), Fail> {
+    let alloc = rt.alloc();
+    let events =
+        "[{\"ph\":\"B\",\"name\":\"a\",\"ts\":0,\"args\":{\"x\":1,\"y\":2}},{\"ph\":\"B\",\"name\":\"b\",\"ts\":2},{\"ph\":\"E\",\"ts\":1},{\"ph\":\"E\",\"ts\":5,\"args\":{\"z\":true}},{\"ph\":\"E\",\"ts\":10,\"args\":{\"y\":3,\"z\":true}},{\"ph\":\"E\",\"ts\":11},{\"ph\":\"X\",\"name\":\"c\",\"ts\":3,\"dur\":4,\"tid\":7}]";
+    let items = match read_items(alloc, events.as_bytes()) {
+        Ok(items) => items,
+        Err(_) => read_items(alloc, events.as_bytes())?,
+    };
+    let mut ledger = Ledger::new(alloc, 100);
+    for item in items.into_list() {
+        tell_at_last(&rt, &mut ledger, item)?;
+    }
+    let last = seen_at_last(alloc, &ledger)?;
+    assert_eq!(rt;
+        last.as_str(),
+        "a 1 10 7\nb 1 3 3\nc 1 4 4\nopen 0 busy 10\nopen 0 busy 4\nprocess 0\nentries 7 accepted 5 refused 2 skipped 0\n"
+    );
     Ok(())
 }

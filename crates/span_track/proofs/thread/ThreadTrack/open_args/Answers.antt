@@ -1,9 +1,7 @@
-use Rattle.std.proofs.Common.{◌≡◌, ℕ, zero, suc, ◌-◌, ◌+◌, List, [], ◌∷◌, length, Option, Some, None, map, slice_get, refl, sym, ap, ◌∙◌, arith}
+use Rattle.std.proofs.Common.{◌≡◌, ℕ, suc, ◌-◌, List, [], ◌∷◌, length, Some, None, map, slice_get, refl, sym, ap, ◌∙◌, arith}
 use Rattle.std.specs.Option.{option_map, option_or}
-use Rattle.std.specs.Prelude.{option_copied}
 use Rattle.span_track.specs.declared.thread.OpenSpan.{OpenSpan}
-use Rattle.span_track.specs.Spans.{Arguments}
-use Rattle.span_track.specs.Nesting.{Begin, ThreadEvent, opener, open_spans}
+use Rattle.span_track.specs.Nesting.{Begin, ThreadEvent, opener}
 use Rattle.span_track.specs.Thread.{ThreadSpans, StandsFor}
 use Rattle.span_track.specs.Kept.{begin_of}
 use Rattle.span_track.proofs.OpenSpans.{opener-open_spans, last_of}
@@ -23,7 +21,7 @@ last_of-map f (x ∷ xs) = ap (λ o. option_or o (Some (f x))) (last_of-map f xs
 
 -- the arguments of the last open span
 args_of_last : (items : List OpenSpan) (t : ThreadSpans ℕ) (es : List (ThreadEvent ℕ)) → t.opened ≡ map begin_of items → StandsFor t es →
-  option_map (λ begin. begin.args) (opener es) ≡ option_map (λ o. o.args) (slice_get items (length items - 1))
+    option_map (λ begin. begin.args) (opener es) ≡ option_map (λ o. o.args) (slice_get items (length items - 1))
 args_of_last items t es view stands =
     ap (option_map (λ (b : Begin ℕ). b.args)) (opener-open_spans es ∙ ap last_of (sym (ap (λ (s : ThreadSpans ℕ). s.opened) stands) ∙ view) ∙ last_of-map begin_of items)
     ∙ elim (last_of items) as (λ o. option_map (λ (b : Begin ℕ). b.args) (option_map begin_of o) ≡ option_map (λ (b : OpenSpan). b.args) o) [ None ↦ refl | Some z ↦ refl ]
