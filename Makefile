@@ -21,6 +21,7 @@ demo: tracebook
 test: tracebook
 	rt ci
 	tests/acceptance/run ./tracebook
+	tests/documented_words
 	cd crates/span_ledger && rt test
 	tests/refused_growths
 	cd crates/reading_time && rt run < stdin
