@@ -5,11 +5,13 @@ mod closed;
 mod fault;
 pub mod laws;
 mod names;
+mod segment;
 mod span;
 mod thread;
 mod walk;
 
 pub use fault::TrackFault;
 pub use names::Names;
+pub use segment::Segment;
 pub use span::{ClosedSpan, NameTotal};
 pub use thread::ThreadTrack;

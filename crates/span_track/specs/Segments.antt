@@ -1,0 +1,38 @@
+-- How the time of a thread is divided among its closed spans.
+use Rattle.std.specs.Prelude.{◌≡◌, ◌≢◌, ℕ, nat_eq, Bool, not, ◌&&◌, ℤ, ◌≤ℤ◌, ◌<ℤ◌, int_le, int_lt, List, [], ◌∷◌, All}
+use Rattle.std.specs.List.{list_any}
+use Rattle.span_track.specs.declared.segment.Segment.{Segment}
+use Rattle.span_track.specs.Spans.{Span, covers, is_outranked}
+
+-- u is a microsecond of the segment
+abbrev pub lies_in : Segment → ℤ → Bool
+lies_in g u = int_le g.start u && int_lt u g.until
+
+-- u lies in a segment of the span that was opened at this position
+abbrev pub is_in_segment : List Segment → ℕ → ℤ → Bool
+is_in_segment segments at u = list_any (λ g. nat_eq g.at at && lies_in g u) segments
+
+-- the span that was opened at this position covers u, and no span that covers u ranks above it
+abbrev pub is_on_top : List (Span ℕ) → ℕ → ℤ → Bool
+is_on_top spans at u = list_any (λ s. nat_eq s.at at && (covers s u && not (is_outranked spans s u))) spans
+
+-- the first of the others starts no sooner than g ends, and where the two touch they are of different spans
+abbrev pub IsBefore : Segment → List Segment → Type 0
+IsBefore g [] = Unit {0}
+IsBefore g (h ∷ segments) = (g.until ≤ℤ h.start) × (g.until ≡ h.start → g.at ≢ h.at)
+
+-- none is empty, and each ends before the next starts
+abbrev pub AreInOrder : List Segment → Type 0
+AreInOrder [] = Unit {0}
+AreInOrder (g ∷ segments) = (g.start <ℤ g.until) × IsBefore g segments × AreInOrder segments
+
+-- the segments of time that these spans make
+pub record AreSegments (spans : List (Span ℕ)) (segments : List Segment) : Type 0 where
+  pub in_order : AreInOrder segments
+  pub exact : (at : ℕ) (u : ℤ) → is_in_segment segments at u ≡ is_on_top spans at u
+  pub named : All (λ g. All (λ s. s.at ≡ g.at → s.name ≡ g.name) spans) segments
+
+-- there are such segments
+pub record HasSegments (spans : List (Span ℕ)) : Type 0 where
+  pub segments : List Segment
+  pub are : AreSegments spans segments
