@@ -68,13 +68,13 @@ int_lt-below : (a b : ℤ) → a <ℤ b → int_lt a b ≡ true
 int_lt-below a b h = grind (arith, ints)
 
 module _ {N : Type 0} where
-  covers-before : (s : Span N) (u : ℤ) → u <ℤ s.start → covers s u ≡ false
+  pub covers-before : (s : Span N) (u : ℤ) → u <ℤ s.start → covers s u ≡ false
   covers-before s u h = and_left _ _ (int_le-above s.start u h)
 
-  covers-after : (s : Span N) (u : ℤ) → s.until ≤ℤ u → covers s u ≡ false
+  pub covers-after : (s : Span N) (u : ℤ) → s.until ≤ℤ u → covers s u ≡ false
   covers-after s u h = and_right _ _ (int_lt-above u s.until h)
 
-  covers-between : (s : Span N) (u : ℤ) → s.start ≤ℤ u → u <ℤ s.until → covers s u ≡ true
+  pub covers-between : (s : Span N) (u : ℤ) → s.start ≤ℤ u → u <ℤ s.until → covers s u ≡ true
   covers-between s u h k = and_from _ _ (int_le-below s.start u h) (int_lt-below u s.until k)
 
   -- counting through a stretch that holds the span

@@ -1,6 +1,7 @@
 pub mod Apart
 pub mod Children
 pub mod Counts
+pub mod Cursor
 pub mod Numbers
 pub mod OpenSpans
 pub mod Places
@@ -10,6 +11,7 @@ pub mod SelfSums
 pub mod SelfTimes
 pub mod Sound
 pub mod ThreadSpans
+pub mod Taking
 pub mod Tops
 pub mod Totals
 pub mod Unbroken

@@ -1,5 +1,5 @@
 -- What a track keeps of the division of time, and what it must hold of its spans.
-use Rattle.std.specs.Prelude.{◌≡◌, ◌≢◌, ℕ, nat_eq, ◌&&◌, Bool, true, if◌then◌else◌, ℤ, pos, ◌-ℤ◌, ◌≤ℤ◌, ◌<ℤ◌, List, [], ◌∷◌, ◌++◌, Option, Some, None, fold, sum_by, unwrap_or}
+use Rattle.std.specs.Prelude.{◌≡◌, ◌≢◌, ℕ, nat_eq, ◌&&◌, Bool, true, if◌then◌else◌, ℤ, pos, ◌-ℤ◌, ◌≤ℤ◌, ◌<ℤ◌, int_lt, List, reverse, [], ◌∷◌, ◌++◌, Option, Some, None, fold, sum_by, unwrap_or}
 use Rattle.indexmap.specs.IndexMap.{IndexMap, get}
 use Rattle.std.specs.declared.hash.FoldHasher.{FoldHasher}
 use Rattle.std.specs.declared.hash.BuildHasherDefault.{BuildHasherDefault}
@@ -72,3 +72,59 @@ SelfTimes = IndexMap ℕ ℕ (BuildHasherDefault FoldHasher)
 
 abbrev pub own_in : SelfTimes → ℕ → ℕ
 own_in own name = unwrap_or (get nat_eq own name) 0
+
+-- the running times are those of the parts
+pub record AreSums (own : SelfTimes) (busy : ℕ) (parts : List Part) : Type 0 where
+  pub of_names : (name : ℕ) → own_in own name ≡ named_length name parts
+  pub of_all : busy ≡ whole_length parts
+
+-- only this span has its position
+abbrev pub IsOnly : Span ℕ → Owners → Type 0
+IsOnly s owners = (u : ℤ) (owner : Span ℕ) → owners u ≡ Some owner → owner.at ≡ s.at → owner ≡ s
+
+-- no owner has the span's position
+abbrev pub IsNew : Span ℕ → Owners → Type 0
+IsNew s owners = (u : ℤ) (owner : Span ℕ) → owners u ≡ Some owner → owner.at ≢ s.at
+
+-- the owner before t, if there is one, is not the owner at t
+abbrev pub IsChange : Owners → Owners → ℤ → Type 0
+IsChange before from t = (owner : Span ℕ) → before (t -ℤ pos 1) ≡ Some owner → from t ≢ Some owner
+
+-- some owners are such
+pub record ForSome (P : Owners → Type 0) : Type 0 where
+  pub owners : Owners
+  pub holds : P owners
+
+-- the parts of a timeline in order: those before the cursor, and those behind it, of which the last comes first
+abbrev pub parts_of : List Part → List Part → List Part
+parts_of past future = past ++ reverse future
+
+-- a new span has taken what is its own before t
+pub record IsTakenTo (s : Span ℕ) (t : ℤ) (past future : List Part) (owners : Owners) : Type 0 where
+  pub new : IsNew s owners
+  pub in_time : (least_start ≤ℤ s.start) × (s.until ≤ℤ greatest_until)
+  pub from : s.start ≤ℤ t
+  pub before : ArePast (taken s owners) t (reverse past)
+  pub after : AreFuture owners t (reverse future)
+  pub change : IsChange (taken s owners) owners t
+
+-- the part of which a new span may take what lies from `from` on, between the parts before it and behind it
+pub record IsNextPart (s : Span ℕ) (from : ℤ) (p : Part) (past future : List Part) (owners : Owners) : Type 0 where
+  pub new : IsNew s owners
+  pub in_time : (least_start ≤ℤ s.start) × (s.until ≤ℤ greatest_until)
+  pub begins : s.start ≤ℤ from
+  pub ends : from <ℤ s.until
+  pub within : (p.segment.start ≤ℤ from) × (from <ℤ p.segment.until)
+  pub head : p.segment.start <ℤ from → from ≡ s.start
+  pub before : ArePast (taken s owners) p.segment.start (reverse past)
+  pub start : taken s owners (p.segment.start -ℤ pos 1) ≢ Some (owner_of p)
+  pub belongs : Belong owners p.segment.start p.segment.until (Some (owner_of p))
+  pub until : owners p.segment.until ≢ Some (owner_of p)
+  pub after : AreFuture owners p.segment.until (reverse future)
+
+-- what lies of a part from a to before b, if anything
+abbrev pub between : Part → ℤ → ℤ → Part
+between p a b = record { segment = record { start = a; until = b; name = p.segment.name; at = p.segment.at }; span_start = p.span_start; span_until = p.span_until }
+
+abbrev pub piece : Part → ℤ → ℤ → List Part
+piece p a b = if int_lt a b then between p a b ∷ [] else []

@@ -1,4 +1,5 @@
 pub mod Closed
+pub mod Cursor
 pub mod Division
 pub mod Fault
 pub mod Kept

@@ -8,6 +8,7 @@ mod names;
 mod segment;
 mod span;
 mod thread;
+mod timeline;
 mod walk;
 
 pub use fault::TrackFault;
