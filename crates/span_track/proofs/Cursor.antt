@@ -1,18 +1,27 @@
 -- How the cursor of a timeline moves from one part to the next.
-use Rattle.std.proofs.Common.{◌≡◌, ◌≢◌, ℕ, ◌++◌, ℤ, pos, ◌-ℤ◌, ◌≤ℤ◌, ◌<ℤ◌, List, [], ◌∷◌, reverse, Option, Some, None, refl, sym, ap, ◌∙◌, subst, arith}
+use Rattle.std.proofs.Common.{◌≡◌, ◌≢◌, ℕ, ◌++◌, ℤ, pos, ◌-ℤ◌, ◌≤ℤ◌, ◌<ℤ◌, List, [], ◌∷◌, reverse, Option, Some, None, false, refl, sym, ap, ◌∙◌, subst, arith}
 use Rattle.std.proofs.lemmas.Int.{ints, by_lt_z}
 use Rattle.std.proofs.lemmas.List.{reverse-reverse, append-nil, append_assoc, reverse-append}
 use Rattle.span_track.specs.declared.segment.Part.{Part}
 use Rattle.span_track.specs.Spans.{Span}
 use Rattle.span_track.specs.Closed.{least_start, greatest_until}
 use Rattle.span_track.specs.Division.{Owners, owner_of, Belong, ArePast, AreFuture, AreParts, IsChange, parts_of}
-use Rattle.span_track.specs.Cursor.{EndsBy, LastsBeyond}
+use Rattle.span_track.specs.Cursor.{lasts_beyond, starts_before}
 
 reverse-onto : {A : Type 0} (x : A) (xs ys : List A) → reverse (x ∷ xs) ++ ys ≡ reverse xs ++ x ∷ ys
 reverse-onto x xs ys = ap (λ l. l ++ ys) (reverse-append (x ∷ []) xs) ∙ append_assoc (reverse xs) (x ∷ []) ys
 
 pub Some≢None : {A : Type 0} {x : A} → Some x ≢ None
 Some≢None e = absurd cc
+
+-- the first of the parts ends no later than t
+abbrev pub EndsBy : ℤ → List Part → Type 0
+EndsBy t [] = Unit {0}
+EndsBy t (p ∷ ps) = p.segment.until ≤ℤ t
+
+pub EndsBy-lasts_beyond : (t : ℤ) (ps : List Part) → lasts_beyond t ps ≡ false → EndsBy t ps
+EndsBy-lasts_beyond t [] h = tt
+EndsBy-lasts_beyond t (p ∷ ps) h = omega (arith, ints, h)
 
 ArePast-later : (owners : Owners) (t later : ℤ) (ps : List Part) → t ≤ℤ later → Belong owners t later None → ArePast owners t ps → ArePast owners later ps
 ArePast-later owners t later [] h none past = (omega (arith, ints, past.0), λ u before. by_lt_z u t (λ k. past.1 u k) (λ k. none u k before))
@@ -32,6 +41,10 @@ ArePast-none owners t sooner (p ∷ ps) ends past u from before = past.1 u (omeg
 abbrev pub StartsFrom : ℤ → List Part → Type 0
 StartsFrom t [] = t ≤ℤ greatest_until
 StartsFrom t (p ∷ ps) = t ≤ℤ p.segment.start
+
+pub StartsFrom-starts_before : (t : ℤ) (ps : List Part) → t ≤ℤ greatest_until → starts_before t ps ≡ false → StartsFrom t ps
+StartsFrom-starts_before t [] h none = h
+StartsFrom-starts_before t (p ∷ ps) h none = omega (arith, ints, none)
 
 pub AreFuture-sooner : (owners : Owners) (t sooner : ℤ) (ps : List Part) → sooner ≤ℤ t → Belong owners sooner t None → AreFuture owners t ps → AreFuture owners sooner ps
 AreFuture-sooner owners t sooner [] h none future = (omega (arith, ints, future.0), λ u from. by_lt_z u t (λ k. none u from k) (λ k. future.1 u k))

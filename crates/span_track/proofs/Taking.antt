@@ -1,14 +1,14 @@
 -- What a new span leaves of the time when it has taken its own.
-use Rattle.std.proofs.Common.{◌≡◌, ◌≢◌, ℕ, ◌++◌, ℤ, pos, ◌-ℤ◌, ◌≤ℤ◌, ◌<ℤ◌, int_lt, Bool, true, false, ◌&&◌, cond, List, [], ◌∷◌, reverse, Option, Some, None, refl, sym, ap, ◌∙◌, subst, arith}
+use Rattle.std.proofs.Common.{◌≡◌, ◌≢◌, ℕ, ◌++◌, ℤ, pos, ◌-ℤ◌, ◌≤ℤ◌, ◌<ℤ◌, int_le, int_lt, Bool, true, false, ◌&&◌, cond, List, [], ◌∷◌, reverse, Option, Some, None, refl, sym, ap, ◌∙◌, subst, arith}
 use Rattle.std.proofs.lemmas.Int.{ints, by_lt_z}
 use Rattle.std.proofs.lemmas.List.{append-nil, reverse-append}
 use Rattle.span_track.specs.declared.segment.Part.{Part}
 use Rattle.span_track.specs.Spans.{Span, covers, outranks}
 use Rattle.span_track.specs.Closed.{least_start, greatest_until}
-use Rattle.span_track.specs.Division.{Owners, owner_of, claims, taken, Belong, ArePast, AreFuture, IsOnly, IsNew, IsChange, AreParts, parts_of, IsTakenTo, IsNextPart, between, piece}
-use Rattle.span_track.specs.Cursor.{EndsBy, LastsBeyond}
+use Rattle.span_track.specs.Division.{Owners, owner_of, claims, taken, Belong, ArePast, AreFuture, IsOnly, IsNew, IsChange, AreParts, parts_of, between, piece}
+use Rattle.span_track.specs.Cursor.{starts_before, ends_by, lasts_beyond, IsTakenTo, IsNextPart, IsAtStart}
 use Rattle.span_track.proofs.Counts.{covers-before, covers-after, covers-between}
-use Rattle.span_track.proofs.Cursor.{StartsFrom, AreFuture-none, AreFuture-later, HasCursor-parts, IsCursor-within, IsCursor-before, AreParts-cursor}
+use Rattle.span_track.proofs.Cursor.{StartsFrom, EndsBy-lasts_beyond, AreFuture-none, AreFuture-later, HasCursor-parts, IsCursor-within, IsCursor-before, AreParts-cursor}
 
 pub taken-before : (s : Span ℕ) (owners : Owners) (u : ℤ) → u <ℤ s.start → taken s owners u ≡ owners u
 taken-before s owners u h = ap (λ b. cond (b && claims s (owners u)) (Some s) (owners u)) (covers-before s u h)
@@ -173,19 +173,10 @@ IsNextPart-at s t p past rest future owners at split gap ends =
       after = after.5;
     }
 
--- where the cursor stands right before the span, or within a part that the span starts in
-pub record IsAtStart (s : Span ℕ) (past future : List Part) (owners : Owners) : Type 0 where
-  pub new : IsNew s owners
-  pub in_time : (least_start ≤ℤ s.start) × (s.until ≤ℤ greatest_until)
-  pub lasts : s.start <ℤ s.until
-  pub ends : EndsBy s.start (reverse past)
-  pub beyond : LastsBeyond s.start (reverse future)
-  pub parts : AreParts owners (parts_of past future)
-
 pub IsTakenTo-start : (s : Span ℕ) (past future : List Part) (owners : Owners) → IsAtStart s past future owners → StartsFrom s.start (reverse future) → IsTakenTo s s.start past future owners
 IsTakenTo-start s past future owners start gap =
     let cursor = HasCursor-parts owners past (reverse future) start.parts in
-    let at = IsCursor-within owners cursor.time s.start (reverse past) (reverse future) start.in_time.0 start.ends gap cursor.at in
+    let at = IsCursor-within owners cursor.time s.start (reverse past) (reverse future) start.in_time.0 (EndsBy-lasts_beyond s.start (reverse past) start.ends) gap cursor.at in
     record {
       new = start.new;
       in_time = start.in_time;
@@ -200,7 +191,8 @@ IsNextPart-start s p past rest future owners start split before =
     let turned : reverse future ≡ p ∷ reverse rest = ap reverse split ∙ reverse-push rest p in
     let cursor = HasCursor-parts owners past (p ∷ reverse rest) (subst (λ l. AreParts owners (past ++ l)) turned start.parts) in
     let at = IsCursor-before owners cursor.time (reverse past) p (reverse rest) cursor.at in
-    let beyond : s.start <ℤ p.segment.until = subst (λ l. LastsBeyond s.start l) turned start.beyond in
+    let ends : int_le p.segment.until s.start ≡ false = subst (λ l. ends_by s.start l ≡ false) turned start.beyond in
+    let beyond : s.start <ℤ p.segment.until = omega (arith, ints, ends) in
     record {
       new = start.new;
       in_time = start.in_time;

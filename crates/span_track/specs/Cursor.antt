@@ -1,20 +1,74 @@
--- What holds of a timeline.
-use Rattle.std.specs.Prelude.{◌≤ℤ◌, ◌<ℤ◌, ◌++◌, ℤ, List, [], ◌∷◌}
+-- What holds of a timeline and its cursor while a new span takes what is its own.
+use Rattle.std.specs.Prelude.{◌≡◌, ◌≢◌, ℕ, ◌+◌, nat_eq, if◌then◌else◌, Bool, false, ℤ, pos, ◌-ℤ◌, ◌≤ℤ◌, ◌<ℤ◌, int_le, int_lt, List, [], ◌∷◌, reverse, Option, Some}
 use Rattle.span_track.specs.declared.segment.Part.{Part}
 use Rattle.span_track.specs.declared.timeline.Timeline.{Timeline}
-use Rattle.span_track.specs.Division.{Owners, AreParts, AreSums, parts_of}
+use Rattle.span_track.specs.Spans.{Span, distance}
+use Rattle.span_track.specs.Closed.{least_start, greatest_until}
+use Rattle.span_track.specs.Division.{Owners, taken, owner_of, Belong, ArePast, AreFuture, AreParts, AreSums, IsNew, IsChange, named_length, whole_length, parts_of}
 
 -- the first of the parts ends no later than t
-abbrev pub EndsBy : ℤ → List Part → Type 0
-EndsBy t [] = Unit {0}
-EndsBy t (p ∷ ps) = p.segment.until ≤ℤ t
+abbrev pub ends_by : ℤ → List Part → Bool
+ends_by t [] = false
+ends_by t (p ∷ ps) = int_le p.segment.until t
 
 -- the first of the parts ends later than t
-abbrev pub LastsBeyond : ℤ → List Part → Type 0
-LastsBeyond t [] = Unit {0}
-LastsBeyond t (p ∷ ps) = t <ℤ p.segment.until
+abbrev pub lasts_beyond : ℤ → List Part → Bool
+lasts_beyond t [] = false
+lasts_beyond t (p ∷ ps) = int_lt t p.segment.until
+
+-- the first of the parts starts sooner than t
+abbrev pub starts_before : ℤ → List Part → Bool
+starts_before t [] = false
+starts_before t (p ∷ ps) = int_lt p.segment.start t
 
 -- the parts of the timeline are those of these owners, and its times are those of the parts
 pub record IsTimeline (owners : Owners) (t : Timeline) : Type 0 where
   pub parts : AreParts owners (parts_of t.past.items t.future.items)
-  pub sums : AreSums t.own t.busy (t.past.items ++ t.future.items)
+  pub sums : AreSums t.own t.busy (parts_of t.past.items t.future.items)
+
+-- the cursor stands right before the span, or before a part that the span starts in
+pub record IsAtStart (s : Span ℕ) (past future : List Part) (owners : Owners) : Type 0 where
+  pub new : IsNew s owners
+  pub in_time : (least_start ≤ℤ s.start) × (s.until ≤ℤ greatest_until)
+  pub lasts : s.start <ℤ s.until
+  pub ends : lasts_beyond s.start (reverse past) ≡ false
+  pub beyond : ends_by s.start (reverse future) ≡ false
+  pub parts : AreParts owners (parts_of past future)
+
+-- a new span has taken what is its own before t
+pub record IsTakenTo (s : Span ℕ) (t : ℤ) (past future : List Part) (owners : Owners) : Type 0 where
+  pub new : IsNew s owners
+  pub in_time : (least_start ≤ℤ s.start) × (s.until ≤ℤ greatest_until)
+  pub from : s.start ≤ℤ t
+  pub before : ArePast (taken s owners) t (reverse past)
+  pub after : AreFuture owners t (reverse future)
+  pub change : IsChange (taken s owners) owners t
+
+-- the part of which a new span may take what lies from `from` on, between the parts before it and behind it
+pub record IsNextPart (s : Span ℕ) (from : ℤ) (p : Part) (past future : List Part) (owners : Owners) : Type 0 where
+  pub new : IsNew s owners
+  pub in_time : (least_start ≤ℤ s.start) × (s.until ≤ℤ greatest_until)
+  pub begins : s.start ≤ℤ from
+  pub ends : from <ℤ s.until
+  pub within : (p.segment.start ≤ℤ from) × (from <ℤ p.segment.until)
+  pub head : p.segment.start <ℤ from → from ≡ s.start
+  pub before : ArePast (taken s owners) p.segment.start (reverse past)
+  pub start : taken s owners (p.segment.start -ℤ pos 1) ≢ Some (owner_of p)
+  pub belongs : Belong owners p.segment.start p.segment.until (Some (owner_of p))
+  pub until : owners p.segment.until ≢ Some (owner_of p)
+  pub after : AreFuture owners p.segment.until (reverse future)
+
+-- the past without the span's last part, which reaches from `start` to `from`
+pub record IsOpened (s : Span ℕ) (start from : ℤ) (old new : List Part) (owners : Owners) : Type 0 where
+  pub first : start ≤ℤ from
+  pub before : ArePast owners start (reverse new)
+  pub belongs : Belong owners start from (Some s)
+  pub change : owners (start -ℤ pos 1) ≢ Some s
+  pub of_names : (name : ℕ) → named_length name old ≡ named_length name new + (if nat_eq s.name name then distance start from else 0)
+  pub of_all : whole_length old ≡ whole_length new + distance start from
+
+-- the past with what the span has from `from` to before `until`
+pub record IsGained (s : Span ℕ) (from until : ℤ) (old new : List Part) (owners : Owners) : Type 0 where
+  pub before : ArePast owners until (reverse new)
+  pub of_names : (name : ℕ) → named_length name new ≡ named_length name old + (if nat_eq s.name name then distance from until else 0)
+  pub of_all : whole_length new ≡ whole_length old + distance from until

@@ -99,32 +99,10 @@ pub record ForSome (P : Owners → Type 0) : Type 0 where
 abbrev pub parts_of : List Part → List Part → List Part
 parts_of past future = past ++ reverse future
 
--- a new span has taken what is its own before t
-pub record IsTakenTo (s : Span ℕ) (t : ℤ) (past future : List Part) (owners : Owners) : Type 0 where
-  pub new : IsNew s owners
-  pub in_time : (least_start ≤ℤ s.start) × (s.until ≤ℤ greatest_until)
-  pub from : s.start ≤ℤ t
-  pub before : ArePast (taken s owners) t (reverse past)
-  pub after : AreFuture owners t (reverse future)
-  pub change : IsChange (taken s owners) owners t
-
--- the part of which a new span may take what lies from `from` on, between the parts before it and behind it
-pub record IsNextPart (s : Span ℕ) (from : ℤ) (p : Part) (past future : List Part) (owners : Owners) : Type 0 where
-  pub new : IsNew s owners
-  pub in_time : (least_start ≤ℤ s.start) × (s.until ≤ℤ greatest_until)
-  pub begins : s.start ≤ℤ from
-  pub ends : from <ℤ s.until
-  pub within : (p.segment.start ≤ℤ from) × (from <ℤ p.segment.until)
-  pub head : p.segment.start <ℤ from → from ≡ s.start
-  pub before : ArePast (taken s owners) p.segment.start (reverse past)
-  pub start : taken s owners (p.segment.start -ℤ pos 1) ≢ Some (owner_of p)
-  pub belongs : Belong owners p.segment.start p.segment.until (Some (owner_of p))
-  pub until : owners p.segment.until ≢ Some (owner_of p)
-  pub after : AreFuture owners p.segment.until (reverse future)
-
--- what lies of a part from a to before b, if anything
+-- the same span's part from a to before b
 abbrev pub between : Part → ℤ → ℤ → Part
 between p a b = record { segment = record { start = a; until = b; name = p.segment.name; at = p.segment.at }; span_start = p.span_start; span_until = p.span_until }
 
+-- what lies of a part from a to before b, if anything
 abbrev pub piece : Part → ℤ → ℤ → List Part
 piece p a b = if int_lt a b then between p a b ∷ [] else []

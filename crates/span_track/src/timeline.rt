@@ -1,11 +1,11 @@
 //! The time of a thread, divided among its closed spans.
-ghost use Rattle.std.specs.Prelude.{◌≡◌, ◌≤◌, ◌<◌, ◌+◌, ◌*◌, ◌^◌, ◌==◌, ◌≤ℤ◌, ◌<ℤ◌, ℕ, ℤ, pos, ◌-ℤ◌, [], ◌∷◌, ◌++◌, nat_eq, reverse, length, Some, slice_get, vec_len, vec_capacity, if◌then◌else◌, IsSome, OnOk, OnErr, ◌≢◌};
+ghost use Rattle.std.specs.Prelude.{true, false, map, option_copied, ◌≡◌, ◌≤◌, ◌<◌, ◌+◌, ◌*◌, ◌^◌, ◌==◌, ◌≤ℤ◌, ◌<ℤ◌, ℕ, ℤ, pos, ◌-ℤ◌, [], ◌∷◌, ◌++◌, nat_eq, reverse, length, Some, slice_get, vec_len, vec_capacity, if◌then◌else◌, IsSome, OnOk, OnErr, ◌≢◌};
 ghost use Rattle.std.specs.Option.{option_map};
 ghost use Rattle.indexmap.specs.IndexMap.{get, spare};
-ghost use Rattle.span_track.specs.Spans.{distance};
+ghost use Rattle.span_track.specs.Spans.{distance, outranks};
 ghost use Rattle.span_track.specs.Closed.{least_start, greatest_until};
-ghost use Rattle.span_track.specs.Division.{Owners, owner_of, taken, Belong, ArePast, AreFuture, AreParts, part_length, named_length, whole_length, own_in, AreSums, IsOnly, IsNew, ForSome, parts_of, IsTakenTo, IsNextPart, between, piece};
-ghost use Rattle.span_track.specs.Cursor.{EndsBy, LastsBeyond, IsTimeline};
+ghost use Rattle.span_track.specs.Division.{Owners, owner_of, taken, Belong, ArePast, AreParts, own_in, AreSums, IsOnly, IsNew, ForSome, parts_of, piece};
+ghost use Rattle.span_track.specs.Cursor.{ends_by, lasts_beyond, starts_before, IsTimeline, IsAtStart, IsTakenTo, IsNextPart, IsOpened, IsGained};
 
 use crate::segment::{Part, Segment};
 use crate::walk::distance;
@@ -23,7 +23,11 @@ pub(crate) struct Timeline {
 }
 
 impl Timeline {
-    pub(crate) fn new(alloc: Global) -> Timeline {
+    pub(crate) fn new(alloc: Global) -> Timeline
+        ensures parts { parts_of result.past.items result.future.items ≡ [] }
+        ensures own { (name : ℕ) → own_in result.own name ≡ 0 }
+        ensures busy { result.busy ≡ 0 }
+    {
         Timeline {
             past: Vec::new(alloc),
             future: Vec::new(alloc),
@@ -44,11 +48,14 @@ impl Timeline {
         self.busy
     }
 
-    pub(crate) fn segment_count(&self) -> u64 {
+    pub(crate) fn segment_count(&self) -> u64
+        ensures { result ≡ length (parts_of self.now.past.items self.now.future.items) }
+    {
         (self.past.len() + self.future.len()) as u64
     }
 
     pub(crate) fn segment(&self, i: u64) -> Option<&Segment>
+        ensures { option_copied result ≡ slice_get (map (λ part. part.segment) (parts_of self.now.past.items self.now.future.items)) i }
     {
         let i = i as usize;
         if let Some(part) = self.past.get(i) {
@@ -65,6 +72,13 @@ impl Timeline {
     /// The span takes the microseconds that it covers from no one and from the spans that it outranks. Where memory is refused,
     /// nothing has changed.
     pub(crate) fn add(&mut self, span: &Part) -> Result<(), AllocError>
+        requires is { ForSome (λ owners. IsTimeline owners self.old) }
+        requires new { (owners : Owners) → IsTimeline owners self.old → IsNew (owner_of span.now) owners }
+        requires lasts { span.now.span_start ≤ℤ span.now.span_until }
+        requires from_in_time { least_start ≤ℤ span.now.span_start }
+        requires to_in_time { span.now.span_until ≤ℤ greatest_until }
+        ensures ok { OnOk result ((owners : Owners) → IsTimeline owners self.old → IsTimeline (taken (owner_of span.now) owners) self.new) }
+        ensures err { OnErr result ((owners : Owners) → IsTimeline owners self.old → IsTimeline owners self.new) }
     {
         if span.span_start == span.span_until {
             return Ok(());
@@ -74,18 +88,19 @@ impl Timeline {
         self.advance(span.span_start)?;
         self.past.reserve(2 * self.future.len() + 2)?;
         keep_name(&mut self.own, span.segment.name);
-        let mut time = self.enter(span);
-        while starts_before(&self.future, span.span_until) {
-            time = self.go_on(span, time);
-        }
-        if time < span.span_until {
-            self.fill(span, time, span.span_until);
-        }
+        let entered = self.enter(span);
+        let time = self.go_through(span, entered);
+        self.finish(span, time);
         Ok(())
     }
 
     // Moves the cursor back, behind the parts that end no later than `time`.
-    fn rewind(&mut self, time: i64) -> Result<(), AllocError> {
+    fn rewind(&mut self, time: i64) -> Result<(), AllocError>
+        ensures parts { parts_of self.new.past.items self.new.future.items ≡ parts_of self.old.past.items self.old.future.items }
+        ensures own { self.new.own ≡ self.old.own }
+        ensures busy { self.new.busy ≡ self.old.busy }
+        ensures past { OnOk result (lasts_beyond time (reverse self.new.past.items) ≡ false) }
+    {
         while lasts_beyond(&self.past, time) {
             self.future.reserve(1)?;
             let Some(part) = self.past.pop() else {
@@ -97,7 +112,13 @@ impl Timeline {
     }
 
     // Moves the cursor on, behind the parts that end no later than `time`.
-    fn advance(&mut self, time: i64) -> Result<(), AllocError> {
+    fn advance(&mut self, time: i64) -> Result<(), AllocError>
+        ensures parts { parts_of self.new.past.items self.new.future.items ≡ parts_of self.old.past.items self.old.future.items }
+        ensures own { self.new.own ≡ self.old.own }
+        ensures busy { self.new.busy ≡ self.old.busy }
+        ensures past { lasts_beyond time (reverse self.old.past.items) ≡ false → lasts_beyond time (reverse self.new.past.items) ≡ false }
+        ensures future { OnOk result (ends_by time (reverse self.new.future.items) ≡ false) }
+    {
         while ends_by(&self.future, time) {
             self.past.reserve(1)?;
             let Some(part) = self.future.pop() else {
@@ -108,8 +129,18 @@ impl Timeline {
         Ok(())
     }
 
-    // The span starts within the next part, or before it. Returns the time before which all is taken.
-    fn enter(&mut self, span: &Part) -> i64 {
+    // The part that the span starts in, if there is one. Returns the time before which all is taken.
+    fn enter(&mut self, span: &Part) -> i64
+        requires start { ForSome (IsAtStart (owner_of span.now) self.old.past.items self.old.future.items) }
+        requires sums { AreSums self.old.own self.old.busy (parts_of self.old.past.items self.old.future.items) }
+        requires kept { IsSome (get nat_eq self.old.own span.now.segment.name) }
+        requires room { vec_len self.old.past + 2 * vec_len self.old.future + 2 ≤ vec_capacity self.old.past }
+        ensures taken { (owners : Owners) → IsAtStart (owner_of span.now) self.old.past.items self.old.future.items owners
+            → IsTakenTo (owner_of span.now) result self.new.past.items self.new.future.items owners }
+        ensures sums { AreSums self.new.own self.new.busy (parts_of self.new.past.items self.new.future.items) }
+        ensures kept { IsSome (get nat_eq self.new.own span.now.segment.name) }
+        ensures room { result <ℤ span.now.span_until → vec_len self.new.past + 2 * vec_len self.new.future + 1 ≤ vec_capacity self.new.past }
+    {
         if !starts_before(&self.future, span.span_start) {
             return span.span_start;
         }
@@ -119,19 +150,83 @@ impl Timeline {
         self.pass(span, part, span.span_start)
     }
 
-    // Goes through the next part and the gap before it.
-    fn go_on(&mut self, span: &Part, time: i64) -> i64 {
+    // The other parts that the span reaches, each with the gap before it.
+    fn go_through(&mut self, span: &Part, from: i64) -> i64
+        requires taken { ForSome (IsTakenTo (owner_of span.now) from self.old.past.items self.old.future.items) }
+        requires sums { AreSums self.old.own self.old.busy (parts_of self.old.past.items self.old.future.items) }
+        requires kept { IsSome (get nat_eq self.old.own span.now.segment.name) }
+        requires room { from <ℤ span.now.span_until → vec_len self.old.past + 2 * vec_len self.old.future + 1 ≤ vec_capacity self.old.past }
+        ensures taken { (owners : Owners) → IsTakenTo (owner_of span.now) from self.old.past.items self.old.future.items owners
+            → IsTakenTo (owner_of span.now) result self.new.past.items self.new.future.items owners }
+        ensures sums { AreSums self.new.own self.new.busy (parts_of self.new.past.items self.new.future.items) }
+        ensures kept { IsSome (get nat_eq self.new.own span.now.segment.name) }
+        ensures room { result <ℤ span.now.span_until → vec_len self.new.past + 2 * vec_len self.new.future + 1 ≤ vec_capacity self.new.past }
+        ensures gap { starts_before span.now.span_until (reverse self.new.future.items) ≡ false }
+    {
+        let mut time = from;
+        while starts_before(&self.future, span.span_until) {
+            time = self.go_on(span, time);
+        }
+        time
+    }
+
+    fn go_on(&mut self, span: &Part, time: i64) -> i64
+        requires taken { ForSome (IsTakenTo (owner_of span.now) time self.old.past.items self.old.future.items) }
+        requires next { starts_before span.now.span_until (reverse self.old.future.items) ≡ true }
+        requires sums { AreSums self.old.own self.old.busy (parts_of self.old.past.items self.old.future.items) }
+        requires kept { IsSome (get nat_eq self.old.own span.now.segment.name) }
+        requires room { time <ℤ span.now.span_until → vec_len self.old.past + 2 * vec_len self.old.future + 1 ≤ vec_capacity self.old.past }
+        ensures taken { (owners : Owners) → IsTakenTo (owner_of span.now) time self.old.past.items self.old.future.items owners
+            → IsTakenTo (owner_of span.now) result self.new.past.items self.new.future.items owners }
+        ensures on { time <ℤ result }
+        ensures sums { AreSums self.new.own self.new.busy (parts_of self.new.past.items self.new.future.items) }
+        ensures kept { IsSome (get nat_eq self.new.own span.now.segment.name) }
+        ensures room { result <ℤ span.now.span_until → vec_len self.new.past + 2 * vec_len self.new.future + 1 ≤ vec_capacity self.new.past }
+    {
         let Some(part) = self.future.pop() else {
             unreachable!();
         };
         let start = part.segment.start;
         if time < start {
-            self.fill(span, time, start);
+            self.busy += distance(time, start);
+            self.gain(span, time, start);
         }
         self.pass(span, part, start)
     }
 
-    fn pass(&mut self, span: &Part, part: Part, from: i64) -> i64 {
+    // The gap before the end of the span.
+    fn finish(&mut self, span: &Part, time: i64)
+        requires taken { ForSome (IsTakenTo (owner_of span.now) time self.old.past.items self.old.future.items) }
+        requires gap { starts_before span.now.span_until (reverse self.old.future.items) ≡ false }
+        requires sums { AreSums self.old.own self.old.busy (parts_of self.old.past.items self.old.future.items) }
+        requires kept { IsSome (get nat_eq self.old.own span.now.segment.name) }
+        requires room { time <ℤ span.now.span_until → vec_len self.old.past < vec_capacity self.old.past }
+        ensures parts { (owners : Owners) → IsTakenTo (owner_of span.now) time self.old.past.items self.old.future.items owners
+            → AreParts (taken (owner_of span.now) owners) (parts_of self.new.past.items self.new.future.items) }
+        ensures sums { AreSums self.new.own self.new.busy (parts_of self.new.past.items self.new.future.items) }
+    {
+        if time < span.span_until {
+            self.busy += distance(time, span.span_until);
+            self.gain(span, time, span.span_until);
+        }
+    }
+
+    // The part, of which the span may take what lies from `from` on. Returns the time before which all is taken.
+    fn pass(&mut self, span: &Part, part: Part, from: i64) -> i64
+        requires next { ForSome (IsNextPart (owner_of span.now) from part self.old.past.items self.old.future.items) }
+        requires sums { AreSums self.old.own self.old.busy (part ∷ parts_of self.old.past.items self.old.future.items) }
+        requires kept { IsSome (get nat_eq self.old.own span.now.segment.name) }
+        requires room { vec_len self.old.past + 1 + length (piece part part.segment.start from) ≤ vec_capacity self.old.past }
+        requires room_behind { vec_len self.old.future < vec_capacity self.old.future }
+        ensures taken { (owners : Owners) → IsNextPart (owner_of span.now) from part self.old.past.items self.old.future.items owners
+            → IsTakenTo (owner_of span.now) result self.new.past.items self.new.future.items owners }
+        ensures on { from <ℤ result }
+        ensures sums { AreSums self.new.own self.new.busy (parts_of self.new.past.items self.new.future.items) }
+        ensures kept { IsSome (get nat_eq self.new.own span.now.segment.name) }
+        ensures room { vec_len self.new.past ≤ vec_len self.old.past + 1 + length (piece part part.segment.start from) }
+        ensures capacity { vec_capacity self.new.past ≡ vec_capacity self.old.past }
+        ensures behind { result <ℤ span.now.span_until → vec_len self.new.future ≡ vec_len self.old.future }
+    {
         if span.outranks(&part) {
             return self.cede(span, &part, from);
         }
@@ -140,8 +235,23 @@ impl Timeline {
         until
     }
 
-    // The span takes the part from `from` on, as far as it covers it.
-    fn cede(&mut self, span: &Part, part: &Part, from: i64) -> i64 {
+    // The span outranks the part's span, and takes what it covers from `from` on.
+    fn cede(&mut self, span: &Part, part: &Part, from: i64) -> i64
+        requires next { ForSome (IsNextPart (owner_of span.now) from part.now self.old.past.items self.old.future.items) }
+        requires above { outranks (owner_of span.now) (owner_of part.now) ≡ true }
+        requires sums { AreSums self.old.own self.old.busy (part.now ∷ parts_of self.old.past.items self.old.future.items) }
+        requires kept { IsSome (get nat_eq self.old.own span.now.segment.name) }
+        requires room { vec_len self.old.past + 1 + length (piece part.now part.now.segment.start from) ≤ vec_capacity self.old.past }
+        requires room_behind { vec_len self.old.future < vec_capacity self.old.future }
+        ensures taken { (owners : Owners) → IsNextPart (owner_of span.now) from part.now self.old.past.items self.old.future.items owners
+            → IsTakenTo (owner_of span.now) result self.new.past.items self.new.future.items owners }
+        ensures on { from <ℤ result }
+        ensures sums { AreSums self.new.own self.new.busy (parts_of self.new.past.items self.new.future.items) }
+        ensures kept { IsSome (get nat_eq self.new.own span.now.segment.name) }
+        ensures room { vec_len self.new.past ≤ vec_len self.old.past + 1 + length (piece part.now part.now.segment.start from) }
+        ensures capacity { vec_capacity self.new.past ≡ vec_capacity self.old.past }
+        ensures behind { result <ℤ span.now.span_until → vec_len self.new.future ≡ vec_len self.old.future }
+    {
         push_between(&mut self.past, part, part.segment.start, from);
         let until = part.segment.until.min(span.span_until);
         lose(&mut self.own, part.segment.name, distance(from, until));
@@ -150,13 +260,22 @@ impl Timeline {
         until
     }
 
-    // The span takes time that no one owns.
-    fn fill(&mut self, span: &Part, from: i64, until: i64) {
-        self.busy += distance(from, until);
-        self.gain(span, from, until);
-    }
-
-    fn gain(&mut self, span: &Part, from: i64, until: i64) {
+    fn gain(&mut self, span: &Part, from: i64, until: i64)
+        requires forward { from <ℤ until }
+        requires from_in_time { least_start ≤ℤ from }
+        requires to_in_time { until ≤ℤ greatest_until }
+        requires room { vec_len self.old.past < vec_capacity self.old.past }
+        requires kept { IsSome (get nat_eq self.old.own span.now.segment.name) }
+        requires small { own_in self.old.own span.now.segment.name + distance from until < 2 ^ 64 }
+        ensures past { (owners : Owners) → IsOnly (owner_of span.now) owners → Belong owners from until (Some (owner_of span.now))
+            → ArePast owners from (reverse self.old.past.items) → IsGained (owner_of span.now) from until self.old.past.items self.new.past.items owners }
+        ensures own { (other : ℕ) → own_in self.new.own other ≡ own_in self.old.own other + (if span.now.segment.name == other then distance from until else 0) }
+        ensures kept { (other : ℕ) → IsSome (get nat_eq self.old.own other) → IsSome (get nat_eq self.new.own other) }
+        ensures room { vec_len self.new.past ≤ vec_len self.old.past + 1 }
+        ensures capacity { vec_capacity self.new.past ≡ vec_capacity self.old.past }
+        ensures future { self.new.future ≡ self.old.future }
+        ensures busy { self.new.busy ≡ self.old.busy }
+    {
         gain(&mut self.own, span.segment.name, distance(from, until));
         let start = open_last(&mut self.past, span, from);
         self.past.push_reserved(span.between(start, until));
@@ -164,7 +283,12 @@ impl Timeline {
 }
 
 // Takes out the last part where it is of the span and ends at `from`. Returns from when on the span's time reaches to `from`.
-fn open_last(past: &mut Vec<Part>, span: &Part, from: i64) -> i64 {
+fn open_last(past: &mut Vec<Part>, span: &Part, from: i64) -> i64
+    ensures past { (owners : Owners) → IsOnly (owner_of span.now) owners → ArePast owners from (reverse past.old.items)
+        → IsOpened (owner_of span.now) result from past.old.items past.new.items owners }
+    ensures len { vec_len past.new ≤ vec_len past.old }
+    ensures capacity { vec_capacity past.new ≡ vec_capacity past.old }
+{
     match past.last() {
         Some(last) if last.segment.at == span.segment.at && last.segment.until == from => {
             let start = last.segment.start;
@@ -187,21 +311,27 @@ fn push_between(parts: &mut Vec<Part>, part: &Part, start: i64, until: i64)
     }
 }
 
-fn lasts_beyond(parts: &Vec<Part>, time: i64) -> bool {
+fn lasts_beyond(parts: &Vec<Part>, time: i64) -> bool
+    ensures { result ≡ lasts_beyond time (reverse parts.now.items) }
+{
     match parts.last() {
         Some(part) => part.segment.until > time,
         None => false,
     }
 }
 
-fn ends_by(parts: &Vec<Part>, time: i64) -> bool {
+fn ends_by(parts: &Vec<Part>, time: i64) -> bool
+    ensures { result ≡ ends_by time (reverse parts.now.items) }
+{
     match parts.last() {
         Some(part) => part.segment.until <= time,
         None => false,
     }
 }
 
-fn starts_before(parts: &Vec<Part>, time: i64) -> bool {
+fn starts_before(parts: &Vec<Part>, time: i64) -> bool
+    ensures { result ≡ starts_before time (reverse parts.now.items) }
+{
     match parts.last() {
         Some(part) => part.segment.start < time,
         None => false,
