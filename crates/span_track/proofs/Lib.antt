@@ -3,7 +3,9 @@ pub mod Children
 pub mod Counts
 pub mod Numbers
 pub mod OpenSpans
+pub mod OwnTimes
 pub mod Owners
+pub mod PartLengths
 pub mod Places
 pub mod Positions
 pub mod Ranks
