@@ -4,6 +4,9 @@ pub mod Counts
 pub mod Cursor
 pub mod Numbers
 pub mod OpenSpans
+pub mod OwnTimes
+pub mod Owners
+pub mod PartLengths
 pub mod Places
 pub mod Positions
 pub mod Ranks
