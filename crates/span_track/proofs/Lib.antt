@@ -3,6 +3,7 @@ pub mod Children
 pub mod Counts
 pub mod Numbers
 pub mod OpenSpans
+pub mod Owners
 pub mod Places
 pub mod Positions
 pub mod Ranks
