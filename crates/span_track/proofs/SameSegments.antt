@@ -7,7 +7,7 @@ use Rattle.std.proofs.lemmas.List.Elements.{All-head, All-tail}
 use Rattle.span_track.specs.declared.segment.Segment.{Segment}
 use Rattle.span_track.specs.Spans.{Span, covers, is_outranked}
 use Rattle.span_track.specs.Segments.{lies_in, is_in_segment, is_on_top, AreInOrder, AreSegments}
-use Rattle.span_track.proofs.Segments.{AreFrom-until, is_in_segment-before, is_in_segment-head, is_in_segment-tail, is_in_segment-until}
+use Rattle.span_track.proofs.Segments.{IsNamed, AreFrom-until, is_in_segment-before, is_in_segment-head, is_in_segment-tail, is_in_segment-until}
 
 is_in_segment-start : (x : Segment) (xs : List Segment) → AreInOrder (x ∷ xs) → is_in_segment (x ∷ xs) x.at x.start ≡ true
 is_in_segment-start x xs order =
@@ -44,9 +44,6 @@ agree-tail x xs ys order_x order_y agree = λ at u.
     is_in_segment-before x.until xs order_x.2 (AreFrom-until x xs order_x.1) at u early
     ∙ sym (is_in_segment-before x.until ys order_y.2 (AreFrom-until x ys order_y.1) at u early))
     (λ late. sym (is_in_segment-tail x xs at u late) ∙ agree at u ∙ is_in_segment-tail x ys at u late)
-
-abbrev IsNamed : List (Span ℕ) → Segment → Type 0
-IsNamed spans g = All (λ s. s.at ≡ g.at → s.name ≡ g.name) spans
 
 -- where a span has the position of both
 names-same : (q : Span ℕ → Bool) (spans : List (Span ℕ)) (x y : Segment) → y.at ≡ x.at → list_any (λ s. nat_eq s.at x.at && q s) spans ≡ true → IsNamed spans x → IsNamed spans y → x.name ≡ y.name
