@@ -10,6 +10,8 @@ pub mod PartLengths
 pub mod Places
 pub mod Positions
 pub mod Ranks
+pub mod SameSegments
+pub mod Segments
 pub mod SelfSums
 pub mod SelfTimes
 pub mod Sound
