@@ -7,6 +7,7 @@ pub mod OpenSpans
 pub mod OwnTimes
 pub mod Owners
 pub mod PartLengths
+pub mod PartSums
 pub mod Places
 pub mod Positions
 pub mod Ranks

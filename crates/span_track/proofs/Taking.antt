@@ -1,6 +1,7 @@
 -- What a new span leaves of the time when it has taken its own.
 use Rattle.std.proofs.Common.{◌≡◌, ◌≢◌, ℕ, ◌++◌, ℤ, pos, ◌-ℤ◌, ◌≤ℤ◌, ◌<ℤ◌, int_le, int_lt, Bool, true, false, ◌&&◌, cond, List, [], ◌∷◌, reverse, Option, Some, None, refl, sym, ap, ◌∙◌, subst, arith}
-use Rattle.std.proofs.lemmas.Int.{ints, by_lt_z}
+use Rattle.std.specs.Int.{int_min}
+use Rattle.std.proofs.lemmas.Int.{ints, clamps, by_lt_z}
 use Rattle.std.proofs.lemmas.List.{append-nil, reverse-append}
 use Rattle.span_track.specs.declared.segment.Part.{Part}
 use Rattle.span_track.specs.Spans.{Span, covers, outranks}
@@ -89,25 +90,51 @@ AreFuture-piece owners p until future first then belongs end after = by_test (in
         let here : p.segment.until ≡ until = omega (arith, ints) in
         rw (append-nil future) (subst (λ t. AreFuture owners t (reverse future)) here after)
 
--- the span that outranks the part's owner takes it up to `until`, as `gained` says of the past
-pub IsTakenTo-ceded : (s : Span ℕ) (from until : ℤ) (p : Part) (past gained future : List Part) (owners : Owners) → IsNextPart s from p past future owners → outranks s (owner_of p) ≡ true → from <ℤ until → until ≤ℤ p.segment.until → until ≤ℤ s.until → (Belong (taken s owners) from until (Some s) → ArePast (taken s owners) from (reverse (past ++ piece p p.segment.start from)) → ArePast (taken s owners) until (reverse gained)) → IsTakenTo s until gained (future ++ piece p until p.segment.until) owners
-IsTakenTo-ceded s from until p past gained future owners next above forward within covered gains =
-    let belongs : Belong (taken s owners) from until (Some s) = λ u after before.
-      taken-within s owners u (Some (owner_of p)) true (omega (arith, ints, next.begins)) (omega (arith, ints)) (next.belongs u (omega (arith, ints, next.within)) (omega (arith, ints))) above in
+-- how far the span takes the part
+pub record IsTakenUpTo (s : Span ℕ) (from until : ℤ) (p : Part) : Type 0 where
+  pub forward : from <ℤ until
+  pub within : until ≤ℤ p.segment.until
+  pub covered : until ≤ℤ s.until
+  pub rest : until <ℤ s.until → until ≡ p.segment.until
+  pub from_in_time : least_start ≤ℤ from
+  pub in_time : until ≤ℤ greatest_until
+
+pub IsTakenUpTo-next : (s : Span ℕ) (from until : ℤ) (p : Part) (past future : List Part) (owners : Owners) → IsNextPart s from p past future owners → until ≡ int_min p.segment.until s.until → IsTakenUpTo s from until p
+IsTakenUpTo-next s from until p past future owners next is = record {
+  forward = omega (arith, ints, clamps, is, next.within, next.ends);
+  within = omega (arith, ints, clamps, is);
+  covered = omega (arith, ints, clamps, is);
+  rest = λ h. omega (arith, ints, clamps, is);
+  from_in_time = omega (arith, ints, next.in_time, next.begins);
+  in_time = omega (arith, ints, clamps, is, next.in_time);
+}
+
+-- what the span takes is its own
+pub Belong-ceded : (s : Span ℕ) (from until : ℤ) (p : Part) (past future : List Part) (owners : Owners) → IsNextPart s from p past future owners → outranks s (owner_of p) ≡ true → IsTakenUpTo s from until p → Belong (taken s owners) from until (Some s)
+Belong-ceded s from until p past future owners next above up = λ u after before.
+    taken-within s owners u (Some (owner_of p)) true (omega (arith, ints, next.begins)) (omega (arith, ints, up.covered)) (next.belongs u (omega (arith, ints, next.within)) (omega (arith, ints, up.within))) above
+
+-- what lies of the part before that stays
+pub ArePast-ceded : (s : Span ℕ) (from : ℤ) (p : Part) (past future : List Part) (owners : Owners) → IsNextPart s from p past future owners → ArePast (taken s owners) from (reverse (past ++ piece p p.segment.start from))
+ArePast-ceded s from p past future owners next =
     let head : Belong (taken s owners) p.segment.start from (Some (owner_of p)) = λ u after before.
       let start : from ≡ s.start = next.head (omega (arith, ints)) in
       taken-before s owners u (omega (arith, ints, start)) ∙ next.belongs u after (omega (arith, ints, next.within)) in
-    record {
-      new = next.new;
-      in_time = next.in_time;
-      from = omega (arith, ints, next.begins);
-      before = gains belongs (ArePast-piece (taken s owners) p from past next.within.0 next.within.1 head next.start next.before);
-      after = AreFuture-piece owners p until future (omega (arith, ints, next.within)) within next.belongs next.until next.after;
-      change = λ owner before here.
-        let own : Some owner ≡ Some s = sym before ∙ belongs (until -ℤ pos 1) (omega (arith, ints)) (omega (arith, ints)) in
-        let same : owner ≡ s = cc in
-        next.new until owner here (ap (λ (o : Span ℕ). o.at) same);
-    }
+    ArePast-piece (taken s owners) p from past next.within.0 next.within.1 head next.start next.before
+
+-- the span that outranks the part's owner takes it up to `until`; `gained` is the past with that
+pub IsTakenTo-ceded : (s : Span ℕ) (from until : ℤ) (p : Part) (past gained future : List Part) (owners : Owners) → IsNextPart s from p past future owners → outranks s (owner_of p) ≡ true → IsTakenUpTo s from until p → ArePast (taken s owners) until (reverse gained) → IsTakenTo s until gained (future ++ piece p until p.segment.until) owners
+IsTakenTo-ceded s from until p past gained future owners next above up before = record {
+  new = next.new;
+  in_time = next.in_time;
+  from = omega (arith, ints, next.begins, up.forward);
+  before = before;
+  after = AreFuture-piece owners p until future (omega (arith, ints, next.within, up.forward)) up.within next.belongs next.until next.after;
+  change = λ owner past here.
+      let own : Some owner ≡ Some s = sym past ∙ Belong-ceded s from until p _ future owners next above up (until -ℤ pos 1) (omega (arith, ints, up.forward)) (omega (arith, ints)) in
+      let same : owner ≡ s = cc in
+      next.new until owner here (ap (λ (o : Span ℕ). o.at) same);
+}
 
 -- a part whose owner the span doesn't outrank stays as it is
 pub IsTakenTo-kept : (s : Span ℕ) (from : ℤ) (p : Part) (past future : List Part) (owners : Owners) → IsNextPart s from p past future owners → outranks s (owner_of p) ≡ false → IsTakenTo s p.segment.until (past ++ p ∷ []) future owners

@@ -303,7 +303,7 @@ fn open_last(past: &mut Vec<Part>, span: &Part, from: i64) -> i64
 fn push_between(parts: &mut Vec<Part>, part: &Part, start: i64, until: i64)
     requires { vec_len parts.old < vec_capacity parts.old }
     ensures items { parts.new.items ≡ parts.old.items ++ piece part.now start until }
-    ensures len { vec_len parts.new ≤ vec_len parts.old + length (piece part.now start until) }
+    ensures len { vec_len parts.new ≡ vec_len parts.old + length (piece part.now start until) }
     ensures capacity { vec_capacity parts.new ≡ vec_capacity parts.old }
 {
     if start < until {
