@@ -58,7 +58,7 @@ sum_by-count_from p q xs each t (suc n) =
 int_le-above : (a b : ℤ) → b <ℤ a → int_le a b ≡ false
 int_le-above a b h = grind (arith, ints)
 
-int_lt-above : (a b : ℤ) → b ≤ℤ a → int_lt a b ≡ false
+pub int_lt-above : (a b : ℤ) → b ≤ℤ a → int_lt a b ≡ false
 int_lt-above a b h = grind (arith, ints)
 
 int_le-below : (a b : ℤ) → a ≤ℤ b → int_le a b ≡ true

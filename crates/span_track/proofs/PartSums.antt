@@ -39,6 +39,12 @@ AreSums-push own busy p past future sums = record {
   of_all = omega (arith, sums.of_all, whole_length-next p past future, sum_by-parts_of (λ (x : Part). part_length x) (past ++ p ∷ []) future, sum_by_push (λ (x : Part). part_length x) past p);
 }
 
+AreSums-last : (own : SelfTimes) (busy : ℕ) (p : Part) (past rest : List Part) → AreSums own busy (p ∷ parts_of past rest) → AreSums own busy (parts_of past (rest ++ p ∷ []))
+AreSums-last own busy p past rest sums = record {
+  of_names = λ name. omega (arith, sums.of_names name, named_length-next name p past rest, sum_by-parts_of (named name) past (rest ++ p ∷ []), sum_by_push (named name) rest p);
+  of_all = omega (arith, sums.of_all, whole_length-next p past rest, sum_by-parts_of (λ (x : Part). part_length x) past (rest ++ p ∷ []), sum_by_push (λ (x : Part). part_length x) rest p);
+}
+
 pub AreSums-pop : (own : SelfTimes) (busy : ℕ) (p : Part) (past rest future : List Part) → future ≡ rest ++ p ∷ [] → AreSums own busy (parts_of past future) → AreSums own busy (p ∷ parts_of past rest)
 AreSums-pop own busy p past rest future split sums = record {
   of_names = λ name. omega (arith, sums.of_names name, named_length-next name p past rest, sum_by-parts_of (named name) past future, ap (sum_by (named name)) split, sum_by_push (named name) rest p);
@@ -160,3 +166,8 @@ AreSmall-next s from p past future owners own busy next sums =
       of_names = λ name. omega (arith, sums.of_names name, named_length-le name (p ∷ parts_of past future), whole);
       of_all = omega (arith, sums.of_all, whole);
     }
+
+pub AreSmall-next_of : (s : Span ℕ) (t : ℤ) (p : Part) (past future : List Part) (owners : Owners) (own : SelfTimes) (busy : ℕ) → IsTakenTo s t past (future ++ p ∷ []) owners → AreSums own busy (p ∷ parts_of past future) → AreSmall own busy
+AreSmall-next_of s t p past future owners own busy at sums =
+    let pushed : AreSums own busy (parts_of past (future ++ p ∷ [])) = AreSums-last own busy p past future sums in
+    AreSmall-taken s t past (future ++ p ∷ []) owners own busy at pushed

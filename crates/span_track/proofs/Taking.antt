@@ -1,5 +1,5 @@
 -- What a new span leaves of the time when it has taken its own.
-use Rattle.std.proofs.Common.{◌≡◌, ◌≢◌, ℕ, ◌++◌, ℤ, pos, ◌-ℤ◌, ◌≤ℤ◌, ◌<ℤ◌, int_le, int_lt, Bool, true, false, ◌&&◌, cond, List, [], ◌∷◌, reverse, Option, Some, None, refl, sym, ap, ◌∙◌, subst, arith}
+use Rattle.std.proofs.Common.{◌≡◌, ◌≢◌, ℕ, ◌++◌, ℤ, pos, ◌-ℤ◌, ◌≤ℤ◌, ◌<ℤ◌, int_le, int_lt, Bool, true, false, ◌&&◌, cond, List, [], ◌∷◌, length, reverse, Option, Some, None, refl, sym, ap, ◌∙◌, subst, arith}
 use Rattle.std.specs.Int.{int_min}
 use Rattle.std.proofs.lemmas.Int.{ints, clamps, by_lt_z}
 use Rattle.std.proofs.lemmas.List.{append-nil, reverse-append}
@@ -8,7 +8,8 @@ use Rattle.span_track.specs.Spans.{Span, covers, outranks}
 use Rattle.span_track.specs.Closed.{least_start, greatest_until}
 use Rattle.span_track.specs.Division.{Owners, owner_of, claims, taken, Belong, ArePast, AreFuture, IsOnly, IsNew, IsChange, AreParts, parts_of, between, piece}
 use Rattle.span_track.specs.Cursor.{starts_before, ends_by, lasts_beyond, IsTakenTo, IsNextPart, IsAtStart}
-use Rattle.span_track.proofs.Counts.{covers-before, covers-after, covers-between}
+use Rattle.span_track.proofs.Counts.{covers-before, covers-after, covers-between, int_lt-above}
+use Rattle.span_track.proofs.PartLengths.{whole_length-le}
 use Rattle.span_track.proofs.Cursor.{StartsFrom, EndsBy-lasts_beyond, AreFuture-none, AreFuture-later, HasCursor-parts, IsCursor-within, IsCursor-before, AreParts-cursor}
 
 pub taken-before : (s : Span ℕ) (owners : Owners) (u : ℤ) → u <ℤ s.start → taken s owners u ≡ owners u
@@ -158,10 +159,31 @@ pub Belong-gap : (s : Span ℕ) (t until : ℤ) (past future : List Part) (owner
 Belong-gap s t until past future owners at starts within u after before =
     taken-within s owners u None true (omega (arith, ints, at.from)) (omega (arith, ints)) (AreFuture-none owners t until (reverse future) starts at.after u after before) refl
 
+AreFuture-last : (owners : Owners) (t : ℤ) (p : Part) (rest : List Part) → AreFuture owners t (reverse (rest ++ p ∷ [])) → AreFuture owners t (p ∷ reverse rest)
+AreFuture-last owners t p rest after = subst (λ l. AreFuture owners t l) (reverse-push rest p) after
+
+-- the gap before the part that comes next
+pub record IsGapBefore (s : Span ℕ) (t : ℤ) (p : Part) (owners : Owners) : Type 0 where
+  pub first : t ≤ℤ p.segment.start
+  pub from_in_time : least_start ≤ℤ t
+  pub in_time : p.segment.start ≤ℤ greatest_until
+  pub belongs : p.segment.start ≤ℤ s.until → Belong (taken s owners) t p.segment.start (Some s)
+
+pub IsGapBefore-taken : (s : Span ℕ) (t : ℤ) (p : Part) (past rest : List Part) (owners : Owners) → IsTakenTo s t past (rest ++ p ∷ []) owners → IsGapBefore s t p owners
+IsGapBefore-taken s t p past rest owners at =
+    let after = AreFuture-last owners t p rest at.after in
+    let fits = whole_length-le owners p.segment.until (reverse rest) after.5 in
+    record {
+      first = after.0;
+      from_in_time = omega (arith, ints, at.from, at.in_time);
+      in_time = omega (arith, ints, after.2, fits.0);
+      belongs = λ within u here before. taken-within s owners u None true (omega (arith, ints, at.from)) (omega (arith, ints)) (after.1 u here before) refl;
+    }
+
 -- the next part, after the gap before it is filled
-pub IsNextPart-filled : (s : Span ℕ) (t : ℤ) (p : Part) (past filled rest future : List Part) (owners : Owners) → IsTakenTo s t past future owners → future ≡ rest ++ p ∷ [] → t <ℤ p.segment.start → p.segment.start <ℤ s.until → ArePast (taken s owners) p.segment.start (reverse filled) → IsNextPart s p.segment.start p filled rest owners
-IsNextPart-filled s t p past filled rest future owners at split gap ends before =
-    let after : AreFuture owners t (p ∷ reverse rest) = subst (λ l. AreFuture owners t l) (ap reverse split ∙ reverse-push rest p) at.after in
+pub IsNextPart-filled : (s : Span ℕ) (t : ℤ) (p : Part) (past filled rest : List Part) (owners : Owners) → IsTakenTo s t past (rest ++ p ∷ []) owners → t <ℤ p.segment.start → p.segment.start <ℤ s.until → ArePast (taken s owners) p.segment.start (reverse filled) → IsNextPart s p.segment.start p filled rest owners
+IsNextPart-filled s t p past filled rest owners at gap ends before =
+    let after = AreFuture-last owners t p rest at.after in
     let own = after.3 p.segment.start (omega (arith, ints)) after.2 in
     record {
       new = at.new;
@@ -181,9 +203,9 @@ IsNextPart-filled s t p past filled rest future owners at split gap ends before 
     }
 
 -- the next part, where there is no gap before it
-pub IsNextPart-at : (s : Span ℕ) (t : ℤ) (p : Part) (past rest future : List Part) (owners : Owners) → IsTakenTo s t past future owners → future ≡ rest ++ p ∷ [] → p.segment.start ≤ℤ t → p.segment.start <ℤ s.until → IsNextPart s p.segment.start p past rest owners
-IsNextPart-at s t p past rest future owners at split gap ends =
-    let after : AreFuture owners t (p ∷ reverse rest) = subst (λ l. AreFuture owners t l) (ap reverse split ∙ reverse-push rest p) at.after in
+pub IsNextPart-at : (s : Span ℕ) (t : ℤ) (p : Part) (past rest : List Part) (owners : Owners) → IsTakenTo s t past (rest ++ p ∷ []) owners → p.segment.start ≤ℤ t → p.segment.start <ℤ s.until → IsNextPart s p.segment.start p past rest owners
+IsNextPart-at s t p past rest owners at gap ends =
+    let after = AreFuture-last owners t p rest at.after in
     let here : t ≡ p.segment.start = omega (arith, ints, after.0) in
     let own = after.3 p.segment.start (omega (arith, ints)) after.2 in
     record {
@@ -258,3 +280,10 @@ AreParts-filled s t past filled future owners at gap starts before =
         let same : owner ≡ s = cc in
         at.new s.until owner (sym (taken-after s owners s.until (omega (arith, ints))) ∙ here) (ap (λ (o : Span ℕ). o.at) same);
     })
+
+-- of the parts that are still to come, the last in the list is the first
+pub starts_before-last : (t : ℤ) (rest : List Part) (p : Part) (future : List Part) → future ≡ rest ++ p ∷ [] → starts_before t (reverse future) ≡ int_lt p.segment.start t
+starts_before-last t rest p future split = ap (starts_before t) (ap reverse split ∙ reverse-push rest p)
+
+pub piece-none : (p : Part) (a b : ℤ) → b ≤ℤ a → length (piece p a b) ≡ 0
+piece-none p a b h = ap (λ t. length (cond t (between p a b ∷ []) [])) (int_lt-above a b h)

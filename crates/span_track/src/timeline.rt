@@ -186,12 +186,30 @@ impl Timeline {
         let Some(part) = self.future.pop() else {
             unreachable!();
         };
+        self.fill_before(span, &part, time);
         let start = part.segment.start;
-        if time < start {
-            self.busy += distance(time, start);
-            self.gain(span, time, start);
-        }
         self.pass(span, part, start)
+    }
+
+    // The gap from `time` to the part, which is taken out.
+    fn fill_before(&mut self, span: &Part, part: &Part, time: i64)
+        requires taken { ForSome (IsTakenTo (owner_of span.now) time self.old.past.items (self.old.future.items ++ part.now ∷ [])) }
+        requires within { part.now.segment.start <ℤ span.now.span_until }
+        requires sums { AreSums self.old.own self.old.busy (part.now ∷ parts_of self.old.past.items self.old.future.items) }
+        requires kept { IsSome (get nat_eq self.old.own span.now.segment.name) }
+        requires room { vec_len self.old.past < vec_capacity self.old.past }
+        ensures next { (owners : Owners) → IsTakenTo (owner_of span.now) time self.old.past.items (self.old.future.items ++ part.now ∷ []) owners
+            → IsNextPart (owner_of span.now) part.now.segment.start part.now self.new.past.items self.new.future.items owners }
+        ensures sums { AreSums self.new.own self.new.busy (part.now ∷ parts_of self.new.past.items self.new.future.items) }
+        ensures kept { IsSome (get nat_eq self.new.own span.now.segment.name) }
+        ensures room { vec_len self.new.past ≤ vec_len self.old.past + 1 }
+        ensures capacity { vec_capacity self.new.past ≡ vec_capacity self.old.past }
+        ensures future { self.new.future ≡ self.old.future }
+    {
+        if time < part.segment.start {
+            self.busy += distance(time, part.segment.start);
+            self.gain(span, time, part.segment.start);
+        }
     }
 
     // The gap before the end of the span.

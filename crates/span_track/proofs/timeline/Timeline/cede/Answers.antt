@@ -6,15 +6,9 @@ use Rattle.span_track.specs.declared.segment.Part.{Part}
 use Rattle.span_track.specs.Spans.{distance}
 use Rattle.span_track.specs.Division.{Owners, owner_of, taken, own_in, between, piece}
 use Rattle.span_track.specs.Cursor.{IsNextPart, IsTakenTo, IsGained}
-use Rattle.span_track.proofs.Taking.{IsTakenTo-ceded, IsOnly-taken, IsTakenUpTo, IsTakenUpTo-next, ArePast-ceded, Belong-ceded}
+use Rattle.span_track.proofs.Taking.{IsTakenTo-ceded, IsOnly-taken, IsTakenUpTo, IsTakenUpTo-next, piece-none, ArePast-ceded, Belong-ceded}
 use Rattle.span_track.proofs.PartSums.{AreSums-ceded, AreSmall-next, part-le-own, distance-positive}
 use Rattle.span_track.proofs.timeline.Timeline.cede.Goals as goal
-
-piece-none : (p : Part) (a b : ℤ) → b ≤ℤ a → length (piece p a b) ≡ 0
-piece-none p a b h = ap (λ t. length (cond t (between p a b ∷ []) [])) (int_lt-not a b h)
-  where
-    int_lt-not : (a b : ℤ) → b ≤ℤ a → int_lt a b ≡ false
-    int_lt-not a b h = grind (arith, ints)
 
 pub distance-requires-clause-forward : goal.distance-requires-clause-forward
 distance-requires-clause-forward c =
