@@ -2,6 +2,7 @@ pub mod Apart
 pub mod Children
 pub mod Counts
 pub mod Cursor
+pub mod Ends
 pub mod Numbers
 pub mod OpenSpans
 pub mod OwnTimes

@@ -2,7 +2,7 @@
 use Rattle.std.proofs.Common.{◌≡◌, ◌≢◌, ℕ, ◌++◌, ℤ, pos, ◌-ℤ◌, ◌≤ℤ◌, ◌<ℤ◌, int_le, int_lt, Bool, true, false, ◌&&◌, cond, List, [], ◌∷◌, length, reverse, Option, Some, None, refl, sym, ap, ◌∙◌, subst, arith}
 use Rattle.std.specs.Int.{int_min}
 use Rattle.std.proofs.lemmas.Int.{ints, clamps, by_lt_z}
-use Rattle.std.proofs.lemmas.List.{append-nil, reverse-append}
+use Rattle.std.proofs.lemmas.List.{append-nil}
 use Rattle.span_track.specs.declared.segment.Part.{Part}
 use Rattle.span_track.specs.Spans.{Span, covers, outranks}
 use Rattle.span_track.specs.Closed.{least_start, greatest_until}
@@ -11,6 +11,7 @@ use Rattle.span_track.specs.Cursor.{starts_before, ends_by, lasts_beyond, IsTake
 use Rattle.span_track.proofs.Counts.{covers-before, covers-after, covers-between, int_lt-above}
 use Rattle.span_track.proofs.PartLengths.{whole_length-le}
 use Rattle.span_track.proofs.Cursor.{StartsFrom, EndsBy-lasts_beyond, AreFuture-none, AreFuture-later, HasCursor-parts, IsCursor-within, IsCursor-before, AreParts-cursor}
+use Rattle.span_track.proofs.Ends.{reverse-push}
 
 pub taken-before : (s : Span ℕ) (owners : Owners) (u : ℤ) → u <ℤ s.start → taken s owners u ≡ owners u
 taken-before s owners u h = ap (λ b. cond (b && claims s (owners u)) (Some s) (owners u)) (covers-before s u h)
@@ -63,9 +64,6 @@ AreFuture-same a b t (p ∷ ps) same future =
 pub ArePast-push : (owners : Owners) (p : Part) (ps : List Part) → p.segment.start <ℤ p.segment.until → Belong owners p.segment.start p.segment.until (Some (owner_of p)) → owners (p.segment.start -ℤ pos 1) ≢ Some (owner_of p) → ArePast owners p.segment.start ps → ArePast owners p.segment.until (p ∷ ps)
 ArePast-push owners p ps lasts belongs start past =
     (omega (arith, ints), (λ u from before. absurd (omega (arith, ints))), lasts, belongs, start, past)
-
-reverse-push : {A : Type 0} (xs : List A) (x : A) → reverse (xs ++ x ∷ []) ≡ x ∷ reverse xs
-reverse-push xs x = reverse-append xs (x ∷ [])
 
 -- what lies of a part before `from` stays past
 ArePast-piece : (owners : Owners) (p : Part) (from : ℤ) (past : List Part) → p.segment.start ≤ℤ from → from <ℤ p.segment.until → Belong owners p.segment.start from (Some (owner_of p)) → owners (p.segment.start -ℤ pos 1) ≢ Some (owner_of p) → ArePast owners p.segment.start (reverse past) → ArePast owners from (reverse (past ++ piece p p.segment.start from))

@@ -1,0 +1,40 @@
+-- How parts move between the past and the future of a cursor, and what lies at the two ends that meet there.
+use Rattle.std.proofs.Common.{◌≡◌, ◌<◌, ◌++◌, ℤ, pos, negsuc, ◌-ℤ◌, ◌≤ℤ◌, ◌<ℤ◌, int_le, true, false, true≢false, List, [], ◌∷◌, reverse, refl, sym, ap, ◌∙◌, arith}
+use Rattle.std.proofs.lemmas.Int.{ints, by_lt_z}
+use Rattle.std.proofs.lemmas.List.{reverse-append, append_assoc}
+use Rattle.span_track.specs.declared.segment.Part.{Part}
+use Rattle.span_track.specs.Spans.{natural, distance}
+use Rattle.span_track.specs.Division.{Owners, AreFuture, parts_of}
+use Rattle.span_track.specs.Cursor.{ends_by, lasts_beyond, starts_before}
+use Rattle.span_track.proofs.Counts.{add-distance}
+
+pub reverse-push : {A : Type 0} (xs : List A) (x : A) → reverse (xs ++ x ∷ []) ≡ x ∷ reverse xs
+reverse-push xs x = reverse-append xs (x ∷ [])
+
+-- the part at the cursor is the last before it or the first behind it
+pub parts_of-push : (past future : List Part) (p : Part) → parts_of past (future ++ p ∷ []) ≡ parts_of (past ++ p ∷ []) future
+parts_of-push past future p =
+    ap (λ l. past ++ l) (reverse-push future p) ∙ sym (append_assoc past (p ∷ []) (reverse future))
+
+-- a part that ends by t may join the past
+pub lasts_beyond-push : (t : ℤ) (past future : List Part) (p : Part) → ends_by t (reverse (future ++ p ∷ [])) ≡ true → lasts_beyond t (reverse (past ++ p ∷ [])) ≡ false
+lasts_beyond-push t past future p ends =
+    let here : int_le p.segment.until t ≡ true = sym (ap (ends_by t) (reverse-push future p)) ∙ ends in
+    rw (reverse-push past p) (grind (arith, ints))
+
+natural-none : (z : ℤ) → z ≤ℤ pos 0 → natural z ≡ 0
+natural-none (pos n) h = omega (arith, ints)
+natural-none (negsuc n) h = refl
+
+-- the later time is nearer to the end
+pub distance-later : (t later until : ℤ) → t <ℤ later → t <ℤ until → distance later until < distance t until
+distance-later t later until h before =
+    let whole = add-distance t until (omega (arith, ints)) in
+    by_lt_z later until
+    (λ k. let rest = add-distance later until (omega (arith, ints)) in omega (arith, ints, whole, rest))
+    (λ k. let none = natural-none (until -ℤ later) (omega (arith, ints)) in omega (arith, ints, whole, none))
+
+-- the time before a part is sooner than any by which the part has started
+pub starts_before-future : (owners : Owners) (t until : ℤ) (parts : List Part) → AreFuture owners t parts → starts_before until parts ≡ true → t <ℤ until
+starts_before-future owners t until [] after h = absurd (true≢false (sym h))
+starts_before-future owners t until (p ∷ parts) after h = omega (arith, ints, after.0, h)
