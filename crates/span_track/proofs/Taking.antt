@@ -285,3 +285,13 @@ starts_before-last t rest p future split = ap (starts_before t) (ap reverse spli
 
 pub piece-none : (p : Part) (a b : ℤ) → b ≤ℤ a → length (piece p a b) ≡ 0
 piece-none p a b h = ap (λ t. length (cond t (between p a b ∷ []) [])) (int_lt-above a b h)
+
+-- a span of no length takes nothing
+pub AreParts-empty : (s : Span ℕ) (parts : List Part) (owners : Owners) → s.start ≡ s.until → AreParts owners parts → AreParts (taken s owners) parts
+AreParts-empty s parts owners empty are = record {
+  nothing = λ u before. same u ∙ are.nothing u before;
+  each = AreFuture-same owners (taken s owners) least_start parts (λ u from. same u) are.each;
+}
+  where
+    same : (u : ℤ) → taken s owners u ≡ owners u
+    same u = by_lt_z u s.start (taken-before s owners u) (λ k. taken-after s owners u (omega (arith, ints, empty)))
