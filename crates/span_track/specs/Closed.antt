@@ -12,11 +12,6 @@ use Rattle.span_track.specs.Laws.{AreSpans}
 abbrev pub span_of : ClosedSpan → Span ℕ
 span_of s = record { name = s.name; start = s.start; until = s.until; at = s.at; args = s.args }
 
--- the spans, and for how many more there is room
-pub record ClosedList : Type 0 where
-  pub spans : List (Span ℕ)
-  pub room : ℕ
-
 -- the least time of an event, and the greatest time and the greatest length together
 abbrev pub least_start : ℤ
 least_start = negsuc 9007199254740990

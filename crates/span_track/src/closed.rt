@@ -1,78 +1,107 @@
-//! The closed spans of a thread, with the totals of their names.
-ghost use Rattle.std.specs.Prelude.{◌≡◌, ◌≢◌, ◌+◌, ◌<◌, ◌^◌, ◌==◌, ℕ, [], ◌∷◌, ◌++◌, ◌≤ℤ◌, if◌then◌else◌, length, map, All, OnOk};
+//! The closed spans of a thread, with the totals of their names and the division of time among them.
+ghost use Rattle.std.specs.Prelude.{◌≡◌, ◌≢◌, ◌+◌, ◌<◌, ◌^◌, ◌==◌, ℕ, [], ◌∷◌, ◌++◌, ◌≤ℤ◌, if◌then◌else◌, List, length, map, nat_eq, slice_get, option_copied, All, OnOk, OnErr};
 ghost use Rattle.indexmap.specs.IndexMap.{spare};
+ghost use Rattle.span_track.specs.declared.segment.Segment.{Segment};
+ghost use Rattle.span_track.specs.Spans.{self_of, busy_time};
 ghost use Rattle.span_track.specs.Closed.{total_in, total_for, span_of, IsInTime, AreClosed};
+ghost use Rattle.span_track.specs.Segments.{AreSegments, HasSegments};
 
+use crate::segment::{Part, Segment};
 use crate::span::{ClosedSpan, NameTotal};
+use crate::timeline::Timeline;
 use crate::walk::distance;
 use indexmap::IndexMap;
 use std::alloc::{AllocError, Global};
 use std::marker::Model;
 
-/// Closed spans in the order of the events that closed them. Contracts see beside them for how many more there is room.
+/// Closed spans in the order of the events that closed them.
 #[derive(Drop)]
 pub(crate) struct ClosedSpans {
     list: Vec<ClosedSpan>,
     totals: IndexMap<u32, NameTotal>,
+    timeline: Timeline,
 }
 
 impl Model for ClosedSpans {
-    ghost use Rattle.std.specs.Prelude.{map, min, ◌-◌, vec_len, vec_capacity};
-    ghost use Rattle.indexmap.specs.IndexMap.{spare};
-    ghost use Rattle.span_track.specs.Closed.{ClosedList, span_of, AreClosed, AreTotals};
+    ghost use Rattle.std.specs.Prelude.{List, map, ℕ};
+    ghost use Rattle.span_track.specs.Spans.{Span};
+    ghost use Rattle.span_track.specs.Closed.{span_of, AreClosed, AreTotals};
+    ghost use Rattle.span_track.specs.Division.{owners_of};
+    ghost use Rattle.span_track.specs.Cursor.{IsTimeline};
 
-    ghost Value = { ClosedList };
+    ghost Value = { List (Span ℕ) };
 
-    ghost view = { λ c. record { spans = map span_of c.list.items; room = min (vec_capacity c.list - vec_len c.list) (spare c.totals) } };
+    ghost view = { λ c. map span_of c.list.items };
 
-    ghost invariant = { λ c. AreClosed (map span_of c.list.items) × AreTotals c.totals (map span_of c.list.items) };
+    ghost invariant = { λ c. AreClosed (map span_of c.list.items) × AreTotals c.totals (map span_of c.list.items)
+        × IsTimeline (owners_of (map span_of c.list.items)) c.timeline };
 }
 
 impl ClosedSpans {
     pub(crate) fn new(alloc: Global) -> ClosedSpans
-        ensures { result.spans ≡ [] }
+        ensures { result ≡ [] }
     {
         ClosedSpans {
             list: Vec::new(alloc),
             totals: IndexMap::new(alloc),
+            timeline: Timeline::new(alloc),
         }
     }
 
     pub(crate) fn as_slice(&self) -> &[ClosedSpan]
-        ensures spans { map span_of result.now ≡ self.now.spans }
-        ensures closed { AreClosed self.now.spans }
+        ensures spans { map span_of result.now ≡ self.now }
+        ensures closed { AreClosed self.now }
     {
         &self.list
     }
 
-    /// Makes room for one more span.
-    pub(crate) fn reserve(&mut self) -> Result<(), AllocError>
-        ensures spans { self.new.spans ≡ self.old.spans }
-        ensures room { OnOk result (0 < self.new.room) }
+    /// Where memory is refused, nothing has changed.
+    pub(crate) fn add(&mut self, span: ClosedSpan) -> Result<(), AllocError>
+        requires few { length self.old + 1 < 2 ^ 32 }
+        requires lasts { span.start ≤ℤ span.until }
+        requires in_time { IsInTime (span_of span) }
+        requires apart { All (λ s. s.at ≢ span.at) self.old }
+        ensures ok { OnOk result (self.new ≡ self.old ++ span_of span ∷ []) }
+        ensures err { OnErr result (self.new ≡ self.old) }
     {
         self.list.reserve(1)?;
         self.totals.reserve(1)?;
-        Ok(())
-    }
-
-    /// Takes no memory.
-    pub(crate) fn add(&mut self, span: ClosedSpan)
-        requires room { 0 < self.old.room }
-        requires few { length self.old.spans + 1 < 2 ^ 32 }
-        requires lasts { span.start ≤ℤ span.until }
-        requires in_time { IsInTime (span_of span) }
-        requires apart { All (λ s. s.at ≢ span.at) self.old.spans }
-        ensures { self.new.spans ≡ self.old.spans ++ span_of span ∷ [] }
-    {
+        self.timeline.add(&Part::whole(&span))?;
         let length = distance(span.start, span.until);
         add_to_total(&mut self.totals, span.name, length);
         self.list.push_reserved(span);
+        Ok(())
     }
 
     pub(crate) fn total_of(&self, name: u32) -> NameTotal
-        ensures { result ≡ total_for self.now.spans name }
+        ensures { result ≡ total_for self.now name }
     {
         total_in(&self.totals, name)
+    }
+
+    pub(crate) fn self_of(&self, name: u32) -> u64
+        ensures { result ≡ self_of nat_eq name self.now }
+    {
+        self.timeline.self_of(name)
+    }
+
+    pub(crate) fn busy(&self) -> u64
+        ensures { result ≡ busy_time self.now }
+    {
+        self.timeline.busy()
+    }
+
+    pub(crate) fn segment_count(&self) -> u64
+        ensures count { (segments : List Segment) → AreSegments self.now segments → result ≡ length segments }
+        ensures segments { HasSegments self.now }
+    {
+        self.timeline.segment_count()
+    }
+
+    pub(crate) fn segment(&self, i: u64) -> Option<&Segment>
+        ensures { (segments : List Segment) → AreSegments self.now segments → option_copied result ≡ slice_get segments i }
+    {
+        self.timeline.segment(i)
     }
 }
 

@@ -3,6 +3,8 @@ ghost use Rattle.std.specs.Prelude.{◌≡◌};
 ghost use Rattle.span_track.specs.Spans.{outranks};
 ghost use Rattle.span_track.specs.Division.{owner_of};
 
+use crate::span::ClosedSpan;
+
 /// A stretch of time that belongs to one closed span: no span that covers it ranks above. It holds the microseconds from `start`
 /// to before `until`. `name` is the number of the span's name, and `at` the position in the journal of the event that opened it.
 #[derive(Clone, Copy, Debug, PartialEq, Eq)]
@@ -22,6 +24,21 @@ pub(crate) struct Part {
 }
 
 impl Part {
+    pub(crate) fn whole(span: &ClosedSpan) -> Part
+        ensures { result ≡ record { segment = record { start = span.now.start; until = span.now.until; name = span.now.name; at = span.now.at }; span_start = span.now.start; span_until = span.now.until } }
+    {
+        Part {
+            segment: Segment {
+                start: span.start,
+                until: span.until,
+                name: span.name,
+                at: span.at,
+            },
+            span_start: span.start,
+            span_until: span.until,
+        }
+    }
+
     /// Another part of the same span.
     pub(crate) fn between(&self, start: i64, until: i64) -> Part
         ensures { result ≡ record { segment = record { start = start; until = until; name = self.now.segment.name; at = self.now.segment.at }; span_start = self.now.span_start; span_until = self.now.span_until } }

@@ -4,13 +4,15 @@ ghost use Rattle.std.specs.Option.{option_map};
 ghost use Rattle.span_read.specs.Event.{IsTime, greatest_time};
 ghost use Rattle.span_track.specs.Fault.{Answers};
 ghost use Rattle.span_track.specs.Nesting.{ThreadEvent, began, ended, completed, closed_by, opener};
+ghost use Rattle.span_track.specs.declared.segment.Segment.{Segment};
+ghost use Rattle.span_track.specs.Segments.{AreSegments, HasSegments};
 ghost use Rattle.span_track.specs.Spans.{self_of, busy_time};
 ghost use Rattle.span_track.specs.Thread.{StandsFor, HasRoom, IsNext, goes_back, begin_refusal, end_refusal};
 ghost use Rattle.span_track.specs.Closed.{span_of, total_for, AreClosed};
 
 use crate::closed::ClosedSpans;
 use crate::fault::{NO_OPEN_SPAN, TIME_GOES_BACK, TrackFault};
-use crate::laws::{busy_plain, self_plain};
+use crate::segment::Segment;
 use crate::span::{ClosedSpan, NameTotal};
 use span_read::{Args, merge_args};
 use std::alloc::Global;
@@ -41,9 +43,9 @@ impl Model for ThreadTrack {
 
     ghost use Rattle.span_track.specs.Kept.{begin_of, IsSound};
 
-    ghost view = { λ t. record { opened = map begin_of t.opened.items; closed = t.closed.spans; last = t.last } };
+    ghost view = { λ t. record { opened = map begin_of t.opened.items; closed = t.closed; last = t.last } };
 
-    ghost invariant = { λ t. IsSound (record { opened = map begin_of t.opened.items; closed = t.closed.spans; last = t.last }) };
+    ghost invariant = { λ t. IsSound (record { opened = map begin_of t.opened.items; closed = t.closed; last = t.last }) };
 }
 
 impl ThreadTrack {
@@ -107,13 +109,12 @@ impl ThreadTrack {
         let alloc = *self.opened.allocator();
         let merged = merge_args(alloc, &begin.args, args).map_err(|_| TrackFault::Memory)?;
         let copy = merged.try_clone(alloc).map_err(|_| TrackFault::Memory)?;
-        self.closed.reserve().map_err(|_| TrackFault::Memory)?;
-        let Some(begin) = self.opened.pop() else {
-            unreachable!();
-        };
-        self.closed.add(closed_at(&begin, ts, merged));
+        let answer = closed_at(begin, ts, copy);
+        let span = closed_at(begin, ts, merged);
+        self.closed.add(span).map_err(|_| TrackFault::Memory)?;
+        self.opened.pop();
         self.last = Some(ts);
-        Ok(closed_at(&begin, ts, copy))
+        Ok(answer)
     }
 
     /// A whole span, of `dur` microseconds from `ts` on.
@@ -137,15 +138,15 @@ impl ThreadTrack {
         let args = args
             .try_clone(*self.opened.allocator())
             .map_err(|_| TrackFault::Memory)?;
-        self.closed.reserve().map_err(|_| TrackFault::Memory)?;
-        self.closed.add(ClosedSpan {
-            name,
-            start: ts,
-            until: ts + dur as i64,
-            at,
-            args,
-        });
-        Ok(())
+        self.closed
+            .add(ClosedSpan {
+                name,
+                start: ts,
+                until: ts + dur as i64,
+                at,
+                args,
+            })
+            .map_err(|_| TrackFault::Memory)
     }
 
     /// The arguments of the begin that the next end matches. Takes no memory.
@@ -206,14 +207,30 @@ impl ThreadTrack {
     pub fn self_of(&self, name: u32) -> u64
         ensures { result ≡ self_of nat_eq name self.now.closed }
     {
-        self_plain(self, name)
+        self.closed.self_of(name)
     }
 
     /// The microseconds that at least one closed span covers.
     pub fn busy(&self) -> u64
         ensures { result ≡ busy_time self.now.closed }
     {
-        busy_plain(self)
+        self.closed.busy()
+    }
+
+    /// How many segments of time there are: stretches, each as long as can be, in which one closed span ranks above all others
+    /// that cover it. Takes no memory.
+    pub fn segment_count(&self) -> u64
+        ensures count { (segments : List Segment) → AreSegments self.now.closed segments → result ≡ length segments }
+        ensures segments { HasSegments self.now.closed }
+    {
+        self.closed.segment_count()
+    }
+
+    /// A segment of time, in ascending order, counted from 0. Takes no memory.
+    pub fn segment(&self, i: u64) -> Option<&Segment>
+        ensures { (segments : List Segment) → AreSegments self.now.closed segments → option_copied result ≡ slice_get segments i }
+    {
+        self.closed.segment(i)
     }
 
     pub(crate) fn spans(&self) -> &[ClosedSpan]

@@ -10,7 +10,7 @@ use Rattle.span_track.proofs.thread.ThreadTrack.begin_span.Goals as goal
 
 pub invariant_of-self-2 : goal.invariant_of-self-2
 invariant_of-self-2 c =
-    let old : ThreadSpans ℕ = record { opened = map begin_of c.self.inside.opened.items; closed = c.self.inside.closed.spans; last = c.self.inside.last } in
+    let old : ThreadSpans ℕ = record { opened = map begin_of c.self.inside.opened.items; closed = c.self.inside.closed; last = c.self.inside.last } in
     let new : OpenSpan = record { name = c.args.name; ts = to_z w64 (of_z w64 c.args.ts); at = c.args.at; args = c.in_ok-args.args } in
     let ts : to_z w64 (of_z w64 c.args.ts) ≡ c.args.ts = to_z-of_z c.ranges.ts in
     let items : c.push_reserved.new.self.items ≡ c.self.inside.opened.items ++ new ∷ [] = cc in
@@ -30,5 +30,5 @@ returns-clause-stands c = λ es stands.
     let items : c.push_reserved.new.self.items ≡ c.self.inside.opened.items ++ new ∷ [] = cc in
     let opened : map begin_of c.push_reserved.new.self.items ≡ map begin_of c.self.inside.opened.items ++ begin_of new ∷ [] = ap (map begin_of) items ∙ map_push begin_of c.self.inside.opened.items new in
     let begin : Begin ℕ = record { name = c.args.name; ts = c.args.ts; at = c.args.at; args = c.args.args.now } in
-    let before : record { opened = map begin_of c.self.inside.opened.items; closed = c.self.inside.closed.spans; last = c.self.inside.last } ≡ thread_spans es = c.self.view_is ∙ stands in
+    let before : record { opened = map begin_of c.self.inside.opened.items; closed = c.self.inside.closed; last = c.self.inside.last } ≡ thread_spans es = c.self.view_is ∙ stands in
     rw (opened, ts, args) (ap (λ t. with_begin t begin) before ∙ sym (thread_spans-began es begin))

@@ -94,6 +94,6 @@ returns-clause-stands c = λ es stands.
     let begin = begin_of c.in-Some-pop.begin in
     let span : Span ℕ = record { name = begin.name; start = begin.ts; until = c.args.ts; at = begin.at; args = merged begin.args c.args.args.now } in
     let span_is : span_of c.closed_at.result ≡ span = rw (c.closed_at.ensures, ts, args) refl in
-    let closed : c.add.new.self.spans ≡ c.self.inside.closed.spans ++ span ∷ [] = c.add.ensures ∙ ap₂ (λ (l : List (Span ℕ)) (s : Span ℕ). l ++ s ∷ []) c.reserve.ensures.spans span_is in
+    let closed : c.add.new.self.spans ≡ c.self.inside.closed ++ span ∷ [] = c.add.ensures ∙ ap₂ (λ (l : List (Span ℕ)) (s : Span ℕ). l ++ s ∷ []) c.reserve.ensures.spans span_is in
     let split = ap (map begin_of) c.in-Some-pop.ensures.items ∙ map_push begin_of c.pop.new.self.items c.in-Some-pop.begin in
-    rw (closed, ts) (thread_spans-closing es _ _ c.self.inside.closed.spans c.self.inside.last begin c.args.ts c.args.args.now split (c.self.view_is ∙ stands))
+    rw (closed, ts) (thread_spans-closing es _ _ c.self.inside.closed c.self.inside.last begin c.args.ts c.args.args.now split (c.self.view_is ∙ stands))

@@ -1,0 +1,19 @@
+use Rattle.std.proofs.Common.{◌≡◌, map, length, sym, ap, ◌∙◌, subst, List}
+use Rattle.std.proofs.lemmas.List.{length-map}
+use Rattle.span_track.specs.declared.segment.Part.{Part}
+use Rattle.span_track.specs.declared.segment.Segment.{Segment}
+use Rattle.span_track.specs.Spans.{Span}
+use Rattle.span_track.specs.Segments.{AreSegments, HasSegments}
+use Rattle.span_track.proofs.Segments.{AreSegments-parts}
+use Rattle.span_track.proofs.SameSegments.{AreSegments-same}
+use Rattle.span_track.proofs.closed.ClosedSpans.segment_count.Goals as goal
+
+pub returns-clause-count : goal.returns-clause-count
+returns-clause-count c = λ segments are.
+    let own = AreSegments-parts _ _ c.self.invariant.0 c.self.invariant.2.parts in
+    let same = AreSegments-same _ _ segments own (subst (λ (spans : List (Span _)). AreSegments spans segments) (sym c.self.view_is) are) in
+    c.segment_count.ensures ∙ sym (length-map (λ (p : Part). p.segment) _) ∙ ap length same
+
+pub returns-clause-segments : goal.returns-clause-segments
+returns-clause-segments c =
+    subst (λ (spans : List (Span _)). HasSegments spans) c.self.view_is (record { segments = map (λ (p : Part). p.segment) _; are = AreSegments-parts _ _ c.self.invariant.0 c.self.invariant.2.parts })
