@@ -3,6 +3,7 @@ pub mod Children
 pub mod Counts
 pub mod Cursor
 pub mod Ends
+pub mod Gaining
 pub mod Numbers
 pub mod OpenSpans
 pub mod OwnTimes
