@@ -40,6 +40,10 @@ total-le (s ∷ spans) name are in_time =
     by_test true here rest = omega (arith, sum_by-cons (λ s. length_of s) s (named nat_eq name spans))
     by_test false here rest = omega arith
 
+-- room for one more name leaves the totals
+pub AreTotals-same : (old new : Totals) (spans : List (Span ℕ)) → new.entries ≡ old.entries → AreTotals old spans → AreTotals new spans
+AreTotals-same old new spans same are = λ name. rw same (are name)
+
 pub AreTotals-append : (before after : Totals) (spans : List (Span ℕ)) (s : Span ℕ) (more : ℕ) → AreTotals before spans → more ≡ length_of s → ((other : ℕ) → total_in after other ≡ cond (s.name == other) (record { count = (total_in before s.name).count + 1; total = (total_in before s.name).total + more }) (total_in before other)) → AreTotals after (spans ++ s ∷ [])
 AreTotals-append before after spans s more held length added = λ other.
     added other ∙ by_test other (s.name == other) refl ∙ sym (total_for-append spans s other)

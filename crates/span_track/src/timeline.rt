@@ -72,12 +72,12 @@ impl Timeline {
     /// The span takes the microseconds that it covers from no one and from the spans that it outranks. Where memory is refused,
     /// nothing has changed.
     pub(crate) fn add(&mut self, span: &Part) -> Result<(), AllocError>
-        requires is { ForSome (λ owners. IsTimeline owners self.old) }
-        requires new { (owners : Owners) → IsTimeline owners self.old → IsNew (owner_of span.now) owners }
+        requires is { ForSome (λ owners. IsTimeline owners self.old × IsNew (owner_of span.now) owners) }
         requires lasts { span.now.span_start ≤ℤ span.now.span_until }
         requires from_in_time { least_start ≤ℤ span.now.span_start }
         requires to_in_time { span.now.span_until ≤ℤ greatest_until }
-        ensures ok { OnOk result ((owners : Owners) → IsTimeline owners self.old → IsTimeline (taken (owner_of span.now) owners) self.new) }
+        ensures ok { OnOk result ((owners : Owners) → IsTimeline owners self.old → IsNew (owner_of span.now) owners
+            → IsTimeline (taken (owner_of span.now) owners) self.new) }
         ensures err { OnErr result ((owners : Owners) → IsTimeline owners self.old → IsTimeline owners self.new) }
     {
         if span.span_start == span.span_until {

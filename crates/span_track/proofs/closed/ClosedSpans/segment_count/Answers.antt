@@ -12,7 +12,7 @@ pub returns-clause-count : goal.returns-clause-count
 returns-clause-count c = λ segments are.
     let own = AreSegments-parts _ _ c.self.invariant.0 c.self.invariant.2.parts in
     let same = AreSegments-same _ _ segments own (subst (λ (spans : List (Span _)). AreSegments spans segments) (sym c.self.view_is) are) in
-    c.segment_count.ensures ∙ sym (length-map (λ (p : Part). p.segment) _) ∙ ap length same
+    c.segment_count.ensures ∙ sym (length-map _ (λ (p : Part). p.segment)) ∙ ap length same
 
 pub returns-clause-segments : goal.returns-clause-segments
 returns-clause-segments c =

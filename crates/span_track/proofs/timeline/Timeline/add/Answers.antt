@@ -22,12 +22,12 @@ at_start s past future before after owners are new first last lasts same ends be
 }
 
 pub returns-then-span-clause-ok : goal.returns-then-span-clause-ok
-returns-then-span-clause-ok c = λ owners is.
+returns-then-span-clause-ok c = λ owners is new.
     record { parts = AreParts-empty (owner_of c.args.span.now) _ owners (omega (arith, ints, c.if-span.true)) is.parts; sums = is.sums }
 
 pub overflow_add-len : goal.overflow_add-len
 overflow_add-len c =
-    let is = c.requires.is.holds in
+    let is = c.requires.is.holds.0 in
     let few = length-le-parts _ _ is.parts in
     let same = ap length (c.in_ok-advance.ensures.parts ∙ c.in_ok-rewind.ensures.parts) in
     omega (arith, few, same, length-append c.advance.new.self.past.items (reverse c.advance.new.self.future.items), length-reverse c.advance.new.self.future.items, c.len.ensures)
@@ -41,7 +41,7 @@ enter-entered-requires-clause-start c =
     let first : least_start ≤ℤ c.args.span.now.span_start = c.requires.from_in_time in
     let last : c.args.span.now.span_until ≤ℤ greatest_until = c.requires.to_in_time in
     let lasts : c.args.span.now.span_start ≤ℤ c.args.span.now.span_until = c.requires.lasts in
-    let at = at_start (owner_of c.args.span.now) c.advance.new.self.past.items c.advance.new.self.future.items c.args.self.now.past.items c.args.self.now.future.items c.requires.is.owners c.requires.is.holds.parts (c.requires.new c.requires.is.owners c.requires.is.holds) first last (omega (arith, ints, c.if-span.false, lasts)) parts ends beyond in
+    let at = at_start (owner_of c.args.span.now) c.advance.new.self.past.items c.advance.new.self.future.items c.args.self.now.past.items c.args.self.now.future.items c.requires.is.owners c.requires.is.holds.0.parts c.requires.is.holds.1 first last (omega (arith, ints, c.if-span.false, lasts)) parts ends beyond in
     rw c.in_ok-reserve-2.ensures.items (record { owners = c.requires.is.owners; holds = at })
 
 pub go_through-time-requires-clause-taken : goal.go_through-time-requires-clause-taken
@@ -53,7 +53,7 @@ go_through-time-requires-clause-taken c =
     let first : least_start ≤ℤ c.args.span.now.span_start = c.requires.from_in_time in
     let last : c.args.span.now.span_until ≤ℤ greatest_until = c.requires.to_in_time in
     let lasts : c.args.span.now.span_start ≤ℤ c.args.span.now.span_until = c.requires.lasts in
-    let at = at_start (owner_of c.args.span.now) c.advance.new.self.past.items c.advance.new.self.future.items c.args.self.now.past.items c.args.self.now.future.items c.requires.is.owners c.requires.is.holds.parts (c.requires.new c.requires.is.owners c.requires.is.holds) first last (omega (arith, ints, c.if-span.false, lasts)) parts ends beyond in
+    let at = at_start (owner_of c.args.span.now) c.advance.new.self.past.items c.advance.new.self.future.items c.args.self.now.past.items c.args.self.now.future.items c.requires.is.owners c.requires.is.holds.0.parts c.requires.is.holds.1 first last (omega (arith, ints, c.if-span.false, lasts)) parts ends beyond in
     let entered : to_z w64 (of_z w64 c.enter-entered.result) ≡ c.enter-entered.result = search rules in
     rw entered (record { owners = c.requires.is.owners; holds = c.enter-entered.ensures.taken c.requires.is.owners (rw c.in_ok-reserve-2.ensures.items at) })
 
@@ -66,14 +66,14 @@ finish-requires-clause-taken c =
     let first : least_start ≤ℤ c.args.span.now.span_start = c.requires.from_in_time in
     let last : c.args.span.now.span_until ≤ℤ greatest_until = c.requires.to_in_time in
     let lasts : c.args.span.now.span_start ≤ℤ c.args.span.now.span_until = c.requires.lasts in
-    let at = at_start (owner_of c.args.span.now) c.advance.new.self.past.items c.advance.new.self.future.items c.args.self.now.past.items c.args.self.now.future.items c.requires.is.owners c.requires.is.holds.parts (c.requires.new c.requires.is.owners c.requires.is.holds) first last (omega (arith, ints, c.if-span.false, lasts)) parts ends beyond in
+    let at = at_start (owner_of c.args.span.now) c.advance.new.self.past.items c.advance.new.self.future.items c.args.self.now.past.items c.args.self.now.future.items c.requires.is.owners c.requires.is.holds.0.parts c.requires.is.holds.1 first last (omega (arith, ints, c.if-span.false, lasts)) parts ends beyond in
     let entered : to_z w64 (of_z w64 c.enter-entered.result) ≡ c.enter-entered.result = search rules in
     let time : to_z w64 (of_z w64 c.go_through-time.result) ≡ c.go_through-time.result = search rules in
     let entering = c.enter-entered.ensures.taken c.requires.is.owners (rw c.in_ok-reserve-2.ensures.items at) in
     rw time (record { owners = c.requires.is.owners; holds = c.go_through-time.ensures.taken c.requires.is.owners (rw entered entering) })
 
 pub returns-clause-ok : goal.returns-clause-ok
-returns-clause-ok c = λ owners is.
+returns-clause-ok c = λ owners is new.
     let start : to_z w64 (of_z w64 c.args.span.now.span_start) ≡ c.args.span.now.span_start = search rules in
     let ends = rw start at (c.in_ok-advance.ensures.past c.in_ok-rewind.ensures.past) in
     let beyond = rw start at c.in_ok-advance.ensures.future in
@@ -81,7 +81,7 @@ returns-clause-ok c = λ owners is.
     let first : least_start ≤ℤ c.args.span.now.span_start = c.requires.from_in_time in
     let last : c.args.span.now.span_until ≤ℤ greatest_until = c.requires.to_in_time in
     let lasts : c.args.span.now.span_start ≤ℤ c.args.span.now.span_until = c.requires.lasts in
-    let at = at_start (owner_of c.args.span.now) c.advance.new.self.past.items c.advance.new.self.future.items c.args.self.now.past.items c.args.self.now.future.items owners is.parts (c.requires.new owners is) first last (omega (arith, ints, c.if-span.false, lasts)) parts ends beyond in
+    let at = at_start (owner_of c.args.span.now) c.advance.new.self.past.items c.advance.new.self.future.items c.args.self.now.past.items c.args.self.now.future.items owners is.parts new first last (omega (arith, ints, c.if-span.false, lasts)) parts ends beyond in
     let entered : to_z w64 (of_z w64 c.enter-entered.result) ≡ c.enter-entered.result = search rules in
     let time : to_z w64 (of_z w64 c.go_through-time.result) ≡ c.go_through-time.result = search rules in
     let entering = c.enter-entered.ensures.taken owners (rw c.in_ok-reserve-2.ensures.items at) in
