@@ -1,6 +1,5 @@
-use Rattle.std.proofs.Common.{◌≡◌, ◌<◌, ◌<ℤ◌, true, reverse, rules, sym, ap, ◌∙◌, subst, arith, w64, to_z, of_z}
+use Rattle.std.proofs.Common.{◌≡◌, ◌<ℤ◌, true, reverse, rules, sym, ap, ◌∙◌, subst, arith, w64, to_z, of_z}
 use Rattle.std.proofs.lemmas.Int.{ints, to_z-of_z}
-use Rattle.span_track.specs.Spans.{distance}
 use Rattle.span_track.specs.Division.{owner_of}
 use Rattle.span_track.specs.Cursor.{IsTakenTo, starts_before}
 use Rattle.span_track.proofs.Ends.{distance-later, starts_before-future}

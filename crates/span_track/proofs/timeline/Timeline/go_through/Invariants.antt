@@ -1,4 +1,4 @@
-use Rattle.std.proofs.Common.{◌≡◌, ◌≤◌, ◌+◌, ◌*◌, ◌<ℤ◌, nat_eq, vec_len, vec_capacity, IsSome}
+use Rattle.std.proofs.Common.{◌≤◌, ◌+◌, ◌*◌, ◌<ℤ◌, nat_eq, vec_len, vec_capacity, IsSome}
 use Rattle.indexmap.specs.IndexMap.{get}
 use Rattle.span_track.specs.Spans.{distance}
 use Rattle.span_track.specs.Division.{Owners, owner_of, AreSums, parts_of}
