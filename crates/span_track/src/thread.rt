@@ -146,7 +146,8 @@ impl ThreadTrack {
                 at,
                 args,
             })
-            .map_err(|_| TrackFault::Memory)
+            .map_err(|_| TrackFault::Memory)?;
+        Ok(())
     }
 
     /// The arguments of the begin that the next end matches. Takes no memory.

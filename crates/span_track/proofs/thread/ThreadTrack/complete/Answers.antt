@@ -11,7 +11,7 @@ pub invariant_of-self-2 : goal.invariant_of-self-2
 invariant_of-self-2 c =
     let old : ThreadSpans ℕ = record { opened = map begin_of c.self.inside.opened.items; closed = c.self.inside.closed; last = c.self.inside.last } in
     let span : Span ℕ = record { name = c.args.name; start = to_z w64 (of_z w64 c.args.ts); until = to_z w64 (of_z w64 (to_z w64 (of_z w64 c.args.ts) +ℤ to_z w64 c.args.dur)); at = c.args.at; args = c.in_ok-args.args } in
-    let closed : c.add.new.self.spans ≡ c.self.inside.closed ++ span ∷ [] = c.add.ensures ∙ ap (λ l. l ++ span ∷ []) c.reserve.ensures.spans in
+    let closed : c.add.new.self ≡ c.self.inside.closed ++ span ∷ [] = search rules in
     let room : HasRoom old = subst (λ (t : ThreadSpans ℕ). HasRoom t) (sym c.self.view_is) c.requires.room in
     let next : IsNext c.args.at old = subst (λ (t : ThreadSpans ℕ). IsNext c.args.at t) (sym c.self.view_is) c.requires.next in
     rw closed (IsSound-with_whole old span c.self.invariant room next)
@@ -23,6 +23,8 @@ returns-clause-stands c = λ es stands.
     let start : to_z w64 (of_z w64 c.args.ts) ≡ c.args.ts = to_z-of_z c.ranges.ts in
     let until : to_z w64 (of_z w64 (to_z w64 (of_z w64 c.args.ts) +ℤ to_z w64 c.args.dur)) ≡ (c.args.ts +ℤ pos c.args.dur) = omega (arith, ints) in
     let args : c.in_ok-args.args ≡ c.args.args.now = search rules in
-    let closed : c.add.new.self.spans ≡ c.self.inside.closed ++ span ∷ [] = c.add.ensures ∙ rw (c.reserve.ensures.spans, until, start, args) refl in
+    let whole : Span ℕ = record { name = c.args.name; start = to_z w64 (of_z w64 c.args.ts); until = to_z w64 (of_z w64 (to_z w64 (of_z w64 c.args.ts) +ℤ to_z w64 c.args.dur)); at = c.args.at; args = c.in_ok-args.args } in
+    let added : c.add.new.self ≡ c.self.inside.closed ++ whole ∷ [] = search rules in
+    let closed : c.add.new.self ≡ c.self.inside.closed ++ span ∷ [] = added ∙ rw (until, start, args) refl in
     let before : old ≡ thread_spans es = c.self.view_is ∙ stands in
     rw closed (ap (λ t. with_whole t span) before ∙ sym (thread_spans-completed es span))
