@@ -10,6 +10,10 @@ IsBefore-later at (began b) before = omega (arith, before)
 IsBefore-later at (ended ts args) before = tt
 IsBefore-later at (completed s) before = omega (arith, before)
 
+AreBefore-later : (at : ℕ) (es : List (ThreadEvent ℕ)) → AreBefore at es → AreBefore (at + 1) es
+AreBefore-later at [] before = tt
+AreBefore-later at (e ∷ es) before = (IsBefore-later at e before.0, AreBefore-later at es before.1)
+
 AreBefore-push : (at : ℕ) (es : List (ThreadEvent ℕ)) (e : ThreadEvent ℕ) → AreBefore at es → IsBefore (at + 1) e → AreBefore (at + 1) (es ++ e ∷ [])
 AreBefore-push at [] e before latest = (latest, tt)
 AreBefore-push at (d ∷ es) e before latest = (IsBefore-later at d before.0, AreBefore-push at es e before.1 latest)
@@ -20,16 +24,9 @@ IsNext-IsReady at track is = subst (IsNext at) (sym is.stands) (IsNext-thread_sp
 pub HasRoom-IsReady : (at : ℕ) (track : ThreadSpans ℕ) → IsReady at track → at < 2 ^ 32 - 1 → HasRoom track
 HasRoom-IsReady at track is room = subst HasRoom (sym is.stands) (HasRoom-thread_spans at is.events is.before (omega (arith, is.few, room)))
 
-pub IsReady-new : (track : ThreadSpans ℕ) → StandsFor track [] → IsReady 0 track
-IsReady-new track stands = record { events = []; stands = stands; before = tt; few = omega arith }
-
 -- a track that took nothing can as well take an event later
 pub IsReady-later : (at : ℕ) (track : ThreadSpans ℕ) → IsReady at track → IsReady (at + 1) track
-IsReady-later at track is = record { events = is.events; stands = is.stands; before = all is.events is.before; few = omega (arith, is.few) }
-  where
-    all : (es : List (ThreadEvent ℕ)) → AreBefore at es → AreBefore (at + 1) es
-    all [] before = tt
-    all (e ∷ es) before = (IsBefore-later at e before.0, all es before.1)
+IsReady-later at track is = record { events = is.events; stands = is.stands; before = AreBefore-later at is.events is.before; few = omega (arith, is.few) }
 
 -- `took` is what each call of a track promises
 pub IsReady-next : (at : ℕ) (old new : ThreadSpans ℕ) (e : ThreadEvent ℕ) → IsBefore (at + 1) e → IsReady at old → ((es : List (ThreadEvent ℕ)) → StandsFor old es → StandsFor new (es ++ e ∷ [])) → IsReady (at + 1) new
