@@ -27,10 +27,12 @@ test: tracebook
 	cd crates/reading_time && rt run < stdin
 	tests/refused_reading
 
-# Times the reading of traces beside that of other readers.
-bench:
+# Times the reading of traces beside that of other readers, the division of a thread's time, and a report beside its reading.
+bench: tracebook
 	cd crates/reading_time && rt run < stdin
+	cd crates/track_time && rt run < stdin
 	bench/reading
+	bench/tracking
 
 install: tracebook
 	install -d $(DESTDIR)$(PREFIX)/bin

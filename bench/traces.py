@@ -1,0 +1,59 @@
+"""What the benchmarks share: traces made of events such as tracers write, and the cost of a process that reads one."""
+import os
+import subprocess
+import time
+
+CRATES = os.path.join(os.path.dirname(os.path.abspath(__file__)), "..", "crates")
+READING_TIME = os.path.join(CRATES, "reading_time", "out", "reading_time")
+END = '],"beginningOfTime":1}'
+TURNS = 3
+
+
+def chrome_event(place):
+    """A complete event as Chrome writes it, one of some hundred names on sixteen threads in each of three processes."""
+    return chrome_event_on(7000 + place % 3, place % 16, place)
+
+
+def chrome_event_on_one_thread(place):
+    return chrome_event_on(7000, 1, place)
+
+
+def chrome_event_on(pid, tid, place):
+    return (
+        '{"pid":%d,"tid":%d,"ts":%d,"ph":"X","cat":"toplevel,ipc","name":"Task %d",'
+        '"args":{"src_file":"base/task.cc","src_func":"Run","count":%d},"dur":%d,"tdur":%d,"tts":%d}'
+        % (pid, tid, 1000 + 13 * place, place % 97, place, place % 4000, place % 900, 11 * place)
+    )
+
+
+def clang_event(place):
+    """A complete event as clang's -ftime-trace writes it, on one thread."""
+    return '{"pid":4242,"tid":4242,"ph":"X","ts":%d,"dur":%d,"name":"Source","args":{"detail":"/usr/include/c++/12/bits/header_%d.h"}}' % (
+        5000 + 17 * place,
+        place % 30000,
+        place % 500,
+    )
+
+
+def write_trace(path, event, size):
+    """Writes as many events as `size` bytes hold, and gives the size of the file."""
+    with open(path, "w") as trace:
+        written = trace.write('{"traceEvents":[')
+        place = 0
+        text = event(place)
+        while written + len(text) + len(END) <= size:
+            written += trace.write(text)
+            place += 1
+            text = "," + event(place)
+        trace.write(END)
+    return os.path.getsize(path)
+
+
+def measured(command, path):
+    """Seconds, and the peak of memory in bytes, of one run; None where it fails."""
+    with open(path) as trace:
+        started = time.monotonic()
+        process = subprocess.Popen(command, stdin=trace, stdout=subprocess.DEVNULL)
+        _, status, usage = os.wait4(process.pid, 0)
+        seconds = time.monotonic() - started
+    return (seconds, usage.ru_maxrss * 1024) if status == 0 else None

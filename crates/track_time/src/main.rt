@@ -1,0 +1,47 @@
+//! Gives the spans of a trace, read from standard input, to the track of one thread, whatever threads they are on, and prints
+//! what they come to: a program to be timed. To standard error go the nanoseconds that the track took to keep the events, and
+//! then to tell its busy time and the self time of each name; reading isn't among them.
+#![tactic(auto)]
+
+mod step;
+mod tracking;
+
+use span_read::read_items;
+use span_track::ThreadTrack;
+use std::io::{self, Read};
+use std::time::Instant;
+use step::steps_of;
+use tracking::track_of;
+
+// The self times of the first `names` names together: the busy time, where all spans have one of them.
+fn own_times(track: &ThreadTrack, names: u32) -> u64 {
+    let mut sum = 0u64;
+    for name in 0..names {
+        sum = sum.saturating_add(track.self_of(name));
+    }
+    sum
+}
+
+fn main(rt: HostRuntime) -> io::Result<()> {
+    let alloc = rt.alloc();
+    let mut bytes = Vec::new(alloc);
+    rt.stdin().read_to_end(&mut bytes)?;
+    let items = match read_items(alloc, &bytes) {
+        Ok(items) => items,
+        Err(error) => return println!(rt; "{error}"),
+    };
+    let (steps, names) = steps_of(alloc, items)?;
+    let start = Instant::now(&rt)?;
+    let track = match track_of(alloc, &steps) {
+        Ok(track) => track,
+        Err(fault) => return println!(rt; "{fault:?}"),
+    };
+    let keeping = start.elapsed(&rt)?.as_nanos();
+    let start = Instant::now(&rt)?;
+    let busy = track.busy();
+    let own = own_times(&track, names);
+    let telling = start.elapsed(&rt)?.as_nanos();
+    eprintln!(rt; "{keeping} {telling}")?;
+    let (closed, open) = (track.closed_count(), track.depth());
+    println!(rt; "closed {closed} open {open} busy {busy} own {own}")
+}
