@@ -1,11 +1,10 @@
 -- How the cursor of a timeline moves from one part to the next.
-use Rattle.std.proofs.Common.{◌≡◌, ◌≢◌, ℕ, ◌++◌, ℤ, pos, ◌-ℤ◌, ◌≤ℤ◌, ◌<ℤ◌, List, [], ◌∷◌, reverse, Option, Some, None, false, refl, sym, ap, ◌∙◌, subst, arith}
+use Rattle.std.proofs.Common.{◌≡◌, ◌≢◌, ◌++◌, ℤ, pos, ◌-ℤ◌, ◌≤ℤ◌, List, [], ◌∷◌, reverse, Some, None, false, sym, ap, ◌∙◌, subst, arith}
 use Rattle.std.proofs.lemmas.Int.{ints, by_lt_z}
 use Rattle.std.proofs.lemmas.List.{reverse-reverse, append-nil, append_assoc, reverse-append}
 use Rattle.span_track.specs.declared.segment.Part.{Part}
-use Rattle.span_track.specs.Spans.{Span}
 use Rattle.span_track.specs.Closed.{least_start, greatest_until}
-use Rattle.span_track.specs.Division.{Owners, owner_of, Belong, ArePast, AreFuture, AreParts, IsChange, parts_of}
+use Rattle.span_track.specs.Division.{Owners, owner_of, Belong, ArePast, AreFuture, AreParts, IsChange}
 use Rattle.span_track.specs.Cursor.{lasts_beyond, starts_before}
 
 reverse-onto : {A : Type 0} (x : A) (xs ys : List A) → reverse (x ∷ xs) ++ ys ≡ reverse xs ++ x ∷ ys
@@ -66,7 +65,7 @@ change_at owners t p ps future change =
     by_lt_z t p.segment.start
     (λ k same. Some≢None (sym same ∙ future.1 (p.segment.start -ℤ pos 1) (omega (arith, ints)) (omega (arith, ints))))
     (λ k same. let at : p.segment.start ≡ t = omega (arith, ints, future.0) in
-      change (owner_of p) (ap (λ u. owners (u -ℤ pos 1)) (sym at) ∙ same) (ap owners (sym at) ∙ starts))
+    change (owner_of p) (ap (λ u. owners (u -ℤ pos 1)) (sym at) ∙ same) (ap owners (sym at) ∙ starts))
 
 -- the cursor stands at t
 pub record IsCursor (owners : Owners) (t : ℤ) (past future : List Part) : Type 0 where
@@ -89,12 +88,17 @@ IsCursor-back owners t p past future at =
     let ends : owners (p.segment.until -ℤ pos 1) ≡ Some (owner_of p) = at.before.3 (p.segment.until -ℤ pos 1) (omega (arith, ints, at.before.2)) (omega (arith, ints)) in
     record {
       before = at.before.5;
-      after = (omega (arith, ints), (λ u from before. absurd (omega (arith, ints))), at.before.2, at.before.3,
+      after = (
+        omega (arith, ints),
+        (λ u from before. absurd (omega (arith, ints))),
+        at.before.2,
+        at.before.3,
         by_lt_z p.segment.until t
-        (λ k same. Some≢None (sym same ∙ at.before.1 p.segment.until (omega (arith, ints)) k))
-        (λ k same. let here : p.segment.until ≡ t = omega (arith, ints, at.before.0) in
-          at.change (owner_of p) (ap (λ u. owners (u -ℤ pos 1)) (sym here) ∙ ends) (ap owners (sym here) ∙ same)),
-        AreFuture-sooner owners t p.segment.until future at.before.0 at.before.1 at.after);
+            (λ k same. Some≢None (sym same ∙ at.before.1 p.segment.until (omega (arith, ints)) k))
+            (λ k same. let here : p.segment.until ≡ t = omega (arith, ints, at.before.0) in
+            at.change (owner_of p) (ap (λ u. owners (u -ℤ pos 1)) (sym here) ∙ ends) (ap owners (sym here) ∙ same)),
+        AreFuture-sooner owners t p.segment.until future at.before.0 at.before.1 at.after,
+      );
       change = λ owner before from. at.before.4 (before ∙ sym from ∙ starts);
     }
 
@@ -140,8 +144,8 @@ IsCursor-within owners t time past future least ends starts at =
       before = ArePast-later owners t time past k none at.before;
       after = AreFuture-later owners t time future k starts at.after;
       change = by_lt_z t time
-        (λ m owner before from. Some≢None (sym before ∙ none (time -ℤ pos 1) (omega (arith, ints)) (omega (arith, ints))))
-        (λ m. let here : t ≡ time = omega (arith, ints) in subst (λ u. IsChange owners owners u) here at.change);
+          (λ m owner before from. Some≢None (sym before ∙ none (time -ℤ pos 1) (omega (arith, ints)) (omega (arith, ints))))
+          (λ m. let here : t ≡ time = omega (arith, ints) in subst (λ u. IsChange owners owners u) here at.change);
     })
 
 -- a cursor before a part can stand right before it

@@ -1,5 +1,5 @@
 -- How long parts are together as the cursor moves and parts are cut.
-use Rattle.std.proofs.Common.{◌≡◌, ◌≤◌, ◌<◌, ℕ, ◌+◌, ◌*◌, ◌^◌, ◌==◌, Bool, true, false, cond, nat_eq, ℤ, ◌≤ℤ◌, ◌<ℤ◌, int_lt, List, [], ◌∷◌, ◌++◌, reverse, refl, sym, ap, ◌∙◌, arith, eq-eqb}
+use Rattle.std.proofs.Common.{◌≡◌, ◌≤◌, ◌<◌, ℕ, ◌+◌, ◌^◌, ◌==◌, Bool, true, false, cond, nat_eq, ℤ, ◌≤ℤ◌, ◌<ℤ◌, int_lt, List, [], ◌∷◌, ◌++◌, reverse, refl, ap, ◌∙◌, arith, eq-eqb}
 use Rattle.std.specs.List.{sum_by}
 use Rattle.std.proofs.lemmas.Int.{ints}
 use Rattle.std.proofs.lemmas.List.{reverse-append}
@@ -7,7 +7,7 @@ use Rattle.std.proofs.lemmas.List.Sums.{sum_by-cons, sum_by_push, sum_by-append}
 use Rattle.span_track.specs.declared.segment.Part.{Part}
 use Rattle.span_track.specs.Spans.{Span, distance}
 use Rattle.span_track.specs.Closed.{least_start, greatest_until}
-use Rattle.span_track.specs.Division.{Owners, owner_of, taken, part_length, named_length, whole_length, SelfTimes, own_in, AreSums, parts_of, between, piece}
+use Rattle.span_track.specs.Division.{Owners, taken, part_length, named_length, whole_length, SelfTimes, own_in, AreSums, parts_of, between, piece}
 use Rattle.span_track.specs.Cursor.{IsTakenTo, IsNextPart, IsGained}
 use Rattle.span_track.proofs.Counts.{add-distance}
 use Rattle.span_track.proofs.PartLengths.{named_length-le, whole_length-le, whole_length-le_past}
@@ -68,6 +68,7 @@ named_length-piece name p a b parts h = by_test (int_lt a b) refl
     none : (t : Bool) (n : ℕ) → n ≡ 0 → cond t n 0 ≡ 0
     none true n e = e
     none false n e = refl
+
     by_test : (t : Bool) → int_lt a b ≡ t → named_length name (parts ++ cond t (between p a b ∷ []) []) ≡ named_length name parts + cond (nat_eq p.segment.name name) (distance a b) 0
     by_test true e = sum_by_push (named name) parts (between p a b)
     by_test false e =
@@ -97,15 +98,30 @@ pub AreSums-ceded : (s : Span ℕ) (from until : ℤ) (p : Part) (past gained fu
     → AreSums new busy (parts_of gained (future ++ piece p until p.segment.until))
 AreSums-ceded s from until p past gained future owners old lost new busy first then last sums loses gains adds =
     let parts : part_length p ≡ distance p.segment.start from + distance from until + distance until p.segment.until =
-      omega (arith, distance-split p.segment.start from p.segment.until first (omega (arith, ints)), distance-split from until p.segment.until (omega (arith, ints)) last) in
+    omega (arith, distance-split p.segment.start from p.segment.until first (omega (arith, ints)), distance-split from until p.segment.until (omega (arith, ints)) last) in
     record {
-      of_names = λ name. omega (arith, adds name, loses name, sums.of_names name, named_length-next name p past future, gains.of_names name,
-        named_length-piece name p p.segment.start from past first, sum_by-parts_of (named name) gained (future ++ piece p until p.segment.until),
+      of_names = λ name. omega (
+        arith,
+        adds name,
+        loses name,
+        sums.of_names name,
+        named_length-next name p past future,
+        gains.of_names name,
+        named_length-piece name p p.segment.start from past first,
+        sum_by-parts_of (named name) gained (future ++ piece p until p.segment.until),
         named_length-piece name p until p.segment.until future last,
-        cond-add (nat_eq p.segment.name name) (part_length p) (distance p.segment.start from) (distance from until) (distance until p.segment.until) parts);
-      of_all = omega (arith, sums.of_all, whole_length-next p past future, gains.of_all, parts,
-        whole_length-piece p p.segment.start from past first, sum_by-parts_of (λ (x : Part). part_length x) gained (future ++ piece p until p.segment.until),
-        whole_length-piece p until p.segment.until future last);
+        cond-add (nat_eq p.segment.name name) (part_length p) (distance p.segment.start from) (distance from until) (distance until p.segment.until) parts,
+      );
+      of_all = omega (
+        arith,
+        sums.of_all,
+        whole_length-next p past future,
+        gains.of_all,
+        parts,
+        whole_length-piece p p.segment.start from past first,
+        sum_by-parts_of (λ (x : Part). part_length x) gained (future ++ piece p until p.segment.until),
+        whole_length-piece p until p.segment.until future last,
+      );
     }
 
 -- what the span gains of time that no one owned
@@ -132,8 +148,14 @@ AreSums-filled_before s from until p past gained future owners old new busy sums
 pub part-le-own : (own : SelfTimes) (busy : ℕ) (from until : ℤ) (p : Part) (past future : List Part) → AreSums own busy (p ∷ parts_of past future) → p.segment.start ≤ℤ from → from ≤ℤ until → until ≤ℤ p.segment.until → distance from until ≤ own_in own p.segment.name
 part-le-own own busy from until p past future sums first then last =
     let here : cond (nat_eq p.segment.name p.segment.name) (part_length p) 0 ≡ part_length p = ap (λ t. cond t (part_length p) 0) (eq-eqb p.segment.name p.segment.name refl) in
-    omega (arith, sums.of_names p.segment.name, named_length-next p.segment.name p past future, here,
-      distance-split p.segment.start from p.segment.until first (omega (arith, ints)), distance-split from until p.segment.until then last)
+    omega (
+      arith,
+      sums.of_names p.segment.name,
+      named_length-next p.segment.name p past future,
+      here,
+      distance-split p.segment.start from p.segment.until first (omega (arith, ints)),
+      distance-split from until p.segment.until then last,
+    )
 
 -- no running time is greater than the whole time
 pub record AreSmall (own : SelfTimes) (busy : ℕ) : Type 0 where
@@ -148,7 +170,7 @@ AreSmall-taken s t past future owners own busy at sums =
     let before = whole_length-le_past (taken s owners) t (reverse past) at.before in
     let after = whole_length-le owners t (reverse future) at.after in
     let whole : whole_length (parts_of past future) ≤ 2 ^ 55 =
-      omega (arith, whole-small t before.0 after.0, before.1, after.1, sum_by-parts_of (λ (x : Part). part_length x) past future, sum_by-reverse (λ (x : Part). part_length x) past, sum_by-reverse (λ (x : Part). part_length x) future) in
+    omega (arith, whole-small t before.0 after.0, before.1, after.1, sum_by-parts_of (λ (x : Part). part_length x) past future, sum_by-reverse (λ (x : Part). part_length x) past, sum_by-reverse (λ (x : Part). part_length x) future) in
     record {
       of_names = λ name. omega (arith, sums.of_names name, named_length-le name (parts_of past future), whole);
       of_all = omega (arith, sums.of_all, whole);
@@ -161,7 +183,7 @@ AreSmall-next s from p past future owners own busy next sums =
     let within : p.segment.start ≤ℤ greatest_until = omega (arith, ints, next.within, after.0) in
     let split = distance-split p.segment.start p.segment.until greatest_until (omega (arith, ints, next.within)) after.0 in
     let whole : whole_length (p ∷ parts_of past future) ≤ 2 ^ 55 =
-      omega (arith, whole-small p.segment.start before.0 within, split, before.1, after.1, whole_length-next p past future, sum_by-reverse (λ (x : Part). part_length x) past, sum_by-reverse (λ (x : Part). part_length x) future) in
+    omega (arith, whole-small p.segment.start before.0 within, split, before.1, after.1, whole_length-next p past future, sum_by-reverse (λ (x : Part). part_length x) past, sum_by-reverse (λ (x : Part). part_length x) future) in
     record {
       of_names = λ name. omega (arith, sums.of_names name, named_length-le name (p ∷ parts_of past future), whole);
       of_all = omega (arith, sums.of_all, whole);

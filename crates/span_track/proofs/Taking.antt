@@ -6,8 +6,8 @@ use Rattle.std.proofs.lemmas.List.{append-nil}
 use Rattle.span_track.specs.declared.segment.Part.{Part}
 use Rattle.span_track.specs.Spans.{Span, covers, outranks}
 use Rattle.span_track.specs.Closed.{least_start, greatest_until}
-use Rattle.span_track.specs.Division.{Owners, owner_of, claims, taken, Belong, ArePast, AreFuture, IsOnly, IsNew, IsChange, AreParts, parts_of, between, piece}
-use Rattle.span_track.specs.Cursor.{starts_before, ends_by, lasts_beyond, IsTakenTo, IsNextPart, IsAtStart}
+use Rattle.span_track.specs.Division.{Owners, owner_of, claims, taken, Belong, ArePast, AreFuture, IsOnly, IsNew, AreParts, parts_of, between, piece}
+use Rattle.span_track.specs.Cursor.{starts_before, ends_by, IsTakenTo, IsNextPart, IsAtStart}
 use Rattle.span_track.proofs.Counts.{covers-before, covers-after, covers-between, int_lt-above}
 use Rattle.span_track.proofs.PartLengths.{whole_length-le}
 use Rattle.span_track.proofs.Cursor.{StartsFrom, EndsBy-lasts_beyond, AreFuture-none, AreFuture-later, HasCursor-parts, IsCursor-within, IsCursor-before, AreParts-cursor}
@@ -45,20 +45,26 @@ IsOnly-taken s owners new u owner is at = by_test (covers s u && claims s (owner
 -- the past of owners who agree before t
 pub ArePast-same : (a b : Owners) (t : ℤ) (ps : List Part) → ((u : ℤ) → u <ℤ t → b u ≡ a u) → ArePast a t ps → ArePast b t ps
 ArePast-same a b t [] same past = (past.0, λ u before. same u before ∙ past.1 u before)
-ArePast-same a b t (p ∷ ps) same past =
-    (past.0, (λ u from before. same u before ∙ past.1 u from before), past.2,
-      (λ u from before. same u (omega (arith, ints, past.0)) ∙ past.3 u from before),
-      (λ here. past.4 (sym (same (p.segment.start -ℤ pos 1) (omega (arith, ints, past.0, past.2))) ∙ here)),
-      ArePast-same a b p.segment.start ps (λ u before. same u (omega (arith, ints, past.0, past.2))) past.5)
+ArePast-same a b t (p ∷ ps) same past = (
+  past.0,
+  (λ u from before. same u before ∙ past.1 u from before),
+  past.2,
+  (λ u from before. same u (omega (arith, ints, past.0)) ∙ past.3 u from before),
+  (λ here. past.4 (sym (same (p.segment.start -ℤ pos 1) (omega (arith, ints, past.0, past.2))) ∙ here)),
+  ArePast-same a b p.segment.start ps (λ u before. same u (omega (arith, ints, past.0, past.2))) past.5,
+)
 
 -- the future of owners who agree from t on
 pub AreFuture-same : (a b : Owners) (t : ℤ) (ps : List Part) → ((u : ℤ) → t ≤ℤ u → b u ≡ a u) → AreFuture a t ps → AreFuture b t ps
 AreFuture-same a b t [] same future = (future.0, λ u from. same u from ∙ future.1 u from)
-AreFuture-same a b t (p ∷ ps) same future =
-    (future.0, (λ u from before. same u from ∙ future.1 u from before), future.2,
-      (λ u from before. same u (omega (arith, ints, future.0)) ∙ future.3 u from before),
-      (λ here. future.4 (sym (same p.segment.until (omega (arith, ints, future.0, future.2))) ∙ here)),
-      AreFuture-same a b p.segment.until ps (λ u from. same u (omega (arith, ints, future.0, future.2))) future.5)
+AreFuture-same a b t (p ∷ ps) same future = (
+  future.0,
+  (λ u from before. same u from ∙ future.1 u from before),
+  future.2,
+  (λ u from before. same u (omega (arith, ints, future.0)) ∙ future.3 u from before),
+  (λ here. future.4 (sym (same p.segment.until (omega (arith, ints, future.0, future.2))) ∙ here)),
+  AreFuture-same a b p.segment.until ps (λ u from. same u (omega (arith, ints, future.0, future.2))) future.5,
+)
 
 -- one more part of the past
 pub ArePast-push : (owners : Owners) (p : Part) (ps : List Part) → p.segment.start <ℤ p.segment.until → Belong owners p.segment.start p.segment.until (Some (owner_of p)) → owners (p.segment.start -ℤ pos 1) ≢ Some (owner_of p) → ArePast owners p.segment.start ps → ArePast owners p.segment.until (p ∷ ps)
@@ -117,8 +123,8 @@ Belong-ceded s from until p past future owners next above up = λ u after before
 pub ArePast-ceded : (s : Span ℕ) (from : ℤ) (p : Part) (past future : List Part) (owners : Owners) → IsNextPart s from p past future owners → ArePast (taken s owners) from (reverse (past ++ piece p p.segment.start from))
 ArePast-ceded s from p past future owners next =
     let head : Belong (taken s owners) p.segment.start from (Some (owner_of p)) = λ u after before.
-      let start : from ≡ s.start = next.head (omega (arith, ints)) in
-      taken-before s owners u (omega (arith, ints, start)) ∙ next.belongs u after (omega (arith, ints, next.within)) in
+    let start : from ≡ s.start = next.head (omega (arith, ints)) in
+    taken-before s owners u (omega (arith, ints, start)) ∙ next.belongs u after (omega (arith, ints, next.within)) in
     ArePast-piece (taken s owners) p from past next.within.0 next.within.1 head next.start next.before
 
 -- the span that outranks the part's owner takes it up to `until`; `gained` is the past with that
@@ -140,7 +146,7 @@ pub IsTakenTo-kept : (s : Span ℕ) (from : ℤ) (p : Part) (past future : List 
 IsTakenTo-kept s from p past future owners next below =
     let lasts : p.segment.start <ℤ p.segment.until = omega (arith, ints, next.within) in
     let belongs : Belong (taken s owners) p.segment.start p.segment.until (Some (owner_of p)) = λ u after before.
-      taken-kept s owners u (owner_of p) (next.belongs u after before) below in
+    taken-kept s owners u (owner_of p) (next.belongs u after before) below in
     record {
       new = next.new;
       in_time = next.in_time;
@@ -148,8 +154,8 @@ IsTakenTo-kept s from p past future owners next below =
       before = rw (reverse-push past p) (ArePast-push (taken s owners) p (reverse past) lasts belongs next.start next.before);
       after = next.after;
       change = λ owner before here.
-        let own : Some owner ≡ Some (owner_of p) = sym before ∙ belongs (p.segment.until -ℤ pos 1) (omega (arith, ints)) (omega (arith, ints)) in
-        next.until (here ∙ own);
+          let own : Some owner ≡ Some (owner_of p) = sym before ∙ belongs (p.segment.until -ℤ pos 1) (omega (arith, ints)) (omega (arith, ints)) in
+          next.until (here ∙ own);
     }
 
 -- no one owns the time up to the next part
@@ -192,9 +198,9 @@ IsNextPart-filled s t p past filled rest owners at gap ends before =
       head = λ h. absurd (omega (arith, ints));
       before = before;
       start = λ here.
-        let filled : Some (owner_of p) ≡ Some s = sym here ∙ taken-within s owners (p.segment.start -ℤ pos 1) None true (omega (arith, ints, at.from)) (omega (arith, ints)) (after.1 (p.segment.start -ℤ pos 1) (omega (arith, ints)) (omega (arith, ints))) refl in
-        let same : owner_of p ≡ s = cc in
-        at.new p.segment.start (owner_of p) own (ap (λ (o : Span ℕ). o.at) same);
+          let filled : Some (owner_of p) ≡ Some s = sym here ∙ taken-within s owners (p.segment.start -ℤ pos 1) None true (omega (arith, ints, at.from)) (omega (arith, ints)) (after.1 (p.segment.start -ℤ pos 1) (omega (arith, ints)) (omega (arith, ints))) refl in
+          let same : owner_of p ≡ s = cc in
+          at.new p.segment.start (owner_of p) own (ap (λ (o : Span ℕ). o.at) same);
       belongs = after.3;
       until = after.4;
       after = after.5;
@@ -249,8 +255,8 @@ IsNextPart-start s p past rest future owners start split before =
       head = λ h. refl;
       before = ArePast-same owners (taken s owners) p.segment.start (reverse past) (λ u h. taken-before s owners u (omega (arith, ints))) at.before;
       start = λ here.
-        let same = sym (taken-before s owners (p.segment.start -ℤ pos 1) (omega (arith, ints))) ∙ here in
-        at.change (owner_of p) same (at.after.3 p.segment.start (omega (arith, ints)) at.after.2);
+          let same = sym (taken-before s owners (p.segment.start -ℤ pos 1) (omega (arith, ints))) ∙ here in
+          at.change (owner_of p) same (at.after.3 p.segment.start (omega (arith, ints)) at.after.2);
       belongs = at.after.3;
       until = at.after.4;
       after = at.after.5;
@@ -274,9 +280,9 @@ AreParts-filled s t past filled future owners at gap starts before =
       before = before;
       after = AreFuture-same owners (taken s owners) s.until (reverse future) (taken-after s owners) after;
       change = λ owner before here.
-        let own : Some owner ≡ Some s = sym before ∙ belongs (s.until -ℤ pos 1) (omega (arith, ints)) (omega (arith, ints)) in
-        let same : owner ≡ s = cc in
-        at.new s.until owner (sym (taken-after s owners s.until (omega (arith, ints))) ∙ here) (ap (λ (o : Span ℕ). o.at) same);
+          let own : Some owner ≡ Some s = sym before ∙ belongs (s.until -ℤ pos 1) (omega (arith, ints)) (omega (arith, ints)) in
+          let same : owner ≡ s = cc in
+          at.new s.until owner (sym (taken-after s owners s.until (omega (arith, ints))) ∙ here) (ap (λ (o : Span ℕ). o.at) same);
     })
 
 -- of the parts that are still to come, the last in the list is the first

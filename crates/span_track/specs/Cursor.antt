@@ -1,5 +1,5 @@
 -- What holds of a timeline and its cursor while a new span takes what is its own.
-use Rattle.std.specs.Prelude.{◌≡◌, ◌≢◌, ℕ, ◌+◌, nat_eq, if◌then◌else◌, Bool, false, ℤ, pos, ◌-ℤ◌, ◌≤ℤ◌, ◌<ℤ◌, int_le, int_lt, List, [], ◌∷◌, reverse, Option, Some}
+use Rattle.std.specs.Prelude.{◌≡◌, ◌≢◌, ℕ, ◌+◌, nat_eq, if◌then◌else◌, Bool, false, ℤ, pos, ◌-ℤ◌, ◌≤ℤ◌, ◌<ℤ◌, int_le, int_lt, List, [], ◌∷◌, reverse, Some}
 use Rattle.span_track.specs.declared.segment.Part.{Part}
 use Rattle.span_track.specs.declared.timeline.Timeline.{Timeline}
 use Rattle.span_track.specs.Spans.{Span, distance}

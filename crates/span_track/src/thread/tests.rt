@@ -5,6 +5,7 @@ ghost use Rattle.span_track.specs.Thread.{IsNext};
 use super::{OpenSpan, ThreadTrack};
 use crate::fault::TrackFault;
 use crate::laws::{busy_plain, self_law, self_plain};
+use crate::segment::Segment;
 use crate::span::{ClosedSpan, NameTotal};
 use span_read::{ArgValue, Args, Item, Items, merge_args, read_items};
 use std::alloc::Global;
@@ -29,6 +30,49 @@ fn is_next(track: &ThreadTrack, at: u32) -> bool
     all_opened_before(&track.opened, at) && all_closed_before(track.spans(), at)
 }
 
+// How many closed spans have a length.
+fn count_of_lasting(track: &ThreadTrack) -> usize {
+    track
+        .spans()
+        .iter()
+        .filter(|span| span.start < span.until)
+        .count()
+}
+
+// The segments lie one after the other, are together as long as the busy time, and are no more than two for each span with a
+// length, less one.
+fn expect_segments(rt: &impl Abort, track: &ThreadTrack) {
+    let count = track.segment_count();
+    let lasting = count_of_lasting(track) as u64;
+    assert!(rt; count <= (2 * lasting).saturating_sub(1));
+    assert!(rt; track.segment(count).is_none());
+    let mut busy = 0u64;
+    let mut until = i64::MIN;
+    for i in 0..count {
+        let Some(segment) = track.segment(i) else {
+            panic!(rt; "no segment {i}");
+        };
+        assert!(rt; until <= segment.start && segment.start < segment.until);
+        until = segment.until;
+        busy = busy.saturating_add(segment.until.saturating_sub(segment.start) as u64);
+    }
+    assert_eq!(rt; busy, track.busy());
+}
+
+// The running times are those that the plain walks find.
+fn expect_plain_times(rt: &impl Abort, track: &ThreadTrack) {
+    for span in track.spans() {
+        assert_eq!(rt;
+            track.self_of(span.name),
+            self_plain(track, span.name),
+            "name {}",
+            span.name
+        );
+    }
+    assert_eq!(rt; track.busy(), busy_plain(track));
+    expect_segments(rt, track);
+}
+
 // What a call that opens a span asks of the track.
 fn ready(rt: &impl Abort, track: &ThreadTrack, at: u32)
     ensures next { IsNext at track.now }
@@ -51,14 +95,18 @@ fn begin(
 {
     ready(rt, track, at);
     let none = Args::empty(*track.opened.allocator());
-    track.begin_span(name, ts, at, &none)
+    let begun = track.begin_span(name, ts, at, &none);
+    expect_plain_times(rt, track);
+    begun
 }
 
-fn end(track: &mut ThreadTrack, ts: i64) -> Result<ClosedSpan, TrackFault>
+fn end(rt: &impl Abort, track: &mut ThreadTrack, ts: i64) -> Result<ClosedSpan, TrackFault>
     requires { IsTime ts }
 {
     let none = Args::empty(*track.opened.allocator());
-    track.end_span(ts, &none)
+    let ended = track.end_span(ts, &none);
+    expect_plain_times(rt, track);
+    ended
 }
 
 fn complete(
@@ -74,7 +122,18 @@ fn complete(
 {
     ready(rt, track, at);
     let none = Args::empty(*track.opened.allocator());
-    track.complete(name, ts, dur, at, &none)
+    let completed = track.complete(name, ts, dur, at, &none);
+    expect_plain_times(rt, track);
+    completed
+}
+
+fn segment(start: i64, until: i64, name: u32, at: u32) -> Segment {
+    Segment {
+        start,
+        until,
+        name,
+        at,
+    }
 }
 
 // The number, the lengths and the self times of a name.
@@ -105,6 +164,8 @@ fn a_track_without_events(rt: HostRuntime) {
     assert_eq!(rt; track.last_time(), None);
     assert_eq!(rt; track.closed_count(), 0);
     assert!(rt; track.closed(0).is_none());
+    assert_eq!(rt; track.segment_count(), 0);
+    assert_eq!(rt; track.segment(0), None);
     expect_name(&rt, &track, 0, 0, 0, 0);
     expect_busy(&rt, &track, 0);
 }
@@ -114,10 +175,10 @@ fn a_span_in_a_span(rt: HostRuntime) -> Result<(), Fail> {
     let mut track = ThreadTrack::new(rt.alloc());
     assert_eq!(rt; begin(&rt, &mut track, 0, 0, 0)?, 1);
     assert_eq!(rt; begin(&rt, &mut track, 1, 1, 2)?, 2);
-    let inner = end(&mut track, 5)?;
+    let inner = end(&rt, &mut track, 5)?;
     assert!(rt; inner.name == 1 && inner.start == 2 && inner.until == 5 && inner.at == 1);
     assert_eq!(rt; track.depth(), 1);
-    let outer = end(&mut track, 10)?;
+    let outer = end(&rt, &mut track, 10)?;
     assert!(rt; outer.name == 0 && outer.start == 0 && outer.until == 10 && outer.at == 0);
     assert_eq!(rt; track.last_time(), Some(10));
     assert_eq!(rt; track.closed_count(), 2);
@@ -137,6 +198,29 @@ fn a_child_that_came_first(rt: HostRuntime) -> Result<(), Fail> {
     expect_name(&rt, &track, 3, 1, 10, 7);
     expect_name(&rt, &track, 2, 1, 3, 3);
     expect_busy(&rt, &track, 10);
+    assert_eq!(rt; track.segment_count(), 3);
+    let segments = [
+        segment(0, 2, 3, 1),
+        segment(2, 5, 2, 0),
+        segment(5, 10, 3, 1),
+    ];
+    for (i, expected) in segments.iter().enumerate() {
+        assert_eq!(rt; track.segment(i as u64), Some(expected), "segment {i}");
+    }
+    assert_eq!(rt; track.segment(3), None);
+    Ok(())
+}
+
+#[test]
+fn a_span_that_takes_from_two(rt: HostRuntime) -> Result<(), Fail> {
+    let mut track = ThreadTrack::new(rt.alloc());
+    complete(&rt, &mut track, 0, 0, 0, 10)?;
+    complete(&rt, &mut track, 1, 1, 20, 10)?;
+    complete(&rt, &mut track, 2, 2, 5, 20)?;
+    expect_name(&rt, &track, 0, 1, 10, 5);
+    expect_name(&rt, &track, 1, 1, 10, 10);
+    expect_name(&rt, &track, 2, 1, 20, 15);
+    expect_busy(&rt, &track, 30);
     Ok(())
 }
 
@@ -184,7 +268,7 @@ fn the_longest_span_twice(rt: HostRuntime) -> Result<(), Fail> {
 #[test]
 fn an_end_without_a_begin(rt: HostRuntime) -> Result<(), Fail> {
     let mut track = ThreadTrack::new(rt.alloc());
-    assert!(rt; matches!(end(&mut track, 3), Err(TrackFault::Refused(21))));
+    assert!(rt; matches!(end(&rt, &mut track, 3), Err(TrackFault::Refused(21))));
     assert_eq!(rt; begin(&rt, &mut track, 1, 0, 1)?, 1);
     Ok(())
 }
@@ -193,10 +277,10 @@ fn an_end_without_a_begin(rt: HostRuntime) -> Result<(), Fail> {
 fn times_that_go_back(rt: HostRuntime) -> Result<(), Fail> {
     let mut track = ThreadTrack::new(rt.alloc());
     assert_eq!(rt; begin(&rt, &mut track, 0, 0, 10)?, 1);
-    assert!(rt; matches!(end(&mut track, 9), Err(TrackFault::Refused(22))));
-    let span = end(&mut track, 10)?;
+    assert!(rt; matches!(end(&rt, &mut track, 9), Err(TrackFault::Refused(22))));
+    let span = end(&rt, &mut track, 10)?;
     assert!(rt; span.start == 10 && span.until == 10);
-    assert!(rt; matches!(end(&mut track, 9), Err(TrackFault::Refused(21))));
+    assert!(rt; matches!(end(&rt, &mut track, 9), Err(TrackFault::Refused(21))));
     assert_eq!(rt;
         begin(&rt, &mut track, 4, 1, 9),
         Err(TrackFault::Refused(22))
@@ -228,7 +312,9 @@ fn arguments_of_begin_and_end(rt: HostRuntime) -> Result<(), Fail> {
     let mut track = ThreadTrack::new(rt.alloc());
     ready(&rt, &track, 0);
     track.begin_span(0, 0, 0, first)?;
+    expect_plain_times(&rt, &track);
     let span = track.end_span(1, second)?;
+    expect_plain_times(&rt, &track);
     expect_merged(&rt, &span.args);
     expect_merged(&rt, &merge_args(rt.alloc(), first, second)?);
     let kept = track.closed(0).ok_or("a closed span")?;

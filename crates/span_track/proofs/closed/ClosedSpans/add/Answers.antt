@@ -1,4 +1,4 @@
-use Rattle.std.proofs.Common.{rules, w64, to_z, of_z, ◌≡◌, ℕ, ℤ, ◌+◌, ◌<◌, ◌≢◌, ◌^◌, List, [], ◌∷◌, ◌++◌, map, length, sym, ap, ◌∙◌, subst, arith, All, refl}
+use Rattle.std.proofs.Common.{rules, w64, to_z, of_z, ◌≡◌, ℕ, ◌+◌, ◌<◌, ◌≢◌, ◌^◌, List, [], ◌∷◌, ◌++◌, map, length, sym, ap, ◌∙◌, subst, arith, All}
 use Rattle.std.proofs.lemmas.List.{map_push}
 use Rattle.span_track.specs.declared.segment.Part.{Part}
 use Rattle.span_track.specs.declared.span.ClosedSpan.{ClosedSpan}

@@ -1,4 +1,4 @@
-use Rattle.std.proofs.Common.{◌≡◌, ap, ◌∙◌}
+use Rattle.std.proofs.Common.{ap, ◌∙◌}
 use Rattle.span_track.specs.Spans.{busy_time}
 use Rattle.span_track.proofs.PartLengths.{whole_length-busy_time}
 use Rattle.span_track.proofs.closed.ClosedSpans.busy.Goals as goal

@@ -1,4 +1,4 @@
-use Rattle.std.proofs.Common.{◌≡◌, map, slice_get, sym, ap, ◌∙◌, subst, List}
+use Rattle.std.proofs.Common.{slice_get, sym, ap, ◌∙◌, subst, List}
 use Rattle.span_track.specs.declared.segment.Segment.{Segment}
 use Rattle.span_track.specs.Spans.{Span}
 use Rattle.span_track.specs.Segments.{AreSegments}

@@ -1,7 +1,6 @@
-use Rattle.std.proofs.Common.{◌≡◌, map, length, sym, ap, ◌∙◌, subst, List}
+use Rattle.std.proofs.Common.{map, length, sym, ap, ◌∙◌, subst, List}
 use Rattle.std.proofs.lemmas.List.{length-map}
 use Rattle.span_track.specs.declared.segment.Part.{Part}
-use Rattle.span_track.specs.declared.segment.Segment.{Segment}
 use Rattle.span_track.specs.Spans.{Span}
 use Rattle.span_track.specs.Segments.{AreSegments, HasSegments}
 use Rattle.span_track.proofs.Segments.{AreSegments-parts}

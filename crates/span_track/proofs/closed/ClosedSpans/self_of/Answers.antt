@@ -1,4 +1,4 @@
-use Rattle.std.proofs.Common.{◌≡◌, nat_eq, ap, ◌∙◌}
+use Rattle.std.proofs.Common.{nat_eq, ap, ◌∙◌}
 use Rattle.span_track.specs.Spans.{self_of}
 use Rattle.span_track.proofs.PartLengths.{named_length-self_of}
 use Rattle.span_track.proofs.closed.ClosedSpans.self_of.Goals as goal

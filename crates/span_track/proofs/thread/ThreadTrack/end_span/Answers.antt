@@ -1,4 +1,4 @@
-use Rattle.std.proofs.Common.{rules, ◌≡◌, ℕ, ◌-◌, ◌==◌, false, ℤ, List, [], ◌∷◌, ◌++◌, length, take, suc, Err, Option, Some, None, map, slice_get, refl, sym, ap, ap₂, ◌∙◌, subst, w64, to_z, of_z, to_z-of_z, arith, ne_eqb}
+use Rattle.std.proofs.Common.{rules, ◌≡◌, ℕ, ◌-◌, ◌==◌, false, ℤ, List, [], ◌∷◌, ◌++◌, length, take, suc, Err, Option, Some, None, map, slice_get, refl, sym, ap, ◌∙◌, subst, w64, to_z, of_z, to_z-of_z, arith, ne_eqb}
 use Rattle.std.proofs.lemmas.Int.{ints}
 use Rattle.std.proofs.lemmas.List.{map_push, length_push}
 use Rattle.span_read.specs.Args.{merged}

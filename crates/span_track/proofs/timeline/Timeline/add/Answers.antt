@@ -1,11 +1,11 @@
-use Rattle.std.proofs.Common.{rules, ◌≡◌, ◌≢◌, ◌+◌, ◌*◌, ◌≤◌, ◌<ℤ◌, ◌≤ℤ◌, ◌++◌, [], ◌∷◌, true, false, length, reverse, w64, to_z, of_z, sym, ap, ◌∙◌, subst, arith, List, length-append}
+use Rattle.std.proofs.Common.{rules, ◌≡◌, ◌<ℤ◌, ◌≤ℤ◌, false, length, reverse, w64, to_z, of_z, sym, ap, ◌∙◌, subst, arith, List, length-append}
 use Rattle.std.proofs.lemmas.Int.{ints}
 use Rattle.std.proofs.lemmas.List.{length-reverse}
 use Rattle.span_track.specs.declared.segment.Part.{Part}
 use Rattle.span_track.specs.Spans.{Span}
 use Rattle.span_track.specs.Closed.{least_start, greatest_until}
-use Rattle.span_track.specs.Division.{Owners, owner_of, taken, IsNew, AreParts, parts_of}
-use Rattle.span_track.specs.Cursor.{IsTimeline, IsAtStart, lasts_beyond, ends_by}
+use Rattle.span_track.specs.Division.{Owners, owner_of, IsNew, AreParts, parts_of}
+use Rattle.span_track.specs.Cursor.{IsAtStart, lasts_beyond, ends_by}
 use Rattle.span_track.proofs.Taking.{AreParts-empty}
 use Rattle.span_track.proofs.PartLengths.{length-le-parts}
 use Rattle.span_track.proofs.timeline.Timeline.add.Goals as goal

@@ -1,12 +1,10 @@
-use Rattle.std.proofs.Common.{rules, ◌≡◌, ◌≤◌, ◌<◌, ◌+◌, ◌==◌, ◌≤ℤ◌, ◌<ℤ◌, ℕ, ℤ, [], ◌∷◌, ◌++◌, List, length, true, false, cond, int_lt, w64, to_z, of_z, to_z-of_z, nat_eq, IsSome, refl, sym, ap, ◌∙◌, subst, arith, append-nil, reverse}
+use Rattle.std.proofs.Common.{rules, ◌≡◌, ◌++◌, w64, to_z, of_z, ap, arith}
 use Rattle.std.specs.Int.{int_min}
 use Rattle.std.specs.Vec.{vec_len}
-use Rattle.std.proofs.lemmas.Int.{ints, clamps}
-use Rattle.span_track.specs.declared.segment.Part.{Part}
+use Rattle.std.proofs.lemmas.Int.{ints}
 use Rattle.span_track.specs.Spans.{distance}
-use Rattle.span_track.specs.Division.{Owners, owner_of, taken, own_in, between, piece}
-use Rattle.span_track.specs.Cursor.{IsNextPart, IsTakenTo, IsGained}
-use Rattle.span_track.proofs.Taking.{IsTakenTo-ceded, IsOnly-taken, IsTakenUpTo, IsTakenUpTo-next, piece-none, ArePast-ceded, Belong-ceded}
+use Rattle.span_track.specs.Division.{owner_of, taken, piece}
+use Rattle.span_track.proofs.Taking.{IsTakenTo-ceded, IsOnly-taken, IsTakenUpTo-next, piece-none, ArePast-ceded, Belong-ceded}
 use Rattle.span_track.proofs.PartSums.{AreSums-ceded, AreSmall-next, part-le-own, distance-positive}
 use Rattle.span_track.proofs.timeline.Timeline.cede.Goals as goal
 
@@ -78,7 +76,7 @@ returns-clause-taken c = λ owners next.
     let future : c.push_between-2.new.parts.items ≡ c.args.self.now.future.items ++ piece c.args.part.now c.min-until.result c.args.part.now.segment.until = rw (until, ends, c.gain.ensures.future) at c.push_between-2.ensures.items in
     let gains = rw (from, until, past) at c.gain.ensures.past in
     rw (until, future) (IsTakenTo-ceded (owner_of c.args.span.now) c.args.from c.min-until.result c.args.part.now c.args.self.now.past.items c.gain.new.self.past.items c.args.self.now.future.items owners next c.requires.above up
-      (gains (taken (owner_of c.args.span.now) owners) (IsOnly-taken (owner_of c.args.span.now) owners next.new) (Belong-ceded _ _ _ _ _ _ _ next c.requires.above up) (ArePast-ceded _ _ _ _ _ _ next)).before)
+    (gains (taken (owner_of c.args.span.now) owners) (IsOnly-taken (owner_of c.args.span.now) owners next.new) (Belong-ceded _ _ _ _ _ _ _ next c.requires.above up) (ArePast-ceded _ _ _ _ _ _ next)).before)
 
 pub returns-clause-on : goal.returns-clause-on
 returns-clause-on c =
@@ -109,7 +107,7 @@ returns-clause-sums c =
     let loses = rw length at c.lose.ensures.sum in
     let adds = rw (from, until) at c.gain.ensures.own in
     let gained = gains (taken (owner_of c.args.span.now) owners) (IsOnly-taken (owner_of c.args.span.now) owners next.new)
-      (Belong-ceded _ _ _ _ _ _ _ next c.requires.above up) (ArePast-ceded _ _ _ _ _ _ next) in
+    (Belong-ceded _ _ _ _ _ _ _ next c.requires.above up) (ArePast-ceded _ _ _ _ _ _ next) in
     rw (future, c.gain.ensures.busy) (AreSums-ceded (owner_of c.args.span.now) c.args.from c.min-until.result c.args.part.now c.args.self.now.past.items c.gain.new.self.past.items c.args.self.now.future.items (taken (owner_of c.args.span.now) owners) c.args.self.now.own c.lose.new.own c.gain.new.self.own _ next.within.0 up.forward up.within c.requires.sums loses gained adds)
 
 pub returns-clause-kept : goal.returns-clause-kept

@@ -1,8 +1,7 @@
-use Rattle.std.proofs.Common.{rules, ◌≡◌, ◌<ℤ◌, ◌≤ℤ◌, ◌++◌, [], ◌∷◌, true, false, int_lt, length, reverse, w64, to_z, of_z, sym, ◌∙◌, subst, arith, List}
+use Rattle.std.proofs.Common.{rules, ◌≡◌, true, false, int_lt, reverse, w64, to_z, of_z, sym, ◌∙◌, arith}
 use Rattle.std.proofs.lemmas.Int.{ints}
-use Rattle.span_track.specs.declared.segment.Part.{Part}
 use Rattle.span_track.specs.Division.{owner_of}
-use Rattle.span_track.specs.Cursor.{starts_before, IsAtStart}
+use Rattle.span_track.specs.Cursor.{starts_before}
 use Rattle.span_track.proofs.Cursor.{StartsFrom-starts_before}
 use Rattle.span_track.proofs.Taking.{IsTakenTo-start, IsNextPart-start, starts_before-last}
 use Rattle.span_track.proofs.PartSums.{AreSums-pop}

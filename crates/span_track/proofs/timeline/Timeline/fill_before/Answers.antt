@@ -1,4 +1,4 @@
-use Rattle.std.proofs.Common.{rules, ◌≡◌, ◌<ℤ◌, ◌≤ℤ◌, ◌++◌, [], ◌∷◌, reverse, w64, to_z, of_z, arith}
+use Rattle.std.proofs.Common.{rules, ◌≡◌, ◌<ℤ◌, w64, to_z, of_z, arith}
 use Rattle.std.proofs.lemmas.Int.{ints}
 use Rattle.span_track.specs.Spans.{distance}
 use Rattle.span_track.specs.Division.{owner_of, taken}

@@ -1,8 +1,7 @@
-use Rattle.std.proofs.Common.{rules, ◌≡◌, ◌<ℤ◌, ◌≤ℤ◌, reverse, w64, to_z, of_z, arith}
+use Rattle.std.proofs.Common.{rules, ◌≡◌, reverse, w64, to_z, of_z, arith}
 use Rattle.std.proofs.lemmas.Int.{ints}
 use Rattle.span_track.specs.Spans.{distance}
-use Rattle.span_track.specs.Division.{Owners, owner_of, taken}
-use Rattle.span_track.specs.Cursor.{IsTakenTo}
+use Rattle.span_track.specs.Division.{owner_of, taken}
 use Rattle.span_track.proofs.Cursor.{StartsFrom-starts_before}
 use Rattle.span_track.proofs.Taking.{AreParts-taken, AreParts-filled, Belong-gap, IsOnly-taken}
 use Rattle.span_track.proofs.PartSums.{AreSums-filled, AreSmall-taken}

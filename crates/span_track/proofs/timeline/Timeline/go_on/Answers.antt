@@ -1,9 +1,9 @@
-use Rattle.std.proofs.Common.{rules, ◌≡◌, ◌+◌, ◌*◌, ◌≤◌, ◌<ℤ◌, ◌≤ℤ◌, ◌++◌, [], ◌∷◌, true, int_lt, length, reverse, w64, to_z, of_z, sym, ap, ◌∙◌, subst, arith, List}
+use Rattle.std.proofs.Common.{rules, ◌≡◌, ◌<ℤ◌, true, int_lt, w64, to_z, of_z, sym, ap, ◌∙◌, subst, arith, List}
 use Rattle.std.specs.Vec.{vec_len}
 use Rattle.std.proofs.lemmas.Int.{ints}
 use Rattle.span_track.specs.declared.segment.Part.{Part}
-use Rattle.span_track.specs.Division.{owner_of, piece}
-use Rattle.span_track.specs.Cursor.{IsTakenTo, IsNextPart}
+use Rattle.span_track.specs.Division.{owner_of}
+use Rattle.span_track.specs.Cursor.{IsTakenTo}
 use Rattle.span_track.proofs.Taking.{IsGapBefore-taken, starts_before-last, piece-none}
 use Rattle.span_track.proofs.PartSums.{AreSums-pop}
 use Rattle.span_track.proofs.timeline.Timeline.go_on.Goals as goal
