@@ -15,6 +15,13 @@ pos-natural (negsuc n) h = absurd (omega (arith, ints))
 pub add-distance : (a b : ℤ) → a ≤ℤ b → (a +ℤ pos (distance a b)) ≡ b
 add-distance a b h = let e = pos-natural (b -ℤ a) (omega (arith, ints)) in omega (arith, ints, e)
 
+pub distance-add : (a b c : ℤ) → a ≤ℤ b → b ≤ℤ c → distance a c ≡ distance a b + distance b c
+distance-add a b c first then =
+    let whole = add-distance a c (omega (arith, ints)) in
+    let here = add-distance a b first in
+    let later = add-distance b c then in
+    omega (arith, ints, whole, here, later)
+
 pub count_from-add : (p : ℤ → Bool) (t : ℤ) (m n : ℕ) → count_from t (m + n) p ≡ count_from t m p + count_from (t +ℤ pos m) n p
 count_from-add p t zero n =
     let here : (t +ℤ pos 0) ≡ t = omega (arith, ints) in
@@ -112,14 +119,11 @@ count_from-all p t (suc n) all =
     omega (arith, here, rest)
 
 -- through a stretch in which the test doesn't change, all pass or none
-pub count_from-unbroken : (p : ℤ → Bool) (u v w : ℤ) → u ≤ℤ v → v ≤ℤ w → ((x : ℤ) → u ≤ℤ x → x <ℤ v → p x ≡ p u) → count_from u (distance u w) p ≡ cond (p u) (distance u v) 0 + count_from v (distance v w) p
-count_from-unbroken p u v w first then same =
+pub count_from-unbroken : (p : ℤ → Bool) (b : Bool) (u v w : ℤ) → u ≤ℤ v → v ≤ℤ w → ((x : ℤ) → u ≤ℤ x → x <ℤ v → p x ≡ b) → count_from u (distance u w) p ≡ cond b (distance u v) 0 + count_from v (distance v w) p
+count_from-unbroken p b u v w first then same =
     let here = add-distance u v first in
-    let later = add-distance v w then in
-    let whole = add-distance u w (omega (arith, ints)) in
-    let parts : distance u w ≡ distance u v + distance v w = omega (arith, ints, here, later, whole) in
-    rw parts (count_from-add p u (distance u v) (distance v w) ∙ rw here (ap (λ n. n + count_from v (distance v w) p) (by_test (p u) refl)))
+    rw (distance-add u v w first then) (count_from-add p u (distance u v) (distance v w) ∙ rw here (ap (λ n. n + count_from v (distance v w) p) (by_test b same)))
   where
-    by_test : (b : Bool) → p u ≡ b → count_from u (distance u v) p ≡ cond b (distance u v) 0
-    by_test true h = count_from-all p u (distance u v) (λ x from before. let here = add-distance u v first in same x from (omega (arith, ints, here)) ∙ h)
-    by_test false h = count_from-none p u (distance u v) (λ x from before. let here = add-distance u v first in same x from (omega (arith, ints, here)) ∙ h)
+    by_test : (c : Bool) → ((x : ℤ) → u ≤ℤ x → x <ℤ v → p x ≡ c) → count_from u (distance u v) p ≡ cond c (distance u v) 0
+    by_test true h = count_from-all p u (distance u v) (λ x from before. let here = add-distance u v first in h x from (omega (arith, ints, here)))
+    by_test false h = count_from-none p u (distance u v) (λ x from before. let here = add-distance u v first in h x from (omega (arith, ints, here)))

@@ -27,13 +27,6 @@ pub natural-none : (z : ℤ) → z ≤ℤ pos 0 → natural z ≡ 0
 natural-none (pos n) h = omega (arith, ints)
 natural-none (negsuc n) h = refl
 
-pub distance-add : (a b c : ℤ) → a ≤ℤ b → b ≤ℤ c → distance a c ≡ distance a b + distance b c
-distance-add a b c first then =
-    let whole = add-distance a c (omega (arith, ints)) in
-    let here = add-distance a b first in
-    let later = add-distance b c then in
-    omega (arith, ints, whole, here, later)
-
 -- the later time is nearer to the end
 pub distance-later : (t later until : ℤ) → t <ℤ later → t <ℤ until → distance later until < distance t until
 distance-later t later until h before =

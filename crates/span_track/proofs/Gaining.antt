@@ -7,7 +7,8 @@ use Rattle.span_track.specs.Spans.{Span, distance}
 use Rattle.span_track.specs.Division.{Owners, owner_of, Belong, ArePast, IsOnly, part_length, named_length, whole_length, between}
 use Rattle.span_track.specs.Cursor.{IsOpened, IsGained}
 use Rattle.span_track.proofs.Cursor.{Some≢None}
-use Rattle.span_track.proofs.Ends.{reverse-push, natural-none, distance-add, slice_get-reverse}
+use Rattle.span_track.proofs.Counts.{distance-add}
+use Rattle.span_track.proofs.Ends.{reverse-push, natural-none, slice_get-reverse}
 use Rattle.span_track.proofs.Taking.{ArePast-push}
 
 -- the last part is the span's, so it is opened

@@ -1,5 +1,5 @@
 -- That the parts of a name are together as long as its self time, and all parts as long as the busy time.
-use Rattle.std.proofs.Common.{◌≡◌, ◌≤◌, ◌<◌, ◌^◌, length, ℕ, ◌+◌, Bool, true, false, cond, nat_eq, ℤ, ◌≤ℤ◌, ◌<ℤ◌, List, [], ◌∷◌, Option, Some, None, refl, sym, ap, ◌∙◌, arith, All}
+use Rattle.std.proofs.Common.{◌≡◌, ◌≤◌, ◌<◌, ◌^◌, length, ℕ, ◌+◌, Bool, false, cond, nat_eq, ℤ, ◌≤ℤ◌, List, [], ◌∷◌, Option, Some, None, refl, sym, ap, ◌∙◌, arith, All}
 use Rattle.std.specs.List.{sum_by}
 use Rattle.std.specs.Option.{is_some}
 use Rattle.std.proofs.lemmas.Int.{ints}
@@ -8,19 +8,15 @@ use Rattle.span_track.specs.declared.segment.Part.{Part}
 use Rattle.span_track.specs.Spans.{Span, count_from, distance, self_time, self_of, busy_time}
 use Rattle.span_track.specs.Closed.{least_start, greatest_until, AreClosed}
 use Rattle.span_track.specs.Division.{Owners, bare, owners_of, owner_of, ArePast, AreFuture, AreParts, part_length, named_length, whole_length}
-use Rattle.span_track.proofs.Counts.{add-distance, count_from-add, count_from-all, count_from-none}
+use Rattle.span_track.proofs.Counts.{add-distance, count_from-none, count_from-unbroken}
 use Rattle.span_track.proofs.OwnTimes.{sum_by-self_times}
-use Rattle.span_track.proofs.SelfSums.{self_sum, self_sum-self_of}
+use Rattle.span_track.proofs.SelfSums.{cond-le, self_sum, self_sum-self_of}
 use Rattle.span_track.proofs.SelfTimes.{sum_by-self_time}
 
 pub named_length-le : (name : ℕ) (parts : List Part) → named_length name parts ≤ whole_length parts
 named_length-le name [] = omega arith
 named_length-le name (p ∷ parts) =
     omega (arith, sum_by-cons (λ (x : Part). cond (nat_eq x.segment.name name) (part_length x) 0) p parts, sum_by-cons (λ (x : Part). part_length x) p parts, cond-le (nat_eq p.segment.name name) (part_length p), named_length-le name parts)
-  where
-    cond-le : (b : Bool) (n : ℕ) → cond b n 0 ≤ n
-    cond-le true n = omega arith
-    cond-le false n = omega arith
 
 -- the future parts fit in the time that is left
 pub whole_length-le : (owners : Owners) (t : ℤ) (parts : List Part) → AreFuture owners t parts → (t ≤ℤ greatest_until) × (whole_length parts ≤ distance t greatest_until)
@@ -44,26 +40,13 @@ whole_length-le_past owners t (p ∷ parts) are =
     let all = add-distance least_start t within in
     (within, omega (arith, ints, sum_by-cons (λ (x : Part). part_length x) p parts, are.0, are.2, rest.1, here, earlier, all))
 
--- through a stretch in which all pass or none do
-count_from-stretch : (p : ℤ → Bool) (b : Bool) (u v w : ℤ) → u ≤ℤ v → v ≤ℤ w → ((x : ℤ) → u ≤ℤ x → x <ℤ v → p x ≡ b) → count_from u (distance u w) p ≡ cond b (distance u v) 0 + count_from v (distance v w) p
-count_from-stretch p b u v w first then same =
-    let here = add-distance u v first in
-    let later = add-distance v w then in
-    let whole = add-distance u w (omega (arith, ints)) in
-    let parts : distance u w ≡ distance u v + distance v w = omega (arith, ints, here, later, whole) in
-    rw parts (count_from-add p u (distance u v) (distance v w) ∙ rw here (ap (λ n. n + count_from v (distance v w) p) (by_test b same)))
-  where
-    by_test : (c : Bool) → ((x : ℤ) → u ≤ℤ x → x <ℤ v → p x ≡ c) → count_from u (distance u v) p ≡ cond c (distance u v) 0
-    by_test true h = count_from-all p u (distance u v) (λ x from before. let here = add-distance u v first in h x from (omega (arith, ints, here)))
-    by_test false h = count_from-none p u (distance u v) (λ x from before. let here = add-distance u v first in h x from (omega (arith, ints, here)))
-
 -- the parts whose span passes a test are as long as the time in which the owner passes it
 sum_by-future : (q : Option (Span ℕ) → Bool) → q None ≡ false → (owners : Owners) (t : ℤ) (parts : List Part) → AreFuture owners t parts → sum_by (λ p. cond (q (Some (owner_of p))) (part_length p) 0) parts ≡ count_from t (distance t greatest_until) (λ u. q (owners u))
 sum_by-future q none owners t [] are = sym (count_from-none (λ u. q (owners u)) t (distance t greatest_until) (λ u from before. ap q (are.1 u from) ∙ none))
 sum_by-future q none owners t (p ∷ parts) are =
     let ends = (whole_length-le owners p.segment.until parts are.5).0 in
-    let before = count_from-stretch (λ u. q (owners u)) false t p.segment.start greatest_until are.0 (omega (arith, ints, are.2, ends)) (λ u from under. ap q (are.1 u from under) ∙ none) in
-    let here = count_from-stretch (λ u. q (owners u)) (q (Some (owner_of p))) p.segment.start p.segment.until greatest_until (omega (arith, ints, are.2)) ends (λ u from under. ap q (are.3 u from under)) in
+    let before = count_from-unbroken (λ u. q (owners u)) false t p.segment.start greatest_until are.0 (omega (arith, ints, are.2, ends)) (λ u from under. ap q (are.1 u from under) ∙ none) in
+    let here = count_from-unbroken (λ u. q (owners u)) (q (Some (owner_of p))) p.segment.start p.segment.until greatest_until (omega (arith, ints, are.2)) ends (λ u from under. ap q (are.3 u from under)) in
     sum_by-cons (λ (x : Part). cond (q (Some (owner_of x))) (part_length x) 0) p parts
     ∙ ap (λ n. cond (q (Some (owner_of p))) (part_length p) 0 + n) (sum_by-future q none owners p.segment.until parts are.5)
     ∙ sym here ∙ sym (omega (arith, before))

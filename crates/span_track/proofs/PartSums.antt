@@ -9,7 +9,7 @@ use Rattle.span_track.specs.Spans.{Span, distance}
 use Rattle.span_track.specs.Closed.{least_start, greatest_until}
 use Rattle.span_track.specs.Division.{Owners, taken, part_length, named_length, whole_length, SelfTimes, own_in, AreSums, parts_of, between, piece}
 use Rattle.span_track.specs.Cursor.{IsTakenTo, IsNextPart, IsGained}
-use Rattle.span_track.proofs.Counts.{add-distance}
+use Rattle.span_track.proofs.Counts.{add-distance, distance-add}
 use Rattle.span_track.proofs.PartLengths.{named_length-le, whole_length-le, whole_length-le_past}
 
 sum_by-reverse : {A : Type 0} (f : A → ℕ) (xs : List A) → sum_by f (reverse xs) ≡ sum_by f xs
@@ -57,10 +57,6 @@ distance-self a = let e = add-distance a a (omega (arith, ints)) in omega (arith
 pub distance-positive : (a b : ℤ) → a <ℤ b → 0 < distance a b
 distance-positive a b h = let e = add-distance a b (omega (arith, ints)) in omega (arith, ints, e)
 
-pub distance-split : (a b c : ℤ) → a ≤ℤ b → b ≤ℤ c → distance a c ≡ distance a b + distance b c
-distance-split a b c h k =
-    omega (arith, ints, add-distance a b h, add-distance b c k, add-distance a c (omega (arith, ints)))
-
 -- what a piece of a part adds
 named_length-piece : (name : ℕ) (p : Part) (a b : ℤ) (parts : List Part) → a ≤ℤ b → named_length name (parts ++ piece p a b) ≡ named_length name parts + cond (nat_eq p.segment.name name) (distance a b) 0
 named_length-piece name p a b parts h = by_test (int_lt a b) refl
@@ -98,7 +94,7 @@ pub AreSums-ceded : (s : Span ℕ) (from until : ℤ) (p : Part) (past gained fu
     → AreSums new busy (parts_of gained (future ++ piece p until p.segment.until))
 AreSums-ceded s from until p past gained future owners old lost new busy first then last sums loses gains adds =
     let parts : part_length p ≡ distance p.segment.start from + distance from until + distance until p.segment.until =
-    omega (arith, distance-split p.segment.start from p.segment.until first (omega (arith, ints)), distance-split from until p.segment.until (omega (arith, ints)) last) in
+    omega (arith, distance-add p.segment.start from p.segment.until first (omega (arith, ints)), distance-add from until p.segment.until (omega (arith, ints)) last) in
     record {
       of_names = λ name. omega (
         arith,
@@ -153,8 +149,8 @@ part-le-own own busy from until p past future sums first then last =
       sums.of_names p.segment.name,
       named_length-next p.segment.name p past future,
       here,
-      distance-split p.segment.start from p.segment.until first (omega (arith, ints)),
-      distance-split from until p.segment.until then last,
+      distance-add p.segment.start from p.segment.until first (omega (arith, ints)),
+      distance-add from until p.segment.until then last,
     )
 
 -- no running time is greater than the whole time
@@ -181,7 +177,7 @@ AreSmall-next s from p past future owners own busy next sums =
     let before = whole_length-le_past (taken s owners) p.segment.start (reverse past) next.before in
     let after = whole_length-le owners p.segment.until (reverse future) next.after in
     let within : p.segment.start ≤ℤ greatest_until = omega (arith, ints, next.within, after.0) in
-    let split = distance-split p.segment.start p.segment.until greatest_until (omega (arith, ints, next.within)) after.0 in
+    let split = distance-add p.segment.start p.segment.until greatest_until (omega (arith, ints, next.within)) after.0 in
     let whole : whole_length (p ∷ parts_of past future) ≤ 2 ^ 55 =
     omega (arith, whole-small p.segment.start before.0 within, split, before.1, after.1, whole_length-next p past future, sum_by-reverse (λ (x : Part). part_length x) past, sum_by-reverse (λ (x : Part). part_length x) future) in
     record {

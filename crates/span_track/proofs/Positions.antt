@@ -4,7 +4,7 @@ use Rattle.std.specs.Option.{option_or}
 use Rattle.std.proofs.lemmas.List.Elements.{All-nil, All-cons, All-head, All-tail, All-push, All-append, All-take}
 use Rattle.span_track.specs.Spans.{Span, Arguments}
 use Rattle.span_track.specs.Nesting.{Begin, ThreadEvent, began, ended, completed, matched_span}
-use Rattle.span_track.specs.Thread.{ThreadSpans, thread_spans, HasRoom, IsNext}
+use Rattle.span_track.specs.Thread.{ThreadSpans, thread_spans, HasRoom, IsNext, IsBefore, AreBefore}
 use Rattle.span_track.proofs.OpenSpans.{last_of, without_last, take-without_last, option_or-some}
 use Rattle.span_track.proofs.ThreadSpans.{with_end, thread_spans-began, thread_spans-ended, thread_spans-completed}
 
@@ -17,16 +17,6 @@ All-last_of {A = A} P (y ∷ ys) all x found = by_rest (last_of ys) (λ z. All-l
     by_rest (Some z) rest found = rest x found
 
 module _ {N : Type 0} where
-  -- the event was placed before this position; an end opens nothing, and has none
-  abbrev pub IsBefore : ℕ → ThreadEvent N → Type 0
-  IsBefore at (began b) = b.at < at
-  IsBefore at (ended ts args) = Unit {0}
-  IsBefore at (completed s) = s.at < at
-
-  abbrev pub AreBefore : ℕ → List (ThreadEvent N) → Type 0
-  AreBefore at [] = Unit {0}
-  AreBefore at (e ∷ es) = IsBefore at e × AreBefore at es
-
   All-matched_span : (at : ℕ) (ts : ℤ) (args : Arguments) (o : Option (Begin N)) → ((b : Begin N) → o ≡ Some b → b.at < at) → All (λ s. s.at < at) (matched_span o ts args)
   All-matched_span at ts args None before = All-nil (λ s. s.at < at)
   All-matched_span at ts args (Some b) before = All-cons (λ s. s.at < at) _ [] (before b refl) (All-nil (λ s. s.at < at))

@@ -33,7 +33,7 @@ self_sum-more all name spans i s within read =
     ∙ ap (λ l. sum_by (λ s. cond (nat_eq s.name name) (self_time all s) 0) l) (map_push span_of (take i spans) s)
     ∙ sum_by_push (λ s. cond (nat_eq s.name name) (self_time all s) 0) (map span_of (take i spans)) (span_of s)
 
-cond-le : (b : Bool) (n : ℕ) → cond b n 0 ≤ n
+pub cond-le : (b : Bool) (n : ℕ) → cond b n 0 ≤ n
 cond-le true n = omega arith
 cond-le false n = omega arith
 

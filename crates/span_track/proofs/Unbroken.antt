@@ -44,7 +44,7 @@ turned false n = refl
 pub self_time_from-step : (spans : List ClosedSpan) (s : Span ℕ) (u v : ℤ) (b : Bool) → u ≤ℤ v → v ≤ℤ s.until → All (λ span. IsUnbroken (span_of span) u v) spans → b ≡ is_outranked (map span_of spans) s u → self_time_from (map span_of spans) s u ≡ cond b 0 (distance u v) + self_time_from (map span_of spans) s v
 unfolding self_time_from
 self_time_from-step spans s u v b first then unbroken here =
-    count_from-unbroken (λ w. not (is_outranked (map span_of spans) s w)) u v s.until first then (λ w from before. ap not (is_outranked-unbroken spans s u v unbroken w from before))
+    count_from-unbroken (λ w. not (is_outranked (map span_of spans) s w)) (not (is_outranked (map span_of spans) s u)) u v s.until first then (λ w from before. ap not (is_outranked-unbroken spans s u v unbroken w from before))
     ∙ ap (λ n. n + self_time_from (map span_of spans) s v) (sym (turned b (distance u v) ∙ ap (λ t. cond (not t) (distance u v) 0) here))
 
 pub self_time-le : (spans : List (Span ℕ)) (s : Span ℕ) → s.start ≤ℤ s.until → IsInTime s → self_time spans s ≤ 2 ^ 55
@@ -69,7 +69,7 @@ module _ {N : Type 0} where
 pub busy_time_from-step : (spans : List ClosedSpan) (u v end : ℤ) (b : Bool) → u ≤ℤ v → v ≤ℤ end → All (λ span. IsUnbroken (span_of span) u v) spans → b ≡ is_covered (map span_of spans) u → busy_time_from (map span_of spans) u end ≡ cond b (distance u v) 0 + busy_time_from (map span_of spans) v end
 unfolding busy_time_from
 busy_time_from-step spans u v end b first then unbroken here =
-    count_from-unbroken (λ w. is_covered (map span_of spans) w) u v end first then (λ w from before. is_covered-unbroken spans u v unbroken w from before)
+    count_from-unbroken (λ w. is_covered (map span_of spans) w) (is_covered (map span_of spans) u) u v end first then (λ w from before. is_covered-unbroken spans u v unbroken w from before)
     ∙ ap (λ t. cond t (distance u v) 0 + busy_time_from (map span_of spans) v end) (sym here)
 
 pub earliest-le : {N : Type 0} (spans : List (Span N)) → earliest spans ≤ℤ pos 0

@@ -1,7 +1,7 @@
 -- What the track of a thread keeps, and when it refuses an event.
-use Rattle.std.specs.Prelude.{◌≡◌, ℕ, ◌+◌, ◌<◌, ◌^◌, ◌-◌, Bool, false, if◌then◌else◌, ℤ, int_lt, List, length, All, Option, Some, None, ◌==◌}
+use Rattle.std.specs.Prelude.{◌≡◌, ℕ, ◌+◌, ◌<◌, ◌^◌, ◌-◌, Bool, false, if◌then◌else◌, ℤ, int_lt, List, [], ◌∷◌, length, All, Option, Some, None, ◌==◌}
 use Rattle.span_track.specs.Spans.{Span}
-use Rattle.span_track.specs.Nesting.{Begin, ThreadEvent, open_spans, closed_spans, last_time}
+use Rattle.span_track.specs.Nesting.{Begin, ThreadEvent, began, ended, completed, open_spans, closed_spans, last_time}
 
 -- the open spans, the closed spans, and the time of the last begin or end
 pub record ThreadSpans (N : Type 0) : Type 0 where
@@ -37,3 +37,13 @@ module _ {N : Type 0} where
   -- an end: 21 where no span is open, then 22 as for a begin
   abbrev pub end_refusal : ThreadSpans N → ℤ → Option ℕ
   end_refusal track ts = if length track.opened == 0 then Some 21 else begin_refusal track ts
+
+  -- the event stands before this position; an end opens nothing, and needs none
+  abbrev pub IsBefore : ℕ → ThreadEvent N → Type 0
+  IsBefore at (began b) = b.at < at
+  IsBefore at (ended ts args) = Unit {0}
+  IsBefore at (completed s) = s.at < at
+
+  abbrev pub AreBefore : ℕ → List (ThreadEvent N) → Type 0
+  AreBefore at [] = Unit {0}
+  AreBefore at (e ∷ es) = IsBefore at e × AreBefore at es

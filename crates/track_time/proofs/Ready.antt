@@ -1,8 +1,8 @@
 -- A track that can take an event at a position can take the next one after it.
 use Rattle.std.proofs.Common.{ℕ, ◌+◌, ◌<◌, ◌-◌, ◌^◌, List, [], ◌∷◌, ◌++◌, length-append, sym, subst, arith}
 use Rattle.span_track.specs.Nesting.{ThreadEvent, began, ended, completed}
-use Rattle.span_track.specs.Thread.{ThreadSpans, StandsFor, HasRoom, IsNext}
-use Rattle.span_track.proofs.Positions.{IsBefore, AreBefore, IsNext-thread_spans, HasRoom-thread_spans}
+use Rattle.span_track.specs.Thread.{ThreadSpans, StandsFor, HasRoom, IsNext, IsBefore, AreBefore}
+use Rattle.span_track.proofs.Positions.{IsNext-thread_spans, HasRoom-thread_spans}
 use Rattle.track_time.specs.Ready.{IsReady}
 
 IsBefore-later : (at : ℕ) (e : ThreadEvent ℕ) → IsBefore at e → IsBefore (at + 1) e

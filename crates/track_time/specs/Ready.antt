@@ -1,8 +1,7 @@
 -- When a track can take an event at a position.
 use Rattle.std.specs.Prelude.{ℕ, ◌≤◌, List, length}
 use Rattle.span_track.specs.Nesting.{ThreadEvent}
-use Rattle.span_track.specs.Thread.{ThreadSpans, StandsFor}
-use Rattle.span_track.proofs.Positions.{AreBefore}
+use Rattle.span_track.specs.Thread.{ThreadSpans, StandsFor, AreBefore}
 
 -- the track stands for some events, no more than there are positions before this one, that all stand at those
 pub record IsReady (at : ℕ) (track : ThreadSpans ℕ) : Type 0 where

@@ -39,12 +39,20 @@ fn count_of_lasting(track: &ThreadTrack) -> usize {
         .count()
 }
 
-// The segments lie one after the other, are together as long as the busy time, and are no more than two for each span with a
-// length, less one.
+// Some closed span starts or ends then.
+fn is_end(track: &ThreadTrack, time: i64) -> bool {
+    track
+        .spans()
+        .iter()
+        .any(|span| span.start == time || span.until == time)
+}
+
+// The segments lie one after the other, and start and end where closed spans do. They are together as long as the busy time,
+// and no more than two for each span with a length, less one.
 fn expect_segments(rt: &impl Abort, track: &ThreadTrack) {
     let count = track.segment_count();
     let lasting = count_of_lasting(track) as u64;
-    assert!(rt; count <= (2 * lasting).saturating_sub(1));
+    assert!(rt; count <= lasting.saturating_mul(2).saturating_sub(1));
     assert!(rt; track.segment(count).is_none());
     let mut busy = 0u64;
     let mut until = i64::MIN;
@@ -53,6 +61,7 @@ fn expect_segments(rt: &impl Abort, track: &ThreadTrack) {
             panic!(rt; "no segment {i}");
         };
         assert!(rt; until <= segment.start && segment.start < segment.until);
+        assert!(rt; is_end(track, segment.start) && is_end(track, segment.until));
         until = segment.until;
         busy = busy.saturating_add(segment.until.saturating_sub(segment.start) as u64);
     }
