@@ -10,7 +10,7 @@ use std::alloc::{AllocError, Global};
 
 /// An event with the number of its name.
 #[derive(Drop)]
-pub struct Step {
+pub(crate) struct Step {
     pub number: u32,
     pub event: Event,
     ghost in_time: { IsTime event.ts },
@@ -46,7 +46,7 @@ fn add(steps: &mut Vec<Step>, names: &mut Names, item: Item) -> Result<(), Alloc
 }
 
 /// The begins, ends and complete events in order, and how many names they have.
-pub fn steps_of(alloc: Global, items: Items) -> Result<(Vec<Step>, u32), AllocError>
+pub(crate) fn steps_of(alloc: Global, items: Items) -> Result<(Vec<Step>, u32), AllocError>
     requires { All IsGoodItem items }
 {
     let mut steps = Vec::new(alloc);

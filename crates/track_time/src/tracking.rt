@@ -32,7 +32,7 @@ fn take(track: &mut ThreadTrack, at: u32, step: &Step) -> Result<u32, TrackFault
 }
 
 /// The track of these events, unless one is refused.
-pub fn track_of(alloc: Global, steps: &[Step]) -> Result<ThreadTrack, TrackFault> {
+pub(crate) fn track_of(alloc: Global, steps: &[Step]) -> Result<ThreadTrack, TrackFault> {
     let mut track = ThreadTrack::new(alloc);
     let mut at = 0;
     for step in steps {
