@@ -1,8 +1,8 @@
-pub mod Good
 pub mod Keys
 pub mod Later
 pub mod LegalJournals
 pub mod Renaming
+pub mod Counting
 pub mod Following
 pub mod Totals
 pub mod Tracks

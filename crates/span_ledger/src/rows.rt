@@ -1,3 +1,7 @@
+ghost use Rattle.std.specs.Prelude.{◌≡◌};
+ghost use Rattle.span_ledger.specs.Rows.{counted, HasPlace};
+
+use crate::entry::Answer;
 use span_read::Text;
 
 /// How many entries of each kind a journal holds.
@@ -7,6 +11,31 @@ pub struct CountRow {
     pub refused: u32,
     pub skipped: u32,
     pub queries: u32,
+}
+
+impl CountRow {
+    pub(crate) const fn of_no_entries() -> CountRow
+        ensures { result ≡ record { accepted = 0; refused = 0; skipped = 0; queries = 0 } }
+    {
+        CountRow {
+            accepted: 0,
+            refused: 0,
+            skipped: 0,
+            queries: 0,
+        }
+    }
+
+    // One more entry, with this answer.
+    pub(crate) fn count(&mut self, answer: &Answer)
+        requires { HasPlace self.old }
+        ensures { self.new ≡ counted self.old answer.now }
+    {
+        match answer {
+            Answer::Opened { .. } | Answer::Closed { .. } | Answer::Completed => self.accepted += 1,
+            Answer::Refused(_) => self.refused += 1,
+            Answer::Skipped => self.skipped += 1,
+        }
+    }
 }
 
 /// A process that has an accepted event. Its name is None where no event gave one.
