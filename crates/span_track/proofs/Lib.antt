@@ -4,6 +4,7 @@ pub mod Counts
 pub mod Cursor
 pub mod Ends
 pub mod Gaining
+pub mod Passing
 pub mod Numbers
 pub mod OpenSpans
 pub mod OwnTimes

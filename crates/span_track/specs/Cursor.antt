@@ -1,10 +1,11 @@
 -- What holds of a timeline and its cursor while a new span takes what is its own.
-use Rattle.std.specs.Prelude.{◌≡◌, ◌≢◌, ℕ, ◌+◌, nat_eq, if◌then◌else◌, Bool, false, ℤ, pos, ◌-ℤ◌, ◌≤ℤ◌, ◌<ℤ◌, int_le, int_lt, List, [], ◌∷◌, reverse, Some}
+use Rattle.std.specs.Prelude.{◌≡◌, ◌≢◌, ℕ, ◌+◌, ◌*◌, ◌≤◌, ◌<◌, nat_eq, length, ◌++◌, vec_len, vec_capacity, IsSome, if◌then◌else◌, Bool, false, ℤ, pos, ◌-ℤ◌, ◌≤ℤ◌, ◌<ℤ◌, int_le, int_lt, List, [], ◌∷◌, reverse, Some}
+use Rattle.indexmap.specs.IndexMap.{get}
 use Rattle.span_track.specs.declared.segment.Part.{Part}
 use Rattle.span_track.specs.declared.timeline.Timeline.{Timeline}
 use Rattle.span_track.specs.Spans.{Span, distance}
 use Rattle.span_track.specs.Closed.{least_start, greatest_until}
-use Rattle.span_track.specs.Division.{Owners, taken, owner_of, Belong, ArePast, AreFuture, AreParts, AreSums, IsNew, IsChange, named_length, whole_length, parts_of}
+use Rattle.span_track.specs.Division.{Owners, taken, owner_of, Belong, ArePast, AreFuture, AreParts, AreSums, IsNew, IsChange, named_length, whole_length, parts_of, piece}
 
 -- the first of the parts ends no later than t
 abbrev pub ends_by : ℤ → List Part → Bool
@@ -57,6 +58,36 @@ pub record IsNextPart (s : Span ℕ) (from : ℤ) (p : Part) (past future : List
   pub belongs : Belong owners p.segment.start p.segment.until (Some (owner_of p))
   pub until : owners p.segment.until ≢ Some (owner_of p)
   pub after : AreFuture owners p.segment.until (reverse future)
+
+-- the cursor stands where a new span starts, its name has a running time, and there is room for all that it may take
+pub record IsEntering (s : Span ℕ) (t : Timeline) (owners : Owners) : Type 0 where
+  pub start : IsAtStart s t.past.items t.future.items owners
+  pub sums : AreSums t.own t.busy (parts_of t.past.items t.future.items)
+  pub kept : IsSome (get nat_eq t.own s.name)
+  pub room : vec_len t.past + 2 * vec_len t.future + 2 ≤ vec_capacity t.past
+
+-- a new span has taken what is its own before `time`, and there is room for the rest
+pub record IsTaking (s : Span ℕ) (time : ℤ) (t : Timeline) (owners : Owners) : Type 0 where
+  pub taken : IsTakenTo s time t.past.items t.future.items owners
+  pub sums : AreSums t.own t.busy (parts_of t.past.items t.future.items)
+  pub kept : IsSome (get nat_eq t.own s.name)
+  pub room : time <ℤ s.until → vec_len t.past + 2 * vec_len t.future + 1 ≤ vec_capacity t.past
+
+-- the same, but that the next part is taken out
+pub record IsAhead (s : Span ℕ) (time : ℤ) (p : Part) (t : Timeline) (owners : Owners) : Type 0 where
+  pub taken : IsTakenTo s time t.past.items (t.future.items ++ p ∷ []) owners
+  pub sums : AreSums t.own t.busy (p ∷ parts_of t.past.items t.future.items)
+  pub kept : IsSome (get nat_eq t.own s.name)
+  pub room : vec_len t.past + 2 * vec_len t.future + 3 ≤ vec_capacity t.past
+  pub room_behind : vec_len t.future < vec_capacity t.future
+
+-- of the part that is taken out, the span may take what lies from `from` on
+pub record IsPassing (s : Span ℕ) (from : ℤ) (p : Part) (t : Timeline) (owners : Owners) : Type 0 where
+  pub next : IsNextPart s from p t.past.items t.future.items owners
+  pub sums : AreSums t.own t.busy (p ∷ parts_of t.past.items t.future.items)
+  pub kept : IsSome (get nat_eq t.own s.name)
+  pub room : vec_len t.past + 2 * vec_len t.future + 2 + length (piece p p.segment.start from) ≤ vec_capacity t.past
+  pub room_behind : vec_len t.future < vec_capacity t.future
 
 -- the past without the span's last part, which reaches from `start` to `from`
 pub record IsOpened (s : Span ℕ) (start from : ℤ) (old new : List Part) (owners : Owners) : Type 0 where

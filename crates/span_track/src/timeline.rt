@@ -5,7 +5,7 @@ ghost use Rattle.indexmap.specs.IndexMap.{get, spare};
 ghost use Rattle.span_track.specs.Spans.{distance, outranks};
 ghost use Rattle.span_track.specs.Closed.{least_start, greatest_until};
 ghost use Rattle.span_track.specs.Division.{Owners, owner_of, taken, Belong, ArePast, AreParts, own_in, AreSums, IsOnly, IsNew, ForSome, parts_of, piece};
-ghost use Rattle.span_track.specs.Cursor.{ends_by, lasts_beyond, starts_before, IsTimeline, IsAtStart, IsTakenTo, IsNextPart, IsOpened, IsGained};
+ghost use Rattle.span_track.specs.Cursor.{ends_by, lasts_beyond, starts_before, IsTimeline, IsEntering, IsTaking, IsAhead, IsPassing, IsOpened, IsGained};
 
 use crate::segment::{Part, Segment};
 use crate::walk::distance;
@@ -131,15 +131,8 @@ impl Timeline {
 
     // The part that the span starts in, if there is one. Returns the time before which all is taken.
     fn enter(&mut self, span: &Part) -> i64
-        requires start { ForSome (IsAtStart (owner_of span.now) self.old.past.items self.old.future.items) }
-        requires sums { AreSums self.old.own self.old.busy (parts_of self.old.past.items self.old.future.items) }
-        requires kept { IsSome (get nat_eq self.old.own span.now.segment.name) }
-        requires room { vec_len self.old.past + 2 * vec_len self.old.future + 2 ≤ vec_capacity self.old.past }
-        ensures taken { (owners : Owners) → IsAtStart (owner_of span.now) self.old.past.items self.old.future.items owners
-            → IsTakenTo (owner_of span.now) result self.new.past.items self.new.future.items owners }
-        ensures sums { AreSums self.new.own self.new.busy (parts_of self.new.past.items self.new.future.items) }
-        ensures kept { IsSome (get nat_eq self.new.own span.now.segment.name) }
-        ensures room { result <ℤ span.now.span_until → vec_len self.new.past + 2 * vec_len self.new.future + 1 ≤ vec_capacity self.new.past }
+        requires { ForSome (IsEntering (owner_of span.now) self.old) }
+        ensures { (owners : Owners) → IsEntering (owner_of span.now) self.old owners → IsTaking (owner_of span.now) result self.new owners }
     {
         if !starts_before(&self.future, span.span_start) {
             return span.span_start;
@@ -152,15 +145,8 @@ impl Timeline {
 
     // The other parts that the span reaches, each with the gap before it.
     fn go_through(&mut self, span: &Part, from: i64) -> i64
-        requires taken { ForSome (IsTakenTo (owner_of span.now) from self.old.past.items self.old.future.items) }
-        requires sums { AreSums self.old.own self.old.busy (parts_of self.old.past.items self.old.future.items) }
-        requires kept { IsSome (get nat_eq self.old.own span.now.segment.name) }
-        requires room { from <ℤ span.now.span_until → vec_len self.old.past + 2 * vec_len self.old.future + 1 ≤ vec_capacity self.old.past }
-        ensures taken { (owners : Owners) → IsTakenTo (owner_of span.now) from self.old.past.items self.old.future.items owners
-            → IsTakenTo (owner_of span.now) result self.new.past.items self.new.future.items owners }
-        ensures sums { AreSums self.new.own self.new.busy (parts_of self.new.past.items self.new.future.items) }
-        ensures kept { IsSome (get nat_eq self.new.own span.now.segment.name) }
-        ensures room { result <ℤ span.now.span_until → vec_len self.new.past + 2 * vec_len self.new.future + 1 ≤ vec_capacity self.new.past }
+        requires { ForSome (IsTaking (owner_of span.now) from self.old) }
+        ensures taken { (owners : Owners) → IsTaking (owner_of span.now) from self.old owners → IsTaking (owner_of span.now) result self.new owners }
         ensures gap { starts_before span.now.span_until (reverse self.new.future.items) ≡ false }
     {
         let mut time = from;
@@ -170,18 +156,12 @@ impl Timeline {
         time
     }
 
+    // The part that comes next, with the gap before it. Returns the time before which all is taken.
     fn go_on(&mut self, span: &Part, time: i64) -> i64
-        requires taken { ForSome (IsTakenTo (owner_of span.now) time self.old.past.items self.old.future.items) }
+        requires taken { ForSome (IsTaking (owner_of span.now) time self.old) }
         requires next { starts_before span.now.span_until (reverse self.old.future.items) ≡ true }
-        requires sums { AreSums self.old.own self.old.busy (parts_of self.old.past.items self.old.future.items) }
-        requires kept { IsSome (get nat_eq self.old.own span.now.segment.name) }
-        requires room { time <ℤ span.now.span_until → vec_len self.old.past + 2 * vec_len self.old.future + 1 ≤ vec_capacity self.old.past }
-        ensures taken { (owners : Owners) → IsTakenTo (owner_of span.now) time self.old.past.items self.old.future.items owners
-            → IsTakenTo (owner_of span.now) result self.new.past.items self.new.future.items owners }
+        ensures taken { (owners : Owners) → IsTaking (owner_of span.now) time self.old owners → IsTaking (owner_of span.now) result self.new owners }
         ensures on { time <ℤ result }
-        ensures sums { AreSums self.new.own self.new.busy (parts_of self.new.past.items self.new.future.items) }
-        ensures kept { IsSome (get nat_eq self.new.own span.now.segment.name) }
-        ensures room { result <ℤ span.now.span_until → vec_len self.new.past + 2 * vec_len self.new.future + 1 ≤ vec_capacity self.new.past }
     {
         let Some(part) = self.future.pop() else {
             unreachable!();
@@ -193,18 +173,9 @@ impl Timeline {
 
     // The gap from `time` to the part, which is taken out.
     fn fill_before(&mut self, span: &Part, part: &Part, time: i64)
-        requires taken { ForSome (IsTakenTo (owner_of span.now) time self.old.past.items (self.old.future.items ++ part.now ∷ [])) }
+        requires ahead { ForSome (IsAhead (owner_of span.now) time part.now self.old) }
         requires within { part.now.segment.start <ℤ span.now.span_until }
-        requires sums { AreSums self.old.own self.old.busy (part.now ∷ parts_of self.old.past.items self.old.future.items) }
-        requires kept { IsSome (get nat_eq self.old.own span.now.segment.name) }
-        requires room { vec_len self.old.past < vec_capacity self.old.past }
-        ensures next { (owners : Owners) → IsTakenTo (owner_of span.now) time self.old.past.items (self.old.future.items ++ part.now ∷ []) owners
-            → IsNextPart (owner_of span.now) part.now.segment.start part.now self.new.past.items self.new.future.items owners }
-        ensures sums { AreSums self.new.own self.new.busy (part.now ∷ parts_of self.new.past.items self.new.future.items) }
-        ensures kept { IsSome (get nat_eq self.new.own span.now.segment.name) }
-        ensures room { vec_len self.new.past ≤ vec_len self.old.past + 1 }
-        ensures capacity { vec_capacity self.new.past ≡ vec_capacity self.old.past }
-        ensures future { self.new.future ≡ self.old.future }
+        ensures { (owners : Owners) → IsAhead (owner_of span.now) time part.now self.old owners → IsPassing (owner_of span.now) part.now.segment.start part.now self.new owners }
     {
         if time < part.segment.start {
             self.busy += distance(time, part.segment.start);
@@ -214,14 +185,9 @@ impl Timeline {
 
     // The gap before the end of the span.
     fn finish(&mut self, span: &Part, time: i64)
-        requires taken { ForSome (IsTakenTo (owner_of span.now) time self.old.past.items self.old.future.items) }
+        requires taken { ForSome (IsTaking (owner_of span.now) time self.old) }
         requires gap { starts_before span.now.span_until (reverse self.old.future.items) ≡ false }
-        requires sums { AreSums self.old.own self.old.busy (parts_of self.old.past.items self.old.future.items) }
-        requires kept { IsSome (get nat_eq self.old.own span.now.segment.name) }
-        requires room { time <ℤ span.now.span_until → vec_len self.old.past < vec_capacity self.old.past }
-        ensures parts { (owners : Owners) → IsTakenTo (owner_of span.now) time self.old.past.items self.old.future.items owners
-            → AreParts (taken (owner_of span.now) owners) (parts_of self.new.past.items self.new.future.items) }
-        ensures sums { AreSums self.new.own self.new.busy (parts_of self.new.past.items self.new.future.items) }
+        ensures { (owners : Owners) → IsTaking (owner_of span.now) time self.old owners → IsTimeline (taken (owner_of span.now) owners) self.new }
     {
         if time < span.span_until {
             self.busy += distance(time, span.span_until);
@@ -231,19 +197,9 @@ impl Timeline {
 
     // The part, of which the span may take what lies from `from` on. Returns the time before which all is taken.
     fn pass(&mut self, span: &Part, part: Part, from: i64) -> i64
-        requires next { ForSome (IsNextPart (owner_of span.now) from part self.old.past.items self.old.future.items) }
-        requires sums { AreSums self.old.own self.old.busy (part ∷ parts_of self.old.past.items self.old.future.items) }
-        requires kept { IsSome (get nat_eq self.old.own span.now.segment.name) }
-        requires room { vec_len self.old.past + 1 + length (piece part part.segment.start from) ≤ vec_capacity self.old.past }
-        requires room_behind { vec_len self.old.future < vec_capacity self.old.future }
-        ensures taken { (owners : Owners) → IsNextPart (owner_of span.now) from part self.old.past.items self.old.future.items owners
-            → IsTakenTo (owner_of span.now) result self.new.past.items self.new.future.items owners }
+        requires { ForSome (IsPassing (owner_of span.now) from part self.old) }
+        ensures taken { (owners : Owners) → IsPassing (owner_of span.now) from part self.old owners → IsTaking (owner_of span.now) result self.new owners }
         ensures on { from <ℤ result }
-        ensures sums { AreSums self.new.own self.new.busy (parts_of self.new.past.items self.new.future.items) }
-        ensures kept { IsSome (get nat_eq self.new.own span.now.segment.name) }
-        ensures room { vec_len self.new.past ≤ vec_len self.old.past + 1 + length (piece part part.segment.start from) }
-        ensures capacity { vec_capacity self.new.past ≡ vec_capacity self.old.past }
-        ensures behind { result <ℤ span.now.span_until → vec_len self.new.future ≡ vec_len self.old.future }
     {
         if span.outranks(&part) {
             return self.cede(span, &part, from);
@@ -255,20 +211,10 @@ impl Timeline {
 
     // The span outranks the part's span, and takes what it covers from `from` on.
     fn cede(&mut self, span: &Part, part: &Part, from: i64) -> i64
-        requires next { ForSome (IsNextPart (owner_of span.now) from part.now self.old.past.items self.old.future.items) }
+        requires next { ForSome (IsPassing (owner_of span.now) from part.now self.old) }
         requires above { outranks (owner_of span.now) (owner_of part.now) ≡ true }
-        requires sums { AreSums self.old.own self.old.busy (part.now ∷ parts_of self.old.past.items self.old.future.items) }
-        requires kept { IsSome (get nat_eq self.old.own span.now.segment.name) }
-        requires room { vec_len self.old.past + 1 + length (piece part.now part.now.segment.start from) ≤ vec_capacity self.old.past }
-        requires room_behind { vec_len self.old.future < vec_capacity self.old.future }
-        ensures taken { (owners : Owners) → IsNextPart (owner_of span.now) from part.now self.old.past.items self.old.future.items owners
-            → IsTakenTo (owner_of span.now) result self.new.past.items self.new.future.items owners }
+        ensures taken { (owners : Owners) → IsPassing (owner_of span.now) from part.now self.old owners → IsTaking (owner_of span.now) result self.new owners }
         ensures on { from <ℤ result }
-        ensures sums { AreSums self.new.own self.new.busy (parts_of self.new.past.items self.new.future.items) }
-        ensures kept { IsSome (get nat_eq self.new.own span.now.segment.name) }
-        ensures room { vec_len self.new.past ≤ vec_len self.old.past + 1 + length (piece part.now part.now.segment.start from) }
-        ensures capacity { vec_capacity self.new.past ≡ vec_capacity self.old.past }
-        ensures behind { result <ℤ span.now.span_until → vec_len self.new.future ≡ vec_len self.old.future }
     {
         push_between(&mut self.past, part, part.segment.start, from);
         let until = part.segment.until.min(span.span_until);

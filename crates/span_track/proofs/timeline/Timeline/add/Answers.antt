@@ -1,25 +1,15 @@
-use Rattle.std.proofs.Common.{rules, ◌≡◌, ◌<ℤ◌, ◌≤ℤ◌, false, length, reverse, w64, to_z, of_z, sym, ap, ◌∙◌, subst, arith, List, length-append}
+use Rattle.std.proofs.Common.{rules, ◌≡◌, ◌≤ℤ◌, ℕ, length, reverse, w64, to_z, of_z, sym, ap, ◌∙◌, subst, arith, List, length-append}
 use Rattle.std.proofs.lemmas.Int.{ints}
 use Rattle.std.proofs.lemmas.List.{length-reverse}
 use Rattle.span_track.specs.declared.segment.Part.{Part}
-use Rattle.span_track.specs.Spans.{Span}
+use Rattle.span_track.specs.declared.timeline.Timeline.{Timeline}
 use Rattle.span_track.specs.Closed.{least_start, greatest_until}
-use Rattle.span_track.specs.Division.{Owners, owner_of, IsNew, AreParts, parts_of}
-use Rattle.span_track.specs.Cursor.{IsAtStart, lasts_beyond, ends_by}
+use Rattle.span_track.specs.Division.{Owners, owner_of, own_in, IsNew, AreParts}
+use Rattle.span_track.specs.Cursor.{IsTimeline, IsAtStart, IsEntering}
 use Rattle.span_track.proofs.Taking.{AreParts-empty}
 use Rattle.span_track.proofs.PartLengths.{length-le-parts}
+use Rattle.span_track.proofs.timeline.Timeline.add.Goals.{In_ok-advance, After-keep_name}
 use Rattle.span_track.proofs.timeline.Timeline.add.Goals as goal
-
--- the cursor has moved to the start of the span
-at_start : (s : Span _) (past future before after : List Part) (owners : Owners) → AreParts owners (parts_of before after) → IsNew s owners → least_start ≤ℤ s.start → s.until ≤ℤ greatest_until → s.start <ℤ s.until → parts_of past future ≡ parts_of before after → lasts_beyond s.start (reverse past) ≡ false → ends_by s.start (reverse future) ≡ false → IsAtStart s past future owners
-at_start s past future before after owners are new first last lasts same ends beyond = record {
-  new = new;
-  in_time = (first, last);
-  lasts = lasts;
-  ends = ends;
-  beyond = beyond;
-  parts = subst (λ (l : List Part). AreParts owners l) (sym same) are;
-}
 
 pub returns-then-span-clause-ok : goal.returns-then-span-clause-ok
 returns-then-span-clause-ok c = λ owners is new.
@@ -32,58 +22,71 @@ overflow_add-len c =
     let same = ap length (c.in_ok-advance.ensures.parts ∙ c.in_ok-rewind.ensures.parts) in
     omega (arith, few, same, length-append c.advance.new.self.past.items (reverse c.advance.new.self.future.items), length-reverse c.advance.new.self.future.items, c.len.ensures)
 
-pub enter-entered-requires-clause-start : goal.enter-entered-requires-clause-start
-enter-entered-requires-clause-start c =
+-- the cursor has moved to the start of the span
+at_start : (c : In_ok-advance) (owners : Owners) → IsTimeline owners c.args.self.now → IsNew (owner_of c.args.span.now) owners → IsAtStart (owner_of c.args.span.now) c.advance.new.self.past.items c.advance.new.self.future.items owners
+at_start c owners is new =
     let start : to_z w64 (of_z w64 c.args.span.now.span_start) ≡ c.args.span.now.span_start = search rules in
-    let ends = rw start at (c.in_ok-advance.ensures.past c.in_ok-rewind.ensures.past) in
-    let beyond = rw start at c.in_ok-advance.ensures.future in
-    let parts = c.in_ok-advance.ensures.parts ∙ c.in_ok-rewind.ensures.parts in
     let first : least_start ≤ℤ c.args.span.now.span_start = c.requires.from_in_time in
     let last : c.args.span.now.span_until ≤ℤ greatest_until = c.requires.to_in_time in
     let lasts : c.args.span.now.span_start ≤ℤ c.args.span.now.span_until = c.requires.lasts in
-    let at = at_start (owner_of c.args.span.now) c.advance.new.self.past.items c.advance.new.self.future.items c.args.self.now.past.items c.args.self.now.future.items c.requires.is.owners c.requires.is.holds.0.parts c.requires.is.holds.1 first last (omega (arith, ints, c.if-span.false, lasts)) parts ends beyond in
-    rw c.in_ok-reserve-2.ensures.items (record { owners = c.requires.is.owners; holds = at })
+    record {
+      new = new;
+      in_time = (first, last);
+      lasts = omega (arith, ints, c.if-span.false, lasts);
+      ends = rw start at (c.in_ok-advance.ensures.past c.in_ok-rewind.ensures.past);
+      beyond = rw start at c.in_ok-advance.ensures.future;
+      parts = subst (λ (l : List Part). AreParts owners l) (sym (c.in_ok-advance.ensures.parts ∙ c.in_ok-rewind.ensures.parts)) is.parts;
+    }
 
-pub go_through-time-requires-clause-taken : goal.go_through-time-requires-clause-taken
-go_through-time-requires-clause-taken c =
-    let start : to_z w64 (of_z w64 c.args.span.now.span_start) ≡ c.args.span.now.span_start = search rules in
-    let ends = rw start at (c.in_ok-advance.ensures.past c.in_ok-rewind.ensures.past) in
-    let beyond = rw start at c.in_ok-advance.ensures.future in
+-- the timeline that the span enters
+abbrev ready : After-keep_name → Timeline
+ready c = record { past = c.reserve-2.new.self; future = c.advance.new.self.future; own = c.keep_name.new.own; busy = c.advance.new.self.busy }
+
+entering : (c : After-keep_name) (owners : Owners) → IsTimeline owners c.args.self.now
+    → IsAtStart (owner_of c.args.span.now) c.advance.new.self.past.items c.advance.new.self.future.items owners
+    → IsEntering (owner_of c.args.span.now) (ready c) owners
+entering c owners is start =
+    let past = c.in_ok-reserve-2.ensures.items in
     let parts = c.in_ok-advance.ensures.parts ∙ c.in_ok-rewind.ensures.parts in
-    let first : least_start ≤ℤ c.args.span.now.span_start = c.requires.from_in_time in
-    let last : c.args.span.now.span_until ≤ℤ greatest_until = c.requires.to_in_time in
-    let lasts : c.args.span.now.span_start ≤ℤ c.args.span.now.span_until = c.requires.lasts in
-    let at = at_start (owner_of c.args.span.now) c.advance.new.self.past.items c.advance.new.self.future.items c.args.self.now.past.items c.args.self.now.future.items c.requires.is.owners c.requires.is.holds.0.parts c.requires.is.holds.1 first last (omega (arith, ints, c.if-span.false, lasts)) parts ends beyond in
+    let own : (name : ℕ) → own_in c.keep_name.new.own name ≡ own_in c.args.self.now.own name = λ name.
+    c.keep_name.ensures.same name ∙ ap (λ own. own_in own name) (c.in_ok-advance.ensures.own ∙ c.in_ok-rewind.ensures.own) ∙ search rules in
+    record {
+      start = rw past start;
+      sums = rw (past, parts) (record {
+        of_names = λ name. own name ∙ is.sums.of_names name;
+        of_all = c.in_ok-advance.ensures.busy ∙ c.in_ok-rewind.ensures.busy ∙ is.sums.of_all;
+      });
+      kept = c.keep_name.ensures.kept;
+      room = omega (arith, c.in_ok-reserve-2.ensures.ok, c.in_ok-reserve-2.ensures.len, c.len.ensures);
+    }
+
+pub enter-entered-requires : goal.enter-entered-requires
+enter-entered-requires c =
+    let at = goal.at.enter-entered-requires c in
+    let is = c.requires.is in
+    record { owners = is.owners; holds = entering at.After-keep_name is.owners is.holds.0 (at_start at.In_ok-advance is.owners is.holds.0 is.holds.1) }
+
+pub go_through-time-requires : goal.go_through-time-requires
+go_through-time-requires c =
     let entered : to_z w64 (of_z w64 c.enter-entered.result) ≡ c.enter-entered.result = search rules in
-    rw entered (record { owners = c.requires.is.owners; holds = c.enter-entered.ensures.taken c.requires.is.owners (rw c.in_ok-reserve-2.ensures.items at) })
+    let at = goal.at.go_through-time-requires c in
+    let is = c.requires.is in
+    let entering = entering at.After-keep_name is.owners is.holds.0 (at_start at.In_ok-advance is.owners is.holds.0 is.holds.1) in
+    rw entered (record { owners = is.owners; holds = c.enter-entered.ensures is.owners entering })
 
 pub finish-requires-clause-taken : goal.finish-requires-clause-taken
 finish-requires-clause-taken c =
-    let start : to_z w64 (of_z w64 c.args.span.now.span_start) ≡ c.args.span.now.span_start = search rules in
-    let ends = rw start at (c.in_ok-advance.ensures.past c.in_ok-rewind.ensures.past) in
-    let beyond = rw start at c.in_ok-advance.ensures.future in
-    let parts = c.in_ok-advance.ensures.parts ∙ c.in_ok-rewind.ensures.parts in
-    let first : least_start ≤ℤ c.args.span.now.span_start = c.requires.from_in_time in
-    let last : c.args.span.now.span_until ≤ℤ greatest_until = c.requires.to_in_time in
-    let lasts : c.args.span.now.span_start ≤ℤ c.args.span.now.span_until = c.requires.lasts in
-    let at = at_start (owner_of c.args.span.now) c.advance.new.self.past.items c.advance.new.self.future.items c.args.self.now.past.items c.args.self.now.future.items c.requires.is.owners c.requires.is.holds.0.parts c.requires.is.holds.1 first last (omega (arith, ints, c.if-span.false, lasts)) parts ends beyond in
     let entered : to_z w64 (of_z w64 c.enter-entered.result) ≡ c.enter-entered.result = search rules in
     let time : to_z w64 (of_z w64 c.go_through-time.result) ≡ c.go_through-time.result = search rules in
-    let entering = c.enter-entered.ensures.taken c.requires.is.owners (rw c.in_ok-reserve-2.ensures.items at) in
-    rw time (record { owners = c.requires.is.owners; holds = c.go_through-time.ensures.taken c.requires.is.owners (rw entered entering) })
+    let at = goal.at.finish-requires-clause-taken c in
+    let is = c.requires.is in
+    let entering = entering at.After-keep_name is.owners is.holds.0 (at_start at.In_ok-advance is.owners is.holds.0 is.holds.1) in
+    rw time (record { owners = is.owners; holds = c.go_through-time.ensures.taken is.owners (rw entered (c.enter-entered.ensures is.owners entering)) })
 
 pub returns-clause-ok : goal.returns-clause-ok
 returns-clause-ok c = λ owners is new.
-    let start : to_z w64 (of_z w64 c.args.span.now.span_start) ≡ c.args.span.now.span_start = search rules in
-    let ends = rw start at (c.in_ok-advance.ensures.past c.in_ok-rewind.ensures.past) in
-    let beyond = rw start at c.in_ok-advance.ensures.future in
-    let parts = c.in_ok-advance.ensures.parts ∙ c.in_ok-rewind.ensures.parts in
-    let first : least_start ≤ℤ c.args.span.now.span_start = c.requires.from_in_time in
-    let last : c.args.span.now.span_until ≤ℤ greatest_until = c.requires.to_in_time in
-    let lasts : c.args.span.now.span_start ≤ℤ c.args.span.now.span_until = c.requires.lasts in
-    let at = at_start (owner_of c.args.span.now) c.advance.new.self.past.items c.advance.new.self.future.items c.args.self.now.past.items c.args.self.now.future.items owners is.parts new first last (omega (arith, ints, c.if-span.false, lasts)) parts ends beyond in
     let entered : to_z w64 (of_z w64 c.enter-entered.result) ≡ c.enter-entered.result = search rules in
     let time : to_z w64 (of_z w64 c.go_through-time.result) ≡ c.go_through-time.result = search rules in
-    let entering = c.enter-entered.ensures.taken owners (rw c.in_ok-reserve-2.ensures.items at) in
-    let through = c.go_through-time.ensures.taken owners (rw entered entering) in
-    record { parts = c.finish.ensures.parts owners (rw time through); sums = c.finish.ensures.sums }
+    let at = goal.at.returns-clause-ok c in
+    let entering = entering at.After-keep_name owners is (at_start at.In_ok-advance owners is new) in
+    c.finish.ensures owners (rw time (c.go_through-time.ensures.taken owners (rw entered (c.enter-entered.ensures owners entering))))

@@ -1,127 +1,112 @@
 use Rattle.std.proofs.Common.{rules, ◌≡◌, ◌++◌, w64, to_z, of_z, ap, arith}
 use Rattle.std.specs.Int.{int_min}
-use Rattle.std.specs.Vec.{vec_len}
+use Rattle.std.specs.Vec.{vec_len, vec_capacity}
 use Rattle.std.proofs.lemmas.Int.{ints}
 use Rattle.span_track.specs.Spans.{distance}
 use Rattle.span_track.specs.Division.{owner_of, taken, piece}
-use Rattle.span_track.proofs.Taking.{IsTakenTo-ceded, IsOnly-taken, IsTakenUpTo-next, piece-none, ArePast-ceded, Belong-ceded}
+use Rattle.span_track.proofs.Taking.{IsTakenUpTo, IsTakenTo-ceded, IsOnly-taken, IsTakenUpTo-next, piece-none, ArePast-ceded, Belong-ceded}
 use Rattle.span_track.proofs.PartSums.{AreSums-ceded, AreSmall-next, part-le-own, distance-positive}
+use Rattle.span_track.proofs.timeline.Timeline.cede.Goals.{After-min-until}
 use Rattle.span_track.proofs.timeline.Timeline.cede.Goals as goal
+
+-- how far the span takes the part
+up_to : (c : After-min-until) → IsTakenUpTo (owner_of c.args.span.now) c.args.from c.min-until.result c.args.part.now
+up_to c =
+    let ends : to_z w64 (of_z w64 c.args.part.now.segment.until) ≡ c.args.part.now.segment.until = search rules in
+    let covers : to_z w64 (of_z w64 c.args.span.now.span_until) ≡ c.args.span.now.span_until = search rules in
+    let least : c.min-until.result ≡ int_min c.args.part.now.segment.until c.args.span.now.span_until = rw (ends, covers) at c.min-until.ensures.value in
+    IsTakenUpTo-next (owner_of c.args.span.now) c.args.from c.min-until.result c.args.part.now _ _ _ c.requires.next.holds.next least
+
+until_is : (c : After-min-until) → to_z w64 (of_z w64 c.min-until.result) ≡ c.min-until.result
+until_is c = search rules
+
+from_is : (c : After-min-until) → to_z w64 (of_z w64 c.args.from) ≡ c.args.from
+from_is c = search rules
+
+pub push_between-requires : goal.push_between-requires
+push_between-requires c = omega (arith, c.requires.next.holds.room)
 
 pub distance-requires-clause-forward : goal.distance-requires-clause-forward
 distance-requires-clause-forward c =
-    let until : to_z w64 (of_z w64 c.min-until.result) ≡ c.min-until.result = search rules in
-    let from : to_z w64 (of_z w64 c.args.from) ≡ c.args.from = search rules in
-    let ends : to_z w64 (of_z w64 c.args.part.now.segment.until) ≡ c.args.part.now.segment.until = search rules in
-    let start : to_z w64 (of_z w64 c.args.part.now.segment.start) ≡ c.args.part.now.segment.start = search rules in
-    let covers : to_z w64 (of_z w64 c.args.span.now.span_until) ≡ c.args.span.now.span_until = search rules in
-    let least : c.min-until.result ≡ int_min c.args.part.now.segment.until c.args.span.now.span_until = rw (ends, covers) at c.min-until.ensures.value in
-    let up = IsTakenUpTo-next (owner_of c.args.span.now) c.args.from c.min-until.result c.args.part.now _ _ _ c.requires.next.holds least in
-    rw (until, from) (omega (arith, ints, up.forward))
+    let at = (goal.at.distance-requires-clause-forward c).After-min-until in
+    rw (until_is at, from_is at) (omega (arith, ints, (up_to at).forward))
 
 pub lose-requires-clause-some : goal.lose-requires-clause-some
 lose-requires-clause-some c =
-    let until : to_z w64 (of_z w64 c.min-until.result) ≡ c.min-until.result = search rules in
-    let from : to_z w64 (of_z w64 c.args.from) ≡ c.args.from = search rules in
-    let ends : to_z w64 (of_z w64 c.args.part.now.segment.until) ≡ c.args.part.now.segment.until = search rules in
-    let start : to_z w64 (of_z w64 c.args.part.now.segment.start) ≡ c.args.part.now.segment.start = search rules in
-    let covers : to_z w64 (of_z w64 c.args.span.now.span_until) ≡ c.args.span.now.span_until = search rules in
-    let least : c.min-until.result ≡ int_min c.args.part.now.segment.until c.args.span.now.span_until = rw (ends, covers) at c.min-until.ensures.value in
-    let up = IsTakenUpTo-next (owner_of c.args.span.now) c.args.from c.min-until.result c.args.part.now _ _ _ c.requires.next.holds least in
-    let length = rw (from, until) at c.distance.ensures.value in
-    omega (arith, length, distance-positive c.args.from c.min-until.result up.forward)
+    let at = (goal.at.lose-requires-clause-some c).After-min-until in
+    let length = rw (from_is at, until_is at) at c.distance.ensures.value in
+    omega (arith, length, distance-positive c.args.from c.min-until.result (up_to at).forward)
 
 pub lose-requires-clause-held : goal.lose-requires-clause-held
 lose-requires-clause-held c =
-    let until : to_z w64 (of_z w64 c.min-until.result) ≡ c.min-until.result = search rules in
-    let from : to_z w64 (of_z w64 c.args.from) ≡ c.args.from = search rules in
-    let ends : to_z w64 (of_z w64 c.args.part.now.segment.until) ≡ c.args.part.now.segment.until = search rules in
-    let start : to_z w64 (of_z w64 c.args.part.now.segment.start) ≡ c.args.part.now.segment.start = search rules in
-    let covers : to_z w64 (of_z w64 c.args.span.now.span_until) ≡ c.args.span.now.span_until = search rules in
-    let least : c.min-until.result ≡ int_min c.args.part.now.segment.until c.args.span.now.span_until = rw (ends, covers) at c.min-until.ensures.value in
-    let up = IsTakenUpTo-next (owner_of c.args.span.now) c.args.from c.min-until.result c.args.part.now _ _ _ c.requires.next.holds least in
-    let length = rw (from, until) at c.distance.ensures.value in
-    omega (arith, length, part-le-own _ _ c.args.from c.min-until.result _ c.args.self.now.past.items c.args.self.now.future.items c.requires.sums c.requires.next.holds.within.0 (omega (arith, ints, up.forward)) up.within)
+    let at = (goal.at.lose-requires-clause-held c).After-min-until in
+    let is = c.requires.next.holds in
+    let up = up_to at in
+    let length = rw (from_is at, until_is at) at c.distance.ensures.value in
+    omega (arith, length, part-le-own _ _ c.args.from c.min-until.result _ c.args.self.now.past.items c.args.self.now.future.items is.sums is.next.within.0 (omega (arith, ints, up.forward)) up.within)
 
 pub gain-requires-clause-forward : goal.gain-requires-clause-forward
 gain-requires-clause-forward c =
-    let until : to_z w64 (of_z w64 c.min-until.result) ≡ c.min-until.result = search rules in
-    let from : to_z w64 (of_z w64 c.args.from) ≡ c.args.from = search rules in
-    let ends : to_z w64 (of_z w64 c.args.part.now.segment.until) ≡ c.args.part.now.segment.until = search rules in
+    let at = (goal.at.gain-requires-clause-forward c).After-min-until in
+    rw (until_is at, from_is at) (up_to at).forward
+
+pub gain-requires-clause-from_in_time : goal.gain-requires-clause-from_in_time
+gain-requires-clause-from_in_time c =
+    let at = (goal.at.gain-requires-clause-from_in_time c).After-min-until in
+    rw (from_is at) (up_to at).from_in_time
+
+pub gain-requires-clause-to_in_time : goal.gain-requires-clause-to_in_time
+gain-requires-clause-to_in_time c =
+    let at = (goal.at.gain-requires-clause-to_in_time c).After-min-until in
+    rw (until_is at) (up_to at).in_time
+
+pub gain-requires-clause-room : goal.gain-requires-clause-room
+gain-requires-clause-room c =
+    let at = (goal.at.gain-requires-clause-room c).After-min-until in
     let start : to_z w64 (of_z w64 c.args.part.now.segment.start) ≡ c.args.part.now.segment.start = search rules in
-    let covers : to_z w64 (of_z w64 c.args.span.now.span_until) ≡ c.args.span.now.span_until = search rules in
-    let least : c.min-until.result ≡ int_min c.args.part.now.segment.until c.args.span.now.span_until = rw (ends, covers) at c.min-until.ensures.value in
-    let up = IsTakenUpTo-next (owner_of c.args.span.now) c.args.from c.min-until.result c.args.part.now _ _ _ c.requires.next.holds least in
-    rw (until, from) up.forward
+    let length = rw (start, from_is at) at c.push_between.ensures.len in
+    omega (arith, c.requires.next.holds.room, length, c.push_between.ensures.capacity)
 
 pub gain-requires-clause-kept : goal.gain-requires-clause-kept
-gain-requires-clause-kept c = c.lose.ensures.kept c.args.span.now.segment.name c.requires.kept
+gain-requires-clause-kept c = c.lose.ensures.kept c.args.span.now.segment.name c.requires.next.holds.kept
 
 pub gain-requires-clause-small : goal.gain-requires-clause-small
 gain-requires-clause-small c =
-    let small = AreSmall-next _ _ _ _ _ _ _ _ c.requires.next.holds c.requires.sums in
-    let length = c.distance.ensures.value in
-    omega (arith, length, c.distance.ensures.small, small.of_names c.args.span.now.segment.name, c.lose.ensures.sum c.args.span.now.segment.name)
+    let is = c.requires.next.holds in
+    let small = AreSmall-next _ _ _ _ _ _ _ _ is.next is.sums in
+    omega (arith, c.distance.ensures.value, c.distance.ensures.small, small.of_names c.args.span.now.segment.name, c.lose.ensures.sum c.args.span.now.segment.name)
+
+pub push_between-requires-2 : goal.push_between-requires-2
+push_between-requires-2 c = omega (arith, c.requires.next.holds.room_behind, ap vec_len c.gain.ensures.future, ap vec_capacity c.gain.ensures.future)
 
 pub returns-clause-taken : goal.returns-clause-taken
-returns-clause-taken c = λ owners next.
-    let until : to_z w64 (of_z w64 c.min-until.result) ≡ c.min-until.result = search rules in
-    let from : to_z w64 (of_z w64 c.args.from) ≡ c.args.from = search rules in
-    let ends : to_z w64 (of_z w64 c.args.part.now.segment.until) ≡ c.args.part.now.segment.until = search rules in
+returns-clause-taken c = λ owners is.
+    let at = (goal.at.returns-clause-taken c).After-min-until in
+    let span = owner_of c.args.span.now in
+    let until = until_is at in
+    let from = from_is at in
+    let up = up_to at in
     let start : to_z w64 (of_z w64 c.args.part.now.segment.start) ≡ c.args.part.now.segment.start = search rules in
-    let covers : to_z w64 (of_z w64 c.args.span.now.span_until) ≡ c.args.span.now.span_until = search rules in
-    let least : c.min-until.result ≡ int_min c.args.part.now.segment.until c.args.span.now.span_until = rw (ends, covers) at c.min-until.ensures.value in
-    let up = IsTakenUpTo-next (owner_of c.args.span.now) c.args.from c.min-until.result c.args.part.now _ _ _ next least in
+    let ends : to_z w64 (of_z w64 c.args.part.now.segment.until) ≡ c.args.part.now.segment.until = search rules in
     let past : c.push_between.new.parts.items ≡ c.args.self.now.past.items ++ piece c.args.part.now c.args.part.now.segment.start c.args.from = rw (start, from) at c.push_between.ensures.items in
     let future : c.push_between-2.new.parts.items ≡ c.args.self.now.future.items ++ piece c.args.part.now c.min-until.result c.args.part.now.segment.until = rw (until, ends, c.gain.ensures.future) at c.push_between-2.ensures.items in
     let gains = rw (from, until, past) at c.gain.ensures.past in
-    rw (until, future) (IsTakenTo-ceded (owner_of c.args.span.now) c.args.from c.min-until.result c.args.part.now c.args.self.now.past.items c.gain.new.self.past.items c.args.self.now.future.items owners next c.requires.above up
-    (gains (taken (owner_of c.args.span.now) owners) (IsOnly-taken (owner_of c.args.span.now) owners next.new) (Belong-ceded _ _ _ _ _ _ _ next c.requires.above up) (ArePast-ceded _ _ _ _ _ _ next)).before)
-
-pub returns-clause-on : goal.returns-clause-on
-returns-clause-on c =
-    let until : to_z w64 (of_z w64 c.min-until.result) ≡ c.min-until.result = search rules in
-    let from : to_z w64 (of_z w64 c.args.from) ≡ c.args.from = search rules in
-    let ends : to_z w64 (of_z w64 c.args.part.now.segment.until) ≡ c.args.part.now.segment.until = search rules in
-    let start : to_z w64 (of_z w64 c.args.part.now.segment.start) ≡ c.args.part.now.segment.start = search rules in
-    let covers : to_z w64 (of_z w64 c.args.span.now.span_until) ≡ c.args.span.now.span_until = search rules in
-    let least : c.min-until.result ≡ int_min c.args.part.now.segment.until c.args.span.now.span_until = rw (ends, covers) at c.min-until.ensures.value in
-    let up = IsTakenUpTo-next (owner_of c.args.span.now) c.args.from c.min-until.result c.args.part.now _ _ _ c.requires.next.holds least in
-    rw until up.forward
-
-pub returns-clause-sums : goal.returns-clause-sums
-returns-clause-sums c =
-    let until : to_z w64 (of_z w64 c.min-until.result) ≡ c.min-until.result = search rules in
-    let from : to_z w64 (of_z w64 c.args.from) ≡ c.args.from = search rules in
-    let ends : to_z w64 (of_z w64 c.args.part.now.segment.until) ≡ c.args.part.now.segment.until = search rules in
-    let start : to_z w64 (of_z w64 c.args.part.now.segment.start) ≡ c.args.part.now.segment.start = search rules in
-    let covers : to_z w64 (of_z w64 c.args.span.now.span_until) ≡ c.args.span.now.span_until = search rules in
-    let least : c.min-until.result ≡ int_min c.args.part.now.segment.until c.args.span.now.span_until = rw (ends, covers) at c.min-until.ensures.value in
-    let up = IsTakenUpTo-next (owner_of c.args.span.now) c.args.from c.min-until.result c.args.part.now _ _ _ c.requires.next.holds least in
-    let next = c.requires.next.holds in
-    let owners = c.requires.next.owners in
-    let past : c.push_between.new.parts.items ≡ c.args.self.now.past.items ++ piece c.args.part.now c.args.part.now.segment.start c.args.from = rw (start, from) at c.push_between.ensures.items in
-    let future : c.push_between-2.new.parts.items ≡ c.args.self.now.future.items ++ piece c.args.part.now c.min-until.result c.args.part.now.segment.until = rw (until, ends, c.gain.ensures.future) at c.push_between-2.ensures.items in
-    let gains = rw (from, until, past) at c.gain.ensures.past in
+    let gained = gains (taken span owners) (IsOnly-taken span owners is.next.new) (Belong-ceded _ _ _ _ _ _ _ is.next c.requires.above up) (ArePast-ceded _ _ _ _ _ _ is.next) in
     let length : c.distance.result ≡ distance c.args.from c.min-until.result = rw (from, until) at c.distance.ensures.value in
     let loses = rw length at c.lose.ensures.sum in
     let adds = rw (from, until) at c.gain.ensures.own in
-    let gained = gains (taken (owner_of c.args.span.now) owners) (IsOnly-taken (owner_of c.args.span.now) owners next.new)
-    (Belong-ceded _ _ _ _ _ _ _ next c.requires.above up) (ArePast-ceded _ _ _ _ _ _ next) in
-    rw (future, c.gain.ensures.busy) (AreSums-ceded (owner_of c.args.span.now) c.args.from c.min-until.result c.args.part.now c.args.self.now.past.items c.gain.new.self.past.items c.args.self.now.future.items (taken (owner_of c.args.span.now) owners) c.args.self.now.own c.lose.new.own c.gain.new.self.own _ next.within.0 up.forward up.within c.requires.sums loses gained adds)
+    let head = rw (start, from) at c.push_between.ensures.len in
+    let tail = rw (until, ends) at c.push_between-2.ensures.len in
+    rw until (record {
+      taken = rw future (IsTakenTo-ceded span c.args.from c.min-until.result c.args.part.now c.args.self.now.past.items c.gain.new.self.past.items c.args.self.now.future.items owners is.next c.requires.above up gained.before);
+      sums = rw (future, c.gain.ensures.busy) (AreSums-ceded span c.args.from c.min-until.result c.args.part.now c.args.self.now.past.items c.gain.new.self.past.items c.args.self.now.future.items (taken span owners) c.args.self.now.own c.lose.new.own c.gain.new.self.own _ is.next.within.0 up.forward up.within is.sums loses gained adds);
+      kept = c.gain.ensures.kept c.args.span.now.segment.name (c.lose.ensures.kept c.args.span.now.segment.name is.kept);
+      room = λ short.
+          let none = piece-none c.args.part.now c.min-until.result c.args.part.now.segment.until (omega (arith, ints, up.rest short)) in
+          omega (arith, is.room, head, tail, none, ap vec_len c.gain.ensures.future, c.gain.ensures.room, c.gain.ensures.capacity, c.push_between.ensures.capacity);
+    })
 
-pub returns-clause-kept : goal.returns-clause-kept
-returns-clause-kept c = c.gain.ensures.kept c.args.span.now.segment.name (c.lose.ensures.kept c.args.span.now.segment.name c.requires.kept)
-
-pub returns-clause-behind : goal.returns-clause-behind
-returns-clause-behind c = λ short.
-    let until : to_z w64 (of_z w64 c.min-until.result) ≡ c.min-until.result = search rules in
-    let from : to_z w64 (of_z w64 c.args.from) ≡ c.args.from = search rules in
-    let ends : to_z w64 (of_z w64 c.args.part.now.segment.until) ≡ c.args.part.now.segment.until = search rules in
-    let start : to_z w64 (of_z w64 c.args.part.now.segment.start) ≡ c.args.part.now.segment.start = search rules in
-    let covers : to_z w64 (of_z w64 c.args.span.now.span_until) ≡ c.args.span.now.span_until = search rules in
-    let least : c.min-until.result ≡ int_min c.args.part.now.segment.until c.args.span.now.span_until = rw (ends, covers) at c.min-until.ensures.value in
-    let up = IsTakenUpTo-next (owner_of c.args.span.now) c.args.from c.min-until.result c.args.part.now _ _ _ c.requires.next.holds least in
-    let none = piece-none c.args.part.now c.min-until.result c.args.part.now.segment.until (omega (arith, ints, up.rest (rw until at short))) in
-    let length = rw (until, ends) at c.push_between-2.ensures.len in
-    omega (arith, length, none, ap vec_len c.gain.ensures.future)
+pub returns-clause-on : goal.returns-clause-on
+returns-clause-on c =
+    let at = (goal.at.returns-clause-on c).After-min-until in
+    rw (until_is at) (up_to at).forward

@@ -1,32 +1,40 @@
 use Rattle.std.proofs.Common.{rules, ◌≡◌, true, false, int_lt, reverse, w64, to_z, of_z, sym, ◌∙◌, arith}
 use Rattle.std.proofs.lemmas.Int.{ints}
-use Rattle.span_track.specs.Division.{owner_of}
-use Rattle.span_track.specs.Cursor.{starts_before}
+use Rattle.span_track.specs.declared.timeline.Timeline.{Timeline}
+use Rattle.span_track.specs.Division.{Owners, owner_of}
+use Rattle.span_track.specs.Cursor.{starts_before, IsEntering, IsPassing}
 use Rattle.span_track.proofs.Cursor.{StartsFrom-starts_before}
-use Rattle.span_track.proofs.Taking.{IsTakenTo-start, IsNextPart-start, starts_before-last}
-use Rattle.span_track.proofs.PartSums.{AreSums-pop}
+use Rattle.span_track.proofs.Taking.{IsTakenTo-start, starts_before-last}
+use Rattle.span_track.proofs.Passing.{IsPassing-entering}
+use Rattle.span_track.proofs.timeline.Timeline.enter.Goals.{In-Some}
 use Rattle.span_track.proofs.timeline.Timeline.enter.Goals as goal
 
-pub returns-then-not-starts_before-clause-taken : goal.returns-then-not-starts_before-clause-taken
-returns-then-not-starts_before-clause-taken c = λ owners at.
+pub returns-then-not-starts_before : goal.returns-then-not-starts_before
+returns-then-not-starts_before c = λ owners is.
     let start : to_z w64 (of_z w64 c.args.span.now.span_start) ≡ c.args.span.now.span_start = search rules in
     let none : starts_before c.args.span.now.span_start (reverse c.args.self.now.future.items) ≡ false = search rules in
-    rw start (IsTakenTo-start _ _ _ owners at (StartsFrom-starts_before _ _ (omega (arith, ints, at.lasts, at.in_time)) none))
+    let gap = StartsFrom-starts_before c.args.span.now.span_start (reverse c.args.self.now.future.items) (omega (arith, ints, is.start.lasts, is.start.in_time)) none in
+    rw start (record { taken = IsTakenTo-start _ _ _ owners is.start gap; sums = is.sums; kept = is.kept; room = λ before. omega (arith, is.room) })
 
-pub pass-requires-clause-next : goal.pass-requires-clause-next
-pass-requires-clause-next c =
-    let start : to_z w64 (of_z w64 c.args.span.now.span_start) ≡ c.args.span.now.span_start = search rules in
+-- the timeline without the part that the span starts in
+abbrev rest : In-Some → Timeline
+rest c = record { past = c.args.self.now.past; future = c.pop.new.self; own = c.args.self.now.own; busy = c.args.self.now.busy }
+
+passing : (c : In-Some) (owners : Owners) → IsEntering (owner_of c.args.span.now) c.args.self.now owners → IsPassing (owner_of c.args.span.now) c.args.span.now.span_start c.in-Some.part (rest c) owners
+passing c owners is =
     let some : starts_before c.args.span.now.span_start (reverse c.args.self.now.future.items) ≡ true = search rules in
     let first : int_lt c.in-Some.part.segment.start c.args.span.now.span_start ≡ true = sym (starts_before-last c.args.span.now.span_start c.pop.new.self.items c.in-Some.part c.args.self.now.future.items c.in-Some.ensures.items) ∙ some in
-    rw start (record { owners = c.requires.start.owners; holds = IsNextPart-start (owner_of c.args.span.now) c.in-Some.part c.args.self.now.past.items c.pop.new.self.items c.args.self.now.future.items _ c.requires.start.holds c.in-Some.ensures.items (omega (arith, ints, first)) })
+    IsPassing-entering (owner_of c.args.span.now) c.in-Some.part c.args.self.now c.pop.new.self owners is c.in-Some.ensures.items (omega (arith, c.in-Some.ensures.len)) (omega (arith, c.in-Some.ensures.len, c.in-Some.ensures.capacity)) (omega (arith, ints, first))
 
-pub pass-requires-clause-sums : goal.pass-requires-clause-sums
-pass-requires-clause-sums c = AreSums-pop _ _ c.in-Some.part c.args.self.now.past.items c.pop.new.self.items c.args.self.now.future.items c.in-Some.ensures.items c.requires.sums
+pub pass-requires : goal.pass-requires
+pass-requires c =
+    let start : to_z w64 (of_z w64 c.args.span.now.span_start) ≡ c.args.span.now.span_start = search rules in
+    let at = (goal.at.pass-requires c).In-Some in
+    rw start (record { owners = c.requires.owners; holds = passing at c.requires.owners c.requires.holds })
 
-pub returns-clause-taken : goal.returns-clause-taken
-returns-clause-taken c = λ owners at.
+pub returns : goal.returns
+returns c = λ owners is.
     let start : to_z w64 (of_z w64 c.args.span.now.span_start) ≡ c.args.span.now.span_start = search rules in
     let result : to_z w64 (of_z w64 c.pass.result) ≡ c.pass.result = search rules in
-    let some : starts_before c.args.span.now.span_start (reverse c.args.self.now.future.items) ≡ true = search rules in
-    let first : int_lt c.in-Some.part.segment.start c.args.span.now.span_start ≡ true = sym (starts_before-last c.args.span.now.span_start c.pop.new.self.items c.in-Some.part c.args.self.now.future.items c.in-Some.ensures.items) ∙ some in
-    rw result (c.pass.ensures.taken owners (rw start (IsNextPart-start (owner_of c.args.span.now) c.in-Some.part c.args.self.now.past.items c.pop.new.self.items c.args.self.now.future.items owners at c.in-Some.ensures.items (omega (arith, ints, first)))))
+    let at = (goal.at.returns c).In-Some in
+    rw result (c.pass.ensures.taken owners (rw start (passing at owners is)))

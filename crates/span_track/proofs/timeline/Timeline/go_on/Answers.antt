@@ -1,49 +1,55 @@
-use Rattle.std.proofs.Common.{rules, ◌≡◌, ◌<ℤ◌, true, int_lt, w64, to_z, of_z, sym, ap, ◌∙◌, subst, arith, List}
-use Rattle.std.specs.Vec.{vec_len}
+use Rattle.std.proofs.Common.{rules, ◌≡◌, ◌<ℤ◌, true, int_lt, w64, to_z, of_z, sym, ◌∙◌, arith}
 use Rattle.std.proofs.lemmas.Int.{ints}
-use Rattle.span_track.specs.declared.segment.Part.{Part}
-use Rattle.span_track.specs.Division.{owner_of}
-use Rattle.span_track.specs.Cursor.{IsTakenTo}
-use Rattle.span_track.proofs.Taking.{IsGapBefore-taken, starts_before-last, piece-none}
-use Rattle.span_track.proofs.PartSums.{AreSums-pop}
+use Rattle.span_track.specs.declared.timeline.Timeline.{Timeline}
+use Rattle.span_track.specs.Division.{Owners, owner_of}
+use Rattle.span_track.specs.Cursor.{IsTaking, IsAhead}
+use Rattle.span_track.proofs.Taking.{IsGapBefore-taken, starts_before-last}
+use Rattle.span_track.proofs.Passing.{IsAhead-taking}
+use Rattle.span_track.proofs.timeline.Timeline.go_on.Goals.{In-Some}
 use Rattle.span_track.proofs.timeline.Timeline.go_on.Goals as goal
 
-pub fill_before-requires-clause-sums : goal.fill_before-requires-clause-sums
-fill_before-requires-clause-sums c = AreSums-pop _ _ c.in-Some.part c.args.self.now.past.items c.pop.new.self.items c.args.self.now.future.items c.in-Some.ensures.items c.requires.sums
+-- the timeline without the part that comes next
+abbrev rest : In-Some → Timeline
+rest c = record { past = c.args.self.now.past; future = c.pop.new.self; own = c.args.self.now.own; busy = c.args.self.now.busy }
 
-pub pass-requires-clause-next : goal.pass-requires-clause-next
-pass-requires-clause-next c =
+within : (c : In-Some) → c.in-Some.part.segment.start <ℤ c.args.span.now.span_until
+within c =
+    let first : int_lt c.in-Some.part.segment.start c.args.span.now.span_until ≡ true = sym (starts_before-last c.args.span.now.span_until c.pop.new.self.items c.in-Some.part c.args.self.now.future.items c.in-Some.ensures.items) ∙ c.requires.next in
+    omega (arith, ints, first)
+
+ahead : (c : In-Some) (owners : Owners) → IsTaking (owner_of c.args.span.now) c.args.time c.args.self.now owners → IsAhead (owner_of c.args.span.now) c.args.time c.in-Some.part (rest c) owners
+ahead c owners is =
+    IsAhead-taking (owner_of c.args.span.now) c.args.time c.in-Some.part c.args.self.now c.pop.new.self owners is c.in-Some.ensures.items (omega (arith, c.in-Some.ensures.len)) (omega (arith, c.in-Some.ensures.len, c.in-Some.ensures.capacity)) (within c)
+
+pub fill_before-requires-clause-ahead : goal.fill_before-requires-clause-ahead
+fill_before-requires-clause-ahead c =
+    let time : to_z w64 (of_z w64 c.args.time) ≡ c.args.time = search rules in
+    let at = (goal.at.fill_before-requires-clause-ahead c).In-Some in
+    rw time (record { owners = c.requires.taken.owners; holds = ahead at c.requires.taken.owners c.requires.taken.holds })
+
+pub fill_before-requires-clause-within : goal.fill_before-requires-clause-within
+fill_before-requires-clause-within c = within (goal.at.fill_before-requires-clause-within c).In-Some
+
+pub pass-requires : goal.pass-requires
+pass-requires c =
     let start : to_z w64 (of_z w64 c.in-Some.part.segment.start) ≡ c.in-Some.part.segment.start = search rules in
     let time : to_z w64 (of_z w64 c.args.time) ≡ c.args.time = search rules in
-    let at = subst (λ (l : List Part). IsTakenTo (owner_of c.args.span.now) c.args.time c.args.self.now.past.items l c.requires.taken.owners) c.in-Some.ensures.items c.requires.taken.holds in
-    rw start (record { owners = c.requires.taken.owners; holds = c.fill_before.ensures.next c.requires.taken.owners (rw time at) })
+    let at = (goal.at.pass-requires c).In-Some in
+    rw start (record { owners = c.requires.taken.owners; holds = c.fill_before.ensures c.requires.taken.owners (rw time (ahead at c.requires.taken.owners c.requires.taken.holds)) })
 
 pub returns-clause-taken : goal.returns-clause-taken
-returns-clause-taken c = λ owners taken.
+returns-clause-taken c = λ owners is.
     let start : to_z w64 (of_z w64 c.in-Some.part.segment.start) ≡ c.in-Some.part.segment.start = search rules in
     let time : to_z w64 (of_z w64 c.args.time) ≡ c.args.time = search rules in
     let result : to_z w64 (of_z w64 c.pass.result) ≡ c.pass.result = search rules in
-    let at = subst (λ (l : List Part). IsTakenTo (owner_of c.args.span.now) c.args.time c.args.self.now.past.items l owners) c.in-Some.ensures.items taken in
-    rw result (c.pass.ensures.taken owners (rw start (c.fill_before.ensures.next owners (rw time at))))
+    let at = (goal.at.returns-clause-taken c).In-Some in
+    rw result (c.pass.ensures.taken owners (rw start (c.fill_before.ensures owners (rw time (ahead at owners is)))))
 
 pub returns-clause-on : goal.returns-clause-on
 returns-clause-on c =
     let start : to_z w64 (of_z w64 c.in-Some.part.segment.start) ≡ c.in-Some.part.segment.start = search rules in
     let result : to_z w64 (of_z w64 c.pass.result) ≡ c.pass.result = search rules in
-    let at = subst (λ (l : List Part). IsTakenTo (owner_of c.args.span.now) c.args.time c.args.self.now.past.items l c.requires.taken.owners) c.in-Some.ensures.items c.requires.taken.holds in
-    let gap = IsGapBefore-taken _ _ _ _ _ _ at in
+    let at = (goal.at.returns-clause-on c).In-Some in
+    let gap = IsGapBefore-taken _ _ _ _ _ _ (ahead at c.requires.taken.owners c.requires.taken.holds).taken in
     let on : c.in-Some.part.segment.start <ℤ c.pass.result = rw start at c.pass.ensures.on in
     rw result (omega (arith, ints, gap.first, on))
-
-pub returns-clause-room : goal.returns-clause-room
-returns-clause-room c = λ short.
-    let start : to_z w64 (of_z w64 c.in-Some.part.segment.start) ≡ c.in-Some.part.segment.start = search rules in
-    let result : to_z w64 (of_z w64 c.pass.result) ≡ c.pass.result = search rules in
-    let at = subst (λ (l : List Part). IsTakenTo (owner_of c.args.span.now) c.args.time c.args.self.now.past.items l c.requires.taken.owners) c.in-Some.ensures.items c.requires.taken.holds in
-    let gap = IsGapBefore-taken _ _ _ _ _ _ at in
-    let first : int_lt c.in-Some.part.segment.start c.args.span.now.span_until ≡ true = sym (starts_before-last c.args.span.now.span_until c.pop.new.self.items c.in-Some.part c.args.self.now.future.items c.in-Some.ensures.items) ∙ c.requires.next in
-    let room = c.requires.room (omega (arith, ints, gap.first, first)) in
-    let none = piece-none c.in-Some.part c.in-Some.part.segment.start c.in-Some.part.segment.start (omega (arith, ints)) in
-    let past = rw start at c.pass.ensures.room in
-    let behind = c.pass.ensures.behind (rw result at short) in
-    omega (arith, room, none, past, behind, ap vec_len c.fill_before.ensures.future, c.fill_before.ensures.room, c.fill_before.ensures.capacity, c.pass.ensures.capacity, c.in-Some.ensures.len)

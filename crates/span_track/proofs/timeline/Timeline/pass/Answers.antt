@@ -1,4 +1,4 @@
-use Rattle.std.proofs.Common.{rules, ◌≡◌, false, w64, to_z, of_z}
+use Rattle.std.proofs.Common.{rules, ◌≡◌, false, w64, to_z, of_z, arith}
 use Rattle.span_track.specs.Spans.{outranks}
 use Rattle.span_track.specs.Division.{owner_of}
 use Rattle.span_track.proofs.Taking.{IsTakenTo-kept}
@@ -6,16 +6,18 @@ use Rattle.span_track.proofs.PartSums.{AreSums-push}
 use Rattle.span_track.proofs.timeline.Timeline.pass.Goals as goal
 
 pub returns-then-outranks-clause-taken : goal.returns-then-outranks-clause-taken
-returns-then-outranks-clause-taken c = λ owners next.
+returns-then-outranks-clause-taken c = λ owners is.
     let result : to_z w64 (of_z w64 c.cede.result) ≡ c.cede.result = search rules in
     let from : to_z w64 (of_z w64 c.args.from) ≡ c.args.from = search rules in
-    rw result (c.cede.ensures.taken owners (rw from next))
+    rw result (c.cede.ensures.taken owners (rw from is))
 
 pub returns-clause-taken : goal.returns-clause-taken
-returns-clause-taken c = λ owners next.
+returns-clause-taken c = λ owners is.
     let until : to_z w64 (of_z w64 c.args.part.segment.until) ≡ c.args.part.segment.until = search rules in
     let below : outranks (owner_of c.args.span.now) (owner_of c.args.part) ≡ false = search rules in
-    rw (until, c.push_reserved.ensures.items) (IsTakenTo-kept _ _ _ _ _ owners next below)
-
-pub returns-clause-sums : goal.returns-clause-sums
-returns-clause-sums c = rw c.push_reserved.ensures.items (AreSums-push _ _ _ c.args.self.now.past.items c.args.self.now.future.items c.requires.sums)
+    rw until (record {
+      taken = rw c.push_reserved.ensures.items (IsTakenTo-kept _ _ _ _ _ owners is.next below);
+      sums = rw c.push_reserved.ensures.items (AreSums-push _ _ _ c.args.self.now.past.items c.args.self.now.future.items is.sums);
+      kept = is.kept;
+      room = λ before. omega (arith, is.room, c.push_reserved.ensures.len, c.push_reserved.ensures.capacity);
+    })
