@@ -99,10 +99,6 @@ key_at_zero None None right there = cc
 key_there : (pid : ℤ) (id id2 : Option Data) → id_fault id id2 ≡ None → unless (is_some id || is_some id2) NoId ≡ None → IsSome (key_of pid id id2)
 key_there pid id id2 right there = is_some-key_of pid id id2 ∙ key_at_zero id id2 right there
 
-all_whole-rest : (a b : Bool) → (a && b) ≡ true → b ≡ true
-all_whole-rest true b h = h
-all_whole-rest false b h = cc
-
 AllWhole-from_test : (ps : List (List ℕ × ArgValue)) → all_whole ps ≡ true → AllWhole ps
 AllWhole-from_test [] right = tt
 AllWhole-from_test ((name, Whole n) ∷ ps) right = AllWhole-from_test ps right

@@ -1,15 +1,12 @@
 -- To whom the spans leave a microsecond: to the one of those that cover it above which none of them ranks.
-use Rattle.std.proofs.Common.{int_le, int_lt, ◌≡◌, ◌≢◌, ℕ, Bool, true, false, not, ◌&&◌, cond, nat_eq, ℤ, ◌≤ℤ◌, ◌<ℤ◌, List, [], ◌∷◌, ◌++◌, Option, Some, None, ◌⊎◌, inl, inr, refl, sym, ap, ◌∙◌, true≢false, arith, All, get_or}
+use Rattle.std.proofs.Common.{◌≡◌, ◌≢◌, ℕ, Bool, true, false, not, ◌&&◌, cond, nat_eq, ℤ, List, [], ◌∷◌, ◌++◌, Option, Some, None, ◌⊎◌, inl, inr, refl, sym, ap, ◌∙◌, true≢false, All, get_or}
 use Rattle.std.specs.List.{fold, list_any}
-use Rattle.std.proofs.lemmas.Int.{ints}
 use Rattle.std.proofs.lemmas.Option.{same_Some}
 use Rattle.std.proofs.lemmas.Bool.{or_from, or_cases, and_from, and_parts, and_left, and_right, not_from_false, not-true, false_from_ne_true, cases_eq}
 use Rattle.std.proofs.lemmas.List.Elements.{All-head, All-tail}
 use Rattle.std.proofs.lemmas.List.Folds.{list_any_none, list_any_at}
 use Rattle.std.proofs.lemmas.List.Sums.{fold_push}
 use Rattle.span_track.specs.Spans.{Span, covers, outranks, is_outranked}
-use Rattle.span_track.specs.Laws.{AreSpans}
-use Rattle.span_track.specs.Closed.{least_start, greatest_until, IsInTime}
 use Rattle.span_track.specs.Segments.{is_on_top}
 use Rattle.span_track.specs.Division.{bare, claims, taken, owners_of}
 use Rattle.span_track.proofs.Ranks.{outranks-itself, outranks-trans, outranks-either}
@@ -114,8 +111,8 @@ abbrev pub is_of : ℕ → Option (Span ℕ) → Bool
 is_of at None = false
 is_of at (Some o) = nat_eq o.at at
 
-pub is_on_top-owners_of : (spans : List (Span ℕ)) → AreSpans spans → (at : ℕ) (u : ℤ) → is_on_top spans at u ≡ is_of at (owners_of spans u)
-is_on_top-owners_of spans are at u = by_owner (owners_of spans u) refl
+pub is_on_top-owners_of : (spans : List (Span ℕ)) (at : ℕ) (u : ℤ) → is_on_top spans at u ≡ is_of at (owners_of spans u)
+is_on_top-owners_of spans at u = by_owner (owners_of spans u) refl
   where
     on_top : Span ℕ → Bool
     on_top s = nat_eq s.at at && (covers s u && not (is_outranked spans s u))
@@ -140,24 +137,3 @@ pub owners_of-apart : (spans : List (Span ℕ)) (at : ℕ) → All (λ s. s.at �
 owners_of-apart spans at apart u o found =
     let owner = owners_of-All (λ s. s.at ≢ at) spans apart u o found in
     λ same. owner.holds (ap (λ (s : Span ℕ). s.at) owner.is ∙ same)
-
--- where u has an owner, it lies in the time of the events
-IsWithin-owners_of : (spans : List (Span ℕ)) → All IsInTime spans → (u : ℤ) (o : Span ℕ) → owners_of spans u ≡ Some o → (least_start ≤ℤ u) × (u <ℤ greatest_until)
-IsWithin-owners_of spans in_time u o found =
-    let owner = owners_of-All IsInTime spans in_time u o found in
-    let parts = and_parts (int_le owner.span.start u) (int_lt u owner.span.until) owner.covers in
-    let from : owner.span.start ≤ℤ u = grind (arith, ints, parts.0) in
-    let before : u <ℤ owner.span.until = grind (arith, ints, parts.1) in
-    (omega (arith, ints, from, owner.holds.0), omega (arith, ints, before, owner.holds.1))
-
-None_unless : {A : Type 0} (o : Option A) → ((x : A) → o ≡ Some x → ⊥) → o ≡ None
-None_unless None h = refl
-None_unless (Some x) h = absurd (h x refl)
-
-pub owners_of-early : (spans : List (Span ℕ)) → All IsInTime spans → (u : ℤ) → u <ℤ least_start → owners_of spans u ≡ None
-owners_of-early spans in_time u early =
-    None_unless (owners_of spans u) (λ o found. omega (arith, ints, (IsWithin-owners_of spans in_time u o found).0))
-
-pub owners_of-late : (spans : List (Span ℕ)) → All IsInTime spans → (u : ℤ) → greatest_until ≤ℤ u → owners_of spans u ≡ None
-owners_of-late spans in_time u late =
-    None_unless (owners_of spans u) (λ o found. omega (arith, ints, (IsWithin-owners_of spans in_time u o found).1))

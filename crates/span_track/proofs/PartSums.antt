@@ -51,9 +51,6 @@ AreSums-pop own busy p past rest future split sums = record {
   of_all = omega (arith, sums.of_all, whole_length-next p past rest, sum_by-parts_of (λ (x : Part). part_length x) past future, ap (sum_by (λ (x : Part). part_length x)) split, sum_by_push (λ (x : Part). part_length x) rest p);
 }
 
-distance-self : (a : ℤ) → distance a a ≡ 0
-distance-self a = let e = add-distance a a (omega (arith, ints)) in omega (arith, ints, e)
-
 pub distance-positive : (a b : ℤ) → a <ℤ b → 0 < distance a b
 distance-positive a b h = let e = add-distance a b (omega (arith, ints)) in omega (arith, ints, e)
 

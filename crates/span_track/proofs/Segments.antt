@@ -159,6 +159,6 @@ AreSegments-parts spans parts closed are =
     let single = AreSingle-owners_of spans closed.are in
     record {
       in_order = AreInOrder-parts (owners_of spans) single least_start parts are.each;
-      exact = λ at u. is_in_segment-AreParts (owners_of spans) single parts are at u ∙ sym (is_on_top-owners_of spans closed.are at u);
+      exact = λ at u. is_in_segment-AreParts (owners_of spans) single parts are at u ∙ sym (is_on_top-owners_of spans at u);
       named = names-parts spans closed.are least_start parts are.each;
     }
