@@ -17,14 +17,13 @@ tracebook: $(SOURCES)
 demo: tracebook
 	./tracebook < examples/page_load.json
 
-# The merge gate, then the built program on each case of tests/acceptance, and then each growth refused in turn.
-test: tracebook
+# The merge gate, which proves and builds everything from nothing, and then what it built: the program on each case of
+# tests/acceptance, and each growth refused in turn.
+test:
 	rt ci
-	tests/acceptance/run ./tracebook
+	tests/acceptance/run crates/tracebook/out/tracebook
 	tests/documented_words
-	cd crates/span_ledger && rt test
 	tests/refused_growths
-	cd crates/reading_time && rt run < stdin
 	tests/refused_reading
 
 # Times the reading of traces beside that of other readers, the division of a thread's time, and a report beside its reading.
