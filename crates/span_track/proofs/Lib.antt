@@ -16,6 +16,7 @@ pub mod Positions
 pub mod Ranks
 pub mod SameSegments
 pub mod Segments
+pub mod SegmentEnds
 pub mod SelfSums
 pub mod SelfTimes
 pub mod Sound

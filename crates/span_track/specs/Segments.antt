@@ -1,6 +1,7 @@
 -- How the time of a thread is divided among its closed spans.
-use Rattle.std.specs.Prelude.{◌≡◌, ◌≢◌, ℕ, nat_eq, Bool, not, ◌&&◌, ℤ, ◌≤ℤ◌, ◌<ℤ◌, int_le, int_lt, List, [], ◌∷◌, All}
+use Rattle.std.specs.Prelude.{◌≡◌, ◌≢◌, ℕ, nat_eq, Bool, true, not, ◌&&◌, ◌||◌, ℤ, ◌≤ℤ◌, ◌<ℤ◌, int_le, int_lt, List, [], ◌∷◌, All}
 use Rattle.std.specs.List.{list_any}
+use Rattle.std.specs.Ordering.{int_eq}
 use Rattle.span_track.specs.declared.segment.Segment.{Segment}
 use Rattle.span_track.specs.Spans.{Span, covers, is_outranked}
 
@@ -15,6 +16,18 @@ is_in_segment segments at u = list_any (λ g. nat_eq g.at at && lies_in g u) seg
 -- the span that was opened at this position covers u, and no span that covers u ranks above it
 abbrev pub is_on_top : List (Span ℕ) → ℕ → ℤ → Bool
 is_on_top spans at u = list_any (λ s. nat_eq s.at at && (covers s u && not (is_outranked spans s u))) spans
+
+-- the span has a microsecond
+abbrev pub lasts : Span ℕ → Bool
+lasts s = int_lt s.start s.until
+
+-- a span that lasts starts or ends at u
+abbrev pub is_end : List (Span ℕ) → ℤ → Bool
+is_end spans u = list_any (λ s. lasts s && (int_eq s.start u || int_eq s.until u)) spans
+
+-- the segment starts and ends where spans do
+abbrev pub HasEnds : List (Span ℕ) → Segment → Type 0
+HasEnds spans g = (is_end spans g.start ≡ true) × (is_end spans g.until ≡ true)
 
 -- the first of the others starts no sooner than g ends, and where the two touch they are of different spans
 abbrev pub IsBefore : Segment → List Segment → Type 0

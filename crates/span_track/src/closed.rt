@@ -1,10 +1,11 @@
 //! The closed spans of a thread, with the totals of their names and the division of time among them.
-ghost use Rattle.std.specs.Prelude.{◌≡◌, ◌≢◌, ◌+◌, ◌<◌, ◌^◌, ◌==◌, ℕ, [], ◌∷◌, ◌++◌, ◌≤ℤ◌, if◌then◌else◌, List, length, map, nat_eq, slice_get, option_copied, All, OnOk, OnErr};
+ghost use Rattle.std.specs.Prelude.{◌≡◌, ◌≢◌, ◌+◌, ◌<◌, ◌≤◌, ◌*◌, ◌-◌, ◌^◌, ◌==◌, ℕ, [], ◌∷◌, ◌++◌, ◌≤ℤ◌, if◌then◌else◌, List, length, map, nat_eq, slice_get, option_copied, All, IfSome, OnOk, OnErr};
+ghost use Rattle.std.specs.List.{count_by};
 ghost use Rattle.indexmap.specs.IndexMap.{spare};
 ghost use Rattle.span_track.specs.declared.segment.Segment.{Segment};
 ghost use Rattle.span_track.specs.Spans.{self_of, busy_time};
 ghost use Rattle.span_track.specs.Closed.{total_in, total_for, span_of, IsInTime, AreClosed};
-ghost use Rattle.span_track.specs.Segments.{AreSegments, HasSegments};
+ghost use Rattle.span_track.specs.Segments.{lasts, AreSegments, HasSegments, HasEnds};
 
 use crate::segment::{Part, Segment};
 use crate::span::{ClosedSpan, NameTotal};
@@ -94,12 +95,14 @@ impl ClosedSpans {
     pub(crate) fn segment_count(&self) -> u64
         ensures count { (segments : List Segment) → AreSegments self.now segments → result ≡ length segments }
         ensures segments { HasSegments self.now }
+        ensures bound { result ≤ 2 * count_by lasts self.now - 1 }
     {
         self.timeline.segment_count()
     }
 
     pub(crate) fn segment(&self, i: u64) -> Option<&Segment>
-        ensures { (segments : List Segment) → AreSegments self.now segments → option_copied result ≡ slice_get segments i }
+        ensures segment { (segments : List Segment) → AreSegments self.now segments → option_copied result ≡ slice_get segments i }
+        ensures ends { IfSome (option_copied result) (HasEnds self.now) }
     {
         self.timeline.segment(i)
     }

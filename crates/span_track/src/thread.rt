@@ -1,11 +1,12 @@
 //! The track of one thread.
-ghost use Rattle.std.specs.Prelude.{◌≡◌, nat_eq, ◌+◌, ◌≤◌, ℕ, List, [], ◌∷◌, ◌++◌, length, map, slice_get, None, pos, ◌+ℤ◌, option_copied, IfOk, OnOk, OnErr};
+ghost use Rattle.std.specs.Prelude.{◌≡◌, nat_eq, ◌+◌, ◌*◌, ◌-◌, ◌≤◌, ℕ, List, [], ◌∷◌, ◌++◌, length, map, slice_get, None, pos, ◌+ℤ◌, option_copied, IfSome, IfOk, OnOk, OnErr};
+ghost use Rattle.std.specs.List.{count_by};
 ghost use Rattle.std.specs.Option.{option_map};
 ghost use Rattle.span_read.specs.Event.{IsTime, greatest_time};
 ghost use Rattle.span_track.specs.Fault.{Answers};
 ghost use Rattle.span_track.specs.Nesting.{ThreadEvent, began, ended, completed, closed_by, opener};
 ghost use Rattle.span_track.specs.declared.segment.Segment.{Segment};
-ghost use Rattle.span_track.specs.Segments.{AreSegments, HasSegments};
+ghost use Rattle.span_track.specs.Segments.{lasts, AreSegments, HasSegments, HasEnds};
 ghost use Rattle.span_track.specs.Spans.{self_of, busy_time};
 ghost use Rattle.span_track.specs.Thread.{StandsFor, HasRoom, IsNext, goes_back, begin_refusal, end_refusal};
 ghost use Rattle.span_track.specs.Closed.{span_of, total_for, AreClosed};
@@ -223,13 +224,15 @@ impl ThreadTrack {
     pub fn segment_count(&self) -> u64
         ensures count { (segments : List Segment) → AreSegments self.now.closed segments → result ≡ length segments }
         ensures segments { HasSegments self.now.closed }
+        ensures bound { result ≤ 2 * count_by lasts self.now.closed - 1 }
     {
         self.closed.segment_count()
     }
 
     /// A segment of time, in ascending order, counted from 0. Takes no memory.
     pub fn segment(&self, i: u64) -> Option<&Segment>
-        ensures { (segments : List Segment) → AreSegments self.now.closed segments → option_copied result ≡ slice_get segments i }
+        ensures segment { (segments : List Segment) → AreSegments self.now.closed segments → option_copied result ≡ slice_get segments i }
+        ensures ends { IfSome (option_copied result) (HasEnds self.now.closed) }
     {
         self.closed.segment(i)
     }

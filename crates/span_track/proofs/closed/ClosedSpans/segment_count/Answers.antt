@@ -1,10 +1,12 @@
-use Rattle.std.proofs.Common.{map, length, sym, ap, ◌∙◌, subst, List}
+use Rattle.std.proofs.Common.{map, length, ◌≤◌, ◌*◌, ◌-◌, arith, sym, ap, ◌∙◌, subst, List}
+use Rattle.std.specs.List.{count_by}
 use Rattle.std.proofs.lemmas.List.{length-map}
 use Rattle.span_track.specs.declared.segment.Part.{Part}
 use Rattle.span_track.specs.Spans.{Span}
-use Rattle.span_track.specs.Segments.{AreSegments, HasSegments}
+use Rattle.span_track.specs.Segments.{lasts, AreSegments, HasSegments}
 use Rattle.span_track.proofs.Segments.{AreSegments-parts}
 use Rattle.span_track.proofs.SameSegments.{AreSegments-same}
+use Rattle.span_track.proofs.SegmentEnds.{length-segments}
 use Rattle.span_track.proofs.closed.ClosedSpans.segment_count.Goals as goal
 
 pub returns-clause-count : goal.returns-clause-count
@@ -16,3 +18,10 @@ returns-clause-count c = λ segments are.
 pub returns-clause-segments : goal.returns-clause-segments
 returns-clause-segments c =
     subst (λ (spans : List (Span _)). HasSegments spans) c.self.view_is (record { segments = map (λ (p : Part). p.segment) _; are = AreSegments-parts _ _ c.self.invariant.0 c.self.invariant.2.parts })
+
+pub returns-clause-bound : goal.returns-clause-bound
+returns-clause-bound c =
+    let own = AreSegments-parts _ _ c.self.invariant.0 c.self.invariant.2.parts in
+    let few = length-segments _ _ own in
+    let same = c.segment_count.ensures ∙ sym (length-map _ (λ (p : Part). p.segment)) in
+    subst (λ (spans : List (Span _)). c.segment_count.result ≤ 2 * count_by lasts spans - 1) c.self.view_is (omega (arith, few, same))
