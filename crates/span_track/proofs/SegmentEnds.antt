@@ -14,15 +14,14 @@ use Rattle.std.proofs.lemmas.Map.Made.{length-le_from_is_member}
 use Rattle.std.proofs.lemmas.List.Elements.{All-nil, All-cons, All-head, All-tail}
 use Rattle.span_track.specs.declared.segment.Segment.{Segment}
 use Rattle.span_track.specs.Spans.{Span, covers, outranks, is_outranked}
-use Rattle.span_track.specs.Segments.{is_in_segment, is_on_top, lasts, is_end, HasEnds, IsBefore, AreInOrder, AreSegments}
+use Rattle.span_track.specs.Segments.{is_in_segment, is_on_top, lasts, has_end, is_end, HasEnds, IsBefore, AreInOrder, AreSegments}
 use Rattle.span_track.proofs.Segments.{AreFrom, AreFrom-until, is_in_segment-before, is_in_segment-head, is_in_segment-tail, is_in_segment-until}
 
-covers-no_end : (s : Span ℕ) (u : ℤ) → (lasts s && (int_eq s.start u || int_eq s.until u)) ≡ false → covers s (u -ℤ pos 1) ≡ covers s u
-covers-no_end s u h = grind (arith, ints)
+abbrev HasNoEnd : ℤ → Span ℕ → Type 0
+HasNoEnd u s = has_end u s ≡ false
 
-list_any-same : {A : Type 0} (p q : A → Bool) (xs : List A) → All (λ x. p x ≡ q x) xs → list_any p xs ≡ list_any q xs
-list_any-same p q [] same = refl
-list_any-same p q (x ∷ xs) same = ap₂ ◌||◌ (All-head (λ x. p x ≡ q x) x xs same) (list_any-same p q xs (All-tail (λ x. p x ≡ q x) x xs same))
+covers-no_end : (s : Span ℕ) (u : ℤ) → HasNoEnd u s → covers s (u -ℤ pos 1) ≡ covers s u
+covers-no_end s u h = grind (arith, ints)
 
 or_none : (a b : Bool) → (a || b) ≡ false → (a ≡ false) × (b ≡ false)
 or_none true b h = cc
@@ -38,25 +37,25 @@ All-from_list_any p (x ∷ xs) none =
 is_on_top-no_end : (spans : List (Span ℕ)) (at : ℕ) (u : ℤ) → is_end spans u ≡ false → is_on_top spans at (u -ℤ pos 1) ≡ is_on_top spans at u
 is_on_top-no_end spans at u none = on_top spans none_of
   where
-    none_of : All (λ s. (lasts s && (int_eq s.start u || int_eq s.until u)) ≡ false) spans
-    none_of = All-from_list_any (λ s. lasts s && (int_eq s.start u || int_eq s.until u)) spans none
+    none_of : All (HasNoEnd u) spans
+    none_of = All-from_list_any (has_end u) spans none
 
-    outranked : (s : Span ℕ) (xs : List (Span ℕ)) → All (λ s. (lasts s && (int_eq s.start u || int_eq s.until u)) ≡ false) xs → is_outranked xs s (u -ℤ pos 1) ≡ is_outranked xs s u
+    outranked : (s : Span ℕ) (xs : List (Span ℕ)) → All (HasNoEnd u) xs → is_outranked xs s (u -ℤ pos 1) ≡ is_outranked xs s u
     outranked s [] each = refl
     outranked s (x ∷ xs) each =
         ap₂ (λ a b. (a && outranks x s) || b)
-        (covers-no_end x u (All-head (λ s. (lasts s && (int_eq s.start u || int_eq s.until u)) ≡ false) x xs each))
-        (outranked s xs (All-tail (λ s. (lasts s && (int_eq s.start u || int_eq s.until u)) ≡ false) x xs each))
+        (covers-no_end x u (All-head (HasNoEnd u) x xs each))
+        (outranked s xs (All-tail (HasNoEnd u) x xs each))
 
-    on_top : (xs : List (Span ℕ)) → All (λ s. (lasts s && (int_eq s.start u || int_eq s.until u)) ≡ false) xs
+    on_top : (xs : List (Span ℕ)) → All (HasNoEnd u) xs
         → list_any (λ s. nat_eq s.at at && (covers s (u -ℤ pos 1) && not (is_outranked spans s (u -ℤ pos 1)))) xs ≡ list_any (λ s. nat_eq s.at at && (covers s u && not (is_outranked spans s u))) xs
     on_top [] each = refl
     on_top (x ∷ xs) each =
         ap₂ ◌||◌
         (ap₂ (λ a b. nat_eq x.at at && (a && not b))
-        (covers-no_end x u (All-head (λ s. (lasts s && (int_eq s.start u || int_eq s.until u)) ≡ false) x xs each))
+        (covers-no_end x u (All-head (HasNoEnd u) x xs each))
         (outranked x spans none_of))
-        (on_top xs (All-tail (λ s. (lasts s && (int_eq s.start u || int_eq s.until u)) ≡ false) x xs each))
+        (on_top xs (All-tail (HasNoEnd u) x xs each))
 
 -- the span of a segment has the microsecond where it starts and the last one before it ends, and neither the one before nor the one behind
 record IsWhole (segments : List Segment) (g : Segment) : Type 0 where

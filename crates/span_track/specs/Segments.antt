@@ -21,9 +21,12 @@ is_on_top spans at u = list_any (λ s. nat_eq s.at at && (covers s u && not (is_
 abbrev pub lasts : Span ℕ → Bool
 lasts s = int_lt s.start s.until
 
--- a span that lasts starts or ends at u
+-- the span lasts, and starts or ends at u
+abbrev pub has_end : ℤ → Span ℕ → Bool
+has_end u s = lasts s && (int_eq s.start u || int_eq s.until u)
+
 abbrev pub is_end : List (Span ℕ) → ℤ → Bool
-is_end spans u = list_any (λ s. lasts s && (int_eq s.start u || int_eq s.until u)) spans
+is_end spans u = list_any (has_end u) spans
 
 -- the segment starts and ends where spans do
 abbrev pub HasEnds : List (Span ℕ) → Segment → Type 0
