@@ -5,15 +5,15 @@ use Rattle.std.proofs.lemmas.List.Sums.{sum_by_push}
 use Rattle.span_track.specs.declared.segment.Part.{Part}
 use Rattle.span_track.specs.Spans.{Span, distance}
 use Rattle.span_track.specs.Division.{Owners, owner_of, Belong, ArePast, IsOnly, part_length, named_length, whole_length, between}
-use Rattle.span_track.specs.Cursor.{IsOpened, IsGained}
+use Rattle.span_track.specs.Cursor.{IsTakenBack, IsGained}
 use Rattle.span_track.proofs.Cursor.{Some≢None}
 use Rattle.span_track.proofs.Counts.{distance-add}
 use Rattle.span_track.proofs.Ends.{reverse-push, natural-none, slice_get-reverse}
 use Rattle.span_track.proofs.Taking.{ArePast-push}
 
--- the last part is the span's, so it is opened
-pub IsOpened-last : (s : Span ℕ) (from : ℤ) (rest : List Part) (p : Part) (owners : Owners) → IsOnly s owners → ArePast owners from (reverse (rest ++ p ∷ [])) → p.segment.at ≡ s.at → p.segment.until ≡ from → IsOpened s p.segment.start from (rest ++ p ∷ []) rest owners
-IsOpened-last s from rest p owners only past at ends =
+-- the last part is the span's, so it is taken back
+pub IsTakenBack-last : (s : Span ℕ) (from : ℤ) (rest : List Part) (p : Part) (owners : Owners) → IsOnly s owners → ArePast owners from (reverse (rest ++ p ∷ [])) → p.segment.at ≡ s.at → p.segment.until ≡ from → IsTakenBack s p.segment.start from (rest ++ p ∷ []) rest owners
+IsTakenBack-last s from rest p owners only past at ends =
     let before : ArePast owners from (p ∷ reverse rest) = subst (λ l. ArePast owners from l) (reverse-push rest p) past in
     let same : owner_of p ≡ s = only p.segment.start (owner_of p) (before.3 p.segment.start (omega (arith, ints)) before.2) at in
     record {
@@ -41,8 +41,8 @@ ArePast-apart s from (p ∷ parts) owners only past apart =
     let same : s ≡ owner_of p = cc in
     apart p refl (ap (λ (o : Span ℕ). o.at) (sym same)) ends)
 
-pub IsOpened-apart : (s : Span ℕ) (from : ℤ) (parts : List Part) (owners : Owners) → IsOnly s owners → ArePast owners from (reverse parts) → ((p : Part) → slice_get parts (length parts - 1) ≡ Some p → p.segment.at ≡ s.at → p.segment.until ≢ from) → IsOpened s from from parts parts owners
-IsOpened-apart s from parts owners only past apart =
+pub IsTakenBack-apart : (s : Span ℕ) (from : ℤ) (parts : List Part) (owners : Owners) → IsOnly s owners → ArePast owners from (reverse parts) → ((p : Part) → slice_get parts (length parts - 1) ≡ Some p → p.segment.at ≡ s.at → p.segment.until ≢ from) → IsTakenBack s from from parts parts owners
+IsTakenBack-apart s from parts owners only past apart =
     let nothing : distance from from ≡ 0 = natural-none (from -ℤ from) (omega (arith, ints)) in
     record {
       first = omega (arith, ints);
@@ -58,18 +58,18 @@ IsOpened-apart s from parts owners only past apart =
     none false nothing n = omega arith
 
 -- what the span has before `from` and what it has from there on are one part
-pub IsGained-opened : (span : Part) (start from until : ℤ) (old opened : List Part) (owners : Owners) → from <ℤ until → Belong owners from until (Some (owner_of span)) → IsOpened (owner_of span) start from old opened owners → IsGained (owner_of span) from until old (opened ++ between span start until ∷ []) owners
-IsGained-opened span start from until old opened owners forward belongs at =
+pub IsGained-taken_back : (span : Part) (start from until : ℤ) (old rest : List Part) (owners : Owners) → from <ℤ until → Belong owners from until (Some (owner_of span)) → IsTakenBack (owner_of span) start from old rest owners → IsGained (owner_of span) from until old (rest ++ between span start until ∷ []) owners
+IsGained-taken_back span start from until old rest owners forward belongs at =
     let part = between span start until in
     let long : distance start until ≡ distance start from + distance from until = distance-add start from until at.first (omega (arith, ints)) in
     let whole : Belong owners start until (Some (owner_of span)) = λ u after before. by_lt_z u from (λ k. at.belongs u after k) (λ k. belongs u k before) in
     record {
-      before = rw (reverse-push opened part) (ArePast-push owners part (reverse opened) (omega (arith, ints, at.first)) whole at.change at.before);
+      before = rw (reverse-push rest part) (ArePast-push owners part (reverse rest) (omega (arith, ints, at.first)) whole at.change at.before);
       of_names = λ name.
-          let one = sum_by_push (λ (q : Part). cond (nat_eq q.segment.name name) (part_length q) 0) opened part in
+          let one = sum_by_push (λ (q : Part). cond (nat_eq q.segment.name name) (part_length q) 0) rest part in
           let both = of_both (nat_eq span.segment.name name) long in
           omega (arith, one, both, at.of_names name);
-      of_all = omega (arith, sum_by_push (λ (q : Part). part_length q) opened part, long, at.of_all);
+      of_all = omega (arith, sum_by_push (λ (q : Part). part_length q) rest part, long, at.of_all);
     }
   where
     of_both : (b : Bool) → distance start until ≡ distance start from + distance from until → cond b (distance start until) 0 ≡ cond b (distance start from) 0 + cond b (distance from until) 0

@@ -14,7 +14,7 @@ use Rattle.std.proofs.lemmas.Map.Made.{length-le_from_is_member}
 use Rattle.std.proofs.lemmas.List.Elements.{All-nil, All-cons, All-head, All-tail}
 use Rattle.span_track.specs.declared.segment.Segment.{Segment}
 use Rattle.span_track.specs.Spans.{Span, covers, outranks, is_outranked}
-use Rattle.span_track.specs.Segments.{is_in_segment, is_on_top, lasts, has_end, is_end, HasEnds, IsBefore, AreInOrder, AreSegments}
+use Rattle.span_track.specs.Segments.{is_in_segment, is_on_top, lasts, has_end, is_end, HasEnds, IsRightBefore, AreInOrder, AreSegments}
 use Rattle.span_track.proofs.Segments.{AreFrom, AreFrom-until, is_in_segment-before, is_in_segment-head, is_in_segment-tail, is_in_segment-until}
 
 abbrev HasNoEnd : ℤ → Span ℕ → Type 0
@@ -74,7 +74,7 @@ IsBehind-apart x t (g ∷ xs) apart from order =
     All-cons (IsBehind x) g xs (omega (arith, ints), (λ touch. absurd (omega (arith, ints, touch))), order.0)
     (IsBehind-apart x g.until xs (omega (arith, ints, order.0)) (AreFrom-until g xs order.1) order.2)
 
-AreBehind : (x : Segment) (xs : List Segment) → IsBefore x xs → AreInOrder xs → All (IsBehind x) xs
+AreBehind : (x : Segment) (xs : List Segment) → IsRightBefore x xs → AreInOrder xs → All (IsBehind x) xs
 AreBehind x [] before order = All-nil (IsBehind x)
 AreBehind x (g ∷ xs) before order =
     All-cons (IsBehind x) g xs (before.0, before.1, order.0)

@@ -6,7 +6,7 @@ use Rattle.std.proofs.lemmas.List.Elements.{All-nil, All-cons}
 use Rattle.span_track.specs.declared.segment.Segment.{Segment}
 use Rattle.span_track.specs.declared.segment.Part.{Part}
 use Rattle.span_track.specs.Spans.{Span}
-use Rattle.span_track.specs.Segments.{lies_in, is_in_segment, IsBefore, AreInOrder, AreSegments}
+use Rattle.span_track.specs.Segments.{lies_in, is_in_segment, IsRightBefore, AreInOrder, AreSegments}
 use Rattle.span_track.specs.Division.{Owners, bare, owners_of, owner_of, AreFuture, AreParts}
 use Rattle.span_track.specs.Laws.{IsApart, AreSpans}
 use Rattle.span_track.specs.Closed.{least_start, AreClosed}
@@ -26,7 +26,7 @@ abbrev pub AreFrom : ℤ → List Segment → Type 0
 AreFrom t [] = Unit {0}
 AreFrom t (g ∷ segments) = t ≤ℤ g.start
 
-pub AreFrom-until : (g : Segment) (segments : List Segment) → IsBefore g segments → AreFrom g.until segments
+pub AreFrom-until : (g : Segment) (segments : List Segment) → IsRightBefore g segments → AreFrom g.until segments
 AreFrom-until g [] before = tt
 AreFrom-until g (h ∷ segments) before = before.0
 
@@ -58,7 +58,7 @@ pub is_in_segment-until : (g : Segment) (segments : List Segment) → AreInOrder
 is_in_segment-until g segments order =
     is_in_segment-tail g segments g.at g.until (omega (arith, ints)) ∙ later segments order.1 order.2
   where
-    later : (segments : List Segment) → IsBefore g segments → AreInOrder segments → is_in_segment segments g.at g.until ≡ false
+    later : (segments : List Segment) → IsRightBefore g segments → AreInOrder segments → is_in_segment segments g.at g.until ≡ false
     later [] before order = refl
     later (h ∷ segments) before order =
         by_lt_z g.until h.start (λ apart. is_in_segment-before h.start (h ∷ segments) order (omega (arith, ints)) g.at g.until apart)
@@ -83,9 +83,9 @@ AreSingle owners = (u v : ℤ) (a b : Span ℕ) → owners u ≡ Some a → owne
 
 module _ (owners : Owners) (single : AreSingle owners) where
   -- where two parts touch, their owners differ, so their positions do
-  IsBefore-parts : (p : Part) (parts : List Part) → owners p.segment.start ≡ Some (owner_of p) → owners p.segment.until ≢ Some (owner_of p) → AreFuture owners p.segment.until parts → IsBefore p.segment (segments_of parts)
-  IsBefore-parts p [] starts ends future = tt
-  IsBefore-parts p (q ∷ parts) starts ends future = (
+  IsRightBefore-parts : (p : Part) (parts : List Part) → owners p.segment.start ≡ Some (owner_of p) → owners p.segment.until ≢ Some (owner_of p) → AreFuture owners p.segment.until parts → IsRightBefore p.segment (segments_of parts)
+  IsRightBefore-parts p [] starts ends future = tt
+  IsRightBefore-parts p (q ∷ parts) starts ends future = (
     future.0,
     λ touch same.
         let here = future.3 q.segment.start (omega (arith, ints)) future.2 in
@@ -95,7 +95,7 @@ module _ (owners : Owners) (single : AreSingle owners) where
   AreInOrder-parts : (t : ℤ) (parts : List Part) → AreFuture owners t parts → AreInOrder (segments_of parts)
   AreInOrder-parts t [] future = tt
   AreInOrder-parts t (p ∷ parts) future =
-      (future.2, IsBefore-parts p parts (future.3 p.segment.start (omega (arith, ints)) future.2) future.4 future.5, AreInOrder-parts p.segment.until parts future.5)
+      (future.2, IsRightBefore-parts p parts (future.3 p.segment.start (omega (arith, ints)) future.2) future.4 future.5, AreInOrder-parts p.segment.until parts future.5)
 
   is_in_segment-parts : (t : ℤ) (parts : List Part) → AreFuture owners t parts → (at : ℕ) (u : ℤ) → t ≤ℤ u → is_in_segment (segments_of parts) at u ≡ is_of at (owners u)
   is_in_segment-parts t [] future at u from = sym (ap (is_of at) (future.1 u from))

@@ -4,7 +4,7 @@ use Rattle.indexmap.specs.IndexMap.{get}
 use Rattle.span_track.specs.declared.segment.Part.{Part}
 use Rattle.span_track.specs.declared.timeline.Timeline.{Timeline}
 use Rattle.span_track.specs.Spans.{Span, distance}
-use Rattle.span_track.specs.Closed.{least_start, greatest_until}
+use Rattle.span_track.specs.Closed.{IsInTime}
 use Rattle.span_track.specs.Division.{Owners, taken, owner_of, Belong, ArePast, AreFuture, AreParts, AreSums, IsNew, IsChange, named_length, whole_length, parts_of, piece}
 
 -- the first of the parts ends no later than t
@@ -30,7 +30,7 @@ pub record IsTimeline (owners : Owners) (t : Timeline) : Type 0 where
 -- the cursor stands right before the span, or before a part that the span starts in
 pub record IsAtStart (s : Span ℕ) (past future : List Part) (owners : Owners) : Type 0 where
   pub new : IsNew s owners
-  pub in_time : (least_start ≤ℤ s.start) × (s.until ≤ℤ greatest_until)
+  pub in_time : IsInTime s
   pub lasts : s.start <ℤ s.until
   pub ends : lasts_beyond s.start (reverse past) ≡ false
   pub beyond : ends_by s.start (reverse future) ≡ false
@@ -39,7 +39,7 @@ pub record IsAtStart (s : Span ℕ) (past future : List Part) (owners : Owners) 
 -- a new span has taken what is its own before t
 pub record IsTakenTo (s : Span ℕ) (t : ℤ) (past future : List Part) (owners : Owners) : Type 0 where
   pub new : IsNew s owners
-  pub in_time : (least_start ≤ℤ s.start) × (s.until ≤ℤ greatest_until)
+  pub in_time : IsInTime s
   pub from : s.start ≤ℤ t
   pub before : ArePast (taken s owners) t (reverse past)
   pub after : AreFuture owners t (reverse future)
@@ -48,7 +48,7 @@ pub record IsTakenTo (s : Span ℕ) (t : ℤ) (past future : List Part) (owners 
 -- the part of which a new span may take what lies from `from` on, between the parts before it and behind it
 pub record IsNextPart (s : Span ℕ) (from : ℤ) (p : Part) (past future : List Part) (owners : Owners) : Type 0 where
   pub new : IsNew s owners
-  pub in_time : (least_start ≤ℤ s.start) × (s.until ≤ℤ greatest_until)
+  pub in_time : IsInTime s
   pub begins : s.start ≤ℤ from
   pub ends : from <ℤ s.until
   pub within : (p.segment.start ≤ℤ from) × (from <ℤ p.segment.until)
@@ -89,8 +89,8 @@ pub record IsPassing (s : Span ℕ) (from : ℤ) (p : Part) (t : Timeline) (owne
   pub room : vec_len t.past + 2 * vec_len t.future + 2 + length (piece p p.segment.start from) ≤ vec_capacity t.past
   pub room_behind : vec_len t.future < vec_capacity t.future
 
--- the past without the span's last part, which reaches from `start` to `from`
-pub record IsOpened (s : Span ℕ) (start from : ℤ) (old new : List Part) (owners : Owners) : Type 0 where
+-- the past without the span's part that reaches from `start` to `from`; where it has none, `start` is `from`, and the past is the same
+pub record IsTakenBack (s : Span ℕ) (start from : ℤ) (old new : List Part) (owners : Owners) : Type 0 where
   pub first : start ≤ℤ from
   pub before : ArePast owners start (reverse new)
   pub belongs : Belong owners start from (Some s)

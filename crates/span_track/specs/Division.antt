@@ -4,8 +4,13 @@ use Rattle.indexmap.specs.IndexMap.{IndexMap, get}
 use Rattle.std.specs.declared.hash.FoldHasher.{FoldHasher}
 use Rattle.std.specs.declared.hash.BuildHasherDefault.{BuildHasherDefault}
 use Rattle.span_track.specs.declared.segment.Part.{Part}
+use Rattle.span_track.specs.declared.span.ClosedSpan.{ClosedSpan}
 use Rattle.span_track.specs.Spans.{Span, covers, outranks, distance}
 use Rattle.span_track.specs.Closed.{least_start, greatest_until}
+
+-- the one part of a span that has all of its time
+abbrev pub whole : ClosedSpan → Part
+whole s = record { segment = record { start = s.start; until = s.until; name = s.name; at = s.at }; span_start = s.start; span_until = s.until }
 
 -- to which span each microsecond belongs; spans stand in it without their arguments
 abbrev pub Owners : Type 0

@@ -33,14 +33,14 @@ abbrev pub HasEnds : List (Span ℕ) → Segment → Type 0
 HasEnds spans g = (is_end spans g.start ≡ true) × (is_end spans g.until ≡ true)
 
 -- the first of the others starts no sooner than g ends, and where the two touch they are of different spans
-abbrev pub IsBefore : Segment → List Segment → Type 0
-IsBefore g [] = Unit {0}
-IsBefore g (h ∷ segments) = (g.until ≤ℤ h.start) × (g.until ≡ h.start → g.at ≢ h.at)
+abbrev pub IsRightBefore : Segment → List Segment → Type 0
+IsRightBefore g [] = Unit {0}
+IsRightBefore g (h ∷ segments) = (g.until ≤ℤ h.start) × (g.until ≡ h.start → g.at ≢ h.at)
 
--- none is empty, and each ends before the next starts
+-- none is empty, and each ends no later than the next starts
 abbrev pub AreInOrder : List Segment → Type 0
 AreInOrder [] = Unit {0}
-AreInOrder (g ∷ segments) = (g.start <ℤ g.until) × IsBefore g segments × AreInOrder segments
+AreInOrder (g ∷ segments) = (g.start <ℤ g.until) × IsRightBefore g segments × AreInOrder segments
 
 -- the segments of time that these spans make
 pub record AreSegments (spans : List (Span ℕ)) (segments : List Segment) : Type 0 where

@@ -17,11 +17,12 @@ pub record Span (N : Type 0) : Type 0 where
   pub at : ℕ
   pub args : Arguments
 
--- how many whole numbers lie from a to before b
+-- a whole number, but 0 in the place of a negative one
 abbrev pub natural : ℤ → ℕ
 natural (pos n) = n
 natural (negsuc n) = 0
 
+-- how many whole numbers lie from a to before b
 abbrev pub distance : ℤ → ℤ → ℕ
 distance a b = natural (b -ℤ a)
 

@@ -56,10 +56,10 @@ impl ClosedSpans {
         &self.list
     }
 
-    /// Where memory is refused, nothing has changed.
+    /// Where memory is refused, no reader sees a change.
     pub(crate) fn add(&mut self, span: ClosedSpan) -> Result<(), AllocError>
         requires few { length self.old + 1 < 2 ^ 32 }
-        requires lasts { span.start ≤ℤ span.until }
+        requires forward { span.start ≤ℤ span.until }
         requires in_time { IsInTime (span_of span) }
         requires apart { All (λ s. s.at ≢ span.at) self.old }
         ensures ok { OnOk result (self.new ≡ self.old ++ span_of span ∷ []) }

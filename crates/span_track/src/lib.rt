@@ -1,4 +1,4 @@
-//! What the events of one thread stand for: nested spans, and their self and busy times.
+//! What the events of one thread stand for: open and closed spans, and how its time is divided among the closed ones.
 #![tactic(auto)]
 
 mod closed;

@@ -1,7 +1,7 @@
 //! Segments of time with an owner.
 ghost use Rattle.std.specs.Prelude.{◌≡◌};
 ghost use Rattle.span_track.specs.Spans.{outranks};
-ghost use Rattle.span_track.specs.Division.{owner_of};
+ghost use Rattle.span_track.specs.Division.{owner_of, between, whole};
 
 use crate::span::ClosedSpan;
 
@@ -25,7 +25,7 @@ pub(crate) struct Part {
 
 impl Part {
     pub(crate) fn whole(span: &ClosedSpan) -> Part
-        ensures { result ≡ record { segment = record { start = span.now.start; until = span.now.until; name = span.now.name; at = span.now.at }; span_start = span.now.start; span_until = span.now.until } }
+        ensures { result ≡ whole span.now }
     {
         Part {
             segment: Segment {
@@ -41,7 +41,7 @@ impl Part {
 
     /// Another part of the same span.
     pub(crate) fn between(&self, start: i64, until: i64) -> Part
-        ensures { result ≡ record { segment = record { start = start; until = until; name = self.now.segment.name; at = self.now.segment.at }; span_start = self.now.span_start; span_until = self.now.span_until } }
+        ensures { result ≡ between self.now start until }
     {
         Part {
             segment: Segment {

@@ -28,7 +28,7 @@ struct OpenSpan {
     args: Args,
 }
 
-/// The nested spans of one thread.
+/// The open and closed spans of one thread, and how its time is divided among the closed ones. Times are microseconds.
 #[derive(Drop)]
 pub struct ThreadTrack {
     opened: Vec<OpenSpan>,
@@ -61,7 +61,8 @@ impl ThreadTrack {
         }
     }
 
-    /// A span begins. Answers the depth with it, or 22 where `ts` is below the time of the last begin or end.
+    /// A span begins. Answers the depth with it, or 22 where `ts` is below the time of the last begin or end, as the format asks
+    /// for rising times of a thread's begins and ends.
     pub fn begin_span(
         &mut self,
         name: u32,
@@ -118,7 +119,7 @@ impl ThreadTrack {
         Ok(answer)
     }
 
-    /// A whole span, of `dur` microseconds from `ts` on.
+    /// A whole span, of `dur` microseconds from `ts` on, in any order of time. Only want of memory refuses it.
     pub fn complete(
         &mut self,
         name: u32,
@@ -220,7 +221,7 @@ impl ThreadTrack {
     }
 
     /// How many segments of time there are: stretches, each as long as can be, in which one closed span ranks above all others
-    /// that cover it. Takes no memory.
+    /// that cover it. With n closed spans of a microsecond or more there are at most 2n - 1, and none where n is 0. Takes no memory.
     pub fn segment_count(&self) -> u64
         ensures count { (segments : List Segment) → AreSegments self.now.closed segments → result ≡ length segments }
         ensures segments { HasSegments self.now.closed }
@@ -229,7 +230,7 @@ impl ThreadTrack {
         self.closed.segment_count()
     }
 
-    /// A segment of time, in ascending order, counted from 0. Takes no memory.
+    /// A segment of time, in ascending order, counted from 0; None from the number of segments on. Takes no memory.
     pub fn segment(&self, i: u64) -> Option<&Segment>
         ensures segment { (segments : List Segment) → AreSegments self.now.closed segments → option_copied result ≡ slice_get segments i }
         ensures ends { IfSome (option_copied result) (HasEnds self.now.closed) }

@@ -1,11 +1,10 @@
 //! The time of a thread, divided among its closed spans.
-ghost use Rattle.std.specs.Prelude.{true, false, map, option_copied, ◌≡◌, ◌≤◌, ◌<◌, ◌+◌, ◌*◌, ◌^◌, ◌==◌, ◌≤ℤ◌, ◌<ℤ◌, ℕ, ℤ, pos, ◌-ℤ◌, [], ◌∷◌, ◌++◌, nat_eq, reverse, length, Some, slice_get, vec_len, vec_capacity, if◌then◌else◌, IsSome, OnOk, OnErr, ◌≢◌};
-ghost use Rattle.std.specs.Option.{option_map};
+ghost use Rattle.std.specs.Prelude.{true, false, map, option_copied, ◌≡◌, ◌≤◌, ◌<◌, ◌+◌, ◌*◌, ◌^◌, ◌==◌, ◌≤ℤ◌, ◌<ℤ◌, ℕ, [], ◌++◌, nat_eq, reverse, length, Some, slice_get, vec_len, vec_capacity, if◌then◌else◌, IsSome, OnOk, OnErr};
 ghost use Rattle.indexmap.specs.IndexMap.{get, spare};
 ghost use Rattle.span_track.specs.Spans.{distance, outranks};
 ghost use Rattle.span_track.specs.Closed.{least_start, greatest_until};
-ghost use Rattle.span_track.specs.Division.{Owners, owner_of, taken, Belong, ArePast, AreParts, own_in, AreSums, IsOnly, IsNew, ForSome, parts_of, piece};
-ghost use Rattle.span_track.specs.Cursor.{ends_by, lasts_beyond, starts_before, IsTimeline, IsEntering, IsTaking, IsAhead, IsPassing, IsOpened, IsGained};
+ghost use Rattle.span_track.specs.Division.{Owners, owner_of, taken, Belong, ArePast, own_in, IsOnly, IsNew, ForSome, parts_of, piece};
+ghost use Rattle.span_track.specs.Cursor.{ends_by, lasts_beyond, starts_before, IsTimeline, IsEntering, IsTaking, IsAhead, IsPassing, IsTakenBack, IsGained};
 
 use crate::segment::{Part, Segment};
 use crate::walk::distance;
@@ -70,10 +69,10 @@ impl Timeline {
     }
 
     /// The span takes the microseconds that it covers from no one and from the spans that it outranks. Where memory is refused,
-    /// nothing has changed.
+    /// only the cursor may have moved, which no reader sees.
     pub(crate) fn add(&mut self, span: &Part) -> Result<(), AllocError>
         requires is { ForSome (λ owners. IsTimeline owners self.old × IsNew (owner_of span.now) owners) }
-        requires lasts { span.now.span_start ≤ℤ span.now.span_until }
+        requires forward { span.now.span_start ≤ℤ span.now.span_until }
         requires from_in_time { least_start ≤ℤ span.now.span_start }
         requires to_in_time { span.now.span_until ≤ℤ greatest_until }
         ensures ok { OnOk result ((owners : Owners) → IsTimeline owners self.old → IsNew (owner_of span.now) owners
@@ -129,7 +128,7 @@ impl Timeline {
         Ok(())
     }
 
-    // The part that the span starts in, if there is one. Returns the time before which all is taken.
+    // Passes the part that the span starts in, if there is one. Returns the time before which all is taken.
     fn enter(&mut self, span: &Part) -> i64
         requires { ForSome (IsEntering (owner_of span.now) self.old) }
         ensures { (owners : Owners) → IsEntering (owner_of span.now) self.old owners → IsTaking (owner_of span.now) result self.new owners }
@@ -143,7 +142,7 @@ impl Timeline {
         self.pass(span, part, span.span_start)
     }
 
-    // The other parts that the span reaches, each with the gap before it.
+    // Passes the other parts that the span reaches, each after the gap before it. Returns the time before which all is taken.
     fn go_through(&mut self, span: &Part, from: i64) -> i64
         requires { ForSome (IsTaking (owner_of span.now) from self.old) }
         ensures taken { (owners : Owners) → IsTaking (owner_of span.now) from self.old owners → IsTaking (owner_of span.now) result self.new owners }
@@ -156,7 +155,7 @@ impl Timeline {
         time
     }
 
-    // The part that comes next, with the gap before it. Returns the time before which all is taken.
+    // Passes the part that comes next, after the gap before it. Returns the time before which all is taken.
     fn go_on(&mut self, span: &Part, time: i64) -> i64
         requires taken { ForSome (IsTaking (owner_of span.now) time self.old) }
         requires next { starts_before span.now.span_until (reverse self.old.future.items) ≡ true }
@@ -171,7 +170,7 @@ impl Timeline {
         self.pass(span, part, start)
     }
 
-    // The gap from `time` to the part, which is taken out.
+    // Gives the span the gap from `time` to the part, which has left `future`.
     fn fill_before(&mut self, span: &Part, part: &Part, time: i64)
         requires ahead { ForSome (IsAhead (owner_of span.now) time part.now self.old) }
         requires within { part.now.segment.start <ℤ span.now.span_until }
@@ -183,7 +182,7 @@ impl Timeline {
         }
     }
 
-    // The gap before the end of the span.
+    // Gives the span the gap before its end.
     fn finish(&mut self, span: &Part, time: i64)
         requires taken { ForSome (IsTaking (owner_of span.now) time self.old) }
         requires gap { starts_before span.now.span_until (reverse self.old.future.items) ≡ false }
@@ -195,7 +194,7 @@ impl Timeline {
         }
     }
 
-    // The part, of which the span may take what lies from `from` on. Returns the time before which all is taken.
+    // Puts the part back, but for what the span takes of it from `from` on. Returns the time before which all is taken.
     fn pass(&mut self, span: &Part, part: Part, from: i64) -> i64
         requires { ForSome (IsPassing (owner_of span.now) from part self.old) }
         ensures taken { (owners : Owners) → IsPassing (owner_of span.now) from part self.old owners → IsTaking (owner_of span.now) result self.new owners }
@@ -218,14 +217,14 @@ impl Timeline {
     {
         push_between(&mut self.past, part, part.segment.start, from);
         let until = part.segment.until.min(span.span_until);
-        lose(&mut self.own, part.segment.name, distance(from, until));
+        lose_own(&mut self.own, part.segment.name, distance(from, until));
         self.gain(span, from, until);
         push_between(&mut self.future, part, until, part.segment.until);
         until
     }
 
     fn gain(&mut self, span: &Part, from: i64, until: i64)
-        requires forward { from <ℤ until }
+        requires lasts { from <ℤ until }
         requires from_in_time { least_start ≤ℤ from }
         requires to_in_time { until ≤ℤ greatest_until }
         requires room { vec_len self.old.past < vec_capacity self.old.past }
@@ -240,16 +239,16 @@ impl Timeline {
         ensures future { self.new.future ≡ self.old.future }
         ensures busy { self.new.busy ≡ self.old.busy }
     {
-        gain(&mut self.own, span.segment.name, distance(from, until));
-        let start = open_last(&mut self.past, span, from);
+        gain_own(&mut self.own, span.segment.name, distance(from, until));
+        let start = take_back(&mut self.past, span, from);
         self.past.push_reserved(span.between(start, until));
     }
 }
 
-// Takes out the last part where it is of the span and ends at `from`. Returns from when on the span's time reaches to `from`.
-fn open_last(past: &mut Vec<Part>, span: &Part, from: i64) -> i64
+// Takes the last part back where it is of the span and ends at `from`. Returns from when on the span's time reaches to `from`.
+fn take_back(past: &mut Vec<Part>, span: &Part, from: i64) -> i64
     ensures past { (owners : Owners) → IsOnly (owner_of span.now) owners → ArePast owners from (reverse past.old.items)
-        → IsOpened (owner_of span.now) result from past.old.items past.new.items owners }
+        → IsTakenBack (owner_of span.now) result from past.old.items past.new.items owners }
     ensures len { vec_len past.new ≤ vec_len past.old }
     ensures capacity { vec_capacity past.new ≡ vec_capacity past.old }
 {
@@ -332,7 +331,7 @@ fn keep_name(own: &mut IndexMap<u32, u64>, name: u32)
     }
 }
 
-fn gain(own: &mut IndexMap<u32, u64>, name: u32, length: u64)
+fn gain_own(own: &mut IndexMap<u32, u64>, name: u32, length: u64)
     requires kept { IsSome (get nat_eq own.old name) }
     requires small { own_in own.old name + length < 2 ^ 64 }
     ensures sum { (other : ℕ) → own_in own.new other ≡ own_in own.old other + (if name == other then length else 0) }
@@ -342,7 +341,7 @@ fn gain(own: &mut IndexMap<u32, u64>, name: u32, length: u64)
     set_own(own, name, held + length);
 }
 
-fn lose(own: &mut IndexMap<u32, u64>, name: u32, length: u64)
+fn lose_own(own: &mut IndexMap<u32, u64>, name: u32, length: u64)
     requires some { 0 < length }
     requires held { length ≤ own_in own.old name }
     ensures sum { (other : ℕ) → own_in own.new other + (if name == other then length else 0) ≡ own_in own.old other }

@@ -68,15 +68,10 @@ fn expect_segments(rt: &impl Abort, track: &ThreadTrack) {
     assert_eq!(rt; busy, track.busy());
 }
 
-// The running times are those that the plain walks find.
+// The running times are those that the plain walks find, also of names that no closed span has.
 fn expect_plain_times(rt: &impl Abort, track: &ThreadTrack) {
-    for span in track.spans() {
-        assert_eq!(rt;
-            track.self_of(span.name),
-            self_plain(track, span.name),
-            "name {}",
-            span.name
-        );
+    for name in 0..32u32 {
+        assert_eq!(rt; track.self_of(name), self_plain(track, name), "name {name}");
     }
     assert_eq!(rt; track.busy(), busy_plain(track));
     expect_segments(rt, track);
@@ -145,6 +140,15 @@ fn segment(start: i64, until: i64, name: u32, at: u32) -> Segment {
     }
 }
 
+// The track has just these segments.
+fn expect_all_segments(rt: &impl Abort, track: &ThreadTrack, segments: &[Segment]) {
+    assert_eq!(rt; track.segment_count(), segments.len() as u64);
+    for (i, expected) in segments.iter().enumerate() {
+        assert_eq!(rt; track.segment(i as u64), Some(expected), "segment {i}");
+    }
+    assert_eq!(rt; track.segment(segments.len() as u64), None);
+}
+
 // The number, the lengths and the self times of a name.
 fn expect_name(rt: &impl Abort, track: &ThreadTrack, name: u32, count: u32, total: u128, own: u64) {
     assert_eq!(rt;
@@ -207,16 +211,12 @@ fn a_child_that_came_first(rt: HostRuntime) -> Result<(), Fail> {
     expect_name(&rt, &track, 3, 1, 10, 7);
     expect_name(&rt, &track, 2, 1, 3, 3);
     expect_busy(&rt, &track, 10);
-    assert_eq!(rt; track.segment_count(), 3);
     let segments = [
         segment(0, 2, 3, 1),
         segment(2, 5, 2, 0),
         segment(5, 10, 3, 1),
     ];
-    for (i, expected) in segments.iter().enumerate() {
-        assert_eq!(rt; track.segment(i as u64), Some(expected), "segment {i}");
-    }
-    assert_eq!(rt; track.segment(3), None);
+    expect_all_segments(&rt, &track, &segments);
     Ok(())
 }
 
@@ -230,6 +230,12 @@ fn a_span_that_takes_from_two(rt: HostRuntime) -> Result<(), Fail> {
     expect_name(&rt, &track, 1, 1, 10, 10);
     expect_name(&rt, &track, 2, 1, 20, 15);
     expect_busy(&rt, &track, 30);
+    let segments = [
+        segment(0, 5, 0, 0),
+        segment(5, 20, 2, 2),
+        segment(20, 30, 1, 1),
+    ];
+    expect_all_segments(&rt, &track, &segments);
     Ok(())
 }
 

@@ -7,14 +7,14 @@ use Rattle.span_track.specs.declared.timeline.Timeline.{Timeline}
 use Rattle.span_track.specs.Spans.{Span, length_of}
 use Rattle.span_track.specs.Closed.{span_of}
 use Rattle.span_track.specs.Cursor.{IsTimeline}
-use Rattle.span_track.specs.Division.{Owners, bare, owner_of, taken, owners_of, IsNew}
+use Rattle.span_track.specs.Division.{Owners, bare, owner_of, taken, owners_of, whole, IsNew}
 use Rattle.span_track.proofs.Apart.{AreClosed-append}
 use Rattle.span_track.proofs.Owners.{owners_of-append, owners_of-apart}
 use Rattle.span_track.proofs.Totals.{AreTotals-append, AreTotals-same, count-le-length, total-le, length_of-le}
 use Rattle.span_track.proofs.closed.ClosedSpans.add.Goals as goal
 
 -- the part of a whole span is of that span
-owner_of-whole : (p : Part) (s : ClosedSpan) → p ≡ record { segment = record { start = s.start; until = s.until; name = s.name; at = s.at }; span_start = s.start; span_until = s.until } → owner_of p ≡ bare (span_of s)
+owner_of-whole : (p : Part) (s : ClosedSpan) → p ≡ whole s → owner_of p ≡ bare (span_of s)
 owner_of-whole p s is = ap owner_of is
 
 IsNew-apart : (spans : List (Span ℕ)) (s : Span ℕ) → All (λ (x : Span ℕ). x.at ≢ s.at) spans → IsNew (bare s) (owners_of spans)
@@ -26,9 +26,9 @@ IsTimeline-append spans s t is = subst (λ (o : Owners). IsTimeline o t) (λ i u
 pub add-requires-clause-is : goal.add-requires-clause-is
 add-requires-clause-is c =
     let spans = map span_of c.self.inside.list.items in
-    let whole = owner_of-whole c.whole.result c.args.span c.whole.ensures in
+    let own = owner_of-whole c.whole.result c.args.span c.whole.ensures in
     let apart : All (λ s. s.at ≢ c.args.span.at) spans = subst (λ (v : List (Span ℕ)). All (λ s. s.at ≢ c.args.span.at) v) (sym c.self.view_is) c.requires.apart in
-    record { owners = owners_of spans; holds = (c.self.invariant.2, subst (λ (s : Span ℕ). IsNew s (owners_of spans)) (sym whole) (IsNew-apart spans (span_of c.args.span) apart)) }
+    record { owners = owners_of spans; holds = (c.self.invariant.2, subst (λ (s : Span ℕ). IsNew s (owners_of spans)) (sym own) (IsNew-apart spans (span_of c.args.span) apart)) }
 
 pub add_to_total-requires-clause-count : goal.add_to_total-requires-clause-count
 add_to_total-requires-clause-count c =
@@ -46,7 +46,7 @@ add_to_total-requires-clause-total c =
     let are = AreTotals-same c.self.inside.totals c.reserve-2.new.self spans c.in_ok-reserve-2.ensures.entries c.self.invariant.1 in
     let held = ap (λ (t : NameTotal). t.total) (are c.args.span.name) in
     let most = total-le spans c.args.span.name c.self.invariant.0.are c.self.invariant.0.in_time in
-    let more = length_of-le (span_of c.args.span) c.requires.lasts c.requires.in_time in
+    let more = length_of-le (span_of c.args.span) c.requires.forward c.requires.in_time in
     let start : to_z w64 (of_z w64 c.args.span.start) ≡ c.args.span.start = search rules in
     let until : to_z w64 (of_z w64 c.args.span.until) ≡ c.args.span.until = search rules in
     let length_is : c.distance-length.result ≡ length_of (span_of c.args.span) = rw (start, until) at c.distance-length.ensures.value in
@@ -60,13 +60,13 @@ invariant_of-self-2 c =
     let apart : All (λ s. s.at ≢ span.at) spans = subst (λ (v : List (Span ℕ)). All (λ s. s.at ≢ span.at) v) (sym c.self.view_is) c.requires.apart in
     let items : c.push_reserved.new.self.items ≡ c.self.inside.list.items ++ c.args.span ∷ [] = c.push_reserved.ensures.items ∙ ap (λ l. l ++ c.args.span ∷ []) c.in_ok-reserve.ensures.items in
     let after : map span_of c.push_reserved.new.self.items ≡ spans ++ span ∷ [] = ap (map span_of) items ∙ map_push span_of c.self.inside.list.items c.args.span in
-    let closed = AreClosed-append spans span c.self.invariant.0 few c.requires.lasts c.requires.in_time apart in
+    let closed = AreClosed-append spans span c.self.invariant.0 few c.requires.forward c.requires.in_time apart in
     let start : to_z w64 (of_z w64 c.args.span.start) ≡ c.args.span.start = search rules in
     let until : to_z w64 (of_z w64 c.args.span.until) ≡ c.args.span.until = search rules in
     let length_is : c.distance-length.result ≡ length_of (span_of c.args.span) = rw (start, until) at c.distance-length.ensures.value in
     let are = AreTotals-same c.self.inside.totals c.reserve-2.new.self spans c.in_ok-reserve-2.ensures.entries c.self.invariant.1 in
     let totals = AreTotals-append c.reserve-2.new.self c.add_to_total.new.totals spans span c.distance-length.result are length_is c.add_to_total.ensures in
-    let whole = owner_of-whole c.whole.result c.args.span c.whole.ensures in
-    let new = subst (λ (s : Span ℕ). IsNew s (owners_of spans)) (sym whole) (IsNew-apart spans span apart) in
-    let taken = subst (λ (s : Span ℕ). IsTimeline (taken s (owners_of spans)) c.add.new.self) whole (c.in_ok-add.ensures.ok (owners_of spans) c.self.invariant.2 new) in
+    let own = owner_of-whole c.whole.result c.args.span c.whole.ensures in
+    let new = subst (λ (s : Span ℕ). IsNew s (owners_of spans)) (sym own) (IsNew-apart spans span apart) in
+    let taken = subst (λ (s : Span ℕ). IsTimeline (taken s (owners_of spans)) c.add.new.self) own (c.in_ok-add.ensures.ok (owners_of spans) c.self.invariant.2 new) in
     rw after (closed, totals, IsTimeline-append spans span c.add.new.self taken)

@@ -41,8 +41,8 @@ end_refusal_of_open t opened b ts is_open later =
 opener_of_last : (es : List (ThreadEvent ℕ)) (opened : List (Begin ℕ)) (b : Begin ℕ) → open_spans es ≡ opened ++ b ∷ [] → opener es ≡ Some b
 opener_of_last es opened b is_open = opener-open_spans es ∙ ap last_of is_open ∙ last_of-append opened b
 
-pub add-requires-clause-lasts : goal.add-requires-clause-lasts
-add-requires-clause-lasts c =
+pub add-requires-clause-forward : goal.add-requires-clause-forward
+add-requires-clause-forward c =
     let later : goes_back c.args.ts c.self.inside.last ≡ false = search rules in
     let read : Some c.in-Some.begin.now ≡ slice_get c.self.inside.opened.items (length c.self.inside.opened.items - 1) = search rules in
     let split = take-last c.self.inside.opened.items c.in-Some.begin.now read in

@@ -28,11 +28,11 @@ at_start c owners is new =
     let start : to_z w64 (of_z w64 c.args.span.now.span_start) ≡ c.args.span.now.span_start = search rules in
     let first : least_start ≤ℤ c.args.span.now.span_start = c.requires.from_in_time in
     let last : c.args.span.now.span_until ≤ℤ greatest_until = c.requires.to_in_time in
-    let lasts : c.args.span.now.span_start ≤ℤ c.args.span.now.span_until = c.requires.lasts in
+    let forward : c.args.span.now.span_start ≤ℤ c.args.span.now.span_until = c.requires.forward in
     record {
       new = new;
       in_time = (first, last);
-      lasts = omega (arith, ints, c.if-span.false, lasts);
+      lasts = omega (arith, ints, c.if-span.false, forward);
       ends = rw start at (c.in_ok-advance.ensures.past c.in_ok-rewind.ensures.past);
       beyond = rw start at c.in_ok-advance.ensures.future;
       parts = subst (λ (l : List Part). AreParts owners l) (sym (c.in_ok-advance.ensures.parts ∙ c.in_ok-rewind.ensures.parts)) is.parts;

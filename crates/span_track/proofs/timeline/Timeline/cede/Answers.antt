@@ -31,23 +31,23 @@ distance-requires-clause-forward c =
     let at = (goal.at.distance-requires-clause-forward c).After-min-until in
     rw (until_is at, from_is at) (omega (arith, ints, (up_to at).forward))
 
-pub lose-requires-clause-some : goal.lose-requires-clause-some
-lose-requires-clause-some c =
-    let at = (goal.at.lose-requires-clause-some c).After-min-until in
+pub lose_own-requires-clause-some : goal.lose_own-requires-clause-some
+lose_own-requires-clause-some c =
+    let at = (goal.at.lose_own-requires-clause-some c).After-min-until in
     let length = rw (from_is at, until_is at) at c.distance.ensures.value in
     omega (arith, length, distance-positive c.args.from c.min-until.result (up_to at).forward)
 
-pub lose-requires-clause-held : goal.lose-requires-clause-held
-lose-requires-clause-held c =
-    let at = (goal.at.lose-requires-clause-held c).After-min-until in
+pub lose_own-requires-clause-held : goal.lose_own-requires-clause-held
+lose_own-requires-clause-held c =
+    let at = (goal.at.lose_own-requires-clause-held c).After-min-until in
     let is = c.requires.next.holds in
     let up = up_to at in
     let length = rw (from_is at, until_is at) at c.distance.ensures.value in
     omega (arith, length, part-le-own _ _ c.args.from c.min-until.result _ c.args.self.now.past.items c.args.self.now.future.items is.sums is.next.within.0 (omega (arith, ints, up.forward)) up.within)
 
-pub gain-requires-clause-forward : goal.gain-requires-clause-forward
-gain-requires-clause-forward c =
-    let at = (goal.at.gain-requires-clause-forward c).After-min-until in
+pub gain-requires-clause-lasts : goal.gain-requires-clause-lasts
+gain-requires-clause-lasts c =
+    let at = (goal.at.gain-requires-clause-lasts c).After-min-until in
     rw (until_is at, from_is at) (up_to at).forward
 
 pub gain-requires-clause-from_in_time : goal.gain-requires-clause-from_in_time
@@ -68,13 +68,13 @@ gain-requires-clause-room c =
     omega (arith, c.requires.next.holds.room, length, c.push_between.ensures.capacity)
 
 pub gain-requires-clause-kept : goal.gain-requires-clause-kept
-gain-requires-clause-kept c = c.lose.ensures.kept c.args.span.now.segment.name c.requires.next.holds.kept
+gain-requires-clause-kept c = c.lose_own.ensures.kept c.args.span.now.segment.name c.requires.next.holds.kept
 
 pub gain-requires-clause-small : goal.gain-requires-clause-small
 gain-requires-clause-small c =
     let is = c.requires.next.holds in
     let small = AreSmall-next _ _ _ _ _ _ _ _ is.next is.sums in
-    omega (arith, c.distance.ensures.value, c.distance.ensures.small, small.of_names c.args.span.now.segment.name, c.lose.ensures.sum c.args.span.now.segment.name)
+    omega (arith, c.distance.ensures.value, c.distance.ensures.small, small.of_names c.args.span.now.segment.name, c.lose_own.ensures.sum c.args.span.now.segment.name)
 
 pub push_between-requires-2 : goal.push_between-requires-2
 push_between-requires-2 c = omega (arith, c.requires.next.holds.room_behind, ap vec_len c.gain.ensures.future, ap vec_capacity c.gain.ensures.future)
@@ -93,14 +93,14 @@ returns-clause-taken c = λ owners is.
     let gains = rw (from, until, past) at c.gain.ensures.past in
     let gained = gains (taken span owners) (IsOnly-taken span owners is.next.new) (Belong-ceded _ _ _ _ _ _ _ is.next c.requires.above up) (ArePast-ceded _ _ _ _ _ _ is.next) in
     let length : c.distance.result ≡ distance c.args.from c.min-until.result = rw (from, until) at c.distance.ensures.value in
-    let loses = rw length at c.lose.ensures.sum in
+    let loses = rw length at c.lose_own.ensures.sum in
     let adds = rw (from, until) at c.gain.ensures.own in
     let head = rw (start, from) at c.push_between.ensures.len in
     let tail = rw (until, ends) at c.push_between-2.ensures.len in
     rw until (record {
       taken = rw future (IsTakenTo-ceded span c.args.from c.min-until.result c.args.part.now c.args.self.now.past.items c.gain.new.self.past.items c.args.self.now.future.items owners is.next c.requires.above up gained.before);
-      sums = rw (future, c.gain.ensures.busy) (AreSums-ceded span c.args.from c.min-until.result c.args.part.now c.args.self.now.past.items c.gain.new.self.past.items c.args.self.now.future.items (taken span owners) c.args.self.now.own c.lose.new.own c.gain.new.self.own _ is.next.within.0 up.forward up.within is.sums loses gained adds);
-      kept = c.gain.ensures.kept c.args.span.now.segment.name (c.lose.ensures.kept c.args.span.now.segment.name is.kept);
+      sums = rw (future, c.gain.ensures.busy) (AreSums-ceded span c.args.from c.min-until.result c.args.part.now c.args.self.now.past.items c.gain.new.self.past.items c.args.self.now.future.items (taken span owners) c.args.self.now.own c.lose_own.new.own c.gain.new.self.own _ is.next.within.0 up.forward up.within is.sums loses gained adds);
+      kept = c.gain.ensures.kept c.args.span.now.segment.name (c.lose_own.ensures.kept c.args.span.now.segment.name is.kept);
       room = λ short.
           let none = piece-none c.args.part.now c.min-until.result c.args.part.now.segment.until (omega (arith, ints, up.rest short)) in
           omega (arith, is.room, head, tail, none, ap vec_len c.gain.ensures.future, c.gain.ensures.room, c.gain.ensures.capacity, c.push_between.ensures.capacity);

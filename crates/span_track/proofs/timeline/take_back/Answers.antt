@@ -4,9 +4,9 @@ use Rattle.std.proofs.lemmas.Int.{to_z-of_z}
 use Rattle.std.proofs.lemmas.Option.{slice_get_within, get_or_from_slice_get, same_Some}
 use Rattle.span_track.specs.declared.segment.Part.{Part}
 use Rattle.span_track.specs.Division.{owner_of, ArePast}
-use Rattle.span_track.specs.Cursor.{IsOpened}
-use Rattle.span_track.proofs.Gaining.{IsOpened-last, IsOpened-apart}
-use Rattle.span_track.proofs.timeline.open_last.Goals as goal
+use Rattle.span_track.specs.Cursor.{IsTakenBack}
+use Rattle.span_track.proofs.Gaining.{IsTakenBack-last, IsTakenBack-apart}
+use Rattle.span_track.proofs.timeline.take_back.Goals as goal
 
 pub returns-in-Some-clause-past : goal.returns-in-Some-clause-past
 returns-in-Some-clause-past c =
@@ -23,9 +23,9 @@ returns-in-Some-clause-past c =
     let until : to_z w64 (of_z w64 part.segment.until) ≡ part.segment.until = search rules in
     let from : to_z w64 (of_z w64 c.args.from) ≡ c.args.from = to_z-of_z w64 c.args.from c.ranges.from in
     let ends : part.segment.until ≡ c.args.from = sym until ∙ ap (to_z w64) c.if-last-from.true ∙ from in
-    λ owners only past. subst (λ t. IsOpened s t c.args.from old new owners) (sym start)
-    (subst (λ l. IsOpened s part.segment.start c.args.from l new owners) (sym split)
-    (IsOpened-last s c.args.from new part owners only (subst (λ l. ArePast owners c.args.from (reverse l)) split past) c.if-last-span.true ends))
+    λ owners only past. subst (λ t. IsTakenBack s t c.args.from old new owners) (sym start)
+    (subst (λ l. IsTakenBack s part.segment.start c.args.from l new owners) (sym split)
+    (IsTakenBack-last s c.args.from new part owners only (subst (λ l. ArePast owners c.args.from (reverse l)) split past) c.if-last-span.true ends))
 
 pub returns-in_default-clause-past : goal.returns-in_default-clause-past
 returns-in_default-clause-past c =
@@ -34,8 +34,8 @@ returns-in_default-clause-past c =
     let part = c.in-Some.last.now in
     let last : slice_get old (length old - 1) ≡ Some part = ap (λ l. slice_get l (length l - 1)) (sym c.deref.ensures.value) ∙ sym c.in-Some.ensures.value in
     let from : to_z w64 (of_z w64 c.args.from) ≡ c.args.from = to_z-of_z w64 c.args.from c.ranges.from in
-    λ owners only past. subst (λ t. IsOpened s t c.args.from old old owners) (sym from)
-    (IsOpened-apart s c.args.from old owners only past (λ p is at ends.
+    λ owners only past. subst (λ t. IsTakenBack s t c.args.from old old owners) (sym from)
+    (IsTakenBack-apart s c.args.from old owners only past (λ p is at ends.
     c.if-last-from.false (ap (λ (q : Part). of_z w64 q.segment.until) (same_Some part p (sym last ∙ is)) ∙ ap (of_z w64) ends)))
 
 pub returns-in_default-2-clause-past : goal.returns-in_default-2-clause-past
@@ -45,6 +45,6 @@ returns-in_default-2-clause-past c =
     let part = c.in-Some.last.now in
     let last : slice_get old (length old - 1) ≡ Some part = ap (λ l. slice_get l (length l - 1)) (sym c.deref.ensures.value) ∙ sym c.in-Some.ensures.value in
     let from : to_z w64 (of_z w64 c.args.from) ≡ c.args.from = to_z-of_z w64 c.args.from c.ranges.from in
-    λ owners only past. subst (λ t. IsOpened s t c.args.from old old owners) (sym from)
-    (IsOpened-apart s c.args.from old owners only past (λ p is at ends.
+    λ owners only past. subst (λ t. IsTakenBack s t c.args.from old old owners) (sym from)
+    (IsTakenBack-apart s c.args.from old owners only past (λ p is at ends.
     c.if-last-span.false (ap (λ (q : Part). q.segment.at) (same_Some part p (sym last ∙ is)) ∙ at)))
