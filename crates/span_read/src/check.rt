@@ -1,5 +1,5 @@
 // The first fault of an event's fields, in the order in which they are looked at.
-ghost use Rattle.std.specs.Prelude.{◌≡◌, ◌||◌, is_some, option_map, option_and_then};
+ghost use Rattle.std.specs.Prelude.{◌≡◌, ◌||◌, is_some, option_map};
 ghost use Rattle.std.specs.Result.{result_err};
 ghost use Rattle.serde_json.specs.View.{view, members_view};
 ghost use Rattle.span_read.specs.Phase.{reads_time, reads_duration, needs_id, reads_id, reads_scope, reads_reach, wants_whole_args};

@@ -38,6 +38,7 @@ pub enum ItemFault {
 }
 
 impl ItemFault {
+    /// The number of the fault, from 11 to 19, as each variant has it.
     pub fn code(&self) -> u16
         ensures { result ≡ code_of self.now }
     {

@@ -1,6 +1,5 @@
 //! The sink over a writer of the standard library.
 ghost use Rattle.std.specs.Prelude.{◌≡◌, ◌+◌, ◌-◌, ◌^◌, ◌<◌};
-ghost use Rattle.tracebook.specs.Sink.{SinkState};
 
 use crate::sink::{Sink, SinkFault};
 use std::io::Write;
