@@ -1,3 +1,4 @@
+//! The rows that a ledger lists: counts, processes, threads and names.
 ghost use Rattle.std.specs.Prelude.{◌≡◌};
 ghost use Rattle.span_ledger.specs.Rows.{counted, HasPlace};
 
@@ -7,9 +8,13 @@ use span_read::Text;
 /// How many entries of each kind a journal holds.
 #[derive(Clone, Copy, Debug, PartialEq, Eq)]
 pub struct CountRow {
+    /// Events that opened or closed a span, or told of a whole one.
     pub accepted: u32,
+    /// Elements that were refused, with whatever number.
     pub refused: u32,
+    /// Elements that have no effect.
     pub skipped: u32,
+    /// 0, as long as no operation is a query.
     pub queries: u32,
 }
 

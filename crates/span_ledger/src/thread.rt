@@ -1,3 +1,4 @@
+//! A thread, as the key of its track.
 ghost use Rattle.std.specs.Prelude.{◌≡◌};
 ghost use Rattle.span_ledger.specs.Journal.{thread_of};
 
