@@ -1,6 +1,6 @@
 //! The rows that a ledger lists: counts, processes, threads and names.
 ghost use Rattle.std.specs.Prelude.{◌≡◌};
-ghost use Rattle.span_ledger.specs.Rows.{counted, HasPlace};
+ghost use Rattle.span_ledger.specs.Rows.{counted, CanGrow};
 
 use crate::entry::Answer;
 use span_read::Text;
@@ -32,7 +32,7 @@ impl CountRow {
 
     // One more entry, with this answer.
     pub(crate) fn count(&mut self, answer: &Answer)
-        requires { HasPlace self.old }
+        requires { CanGrow self.old }
         ensures { self.new ≡ counted self.old answer.now }
     {
         match answer {
