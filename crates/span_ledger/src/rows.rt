@@ -1,6 +1,6 @@
 //! The rows that a ledger lists: counts, processes, threads and names.
-ghost use Rattle.std.specs.Prelude.{◌≡◌};
-ghost use Rattle.span_ledger.specs.Rows.{counted, CanGrow};
+ghost use Rattle.std.specs.Prelude.{◌≡◌, []};
+ghost use Rattle.span_ledger.specs.Rows.{count_row, counted, CanGrow};
 
 use crate::entry::Answer;
 use span_read::Text;
@@ -20,7 +20,7 @@ pub struct CountRow {
 
 impl CountRow {
     pub(crate) const fn of_no_entries() -> CountRow
-        ensures { result ≡ record { accepted = 0; refused = 0; skipped = 0; queries = 0 } }
+        ensures { result ≡ count_row [] }
     {
         CountRow {
             accepted: 0,
