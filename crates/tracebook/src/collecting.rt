@@ -10,7 +10,7 @@ use span_read::{ReadError, read_items};
 use std::alloc::Global;
 
 /// Reads the file and tells its items to a ledger that is still empty, under this caller's number.
-pub fn collect(alloc: Global, ledger: &mut Ledger, caller: u32, file: &Input) -> FileEnd
+pub(crate) fn collect(alloc: Global, ledger: &mut Ledger, caller: u32, file: &Input) -> FileEnd
     requires { ledger.old.journal ≡ [] }
     ensures end { IsEndOf (doc file.now.bytes.items) caller ledger.old.limit result }
     ensures journal { status_of result < 2
@@ -48,7 +48,7 @@ pub fn collect(alloc: Global, ledger: &mut Ledger, caller: u32, file: &Input) ->
 }
 
 /// The program's exit status for this end.
-pub fn exit_status(end: &FileEnd) -> u8
+pub(crate) fn exit_status(end: &FileEnd) -> u8
     ensures { result ≡ status_of end.now }
 {
     match end {

@@ -9,7 +9,12 @@ use span_ledger::Text;
 use std::alloc::{AllocError, Global};
 
 /// A file's line with a number and its word.
-pub fn put_fault(alloc: Global, out: &mut String, name: &Text, code: u16) -> Result<(), AllocError>
+pub(crate) fn put_fault(
+    alloc: Global,
+    out: &mut String,
+    name: &Text,
+    code: u16,
+) -> Result<(), AllocError>
     ensures { OnOk result (string_bytes out.new
         ≡ string_bytes out.old ++ fault_line name.now code) }
 {

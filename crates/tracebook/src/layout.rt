@@ -82,7 +82,7 @@ fn put_process_lines(
 }
 
 /// The text that these rows make.
-pub fn text_of_rows(
+pub(crate) fn text_of_rows(
     alloc: Global,
     counts: CountRow,
     processes: &[ProcessRow],

@@ -8,7 +8,7 @@ use std::alloc::{AllocError, Global};
 
 /// The text as JSON text.
 #[tactic(auto, unfolding(crate::specs::Lines::json_text_of))]
-pub fn json_text(alloc: Global, text: &Text) -> Result<String, AllocError>
+pub(crate) fn json_text(alloc: Global, text: &Text) -> Result<String, AllocError>
     ensures { IfOk result (λ s. string_bytes s ≡ json_text_of text.now) }
 {
     Value::try_from_str(alloc, text.as_str())?.to_string(alloc)
@@ -24,14 +24,14 @@ fn shown_name(alloc: Global, name: &Option<Text>) -> Result<String, AllocError>
 }
 
 #[tactic(auto, unfolding(crate::specs::Lines::first_line))]
-pub fn start(alloc: Global) -> Result<String, AllocError>
+pub(crate) fn start(alloc: Global) -> Result<String, AllocError>
     ensures { IfOk result (λ s. string_bytes s ≡ first_line) }
 {
     String::from_str(alloc, "tracebook 1\n")
 }
 
 #[tactic(auto, unfolding(crate::specs::Lines::count_line))]
-pub fn put_counts(out: &mut String, row: CountRow) -> Result<(), AllocError>
+pub(crate) fn put_counts(out: &mut String, row: CountRow) -> Result<(), AllocError>
     ensures { OnOk result (string_bytes out.new ≡ string_bytes out.old ++ count_line row) }
 {
     let CountRow {
@@ -47,7 +47,11 @@ pub fn put_counts(out: &mut String, row: CountRow) -> Result<(), AllocError>
 }
 
 #[tactic(auto, unfolding(crate::specs::Lines::process_line))]
-pub fn put_process(alloc: Global, out: &mut String, row: &ProcessRow) -> Result<(), AllocError>
+pub(crate) fn put_process(
+    alloc: Global,
+    out: &mut String,
+    row: &ProcessRow,
+) -> Result<(), AllocError>
     ensures { OnOk result (string_bytes out.new ≡ string_bytes out.old ++ process_line row.now) }
 {
     let name = shown_name(alloc, &row.name)?;
@@ -56,7 +60,7 @@ pub fn put_process(alloc: Global, out: &mut String, row: &ProcessRow) -> Result<
 }
 
 #[tactic(auto, unfolding(crate::specs::Lines::thread_line))]
-pub fn put_thread(alloc: Global, out: &mut String, row: &ThreadRow) -> Result<(), AllocError>
+pub(crate) fn put_thread(alloc: Global, out: &mut String, row: &ThreadRow) -> Result<(), AllocError>
     ensures { OnOk result (string_bytes out.new ≡ string_bytes out.old ++ thread_line row.now) }
 {
     let name = shown_name(alloc, &row.name)?;
@@ -65,7 +69,7 @@ pub fn put_thread(alloc: Global, out: &mut String, row: &ThreadRow) -> Result<()
 }
 
 #[tactic(auto, using(crate::proofs::Padding::padded_integral_right), unfolding(crate::specs::Lines::span_line))]
-pub fn put_span(alloc: Global, out: &mut String, row: &SpanRow) -> Result<(), AllocError>
+pub(crate) fn put_span(alloc: Global, out: &mut String, row: &SpanRow) -> Result<(), AllocError>
     ensures { OnOk result (string_bytes out.new ≡ string_bytes out.old ++ span_line row.now) }
 {
     let name = json_text(alloc, &row.name)?;

@@ -5,7 +5,7 @@ ghost use Rattle.tracebook.specs.Sink.{Takes, Fails};
 use crate::sink::Sink;
 
 /// Puts the bytes until all are taken, then finishes once. The first fault ends it; the error is how many bytes were taken.
-pub fn pour<O: Sink>(bytes: &[u8], out: &mut O) -> Result<(), u64>
+pub(crate) fn pour<O: Sink>(bytes: &[u8], out: &mut O) -> Result<(), u64>
     requires { (O.state out.old).failures < 2 ^ 64 - 1 }
     ensures ok { OnOk result (Takes (O.state out.old) (O.state out.new) bytes.now) }
     ensures within { IfErr result (λ written. written ≤ length bytes.now) }

@@ -43,7 +43,7 @@ fn read_some<R: Read>(
 }
 
 /// The bytes up to the end, or the first `most` of them. A read that fails or is interrupted is not tried again.
-pub fn read_up_to<R: Read>(
+pub(crate) fn read_up_to<R: Read>(
     alloc: Global,
     reader: &mut R,
     most: usize,

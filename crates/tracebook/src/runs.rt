@@ -35,6 +35,7 @@ pub enum RunError {
 }
 
 impl RunError {
+    /// The number of the fault of the run: 31 for want of memory, 41 for the count of files, 51 for the output.
     pub fn code(&self) -> u16
         ensures { result ≡ code_of self.now }
     {

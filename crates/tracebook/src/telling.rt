@@ -29,7 +29,7 @@ fn tell_one(ledger: &mut Ledger, caller: u32, item: Item) -> Result<(), Cause>
 }
 
 /// Tells the items in order, until one is not taken.
-pub fn tell(ledger: &mut Ledger, caller: u32, items: Items) -> Result<(), Cause>
+pub(crate) fn tell(ledger: &mut Ledger, caller: u32, items: Items) -> Result<(), Cause>
     requires good { All IsGoodItem items }
     requires within { length ledger.old.journal ≤ ledger.old.limit }
     ensures ok { OnOk result
