@@ -115,6 +115,12 @@ fn refusals_are_entries(rt: HostRuntime) -> Result<(), Fail> {
         let mut ledger = Ledger::new(alloc, 100);
         assert_eq!(rt; answers(alloc, &mut ledger, events)?.as_str(), want);
     }
+    Ok(())
+}
+
+#[test]
+fn refusals_are_counted(rt: HostRuntime) -> Result<(), Fail> {
+    let alloc = rt.alloc();
     let mut ledger = Ledger::new(alloc, 100);
     answers(
         alloc,
