@@ -8,3 +8,4 @@ pub mod Totals
 pub mod Tracks
 pub mod Taking
 pub mod TrackRows
+pub mod Processes

@@ -1,43 +1,32 @@
-//! The processes of a journal.
-ghost use Rattle.std.specs.Prelude.{◌≡◌, option_copied, IfOk};
-ghost use Rattle.span_ledger.specs.Journal.{accepted_event};
-ghost use Rattle.span_ledger.specs.Rows.{process_keys, process_rows};
+//! The processes of a journal, from the threads that have a track.
+ghost use Rattle.std.specs.Prelude.{◌≡◌, map, IfOk};
+ghost use Rattle.std.specs.Map.{keys_of};
+ghost use Rattle.span_ledger.specs.Rows.{pids_of, process_row};
 
-use crate::entry::{Answer, Entry, Op};
 use crate::rows::ProcessRow;
-use span_read::{Event, Item};
+use crate::thread::Thread;
+use crate::threads::Threads;
+use span_track::ThreadTrack;
 use std::alloc::{AllocError, Global};
-use std::collections::BTreeSet;
+use std::collections::{BTreeMap, BTreeSet};
 
-// The entry's event, where it was accepted.
-fn accepted_event(entry: &Entry) -> Option<&Event>
-    ensures { option_copied result ≡ accepted_event entry.now }
-{
-    match (&entry.answer, &entry.op) {
-        (
-            Answer::Opened { .. } | Answer::Closed { .. } | Answer::Completed,
-            Op::One(Item::Good(event)),
-        ) => Some(event),
-        _ => None,
-    }
-}
-
-fn process_keys(alloc: Global, journal: &[Entry]) -> Result<BTreeSet<i64>, AllocError>
-    ensures { IfOk result (λ keys. keys.keys ≡ process_keys journal.now) }
+fn process_keys(
+    alloc: Global,
+    tracks: &BTreeMap<Thread, ThreadTrack>,
+) -> Result<BTreeSet<i64>, AllocError>
+    ensures { IfOk result (λ keys. keys.keys ≡ pids_of (keys_of tracks.now.entries)) }
 {
     let mut keys = BTreeSet::new(alloc);
-    for entry in journal {
-        if let Some(event) = accepted_event(entry) {
-            keys.insert(event.pid)?;
-        }
+    for thread in tracks.keys() {
+        keys.insert(thread.pid)?;
     }
     Ok(keys)
 }
 
-pub(crate) fn processes(alloc: Global, journal: &[Entry]) -> Result<Vec<ProcessRow>, AllocError>
-    ensures { IfOk result (λ rows. rows.items ≡ process_rows journal.now) }
+pub(crate) fn processes(alloc: Global, threads: &Threads) -> Result<Vec<ProcessRow>, AllocError>
+    ensures { IfOk result (λ rows. rows.items ≡ map process_row (pids_of (keys_of threads.now.tracks.entries))) }
 {
-    let keys = process_keys(alloc, journal)?;
+    let keys = process_keys(alloc, &threads.tracks)?;
     keys.iter()
         .map(|pid| ProcessRow {
             pid: *pid,
