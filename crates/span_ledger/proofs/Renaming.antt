@@ -4,7 +4,7 @@ use Rattle.std.specs.Prelude.{ℤ, pos, ◌+ℤ◌, option_map}
 use Rattle.std.specs.Option.{option_or}
 use Rattle.std.specs.List.{list_any}
 use Rattle.std.specs.Int.{int_min, int_max}
-use Rattle.span_track.specs.Spans.{Span, Arguments, distance, covers, outranks, is_outranked, is_covered, earliest, latest, count_from, self_time, busy_time}
+use Rattle.span_time.specs.Spans.{Span, Arguments, distance, covers, outranks, is_outranked, is_covered, earliest, latest, count_from, self_time, busy_time}
 use Rattle.span_track.specs.Nesting.{Begin, ThreadEvent, began, ended, completed, begins, ends, is_balanced, opener, is_match, is_matched_after, open_spans, matched_span, closed_by, closed_after, closed_spans, last_time}
 use Rattle.span_ledger.specs.Numbered.{renamed_begin, renamed_span, renamed_event, renamed}
 

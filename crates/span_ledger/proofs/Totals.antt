@@ -8,7 +8,7 @@ use Rattle.std.specs.Cmp.Lexicographic.{bytes_decides}
 use Rattle.std.proofs.lemmas.List.{length-map}
 use Rattle.std.proofs.lemmas.List.Sums.{sum_by-cons}
 use Rattle.std.proofs.lemmas.List.Folds.{list_all-append}
-use Rattle.span_track.specs.Spans.{Span, length_of, self_time, named, total_of, self_of}
+use Rattle.span_time.specs.Spans.{Span, length_of, self_time, named, total_of, self_of}
 use Rattle.span_track.specs.Nesting.{Begin, ThreadEvent, began, ended, completed, is_balanced, opener, matched_span, closed_by, closed_after, closed_spans}
 use Rattle.span_track.specs.Numbering.{number_in}
 use Rattle.span_track.proofs.Numbers.{slice_get-number_in}

@@ -1,6 +1,6 @@
 -- The events of a thread with each name in place of another, as a number in place of a text.
 use Rattle.std.specs.Prelude.{List, map}
-use Rattle.span_track.specs.Spans.{Span}
+use Rattle.span_time.specs.Spans.{Span}
 use Rattle.span_track.specs.Nesting.{Begin, ThreadEvent, began, ended, completed}
 
 module _ {N M : Type 0} (rename : N → M) where

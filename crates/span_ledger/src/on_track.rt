@@ -4,7 +4,7 @@ ghost use Rattle.span_read.specs.Event.{IsGood, greatest_time};
 ghost use Rattle.span_track.specs.Fault.{Answers};
 ghost use Rattle.span_track.specs.Nesting.{ThreadEvent, began, ended, completed, closed_by};
 ghost use Rattle.span_track.specs.Thread.{StandsFor, HasRoom, IsNext, begin_refusal, end_refusal};
-ghost use Rattle.span_track.specs.Closed.{span_of};
+ghost use Rattle.span_time.specs.Closed.{span_of};
 ghost use Rattle.span_ledger.specs.Tracked.{track_at, IsRefusal, ChangesTrack, SameTracks};
 
 use crate::thread::Thread;

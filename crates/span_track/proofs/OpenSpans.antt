@@ -2,7 +2,7 @@
 use Rattle.std.proofs.Common.{◌≡◌, ℕ, zero, suc, pred, ◌+◌, ◌-◌, ◌==◌, Bool, true, false, ◌&&◌, ◌||◌, cond, List, [], ◌∷◌, ◌++◌, length, take, Option, Some, None, is_none, refl, sym, ap, ap₂, ◌∙◌, arith, ℤ, eq-eqb, ne_eqb}
 use Rattle.std.specs.Option.{option_or}
 use Rattle.std.proofs.lemmas.Bool.{and_left}
-use Rattle.span_track.specs.Spans.{Span, Arguments}
+use Rattle.span_time.specs.Spans.{Span, Arguments}
 use Rattle.span_track.specs.Nesting.{Begin, ThreadEvent, began, ended, completed, begins, ends, opener, is_match, is_matched_after, open_spans}
 
 -- the last element, if there is one

@@ -2,7 +2,7 @@
 use Rattle.std.proofs.Common.{◌≡◌, ℕ, ◌+◌, ◌<◌, ◌≤◌, ◌-◌, ◌^◌, ℤ, List, [], ◌∷◌, ◌++◌, length, Option, Some, None, refl, sym, subst, arith, All, append_assoc, append-nil, length-append}
 use Rattle.std.specs.Option.{option_or}
 use Rattle.std.proofs.lemmas.List.Elements.{All-nil, All-cons, All-head, All-tail, All-push, All-append, All-take}
-use Rattle.span_track.specs.Spans.{Span, Arguments}
+use Rattle.span_time.specs.Spans.{Span, Arguments}
 use Rattle.span_track.specs.Nesting.{Begin, ThreadEvent, began, ended, completed, matched_span}
 use Rattle.span_track.specs.Thread.{ThreadSpans, thread_spans, HasRoom, IsNext, IsBefore, AreBefore}
 use Rattle.span_track.proofs.OpenSpans.{last_of, without_last, take-without_last, option_or-some}

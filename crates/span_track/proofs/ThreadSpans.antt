@@ -1,6 +1,6 @@
 -- What the track of a thread keeps after one more event.
 use Rattle.std.proofs.Common.{ap, ◌∙◌, ◌≡◌, ℤ, List, [], ◌∷◌, ◌++◌, Option, Some, refl, sym, append_assoc, append-nil}
-use Rattle.span_track.specs.Spans.{Span, Arguments}
+use Rattle.span_time.specs.Spans.{Span, Arguments}
 use Rattle.span_track.specs.Nesting.{Begin, ThreadEvent, began, ended, completed, matched_span, closed_by, closed_after, closed_spans, last_time}
 use Rattle.span_track.specs.Thread.{ThreadSpans, thread_spans}
 use Rattle.span_track.proofs.OpenSpans.{last_of, without_last, last_of-append, without_last-append, opener-open_spans, open_spans-began, open_spans-ended, open_spans-completed}

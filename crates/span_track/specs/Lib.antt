@@ -1,12 +1,5 @@
-pub mod Closed
-pub mod Cursor
-pub mod Division
 pub mod Fault
 pub mod Kept
-pub mod Laws
 pub mod Nesting
 pub mod Numbering
-pub mod Segments
-pub mod Spans
 pub mod Thread
-pub mod Walk

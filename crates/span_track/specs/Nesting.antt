@@ -2,7 +2,7 @@
 use Rattle.std.specs.Prelude.{ℕ, ◌+◌, ◌==◌, Bool, false, ◌&&◌, ◌||◌, if◌then◌else◌, ℤ, List, [], ◌∷◌, ◌++◌, length, Option, Some, None, is_none}
 use Rattle.std.specs.Option.{option_or}
 use Rattle.span_read.specs.Args.{merged}
-use Rattle.span_track.specs.Spans.{Arguments, Span}
+use Rattle.span_time.specs.Spans.{Arguments, Span}
 
 -- a begin: `at` is its position in the journal
 pub record Begin (N : Type 0) : Type 0 where

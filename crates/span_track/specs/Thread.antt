@@ -1,6 +1,6 @@
 -- What the track of a thread keeps, and when it refuses an event.
 use Rattle.std.specs.Prelude.{◌≡◌, ℕ, ◌+◌, ◌<◌, ◌^◌, ◌-◌, Bool, false, if◌then◌else◌, ℤ, int_lt, List, [], ◌∷◌, length, All, Option, Some, None, ◌==◌}
-use Rattle.span_track.specs.Spans.{Span}
+use Rattle.span_time.specs.Spans.{Span}
 use Rattle.span_track.specs.Nesting.{Begin, ThreadEvent, began, ended, completed, open_spans, closed_spans, last_time}
 
 -- the open spans, the closed spans, and the time of the last begin or end

@@ -1,10 +1,10 @@
 //! The definitions as plain programs, and the facts that hold of every list of spans.
 ghost use Rattle.std.specs.Prelude.{◌≡◌, nat_eq};
-ghost use Rattle.span_track.specs.Laws.{SelfTimesAddUpToBusy, SelfTimesAreLeftByChildren};
-ghost use Rattle.span_track.specs.Spans.{self_of, busy_time};
+ghost use Rattle.span_time.specs.Spans.{self_of, busy_time};
 
 use crate::thread::ThreadTrack;
-use crate::walk;
+pub use span_time::laws::self_law;
+use span_time::walk;
 
 /// The self times of the spans of one name, in microseconds, found by walking through each of these spans.
 pub fn self_plain(track: &ThreadTrack, name: u32) -> u64
@@ -19,11 +19,3 @@ pub fn busy_plain(track: &ThreadTrack) -> u64
 {
     walk::busy_time(track.spans())
 }
-
-/// The self times of the spans of one thread add up to the time in which the thread is busy. Where any two of the spans nest
-/// or are disjoint, a span's self time is its length less the lengths of its direct children. The function does nothing: its
-/// contract is the law.
-pub fn self_law<N>()
-    ensures busy { SelfTimesAddUpToBusy N }
-    ensures children { SelfTimesAreLeftByChildren N }
-{}

@@ -5,17 +5,15 @@ ghost use Rattle.std.specs.Option.{option_map};
 ghost use Rattle.span_read.specs.Event.{IsTime, greatest_time};
 ghost use Rattle.span_track.specs.Fault.{Answers};
 ghost use Rattle.span_track.specs.Nesting.{ThreadEvent, began, ended, completed, closed_by, opener};
-ghost use Rattle.span_track.specs.declared.segment.Segment.{Segment};
-ghost use Rattle.span_track.specs.Segments.{lasts, AreSegments, HasSegments, HasEnds};
-ghost use Rattle.span_track.specs.Spans.{self_of, busy_time};
+ghost use Rattle.span_time.specs.declared.segment.Segment.{Segment};
+ghost use Rattle.span_time.specs.Segments.{lasts, AreSegments, HasSegments, HasEnds};
+ghost use Rattle.span_time.specs.Spans.{self_of, busy_time};
 ghost use Rattle.span_track.specs.Thread.{StandsFor, HasRoom, IsNext, goes_back, begin_refusal, end_refusal};
-ghost use Rattle.span_track.specs.Closed.{span_of, total_for, AreClosed};
+ghost use Rattle.span_time.specs.Closed.{span_of, total_for, AreClosed};
 
-use crate::closed::ClosedSpans;
 use crate::fault::{NO_OPEN_SPAN, TIME_GOES_BACK, TrackFault};
-use crate::segment::Segment;
-use crate::span::{ClosedSpan, NameTotal};
 use span_read::{Args, merge_args};
+use span_time::{ClosedSpan, ClosedSpans, NameTotal, Segment};
 use std::alloc::Global;
 use std::marker::Model;
 

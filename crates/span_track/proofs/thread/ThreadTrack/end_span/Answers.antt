@@ -4,11 +4,11 @@ use Rattle.std.proofs.lemmas.List.{map_push, length_push}
 use Rattle.span_read.specs.Args.{merged}
 use Rattle.span_track.specs.declared.thread.OpenSpan.{OpenSpan}
 use Rattle.span_track.specs.declared.fault.TrackFault.TheVariants.{Memory}
-use Rattle.span_track.specs.Spans.{Span}
+use Rattle.span_time.specs.Spans.{Span}
 use Rattle.span_track.specs.Nesting.{Begin, ThreadEvent, opener, open_spans}
 use Rattle.span_track.specs.Thread.{ThreadSpans, goes_back, end_refusal}
 use Rattle.span_track.specs.Kept.{begin_of, IsSound}
-use Rattle.span_track.specs.Closed.{span_of}
+use Rattle.span_time.specs.Closed.{span_of}
 use Rattle.span_track.proofs.OpenSpans.{opener-open_spans, last_of, last_of-append}
 use Rattle.span_track.proofs.Sound.{IsSound-with_end, MayClose-sound}
 use Rattle.span_track.proofs.ThreadSpans.{thread_spans-closing}

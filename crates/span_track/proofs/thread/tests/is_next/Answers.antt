@@ -1,11 +1,11 @@
 use Rattle.std.proofs.Common.{rules, ◌<◌, ℕ, All, List, subst}
 use Rattle.std.proofs.lemmas.List.Elements.{All-map}
 use Rattle.span_track.specs.declared.thread.OpenSpan.{OpenSpan}
-use Rattle.span_track.specs.declared.span.ClosedSpan.{ClosedSpan}
-use Rattle.span_track.specs.Spans.{Span}
+use Rattle.span_time.specs.declared.span.ClosedSpan.{ClosedSpan}
+use Rattle.span_time.specs.Spans.{Span}
 use Rattle.span_track.specs.Nesting.{Begin}
 use Rattle.span_track.specs.Thread.{ThreadSpans}
-use Rattle.span_track.specs.Closed.{span_of}
+use Rattle.span_time.specs.Closed.{span_of}
 use Rattle.span_track.specs.Kept.{begin_of}
 use Rattle.span_track.proofs.thread.tests.is_next.Goals as goal
 

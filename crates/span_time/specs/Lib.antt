@@ -1,0 +1,7 @@
+pub mod Closed
+pub mod Cursor
+pub mod Division
+pub mod Laws
+pub mod Segments
+pub mod Spans
+pub mod Walk
