@@ -12,11 +12,11 @@ use Rattle.span_time.specs.Spans.{Span, length_of, self_time, named, total_of, s
 use Rattle.span_track.specs.Nesting.{Begin, ThreadEvent, began, ended, completed, is_balanced, opener, matched_span, closed_by, closed_after, closed_spans}
 use Rattle.span_track.specs.Numbering.{number_in}
 use Rattle.span_track.proofs.Numbers.{slice_get-number_in}
-use Rattle.span_ledger.specs.Journal.{Words}
+use Rattle.span_ledger.specs.Told.{Words}
 use Rattle.span_ledger.specs.Numbered.{renamed_span}
 use Rattle.span_ledger.specs.Rows.{same_text}
 use Rattle.span_ledger.specs.Tracked.{number_for, is_numbered}
-use Rattle.span_ledger.proofs.Following.{both_true, and_true}
+use Rattle.span_ledger.proofs.Threads.{both_true, and_true}
 use Rattle.span_ledger.proofs.Renaming.{self_time-renamed}
 
 -- the name of the span has a number

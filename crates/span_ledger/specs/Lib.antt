@@ -1,7 +1,9 @@
 pub mod Answers
 pub mod Journal
+pub mod Kind
 pub mod Legal
 pub mod Numbered
 pub mod Refusal
 pub mod Rows
+pub mod Told
 pub mod Tracked

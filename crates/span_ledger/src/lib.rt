@@ -1,18 +1,19 @@
 //! The journal of a collection, and the sequential ledger that answers each operation from the entries before it.
 #![tactic(auto)]
 
-mod answers;
 mod entry;
+mod kind;
 mod ledger;
-mod listing;
-mod on_track;
+mod listed;
 mod refusal;
 mod rows;
 mod thread;
-mod threads;
+mod thread_tracks;
 mod track_rows;
+mod tracks;
 
 pub use entry::{Answer, Entry, Op};
+pub use kind::Kind;
 pub use ledger::Ledger;
 pub use refusal::{Back, Cause};
 pub use rows::{CountRow, ProcessRow, SpanRow, ThreadRow};

@@ -1,8 +1,10 @@
 //! The rows that a ledger lists: counts, processes, threads and names.
 ghost use Rattle.std.specs.Prelude.{◌≡◌, []};
-ghost use Rattle.span_ledger.specs.Rows.{count_row, counted, CanGrow};
+ghost use Rattle.span_ledger.specs.Rows.{count_row};
+ghost use Rattle.span_ledger.specs.Tracked.{counted, CanGrow};
 
 use crate::entry::Answer;
+use crate::kind::Kind;
 use span_read::Text;
 
 /// How many entries of each kind a journal holds.
@@ -35,10 +37,10 @@ impl CountRow {
         requires { CanGrow self.old }
         ensures { self.new ≡ counted self.old answer.now }
     {
-        match answer {
-            Answer::Opened { .. } | Answer::Closed { .. } | Answer::Completed => self.accepted += 1,
-            Answer::Refused(_) => self.refused += 1,
-            Answer::Skipped => self.skipped += 1,
+        match answer.kind() {
+            Kind::Accepted => self.accepted += 1,
+            Kind::Refused => self.refused += 1,
+            Kind::Skipped => self.skipped += 1,
         }
     }
 }

@@ -1,11 +1,11 @@
 //! A thread, as the key of its track.
 ghost use Rattle.std.specs.Prelude.{◌≡◌};
-ghost use Rattle.span_ledger.specs.Journal.{thread_of};
+ghost use Rattle.span_ledger.specs.Told.{thread_of};
 
 use span_read::Event;
 
 /// A thread of a process.
-#[derive(Clone, Copy, Debug, PartialEq, Eq, PartialOrd, Ord)]
+#[derive(Clone, Copy, Debug, PartialEq, Eq, PartialOrd, Ord, Hash)]
 pub struct Thread {
     pub pid: i64,
     pub tid: i64,

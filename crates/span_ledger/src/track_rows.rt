@@ -3,46 +3,50 @@ ghost use Rattle.std.specs.Prelude.{◌≡◌, ◌++◌, IfOk, OnOk, map, flat_m
 ghost use Rattle.std.specs.BTreeSet.{insert_key, IsOrdered as AreOrdered};
 ghost use Rattle.std.specs.BTreeMap.{IsOrdered};
 ghost use Rattle.span_ledger.specs.Rows.{thread_cmp, text_cmp, ascending};
-ghost use Rattle.span_ledger.specs.Tracked.{track_row, track_span_row, track_span_rows, closed_names};
+ghost use Rattle.span_ledger.specs.Tracked.{track_row, track_span_row, span_rows_of_track, track_span_rows, closed_names};
 
 use crate::rows::{SpanRow, ThreadRow};
 use crate::thread::Thread;
-use crate::threads::Threads;
+use crate::tracks::Tracks;
 use span_read::Text;
 use span_track::{Names, ThreadTrack};
 use std::alloc::{AllocError, Global};
-use std::collections::BTreeSet;
+use std::collections::{BTreeMap, BTreeSet};
 
-pub(crate) fn thread_rows(alloc: Global, threads: &Threads) -> Result<Vec<ThreadRow>, AllocError>
-    ensures rows { IfOk result (λ rows. rows.items ≡ map track_row threads.now.tracks.entries) }
-    ensures ordered { IsOrdered thread_cmp threads.now.tracks }
+pub(crate) fn thread_rows(alloc: Global, tracks: &Tracks) -> Result<Vec<ThreadRow>, AllocError>
+    ensures { IfOk result (λ rows. rows.items ≡ map (track_row tracks.now.threads) tracks.now.listed) }
 {
-    threads
-        .tracks
-        .iter()
-        .map(|(thread, track)| thread_row(thread, track))
-        .collect(alloc)
+    let mut rows = Vec::new(alloc);
+    for thread in &tracks.listed.ordered_threads(alloc)? {
+        rows.push(thread_row(&tracks.threads, thread))?;
+    }
+    Ok(rows)
 }
 
-fn thread_row(thread: &Thread, track: &ThreadTrack) -> ThreadRow
-    ensures { result ≡ track_row (thread.now, track.now) }
+fn thread_row(tracks: &BTreeMap<Thread, ThreadTrack>, thread: &Thread) -> ThreadRow
+    ensures { result ≡ track_row tracks.now.entries thread.now }
 {
+    let (unclosed, busy) = match tracks.get(thread) {
+        Some(track) => (track.depth(), track.busy()),
+        None => (0, 0),
+    };
     ThreadRow {
         pid: thread.pid,
         tid: thread.tid,
         name: None,
-        unclosed: track.depth(),
-        busy: track.busy(),
+        unclosed,
+        busy,
     }
 }
 
-pub(crate) fn span_rows(alloc: Global, threads: &Threads) -> Result<Vec<SpanRow>, AllocError>
-    ensures rows { IfOk result (λ rows. rows.items ≡ flat_map (track_span_rows threads.now.names) threads.now.tracks.entries) }
-    ensures ordered { IsOrdered thread_cmp threads.now.tracks }
+pub(crate) fn span_rows(alloc: Global, tracks: &Tracks) -> Result<Vec<SpanRow>, AllocError>
+    ensures { IfOk result (λ rows. rows.items ≡ flat_map (track_span_rows tracks.now.names tracks.now.threads) tracks.now.listed) }
 {
     let mut rows = Vec::new(alloc);
-    for (thread, track) in &threads.tracks {
-        add_span_rows(alloc, &threads.names, thread, track, &mut rows)?;
+    for thread in &tracks.listed.ordered_threads(alloc)? {
+        if let Some(track) = tracks.threads.get(thread) {
+            add_span_rows(alloc, &tracks.names, thread, track, &mut rows)?;
+        }
     }
     Ok(rows)
 }
@@ -55,7 +59,7 @@ fn add_span_rows(
     track: &ThreadTrack,
     rows: &mut Vec<SpanRow>,
 ) -> Result<(), AllocError>
-    ensures { OnOk result (rows.new.items ≡ rows.old.items ++ track_span_rows names.now (thread.now, track.now)) }
+    ensures { OnOk result (rows.new.items ≡ rows.old.items ++ span_rows_of_track names.now thread.now track.now) }
 {
     for name in &names_of(alloc, names, track)? {
         rows.push(span_row(alloc, names, thread, track, name)?)?;

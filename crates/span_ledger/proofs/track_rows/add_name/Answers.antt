@@ -1,6 +1,6 @@
 use Rattle.std.proofs.Common.{sym}
 use Rattle.std.specs.Cmp.Lexicographic.{nat_list_cmp_total}
-use Rattle.span_ledger.proofs.Keys.{insert_key-present}
+use Rattle.span_ledger.proofs.Ascending.{insert_key-present}
 use Rattle.span_ledger.proofs.track_rows.add_name.Goals as goal
 
 pub returns-else-not-contains-clause-added : goal.returns-else-not-contains-clause-added
