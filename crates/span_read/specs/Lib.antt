@@ -5,6 +5,7 @@ pub mod Event
 pub mod Fields
 pub mod Item
 pub mod Members
+pub mod Orders
 pub mod Phase
 pub mod ReadError
 pub mod Slots

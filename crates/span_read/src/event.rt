@@ -1,8 +1,13 @@
 ghost use Rattle.std.specs.Prelude.{◌≡◌, IfOk};
+ghost use Rattle.std.specs.Ordering.{as_partial_cmp};
+ghost use Rattle.std.specs.Cmp.{partial_order_from_own_ties};
+ghost use Rattle.std.specs.Cmp.Rules.{comparing};
+ghost use Rattle.std.proofs.Common.{rules};
 
 use crate::args::Args;
 use crate::text::Text;
 use std::alloc::{AllocError, Global};
+use std::cmp::Ordering;
 
 /// What an event says, by the letter of its `ph`; `I` is read as `i`.
 #[derive(Clone, Copy, Debug, PartialEq, Eq)]
@@ -34,7 +39,7 @@ pub enum Phase {
 }
 
 /// The id of an asynchronous span, a flow chain or a counter. Where `home` is a process, the id is known in that process alone.
-#[derive(Debug, Drop, PartialEq, Eq, PartialOrd, Ord, Hash)]
+#[derive(Debug, Drop, PartialEq, Eq, Hash)]
 pub struct IdKey {
     pub home: Option<i64>,
     pub id: Text,
@@ -52,12 +57,70 @@ impl IdKey {
     }
 }
 
+impl PartialOrd for IdKey {
+    ghost use Rattle.span_read.specs.Orders.{id_cmp};
+
+    ghost partial_cmp = { as_partial_cmp id_cmp };
+
+    ghost laws = { partial_order_from_own_ties (Prim.search (comparing, rules)) (Prim.search (comparing, rules)) };
+
+    fn partial_cmp(&self, other: &IdKey) -> Option<Ordering> {
+        Some(self.cmp(other))
+    }
+}
+
+/// By home, none before any, and then by the bytes of the id.
+impl Ord for IdKey {
+    ghost use Rattle.span_read.specs.Orders.{id_cmp};
+
+    ghost cmp = { id_cmp };
+
+    ghost total = { Prim.search (comparing, rules) };
+
+    ghost matches_partial_cmp = { Prim.search (comparing, rules) };
+
+    ghost matches_eq = { Prim.search (comparing, rules) };
+
+    fn cmp(&self, other: &IdKey) -> Ordering {
+        self.home.cmp(&other.home).then(self.id.cmp(&other.id))
+    }
+}
+
 /// How far an instant reaches.
-#[derive(Clone, Copy, Debug, PartialEq, Eq, PartialOrd, Ord, Hash)]
+#[derive(Clone, Copy, Debug, PartialEq, Eq, Hash)]
 pub enum Reach {
     Global,
     Process,
     Thread,
+}
+
+impl PartialOrd for Reach {
+    ghost use Rattle.span_read.specs.Orders.{reach_cmp};
+
+    ghost partial_cmp = { as_partial_cmp reach_cmp };
+
+    ghost laws = { partial_order_from_own_ties (Prim.search (comparing, rules)) (Prim.search (comparing, rules)) };
+
+    fn partial_cmp(&self, other: &Reach) -> Option<Ordering> {
+        Some(self.cmp(other))
+    }
+}
+
+/// The wider reach first.
+impl Ord for Reach {
+    ghost use Rattle.span_read.specs.Orders.{reach_cmp};
+
+    ghost cmp = { reach_cmp };
+
+    ghost total = { Prim.search (comparing, rules) };
+
+    ghost matches_partial_cmp = { Prim.search (comparing, rules) };
+
+    ghost matches_eq = { Prim.search (comparing, rules) };
+
+    fn cmp(&self, other: &Reach) -> Ordering {
+        (*self as u8).cmp(&(*other as u8))
+    }
 }
 
 /// One event of a trace. Times and lengths are whole microseconds.

@@ -1,5 +1,5 @@
 // Texts and arguments, their copies, and two arguments merged.
-use crate::{ArgValue, Args, Event, Item, Text, item_of, merge_args};
+use crate::{ArgValue, Args, Event, IdKey, Item, Reach, Text, item_of, merge_args};
 use serde_json::Value;
 use std::alloc::{AllocError, Global};
 use std::test::Fail;
@@ -99,5 +99,36 @@ fn an_event_equals_its_copy(rt: HostRuntime) -> Result<(), Fail> {
         shown(alloc, &args)?.as_str(),
         shown(alloc, &event.args)?.as_str()
     );
+    Ok(())
+}
+
+#[test]
+fn ids_are_ordered_by_home_and_then_by_bytes(rt: HostRuntime) -> Result<(), Fail> {
+    let rising = [
+        (None, "a"),
+        (None, "b"),
+        (Some(-1), "b"),
+        (Some(0), "a"),
+        (Some(0), "aa"),
+        (Some(2), "Z"),
+    ];
+    for (first, second) in rising.iter().zip(&rising[1..]) {
+        let lower = key_of(rt.alloc(), first)?;
+        let higher = key_of(rt.alloc(), second)?;
+        assert!(rt; lower < higher);
+        assert!(rt; lower == key_of(rt.alloc(), first)?);
+    }
+    Ok(())
+}
+
+fn key_of(alloc: Global, parts: &(Option<i64>, &str)) -> Result<IdKey, AllocError> {
+    let id = Text::of(alloc, parts.1)?;
+    Ok(IdKey { home: parts.0, id })
+}
+
+#[test]
+fn the_wider_reach_stands_first(rt: HostRuntime) -> Result<(), Fail> {
+    assert!(rt; Reach::Global < Reach::Process);
+    assert!(rt; Reach::Process < Reach::Thread);
     Ok(())
 }
