@@ -143,17 +143,34 @@ fn a_file_has_a_largest_size(rt: HostRuntime) -> Result<(), Fail> {
     Ok(())
 }
 
+// An array of so many elements, without its closing bracket.
+fn unfinished(alloc: Global, elements: u32) -> Result<String, AllocError> {
+    let mut text = String::new(alloc);
+    text.push('[')?;
+    for _ in 0..elements {
+        text.push_str("1,")?;
+    }
+    Ok(text)
+}
+
 #[test]
 fn a_file_has_a_largest_number_of_items(rt: HostRuntime) -> Result<(), Fail> {
     let alloc = rt.alloc();
-    let mut text = String::new(alloc);
-    text.push('[')?;
-    for _ in 0..4_194_304u32 {
-        text.push_str("1,")?;
-    }
+    let mut text = unfinished(alloc, 4_194_304)?;
+    assert_eq!(rt; text.len(), 8_388_609);
+    assert_eq!(rt; read_items(alloc, text.as_bytes())?.len(), 4_194_304);
     text.push_str("1]")?;
-    assert_eq!(rt; text.len(), 8_388_611);
     assert_eq!(rt; described(alloc, text.as_bytes())?.as_str(), "TooMany");
+    Ok(())
+}
+
+#[test]
+fn an_unfinished_array_may_fill_a_page(rt: HostRuntime) -> Result<(), Fail> {
+    let alloc = rt.alloc();
+    let mut text = unfinished(alloc, 2047)?;
+    text.push('1')?;
+    assert_eq!(rt; text.len(), 4096);
+    assert_eq!(rt; read_items(alloc, text.as_bytes())?.len(), 2048);
     Ok(())
 }
 
