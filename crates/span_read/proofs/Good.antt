@@ -1,11 +1,12 @@
 -- Members without a fault give a good event, so each item of an element is good.
-use Rattle.std.proofs.Common.{◌≡◌, ℕ, ℤ, pos, ◌≤◌, ◌≤ℤ◌, List, [], ◌∷◌, Bool, true, false, ◌&&◌, ◌||◌, Option, Some, None, IsSome, is_some, All, unwrap_or, option_map, option_and_then, codes, if◌then◌else◌, nat_lt, ◌^◌, refl, sym, subst, ◌∙◌, arith}
+use Rattle.std.proofs.Common.{◌≡◌, ℕ, ℤ, pos, negsuc, ◌≤◌, ◌≤ℤ◌, List, [], ◌∷◌, Bool, true, false, ◌&&◌, ◌||◌, Option, Some, None, IsSome, IfSome, ◌⊎◌, inl, inr, is_some, All, unwrap_or, option_map, option_and_then, codes, if◌then◌else◌, nat_lt, ◌^◌, refl, sym, subst, ◌∙◌, arith}
 use Rattle.std.specs.List.{AllByRecursion as ByRecursion}
 use Rattle.std.specs.Int.RustNames.{int_le}
 use Rattle.std.proofs.lemmas.Int.{ints}
 use Rattle.std.proofs.lemmas.List.Elements.{All-from_recursion}
-use Rattle.serde_json.specs.Data.{Data, null, boolean, number, string, array, object, Items, no_items, item, Num, unsigned, negative, float}
-use Rattle.serde_json.specs.Find.{get, as_str, as_i64, as_u64}
+use Rattle.serde_json.specs.Data.{Data, null, boolean, number, string, array, object, Items, no_items, item}
+use Rattle.span_read.specs.declared.fields.FieldValue.{FieldValue}
+use Rattle.span_read.specs.declared.fields.FieldValue.TheVariants.{Plain, Pairs}
 use Rattle.span_read.specs.declared.args.ArgValue.{ArgValue}
 use Rattle.span_read.specs.declared.args.ArgValue.TheVariants.{Whole, Words, Flag, Nil, Other}
 use Rattle.span_read.specs.declared.event.Phase.{Phase}
@@ -15,11 +16,12 @@ use Rattle.span_read.specs.declared.item.Field.TheVariants.{Id}
 use Rattle.span_read.specs.declared.item.Item.{Item}
 use Rattle.span_read.specs.declared.item.ItemFault.{ItemFault}
 use Rattle.span_read.specs.declared.item.ItemFault.TheVariants.{NotWhole, BadField, NoId, BadReach, BadSeries}
-use Rattle.span_read.specs.Event.{IsTime, IsGood, IsGoodAt, AllWhole, greatest_time}
+use Rattle.span_read.specs.Event.{IsTime, IsKnownAt, IsGood, IsGoodAt, AllWhole, greatest_time}
 use Rattle.span_read.specs.Item.{IsGoodItem}
 use Rattle.span_read.specs.Phase.{reads_time, reads_duration, reads_id, needs_id, reads_reach, wants_whole_args, phase_of}
-use Rattle.span_read.specs.Fields.{FieldData, fields_of, whole, is_time, is_duration, whole_or_zero, duration_or_zero, id_text, parts_key, key_of, reach_of, args_of, all_whole}
-use Rattle.span_read.specs.Element.{unless, where_read, time_fault, duration_fault, id_fault, first_fault, faults, fault_of, event_of, item_at, item_of_phase, item_of_letter, item_of_data}
+use Rattle.span_read.specs.Fields.{FieldData, fields_of, whole, words, pairs, is_time, is_duration, whole_or_zero, natural, duration_or_zero, id_text, parts_key, key_of, reach_of, args_of, all_whole}
+use Rattle.span_read.specs.Args.{value_of}
+use Rattle.span_read.specs.Element.{unless, where_read, time_fault, duration_fault, id_fault, first_fault, faults, fault_of, event_of, item_at, item_of_phase, item_of_letter, item_of_fields, item_of_data}
 use Rattle.span_read.specs.Document.{items_of}
 
 -- ---- no fault in a list is no fault in each
@@ -50,54 +52,66 @@ zero_time : IsTime (pos 0)
 zero_time = (omega (arith, ints), omega (arith, ints))
 
 -- the time of an event, where it is read, is in range; else it is 0
-time_at : (read : Bool) (m : Option Data) → where_read read (time_fault m) ≡ None → IsTime (if read then whole_or_zero m else pos 0)
-time_at false m none = zero_time
+time_at : (read : Bool) (f : Option FieldValue) → where_read read (time_fault f) ≡ None → IsTime (if read then whole_or_zero f else pos 0)
+time_at false f none = zero_time
 time_at true None none = cc
-time_at true (Some d) none = time_of_number (whole d) (holds _ NotWhole none)
+time_at true (Some v) none = time_of_number (whole v) (holds _ NotWhole none)
 
-duration_of_unsigned : (fits : Bool) (n : ℕ) → is_duration (if fits then Some (pos n) else None) ≡ true → n ≤ greatest_time
-duration_of_unsigned true n right = omega (arith, ints, (within (pos 0) (pos greatest_time) (pos n) right).1)
-duration_of_unsigned false n right = cc
+natural-within : (z : ℤ) → z ≤ℤ pos greatest_time → natural z ≤ greatest_time
+natural-within (pos n) below = omega (arith, ints)
+natural-within (negsuc n) below = omega arith
 
-duration_of_number : (n : Num) → is_duration (as_i64 n) ≡ true → unwrap_or (as_u64 n) 0 ≤ greatest_time
-duration_of_number (unsigned n) right = duration_of_unsigned (nat_lt n (2 ^ 63)) n right
-duration_of_number (negative z) right = omega arith
-duration_of_number (float x) right = omega arith
+duration_of_number : (o : Option ℤ) → is_duration o ≡ true → natural (unwrap_or o (pos 0)) ≤ greatest_time
+duration_of_number None right = cc
+duration_of_number (Some z) right = natural-within z (within (pos 0) (pos greatest_time) z right).1
 
-duration_of_data : (d : Data) → is_duration (whole d) ≡ true → duration_or_zero (Some d) ≤ greatest_time
-duration_of_data (number n) right = duration_of_number n right
-duration_of_data null right = omega arith
-duration_of_data (boolean b) right = omega arith
-duration_of_data (string s) right = omega arith
-duration_of_data (array ds) right = omega arith
-duration_of_data (object ms) right = omega arith
-
-duration_at : (m : Option Data) → duration_fault m ≡ None → duration_or_zero m ≤ greatest_time
+duration_at : (f : Option FieldValue) → duration_fault f ≡ None → duration_or_zero f ≤ greatest_time
 duration_at None none = cc
-duration_at (Some d) none = duration_of_data d (holds _ NotWhole none)
+duration_at (Some v) none = duration_of_number (whole v) (holds _ NotWhole none)
 
 -- whether there is a key doesn't turn on the process
 same_home : (home other : Option ℤ) (t : Option (List ℕ)) → is_some (option_map (key_record home) t) ≡ is_some (option_map (key_record other) t)
 same_home home other None = refl
 same_home home other (Some t) = refl
 
-is_some-parts_key : (pid : ℤ) (global local : Option Data) → is_some (parts_key pid global local) ≡ is_some (parts_key (pos 0) global local)
+is_some-parts_key : (pid : ℤ) (global local : Option ArgValue) → is_some (parts_key pid global local) ≡ is_some (parts_key (pos 0) global local)
 is_some-parts_key pid (Some g) local = refl
 is_some-parts_key pid None (Some l) = same_home (Some pid) (Some (pos 0)) (id_text l)
 is_some-parts_key pid None None = refl
 
-is_some-key_of : (pid : ℤ) (id id2 : Option Data) → is_some (key_of pid id id2) ≡ is_some (key_of (pos 0) id id2)
-is_some-key_of pid (Some d) id2 = refl
-is_some-key_of pid None (Some d) = is_some-parts_key pid (get (codes "global") d) (get (codes "local") d)
+pub is_some-key_of : (pid : ℤ) (id id2 : Option FieldValue) → is_some (key_of pid id id2) ≡ is_some (key_of (pos 0) id id2)
+is_some-key_of pid (Some v) id2 = refl
+is_some-key_of pid None (Some v) = is_some-parts_key pid (value_of (codes "global") (pairs v)) (value_of (codes "local") (pairs v))
 is_some-key_of pid None None = refl
 
-key_at_zero : (id id2 : Option Data) → id_fault id id2 ≡ None → unless (is_some id || is_some id2) NoId ≡ None → is_some (key_of (pos 0) id id2) ≡ true
-key_at_zero (Some d) id2 right there = holds _ (BadField Id) right
-key_at_zero None (Some d) right there = holds _ (BadField Id) right
+key_at_zero : (id id2 : Option FieldValue) → id_fault id id2 ≡ None → unless (is_some id || is_some id2) NoId ≡ None → is_some (key_of (pos 0) id id2) ≡ true
+key_at_zero (Some v) id2 right there = holds _ (BadField Id) right
+key_at_zero None (Some v) right there = holds _ (BadField Id) right
 key_at_zero None None right there = cc
 
-key_there : (pid : ℤ) (id id2 : Option Data) → id_fault id id2 ≡ None → unless (is_some id || is_some id2) NoId ≡ None → IsSome (key_of pid id id2)
+key_there : (pid : ℤ) (id id2 : Option FieldValue) → id_fault id id2 ≡ None → unless (is_some id || is_some id2) NoId ≡ None → IsSome (key_of pid id id2)
 key_there pid id id2 right there = is_some-key_of pid id id2 ∙ key_at_zero id id2 right there
+
+-- ---- where an id is known
+
+home_of_text : (home : Option ℤ) (t : Option (List ℕ)) → (pid : ℤ) → (home ≡ None) ⊎ (home ≡ Some pid) → IfSome (option_map (key_record home) t) (IsKnownAt pid)
+home_of_text home None pid known = tt
+home_of_text home (Some t) pid known = known
+
+home_of_parts : (pid : ℤ) (global local : Option ArgValue) → IfSome (parts_key pid global local) (IsKnownAt pid)
+home_of_parts pid (Some g) local = home_of_text None (id_text g) pid (inl refl)
+home_of_parts pid None (Some l) = home_of_text (Some pid) (id_text l) pid (inr refl)
+home_of_parts pid None None = tt
+
+home_of_key : (pid : ℤ) (id id2 : Option FieldValue) → IfSome (key_of pid id id2) (IsKnownAt pid)
+home_of_key pid (Some (Plain v)) id2 = home_of_text None (id_text v) pid (inl refl)
+home_of_key pid (Some (Pairs ps)) id2 = tt
+home_of_key pid None (Some v) = home_of_parts pid (value_of (codes "global") (pairs v)) (value_of (codes "local") (pairs v))
+home_of_key pid None None = tt
+
+home_at : (read : Bool) (pid : ℤ) (id id2 : Option FieldValue) → IfSome (if read then key_of pid id id2 else None) (IsKnownAt pid)
+home_at true pid id id2 = home_of_key pid id id2
+home_at false pid id id2 = tt
 
 AllWhole-from_test : (ps : List (List ℕ × ArgValue)) → all_whole ps ≡ true → AllWhole ps
 AllWhole-from_test [] right = tt
@@ -139,7 +153,7 @@ good_at Instant f none = (refl, refl, refl, holds _ BadReach none.no_reach)
 good_at Meta f none = (refl, refl, refl, refl, refl)
 
 IsGood-event_of : (phase : Phase) (f : FieldData) → NoFaults phase f → IsGood (event_of phase f)
-IsGood-event_of phase f none = record { in_time = time_at (reads_time phase) f.ts none.no_time; by_phase = good_at phase f none }
+IsGood-event_of phase f none = record { in_time = time_at (reads_time phase) f.ts none.no_time; by_home = home_at (reads_id phase) (whole_or_zero f.pid) f.id f.id2; by_phase = good_at phase f none }
 
 -- ---- the items
 
@@ -155,8 +169,11 @@ good_item_of_letter : (f : FieldData) (letter : Option (List ℕ)) → IsGoodIte
 good_item_of_letter f None = tt
 good_item_of_letter f (Some letter) = good_item_of_phase f (phase_of letter)
 
+pub IsGoodItem-item_of_fields : (f : FieldData) → IsGoodItem (item_of_fields f)
+IsGoodItem-item_of_fields f = good_item_of_letter f (option_and_then words f.ph)
+
 pub IsGoodItem-item_of_data : (d : Data) → IsGoodItem (item_of_data d)
-IsGoodItem-item_of_data (object ms) = good_item_of_letter (fields_of ms) (option_and_then as_str (fields_of ms).ph)
+IsGoodItem-item_of_data (object ms) = IsGoodItem-item_of_fields (fields_of ms)
 IsGoodItem-item_of_data null = tt
 IsGoodItem-item_of_data (boolean b) = tt
 IsGoodItem-item_of_data (number n) = tt

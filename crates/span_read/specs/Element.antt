@@ -2,9 +2,9 @@
 use Rattle.std.specs.Prelude.{ℕ, pos, List, [], ◌∷◌, ◌||◌, Bool, true, false, Option, Some, None, is_some, option_and_then, if◌then◌else◌}
 use Rattle.std.specs.Option.{option_or}
 use Rattle.serde_json.specs.Data.{Data, object}
-use Rattle.serde_json.specs.Find.{as_str}
 use Rattle.span_read.specs.declared.event.Event.{Event}
 use Rattle.span_read.specs.declared.event.Phase.{Phase}
+use Rattle.span_read.specs.declared.fields.FieldValue.{FieldValue}
 use Rattle.span_read.specs.declared.item.Field.{Field}
 use Rattle.span_read.specs.declared.item.Field.TheVariants.{Pid, Tid, Name, Cat, Id, Scope}
 use Rattle.span_read.specs.declared.item.Item.{Item}
@@ -12,7 +12,7 @@ use Rattle.span_read.specs.declared.item.Item.TheVariants.{Good, Bad, Other}
 use Rattle.span_read.specs.declared.item.ItemFault.{ItemFault}
 use Rattle.span_read.specs.declared.item.ItemFault.TheVariants.{NotObject, NoPhase, NoTime, NotWhole, NoDuration, BadField, NoId, BadReach, BadSeries}
 use Rattle.span_read.specs.Phase.{phase_of, reads_time, reads_duration, needs_id, reads_id, reads_scope, reads_reach, wants_whole_args}
-use Rattle.span_read.specs.Fields.{FieldData, fields_of, whole, is_time, is_duration, whole_or_zero, text_or_empty, duration_or_zero, key_of, reach_of, args_of, all_whole}
+use Rattle.span_read.specs.Fields.{FieldData, fields_of, whole, words, is_time, is_duration, whole_or_zero, text_or_empty, duration_or_zero, key_of, reach_of, args_of, all_whole}
 
 -- the fault where the test fails
 abbrev pub unless : Bool → ItemFault → Option ItemFault
@@ -24,26 +24,26 @@ abbrev pub where_read : Bool → Option ItemFault → Option ItemFault
 where_read true fault = fault
 where_read false fault = None
 
-abbrev pub time_fault : Option Data → Option ItemFault
+abbrev pub time_fault : Option FieldValue → Option ItemFault
 time_fault None = Some NoTime
-time_fault (Some d) = unless (is_time (whole d)) NotWhole
+time_fault (Some v) = unless (is_time (whole v)) NotWhole
 
-abbrev pub duration_fault : Option Data → Option ItemFault
+abbrev pub duration_fault : Option FieldValue → Option ItemFault
 duration_fault None = Some NoDuration
-duration_fault (Some d) = unless (is_duration (whole d)) NotWhole
+duration_fault (Some v) = unless (is_duration (whole v)) NotWhole
 
 -- a missing `pid` or `tid` is 0
-abbrev pub whole_fault : Field → Option Data → Option ItemFault
+abbrev pub whole_fault : Field → Option FieldValue → Option ItemFault
 whole_fault field None = None
-whole_fault field (Some d) = unless (is_some (whole d)) (BadField field)
+whole_fault field (Some v) = unless (is_some (whole v)) (BadField field)
 
 -- a missing text is empty
-abbrev pub text_fault : Field → Option Data → Option ItemFault
+abbrev pub text_fault : Field → Option FieldValue → Option ItemFault
 text_fault field None = None
-text_fault field (Some d) = unless (is_some (as_str d)) (BadField field)
+text_fault field (Some v) = unless (is_some (words v)) (BadField field)
 
 -- an id that is there must be of one of its shapes
-abbrev pub id_fault : Option Data → Option Data → Option ItemFault
+abbrev pub id_fault : Option FieldValue → Option FieldValue → Option ItemFault
 id_fault None None = None
 id_fault id id2 = unless (is_some (key_of (pos 0) id id2)) (BadField Id)
 
@@ -103,7 +103,7 @@ item_of_letter f None = Bad NoPhase
 item_of_letter f (Some letter) = item_of_phase f (phase_of letter)
 
 abbrev pub item_of_fields : FieldData → Item
-item_of_fields f = item_of_letter f (option_and_then as_str f.ph)
+item_of_fields f = item_of_letter f (option_and_then words f.ph)
 
 -- the item of an element
 abbrev pub item_of_data : Data → Item

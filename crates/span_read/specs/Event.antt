@@ -1,6 +1,7 @@
 -- When an event is one that the format's fields give.
-use Rattle.std.specs.Prelude.{◌≡◌, ℕ, List, [], ◌∷◌, ℤ, pos, negsuc, ◌≤ℤ◌, ◌≤◌, IsSome, None}
+use Rattle.std.specs.Prelude.{◌≡◌, ℕ, List, [], ◌∷◌, ℤ, pos, negsuc, ◌≤ℤ◌, ◌≤◌, ◌⊎◌, IsSome, IfSome, Some, None}
 use Rattle.span_read.specs.declared.event.Event.{Event}
+use Rattle.span_read.specs.declared.event.IdKey.{IdKey}
 use Rattle.span_read.specs.declared.event.Phase.{Phase}
 use Rattle.span_read.specs.declared.event.Phase.TheVariants.{SpanBegin, SpanEnd, Complete, AsyncBegin, AsyncPoint, AsyncEnd, FlowStart, FlowStep, FlowEnd, Counter, Instant, Meta}
 use Rattle.span_read.specs.declared.args.ArgValue.{ArgValue}
@@ -12,6 +13,10 @@ greatest_time = 9007199254740991
 
 abbrev pub IsTime : ℤ → Type 0
 IsTime t = (negsuc 9007199254740990 ≤ℤ t) × (t ≤ℤ pos greatest_time)
+
+-- an id is known everywhere, or in the event's process alone
+abbrev pub IsKnownAt : ℤ → IdKey → Type 0
+IsKnownAt pid key = (key.home ≡ None) ⊎ (key.home ≡ Some pid)
 
 -- each value is a whole number
 abbrev pub AllWhole : List (List ℕ × ArgValue) → Type 0
@@ -40,4 +45,5 @@ IsGoodAt Meta e = (e.ts ≡ pos 0) × (e.dur ≡ 0) × (e.key ≡ None) × (e.sc
 -- the event is one that the fields of an element give
 pub record IsGood (e : Event) : Type 0 where
   pub in_time : IsTime e.ts
+  pub by_home : IfSome e.key (IsKnownAt e.pid)
   pub by_phase : IsGoodAt e.phase e

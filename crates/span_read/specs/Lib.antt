@@ -8,4 +8,5 @@ pub mod Members
 pub mod Orders
 pub mod Phase
 pub mod ReadError
+pub mod Refusal
 pub mod Slots

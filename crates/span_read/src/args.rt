@@ -68,6 +68,20 @@ impl Args {
 }
 
 impl Args {
+    ghost use Rattle.span_read.specs.Fields.{all_whole};
+
+    /// Whether each value is a whole number.
+    pub(crate) fn all_whole(&self) -> bool
+        ensures { result ≡ all_whole self.now }
+    {
+        for (_, value) in &self.pairs {
+            if !matches!(value, ArgValue::Whole(_)) {
+                return false;
+            }
+        }
+        true
+    }
+
     /// The pairs as they are. Takes no memory.
     pub(crate) fn of_pairs(pairs: Vec<(Text, ArgValue)>) -> Args
         requires { IsInNameOrder pairs.items }

@@ -6,10 +6,11 @@ ghost use Rattle.span_read.specs.Element.{item_of_data, item_of_fields};
 ghost use Rattle.span_read.specs.Slots.{data_of};
 
 use crate::build::event_of;
-use crate::check::check_fields;
 use crate::fields::Fields;
 use crate::item::{Item, ItemFault};
 use crate::phase::phase_of;
+use crate::refusal::Refusal;
+use crate::values::fields_of_members;
 use serde_json::Value;
 use std::alloc::{AllocError, Global};
 
@@ -18,30 +19,29 @@ pub fn item_of(alloc: Global, value: &Value) -> Result<Item, AllocError>
     ensures item { IfOk result (λ item. item ≡ item_of_data (view value.now)) }
     ensures good { IfOk result IsGoodItem }
 {
-    item_of_element(alloc, value.clone()?)
-}
-
-/// The same of a value that is taken apart, so that its texts move into the event.
-pub(crate) fn item_of_element(alloc: Global, element: Value) -> Result<Item, AllocError>
-    ensures { IfOk result (λ item. item ≡ item_of_data (view element)) }
-{
-    match element {
-        Value::Object(members) => item_of_fields(alloc, Fields::of_members(members)),
+    match value {
+        Value::Object(members) => item_of_fields(alloc, fields_of_members(alloc, members)?),
         _ => Ok(Item::Bad(ItemFault::NotObject)),
     }
 }
 
-fn item_of_fields(alloc: Global, fields: Fields) -> Result<Item, AllocError>
+pub(crate) fn item_of_fields(alloc: Global, fields: Fields) -> Result<Item, AllocError>
     ensures { IfOk result (λ item. item ≡ item_of_fields (data_of fields)) }
 {
-    let Some(Value::String(letter)) = &fields.ph else {
+    let mut fields = fields;
+    let letter = match fields.ph.take() {
+        Some(value) => value.into_words(),
+        None => None,
+    };
+    let Some(letter) = letter else {
         return Ok(Item::Bad(ItemFault::NoPhase));
     };
     let Some(phase) = phase_of(letter.as_str()) else {
         return Ok(Item::Other);
     };
-    match check_fields(phase, &fields) {
-        Ok(()) => Ok(Item::Good(event_of(alloc, phase, fields)?)),
-        Err(fault) => Ok(Item::Bad(fault)),
+    match event_of(alloc, phase, fields) {
+        Ok(event) => Ok(Item::Good(event)),
+        Err(Refusal::Fault(fault)) => Ok(Item::Bad(fault)),
+        Err(Refusal::Memory) => Err(AllocError),
     }
 }

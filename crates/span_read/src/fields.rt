@@ -1,31 +1,59 @@
-// The members of an event's object that are read, each moved to its own place in one walk over the object.
+// The members of an event's object that are read, each in its own place.
 ghost use Rattle.std.specs.Prelude.{◌≡◌};
-ghost use Rattle.serde_json.specs.View.{view, members_view};
-ghost use Rattle.span_read.specs.Fields.{fields_of};
 
-use crate::members::Members;
-use serde_json::Value;
+use crate::args::{ArgValue, Args};
+use crate::text::Text;
+
+/// A member's value by its kind; of an object the members, by theirs.
+#[derive(Drop)]
+pub(crate) enum FieldValue {
+    Plain(ArgValue),
+    Pairs(Args),
+}
+
+impl FieldValue {
+    ghost use Rattle.span_read.specs.Fields.{whole, words, pairs};
+
+    pub(crate) fn whole(&self) -> Option<i64>
+        ensures { result ≡ whole self.now }
+    {
+        match self {
+            FieldValue::Plain(ArgValue::Whole(number)) => Some(*number),
+            _ => None,
+        }
+    }
+
+    /// The text itself, which is moved.
+    pub(crate) fn into_words(self) -> Option<Text>
+        ensures { result ≡ words self }
+    {
+        match self {
+            FieldValue::Plain(ArgValue::Words(text)) => Some(text),
+            _ => None,
+        }
+    }
+}
 
 #[derive(Drop)]
 pub(crate) struct Fields {
-    pub(crate) ph: Option<Value>,
-    pub(crate) ts: Option<Value>,
-    pub(crate) dur: Option<Value>,
-    pub(crate) pid: Option<Value>,
-    pub(crate) tid: Option<Value>,
-    pub(crate) name: Option<Value>,
-    pub(crate) cat: Option<Value>,
-    pub(crate) id: Option<Value>,
-    pub(crate) id2: Option<Value>,
-    pub(crate) scope: Option<Value>,
-    pub(crate) s: Option<Value>,
-    pub(crate) args: Option<Value>,
+    pub(crate) ph: Option<FieldValue>,
+    pub(crate) ts: Option<FieldValue>,
+    pub(crate) dur: Option<FieldValue>,
+    pub(crate) pid: Option<FieldValue>,
+    pub(crate) tid: Option<FieldValue>,
+    pub(crate) name: Option<FieldValue>,
+    pub(crate) cat: Option<FieldValue>,
+    pub(crate) id: Option<FieldValue>,
+    pub(crate) id2: Option<FieldValue>,
+    pub(crate) scope: Option<FieldValue>,
+    pub(crate) s: Option<FieldValue>,
+    pub(crate) args: Option<FieldValue>,
 }
 
 impl Fields {
     ghost use Rattle.span_read.specs.Slots.{data_of, slots, names, put_at, nothing};
 
-    fn none() -> Fields
+    pub(crate) fn none() -> Fields
         ensures { slots (data_of result) ≡ nothing }
     {
         Fields {
@@ -44,9 +72,9 @@ impl Fields {
         }
     }
 
-    fn put(&mut self, name: &str, value: Value)
+    pub(crate) fn put(&mut self, name: &str, value: FieldValue)
         ensures { slots (data_of self.new)
-            ≡ put_at name.now (view value) names (slots (data_of self.old)) }
+            ≡ put_at name.now value names (slots (data_of self.old)) }
     {
         match name {
             "ph" => self.ph = Some(value),
@@ -63,15 +91,5 @@ impl Fields {
             "args" => self.args = Some(value),
             _ => {}
         }
-    }
-
-    pub(crate) fn of_members(members: Members) -> Fields
-        ensures { data_of result ≡ fields_of (members_view members.entries) }
-    {
-        let mut fields = Fields::none();
-        for (name, value) in members {
-            fields.put(name.as_str(), value);
-        }
-        fields
     }
 }

@@ -1,11 +1,9 @@
 //! Reads the bytes of a trace file into typed items: good events, numbered faults, and events of phases that are not used.
 #![tactic(auto)]
 
-mod arg_values;
 mod args;
 mod build;
 mod candidates;
-mod check;
 mod element;
 mod error;
 mod event;
@@ -15,9 +13,11 @@ mod items;
 mod key;
 mod members;
 mod phase;
-mod reach;
 mod read;
+mod refusal;
+mod take;
 mod text;
+mod values;
 
 pub use args::{ArgValue, Args, merge_args};
 pub use element::item_of;

@@ -6,7 +6,7 @@ ghost use Rattle.span_read.specs.Item.{IsGoodItem};
 ghost use Rattle.span_read.specs.declared.error.ReadError.TheVariants.{TooLarge, Memory};
 
 use crate::candidates::first_read;
-use crate::element::item_of_element;
+use crate::element::item_of;
 use crate::error::ReadError;
 use crate::item::Item;
 use crate::items::Items;
@@ -83,7 +83,7 @@ fn items_of(alloc: Global, elements: Vec<Value>) -> Result<Items, AllocError>
 {
     let mut items = Vec::with_capacity(alloc, elements.len())?;
     for element in elements {
-        items.push(item_of_element(alloc, element)?)?;
+        items.push(item_of(alloc, &element)?)?;
     }
     Ok(Items::of_list(items))
 }

@@ -1,12 +1,12 @@
 use Rattle.std.proofs.Common.{◌≡◌, subst, sym}
 use Rattle.std.proofs.lemmas.Result.{IfOk-weaker}
-use Rattle.serde_json.specs.View.{view}
-use Rattle.span_read.specs.Element.{item_of_data}
+use Rattle.span_read.specs.Element.{item_of_fields}
 use Rattle.span_read.specs.Item.{IsGoodItem}
-use Rattle.span_read.proofs.Good.{IsGoodItem-item_of_data}
+use Rattle.span_read.specs.Slots.{data_of}
+use Rattle.span_read.proofs.Good.{IsGoodItem-item_of_fields}
 use Rattle.span_read.proofs.element.item_of.Goals as goal
 
-pub returns-clause-good : goal.returns-clause-good
-returns-clause-good c =
-    let element = view c.in_ok-clone.field-0 in
-    IfOk-weaker c.item_of_element.result (λ item. item ≡ item_of_data element) IsGoodItem (λ item is. subst IsGoodItem (sym is) (IsGoodItem-item_of_data element)) c.item_of_element.ensures
+pub returns-in_ok-fields_of_members-in-Object-clause-good : goal.returns-in_ok-fields_of_members-in-Object-clause-good
+returns-in_ok-fields_of_members-in-Object-clause-good c =
+    let fields = data_of c.in_ok-fields_of_members-in-Object.field-0 in
+    IfOk-weaker c.item_of_fields.result (λ item. item ≡ item_of_fields fields) IsGoodItem (λ item is. subst IsGoodItem (sym is) (IsGoodItem-item_of_fields fields)) c.item_of_fields.ensures
