@@ -1,22 +1,20 @@
 -- The totals of a name are those of its number.
-use Rattle.std.proofs.Common.{◌≡◌, ℕ, ◌+◌, List, [], ◌∷◌, ◌++◌, length, map, Bool, true, false, cond, ◌&&◌, Option, Some, None, refl, sym, ap, ap₂, subst, ◌∙◌, nat_eq, eq-eqb, eqb-true}
+use Rattle.std.proofs.Common.{◌≡◌, ℕ, ◌+◌, List, [], ◌∷◌, length, map, Bool, true, false, cond, Option, Some, None, refl, sym, ap, ap₂, ◌∙◌, nat_eq, eq-eqb, eqb-true}
 use Rattle.std.specs.Prelude.{is_some, unwrap_or, sum_by, slice_get}
-use Rattle.std.specs.Option.{option_or}
 use Rattle.std.specs.List.{list_all}
 use Rattle.std.specs.Bool.{one_answer}
 use Rattle.std.specs.Cmp.Lexicographic.{bytes_decides}
 use Rattle.std.proofs.lemmas.List.{length-map}
 use Rattle.std.proofs.lemmas.List.Sums.{sum_by-cons}
-use Rattle.std.proofs.lemmas.List.Folds.{list_all-append}
 use Rattle.span_time.specs.Spans.{Span, length_of, self_time, named, total_of, self_of}
-use Rattle.span_track.specs.Nesting.{Begin, ThreadEvent, began, ended, completed, is_balanced, opener, matched_span, closed_by, closed_after, closed_spans}
+use Rattle.span_track.specs.Nesting.{Begin, Ending, ThreadEvent, span_between, whole_span, closed_spans}
+use Rattle.span_track.proofs.Matching.Closed.{both_true, and_true, closed_of-passes}
 use Rattle.span_track.specs.Numbering.{number_in}
 use Rattle.span_track.proofs.Numbers.{slice_get-number_in}
 use Rattle.span_ledger.specs.Told.{Words}
 use Rattle.span_ledger.specs.Numbered.{renamed_span}
 use Rattle.span_ledger.specs.Rows.{same_text}
 use Rattle.span_ledger.specs.Tracked.{number_for, is_numbered}
-use Rattle.span_ledger.proofs.Threads.{both_true, and_true}
 use Rattle.span_ledger.proofs.Renaming.{self_time-renamed}
 
 -- the name of the span has a number
@@ -24,40 +22,12 @@ abbrev pub is_numbered_span : List Words → Span Words → Bool
 is_numbered_span names s = is_some (number_in names s.name)
 
 module _ (names : List Words) where
-  opener-numbered : (es : List (ThreadEvent Words)) (b : Begin Words) → list_all (is_numbered names) es ≡ true → opener es ≡ Some b → is_some (number_in names b.name) ≡ true
-  opener-numbered [] b known e = cc
-  opener-numbered (began c ∷ es) b known e =
-      let parts = both_true (is_some (number_in names c.name)) (list_all (is_numbered names) es) known in
-      by (opener es) refl (is_balanced es) parts.0 (λ (r : opener es ≡ Some b). opener-numbered es b parts.1 r) e
-    where
-      by : (o : Option (Begin Words)) → opener es ≡ o → (t : Bool) → is_some (number_in names c.name) ≡ true → (opener es ≡ Some b → is_some (number_in names b.name) ≡ true) → option_or o (cond t (Some c) None) ≡ Some b → is_some (number_in names b.name) ≡ true
-      by None h true p q r = let same : c ≡ b = cc in subst (λ (x : Begin Words). is_some (number_in names x.name) ≡ true) same p
-      by None h false p q r = cc
-      by (Some d) h t p q r = q (h ∙ r)
-  opener-numbered (ended ts args ∷ es) b known e = opener-numbered es b known e
-  opener-numbered (completed s ∷ es) b known e = opener-numbered es b (both_true (is_some (number_in names s.name)) (list_all (is_numbered names) es) known).1 e
-
-  closed_by-numbered : (earlier : List (ThreadEvent Words)) (e : ThreadEvent Words) → list_all (is_numbered names) earlier ≡ true → is_numbered names e ≡ true → list_all (is_numbered_span names) (closed_by earlier e) ≡ true
-  closed_by-numbered earlier (began b) known h = refl
-  closed_by-numbered earlier (ended ts args) known h = by (opener earlier) refl
-    where
-      by : (o : Option (Begin Words)) → opener earlier ≡ o → list_all (is_numbered_span names) (matched_span o ts args) ≡ true
-      by None e = refl
-      by (Some b) e = and_true (is_some (number_in names b.name)) true (opener-numbered earlier b known e) refl
-  closed_by-numbered earlier (completed s) known h = and_true (is_some (number_in names s.name)) true h refl
-
-  closed_after-numbered : (earlier later : List (ThreadEvent Words)) → list_all (is_numbered names) earlier ≡ true → list_all (is_numbered names) later ≡ true → list_all (is_numbered_span names) (closed_after earlier later) ≡ true
-  closed_after-numbered earlier [] p q = refl
-  closed_after-numbered earlier (e ∷ later) p q =
-      let parts = both_true (is_numbered names e) (list_all (is_numbered names) later) q in
-      let all = list_all-append (is_numbered names) earlier (e ∷ []) ∙ and_true (list_all (is_numbered names) earlier) (is_numbered names e && true) p (and_true (is_numbered names e) true parts.0 refl) in
-      list_all-append (is_numbered_span names) (closed_by earlier e) (closed_after (earlier ++ e ∷ []) later)
-      ∙ and_true (list_all (is_numbered_span names) (closed_by earlier e)) (list_all (is_numbered_span names) (closed_after (earlier ++ e ∷ []) later))
-      (closed_by-numbered earlier e p parts.0) (closed_after-numbered (earlier ++ e ∷ []) later all parts.1)
-
   -- the names of closed spans have numbers where those of the events do
   pub closed_spans-numbered : (es : List (ThreadEvent Words)) → list_all (is_numbered names) es ≡ true → list_all (is_numbered_span names) (closed_spans es) ≡ true
-  closed_spans-numbered es known = closed_after-numbered [] es refl known
+  closed_spans-numbered es known =
+      closed_of-passes span_between whole_span (λ b. is_some (number_in names b.name)) (is_numbered_span names) (is_numbered_span names)
+      (λ (b : Begin Words) (e : Ending) (h : is_some (number_in names b.name) ≡ true). and_true (is_some (number_in names b.name)) true h refl)
+      (λ (s : Span Words) (h : is_numbered_span names s ≡ true). and_true (is_numbered_span names s) true h refl) es known
 
   -- two texts are the same just where their numbers are
   nat_eq-number_in : (a b : Words) (i n : ℕ) → number_in names a ≡ Some i → number_in names b ≡ Some n → nat_eq i n ≡ same_text a b

@@ -1,7 +1,8 @@
 -- The events of a thread with each name in place of another, as a number in place of a text.
 use Rattle.std.specs.Prelude.{List, map}
 use Rattle.span_time.specs.Spans.{Span}
-use Rattle.span_track.specs.Nesting.{Begin, ThreadEvent, began, ended, completed}
+use Rattle.span_track.specs.Matching.{map_step}
+use Rattle.span_track.specs.Nesting.{Begin, ThreadEvent}
 
 module _ {N M : Type 0} (rename : N → M) where
   abbrev pub renamed_begin : Begin N → Begin M
@@ -11,9 +12,7 @@ module _ {N M : Type 0} (rename : N → M) where
   renamed_span s = record { name = rename s.name; start = s.start; until = s.until; at = s.at; args = s.args }
 
   abbrev pub renamed_event : ThreadEvent N → ThreadEvent M
-  renamed_event (began b) = began (renamed_begin b)
-  renamed_event (ended ts args) = ended ts args
-  renamed_event (completed s) = completed (renamed_span s)
+  renamed_event e = map_step renamed_begin renamed_span e
 
   abbrev pub renamed : List (ThreadEvent N) → List (ThreadEvent M)
   renamed es = map renamed_event es

@@ -1,6 +1,4 @@
+pub mod Lists
+pub mod Matching
 pub mod Numbers
-pub mod OpenSpans
-pub mod Places
-pub mod Positions
-pub mod Sound
-pub mod ThreadSpans
+pub mod Threads

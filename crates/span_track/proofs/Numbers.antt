@@ -4,7 +4,7 @@ use Rattle.std.specs.Cmp.Lexicographic.{pointwise, bytes_decides}
 use Rattle.std.proofs.lemmas.List.Quantifiers.{position-Some}
 use Rattle.std.proofs.lemmas.Option.{slice_get-get_or}
 use Rattle.span_track.specs.Numbering.{number_in, with_name}
-use Rattle.span_track.proofs.Places.{position-front}
+use Rattle.span_track.proofs.Lists.Places.{position-front}
 
 -- the text at its number
 pub slice_get-number_in : (names : List (List ℕ)) (text : List ℕ) (n : ℕ) → number_in names text ≡ Some n → slice_get names n ≡ Some text

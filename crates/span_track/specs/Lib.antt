@@ -1,5 +1,6 @@
 pub mod Fault
 pub mod Kept
+pub mod Matching
 pub mod Nesting
 pub mod Numbering
 pub mod Thread

@@ -1,8 +1,10 @@
 -- Which begins and ends of one thread belong together.
-use Rattle.std.specs.Prelude.{ℕ, ◌+◌, ◌==◌, Bool, false, ◌&&◌, ◌||◌, if◌then◌else◌, ℤ, List, [], ◌∷◌, ◌++◌, length, Option, Some, None, is_none}
+use Rattle.std.specs.Prelude.{ℕ, ℤ, List, [], ◌∷◌, length, Option, Some, None}
 use Rattle.std.specs.Option.{option_or}
 use Rattle.span_read.specs.Args.{merged}
 use Rattle.span_time.specs.Spans.{Arguments, Span}
+use Rattle.span_track.specs.Matching
+use Rattle.span_track.specs.Matching.{Step, opens, closes, other}
 
 -- a begin: `at` is its position in the journal
 pub record Begin (N : Type 0) : Type 0 where
@@ -11,58 +13,43 @@ pub record Begin (N : Type 0) : Type 0 where
   pub at : ℕ
   pub args : Arguments
 
--- an accepted event of the thread that has to do with spans
-pub data ThreadEvent (N : Type 0) : Type 0 where
-  began : Begin N → ThreadEvent N
-  ended : ℤ → Arguments → ThreadEvent N
-  completed : Span N → ThreadEvent N
+pub record Ending : Type 0 where
+  pub ts : ℤ
+  pub args : Arguments
 
--- the span from a begin to the end that matches it, if there is one; it has the arguments of both
-abbrev pub matched_span : {N : Type 0} → Option (Begin N) → ℤ → Arguments → List (Span N)
-matched_span None ts args = []
-matched_span (Some b) ts args = record { name = b.name; start = b.ts; until = ts; at = b.at; args = merged b.args args } ∷ []
+-- an accepted event of the thread that has to do with spans: a begin, an end, or a whole span
+abbrev pub ThreadEvent : Type 0 → Type 0
+ThreadEvent N = Step (Begin N) Ending (Span N)
 
 module _ {N : Type 0} where
-  abbrev pub begins : List (ThreadEvent N) → ℕ
-  begins [] = 0
-  begins (began b ∷ es) = begins es + 1
-  begins (ended ts args ∷ es) = begins es
-  begins (completed s ∷ es) = begins es
+  abbrev pub began : Begin N → ThreadEvent N
+  began b = opens b
 
-  abbrev pub ends : List (ThreadEvent N) → ℕ
-  ends [] = 0
-  ends (began b ∷ es) = ends es
-  ends (ended ts args ∷ es) = ends es + 1
-  ends (completed s ∷ es) = ends es
+  abbrev pub ended : ℤ → Arguments → ThreadEvent N
+  ended ts args = closes (record { ts = ts; args = args })
 
-  -- as many begin as end
-  abbrev pub is_balanced : List (ThreadEvent N) → Bool
-  is_balanced es = begins es == ends es
+  abbrev pub completed : Span N → ThreadEvent N
+  completed s = other s
 
-  -- the begin that an end right after these events matches: the latest one after which as many begin as end
+  -- the span from a begin to the end that matches it; it has the arguments of both
+  abbrev pub span_between : Begin N → Ending → List (Span N)
+  span_between b e = record { name = b.name; start = b.ts; until = e.ts; at = b.at; args = merged b.args e.args } ∷ []
+
+  -- a whole span closes as it comes
+  abbrev pub whole_span : Span N → List (Span N)
+  whole_span s = s ∷ []
+
+  -- the span that an end closes, if there is one
+  abbrev pub matched_span : Option (Begin N) → Ending → List (Span N)
+  matched_span = Matching.closed_with span_between whole_span
+
+  -- the begin that an end right after these events matches
   abbrev pub opener : List (ThreadEvent N) → Option (Begin N)
-  opener [] = None
-  opener (began b ∷ later) = option_or (opener later) (if is_balanced later then Some b else None)
-  opener (ended ts args ∷ later) = opener later
-  opener (completed s ∷ later) = opener later
-
-  -- an end after these events matches a begin right before them
-  abbrev pub is_match : List (ThreadEvent N) → Bool
-  is_match between = is_none (opener between) && is_balanced between
-
-  -- one of the later events is an end that matches a begin right before `between`
-  abbrev pub is_matched_after : List (ThreadEvent N) → List (ThreadEvent N) → Bool
-  is_matched_after between [] = false
-  is_matched_after between (began b ∷ later) = is_matched_after (between ++ began b ∷ []) later
-  is_matched_after between (ended ts args ∷ later) = is_match between || is_matched_after (between ++ ended ts args ∷ []) later
-  is_matched_after between (completed s ∷ later) = is_matched_after (between ++ completed s ∷ []) later
+  opener es = Matching.opener es
 
   -- the begins that no end matches
   abbrev pub open_spans : List (ThreadEvent N) → List (Begin N)
-  open_spans [] = []
-  open_spans (began b ∷ later) = if is_matched_after [] later then open_spans later else b ∷ open_spans later
-  open_spans (ended ts args ∷ later) = open_spans later
-  open_spans (completed s ∷ later) = open_spans later
+  open_spans es = Matching.open_of es
 
   -- how many spans are open
   abbrev pub depth_of : List (ThreadEvent N) → ℕ
@@ -70,21 +57,15 @@ module _ {N : Type 0} where
 
   -- the span that an event closes, after the events before it
   abbrev pub closed_by : List (ThreadEvent N) → ThreadEvent N → List (Span N)
-  closed_by earlier (began b) = []
-  closed_by earlier (ended ts args) = matched_span (opener earlier) ts args
-  closed_by earlier (completed s) = s ∷ []
+  closed_by earlier e = Matching.closed_by span_between whole_span earlier e
 
   -- the closed spans, in the order of the events that close them
-  abbrev pub closed_after : List (ThreadEvent N) → List (ThreadEvent N) → List (Span N)
-  closed_after earlier [] = []
-  closed_after earlier (e ∷ later) = closed_by earlier e ++ closed_after (earlier ++ e ∷ []) later
-
   abbrev pub closed_spans : List (ThreadEvent N) → List (Span N)
-  closed_spans es = closed_after [] es
+  closed_spans es = Matching.closed_of span_between whole_span es
 
   -- the time of the last begin or end
   abbrev pub last_time : List (ThreadEvent N) → Option ℤ
   last_time [] = None
-  last_time (began b ∷ later) = option_or (last_time later) (Some b.ts)
-  last_time (ended ts args ∷ later) = option_or (last_time later) (Some ts)
-  last_time (completed s ∷ later) = last_time later
+  last_time (opens b ∷ later) = option_or (last_time later) (Some b.ts)
+  last_time (closes e ∷ later) = option_or (last_time later) (Some e.ts)
+  last_time (other s ∷ later) = last_time later

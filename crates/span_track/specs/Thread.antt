@@ -1,7 +1,8 @@
 -- What the track of a thread keeps, and when it refuses an event.
 use Rattle.std.specs.Prelude.{◌≡◌, ℕ, ◌+◌, ◌<◌, ◌^◌, ◌-◌, Bool, false, if◌then◌else◌, ℤ, int_lt, List, [], ◌∷◌, length, All, Option, Some, None, ◌==◌}
 use Rattle.span_time.specs.Spans.{Span}
-use Rattle.span_track.specs.Nesting.{Begin, ThreadEvent, began, ended, completed, open_spans, closed_spans, last_time}
+use Rattle.span_track.specs.Matching.{opens, closes, other}
+use Rattle.span_track.specs.Nesting.{Begin, ThreadEvent, open_spans, closed_spans, last_time}
 
 -- the open spans, the closed spans, and the time of the last begin or end
 pub record ThreadSpans (N : Type 0) : Type 0 where
@@ -40,9 +41,9 @@ module _ {N : Type 0} where
 
   -- the event stands before this position; an end opens nothing, and needs none
   abbrev pub IsBefore : ℕ → ThreadEvent N → Type 0
-  IsBefore at (began b) = b.at < at
-  IsBefore at (ended ts args) = Unit {0}
-  IsBefore at (completed s) = s.at < at
+  IsBefore at (opens b) = b.at < at
+  IsBefore at (closes e) = Unit {0}
+  IsBefore at (other s) = s.at < at
 
   abbrev pub AreBefore : ℕ → List (ThreadEvent N) → Type 0
   AreBefore at [] = Unit {0}

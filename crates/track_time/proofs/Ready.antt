@@ -1,14 +1,15 @@
 -- A track that can take an event at a position can take the next one after it.
 use Rattle.std.proofs.Common.{ℕ, ◌+◌, ◌<◌, ◌-◌, ◌^◌, List, [], ◌∷◌, ◌++◌, length-append, sym, subst, arith}
-use Rattle.span_track.specs.Nesting.{ThreadEvent, began, ended, completed}
+use Rattle.span_track.specs.Matching.{opens, closes, other}
+use Rattle.span_track.specs.Nesting.{ThreadEvent}
 use Rattle.span_track.specs.Thread.{ThreadSpans, StandsFor, HasRoom, IsNext, IsBefore, AreBefore}
-use Rattle.span_track.proofs.Positions.{IsNext-thread_spans, HasRoom-thread_spans}
+use Rattle.span_track.proofs.Threads.Room.{IsNext-thread_spans, HasRoom-thread_spans}
 use Rattle.track_time.specs.Ready.{IsReady}
 
 IsBefore-later : (at : ℕ) (e : ThreadEvent ℕ) → IsBefore at e → IsBefore (at + 1) e
-IsBefore-later at (began b) before = omega (arith, before)
-IsBefore-later at (ended ts args) before = tt
-IsBefore-later at (completed s) before = omega (arith, before)
+IsBefore-later at (opens b) before = omega (arith, before)
+IsBefore-later at (closes e) before = tt
+IsBefore-later at (other s) before = omega (arith, before)
 
 AreBefore-later : (at : ℕ) (es : List (ThreadEvent ℕ)) → AreBefore at es → AreBefore (at + 1) es
 AreBefore-later at [] before = tt

@@ -3,7 +3,7 @@ use Rattle.std.specs.List.{position_or_len, list_any}
 use Rattle.std.specs.Cmp.Lexicographic.{pointwise, nat_list_eq_equiv}
 use Rattle.indexmap.specs.IndexSet.{insert_key}
 use Rattle.span_track.specs.Numbering.{number_in}
-use Rattle.span_track.proofs.Places.{position_or_len-None, list_any-None, position-append}
+use Rattle.span_track.proofs.Lists.Places.{position_or_len-None, list_any-None, position-append}
 use Rattle.span_track.proofs.names.Names.number_of.Goals as goal
 
 -- a text that is new goes last, under the number of its place

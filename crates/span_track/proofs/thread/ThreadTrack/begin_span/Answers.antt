@@ -4,8 +4,8 @@ use Rattle.span_track.specs.declared.thread.OpenSpan.{OpenSpan}
 use Rattle.span_track.specs.Nesting.{Begin}
 use Rattle.span_track.specs.Thread.{ThreadSpans, thread_spans, HasRoom, IsNext, goes_back}
 use Rattle.span_track.specs.Kept.{begin_of, IsSound}
-use Rattle.span_track.proofs.Sound.{IsSound-with_begin}
-use Rattle.span_track.proofs.ThreadSpans.{with_begin, thread_spans-began}
+use Rattle.span_track.proofs.Threads.Sound.{IsSound-with_begin}
+use Rattle.span_track.proofs.Threads.Spans.{with_begin, thread_spans-began}
 use Rattle.span_track.proofs.thread.ThreadTrack.begin_span.Goals as goal
 
 pub invariant_of-self-2 : goal.invariant_of-self-2

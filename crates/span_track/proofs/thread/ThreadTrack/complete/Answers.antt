@@ -3,8 +3,8 @@ use Rattle.std.proofs.lemmas.Int.{ints}
 use Rattle.span_time.specs.Spans.{Span}
 use Rattle.span_track.specs.Thread.{ThreadSpans, thread_spans, HasRoom, IsNext}
 use Rattle.span_track.specs.Kept.{begin_of}
-use Rattle.span_track.proofs.Sound.{IsSound-with_whole}
-use Rattle.span_track.proofs.ThreadSpans.{with_whole, thread_spans-completed}
+use Rattle.span_track.proofs.Threads.Sound.{IsSound-with_whole}
+use Rattle.span_track.proofs.Threads.Spans.{with_whole, thread_spans-completed}
 use Rattle.span_track.proofs.thread.ThreadTrack.complete.Goals as goal
 
 pub invariant_of-self-2 : goal.invariant_of-self-2

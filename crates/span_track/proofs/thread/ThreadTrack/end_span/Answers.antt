@@ -1,4 +1,4 @@
-use Rattle.std.proofs.Common.{rules, ◌≡◌, ℕ, ◌-◌, ◌==◌, false, ℤ, List, [], ◌∷◌, ◌++◌, length, take, suc, Err, Option, Some, None, map, slice_get, refl, sym, ap, ◌∙◌, subst, w64, to_z, of_z, to_z-of_z, arith, ne_eqb}
+use Rattle.std.proofs.Common.{rules, ◌≡◌, ℕ, ◌-◌, ◌==◌, false, ℤ, List, [], ◌∷◌, ◌++◌, length, take, Err, Option, Some, None, map, slice_get, refl, sym, ap, ◌∙◌, subst, w64, to_z, of_z, to_z-of_z, arith, ne_eqb}
 use Rattle.std.proofs.lemmas.Int.{ints}
 use Rattle.std.proofs.lemmas.List.{map_push, length_push}
 use Rattle.span_read.specs.Args.{merged}
@@ -9,9 +9,10 @@ use Rattle.span_track.specs.Nesting.{Begin, ThreadEvent, opener, open_spans}
 use Rattle.span_track.specs.Thread.{ThreadSpans, goes_back, end_refusal}
 use Rattle.span_track.specs.Kept.{begin_of, IsSound}
 use Rattle.span_time.specs.Closed.{span_of}
-use Rattle.span_track.proofs.OpenSpans.{opener-open_spans, last_of, last_of-append}
-use Rattle.span_track.proofs.Sound.{IsSound-with_end, MayClose-sound}
-use Rattle.span_track.proofs.ThreadSpans.{thread_spans-closing}
+use Rattle.span_track.proofs.Lists.Last.{last_of, last_of-append, take-last}
+use Rattle.span_track.proofs.Matching.Open.{opener-open_of}
+use Rattle.span_track.proofs.Threads.Sound.{IsSound-with_end, MayClose-sound}
+use Rattle.span_track.proofs.Threads.Spans.{thread_spans-closing}
 use Rattle.span_track.proofs.thread.ThreadTrack.end_span.Goals as goal
 
 -- the track, of which the last open span is taken
@@ -20,26 +21,13 @@ sound_with_last opened rest o closed last taken sound =
     let split : map begin_of opened ≡ map begin_of rest ++ begin_of o ∷ [] = ap (map begin_of) taken ∙ map_push begin_of rest o in
     subst (λ (l : List (Begin ℕ)). IsSound (record { opened = l; closed = closed; last = last })) split sound
 
-slice_get-append : {A : Type 0} (xs : List A) (y : A) → slice_get (xs ++ y ∷ []) (length xs) ≡ Some y
-slice_get-append [] y = refl
-slice_get-append (x ∷ xs) y = slice_get-append xs y
-
--- the last of the elements is the one that `last` reads
-take-last : {A : Type 0} (xs : List A) (x : A) → Some x ≡ slice_get xs (length xs - 1) → xs ≡ take (length xs - 1) xs ++ x ∷ []
-take-last [] x read = absurd cc
-take-last (y ∷ []) x read = let same : x ≡ y = cc in ap (λ z. z ∷ []) (sym same)
-take-last (y ∷ z ∷ ys) x read =
-    let fewer : length (y ∷ z ∷ ys) - 1 ≡ suc (length (z ∷ ys) - 1) = omega arith in
-    let rest : Some x ≡ slice_get (z ∷ ys) (length (z ∷ ys) - 1) = subst (λ n. Some x ≡ slice_get (y ∷ z ∷ ys) n) fewer read in
-    rw fewer (ap (λ l. y ∷ l) (take-last (z ∷ ys) x rest))
-
 end_refusal_of_open : (t : ThreadSpans ℕ) (opened : List (Begin ℕ)) (b : Begin ℕ) (ts : ℤ) → t.opened ≡ opened ++ b ∷ [] → goes_back ts t.last ≡ false → end_refusal t ts ≡ None
 end_refusal_of_open t opened b ts is_open later =
     let some : (length t.opened == 0) ≡ false = ne_eqb _ _ (λ none. omega (arith, ap length is_open, length_push opened b)) in
     rw (some, later)
 
 opener_of_last : (es : List (ThreadEvent ℕ)) (opened : List (Begin ℕ)) (b : Begin ℕ) → open_spans es ≡ opened ++ b ∷ [] → opener es ≡ Some b
-opener_of_last es opened b is_open = opener-open_spans es ∙ ap last_of is_open ∙ last_of-append opened b
+opener_of_last es opened b is_open = opener-open_of es ∙ ap last_of is_open ∙ last_of-append opened b
 
 pub add-requires-clause-forward : goal.add-requires-clause-forward
 add-requires-clause-forward c =

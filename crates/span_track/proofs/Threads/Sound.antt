@@ -6,7 +6,7 @@ use Rattle.span_time.specs.Spans.{Span}
 use Rattle.span_track.specs.Nesting.{Begin}
 use Rattle.span_track.specs.Thread.{ThreadSpans, HasRoom, IsNext, goes_back}
 use Rattle.span_track.specs.Kept.{IsSound, IsUpTo, AreRising}
-use Rattle.span_track.proofs.ThreadSpans.{with_begin, with_whole}
+use Rattle.span_track.proofs.Threads.Spans.{with_begin, with_whole}
 
 AreRising-append : (bs : List (Begin ℕ)) (b : Begin ℕ) → AreRising bs → All (λ c. c.at < b.at) bs → AreRising (bs ++ b ∷ [])
 AreRising-append [] b rising below = (All-nil _, tt)

@@ -1,37 +1,29 @@
 -- Where the events of a thread stand, what its track keeps stands too, and there are no more spans than events.
 use Rattle.std.proofs.Common.{◌≡◌, ℕ, ◌+◌, ◌<◌, ◌≤◌, ◌-◌, ◌^◌, ℤ, List, [], ◌∷◌, ◌++◌, length, Option, Some, None, refl, sym, subst, arith, All, append_assoc, append-nil, length-append}
-use Rattle.std.specs.Option.{option_or}
-use Rattle.std.proofs.lemmas.List.Elements.{All-nil, All-cons, All-head, All-tail, All-push, All-append, All-take}
+use Rattle.std.proofs.lemmas.List.Elements.{All-nil, All-cons, All-push, All-append, All-take}
 use Rattle.span_time.specs.Spans.{Span, Arguments}
-use Rattle.span_track.specs.Nesting.{Begin, ThreadEvent, began, ended, completed, matched_span}
+use Rattle.span_track.specs.Matching.{opens, closes, other}
+use Rattle.span_track.specs.Nesting.{Begin, ThreadEvent, Ending, matched_span}
 use Rattle.span_track.specs.Thread.{ThreadSpans, thread_spans, HasRoom, IsNext, IsBefore, AreBefore}
-use Rattle.span_track.proofs.OpenSpans.{last_of, without_last, take-without_last, option_or-some}
-use Rattle.span_track.proofs.ThreadSpans.{with_end, thread_spans-began, thread_spans-ended, thread_spans-completed}
-
-All-last_of : {A : Type 0} (P : A → Type 0) (xs : List A) → All P xs → (x : A) → last_of xs ≡ Some x → P x
-All-last_of {A = A} P [] all x found = absurd (cc)
-All-last_of {A = A} P (y ∷ ys) all x found = by_rest (last_of ys) (λ z. All-last_of P ys (All-tail P y ys all) z) found
-  where
-    by_rest : (o : Option A) → ((z : A) → o ≡ Some z → P z) → option_or o (Some y) ≡ Some x → P x
-    by_rest None rest found = let same : y ≡ x = cc in subst P same (All-head P y ys all)
-    by_rest (Some z) rest found = rest x found
+use Rattle.span_track.proofs.Lists.Last.{last_of, without_last, take-without_last, option_or-some, All-last_of}
+use Rattle.span_track.proofs.Threads.Spans.{with_end, thread_spans-began, thread_spans-ended, thread_spans-completed}
 
 module _ {N : Type 0} where
-  All-matched_span : (at : ℕ) (ts : ℤ) (args : Arguments) (o : Option (Begin N)) → ((b : Begin N) → o ≡ Some b → b.at < at) → All (λ s. s.at < at) (matched_span o ts args)
-  All-matched_span at ts args None before = All-nil (λ s. s.at < at)
-  All-matched_span at ts args (Some b) before = All-cons (λ s. s.at < at) _ [] (before b refl) (All-nil (λ s. s.at < at))
+  All-matched_span : (at : ℕ) (e : Ending) (o : Option (Begin N)) → ((b : Begin N) → o ≡ Some b → b.at < at) → All (λ s. s.at < at) (matched_span o e)
+  All-matched_span at e None before = All-nil (λ s. s.at < at)
+  All-matched_span at e (Some b) before = All-cons (λ s. s.at < at) _ [] (before b refl) (All-nil (λ s. s.at < at))
 
   IsNext-with_end : (at : ℕ) (t : ThreadSpans N) (ts : ℤ) (args : Arguments) → IsNext at t → IsNext at (with_end t ts args)
   IsNext-with_end at t ts args next = (
     subst (All (λ (b : Begin N). b.at < at)) (take-without_last t.opened) (All-take (λ (b : Begin N). b.at < at) (length t.opened - 1) t.opened next.0),
-    All-append (λ (s : Span N). s.at < at) t.closed (matched_span (last_of t.opened) ts args) next.1 (All-matched_span at ts args (last_of t.opened) (All-last_of (λ (b : Begin N). b.at < at) t.opened next.0)),
+    All-append (λ (s : Span N). s.at < at) t.closed (matched_span (last_of t.opened) (record { ts = ts; args = args })) next.1 (All-matched_span at (record { ts = ts; args = args }) (last_of t.opened) (All-last_of (λ (b : Begin N). b.at < at) t.opened next.0)),
   )
 
-  length-closing : (opened : List (Begin N)) (ts : ℤ) (args : Arguments) → length (without_last opened) + length (matched_span (last_of opened) ts args) ≡ length opened
-  length-closing [] ts args = refl
-  length-closing (b ∷ []) ts args = refl
-  length-closing (b ∷ c ∷ opened) ts args =
-      rw (option_or-some (last_of opened) c (Some b)) (omega (arith, length-closing (c ∷ opened) ts args))
+  length-closing : (opened : List (Begin N)) (e : Ending) → length (without_last opened) + length (matched_span (last_of opened) e) ≡ length opened
+  length-closing [] e = refl
+  length-closing (b ∷ []) e = refl
+  length-closing (b ∷ c ∷ opened) e =
+      rw (option_or-some (last_of opened) c (Some b)) (omega (arith, length-closing (c ∷ opened) e))
 
   -- as many spans as events, at most
   abbrev spans_in : ThreadSpans N → ℕ
@@ -42,14 +34,14 @@ module _ {N : Type 0} where
   Grows at old new = IsNext at new × (spans_in new ≤ spans_in old + 1)
 
   step : (at : ℕ) (es : List (ThreadEvent N)) (e : ThreadEvent N) → IsNext at (thread_spans es) → IsBefore at e → Grows at (thread_spans es) (thread_spans (es ++ e ∷ []))
-  step at es (began b) next before =
+  step at es (opens b) next before =
       subst (Grows at (thread_spans es)) (sym (thread_spans-began es b)) ((All-push (λ (c : Begin N). c.at < at) (thread_spans es).opened b next.0 before, next.1), omega (arith, length-append (thread_spans es).opened (b ∷ [])))
-  step at es (ended ts args) next before =
-      subst (Grows at (thread_spans es)) (sym (thread_spans-ended es ts args)) (
-        IsNext-with_end at (thread_spans es) ts args next,
-        omega (arith, length-append (thread_spans es).closed (matched_span (last_of (thread_spans es).opened) ts args), length-closing (thread_spans es).opened ts args),
+  step at es (closes e) next before =
+      subst (Grows at (thread_spans es)) (sym (thread_spans-ended es e.ts e.args)) (
+        IsNext-with_end at (thread_spans es) e.ts e.args next,
+        omega (arith, length-append (thread_spans es).closed (matched_span (last_of (thread_spans es).opened) e), length-closing (thread_spans es).opened e),
       )
-  step at es (completed s) next before =
+  step at es (other s) next before =
       subst (Grows at (thread_spans es)) (sym (thread_spans-completed es s)) ((next.0, All-push (λ (x : Span N). x.at < at) (thread_spans es).closed s next.1 before), omega (arith, length-append (thread_spans es).closed (s ∷ [])))
 
   from_there : (at : ℕ) (es later : List (ThreadEvent N)) → IsNext at (thread_spans es) → AreBefore at later → IsNext at (thread_spans (es ++ later)) × (spans_in (thread_spans (es ++ later)) ≤ spans_in (thread_spans es) + length later)
