@@ -3,6 +3,7 @@
 
 mod entry;
 mod kind;
+pub mod laws;
 mod ledger;
 mod listed;
 mod refusal;
