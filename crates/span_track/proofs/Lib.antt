@@ -1,4 +1,10 @@
+pub mod Async
+pub mod AsyncRoom
+pub mod Keyed
 pub mod Lists
+pub mod Maps
 pub mod Matching
 pub mod Numbers
+pub mod Orders
+pub mod Results
 pub mod Threads

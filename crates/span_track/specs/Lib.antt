@@ -1,5 +1,10 @@
+pub mod Async
+pub mod AsyncKept
 pub mod Fault
 pub mod Kept
+pub mod Keyed
+pub mod Last
+pub mod Maps
 pub mod Matching
 pub mod Nesting
 pub mod Numbering

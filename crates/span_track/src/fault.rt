@@ -12,3 +12,9 @@ pub(crate) const NO_OPEN_SPAN: u16 = 21;
 
 /// 22: a time below that of the thread's last begin or end.
 pub(crate) const TIME_GOES_BACK: u16 = 22;
+
+/// 23: an asynchronous end, of which no begin of its key is left.
+pub(crate) const NO_ASYNC_BEGIN: u16 = 23;
+
+/// 24: an asynchronous end before the begin that it matches.
+pub(crate) const ENDS_BEFORE_BEGIN: u16 = 24;

@@ -2,21 +2,7 @@
 use Rattle.std.proofs.Common.{◌≡◌, true, suc, ◌-◌, List, [], ◌∷◌, ◌++◌, length, take, slice_get, map, Option, Some, None, is_some, refl, sym, ap, subst, ◌∙◌, arith, All}
 use Rattle.std.specs.Option.{option_or, option_map}
 use Rattle.std.proofs.lemmas.List.Elements.{All-head, All-tail}
-
--- the last element, if there is one
-abbrev pub last_of : {A : Type 0} → List A → Option A
-last_of [] = None
-last_of (x ∷ xs) = option_or (last_of xs) (Some x)
-
--- x before all but the last of xs; nothing, where xs is empty
-abbrev pub keep_before : {A : Type 0} → A → List A → List A → List A
-keep_before x [] rest = []
-keep_before x (y ∷ ys) rest = x ∷ rest
-
--- all but the last element
-abbrev pub without_last : {A : Type 0} → List A → List A
-without_last [] = []
-without_last (x ∷ xs) = keep_before x xs (without_last xs)
+use Rattle.span_track.specs.Last.{last_of, without_last}
 
 -- the element that was added is the last
 pub last_of-append : {A : Type 0} (xs : List A) (x : A) → last_of (xs ++ x ∷ []) ≡ Some x

@@ -1,8 +1,10 @@
 -- What the steps close, from one step to the next.
-use Rattle.std.proofs.Common.{◌≡◌, Bool, true, false, ◌&&◌, cond, List, [], ◌∷◌, ◌++◌, Option, Some, None, refl, sym, subst, ◌∙◌, append_assoc, append-nil}
+use Rattle.std.proofs.Common.{◌≡◌, ◌+◌, length, arith, Bool, true, false, ◌&&◌, cond, List, [], ◌∷◌, ◌++◌, Option, Some, None, refl, sym, subst, ◌∙◌, append_assoc, append-nil}
 use Rattle.std.specs.Option.{option_or}
 use Rattle.std.specs.List.{list_all}
 use Rattle.std.proofs.lemmas.List.Folds.{list_all-append}
+use Rattle.span_track.specs.Last.{last_of, without_last}
+use Rattle.span_track.proofs.Lists.Last.{option_or-some}
 use Rattle.span_track.specs.Matching.{Step, opens, closes, other, is_balanced, opener, closed_with, closed_by, closed_after, closed_of}
 
 pub both_true : (a b : Bool) → (a && b) ≡ true → (a ≡ true) × (b ≡ true)
@@ -22,6 +24,14 @@ module _ {B E O S : Type 0} (close : B → E → List S) (whole : O → List S) 
   -- one more step closes what it closes
   pub closed_of-append : (steps : List (Step B E O)) (step : Step B E O) → closed_of close whole (steps ++ step ∷ []) ≡ closed_of close whole steps ++ closed_by close whole steps step
   closed_of-append steps step = closed_after-append [] steps step
+
+-- where an end closes one thing with its begin, it takes a begin for each thing that it closes
+pub length-closed_with : {B E O S : Type 0} (close : B → E → List S) (whole : O → List S) (e : E) → ((b : B) → length (close b e) ≡ 1) → (opened : List B) →
+    length (without_last opened) + length (closed_with close whole (last_of opened) e) ≡ length opened
+length-closed_with close whole e one [] = refl
+length-closed_with close whole e one (b ∷ []) = omega (arith, one b)
+length-closed_with close whole e one (b ∷ c ∷ opened) =
+    rw (option_or-some (last_of opened) c (Some b)) (omega (arith, length-closed_with close whole e one (c ∷ opened)))
 
 -- a test of what a step carries; an end passes every test
 abbrev pub step_passes : {B E O : Type 0} → (B → Bool) → (O → Bool) → Step B E O → Bool

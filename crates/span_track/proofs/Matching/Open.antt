@@ -3,7 +3,8 @@ use Rattle.std.proofs.Common.{◌≡◌, ℕ, zero, suc, pred, ◌+◌, ◌==◌
 use Rattle.std.specs.Option.{option_or}
 use Rattle.std.proofs.lemmas.Bool.{and_left}
 use Rattle.span_track.specs.Matching.{Step, opens, closes, other, begins, ends, opener, is_match, is_matched_after, open_of}
-use Rattle.span_track.proofs.Lists.Last.{last_of, without_last, option_or-some}
+use Rattle.span_track.specs.Last.{last_of, without_last}
+use Rattle.span_track.proofs.Lists.Last.{option_or-some}
 
 is_none-option_or : {A : Type 0} (o : Option A) (x : A) → is_none (option_or o (Some x)) ≡ false
 is_none-option_or None x = refl

@@ -3,9 +3,11 @@ use Rattle.std.proofs.Common.{◌≡◌, ℕ, ◌+◌, ◌<◌, ◌≤◌, ◌-�
 use Rattle.std.proofs.lemmas.List.Elements.{All-nil, All-cons, All-push, All-append, All-take}
 use Rattle.span_time.specs.Spans.{Span, Arguments}
 use Rattle.span_track.specs.Matching.{opens, closes, other}
-use Rattle.span_track.specs.Nesting.{Begin, ThreadEvent, Ending, matched_span}
+use Rattle.span_track.specs.Nesting.{Begin, ThreadEvent, Ending, matched_span, span_between, whole_span}
 use Rattle.span_track.specs.Thread.{ThreadSpans, thread_spans, HasRoom, IsNext, IsBefore, AreBefore}
-use Rattle.span_track.proofs.Lists.Last.{last_of, without_last, take-without_last, option_or-some, All-last_of}
+use Rattle.span_track.specs.Last.{last_of}
+use Rattle.span_track.proofs.Lists.Last.{take-without_last, All-last_of}
+use Rattle.span_track.proofs.Matching.Closed.{length-closed_with}
 use Rattle.span_track.proofs.Threads.Spans.{with_end, thread_spans-began, thread_spans-ended, thread_spans-completed}
 
 module _ {N : Type 0} where
@@ -18,12 +20,6 @@ module _ {N : Type 0} where
     subst (All (λ (b : Begin N). b.at < at)) (take-without_last t.opened) (All-take (λ (b : Begin N). b.at < at) (length t.opened - 1) t.opened next.0),
     All-append (λ (s : Span N). s.at < at) t.closed (matched_span (last_of t.opened) (record { ts = ts; args = args })) next.1 (All-matched_span at (record { ts = ts; args = args }) (last_of t.opened) (All-last_of (λ (b : Begin N). b.at < at) t.opened next.0)),
   )
-
-  length-closing : (opened : List (Begin N)) (e : Ending) → length (without_last opened) + length (matched_span (last_of opened) e) ≡ length opened
-  length-closing [] e = refl
-  length-closing (b ∷ []) e = refl
-  length-closing (b ∷ c ∷ opened) e =
-      rw (option_or-some (last_of opened) c (Some b)) (omega (arith, length-closing (c ∷ opened) e))
 
   -- as many spans as events, at most
   abbrev spans_in : ThreadSpans N → ℕ
@@ -39,7 +35,7 @@ module _ {N : Type 0} where
   step at es (closes e) next before =
       subst (Grows at (thread_spans es)) (sym (thread_spans-ended es e.ts e.args)) (
         IsNext-with_end at (thread_spans es) e.ts e.args next,
-        omega (arith, length-append (thread_spans es).closed (matched_span (last_of (thread_spans es).opened) e), length-closing (thread_spans es).opened e),
+        omega (arith, length-append (thread_spans es).closed (matched_span (last_of (thread_spans es).opened) e), length-closed_with span_between whole_span e (λ b. refl) (thread_spans es).opened),
       )
   step at es (other s) next before =
       subst (Grows at (thread_spans es)) (sym (thread_spans-completed es s)) ((next.0, All-push (λ (x : Span N). x.at < at) (thread_spans es).closed s next.1 before), omega (arith, length-append (thread_spans es).closed (s ∷ [])))

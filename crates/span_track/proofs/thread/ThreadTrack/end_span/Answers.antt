@@ -9,7 +9,8 @@ use Rattle.span_track.specs.Nesting.{Begin, ThreadEvent, opener, open_spans}
 use Rattle.span_track.specs.Thread.{ThreadSpans, goes_back, end_refusal}
 use Rattle.span_track.specs.Kept.{begin_of, IsSound}
 use Rattle.span_time.specs.Closed.{span_of}
-use Rattle.span_track.proofs.Lists.Last.{last_of, last_of-append, take-last}
+use Rattle.span_track.specs.Last.{last_of}
+use Rattle.span_track.proofs.Lists.Last.{last_of-append, take-last}
 use Rattle.span_track.proofs.Matching.Open.{opener-open_of}
 use Rattle.span_track.proofs.Threads.Sound.{IsSound-with_end, MayClose-sound}
 use Rattle.span_track.proofs.Threads.Spans.{thread_spans-closing}

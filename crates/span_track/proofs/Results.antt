@@ -1,0 +1,18 @@
+-- What is said of a result, when only what is said of its content changes.
+use Rattle.std.specs.Prelude.{Result, Ok, Err, IfOk, OnOk, OnErr}
+
+pub on_ok-map : {T E : Type 0} (r : Result T E) (P Q : Type 0) → (P → Q) → OnOk r P → OnOk r Q
+on_ok-map (Ok x) P Q f p = f p
+on_ok-map (Err e) P Q f p = tt
+
+pub on_err-map : {T E : Type 0} (r : Result T E) (P Q : Type 0) → (P → Q) → OnErr r P → OnErr r Q
+on_err-map (Ok x) P Q f p = tt
+on_err-map (Err e) P Q f p = f p
+
+pub if_ok-map : {T E : Type 0} (r : Result T E) (P Q : T → Type 0) → ((x : T) → P x → Q x) → IfOk r P → IfOk r Q
+if_ok-map (Ok x) P Q f p = f x p
+if_ok-map (Err e) P Q f p = tt
+
+pub on_ok-if_ok : {T E : Type 0} (r : Result T E) (P : T → Type 0) (Q : Type 0) → ((x : T) → P x → Q) → IfOk r P → OnOk r Q
+on_ok-if_ok (Ok x) P Q f p = f x p
+on_ok-if_ok (Err e) P Q f p = tt

@@ -1,0 +1,36 @@
+-- Steps of many keys: those of one key, and what is kept for each key that has one.
+use Rattle.std.specs.Prelude.{List, [], map, filter, fold, unwrap_or}
+use Rattle.std.specs.declared.cmp.Ordering.{Ordering}
+use Rattle.std.specs.Ordering.{is_eq}
+use Rattle.std.specs.Map.{lookup}
+use Rattle.std.specs.BTreeMap.{is_at}
+use Rattle.std.specs.BTreeSet.{insert_key}
+
+-- a step of a key
+pub record Keyed (K A : Type 0) : Type 0 where
+  pub key : K
+  pub step : A
+
+-- the distinct keys, in ascending order
+abbrev pub ascending : {K : Type 0} → (K → K → Ordering) → List K → List K
+ascending cmp keys = fold (insert_key cmp) [] keys
+
+module _ {K A : Type 0} (cmp : K → K → Ordering) where
+  -- the steps of one key, in order
+  abbrev pub steps_at : K → List (Keyed K A) → List A
+  steps_at key es = map (λ e. e.step) (filter (λ e. is_eq (cmp e.key key)) es)
+
+  -- the keys that have a step
+  abbrev pub keys_in : List (Keyed K A) → List K
+  keys_in es = ascending cmp (map (λ e. e.key) es)
+
+abbrev pub entry_of : {K X : Type 0} → (K → X) → K → K × X
+entry_of f key = (key, f key)
+
+-- each key that has a step, with what its steps give
+abbrev pub entries_in : {K A X : Type 0} → (K → K → Ordering) → (List A → X) → List (Keyed K A) → List (K × X)
+entries_in cmp give es = map (entry_of (λ key. give (steps_at cmp key es))) (keys_in cmp es)
+
+-- what is kept at a key; `none` where nothing is
+abbrev pub kept_at : {K X : Type 0} → (K → K → Ordering) → X → List (K × X) → K → X
+kept_at cmp none kept key = unwrap_or (lookup (is_at (cmp key)) kept) none

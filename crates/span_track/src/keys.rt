@@ -1,0 +1,52 @@
+//! The keys of asynchronous spans and of flow chains.
+ghost use Rattle.std.specs.Prelude.{◌≡◌, IfOk};
+
+use span_read::{IdKey, Text};
+use std::alloc::{AllocError, Global};
+
+/// What asynchronous events that belong together share. Ordered by its fields in their order.
+#[derive(Debug, Drop, PartialEq, Eq, PartialOrd, Ord, Hash)]
+pub struct AsyncKey {
+    pub cat: Text,
+    pub scope: Text,
+    pub id: IdKey,
+    pub name: Text,
+}
+
+impl AsyncKey {
+    /// A copy of the key.
+    pub fn try_clone(&self, alloc: Global) -> Result<AsyncKey, AllocError>
+        ensures { IfOk result (λ key. key ≡ self.now) }
+    {
+        let cat = self.cat.try_clone(alloc)?;
+        let scope = self.scope.try_clone(alloc)?;
+        let id = self.id.try_clone(alloc)?;
+        let name = self.name.try_clone(alloc)?;
+        Ok(AsyncKey {
+            cat,
+            scope,
+            id,
+            name,
+        })
+    }
+}
+
+/// What the points of a flow chain share. Ordered by category, name and id.
+#[derive(Debug, Drop, PartialEq, Eq, PartialOrd, Ord, Hash)]
+pub struct FlowKey {
+    pub cat: Text,
+    pub name: Text,
+    pub id: IdKey,
+}
+
+impl FlowKey {
+    /// A copy of the key.
+    pub fn try_clone(&self, alloc: Global) -> Result<FlowKey, AllocError>
+        ensures { IfOk result (λ key. key ≡ self.now) }
+    {
+        let cat = self.cat.try_clone(alloc)?;
+        let name = self.name.try_clone(alloc)?;
+        let id = self.id.try_clone(alloc)?;
+        Ok(FlowKey { cat, name, id })
+    }
+}
