@@ -1,5 +1,6 @@
 pub mod Answers
 pub mod Journal
+pub mod Keys
 pub mod Kind
 pub mod Legal
 pub mod Numbered

@@ -1,7 +1,9 @@
 //! The journal of a collection, and the sequential ledger that answers each operation from the entries before it.
 #![tactic(auto)]
 
+mod async_events;
 mod entry;
+mod event_key;
 mod kind;
 pub mod laws;
 mod ledger;
@@ -21,6 +23,7 @@ pub use rows::{CountRow, ProcessRow, SpanRow, ThreadRow};
 pub use span_read::{
     ArgValue, Args, Event, Field, IdKey, Item, ItemFault, Items, Phase, Reach, Text,
 };
+pub use span_track::{AsyncKey, AsyncRow, AsyncTotals};
 
 #[cfg(test)]
 mod tests;

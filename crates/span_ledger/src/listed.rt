@@ -40,6 +40,17 @@ impl Listed {
         self.threads.reserve(1)
     }
 
+    // Lists a process.
+    pub(crate) fn add_process(&mut self, pid: i64)
+        requires { 0 < spare self.old.processes }
+        ensures processes { ascending int_cmp self.new.processes.keys ≡ insert_key int_cmp (ascending int_cmp self.old.processes.keys) pid }
+        ensures threads { self.new.threads ≡ self.old.threads }
+    {
+        if self.processes.insert(pid).is_err() {
+            unreachable!();
+        }
+    }
+
     // Lists a thread and its process.
     pub(crate) fn add(&mut self, thread: Thread)
         requires process_room { 0 < spare self.old.processes }
@@ -47,7 +58,8 @@ impl Listed {
         ensures processes { ascending int_cmp self.new.processes.keys ≡ insert_key int_cmp (ascending int_cmp self.old.processes.keys) thread.pid }
         ensures threads { ascending thread_cmp self.new.threads.keys ≡ insert_key thread_cmp (ascending thread_cmp self.old.threads.keys) thread }
     {
-        if self.processes.insert(thread.pid).is_err() || self.threads.insert(thread).is_err() {
+        self.add_process(thread.pid);
+        if self.threads.insert(thread).is_err() {
             unreachable!();
         }
     }

@@ -251,3 +251,56 @@ fn a_refused_growth_changes_nothing(rt: HostRuntime) -> Result<(), Fail> {
     );
     Ok(())
 }
+
+// What the ledger answers to these events, its processes, and the rows of its asynchronous keys.
+fn asynchronous(alloc: Global, text: &str) -> Result<String, Fail> {
+    let mut ledger = Ledger::new(alloc, 100);
+    let mut lines = answers(alloc, &mut ledger, text)?;
+    for row in &ledger.processes(alloc)? {
+        writeln!(lines, "process {}", row.pid)?;
+    }
+    for row in &ledger.async_rows(alloc)? {
+        writeln!(lines, "{:?}", row.key)?;
+        writeln!(lines, "{:?}", row.totals)?;
+    }
+    Ok(lines)
+}
+
+#[test]
+fn asynchronous_spans_match_by_scope(rt: HostRuntime) -> Result<(), Fail> {
+    let told = asynchronous(
+        rt.alloc(),
+        "[{\"ph\":\"b\",\"cat\":\"net\",\"scope\":\"A\",\"id\":5,\"ts\":10},{\"ph\":\"e\",\"cat\":\"net\",\"scope\":\"B\",\"id\":5,\"ts\":11},{\"ph\":\"e\",\"cat\":\"net\",\"scope\":\"A\",\"id\":\"5\",\"ts\":14}]",
+    )?;
+    assert_eq!(rt;
+        told.as_str(),
+        "AsyncOpened\nRefused(23)\nAsyncClosed { length: 4 }\nprocess 0\nAsyncKey { cat: Text { text: \"net\" }, scope: Text { text: \"A\" }, id: IdKey { home: None, id: Text { text: \"5\" } }, name: Text { text: \"\" } }\nAsyncTotals { closed: 1, total: 4, unclosed: 0, points: 0 }\n"
+    );
+    Ok(())
+}
+
+#[test]
+fn a_local_id_is_its_processs_own(rt: HostRuntime) -> Result<(), Fail> {
+    let told = asynchronous(
+        rt.alloc(),
+        "[{\"ph\":\"b\",\"id2\":{\"local\":\"1\"},\"pid\":1,\"ts\":1},{\"ph\":\"e\",\"id2\":{\"local\":\"1\"},\"pid\":2,\"ts\":2},{\"ph\":\"e\",\"id2\":{\"local\":\"1\"},\"pid\":1,\"ts\":0},{\"ph\":\"e\",\"id2\":{\"local\":\"1\"},\"pid\":1,\"ts\":3}]",
+    )?;
+    assert_eq!(rt;
+        told.as_str(),
+        "AsyncOpened\nRefused(23)\nRefused(24)\nAsyncClosed { length: 2 }\nprocess 1\nAsyncKey { cat: Text { text: \"\" }, scope: Text { text: \"\" }, id: IdKey { home: Some(1), id: Text { text: \"1\" } }, name: Text { text: \"\" } }\nAsyncTotals { closed: 1, total: 2, unclosed: 0, points: 0 }\n"
+    );
+    Ok(())
+}
+
+#[test]
+fn an_entry_has_its_callers_number(rt: HostRuntime) -> Result<(), Fail> {
+    let alloc = rt.alloc();
+    let mut ledger = Ledger::new(alloc, 100);
+    for caller in [7, 65_535] {
+        let told = ledger.apply(caller, Op::One(Item::Other));
+        assert!(rt; told.is_ok());
+    }
+    assert_eq!(rt; ledger.entry(0).ok_or("no entry")?.caller, 7);
+    assert_eq!(rt; ledger.entry(1).ok_or("no entry")?.caller, 65_535);
+    Ok(())
+}
