@@ -1,5 +1,7 @@
 pub mod Async
 pub mod AsyncRoom
+pub mod Flow
+pub mod FlowRoom
 pub mod Keyed
 pub mod Lists
 pub mod Maps

@@ -8,7 +8,9 @@ use Rattle.std.proofs.lemmas.Cmp.{then_total, on_total, nat_list_cmp_total}
 use Rattle.span_read.specs.Orders.{id_cmp}
 use Rattle.span_read.proofs.Orders.{id_cmp-total, id_cmp-same}
 use Rattle.span_track.specs.declared.keys.AsyncKey.{AsyncKey}
+use Rattle.span_track.specs.declared.keys.FlowKey.{FlowKey}
 use Rattle.span_track.specs.Async.{async_cmp}
+use Rattle.span_track.specs.Flow.{flow_cmp}
 
 both_equal : (r s : Ordering) → ordering_then r s ≡ Equal → (r ≡ Equal) × (s ≡ Equal)
 both_equal Less s e = cc
@@ -33,3 +35,15 @@ async_cmp-same a b e =
     let id = id_cmp-same a.id b.id third.0 in
     let name = text_same a.name b.name third.1 in
     λ i. record { cat = cat i; scope = scope i; id = id i; name = name i }
+
+pub flow_cmp-total : IsTotalOrder flow_cmp
+flow_cmp-total = then_total (on_total (λ k. k.cat) nat_list_cmp_total) (then_total (on_total (λ k. k.name) nat_list_cmp_total) (on_total (λ k. k.id) id_cmp-total))
+
+pub flow_cmp-same : (a b : FlowKey) → flow_cmp a b ≡ Equal → a ≡ b
+flow_cmp-same a b e =
+    let first = both_equal (slice_cmp nat_cmp a.cat b.cat) (ordering_then (slice_cmp nat_cmp a.name b.name) (id_cmp a.id b.id)) e in
+    let second = both_equal (slice_cmp nat_cmp a.name b.name) (id_cmp a.id b.id) first.1 in
+    let cat = text_same a.cat b.cat first.0 in
+    let name = text_same a.name b.name second.0 in
+    let id = id_cmp-same a.id b.id second.1 in
+    λ i. record { cat = cat i; name = name i; id = id i }

@@ -1,4 +1,4 @@
--- What is said of a result, when only what is said of its content changes.
+-- What is said of a result where it is Ok, or an Err, from what was said of it before.
 use Rattle.std.specs.Prelude.{Result, Ok, Err, IfOk, OnOk, OnErr}
 
 pub on_ok-map : {T E : Type 0} (r : Result T E) (P Q : Type 0) → (P → Q) → OnOk r P → OnOk r Q
@@ -16,3 +16,7 @@ if_ok-map (Err e) P Q f p = tt
 pub on_ok-if_ok : {T E : Type 0} (r : Result T E) (P : T → Type 0) (Q : Type 0) → ((x : T) → P x → Q) → IfOk r P → OnOk r Q
 on_ok-if_ok (Ok x) P Q f p = f x p
 on_ok-if_ok (Err e) P Q f p = tt
+
+pub on_ok-both : {T E : Type 0} (r : Result T E) (P : T → Type 0) (Q R : Type 0) → ((x : T) → P x → Q → R) → IfOk r P → OnOk r Q → OnOk r R
+on_ok-both (Ok x) P Q R f p q = f x p q
+on_ok-both (Err e) P Q R f p q = tt

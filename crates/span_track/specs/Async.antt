@@ -1,5 +1,5 @@
 -- Asynchronous spans: begins, ends and points of a key, which no thread holds together.
-use Rattle.std.specs.Prelude.{◌≡◌, ℕ, ◌+◌, ◌<◌, ◌^◌, ◌-◌, Bool, true, false, if◌then◌else◌, ℤ, int_lt, List, [], ◌∷◌, length, map, sum, count_by, Option, Some, None}
+use Rattle.std.specs.Prelude.{◌≡◌, ℕ, ◌+◌, ◌<◌, ◌^◌, ◌-◌, Bool, true, false, if◌then◌else◌, ℤ, int_lt, List, [], ◌∷◌, ◌++◌, length, map, sum, count_by, Option, Some, None}
 use Rattle.std.specs.declared.cmp.Ordering.{Ordering}
 use Rattle.std.specs.Ordering.{nat_cmp, ordering_then}
 use Rattle.std.specs.Cmp.Lexicographic.{slice_cmp}
@@ -76,6 +76,10 @@ AsyncKept = List (AsyncKey × AsyncSpans)
 -- the track keeps what these events give
 abbrev pub AsyncStandsFor : AsyncKept → List AsyncEvent → Type 0
 AsyncStandsFor track es = track ≡ entries_in async_cmp async_spans es
+
+-- the track takes one more event
+abbrev pub TakesAsync : AsyncKept → AsyncKept → AsyncEvent → Type 0
+TakesAsync old new e = (es : List AsyncEvent) → AsyncStandsFor old es → AsyncStandsFor new (es ++ e ∷ [])
 
 -- what is kept for a key; of an unknown key what no steps give
 abbrev pub async_spans_at : AsyncKept → AsyncKey → AsyncSpans

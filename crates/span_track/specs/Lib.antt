@@ -1,6 +1,8 @@
 pub mod Async
 pub mod AsyncKept
 pub mod Fault
+pub mod Flow
+pub mod FlowKept
 pub mod Kept
 pub mod Keyed
 pub mod Last

@@ -1,16 +1,17 @@
 //! The track of asynchronous spans.
-ghost use Rattle.std.specs.Prelude.{◌≡◌, [], ◌∷◌, ◌++◌, List, map, None, IfOk, OnOk, OnErr};
+ghost use Rattle.std.specs.Prelude.{◌≡◌, [], ◌∷◌, List, map, None, IfOk, OnOk, OnErr};
 ghost use Rattle.std.specs.BTreeMap.{insert_entry};
 ghost use Rattle.span_read.specs.Event.{IsTime};
 ghost use Rattle.span_track.specs.Fault.{Answers};
 ghost use Rattle.span_track.specs.Matching.{opens, closes, other};
 ghost use Rattle.span_track.specs.Keyed.{steps_at};
-ghost use Rattle.span_track.specs.Async.{AsyncEvent, AsyncStandsFor, HasAsyncRoom, async_cmp, async_end_refusal, async_row, async_spans_at, async_totals, length_closed_by};
+ghost use Rattle.span_track.specs.Async.{AsyncEvent, AsyncStandsFor, HasAsyncRoom, TakesAsync, async_cmp, async_end_refusal, async_row, async_spans_at, async_totals, length_closed_by};
 
 mod key_spans;
 
-use crate::fault::{NO_ASYNC_BEGIN, TrackFault};
+use crate::fault::TrackFault;
 use crate::keys::AsyncKey;
+use crate::refusal::NO_ASYNC_BEGIN;
 use key_spans::KeySpans;
 use std::alloc::{AllocError, Global};
 use std::collections::BTreeMap;
@@ -67,8 +68,7 @@ impl AsyncTrack {
         requires room { HasAsyncRoom self.old key.now }
         requires in_time { IsTime ts }
         ensures refusal { Answers result None }
-        ensures stands { OnOk result ((es : List AsyncEvent) → AsyncStandsFor self.old es
-            → AsyncStandsFor self.new (es ++ record { key = key.now; step = opens ts } ∷ [])) }
+        ensures stands { OnOk result (TakesAsync self.old self.new (record { key = key.now; step = opens ts })) }
         ensures err { OnErr result (self.new ≡ self.old) }
     {
         if let Some(spans) = self.keys.get_mut(key) {
@@ -86,8 +86,7 @@ impl AsyncTrack {
         ensures refusal { (es : List AsyncEvent) → AsyncStandsFor self.old es → Answers result (async_end_refusal (steps_at async_cmp key.now es) ts) }
         ensures length { IfOk result (λ length. (es : List AsyncEvent) → AsyncStandsFor self.old es
             → length_closed_by (steps_at async_cmp key.now es) (closes ts) ≡ length ∷ []) }
-        ensures stands { OnOk result ((es : List AsyncEvent) → AsyncStandsFor self.old es
-            → AsyncStandsFor self.new (es ++ record { key = key.now; step = closes ts } ∷ [])) }
+        ensures stands { OnOk result (TakesAsync self.old self.new (record { key = key.now; step = closes ts })) }
         ensures err { OnErr result (self.new ≡ self.old) }
     {
         let Some(spans) = self.keys.get_mut(key) else {
@@ -100,8 +99,7 @@ impl AsyncTrack {
     pub fn point(&mut self, key: &AsyncKey) -> Result<(), TrackFault>
         requires room { HasAsyncRoom self.old key.now }
         ensures refusal { Answers result None }
-        ensures stands { OnOk result ((es : List AsyncEvent) → AsyncStandsFor self.old es
-            → AsyncStandsFor self.new (es ++ record { key = key.now; step = other tt } ∷ [])) }
+        ensures stands { OnOk result (TakesAsync self.old self.new (record { key = key.now; step = other tt })) }
         ensures err { OnErr result (self.new ≡ self.old) }
     {
         if let Some(spans) = self.keys.get_mut(key) {

@@ -11,7 +11,8 @@ ghost use Rattle.span_time.specs.Spans.{self_of, busy_time};
 ghost use Rattle.span_track.specs.Thread.{StandsFor, HasRoom, IsNext, goes_back, begin_refusal, end_refusal};
 ghost use Rattle.span_time.specs.Closed.{span_of, total_for, AreClosed};
 
-use crate::fault::{NO_OPEN_SPAN, TIME_GOES_BACK, TrackFault};
+use crate::fault::TrackFault;
+use crate::refusal::{NO_OPEN_SPAN, TIME_GOES_BACK};
 use span_read::{Args, merge_args};
 use span_time::{ClosedSpan, ClosedSpans, NameTotal, Segment};
 use std::alloc::Global;

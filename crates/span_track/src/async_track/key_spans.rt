@@ -7,7 +7,8 @@ ghost use Rattle.span_track.specs.Async.{async_spans, async_totals, refusal_afte
 ghost use Rattle.span_track.specs.AsyncKept.{EndsLast, with_begin, with_point};
 
 use super::AsyncTotals;
-use crate::fault::{ENDS_BEFORE_BEGIN, NO_ASYNC_BEGIN, TrackFault};
+use crate::fault::TrackFault;
+use crate::refusal::{ENDS_BEFORE_BEGIN, NO_ASYNC_BEGIN};
 use std::alloc::Global;
 use std::marker::Model;
 

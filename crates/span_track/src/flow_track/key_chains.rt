@@ -1,0 +1,132 @@
+//! The flow chains of one key.
+ghost use Rattle.std.specs.Prelude.{◌≡◌, ◌+◌, ◌<◌, ◌^◌, ◌-◌, [], Some, IfOk, OnOk, OnErr};
+ghost use Rattle.span_read.specs.Event.{IsTime};
+ghost use Rattle.span_track.specs.Fault.{Answers};
+ghost use Rattle.span_track.specs.Flow.{flow_chains, flow_closed, flow_point_refusal, flow_start_refusal, flow_totals, points_of};
+ghost use Rattle.span_track.specs.FlowKept.{with_finish, with_start, with_step};
+
+use super::{FlowClosed, FlowTotals};
+use crate::fault::TrackFault;
+use crate::refusal::{NO_CHAIN, TIME_GOES_BACK, UNCLOSED_CHAIN};
+use std::marker::Model;
+
+// A chain that no finish has ended: the times of its first and last point, and how many points it has.
+#[derive(Clone, Copy)]
+struct OpenChain {
+    start: i64,
+    last: i64,
+    points: u32,
+}
+
+#[derive(Drop)]
+pub(crate) struct KeyChains {
+    ended: u32,
+    total: u128,
+    unclosed: Option<OpenChain>,
+}
+
+impl Model for KeyChains {
+    ghost use Rattle.span_track.specs.Flow.{FlowChains};
+    ghost use Rattle.span_track.specs.FlowKept.{AreBounded};
+
+    ghost Value = { FlowChains };
+
+    ghost view = { λ c. record { ended = c.ended; total = c.total; unclosed = c.unclosed } };
+
+    ghost invariant = { λ c. AreBounded (record { ended = c.ended; total = c.total; unclosed = c.unclosed }) };
+}
+
+impl KeyChains {
+    // The chains of a key whose first point is a start.
+    pub(crate) fn started(ts: i64) -> KeyChains
+        requires { IsTime ts }
+        ensures { result ≡ with_start (flow_chains []) ts }
+    {
+        KeyChains {
+            ended: 0,
+            total: 0,
+            unclosed: Some(OpenChain {
+                start: ts,
+                last: ts,
+                points: 1,
+            }),
+        }
+    }
+
+    pub(crate) fn start(&mut self, ts: i64) -> Result<(), TrackFault>
+        requires room { self.old.ended + points_of self.old.unclosed < 2 ^ 32 - 1 }
+        requires in_time { IsTime ts }
+        ensures refusal { Answers result (flow_start_refusal self.old) }
+        ensures ok { OnOk result (self.new ≡ with_start self.old ts) }
+        ensures err { OnErr result (self.new ≡ self.old) }
+    {
+        if self.unclosed.is_some() {
+            return Err(TrackFault::Refused(UNCLOSED_CHAIN));
+        }
+        self.unclosed = Some(OpenChain {
+            start: ts,
+            last: ts,
+            points: 1,
+        });
+        Ok(())
+    }
+
+    pub(crate) fn step(&mut self, ts: i64) -> Result<(), TrackFault>
+        requires room { self.old.ended + points_of self.old.unclosed < 2 ^ 32 - 1 }
+        requires in_time { IsTime ts }
+        ensures refusal { Answers result (flow_point_refusal self.old ts) }
+        ensures ok { OnOk result (self.new ≡ with_step self.old ts) }
+        ensures err { OnErr result (self.new ≡ self.old) }
+    {
+        let Some(chain) = self.unclosed else {
+            return Err(TrackFault::Refused(NO_CHAIN));
+        };
+        if ts < chain.last {
+            return Err(TrackFault::Refused(TIME_GOES_BACK));
+        }
+        self.unclosed = Some(OpenChain {
+            start: chain.start,
+            last: ts,
+            points: chain.points + 1,
+        });
+        Ok(())
+    }
+
+    pub(crate) fn end(&mut self, ts: i64) -> Result<FlowClosed, TrackFault>
+        requires room { self.old.ended + points_of self.old.unclosed < 2 ^ 32 - 1 }
+        requires in_time { IsTime ts }
+        ensures refusal { Answers result (flow_point_refusal self.old ts) }
+        ensures closed { IfOk result (λ closed. flow_closed self.old ts ≡ Some closed) }
+        ensures ok { OnOk result (self.new ≡ with_finish self.old ts) }
+        ensures err { OnErr result (self.new ≡ self.old) }
+    {
+        let Some(chain) = self.unclosed else {
+            return Err(TrackFault::Refused(NO_CHAIN));
+        };
+        if ts < chain.last {
+            return Err(TrackFault::Refused(TIME_GOES_BACK));
+        }
+        let length = ts.abs_diff(chain.start);
+        self.ended += 1;
+        self.total += u128::from(length);
+        self.unclosed = None;
+        Ok(FlowClosed {
+            points: chain.points + 1,
+            length,
+        })
+    }
+
+    pub(crate) fn totals(&self) -> FlowTotals
+        ensures { result ≡ flow_totals self.now }
+    {
+        let unclosed = match self.unclosed {
+            Some(chain) => chain.points,
+            None => 0,
+        };
+        FlowTotals {
+            ended: self.ended,
+            total: self.total,
+            unclosed,
+        }
+    }
+}

@@ -1,0 +1,169 @@
+ghost use Rattle.span_read.specs.Event.{IsTime};
+ghost use Rattle.span_track.specs.Flow.{HasFlowRoom};
+
+use super::{FlowClosed, FlowTotals, FlowTrack};
+use crate::fault::TrackFault;
+use crate::keys::FlowKey;
+use span_read::{IdKey, Text};
+use std::alloc::{AllocError, Global};
+use std::process::Abort;
+use std::test::Fail;
+
+fn key(
+    alloc: Global,
+    cat: &str,
+    name: &str,
+    home: Option<i64>,
+    id: &str,
+) -> Result<FlowKey, AllocError> {
+    let cat = Text::of(alloc, cat)?;
+    let name = Text::of(alloc, name)?;
+    let id = Text::of(alloc, id)?;
+    Ok(FlowKey {
+        cat,
+        name,
+        id: IdKey { home, id },
+    })
+}
+
+// What a call that adds a point of the key asks of the track.
+fn ready(rt: &impl Abort, track: &FlowTrack, key: &FlowKey)
+    ensures { HasFlowRoom track.now key.now }
+{
+    let totals = track.of(key);
+    assert!(rt; totals.ended < 1000);
+    assert!(rt; totals.unclosed < 1000);
+}
+
+fn start(rt: &impl Abort, track: &mut FlowTrack, key: &FlowKey, ts: i64) -> Result<(), TrackFault>
+    requires { IsTime ts }
+{
+    ready(rt, track, key);
+    track.start_flow(key, ts)
+}
+
+fn step(rt: &impl Abort, track: &mut FlowTrack, key: &FlowKey, ts: i64) -> Result<(), TrackFault>
+    requires { IsTime ts }
+{
+    ready(rt, track, key);
+    track.step_flow(key, ts)
+}
+
+fn end(
+    rt: &impl Abort,
+    track: &mut FlowTrack,
+    key: &FlowKey,
+    ts: i64,
+) -> Result<FlowClosed, TrackFault>
+    requires { IsTime ts }
+{
+    ready(rt, track, key);
+    track.end_flow(key, ts)
+}
+
+#[test]
+fn a_chain_and_the_start_of_another(rt: HostRuntime) -> Result<(), Fail> {
+    let mut track = FlowTrack::new(rt.alloc());
+    let key = key(rt.alloc(), "", "", None, "9")?;
+    start(&rt, &mut track, &key, 1)?;
+    assert_eq!(rt;
+        start(&rt, &mut track, &key, 2),
+        Err(TrackFault::Refused(25))
+    );
+    step(&rt, &mut track, &key, 3)?;
+    let closed = end(&rt, &mut track, &key, 5)?;
+    assert_eq!(rt;
+        closed,
+        FlowClosed {
+            points: 3,
+            length: 4
+        }
+    );
+    assert_eq!(rt; end(&rt, &mut track, &key, 6), Err(TrackFault::Refused(26)));
+    start(&rt, &mut track, &key, 7)?;
+    assert_eq!(rt;
+        step(&rt, &mut track, &key, 6),
+        Err(TrackFault::Refused(22))
+    );
+    let totals = FlowTotals {
+        ended: 1,
+        total: 4,
+        unclosed: 1,
+    };
+    assert_eq!(rt; track.of(&key), totals);
+    let rows = track.rows(rt.alloc())?;
+    assert_eq!(rt; rows.len(), 1);
+    let row = rows.first().ok_or("a row")?;
+    assert!(rt; row.key == key);
+    assert_eq!(rt; row.totals, totals);
+    Ok(())
+}
+
+#[test]
+fn points_of_two_keys(rt: HostRuntime) -> Result<(), Fail> {
+    let mut track = FlowTrack::new(rt.alloc());
+    let first = key(rt.alloc(), "c", "n", None, "x")?;
+    let second = key(rt.alloc(), "c", "n", Some(1), "x")?;
+    start(&rt, &mut track, &first, 0)?;
+    assert_eq!(rt;
+        step(&rt, &mut track, &second, 9),
+        Err(TrackFault::Refused(26))
+    );
+    assert_eq!(rt; track.rows(rt.alloc())?.len(), 1);
+    start(&rt, &mut track, &second, -4)?;
+    step(&rt, &mut track, &first, 0)?;
+    step(&rt, &mut track, &first, 2)?;
+    assert_eq!(rt;
+        end(&rt, &mut track, &first, 1),
+        Err(TrackFault::Refused(22))
+    );
+    let closed = end(&rt, &mut track, &first, 2)?;
+    assert_eq!(rt;
+        closed,
+        FlowClosed {
+            points: 4,
+            length: 2
+        }
+    );
+    assert_eq!(rt; track.of(&second).unclosed, 1);
+    assert_eq!(rt; track.of(&first).unclosed, 0);
+    Ok(())
+}
+
+// A point of the second key and then of the first: their rows come the other way round.
+fn expect_order(
+    rt: &impl Abort,
+    alloc: Global,
+    first: &FlowKey,
+    second: &FlowKey,
+) -> Result<(), Fail> {
+    let mut track = FlowTrack::new(alloc);
+    start(rt, &mut track, second, 0)?;
+    start(rt, &mut track, first, 0)?;
+    let rows = track.rows(alloc)?;
+    assert_eq!(rt; rows.len(), 2);
+    let row = rows.first().ok_or("a row")?;
+    assert!(rt; row.key == *first);
+    Ok(())
+}
+
+#[test]
+fn rows_are_ordered_by_category_before_name(rt: HostRuntime) -> Result<(), Fail> {
+    let first = key(rt.alloc(), "a", "b", Some(1), "b")?;
+    let second = key(rt.alloc(), "b", "a", None, "a")?;
+    expect_order(&rt, rt.alloc(), &first, &second)
+}
+
+#[test]
+fn rows_are_ordered_by_name_before_id(rt: HostRuntime) -> Result<(), Fail> {
+    let first = key(rt.alloc(), "a", "a", Some(1), "b")?;
+    let second = key(rt.alloc(), "a", "b", None, "a")?;
+    expect_order(&rt, rt.alloc(), &first, &second)
+}
+
+#[test]
+fn rows_are_ordered_by_id_last(rt: HostRuntime) -> Result<(), Fail> {
+    let first = key(rt.alloc(), "a", "a", None, "b")?;
+    let second = key(rt.alloc(), "a", "a", Some(0), "a")?;
+    expect_order(&rt, rt.alloc(), &first, &second)
+}
