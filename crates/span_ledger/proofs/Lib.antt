@@ -1,6 +1,7 @@
 pub mod Answering
 pub mod Ascending
 pub mod Counting
+pub mod FlowAnswers
 pub mod Following
 pub mod Later
 pub mod LegalJournals

@@ -1,10 +1,10 @@
 //! The key of an event, made of the event's own texts, so that none is copied.
 ghost use Rattle.std.specs.Prelude.{◌≡◌, [], None, Some, IsSome};
-ghost use Rattle.span_ledger.specs.Told.{async_key};
-ghost use Rattle.span_ledger.specs.Keys.{without_async_key, with_async_key};
+ghost use Rattle.span_ledger.specs.Told.{async_key, flow_key};
+ghost use Rattle.span_ledger.specs.Keys.{without_async_key, with_async_key, without_flow_key, with_flow_key};
 
 use span_read::{Event, Text};
-use span_track::AsyncKey;
+use span_track::{AsyncKey, FlowKey};
 use std::alloc::Global;
 use std::mem;
 
@@ -31,6 +31,31 @@ pub(crate) fn put_async_key(event: &mut Event, key: AsyncKey)
 {
     event.cat = key.cat;
     event.scope = key.scope;
+    event.key = Some(key.id);
+    event.name = key.name;
+}
+
+// Takes the texts of a flow event's key out of the event.
+pub(crate) fn take_flow_key(alloc: Global, event: &mut Event) -> FlowKey
+    requires { IsSome event.old.key }
+    ensures key { result ≡ flow_key event.old }
+    ensures rest { event.new ≡ without_flow_key event.old }
+{
+    let Some(id) = event.key.take() else {
+        unreachable!();
+    };
+    FlowKey {
+        cat: mem::replace(&mut event.cat, Text::empty(alloc)),
+        name: mem::replace(&mut event.name, Text::empty(alloc)),
+        id,
+    }
+}
+
+// Puts them back.
+pub(crate) fn put_flow_key(event: &mut Event, key: FlowKey)
+    ensures { event.new ≡ with_flow_key event.old key }
+{
+    event.cat = key.cat;
     event.key = Some(key.id);
     event.name = key.name;
 }

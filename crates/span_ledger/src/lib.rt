@@ -4,6 +4,7 @@
 mod async_events;
 mod entry;
 mod event_key;
+mod flow_events;
 mod kind;
 pub mod laws;
 mod ledger;
@@ -23,7 +24,7 @@ pub use rows::{CountRow, ProcessRow, SpanRow, ThreadRow};
 pub use span_read::{
     ArgValue, Args, Event, Field, IdKey, Item, ItemFault, Items, Phase, Reach, Text,
 };
-pub use span_track::{AsyncKey, AsyncRow, AsyncTotals};
+pub use span_track::{AsyncKey, AsyncRow, AsyncTotals, FlowKey, FlowRow, FlowTotals};
 
 #[cfg(test)]
 mod tests;

@@ -1,6 +1,6 @@
 ghost use Rattle.span_read.specs.Item.{IsGoodItem};
 
-use crate::{Cause, CountRow, Item, Ledger, Op, ProcessRow};
+use crate::{AsyncTotals, Cause, CountRow, FlowTotals, Item, Ledger, Op, ProcessRow};
 use span_read::read_items;
 use std::alloc::{AllocError, Global};
 use std::process::Abort;
@@ -252,43 +252,96 @@ fn a_refused_growth_changes_nothing(rt: HostRuntime) -> Result<(), Fail> {
     Ok(())
 }
 
-// What the ledger answers to these events, its processes, and the rows of its asynchronous keys.
-fn asynchronous(alloc: Global, text: &str) -> Result<String, Fail> {
-    let mut ledger = Ledger::new(alloc, 100);
-    let mut lines = answers(alloc, &mut ledger, text)?;
-    for row in &ledger.processes(alloc)? {
-        writeln!(lines, "process {}", row.pid)?;
-    }
-    for row in &ledger.async_rows(alloc)? {
-        writeln!(lines, "{:?}", row.key)?;
-        writeln!(lines, "{:?}", row.totals)?;
-    }
-    Ok(lines)
-}
-
 #[test]
 fn asynchronous_spans_match_by_scope(rt: HostRuntime) -> Result<(), Fail> {
-    let told = asynchronous(
-        rt.alloc(),
+    let alloc = rt.alloc();
+    let mut ledger = Ledger::new(alloc, 100);
+    let told = answers(
+        alloc,
+        &mut ledger,
         "[{\"ph\":\"b\",\"cat\":\"net\",\"scope\":\"A\",\"id\":5,\"ts\":10},{\"ph\":\"e\",\"cat\":\"net\",\"scope\":\"B\",\"id\":5,\"ts\":11},{\"ph\":\"e\",\"cat\":\"net\",\"scope\":\"A\",\"id\":\"5\",\"ts\":14}]",
     )?;
     assert_eq!(rt;
         told.as_str(),
-        "AsyncOpened\nRefused(23)\nAsyncClosed { length: 4 }\nprocess 0\nAsyncKey { cat: Text { text: \"net\" }, scope: Text { text: \"A\" }, id: IdKey { home: None, id: Text { text: \"5\" } }, name: Text { text: \"\" } }\nAsyncTotals { closed: 1, total: 4, unclosed: 0, points: 0 }\n"
+        "AsyncOpened\nRefused(23)\nAsyncClosed { length: 4 }\n"
     );
+    let rows = ledger.async_rows(alloc)?;
+    assert_eq!(rt; rows.len(), 1);
+    let row = rows.first().ok_or("a row")?;
+    assert_eq!(rt; row.key.cat.as_str(), "net");
+    assert_eq!(rt; row.key.scope.as_str(), "A");
+    assert_eq!(rt; row.key.id.id.as_str(), "5");
+    assert_eq!(rt;
+        row.totals,
+        AsyncTotals {
+            closed: 1,
+            total: 4,
+            unclosed: 0,
+            points: 0
+        }
+    );
+    assert_eq!(rt; ledger.processes(alloc)?.len(), 1);
+    assert!(rt; ledger.threads(alloc)?.is_empty());
     Ok(())
 }
 
 #[test]
 fn a_local_id_is_its_processs_own(rt: HostRuntime) -> Result<(), Fail> {
-    let told = asynchronous(
-        rt.alloc(),
+    let alloc = rt.alloc();
+    let mut ledger = Ledger::new(alloc, 100);
+    let told = answers(
+        alloc,
+        &mut ledger,
         "[{\"ph\":\"b\",\"id2\":{\"local\":\"1\"},\"pid\":1,\"ts\":1},{\"ph\":\"e\",\"id2\":{\"local\":\"1\"},\"pid\":2,\"ts\":2},{\"ph\":\"e\",\"id2\":{\"local\":\"1\"},\"pid\":1,\"ts\":0},{\"ph\":\"e\",\"id2\":{\"local\":\"1\"},\"pid\":1,\"ts\":3}]",
     )?;
     assert_eq!(rt;
         told.as_str(),
-        "AsyncOpened\nRefused(23)\nRefused(24)\nAsyncClosed { length: 2 }\nprocess 1\nAsyncKey { cat: Text { text: \"\" }, scope: Text { text: \"\" }, id: IdKey { home: Some(1), id: Text { text: \"1\" } }, name: Text { text: \"\" } }\nAsyncTotals { closed: 1, total: 2, unclosed: 0, points: 0 }\n"
+        "AsyncOpened\nRefused(23)\nRefused(24)\nAsyncClosed { length: 2 }\n"
     );
+    let rows = ledger.async_rows(alloc)?;
+    assert_eq!(rt; rows.len(), 1);
+    let row = rows.first().ok_or("a row")?;
+    assert_eq!(rt; row.key.id.home, Some(1));
+    assert_eq!(rt;
+        row.totals,
+        AsyncTotals {
+            closed: 1,
+            total: 2,
+            unclosed: 0,
+            points: 0
+        }
+    );
+    assert_eq!(rt; ledger.processes(alloc)?.len(), 1);
+    Ok(())
+}
+
+#[test]
+fn flow_chains_start_and_end(rt: HostRuntime) -> Result<(), Fail> {
+    let alloc = rt.alloc();
+    let mut ledger = Ledger::new(alloc, 100);
+    let told = answers(
+        alloc,
+        &mut ledger,
+        "[{\"ph\":\"s\",\"id\":9,\"ts\":1},{\"ph\":\"s\",\"id\":9,\"ts\":2},{\"ph\":\"t\",\"id\":9,\"ts\":3},{\"ph\":\"f\",\"id\":9,\"ts\":5},{\"ph\":\"f\",\"id\":9,\"ts\":6},{\"ph\":\"s\",\"id\":9,\"ts\":7},{\"ph\":\"t\",\"id\":9,\"ts\":6}]",
+    )?;
+    assert_eq!(rt;
+        told.as_str(),
+        "FlowStarted\nRefused(25)\nFlowStep\nFlowEnded { points: 3, length: 4 }\nRefused(26)\nFlowStarted\nRefused(22)\n"
+    );
+    let rows = ledger.flow_rows(alloc)?;
+    assert_eq!(rt; rows.len(), 1);
+    let row = rows.first().ok_or("a row")?;
+    assert_eq!(rt; row.key.id.id.as_str(), "9");
+    assert_eq!(rt;
+        row.totals,
+        FlowTotals {
+            ended: 1,
+            total: 4,
+            unclosed: 1
+        }
+    );
+    let counts = ledger.counts();
+    assert_eq!(rt; (counts.accepted, counts.refused), (4, 3));
     Ok(())
 }
 

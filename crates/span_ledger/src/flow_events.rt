@@ -1,0 +1,65 @@
+//! A flow event, told to the track of flow chains.
+ghost use Rattle.std.specs.Prelude.{◌≡◌};
+ghost use Rattle.span_read.specs.Event.{IsTime};
+ghost use Rattle.span_track.specs.Flow.{FlowStandsFor, HasFlowRoom, started, stepped, finished};
+ghost use Rattle.span_ledger.specs.Answers.{flow_answer};
+ghost use Rattle.span_ledger.specs.Told.{flow_point};
+ghost use Rattle.span_ledger.specs.Tracked.{Tells};
+
+use crate::entry::Answer;
+use span_read::Phase;
+use span_track::{FlowClosed, FlowKey, FlowTrack, TrackFault};
+
+// Tells the track the point of a key that an event of this phase is.
+pub(crate) fn tell_flow(
+    track: &mut FlowTrack,
+    key: &FlowKey,
+    phase: Phase,
+    ts: i64,
+) -> Result<(Answer, Answer), TrackFault>
+    requires room { HasFlowRoom track.old key.now }
+    requires in_time { IsTime ts }
+    ensures { Tells FlowStandsFor flow_answer track.old (record { key = key.now; step = flow_point phase ts }) result track.new }
+{
+    match phase {
+        Phase::FlowStart => start_flow(track, key, ts),
+        Phase::FlowEnd => end_flow(track, key, ts),
+        _ => step_flow(track, key, ts),
+    }
+}
+
+fn start_flow(track: &mut FlowTrack, key: &FlowKey, ts: i64) -> Result<(Answer, Answer), TrackFault>
+    requires room { HasFlowRoom track.old key.now }
+    requires in_time { IsTime ts }
+    ensures { Tells FlowStandsFor flow_answer track.old (record { key = key.now; step = started ts }) result track.new }
+{
+    match track.start_flow(key, ts) {
+        Ok(()) => Ok((Answer::FlowStarted, Answer::FlowStarted)),
+        Err(fault) => Err(fault),
+    }
+}
+
+fn step_flow(track: &mut FlowTrack, key: &FlowKey, ts: i64) -> Result<(Answer, Answer), TrackFault>
+    requires room { HasFlowRoom track.old key.now }
+    requires in_time { IsTime ts }
+    ensures { Tells FlowStandsFor flow_answer track.old (record { key = key.now; step = stepped ts }) result track.new }
+{
+    match track.step_flow(key, ts) {
+        Ok(()) => Ok((Answer::FlowStep, Answer::FlowStep)),
+        Err(fault) => Err(fault),
+    }
+}
+
+fn end_flow(track: &mut FlowTrack, key: &FlowKey, ts: i64) -> Result<(Answer, Answer), TrackFault>
+    requires room { HasFlowRoom track.old key.now }
+    requires in_time { IsTime ts }
+    ensures { Tells FlowStandsFor flow_answer track.old (record { key = key.now; step = finished ts }) result track.new }
+{
+    match track.end_flow(key, ts) {
+        Ok(FlowClosed { points, length }) => Ok((
+            Answer::FlowEnded { points, length },
+            Answer::FlowEnded { points, length },
+        )),
+        Err(fault) => Err(fault),
+    }
+}
