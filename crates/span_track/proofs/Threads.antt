@@ -1,3 +1,4 @@
+pub mod Closing
 pub mod Room
 pub mod Sound
 pub mod Spans

@@ -1,6 +1,8 @@
 -- What the track of a thread keeps, and when it refuses an event.
-use Rattle.std.specs.Prelude.{◌≡◌, ℕ, ◌+◌, ◌<◌, ◌^◌, ◌-◌, Bool, false, if◌then◌else◌, ℤ, int_lt, List, [], ◌∷◌, length, All, Option, Some, None, ◌==◌}
-use Rattle.span_time.specs.Spans.{Span}
+use Rattle.std.specs.Prelude.{◌≡◌, ℕ, ◌+◌, ◌<◌, ◌^◌, ◌-◌, Bool, false, if◌then◌else◌, ℤ, int_lt, List, [], ◌∷◌, ◌++◌, length, All, Option, Some, None, ◌==◌}
+use Rattle.span_read.specs.Args.{merged}
+use Rattle.span_time.specs.Spans.{Arguments, Span}
+use Rattle.span_track.specs.Last.{last_of}
 use Rattle.span_track.specs.Matching.{opens, closes, other}
 use Rattle.span_track.specs.Nesting.{Begin, ThreadEvent, open_spans, closed_spans, last_time}
 
@@ -23,6 +25,10 @@ module _ {N : Type 0} where
   abbrev pub StandsFor : ThreadSpans N → List (ThreadEvent N) → Type 0
   StandsFor track es = track ≡ thread_spans es
 
+  -- the track takes one more event
+  abbrev pub TakesEvent : ThreadSpans N → ThreadSpans N → ThreadEvent N → Type 0
+  TakesEvent old new e = (es : List (ThreadEvent N)) → StandsFor old es → StandsFor new (es ++ e ∷ [])
+
   -- there is room for the number of one more span
   abbrev pub HasRoom : ThreadSpans N → Type 0
   HasRoom track = length track.opened + length track.closed < 2 ^ 32 - 1
@@ -38,6 +44,15 @@ module _ {N : Type 0} where
   -- an end: 21 where no span is open, then 22 as for a begin
   abbrev pub end_refusal : ThreadSpans N → ℤ → Option ℕ
   end_refusal track ts = if length track.opened == 0 then Some 21 else begin_refusal track ts
+
+  -- the arguments of a begin, if there is one, with those of an end
+  abbrev pub merged_with : Option (Begin N) → Arguments → Arguments
+  merged_with None args = args
+  merged_with (Some b) args = merged b.args args
+
+  -- the arguments of the last open span with those of an end
+  abbrev pub merged_args : ThreadSpans N → Arguments → Arguments
+  merged_args track args = merged_with (last_of track.opened) args
 
   -- the event stands before this position; an end opens nothing, and needs none
   abbrev pub IsBefore : ℕ → ThreadEvent N → Type 0

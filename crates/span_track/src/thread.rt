@@ -1,5 +1,5 @@
 //! The track of one thread.
-ghost use Rattle.std.specs.Prelude.{◌≡◌, nat_eq, ◌+◌, ◌*◌, ◌-◌, ◌≤◌, ℕ, List, [], ◌∷◌, ◌++◌, length, map, slice_get, None, pos, ◌+ℤ◌, option_copied, IfSome, IfOk, OnOk, OnErr};
+ghost use Rattle.std.specs.Prelude.{◌≡◌, nat_eq, ◌+◌, ◌*◌, ◌-◌, ◌≤◌, ℕ, List, [], ◌∷◌, ◌++◌, length, map, slice_get, Some, None, pos, ◌+ℤ◌, option_copied, IfSome, IfOk, OnOk, OnErr};
 ghost use Rattle.std.specs.List.{count_by};
 ghost use Rattle.std.specs.Option.{option_map};
 ghost use Rattle.span_read.specs.Event.{IsTime, greatest_time};
@@ -7,15 +7,15 @@ ghost use Rattle.span_track.specs.Fault.{Answers};
 ghost use Rattle.span_track.specs.Nesting.{ThreadEvent, began, ended, completed, closed_by, opener};
 ghost use Rattle.span_time.specs.declared.segment.Segment.{Segment};
 ghost use Rattle.span_time.specs.Segments.{lasts, AreSegments, HasSegments, HasEnds};
-ghost use Rattle.span_time.specs.Spans.{self_of, busy_time};
-ghost use Rattle.span_track.specs.Thread.{StandsFor, HasRoom, IsNext, goes_back, begin_refusal, end_refusal};
+ghost use Rattle.span_time.specs.Spans.{Arguments, self_of, busy_time};
+ghost use Rattle.span_track.specs.Thread.{StandsFor, TakesEvent, HasRoom, IsNext, goes_back, begin_refusal, end_refusal, merged_args};
 ghost use Rattle.span_time.specs.Closed.{span_of, total_for, AreClosed};
 
 use crate::fault::TrackFault;
 use crate::refusal::{NO_OPEN_SPAN, TIME_GOES_BACK};
 use span_read::{Args, merge_args};
 use span_time::{ClosedSpan, ClosedSpans, NameTotal, Segment};
-use std::alloc::Global;
+use std::alloc::{AllocError, Global};
 use std::marker::Model;
 
 // A begin that no end has matched yet.
@@ -74,8 +74,7 @@ impl ThreadTrack {
         requires in_time { IsTime ts }
         ensures refusal { Answers result (begin_refusal self.old ts) }
         ensures depth { IfOk result (λ depth. depth ≡ length self.new.opened) }
-        ensures stands { OnOk result ((es : List (ThreadEvent ℕ)) → StandsFor self.old es
-            → StandsFor self.new (es ++ began (record { name = name; ts = ts; at = at; args = args.now }) ∷ [])) }
+        ensures stands { OnOk result (TakesEvent self.old self.new (began (record { name = name; ts = ts; at = at; args = args.now }))) }
         ensures err { OnErr result (self.new ≡ self.old) }
     {
         if self.goes_back(ts) {
@@ -97,8 +96,7 @@ impl ThreadTrack {
         ensures refusal { Answers result (end_refusal self.old ts) }
         ensures span { IfOk result (λ span. (es : List (ThreadEvent ℕ)) → StandsFor self.old es
             → closed_by es (ended ts args.now) ≡ span_of span ∷ []) }
-        ensures stands { OnOk result ((es : List (ThreadEvent ℕ)) → StandsFor self.old es
-            → StandsFor self.new (es ++ ended ts args.now ∷ [])) }
+        ensures stands { OnOk result (TakesEvent self.old self.new (ended ts args.now)) }
         ensures err { OnErr result (self.new ≡ self.old) }
     {
         let Some(begin) = self.opened.last() else {
@@ -108,14 +106,69 @@ impl ThreadTrack {
             return Err(TrackFault::Refused(TIME_GOES_BACK));
         }
         let alloc = *self.opened.allocator();
-        let merged = merge_args(alloc, &begin.args, args).map_err(|_| TrackFault::Memory)?;
+        let merged = self.merged_args(args).map_err(|_| TrackFault::Memory)?;
         let copy = merged.try_clone(alloc).map_err(|_| TrackFault::Memory)?;
         let answer = closed_at(begin, ts, copy);
+        match self.close_span(ts, merged) {
+            Ok(_) => Ok(answer),
+            Err(_) => Err(TrackFault::Memory),
+        }
+    }
+
+    /// The span that began last ends, with the arguments that `merged_args` gave for those of the end; `end_refusal` gives no number.
+    /// Answers the time of its begin.
+    pub fn close_span(&mut self, ts: i64, merged: Args) -> Result<i64, AllocError>
+        requires in_time { IsTime ts }
+        requires taken { end_refusal self.old ts ≡ None }
+        ensures start { IfOk result (λ start. (es : List (ThreadEvent ℕ)) → StandsFor self.old es → option_map (λ begin. begin.ts) (opener es) ≡ Some start) }
+        ensures stands { OnOk result ((args : Arguments) → merged ≡ merged_args self.old args → TakesEvent self.old self.new (ended ts args)) }
+        ensures err { OnErr result (self.new ≡ self.old) }
+    {
+        let Some(begin) = self.opened.last() else {
+            unreachable!();
+        };
+        let start = begin.ts;
         let span = closed_at(begin, ts, merged);
-        self.closed.add(span).map_err(|_| TrackFault::Memory)?;
+        self.closed.add(span)?;
         self.opened.pop();
         self.last = Some(ts);
-        Ok(answer)
+        Ok(start)
+    }
+
+    /// The arguments of the begin that the next end matches together with these, which are those of the end: of two of one name the
+    /// end's. These alone, where no span is open.
+    pub fn merged_args(&self, args: &Args) -> Result<Args, AllocError>
+        ensures { IfOk result (λ merged. merged ≡ merged_args self.now args.now) }
+    {
+        let alloc = *self.opened.allocator();
+        let Some(begin) = self.opened.last() else {
+            return args.try_clone(alloc);
+        };
+        merge_args(alloc, &begin.args, args)
+    }
+
+    /// The number with which a begin at `ts` is refused: 22 where `ts` is below the time of the last begin or end.
+    /// None where only want of memory refuses it. Takes no memory.
+    pub fn begin_refusal(&self, ts: i64) -> Option<u16>
+        ensures { result ≡ begin_refusal self.now ts }
+    {
+        if self.goes_back(ts) {
+            Some(TIME_GOES_BACK)
+        } else {
+            None
+        }
+    }
+
+    /// The number with which an end at `ts` is refused: 21 where no span is open, then 22 as for a begin.
+    /// None where only want of memory refuses it. Takes no memory.
+    pub fn end_refusal(&self, ts: i64) -> Option<u16>
+        ensures { result ≡ end_refusal self.now ts }
+    {
+        if self.opened.is_empty() {
+            Some(NO_OPEN_SPAN)
+        } else {
+            self.begin_refusal(ts)
+        }
     }
 
     /// A whole span, of `dur` microseconds from `ts` on, in any order of time. Only want of memory refuses it.
@@ -132,8 +185,7 @@ impl ThreadTrack {
         requires in_time { IsTime ts }
         requires lasts { dur ≤ greatest_time }
         ensures refusal { Answers result None }
-        ensures stands { OnOk result ((es : List (ThreadEvent ℕ)) → StandsFor self.old es
-            → StandsFor self.new (es ++ completed (record { name = name; start = ts; until = ts +ℤ pos dur; at = at; args = args.now }) ∷ [])) }
+        ensures stands { OnOk result (TakesEvent self.old self.new (completed (record { name = name; start = ts; until = ts +ℤ pos dur; at = at; args = args.now }))) }
         ensures err { OnErr result (self.new ≡ self.old) }
     {
         let args = args

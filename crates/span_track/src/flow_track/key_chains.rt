@@ -1,5 +1,5 @@
 //! The flow chains of one key.
-ghost use Rattle.std.specs.Prelude.{◌≡◌, ◌+◌, ◌<◌, ◌^◌, ◌-◌, [], Some, IfOk, OnOk, OnErr};
+ghost use Rattle.std.specs.Prelude.{◌≡◌, ◌+◌, ◌<◌, ◌^◌, ◌-◌, ◌≤ℤ◌, [], Some, IfOk, OnOk, OnErr};
 ghost use Rattle.span_read.specs.Event.{IsTime};
 ghost use Rattle.span_track.specs.Fault.{Answers};
 ghost use Rattle.span_track.specs.Flow.{flow_chains, flow_closed, flow_point_refusal, flow_start_refusal, flow_totals, points_of};
@@ -71,12 +71,12 @@ impl KeyChains {
         Ok(())
     }
 
-    pub(crate) fn step(&mut self, ts: i64) -> Result<(), TrackFault>
-        requires room { self.old.ended + points_of self.old.unclosed < 2 ^ 32 - 1 }
+    // The unclosed chain, where a point at `ts` can follow its last.
+    fn chain_until(&self, ts: i64) -> Result<OpenChain, TrackFault>
         requires in_time { IsTime ts }
-        ensures refusal { Answers result (flow_point_refusal self.old ts) }
-        ensures ok { OnOk result (self.new ≡ with_step self.old ts) }
-        ensures err { OnErr result (self.new ≡ self.old) }
+        ensures refusal { Answers result (flow_point_refusal self.now ts) }
+        ensures chain { IfOk result (λ chain. self.now.unclosed ≡ Some chain) }
+        ensures later { IfOk result (λ chain. chain.last ≤ℤ ts) }
     {
         let Some(chain) = self.unclosed else {
             return Err(TrackFault::Refused(NO_CHAIN));
@@ -84,6 +84,17 @@ impl KeyChains {
         if ts < chain.last {
             return Err(TrackFault::Refused(TIME_GOES_BACK));
         }
+        Ok(chain)
+    }
+
+    pub(crate) fn step(&mut self, ts: i64) -> Result<(), TrackFault>
+        requires room { self.old.ended + points_of self.old.unclosed < 2 ^ 32 - 1 }
+        requires in_time { IsTime ts }
+        ensures refusal { Answers result (flow_point_refusal self.old ts) }
+        ensures ok { OnOk result (self.new ≡ with_step self.old ts) }
+        ensures err { OnErr result (self.new ≡ self.old) }
+    {
+        let chain = self.chain_until(ts)?;
         self.unclosed = Some(OpenChain {
             start: chain.start,
             last: ts,
@@ -100,20 +111,13 @@ impl KeyChains {
         ensures ok { OnOk result (self.new ≡ with_finish self.old ts) }
         ensures err { OnErr result (self.new ≡ self.old) }
     {
-        let Some(chain) = self.unclosed else {
-            return Err(TrackFault::Refused(NO_CHAIN));
-        };
-        if ts < chain.last {
-            return Err(TrackFault::Refused(TIME_GOES_BACK));
-        }
+        let chain = self.chain_until(ts)?;
+        let points = chain.points + 1;
         let length = ts.abs_diff(chain.start);
         self.ended += 1;
         self.total += u128::from(length);
         self.unclosed = None;
-        Ok(FlowClosed {
-            points: chain.points + 1,
-            length,
-        })
+        Ok(FlowClosed { points, length })
     }
 
     pub(crate) fn totals(&self) -> FlowTotals

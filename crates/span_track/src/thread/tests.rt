@@ -79,12 +79,12 @@ fn expect_plain_times(rt: &impl Abort, track: &ThreadTrack) {
 // What a call that opens a span asks of the track.
 fn ready(rt: &impl Abort, track: &ThreadTrack, at: u32)
     ensures next { IsNext at track.now }
-    ensures few_opened { length track.now.opened < 1000 }
-    ensures few_closed { length track.now.closed < 1000 }
+    ensures few_opened { length track.now.opened < 10000 }
+    ensures few_closed { length track.now.closed < 10000 }
 {
     assert!(rt; is_next(track, at));
-    assert!(rt; track.depth() < 1000);
-    assert!(rt; track.closed_count() < 1000);
+    assert!(rt; track.depth() < 10_000);
+    assert!(rt; track.closed_count() < 10_000);
 }
 
 fn begin(
@@ -333,5 +333,82 @@ fn arguments_of_begin_and_end(rt: HostRuntime) -> Result<(), Fail> {
     expect_merged(&rt, &merge_args(rt.alloc(), first, second)?);
     let kept = track.closed(0).ok_or("a closed span")?;
     expect_merged(&rt, &kept.args);
+    Ok(())
+}
+
+#[test]
+fn an_end_with_arguments_merged_before(rt: HostRuntime) -> Result<(), Fail> {
+    let items = read_items(
+        rt.alloc(),
+        br#"[{"ph":"B","ts":0,"args":{"x":1,"y":2}},{"ph":"E","ts":1,"args":{"y":3,"z":true}}]"#,
+    )?;
+    let first = args_at(&items, 0).ok_or("a begin")?;
+    let second = args_at(&items, 1).ok_or("an end")?;
+    let mut track = ThreadTrack::new(rt.alloc());
+    ready(&rt, &track, 0);
+    track.begin_span(0, 0, 0, first)?;
+    let merged = track.merged_args(second)?;
+    expect_merged(&rt, &merged);
+    let None = track.end_refusal(1) else {
+        panic!(rt; "the end is refused");
+    };
+    assert_eq!(rt; track.close_span(1, merged)?, 0);
+    assert_eq!(rt; track.depth(), 0);
+    let span = track.closed(0).ok_or("a closed span")?;
+    assert!(rt; span.start == 0 && span.until == 1);
+    expect_merged(&rt, &span.args);
+    Ok(())
+}
+
+#[test]
+fn refusals_that_are_told_before(rt: HostRuntime) -> Result<(), Fail> {
+    let mut track = ThreadTrack::new(rt.alloc());
+    assert_eq!(rt; track.begin_refusal(-5), None);
+    assert_eq!(rt; track.end_refusal(-5), Some(21));
+    begin(&rt, &mut track, 0, 0, 10)?;
+    assert_eq!(rt; track.begin_refusal(9), Some(22));
+    assert_eq!(rt; track.end_refusal(9), Some(22));
+    assert_eq!(rt; track.begin_refusal(10), None);
+    assert_eq!(rt; track.end_refusal(10), None);
+    Ok(())
+}
+
+#[test]
+fn a_stack_200_deep(rt: HostRuntime) -> Result<(), Fail> {
+    let mut track = ThreadTrack::new(rt.alloc());
+    let none = Args::empty(rt.alloc());
+    for at in 0..200u32 {
+        ready(&rt, &track, at);
+        assert_eq!(rt; track.begin_span(at, i64::from(at), at, &none)?, at + 1);
+    }
+    for i in 0..200u32 {
+        let span = track.end_span(i64::from(200 + i), &none)?;
+        assert!(rt; span.at == 199 - i && span.until == i64::from(200 + i));
+    }
+    assert_eq!(rt; track.depth(), 0);
+    assert_eq!(rt; track.closed_count(), 200);
+    assert_eq!(rt; track.busy(), 399);
+    Ok(())
+}
+
+#[test]
+fn more_than_4096_closed_spans(rt: HostRuntime) -> Result<(), Fail> {
+    let mut track = ThreadTrack::new(rt.alloc());
+    let none = Args::empty(rt.alloc());
+    for at in 0..4_100u32 {
+        ready(&rt, &track, at);
+        track.complete(at % 2, i64::from(at), 1, at, &none)?;
+    }
+    assert_eq!(rt; track.closed_count(), 4_100);
+    assert_eq!(rt; track.busy(), 4_100);
+    assert_eq!(rt; track.segment_count(), 4_100);
+    assert_eq!(rt;
+        track.total_of(1),
+        NameTotal {
+            count: 2_050,
+            total: 2_050
+        }
+    );
+    assert_eq!(rt; track.self_of(0), 2_050);
     Ok(())
 }
