@@ -86,6 +86,7 @@ lengths_after-append earlier (first ∷ later) point =
 ended_lengths-append : (points : List FlowPoint) (point : FlowPoint) → ended_lengths (points ++ point ∷ []) ≡ ended_lengths points ++ length_ended_by points point
 ended_lengths-append points point = lengths_after-append [] points point
 
+-- one more point is one more finish where it is one
 pub count-append : (points : List FlowPoint) (point : FlowPoint) → count_by is_finish (points ++ point ∷ []) ≡ count_by is_finish points + cond (is_finish point) 1 0
 count-append points point = omega (arith, sum_by-append (λ (p : FlowPoint). cond (is_finish p) 1 0) points (point ∷ []))
 

@@ -12,6 +12,7 @@ slice_get-number_in names text n found =
     let at = position-Some (λ name. pointwise nat_eq name text) names n text found in
     slice_get-get_or names n text at.0 ∙ ap Some ((bytes_decides (get_or names n text) text).0 at.1)
 
+-- a number stays when a name is added
 pub number_in-with_name : (names : List (List ℕ)) (text other : List ℕ) (n : ℕ) → number_in names text ≡ Some n → number_in (with_name names other) text ≡ Some n
 number_in-with_name names text other n found = by_test (is_some (number_in names other))
   where

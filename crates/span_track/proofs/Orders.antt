@@ -20,11 +20,13 @@ both_equal Greater s e = cc
 text_same : (a b : List ℕ) → slice_cmp nat_cmp a b ≡ Equal → a ≡ b
 text_same a b e = slice_cmp-IsAntisymmetric nat_cmp-IsAntisymmetric a b e
 
+-- the order of asynchronous keys is total
 pub async_cmp-total : IsTotalOrder async_cmp
 async_cmp-total =
     then_total (on_total (λ k. k.cat) nat_list_cmp_total)
     (then_total (on_total (λ k. k.scope) nat_list_cmp_total) (then_total (on_total (λ k. k.id) id_cmp-total) (on_total (λ k. k.name) nat_list_cmp_total)))
 
+-- asynchronous keys that it does not tell apart are the same
 pub async_cmp-same : (a b : AsyncKey) → async_cmp a b ≡ Equal → a ≡ b
 async_cmp-same a b e =
     let first = both_equal (slice_cmp nat_cmp a.cat b.cat) (ordering_then (slice_cmp nat_cmp a.scope b.scope) (ordering_then (id_cmp a.id b.id) (slice_cmp nat_cmp a.name b.name))) e in
@@ -36,9 +38,11 @@ async_cmp-same a b e =
     let name = text_same a.name b.name third.1 in
     λ i. record { cat = cat i; scope = scope i; id = id i; name = name i }
 
+-- the order of flow keys is total
 pub flow_cmp-total : IsTotalOrder flow_cmp
 flow_cmp-total = then_total (on_total (λ k. k.cat) nat_list_cmp_total) (then_total (on_total (λ k. k.name) nat_list_cmp_total) (on_total (λ k. k.id) id_cmp-total))
 
+-- flow keys that it does not tell apart are the same
 pub flow_cmp-same : (a b : FlowKey) → flow_cmp a b ≡ Equal → a ≡ b
 flow_cmp-same a b e =
     let first = both_equal (slice_cmp nat_cmp a.cat b.cat) (ordering_then (slice_cmp nat_cmp a.name b.name) (id_cmp a.id b.id)) e in

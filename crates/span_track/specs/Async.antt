@@ -35,6 +35,7 @@ pub record AsyncSpans : Type 0 where
 abbrev pub length_between : ℤ → ℤ → List ℕ
 length_between begin end = distance begin end ∷ []
 
+-- a point closes nothing
 abbrev pub no_length : Unit {0} → List ℕ
 no_length point = []
 
@@ -46,6 +47,7 @@ closed_lengths steps = closed_of length_between no_length steps
 abbrev pub length_closed_by : List AsyncStep → AsyncStep → List ℕ
 length_closed_by earlier step = closed_by length_between no_length earlier step
 
+-- the step is a point
 abbrev pub is_point : AsyncStep → Bool
 is_point (opens begin) = false
 is_point (closes end) = false
@@ -89,9 +91,11 @@ async_spans_at track key = kept_at async_cmp (async_spans []) track key
 abbrev pub HasAsyncRoom : AsyncKept → AsyncKey → Type 0
 HasAsyncRoom track key = let spans = async_spans_at track key in length spans.opened + spans.closed + spans.points < 2 ^ 32 - 1
 
+-- the numbers of what is kept for a key
 abbrev pub async_totals : AsyncSpans → AsyncTotals
 async_totals spans = record { closed = spans.closed; total = spans.total; unclosed = length spans.opened; points = spans.points }
 
+-- the row of a key
 abbrev pub async_row : AsyncKey × AsyncSpans → AsyncRow
 async_row (key, spans) = record { key = key; totals = async_totals spans }
 

@@ -11,6 +11,7 @@ pub record AreBounded (spans : AsyncSpans) : Type 0 where
   pub few : length spans.opened + spans.closed + spans.points < 2 ^ 32
   pub short : spans.total ≤ spans.closed * (2 * greatest_time)
 
+-- one more begin is open
 abbrev pub with_begin : AsyncSpans → ℤ → AsyncSpans
 with_begin spans ts = record { opened = spans.opened ++ ts ∷ []; closed = spans.closed; total = spans.total; points = spans.points }
 
@@ -25,5 +26,6 @@ pub record EndsLast (old : AsyncSpans) (ts : ℤ) (length_of : ℕ) (new : Async
   pub lasts : length_of ≡ distance begin ts
   pub becomes : new ≡ with_end old begin ts
 
+-- there is one more point
 abbrev pub with_point : AsyncSpans → AsyncSpans
 with_point spans = record { opened = spans.opened; closed = spans.closed; total = spans.total; points = spans.points + 1 }

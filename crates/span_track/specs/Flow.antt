@@ -27,16 +27,19 @@ pub data FlowPoint : Type 0 where
 abbrev pub FlowEvent : Type 0
 FlowEvent = Keyed FlowKey FlowPoint
 
+-- the time of a point
 abbrev pub time_of : FlowPoint → ℤ
 time_of (started ts) = ts
 time_of (stepped ts) = ts
 time_of (finished ts) = ts
 
+-- the point is a start
 abbrev pub is_start : FlowPoint → Bool
 is_start (started ts) = true
 is_start (stepped ts) = false
 is_start (finished ts) = false
 
+-- the point is a finish
 abbrev pub is_finish : FlowPoint → Bool
 is_finish (started ts) = false
 is_finish (stepped ts) = false
@@ -62,6 +65,7 @@ abbrev pub start_of : List FlowPoint → Option ℤ
 start_of [] = None
 start_of (point ∷ later) = Some (time_of point)
 
+-- the length from a start, if there is one
 abbrev pub length_from : Option ℤ → ℤ → List ℕ
 length_from None ts = []
 length_from (Some start) ts = distance start ts ∷ []
@@ -72,6 +76,7 @@ length_ended_by earlier (started ts) = []
 length_ended_by earlier (stepped ts) = []
 length_ended_by earlier (finished ts) = length_from (start_of (from_last_start earlier)) ts
 
+-- the lengths of the chains that the later points end, in their order
 abbrev pub lengths_after : List FlowPoint → List FlowPoint → List ℕ
 lengths_after earlier [] = []
 lengths_after earlier (point ∷ later) = length_ended_by earlier point ++ lengths_after (earlier ++ point ∷ []) later
@@ -100,6 +105,7 @@ pub record FlowChains : Type 0 where
 abbrev pub flow_chains : List FlowPoint → FlowChains
 flow_chains points = record { ended = count_by is_finish points; total = sum (ended_lengths points); unclosed = summary (chain_of points) }
 
+-- 25 where there is a chain
 abbrev pub refusal_at_start : Option OpenChain → Option ℕ
 refusal_at_start None = None
 refusal_at_start (Some chain) = Some 25
@@ -108,6 +114,7 @@ refusal_at_start (Some chain) = Some 25
 abbrev pub flow_start_refusal : FlowChains → Option ℕ
 flow_start_refusal chains = refusal_at_start chains.unclosed
 
+-- 26 where there is no chain, 22 where the time is below that of its last point
 abbrev pub refusal_at_point : Option OpenChain → ℤ → Option ℕ
 refusal_at_point None ts = Some 26
 refusal_at_point (Some chain) ts = if int_lt ts chain.last then Some 22 else None
@@ -116,6 +123,7 @@ refusal_at_point (Some chain) ts = if int_lt ts chain.last then Some 22 else Non
 abbrev pub flow_point_refusal : FlowChains → ℤ → Option ℕ
 flow_point_refusal chains ts = refusal_at_point chains.unclosed ts
 
+-- the chain with a finish at this time
 abbrev pub closed_at : Option OpenChain → ℤ → Option FlowClosed
 closed_at None ts = None
 closed_at (Some chain) ts = Some (record { points = chain.points + 1; length = distance chain.start ts })
@@ -140,6 +148,7 @@ TakesFlow old new e = (es : List FlowEvent) → FlowStandsFor old es → FlowSta
 abbrev pub flow_chains_at : FlowKept → FlowKey → FlowChains
 flow_chains_at track key = kept_at flow_cmp (flow_chains []) track key
 
+-- how many points a chain has; 0 where there is none
 abbrev pub points_of : Option OpenChain → ℕ
 points_of None = 0
 points_of (Some chain) = chain.points
@@ -148,9 +157,11 @@ points_of (Some chain) = chain.points
 abbrev pub HasFlowRoom : FlowKept → FlowKey → Type 0
 HasFlowRoom track key = let chains = flow_chains_at track key in chains.ended + points_of chains.unclosed < 2 ^ 32 - 1
 
+-- the numbers of what is kept for a key
 abbrev pub flow_totals : FlowChains → FlowTotals
 flow_totals chains = record { ended = chains.ended; total = chains.total; unclosed = points_of chains.unclosed }
 
+-- the row of a key
 abbrev pub flow_row : FlowKey × FlowChains → FlowRow
 flow_row (key, chains) = record { key = key; totals = flow_totals chains }
 

@@ -17,6 +17,7 @@ pub record AreBounded (chains : FlowChains) : Type 0 where
   pub few : chains.ended + points_of chains.unclosed < 2 ^ 32
   pub short : chains.total ≤ chains.ended * (2 * greatest_time)
 
+-- a chain of one point is unclosed
 abbrev pub with_start : FlowChains → ℤ → FlowChains
 with_start chains ts = record { ended = chains.ended; total = chains.total; unclosed = Some (record { start = ts; last = ts; points = 1 }) }
 
@@ -24,6 +25,7 @@ with_start chains ts = record { ended = chains.ended; total = chains.total; uncl
 abbrev pub longer : ℤ → OpenChain → OpenChain
 longer ts chain = record { start = chain.start; last = ts; points = chain.points + 1 }
 
+-- the unclosed chain has one more point
 abbrev pub with_step : FlowChains → ℤ → FlowChains
 with_step chains ts = record { ended = chains.ended; total = chains.total; unclosed = option_map (longer ts) chains.unclosed }
 
@@ -32,5 +34,6 @@ abbrev pub length_at : Option OpenChain → ℤ → ℕ
 length_at None ts = 0
 length_at (Some chain) ts = distance chain.start ts
 
+-- one more chain has ended, and none is unclosed
 abbrev pub with_finish : FlowChains → ℤ → FlowChains
 with_finish chains ts = record { ended = chains.ended + 1; total = chains.total + length_at chains.unclosed ts; unclosed = None }

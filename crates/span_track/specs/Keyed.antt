@@ -24,6 +24,7 @@ module _ {K A : Type 0} (cmp : K → K → Ordering) where
   abbrev pub keys_in : List (Keyed K A) → List K
   keys_in es = ascending cmp (map (λ e. e.key) es)
 
+-- a key with what a function gives at it
 abbrev pub entry_of : {K X : Type 0} → (K → X) → K → K × X
 entry_of f key = (key, f key)
 

@@ -9,12 +9,14 @@ pub data Step (B E O : Type 0) : Type 0 where
   other : O → Step B E O
 
 module _ {B E O : Type 0} where
+  -- how many begins there are
   abbrev pub begins : List (Step B E O) → ℕ
   begins [] = 0
   begins (opens b ∷ steps) = begins steps + 1
   begins (closes e ∷ steps) = begins steps
   begins (other o ∷ steps) = begins steps
 
+  -- how many ends there are
   abbrev pub ends : List (Step B E O) → ℕ
   ends [] = 0
   ends (opens b ∷ steps) = ends steps

@@ -22,12 +22,15 @@ abbrev pub ThreadEvent : Type 0 → Type 0
 ThreadEvent N = Step (Begin N) Ending (Span N)
 
 module _ {N : Type 0} where
+  -- a span begins
   abbrev pub began : Begin N → ThreadEvent N
   began b = opens b
 
+  -- a span ends
   abbrev pub ended : ℤ → Arguments → ThreadEvent N
   ended ts args = closes (record { ts = ts; args = args })
 
+  -- a whole span
   abbrev pub completed : Span N → ThreadEvent N
   completed s = other s
 

@@ -18,6 +18,7 @@ goes_back ts None = false
 goes_back ts (Some last) = int_lt ts last
 
 module _ {N : Type 0} where
+  -- what the events of a thread give
   abbrev pub thread_spans : List (ThreadEvent N) → ThreadSpans N
   thread_spans es = record { opened = open_spans es; closed = closed_spans es; last = last_time es }
 
@@ -60,6 +61,7 @@ module _ {N : Type 0} where
   IsBefore at (closes e) = Unit {0}
   IsBefore at (other s) = s.at < at
 
+  -- each of the events stands before this position
   abbrev pub AreBefore : ℕ → List (ThreadEvent N) → Type 0
   AreBefore at [] = Unit {0}
   AreBefore at (e ∷ es) = IsBefore at e × AreBefore at es

@@ -124,11 +124,11 @@ impl ThreadTrack {
         ensures stands { OnOk result ((args : Arguments) → merged ≡ merged_args self.old args → TakesEvent self.old self.new (ended ts args)) }
         ensures err { OnErr result (self.new ≡ self.old) }
     {
-        let Some(begin) = self.opened.last() else {
+        let Some(last_open) = self.opened.last() else {
             unreachable!();
         };
-        let start = begin.ts;
-        let span = closed_at(begin, ts, merged);
+        let start = last_open.ts;
+        let span = closed_at(last_open, ts, merged);
         self.closed.add(span)?;
         self.opened.pop();
         self.last = Some(ts);
@@ -141,10 +141,10 @@ impl ThreadTrack {
         ensures { IfOk result (λ merged. merged ≡ merged_args self.now args.now) }
     {
         let alloc = *self.opened.allocator();
-        let Some(begin) = self.opened.last() else {
+        let Some(last_open) = self.opened.last() else {
             return args.try_clone(alloc);
         };
-        merge_args(alloc, &begin.args, args)
+        merge_args(alloc, &last_open.args, args)
     }
 
     /// The number with which a begin at `ts` is refused: 22 where `ts` is below the time of the last begin or end.

@@ -5,6 +5,7 @@ use Rattle.std.proofs.lemmas.List.{length_push}
 use Rattle.std.proofs.lemmas.List.Sums.{prefix_len-le-length}
 
 module _ {A : Type 0} (p : A → Bool) where
+  -- where none passes, the place is the length
   pub position_or_len-None : (xs : List A) → position p xs ≡ None → position_or_len p xs ≡ length xs
   position_or_len-None xs none = by_test (nat_lt (position_or_len p xs) (length xs)) refl none
     where
@@ -20,6 +21,7 @@ module _ {A : Type 0} (p : A → Bool) where
       by_test true h all = absurd (omega arith)
       by_test false h all = (h, omega arith)
 
+  -- the place is the length only where none passes
   pub list_any-None : (xs : List A) → position_or_len p xs ≡ length xs → list_any p xs ≡ false
   list_any-None [] all = refl
   list_any-None (x ∷ xs) all =
@@ -30,6 +32,7 @@ module _ {A : Type 0} (p : A → Bool) where
   position_or_len-append (x ∷ xs) y all here =
       let parts = at_head x xs all in rw parts.0 (omega (arith, position_or_len-append xs y parts.1 here))
 
+  -- where none passed before, the one that was added is the first that passes
   pub position-append : (xs : List A) (y : A) → position p xs ≡ None → p y ≡ true → position p (xs ++ y ∷ []) ≡ Some (length xs)
   position-append xs y none here =
       let place = position_or_len-append xs y (position_or_len-None xs none) here in
@@ -46,6 +49,7 @@ module _ {A : Type 0} (p : A → Bool) where
       by_test false rest here =
           ap (λ n. 1 + n) (rest (λ all. some (rw here (omega arith))))
 
+  -- what follows a list does not move the first of it that passes
   pub position-front : (xs ys : List A) (n : ℕ) → position p xs ≡ Some n → position p (xs ++ ys) ≡ Some n
   position-front xs ys n found = by_test (nat_lt (position_or_len p xs) (length xs)) refl found
     where

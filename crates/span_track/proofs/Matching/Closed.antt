@@ -7,10 +7,12 @@ use Rattle.span_track.specs.Last.{last_of, without_last}
 use Rattle.span_track.proofs.Lists.Last.{option_or-some}
 use Rattle.span_track.specs.Matching.{Step, opens, closes, other, is_balanced, opener, closed_with, closed_by, closed_after, closed_of}
 
+-- each of two tests that pass together passes
 pub both_true : (a b : Bool) → (a && b) ≡ true → (a ≡ true) × (b ≡ true)
 both_true true b h = (refl, h)
 both_true false b h = cc
 
+-- two tests that pass pass together
 pub and_true : (a b : Bool) → a ≡ true → b ≡ true → (a && b) ≡ true
 and_true true b p q = q
 and_true false b p q = p
@@ -75,5 +77,6 @@ module _ {B E O S : Type 0} (close : B → E → List S) (whole : O → List S) 
       ∙ and_true (list_all r (closed_by close whole earlier step)) (list_all r (closed_after close whole (earlier ++ step ∷ []) later))
       (closed_by-passes earlier step before parts.0) (closed_after-passes (earlier ++ step ∷ []) later all parts.1)
 
+  -- all that closes passes the test
   pub closed_of-passes : (steps : List (Step B E O)) → list_all (step_passes p q) steps ≡ true → list_all r (closed_of close whole steps) ≡ true
   closed_of-passes steps all = closed_after-passes [] steps refl all

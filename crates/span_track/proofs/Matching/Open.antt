@@ -10,6 +10,7 @@ is_none-option_or : {A : Type 0} (o : Option A) (x : A) → is_none (option_or o
 is_none-option_or None x = refl
 is_none-option_or (Some y) x = refl
 
+-- there is one at least
 abbrev pub is_positive : ℕ → Bool
 is_positive zero = false
 is_positive (suc n) = true
@@ -199,14 +200,17 @@ module _ {B E O : Type 0} where
   pub opener-open_of : (steps : List (Step B E O)) → opener steps ≡ last_of (open_of steps)
   opener-open_of steps = opener-last_of steps ∙ ap last_of (sym (open_of-unmatched steps))
 
+  -- a begin is open after itself
   pub open_of-opens : (steps : List (Step B E O)) (b : B) → open_of (steps ++ opens b ∷ []) ≡ open_of steps ++ b ∷ []
   open_of-opens steps b =
       open_of-unmatched (steps ++ opens b ∷ []) ∙ unmatched-opens steps b ∙ ap (λ l. l ++ b ∷ []) (sym (open_of-unmatched steps))
 
+  -- an end takes the last open begin, if there is one
   pub open_of-closes : (steps : List (Step B E O)) (e : E) → open_of (steps ++ closes e ∷ []) ≡ without_last (open_of steps)
   open_of-closes steps e =
       open_of-unmatched (steps ++ closes e ∷ []) ∙ unmatched-closes steps e ∙ ap without_last (sym (open_of-unmatched steps))
 
+  -- a step that is neither changes nothing that is open
   pub open_of-other : (steps : List (Step B E O)) (x : O) → open_of (steps ++ other x ∷ []) ≡ open_of steps
   open_of-other steps x =
       open_of-unmatched (steps ++ other x ∷ []) ∙ unmatched-other steps x ∙ sym (open_of-unmatched steps)

@@ -54,6 +54,7 @@ module _ {N : Type 0} where
   IsNext-thread_spans at es before =
       (from_there at [] es (All-nil (λ (b : Begin N). b.at < at), All-nil (λ (s : Span N). s.at < at)) before).0
 
+  -- a track of few events has room for one more span
   pub HasRoom-thread_spans : (at : ℕ) (es : List (ThreadEvent N)) → AreBefore at es → length es < 2 ^ 32 - 1 → HasRoom (thread_spans es)
   HasRoom-thread_spans at es before few =
       omega (arith, (from_there at [] es (All-nil (λ (b : Begin N). b.at < at), All-nil (λ (s : Span N). s.at < at)) before).1)

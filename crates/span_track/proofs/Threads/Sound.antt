@@ -32,6 +32,7 @@ All-IsUpTo-later : (ts : ℤ) (last : Option ℤ) (bs : List (Begin ℕ)) → go
 All-IsUpTo-later ts last bs later up_to =
     All-weaker (λ (b : Begin ℕ). IsUpTo b.ts last) (λ (b : Begin ℕ). IsUpTo b.ts (Some ts)) (λ b h. IsUpTo-later b.ts ts last h later) bs up_to
 
+-- a begin that may be taken keeps the track sound
 pub IsSound-with_begin : (t : ThreadSpans ℕ) (b : Begin ℕ) → IsSound t → HasRoom t → IsNext b.at t → negsuc 9007199254740990 ≤ℤ b.ts → goes_back b.ts t.last ≡ false → IsSound (with_begin t b)
 IsSound-with_begin t b sound room next from later = record {
   from = All-push (λ (c : Begin ℕ). negsuc 9007199254740990 ≤ℤ c.ts) t.opened b sound.from from;
@@ -41,6 +42,7 @@ IsSound-with_begin t b sound room next from later = record {
   few = omega (arith, length-append t.opened (b ∷ []));
 }
 
+-- a whole span that may be taken keeps the track sound
 pub IsSound-with_whole : (t : ThreadSpans ℕ) (s : Span ℕ) → IsSound t → HasRoom t → IsNext s.at t → IsSound (with_whole t s)
 IsSound-with_whole t s sound room next = record {
   from = sound.from;
@@ -61,6 +63,7 @@ pub record MayClose (b : Begin ℕ) (closed : List (Span ℕ)) (ts : ℤ) : Type
   pub apart : All (λ s. s.at ≢ b.at) closed
   pub few : length closed + 1 < 2 ^ 32
 
+-- the last open span of a sound track may close
 pub MayClose-sound : (opened : List (Begin ℕ)) (closed : List (Span ℕ)) (last : Option ℤ) (b : Begin ℕ) (ts : ℤ) → IsSound (record { opened = opened ++ b ∷ []; closed = closed; last = last }) → goes_back ts last ≡ false → MayClose b closed ts
 MayClose-sound opened closed last b ts sound later =
     let from = All-pop (λ (c : Begin ℕ). negsuc 9007199254740990 ≤ℤ c.ts) (opened ++ b ∷ []) opened (Some b) refl sound.from in
@@ -73,6 +76,7 @@ MayClose-sound opened closed last b ts sound later =
       few = omega (arith, length-append opened (b ∷ []), sound.few);
     }
 
+-- the end of the last open span keeps the track sound
 pub IsSound-with_end : (opened : List (Begin ℕ)) (closed : List (Span ℕ)) (last : Option ℤ) (b : Begin ℕ) (s : Span ℕ) (ts : ℤ) → s.at ≡ b.at → IsSound (record { opened = opened ++ b ∷ []; closed = closed; last = last }) → goes_back ts last ≡ false → IsSound (record { opened = opened; closed = closed ++ s ∷ []; last = Some ts })
 IsSound-with_end opened closed last b s ts same_at sound later =
     let from = All-pop (λ (c : Begin ℕ). negsuc 9007199254740990 ≤ℤ c.ts) (opened ++ b ∷ []) opened (Some b) refl sound.from in

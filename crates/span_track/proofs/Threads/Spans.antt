@@ -10,18 +10,21 @@ use Rattle.span_track.proofs.Matching.Closed.{closed_of-append}
 use Rattle.span_track.proofs.Matching.Open.{opener-open_of, open_of-opens, open_of-closes, open_of-other}
 
 module _ {N : Type 0} where
+  -- the last time after a begin is that of the begin
   pub last_time-began : (es : List (ThreadEvent N)) (b : Begin N) → last_time (es ++ began b ∷ []) ≡ Some b.ts
   last_time-began [] b = refl
   last_time-began (opens c ∷ es) b = rw (last_time-began es b) refl
   last_time-began (closes e ∷ es) b = rw (last_time-began es b) refl
   last_time-began (other s ∷ es) b = last_time-began es b
 
+  -- the last time after an end is that of the end
   pub last_time-ended : (es : List (ThreadEvent N)) (ts : ℤ) (args : Arguments) → last_time (es ++ ended ts args ∷ []) ≡ Some ts
   last_time-ended [] ts args = refl
   last_time-ended (opens c ∷ es) ts args = rw (last_time-ended es ts args) refl
   last_time-ended (closes e ∷ es) ts args = rw (last_time-ended es ts args) refl
   last_time-ended (other s ∷ es) ts args = last_time-ended es ts args
 
+  -- a whole span does not change the last time
   pub last_time-completed : (es : List (ThreadEvent N)) (s : Span N) → last_time (es ++ completed s ∷ []) ≡ last_time es
   last_time-completed [] s = refl
   last_time-completed (opens c ∷ es) s = rw (last_time-completed es s) refl
@@ -40,12 +43,15 @@ module _ {N : Type 0} where
   abbrev pub with_whole : ThreadSpans N → Span N → ThreadSpans N
   with_whole t s = record { opened = t.opened; closed = t.closed ++ s ∷ []; last = t.last }
 
+  -- a begin is the last open span
   pub thread_spans-began : (es : List (ThreadEvent N)) (b : Begin N) → thread_spans (es ++ began b ∷ []) ≡ with_begin (thread_spans es) b
   thread_spans-began es b = cc (open_of-opens es b, closed_of-append span_between whole_span es (began b), append-nil (thread_spans es).closed, last_time-began es b)
 
+  -- an end closes the last open span, if there is one
   pub thread_spans-ended : (es : List (ThreadEvent N)) (ts : ℤ) (args : Arguments) → thread_spans (es ++ ended ts args ∷ []) ≡ with_end (thread_spans es) ts args
   thread_spans-ended es ts args = cc (open_of-closes es (record { ts = ts; args = args }), closed_of-append span_between whole_span es (ended ts args), opener-open_of es, last_time-ended es ts args)
 
+  -- a whole span is the last closed one
   pub thread_spans-completed : (es : List (ThreadEvent N)) (s : Span N) → thread_spans (es ++ completed s ∷ []) ≡ with_whole (thread_spans es) s
   thread_spans-completed es s = cc (open_of-other es s, closed_of-append span_between whole_span es (completed s), last_time-completed es s)
 
