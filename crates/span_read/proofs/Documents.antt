@@ -1,12 +1,16 @@
--- The document of bytes that are UTF-8, and of bytes that are not; the elements of a trace that keep the limit.
-use Rattle.std.proofs.Common.{◌≡◌, ℕ, ◌<◌, ◌≤◌, List, length, refl, Bool, true, false, None, Some, Ok, Err, rules, tests}
+-- What a file is, from what its first candidate is that reads.
+use Rattle.std.proofs.Common.{◌≡◌, ℕ, ◌≤◌, List, length, refl, sym, ap, Bool, true, false, Option, None, Some, Result, Ok, Err, IfOk, All, nat_lt, if◌then◌else◌, rules, tests}
+use Rattle.std.specs.Option.{option_or}
+use Rattle.std.specs.Prelude.{IfErr}
 use Rattle.std.specs.Str.{IsUtf8, is_utf8}
 use Rattle.std.proofs.lemmas.Str.{is_utf8-from_IsUtf8, IsUtf8-from_is_utf8}
-use Rattle.serde_json.specs.View.{items_view}
-use Rattle.serde_json.specs.declared.value.Value.{Value}
-use Rattle.serde_json.proofs.Views.{items_len-items_view}
-use Rattle.span_read.specs.declared.error.ReadError.TheVariants.{TooMany}
-use Rattle.span_read.specs.Document.{document, candidates, first_read, doc_of_elements, items_of, most_items}
+use Rattle.serde_json.specs.Data.{Data, Items}
+use Rattle.serde_json.specs.Events.{items_len}
+use Rattle.span_read.specs.declared.item.Item.{Item}
+use Rattle.span_read.specs.declared.error.ReadError.TheVariants.{TooLarge, NotJson, TooMany}
+use Rattle.span_read.specs.Document.{document, candidates, first_read, elements_of, doc, doc_of_document, doc_of_elements, items_of, most_bytes, most_items}
+use Rattle.span_read.specs.Item.{IsGoodItem}
+use Rattle.span_read.proofs.Good.{All-good_items_of}
 
 pub document-of_utf8 : (bytes : List ℕ) → IsUtf8 bytes → document bytes ≡ first_read (candidates bytes)
 document-of_utf8 bytes is = rw (is_utf8-from_IsUtf8 bytes is)
@@ -18,8 +22,64 @@ test_fails false not = refl
 pub document-of_no_utf8 : (bytes : List ℕ) → (IsUtf8 bytes → ⊥) → document bytes ≡ None
 document-of_no_utf8 bytes not = rw (test_fails (is_utf8 bytes) (λ h. not (IsUtf8-from_is_utf8 bytes h)))
 
-pub doc_of_elements-too_many : (vs : List Value) → most_items < length vs → doc_of_elements (Some (items_view vs)) ≡ Err TooMany
-doc_of_elements-too_many vs many = rw (items_len-items_view vs) (search (rules, tests))
+limited : (b : Bool) (is : List Item) → (if b then Err TooMany else Ok is) ≡ Err NotJson → ⊥
+limited true is e = cc
+limited false is e = cc
 
-pub doc_of_elements-within : (vs : List Value) → length vs ≤ most_items → doc_of_elements (Some (items_view vs)) ≡ Ok (items_of (items_view vs))
-doc_of_elements-within vs few = rw (items_len-items_view vs) (search (rules, tests))
+elements_read : (o : Option Items) → doc_of_elements o ≡ Err NotJson → ⊥
+elements_read None e = cc
+elements_read (Some ds) e = limited (nat_lt most_items (items_len ds)) (items_of ds) e
+
+-- a text is refused as no JSON only where it doesn't read
+pub none_read : (o : Option Data) → doc_of_document o ≡ Err NotJson → o ≡ None
+none_read None e = refl
+none_read (Some d) e = absurd (elements_read (elements_of d) e)
+
+-- once a text reads, the others count for nothing
+pub doc_of_document-first : (o more : Option Data) → (doc_of_document o ≡ Err NotJson → ⊥) → doc_of_document (option_or o more) ≡ doc_of_document o
+doc_of_document-first None more read = absurd (read refl)
+doc_of_document-first (Some d) more read = refl
+
+pub doc_of_document-next : (o more : Option Data) → o ≡ None → doc_of_document (option_or o more) ≡ doc_of_document more
+doc_of_document-next o more none = ap (λ p. doc_of_document (option_or p more)) none
+
+never_large : (b : Bool) (is : List Item) → (if b then Err TooMany else Ok is) ≡ Err TooLarge → ⊥
+never_large true is e = cc
+never_large false is e = cc
+
+elements_small : (o : Option Items) → doc_of_elements o ≡ Err TooLarge → ⊥
+elements_small None e = cc
+elements_small (Some ds) e = never_large (nat_lt most_items (items_len ds)) (items_of ds) e
+
+pub document_small : (o : Option Data) → doc_of_document o ≡ Err TooLarge → ⊥
+document_small None e = cc
+document_small (Some d) e = elements_small (elements_of d) e
+
+pub doc-small : (bytes : List ℕ) → length bytes ≤ most_bytes → doc bytes ≡ doc_of_document (document bytes)
+doc-small bytes small = search (rules, tests)
+
+all_good : (b : Bool) (ds : Items) (is : List Item) → (if b then Err TooMany else Ok (items_of ds)) ≡ Ok is → All IsGoodItem is
+all_good true ds is e = cc
+all_good false ds is e = let same : items_of ds ≡ is = cc in All-good_items_of ds is (sym same)
+
+all_elements_good : (o : Option Items) (is : List Item) → doc_of_elements o ≡ Ok is → All IsGoodItem is
+all_elements_good None is e = cc
+all_elements_good (Some ds) is e = all_good (nat_lt most_items (items_len ds)) ds is e
+
+pub All-good_document : (o : Option Data) (is : List Item) → doc_of_document o ≡ Ok is → All IsGoodItem is
+All-good_document None is e = cc
+All-good_document (Some d) is e = all_elements_good (elements_of d) is e
+
+-- ---- an answer that is right unless memory ran out
+
+abbrev pub IsRightUnless : {T E : Type 0} → E → Result T E → Result T E → Type 0
+IsRightUnless memory r wanted = (r ≡ Err memory → ⊥) → r ≡ wanted
+
+module _ {T E : Type 0} (memory : E) where
+  pub right_items : (r wanted : Result T E) → IsRightUnless memory r wanted → IfOk r (λ x. wanted ≡ Ok x)
+  right_items (Ok x) wanted right = sym (right (λ e. cc))
+  right_items (Err e) wanted right = tt
+
+  pub right_refusal : (r wanted : Result T E) → IsRightUnless memory r wanted → IfErr r (λ e. (e ≡ memory → ⊥) → wanted ≡ Err e)
+  right_refusal (Ok x) wanted right = tt
+  right_refusal (Err e) wanted right = λ other. sym (right (λ same. other (cc)))

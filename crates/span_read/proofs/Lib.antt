@@ -1,7 +1,10 @@
 pub mod Documents
+pub mod Elements
 pub mod Good
+pub mod Grammar
+pub mod Leaves
 pub mod Merged
 pub mod NameOrder
 pub mod Orders
 pub mod Slots
-pub mod Taken
+pub mod Turns

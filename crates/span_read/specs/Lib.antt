@@ -4,9 +4,9 @@ pub mod Element
 pub mod Event
 pub mod Fields
 pub mod Item
-pub mod Members
 pub mod Orders
 pub mod Phase
 pub mod ReadError
+pub mod Reading
 pub mod Refusal
 pub mod Slots

@@ -5,6 +5,7 @@ ghost use Rattle.span_read.specs.Args.{IsInNameOrder, value_of, merged};
 use crate::text::Text;
 use std::alloc::{AllocError, Global};
 use std::cmp::Ordering;
+use std::collections::BTreeMap;
 use std::marker::Model;
 
 /// A value of an event's arguments. Arrays, objects and numbers that are not whole are kept as `Other`.
@@ -80,6 +81,16 @@ impl Args {
             }
         }
         true
+    }
+
+    pub(crate) fn of_map(alloc: Global, map: BTreeMap<Text, ArgValue>) -> Result<Args, AllocError>
+        ensures { IfOk result (λ args. args ≡ map.entries) }
+    {
+        let mut pairs = Vec::with_capacity(alloc, map.len())?;
+        for (name, value) in map {
+            pairs.push((name, value))?;
+        }
+        Ok(Args { pairs })
     }
 
     /// The pairs as they are. Takes no memory.

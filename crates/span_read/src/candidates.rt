@@ -1,50 +1,61 @@
 // The texts that are tried in turn: the text itself, and of an array also the text cut at its end, and closed.
-ghost use Rattle.std.specs.Prelude.{◌≡◌, ◌+◌, ◌<◌, ◌≤◌, ◌∷◌, ◌++◌, [], IfOk, option_map};
+ghost use Rattle.std.specs.Prelude.{◌≡◌, ◌≢◌, ◌∷◌, ◌++◌, [], Err, IfOk};
 ghost use Rattle.std.specs.String.{string_bytes};
 ghost use Rattle.serde_json.specs.Read.{read};
-ghost use Rattle.serde_json.specs.View.{view};
-ghost use Rattle.span_read.specs.Document.{is_blank, opens_array, without_trailing_blanks, without_trailing_comma, cut_text, candidates, first_read};
+ghost use Rattle.span_read.specs.Document.{is_blank, opens_array, without_trailing_blanks, without_trailing_comma, cut_text, candidates, first_read, doc_of_document};
+ghost use Rattle.span_read.specs.declared.error.ReadError.TheVariants.{Memory};
 
-use serde_json::Value;
+use crate::error::ReadError;
+use crate::items::Items;
+use crate::stop::Stop;
+use crate::trace::read_document;
+use json::{Reader, Scratch};
 use std::alloc::{AllocError, Global};
 
-/// The value of the first candidate that reads. Only the last candidate is a copy.
-pub(crate) fn first_read(alloc: Global, text: &str) -> Result<Option<Value>, AllocError>
-    ensures { IfOk result (λ found. option_map view found ≡ first_read (candidates text.now)) }
+/// How deep arrays and objects may nest.
+const MAX_DEPTH: usize = 127;
+
+/// What the first candidate that reads is. Only the last candidate is a copy.
+pub(crate) fn read_first(alloc: Global, text: &str) -> Result<Items, ReadError>
+    ensures { result ≢ Err Memory → result ≡ doc_of_document (first_read (candidates text.now)) }
 {
-    if let Some(value) = read(alloc, text)? {
-        return Ok(Some(value));
-    }
-    if opens_array(text) {
-        read_unfinished(alloc, text)
-    } else {
-        Ok(None)
+    match read_text(alloc, text) {
+        Err(ReadError::NotJson) if opens_array(text) => read_unfinished(alloc, text),
+        answer => answer,
     }
 }
 
-fn read_unfinished(alloc: Global, text: &str) -> Result<Option<Value>, AllocError>
-    ensures { IfOk result (λ found. option_map view found ≡ first_read (cut_text text.now ∷ (cut_text text.now ++ 93 ∷ []) ∷ [])) }
+fn read_unfinished(alloc: Global, text: &str) -> Result<Items, ReadError>
+    ensures { result ≢ Err Memory
+        → result ≡ doc_of_document (first_read (cut_text text.now ∷ (cut_text text.now ++ 93 ∷ []) ∷ [])) }
 {
     let cut = cut_text(text);
-    if let Some(value) = read(alloc, cut)? {
-        return Ok(Some(value));
+    match read_text(alloc, cut) {
+        Err(ReadError::NotJson) => {
+            let Ok(closed) = closed_text(alloc, cut) else {
+                return Err(ReadError::Memory);
+            };
+            read_text(alloc, closed.as_str())
+        }
+        answer => answer,
     }
-    let closed = closed_text(alloc, cut)?;
-    read(alloc, closed.as_str())
 }
 
-fn read(alloc: Global, text: &str) -> Result<Option<Value>, AllocError>
-    ensures { IfOk result (λ found. option_map view found ≡ read text.now) }
+fn read_text(alloc: Global, text: &str) -> Result<Items, ReadError>
+    ensures { result ≢ Err Memory → result ≡ doc_of_document (read text.now) }
 {
-    match Value::from_str(alloc, text) {
-        Ok(value) => Ok(Some(value)),
-        Err(error) => {
-            if error.is_memory() {
-                Err(AllocError)
-            } else {
-                Ok(None)
-            }
-        }
+    let mut scratch = Scratch::new(alloc);
+    let Ok(mut reader) = Reader::new(text, &mut scratch) else {
+        return Err(ReadError::Memory);
+    };
+    match read_document(alloc, &mut reader, MAX_DEPTH) {
+        Ok(found) => if reader.next().is_some() {
+            Err(ReadError::NotJson)
+        } else {
+            found
+        },
+        Err(Stop::NotJson) => Err(ReadError::NotJson),
+        Err(Stop::Memory) => Err(ReadError::Memory),
     }
 }
 

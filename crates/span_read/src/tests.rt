@@ -1,4 +1,5 @@
 // What the definitions are compared with: texts and their items, worked out by hand.
+mod agreement;
 mod documents;
 mod elements;
 mod values;

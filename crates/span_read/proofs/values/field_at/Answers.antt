@@ -1,7 +1,6 @@
 use Rattle.std.proofs.Common.{option_map, ap, ◌∙◌}
 use Rattle.serde_json.specs.View.{view}
 use Rattle.serde_json.proofs.Views.{view-lookup}
-use Rattle.span_read.specs.Fields.{field_value}
 use Rattle.span_read.proofs.values.field_at.Goals as goal
 
 pub returns-in_ok-field_value-in-Some : goal.returns-in_ok-field_value-in-Some

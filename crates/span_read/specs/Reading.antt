@@ -1,0 +1,80 @@
+-- What the calls that take tokens promise; for private clauses.
+use Rattle.std.specs.Prelude.{◌≡◌, ℕ, ◌≤◌, List, [], ◌∷◌, length, Bool, true, false, Option, Some, Result, Err}
+use Rattle.json.specs.Token.{Token}
+use Rattle.json.specs.Json.{value, items, members, parse_map}
+use Rattle.serde_json.specs.Data.{Data, null, boolean, number, string, array, object, Items, item, Members, no_members}
+use Rattle.serde_json.specs.Read.{of_json, of_items, of_members, converted}
+use Rattle.span_read.specs.declared.args.ArgValue.{ArgValue}
+use Rattle.span_read.specs.declared.args.ArgValue.TheVariants as arg
+use Rattle.span_read.specs.declared.head.Head.{Head}
+use Rattle.span_read.specs.declared.head.Head.TheVariants.{Object, Array, Words, Plain}
+use Rattle.span_read.specs.declared.stop.Stop.{Stop}
+use Rattle.span_read.specs.declared.stop.Stop.TheVariants.{NotJson}
+use Rattle.span_read.specs.Fields.{arg_value}
+
+-- the data of the value that the tokens begin with, and the tokens after it
+abbrev pub data_at : ℕ → List Token → Option (Data × List Token)
+data_at depth ts = converted of_json (value depth ts)
+
+-- a value with P was taken, and `new` is left
+abbrev pub TakesValue : ℕ → List Token → List Token → (Data → Type 0) → Type 0
+TakesValue depth old new P = (d : Data) × (data_at depth old ≡ Some (d, new)) × P d
+
+-- of an array, whose bracket was taken before, the rest was taken, and its items have P
+abbrev pub TakesArray : ℕ → List Token → List Token → (Items → Type 0) → Type 0
+TakesArray depth old new P = (ds : Items) × (data_at depth (Token.begin_array ∷ old) ≡ Some (array ds, new)) × P ds
+
+-- the same of an object and its members
+abbrev pub TakesObject : ℕ → List Token → List Token → (Members → Type 0) → Type 0
+TakesObject depth old new P = (ms : Members) × (data_at depth (Token.begin_object ∷ old) ≡ Some (object ms, new)) × P ms
+
+abbrev pub IsNotJson : {A : Type 0} → Result A Stop → Type 0
+IsNotJson r = r ≡ Err NotJson
+
+-- neither an array nor an object
+abbrev pub is_leaf : Data → Bool
+is_leaf null = true
+is_leaf (boolean b) = true
+is_leaf (number n) = true
+is_leaf (string s) = true
+is_leaf (array ds) = false
+is_leaf (object ms) = false
+
+-- a leaf of that value was taken, however deep it stands
+pub record TakesLeaf (v : ArgValue) (old new : List Token) : Type 0 where
+  pub found : Data
+  pub reads : (depth : ℕ) → data_at depth old ≡ Some (found, new)
+  pub leaf : is_leaf found ≡ true
+  pub kind : arg_value found ≡ v
+
+-- the beginning of a value was taken
+abbrev pub TakesHead : Head → List Token → List Token → Type 0
+TakesHead Object old new = old ≡ Token.begin_object ∷ new
+TakesHead Array old new = old ≡ Token.begin_array ∷ new
+TakesHead (Words s) old new = TakesLeaf (arg.Words s.now) old new
+TakesHead (Plain v) old new = TakesLeaf v old new
+
+-- ---- loops
+
+abbrev pub items_before : List Data → Items → Items
+items_before [] rest = rest
+items_before (d ∷ ds) rest = item d (items_before ds rest)
+
+-- of the items from `start` on, which end within n turns, some with P were taken, and `left` is left
+pub record ItemsSoFar (depth n : ℕ) (start left : List Token) (P : List Data → Type 0) : Type 0 where
+  pub before : List Data
+  pub turns : ℕ
+  pub enough : length left ≤ turns
+  pub fewer : length left ≤ length start
+  pub same : converted of_items (items (value depth) n start) ≡ parse_map (items_before before) (converted of_items (items (value depth) turns left))
+  pub holds : P before
+
+-- of the members from `start` on some with P were taken, and `left` is left
+pub record MembersSoFar (depth : ℕ) (start left : List Token) (P : Members → Type 0) : Type 0 where
+  pub before : Members
+  pub turns : ℕ
+  pub enough : length left ≤ turns
+  pub fewer : length left ≤ length start
+  pub same :
+      converted (λ ms. of_members ms no_members) (members (value depth) (length start) start) ≡ converted (λ ms. of_members ms before) (members (value depth) turns left)
+  pub holds : P before

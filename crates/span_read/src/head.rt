@@ -1,0 +1,37 @@
+// The beginning of a value.
+ghost use Rattle.std.specs.Prelude.{◌≡◌, ◌<◌, ℕ, length, None, IfOk, OnOk, OnErr};
+ghost use Rattle.span_read.specs.Reading.{data_at, TakesHead};
+
+use crate::args::ArgValue;
+use crate::number::number_value;
+use json::{Invalid, Reader, Token};
+
+/// The bracket of an array or an object, or else the whole value.
+#[derive(Drop)]
+pub(crate) enum Head<'a> {
+    Object,
+    Array,
+    Words(&'a str),
+    Plain(ArgValue),
+}
+
+#[inline(always)]
+pub(crate) fn next_head<'a>(reader: &mut Reader<'a>) -> Result<Head<'a>, Invalid>
+    ensures head { IfOk result (λ head. TakesHead head reader.old reader.new) }
+    ensures shorter { OnOk result (length reader.new < length reader.old) }
+    ensures refused { OnErr result ((depth : ℕ) → data_at depth reader.old ≡ None) }
+{
+    let token = reader.next().ok_or(Invalid)?;
+    match token {
+        Token::BeginObject => Ok(Head::Object),
+        Token::BeginArray => Ok(Head::Array),
+        Token::String(text) => Ok(Head::Words(text)),
+        Token::Number(text) => match number_value(text) {
+            Some(value) => Ok(Head::Plain(value)),
+            None => Err(Invalid),
+        },
+        Token::Bool(flag) => Ok(Head::Plain(ArgValue::Flag(flag))),
+        Token::Null => Ok(Head::Plain(ArgValue::Nil)),
+        Token::EndObject | Token::EndArray | Token::Key(_) | Token::Bad => Err(Invalid),
+    }
+}
