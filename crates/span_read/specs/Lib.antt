@@ -1,6 +1,7 @@
 pub mod Args
 pub mod Document
 pub mod Element
+pub mod Ending
 pub mod Event
 pub mod Fields
 pub mod Item

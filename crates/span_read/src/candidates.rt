@@ -4,6 +4,7 @@ ghost use Rattle.std.specs.String.{string_bytes};
 ghost use Rattle.serde_json.specs.Read.{read};
 ghost use Rattle.span_read.specs.Document.{is_blank, opens_array, without_trailing_blanks, without_trailing_comma, cut_text, candidates, first_read, doc_of_document};
 ghost use Rattle.span_read.specs.declared.error.ReadError.TheVariants.{Memory};
+ghost use Rattle.span_read.specs.Ending.{closes_array};
 
 use crate::error::ReadError;
 use crate::items::Items;
@@ -19,7 +20,7 @@ const MAX_DEPTH: usize = 127;
 pub(crate) fn read_first(alloc: Global, text: &str) -> Result<Items, ReadError>
     ensures { result ≢ Err Memory → result ≡ doc_of_document (first_read (candidates text.now)) }
 {
-    match read_text(alloc, text) {
+    match read_closed(alloc, text) {
         Err(ReadError::NotJson) if opens_array(text) => read_unfinished(alloc, text),
         answer => answer,
     }
@@ -30,7 +31,7 @@ fn read_unfinished(alloc: Global, text: &str) -> Result<Items, ReadError>
         → result ≡ doc_of_document (first_read (cut_text text.now ∷ (cut_text text.now ++ 93 ∷ []) ∷ [])) }
 {
     let cut = cut_text(text);
-    match read_text(alloc, cut) {
+    match read_closed(alloc, cut) {
         Err(ReadError::NotJson) => {
             let Ok(closed) = closed_text(alloc, cut) else {
                 return Err(ReadError::Memory);
@@ -38,6 +39,17 @@ fn read_unfinished(alloc: Global, text: &str) -> Result<Items, ReadError>
             read_text(alloc, closed.as_str())
         }
         answer => answer,
+    }
+}
+
+/// An array whose closing bracket is missing isn't read to its end to find that out.
+fn read_closed(alloc: Global, text: &str) -> Result<Items, ReadError>
+    ensures { result ≢ Err Memory → result ≡ doc_of_document (read text.now) }
+{
+    if opens_array(text) && !closes_array(text) {
+        Err(ReadError::NotJson)
+    } else {
+        read_text(alloc, text)
     }
 }
 
@@ -74,6 +86,13 @@ fn opens_array(text: &str) -> bool
         }
     }
     false
+}
+
+fn closes_array(text: &str) -> bool
+    ensures { result ≡ closes_array text.now }
+{
+    let bytes = without_trailing_blanks(text).as_bytes();
+    !bytes.is_empty() && bytes[bytes.len() - 1] == b']'
 }
 
 fn cut_text(text: &str) -> &str

@@ -1,0 +1,67 @@
+-- An array whose closing bracket is missing doesn't read.
+use Rattle.std.proofs.Common.{◌≡◌, ℕ, ◌+◌, ◌-◌, ◌≤◌, List, [], ◌∷◌, length, take, get_or, Option, Some, None, Bool, true, false, ◌||◌, ◌==◌, eqb-true, refl, sym, ap, ◌∙◌, arith, if◌then◌else◌}
+use Rattle.std.specs.List.{suffix_len}
+use Rattle.std.proofs.lemmas.List.{get_or-take, length-take-le}
+use Rattle.std.proofs.lemmas.List.Sums.{suffix_len_is}
+use Rattle.json.specs.Token.{Token, begin_array}
+use Rattle.json.specs.Json.{Json, value}
+use Rattle.json.specs.Lex.{Lexeme, token, space, class, between, lex_byte, lex, fresh, punctuate, tokens}
+use Rattle.json.proofs.Grammar.{left}
+use Rattle.serde_json.specs.Read.{read}
+use Rattle.span_read.specs.Document.{is_blank, opens_array, without_trailing_blanks}
+use Rattle.span_read.specs.Ending.{closes_array}
+use Rattle.span_read.proofs.Ends.{array_ends}
+use Rattle.span_read.proofs.Grammar.{whole}
+use Rattle.span_read.proofs.LastByte.{ClosesAt, ClosesAt-tokens}
+
+blank_class : (b : ℕ) (p q r s : Bool) → (b == 32) ≡ p → (b == 9) ≡ q → (b == 10) ≡ r → (b == 13) ≡ s → (p || q || r || s) ≡ true → class b ≡ space
+blank_class b true q r s is h i j e = ap class (eqb-true b 32 is)
+blank_class b false true r s h is i j e = ap class (eqb-true b 9 is)
+blank_class b false false true s h i is j e = ap class (eqb-true b 10 is)
+blank_class b false false false true h i j is e = ap class (eqb-true b 13 is)
+blank_class b false false false false h i j k e = absurd (cc)
+
+abbrev Opens : List ℕ → Type 0
+Opens text = (rest : List Lexeme) × (lex between text ≡ token begin_array ∷ rest)
+
+opens_step : (blank : Bool) (b : ℕ) (text : List ℕ) → is_blank b ≡ blank → (if blank then opens_array text else b == 91) ≡ true → (opens_array text ≡ true → Opens text) → Opens (b ∷ text)
+unfolding lex
+opens_step true b text is e again =
+    let more = again e in
+    (more.0, ap (λ c. lex_byte between c b text (λ next. lex next text)) (blank_class b _ _ _ _ refl refl refl refl is) ∙ more.1)
+opens_step false b text is e again = (lex between text, ap (λ x. lex between (x ∷ text)) (eqb-true b 91 e))
+
+opens_lex : (text : List ℕ) → opens_array text ≡ true → Opens text
+opens_lex [] e = absurd (cc)
+opens_lex (b ∷ text) e = opens_step (is_blank b) b text refl e (opens_lex text)
+
+begins : (ls rest : List Lexeme) → ls ≡ token begin_array ∷ rest → punctuate fresh ls ≡ begin_array ∷ punctuate fresh rest
+unfolding punctuate
+begins ls rest is = ap (punctuate fresh) is
+
+closes : (text : List ℕ) → opens_array text ≡ true → left (value 127 (tokens text)) ≡ Some [] → ClosesAt text
+closes text opens all =
+    let ls = opens_lex text opens in
+    let first : tokens text ≡ begin_array ∷ punctuate fresh ls.0 = begins (lex between text) ls.0 ls.1 in
+    let last = array_ends 127 (punctuate fresh ls.0) (ap (λ ts. left (value 127 ts)) (sym first) ∙ all) in
+    ClosesAt-tokens text (last.0, first ∙ last.1)
+
+unread : (text : List ℕ) (o : Option (Json × List Token)) → value 127 (tokens text) ≡ o → opens_array text ≡ true → (ClosesAt text → ⊥) → whole o ≡ None
+unread text None is opens unclosed = refl
+unread text (Some (j, [])) is opens unclosed = absurd (unclosed (closes text opens (ap left is)))
+unread text (Some (j, t ∷ r)) is opens unclosed = refl
+
+closes_array-ClosesAt : (text : List ℕ) → ClosesAt text → closes_array text ≡ true
+closes_array-ClosesAt text s =
+    let end = s.place + 1 in
+    let within : end ≤ length text = omega (arith, s.within) in
+    let bracket_stays : is_blank (get_or text (end - 1) 0) ≡ false = let last : end - 1 ≡ s.place = omega arith in ap (λ i. is_blank (get_or text i 0)) last ∙ ap is_blank s.bracket in
+    let blanks = suffix_len_is is_blank text end 0 within (λ k past inside. s.blanks k (omega arith) inside) (λ some. bracket_stays) in
+    let kept : length text - suffix_len is_blank text ≡ end = omega arith in
+    let trimmed : without_trailing_blanks text ≡ take end text = ap (λ n. take n text) kept in
+    let last : length (take end text) - 1 ≡ s.place = omega (arith, length-take-le end text within) in
+    let byte : get_or (take end text) (length (take end text) - 1) 0 ≡ 93 = ap (λ i. get_or (take end text) i 0) last ∙ get_or-take end text s.place 0 (omega arith) ∙ s.bracket in
+    ap (λ t. get_or t (length t - 1) 0 == 93) trimmed ∙ ap (λ b. b == 93) byte
+
+pub read-unclosed : (text : List ℕ) → opens_array text ≡ true → closes_array text ≡ false → read text ≡ None
+read-unclosed text opens unclosed = unread text (value 127 (tokens text)) refl opens (λ s. let clash : true ≡ false = sym (closes_array-ClosesAt text s) ∙ unclosed in cc)
