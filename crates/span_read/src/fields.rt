@@ -72,6 +72,8 @@ impl Fields {
         }
     }
 
+    // Inlined, it would have all the fields copied at each member.
+    #[inline(never)]
     pub(crate) fn put(&mut self, name: &str, value: FieldValue)
         ensures { slots (data_of self.new)
             ≡ put_at name.now value names (slots (data_of self.old)) }

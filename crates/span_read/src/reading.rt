@@ -16,6 +16,7 @@ use std::alloc::Global;
 use std::collections::BTreeMap;
 
 /// The rest of an object whose bracket was taken.
+#[inline(never)]
 pub(crate) fn read_fields(
     alloc: Global,
     reader: &mut Reader<'_>,
@@ -37,6 +38,7 @@ pub(crate) fn read_fields(
     Ok(fields)
 }
 
+#[inline(always)]
 fn read_field(alloc: Global, reader: &mut Reader<'_>, depth: usize) -> Result<FieldValue, Stop>
     ensures field { IfOk result (λ field. TakesValue depth reader.old reader.new
         (λ d. field_value d ≡ field)) }
@@ -55,6 +57,7 @@ fn read_field(alloc: Global, reader: &mut Reader<'_>, depth: usize) -> Result<Fi
 }
 
 /// The rest of an object whose bracket was taken. Of two members of one name the last stays.
+#[inline(never)]
 fn read_pairs(alloc: Global, reader: &mut Reader<'_>, depth: usize) -> Result<Args, Stop>
     ensures pairs { IfOk result (λ args. TakesObject depth reader.old reader.new
         (λ ms. args ≡ pairs_of ms)) }
@@ -73,6 +76,7 @@ fn read_pairs(alloc: Global, reader: &mut Reader<'_>, depth: usize) -> Result<Ar
     Ok(Args::of_map(alloc, found)?)
 }
 
+#[inline(always)]
 fn read_arg(alloc: Global, reader: &mut Reader<'_>, depth: usize) -> Result<ArgValue, Stop>
     ensures value { IfOk result (λ v. TakesValue depth reader.old reader.new
         (λ d. arg_value d ≡ v)) }
