@@ -7,6 +7,8 @@ CRATES = os.path.join(os.path.dirname(os.path.abspath(__file__)), "..", "crates"
 READING_TIME = os.path.join(CRATES, "reading_time", "out", "reading_time")
 END = '],"beginningOfTime":1}'
 TURNS = 3
+# A file of the largest size that is read, but for a little.
+LARGEST = 67_108_000
 
 
 def chrome_event(place):
@@ -33,6 +35,31 @@ def clang_event(place):
         place % 30000,
         place % 500,
     )
+
+
+def begin_or_end(place):
+    """A begin and then its end, each with arguments, on eight threads of one process."""
+    thread = place // 2 % 8
+    if place % 2 == 0:
+        return (
+            '{"name":"handle request","cat":"server","ph":"B","pid":1,"tid":%d,"ts":%d,'
+            '"args":{"method":"GET","path":"/a/b/%d","size":%d}}' % (thread, 100 + 3 * place, place % 1000, place)
+        )
+    return '{"ph":"E","pid":1,"tid":%d,"ts":%d,"args":{"status":%d}}' % (thread, 100 + 3 * place, 200 + place % 5)
+
+
+def write_array(path, event, size, end):
+    """Writes an array of as many events as `size` bytes hold, with that text after the last."""
+    with open(path, "w") as trace:
+        written = trace.write("[" + event(0))
+        place = 1
+        text = "," + event(place)
+        while written + len(text) + len(end) <= size:
+            written += trace.write(text)
+            place += 1
+            text = "," + event(place)
+        trace.write(end)
+    return os.path.getsize(path)
 
 
 def write_trace(path, event, size):
