@@ -1,5 +1,5 @@
 -- What a file is, from what its first candidate is that reads.
-use Rattle.std.proofs.Common.{◌≡◌, ℕ, ◌≤◌, List, length, refl, sym, ap, Bool, true, false, Option, None, Some, Result, Ok, Err, IfOk, All, nat_lt, if◌then◌else◌, rules, tests}
+use Rattle.std.proofs.Common.{◌≡◌, ℕ, ◌≤◌, List, length, refl, sym, ap, Bool, true, false, Option, None, Some, Result, Ok, Err, IfOk, All, nat_lt, if◌then◌else◌, rules, tests, ap₂, [], ◌∷◌, ◌++◌}
 use Rattle.std.specs.Option.{option_or}
 use Rattle.std.specs.Prelude.{IfErr}
 use Rattle.std.specs.Str.{IsUtf8, is_utf8}
@@ -8,19 +8,32 @@ use Rattle.serde_json.specs.Data.{Data, Items}
 use Rattle.serde_json.specs.Events.{items_len}
 use Rattle.span_read.specs.declared.item.Item.{Item}
 use Rattle.span_read.specs.declared.error.ReadError.TheVariants.{TooLarge, NotJson, TooMany}
-use Rattle.span_read.specs.Document.{document, candidates, first_read, elements_of, doc, doc_of_document, doc_of_elements, items_of, most_bytes, most_items}
+use Rattle.span_read.specs.Document.{document, read_utf8, first_read, cut_text, opens_array, elements_of, doc, doc_of_document, doc_of_elements, items_of, most_bytes, most_items}
+use Rattle.serde_json.specs.Read.{read}
+use Rattle.span_read.proofs.Utf8.{IsUtf8-cut_text, IsUtf8-closed}
 use Rattle.span_read.specs.Item.{IsGoodItem}
 use Rattle.span_read.proofs.Good.{All-good_items_of}
 
-pub document-of_utf8 : (bytes : List ℕ) → IsUtf8 bytes → document bytes ≡ first_read (candidates bytes)
-document-of_utf8 bytes is = rw (is_utf8-from_IsUtf8 bytes is)
+pub read_utf8-of_utf8 : (text : List ℕ) → IsUtf8 text → read_utf8 text ≡ read text
+read_utf8-of_utf8 text is = rw (is_utf8-from_IsUtf8 text is)
 
 test_fails : (b : Bool) → (b ≡ true → ⊥) → b ≡ false
 test_fails true not = absurd (not refl)
 test_fails false not = refl
 
+not_read : (text : List ℕ) → (IsUtf8 text → ⊥) → read_utf8 text ≡ None
+not_read text not = rw (test_fails (is_utf8 text) (λ h. not (IsUtf8-from_is_utf8 text h)))
+
+none_cut : (b : Bool) (text : List ℕ) → (IsUtf8 text → ⊥) → first_read (if b then cut_text text ∷ (cut_text text ++ 93 ∷ []) ∷ [] else []) ≡ None
+none_cut true text not =
+    let cut = not_read (cut_text text) (λ h. not (IsUtf8-cut_text text h)) in
+    let closed = not_read (cut_text text ++ 93 ∷ []) (λ h. not (IsUtf8-cut_text text (IsUtf8-closed (cut_text text) h))) in
+    ap₂ (λ c d. option_or c (option_or d None)) cut closed
+none_cut false text not = refl
+
+-- where the bytes are no UTF-8, no candidate is
 pub document-of_no_utf8 : (bytes : List ℕ) → (IsUtf8 bytes → ⊥) → document bytes ≡ None
-document-of_no_utf8 bytes not = rw (test_fails (is_utf8 bytes) (λ h. not (IsUtf8-from_is_utf8 bytes h)))
+document-of_no_utf8 bytes not = ap₂ (λ c d. option_or c d) (not_read bytes not) (none_cut (opens_array bytes) bytes not)
 
 limited : (b : Bool) (is : List Item) → (if b then Err TooMany else Ok is) ≡ Err NotJson → ⊥
 limited true is e = cc

@@ -11,3 +11,4 @@ pub mod Orders
 pub mod Slots
 pub mod Turns
 pub mod Unclosed
+pub mod Utf8
