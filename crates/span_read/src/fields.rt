@@ -12,7 +12,7 @@ pub(crate) enum FieldValue {
 }
 
 impl FieldValue {
-    ghost use Rattle.span_read.specs.Fields.{whole, words, pairs};
+    ghost use Rattle.span_read.specs.Fields.{whole, words};
 
     pub(crate) fn whole(&self) -> Option<i64>
         ensures { result ≡ whole self.now }
