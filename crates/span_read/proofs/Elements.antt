@@ -18,11 +18,14 @@ items_of-items_before : (bs : List Data) → items_of (items_before bs no_items)
 items_of-items_before [] = refl
 items_of-items_before (b ∷ bs) = ap (λ is. item_of_data b ∷ is) (items_of-items_before bs)
 
-pub doc_of_elements-too_many : (bs : List Data) (ds : Items) → most_items < length bs → doc_of_elements (Some (items_before bs ds)) ≡ Err TooMany
+doc_of_elements-too_many : (bs : List Data) (ds : Items) → most_items < length bs → doc_of_elements (Some (items_before bs ds)) ≡ Err TooMany
 doc_of_elements-too_many bs ds many =
     let len = items_len-items_before bs ds in
     let over : most_items < items_len (items_before bs ds) = omega arith in
     search (rules, tests)
+
+pub TooMany-doc_of_elements : (bs : List Data) (ds : Items) → most_items < length bs → Err TooMany ≡ doc_of_elements (Some (items_before bs ds))
+TooMany-doc_of_elements bs ds many = sym (doc_of_elements-too_many bs ds many)
 
 pub doc_of_elements-within : (bs : List Data) (is : List Item) → length bs ≤ most_items → map item_of_data bs ≡ is → doc_of_elements (Some (items_before bs no_items)) ≡ Ok is
 doc_of_elements-within bs is few same =

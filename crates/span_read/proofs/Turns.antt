@@ -86,3 +86,7 @@ module _ (depth : ℕ) (some : 0 < depth) (P : Members → Type 0) (start ts : L
     data_at-begin_object depth start some ∙ ap (parse_map object) (s.same ∙ members_over (value (depth - 1)) s.before s.turns ts r s.enough over),
     s.holds,
   )
+
+-- what holds of the members that were taken gives what is asked of them
+pub takes_object : (depth : ℕ) (old new : List Token) (P Q : Members → Type 0) → ((ms : Members) → P ms → Q ms) → TakesObject depth old new P → TakesObject depth old new Q
+takes_object depth old new P Q gives taken = (taken.0, taken.1, gives taken.0 taken.2)

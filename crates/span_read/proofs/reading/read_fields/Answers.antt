@@ -5,7 +5,7 @@ use Rattle.span_read.specs.Fields.{fields_of}
 use Rattle.span_read.specs.Slots.{data_of, slots, names, put_at}
 use Rattle.span_read.proofs.Grammar.{data_at-too_deep_object}
 use Rattle.span_read.proofs.Slots.{places, put_at-places, slots_injective}
-use Rattle.span_read.proofs.Turns.{members_start, members_turn, members_key_refused, members_value_refused, members_finish}
+use Rattle.span_read.proofs.Turns.{members_start, members_turn, members_key_refused, members_value_refused, members_finish, takes_object}
 use Rattle.span_read.proofs.reading.read_fields.Goals as goal
 
 pub returns-then-depth-eq0-clause-refused : goal.returns-then-depth-eq0-clause-refused
@@ -43,5 +43,5 @@ members-preserved c =
 pub returns-clause-fields : goal.returns-clause-fields
 returns-clause-fields c =
     let l = c.members in
-    let all = members_finish c.args.depth (omega arith) (λ ms. slots (data_of l.fields) ≡ places names ms) c.args.reader.now l.reader l.invariant c.next_key.new.self (grind arith) in
-    (all.0, all.1, slots_injective (data_of l.fields) (fields_of all.0) all.2)
+    takes_object c.args.depth c.args.reader.now c.next_key.new.self (λ ms. slots (data_of l.fields) ≡ places names ms) (λ ms. data_of l.fields ≡ fields_of ms) (λ ms holds. slots_injective (data_of l.fields) (fields_of ms) holds)
+    (members_finish c.args.depth (omega arith) (λ ms. slots (data_of l.fields) ≡ places names ms) c.args.reader.now l.reader l.invariant c.next_key.new.self (grind arith))

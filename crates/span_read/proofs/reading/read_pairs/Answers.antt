@@ -6,7 +6,7 @@ use Rattle.serde_json.specs.Data.{put}
 use Rattle.span_read.specs.Fields.{arg_value, pairs_of}
 use Rattle.span_read.proofs.Grammar.{data_at-too_deep_object}
 use Rattle.span_read.proofs.NameOrder.{pairs_of-put}
-use Rattle.span_read.proofs.Turns.{members_start, members_turn, members_key_refused, members_value_refused, members_finish}
+use Rattle.span_read.proofs.Turns.{members_start, members_turn, members_key_refused, members_value_refused, members_finish, takes_object}
 use Rattle.span_read.proofs.reading.read_pairs.Goals as goal
 
 pub returns-then-depth-eq0-clause-refused : goal.returns-then-depth-eq0-clause-refused
@@ -46,5 +46,5 @@ members-preserved c =
 pub returns-clause-pairs : goal.returns-clause-pairs
 returns-clause-pairs c =
     let l = c.members in
-    let all = members_finish c.args.depth (omega arith) (λ ms. l.found.entries ≡ pairs_of ms) c.args.reader.now l.reader l.invariant c.next_key.new.self (grind arith) in
-    (all.0, all.1, c.in_ok-of_map.ensures ∙ all.2)
+    takes_object c.args.depth c.args.reader.now c.next_key.new.self (λ ms. l.found.entries ≡ pairs_of ms) (λ ms. c.in_ok-of_map.field-0 ≡ pairs_of ms) (λ ms holds. c.in_ok-of_map.ensures ∙ holds)
+    (members_finish c.args.depth (omega arith) (λ ms. l.found.entries ≡ pairs_of ms) c.args.reader.now l.reader l.invariant c.next_key.new.self (grind arith))

@@ -6,7 +6,7 @@ use Rattle.serde_json.specs.Data.{no_items}
 use Rattle.span_read.specs.Document.{most_items}
 use Rattle.span_read.specs.Element.{item_of_data}
 use Rattle.span_read.specs.Reading.{data_at, items_before}
-use Rattle.span_read.proofs.Elements.{doc_of_elements-too_many, doc_of_elements-within, map-snoc}
+use Rattle.span_read.proofs.Elements.{TooMany-doc_of_elements, doc_of_elements-within, map-snoc}
 use Rattle.span_read.proofs.Grammar.{data_at-too_deep_array}
 use Rattle.span_read.proofs.Turns.{items_start, items_turn, items_refused, items_rest, items_rest_refused, items_finish, array_taken, array_refused}
 use Rattle.span_read.proofs.trace.read_elements.Goals as goal
@@ -62,7 +62,7 @@ returns-then-len-eq-MOST_ITEMS-clause-found c =
     let rest = c.in_ok-pass_items.ensures.taken passed.turns passed.enough in (
       items_before passed.before rest.0,
       array_taken c.args.depth start new (items_before passed.before rest.0) (omega arith) (items_rest (c.args.depth - 1) (length start) start (λ ds. most_items < length ds) r passed rest.0 new rest.1),
-      sym (doc_of_elements-too_many passed.before rest.0 passed.holds),
+      TooMany-doc_of_elements passed.before rest.0 passed.holds,
     )
 
 pub returns-in_err-item-clause-refused : goal.returns-in_err-item-clause-refused
