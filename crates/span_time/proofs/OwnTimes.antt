@@ -14,7 +14,7 @@ use Rattle.span_time.proofs.Ranks.{outranks-itself, outranks-trans, IsRanked-spa
 use Rattle.span_time.proofs.Owners.{owners_of-All, covers-owners_of, at-owners_of}
 use Rattle.span_time.proofs.Tops.{one_if, sum_by-tops}
 
-All-apart : (at : ℕ) (spans : List (Span ℕ)) → IsApart at spans → All (λ s. s.at ≢ at) spans
+pub All-apart : (at : ℕ) (spans : List (Span ℕ)) → IsApart at spans → All (λ s. s.at ≢ at) spans
 All-apart at [] apart = All-nil (λ (s : Span ℕ). s.at ≢ at)
 All-apart at (s ∷ spans) apart = All-cons (λ (s : Span ℕ). s.at ≢ at) s spans apart.0 (All-apart at spans apart.1)
 

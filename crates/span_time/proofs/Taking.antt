@@ -20,7 +20,7 @@ pub taken-after : (s : Span ℕ) (owners : Owners) (u : ℤ) → s.until ≤ℤ 
 taken-after s owners u h = ap (λ b. cond (b && claims s (owners u)) (Some s) (owners u)) (covers-after s u h)
 
 -- within the span the claim decides
-taken-within : (s : Span ℕ) (owners : Owners) (u : ℤ) (owner : Option (Span ℕ)) (b : Bool) → s.start ≤ℤ u → u <ℤ s.until → owners u ≡ owner → claims s owner ≡ b → taken s owners u ≡ cond b (Some s) owner
+pub taken-within : (s : Span ℕ) (owners : Owners) (u : ℤ) (owner : Option (Span ℕ)) (b : Bool) → s.start ≤ℤ u → u <ℤ s.until → owners u ≡ owner → claims s owner ≡ b → taken s owners u ≡ cond b (Some s) owner
 taken-within s owners u owner b from before is claim =
     ap (λ t. cond (t && claims s (owners u)) (Some s) (owners u)) (covers-between s u from before)
     ∙ ap (λ o. cond (claims s o) (Some s) o) is ∙ ap (λ t. cond t (Some s) owner) claim

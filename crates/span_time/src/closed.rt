@@ -7,9 +7,9 @@ ghost use Rattle.span_time.specs.Spans.{self_of, busy_time};
 ghost use Rattle.span_time.specs.Closed.{total_in, total_for, span_of, IsInTime, AreClosed};
 ghost use Rattle.span_time.specs.Segments.{lasts, AreSegments, HasSegments, HasEnds};
 
+use crate::division::Division;
 use crate::segment::{Part, Segment};
 use crate::span::{ClosedSpan, NameTotal};
-use crate::timeline::Timeline;
 use crate::walk::distance;
 use indexmap::IndexMap;
 use std::alloc::{AllocError, Global};
@@ -20,7 +20,10 @@ use std::marker::Model;
 pub struct ClosedSpans {
     list: Vec<ClosedSpan>,
     totals: IndexMap<u32, NameTotal>,
-    timeline: Timeline,
+    division: Division,
+    // How many parts stacks had to move, about.
+    moves: u64,
+    alloc: Global,
 }
 
 impl Model for ClosedSpans {
@@ -28,14 +31,14 @@ impl Model for ClosedSpans {
     ghost use Rattle.span_time.specs.Spans.{Span};
     ghost use Rattle.span_time.specs.Closed.{span_of, AreClosed, AreTotals};
     ghost use Rattle.span_time.specs.Division.{owners_of};
-    ghost use Rattle.span_time.specs.Cursor.{IsTimeline};
+    ghost use Rattle.span_time.specs.Kept.{IsDivision};
 
     ghost Value = { List (Span ℕ) };
 
     ghost view = { λ c. map span_of c.list.items };
 
     ghost invariant = { λ c. AreClosed (map span_of c.list.items) × AreTotals c.totals (map span_of c.list.items)
-        × IsTimeline (owners_of (map span_of c.list.items)) c.timeline };
+        × IsDivision (owners_of (map span_of c.list.items)) c.division };
 }
 
 impl ClosedSpans {
@@ -46,7 +49,9 @@ impl ClosedSpans {
         ClosedSpans {
             list: Vec::new(alloc),
             totals: IndexMap::new(alloc),
-            timeline: Timeline::new(alloc),
+            division: Division::new(alloc),
+            moves: 0,
+            alloc,
         }
     }
 
@@ -69,7 +74,11 @@ impl ClosedSpans {
     {
         self.list.reserve(1)?;
         self.totals.reserve(1)?;
-        self.timeline.add(&Part::whole(&span))?;
+        let part = Part::whole(&span);
+        self.moves = self
+            .division
+            .suit(&part, self.moves, &self.list, self.alloc)?;
+        self.division.add(&part)?;
         let length = distance(span.start, span.until);
         add_to_total(&mut self.totals, span.name, length);
         self.list.push_reserved(span);
@@ -87,14 +96,14 @@ impl ClosedSpans {
     pub fn self_of(&self, name: u32) -> u64
         ensures { result ≡ self_of nat_eq name self.now }
     {
-        self.timeline.self_of(name)
+        self.division.self_of(name)
     }
 
     /// The microseconds that at least one span covers.
     pub fn busy(&self) -> u64
         ensures { result ≡ busy_time self.now }
     {
-        self.timeline.busy()
+        self.division.busy()
     }
 
     /// How many segments of time there are: stretches, each as long as can be, in which one span ranks above all others that cover it.
@@ -103,7 +112,7 @@ impl ClosedSpans {
         ensures segments { HasSegments self.now }
         ensures bound { result ≤ 2 * count_by lasts self.now - 1 }
     {
-        self.timeline.segment_count()
+        self.division.segment_count()
     }
 
     /// A segment of time, in ascending order, counted from 0; None from the number of segments on.
@@ -111,7 +120,7 @@ impl ClosedSpans {
         ensures segment { (segments : List Segment) → AreSegments self.now segments → option_copied result ≡ slice_get segments i }
         ensures ends { IfSome (option_copied result) (HasEnds self.now) }
     {
-        self.timeline.segment(i)
+        self.division.segment(i)
     }
 }
 
@@ -142,3 +151,6 @@ fn add_to_total(totals: &mut IndexMap<u32, NameTotal>, name: u32, length: u64)
         unreachable!();
     }
 }
+
+#[cfg(test)]
+mod tests;

@@ -2,9 +2,14 @@
 #![tactic(auto)]
 
 mod closed;
+mod division;
 pub mod laws;
+mod own;
 mod segment;
+mod shares;
 mod span;
+mod stretches;
+mod ties;
 mod timeline;
 pub mod walk;
 

@@ -1,7 +1,9 @@
 //! Segments of time with an owner.
-ghost use Rattle.std.specs.Prelude.{◌≡◌};
+ghost use Rattle.std.specs.Prelude.{◌≡◌, ◌≢◌};
+ghost use Rattle.std.specs.Bool.{OnTrue, OnFalse};
+ghost use Rattle.std.specs.Option.{option_map};
 ghost use Rattle.span_time.specs.Spans.{outranks};
-ghost use Rattle.span_time.specs.Division.{owner_of, between, whole};
+ghost use Rattle.span_time.specs.Division.{owner_of, claims, between, whole};
 
 use crate::span::ClosedSpan;
 
@@ -60,5 +62,25 @@ impl Part {
             || (self.span_start == other.span_start
                 && (self.span_until < other.span_until
                     || (self.span_until == other.span_until && other.segment.at < self.segment.at)))
+    }
+
+    /// Whether the span takes time from the owner, or from no one.
+    pub(crate) fn claims(&self, owner: &Option<Part>) -> bool
+        ensures { result ≡ claims (owner_of self.now) (option_map owner_of owner.now) }
+    {
+        match owner {
+            Some(part) => self.outranks(part),
+            None => true,
+        }
+    }
+
+    pub(crate) fn is_of_span_of(&self, other: &Part) -> bool
+        ensures same { OnTrue result (owner_of self.now ≡ owner_of other.now) }
+        ensures differs { OnFalse result (owner_of self.now ≢ owner_of other.now) }
+    {
+        self.segment.at == other.segment.at
+            && self.segment.name == other.segment.name
+            && self.span_start == other.span_start
+            && self.span_until == other.span_until
     }
 }

@@ -6,10 +6,14 @@ ghost use Rattle.span_time.specs.Closed.{least_start, greatest_until};
 ghost use Rattle.span_time.specs.Division.{Owners, owner_of, taken, Belong, ArePast, own_in, IsOnly, IsNew, ForSome, parts_of, piece};
 ghost use Rattle.span_time.specs.Cursor.{ends_by, lasts_beyond, starts_before, IsTimeline, IsEntering, IsTaking, IsAhead, IsPassing, IsTakenBack, IsGained};
 
+use crate::own::{gain_own, keep_name, lose_own, own_in};
 use crate::segment::{Part, Segment};
 use crate::walk::distance;
 use indexmap::IndexMap;
 use std::alloc::{AllocError, Global};
+
+// Up to so many parts the cursor passes without being asked how many.
+const FEW: usize = 64;
 
 /// The parts of the time in order, with a cursor in between, so that a span that lies near the last one costs no more than what it covers.
 #[derive(Drop)]
@@ -91,6 +95,13 @@ impl Timeline {
         let time = self.go_through(span, entered);
         self.finish(span, time);
         Ok(())
+    }
+
+    /// About how many parts the cursor has to pass for this span, where these are many: half of them, or more.
+    pub(crate) fn moves_for(&self, span: &Part) -> u64 {
+        let back = ends_beyond(&self.past, span.span_start);
+        let on = starts_within(&self.future, span.span_until);
+        back.saturating_add(on)
     }
 
     // Moves the cursor back, behind the parts that end no later than `time`.
@@ -301,52 +312,20 @@ fn starts_before(parts: &Vec<Part>, time: i64) -> bool
     }
 }
 
-fn own_in(own: &IndexMap<u32, u64>, name: u32) -> u64
-    ensures { result ≡ own_in own.now name }
-{
-    match own.get(&name) {
-        Some(time) => *time,
-        None => 0,
+// At least half as many parts as end later than `time`, or 0 where these are few.
+fn ends_beyond(parts: &Vec<Part>, time: i64) -> u64 {
+    let mut reach = FEW;
+    while reach < parts.len() && parts[parts.len() - reach].segment.until > time {
+        reach *= 2;
     }
+    (reach - FEW) as u64
 }
 
-fn set_own(own: &mut IndexMap<u32, u64>, name: u32, time: u64)
-    requires { IsSome (get nat_eq own.old name) }
-    ensures { (other : ℕ) → get nat_eq own.new other ≡ (if name == other then Some time else get nat_eq own.old other) }
-{
-    if own.insert(name, time).is_err() {
-        unreachable!();
+// At least half as many parts as start sooner than `time`, or 0 where these are few.
+fn starts_within(parts: &Vec<Part>, time: i64) -> u64 {
+    let mut reach = FEW;
+    while reach < parts.len() && parts[parts.len() - reach].segment.start < time {
+        reach *= 2;
     }
-}
-
-// From now on the name has a time of its own, if only 0.
-fn keep_name(own: &mut IndexMap<u32, u64>, name: u32)
-    requires { 0 < spare own.old }
-    ensures kept { IsSome (get nat_eq own.new name) }
-    ensures same { (other : ℕ) → own_in own.new other ≡ own_in own.old other }
-{
-    let held = own_in(own, name);
-    if own.insert(name, held).is_err() {
-        unreachable!();
-    }
-}
-
-fn gain_own(own: &mut IndexMap<u32, u64>, name: u32, length: u64)
-    requires kept { IsSome (get nat_eq own.old name) }
-    requires small { own_in own.old name + length < 2 ^ 64 }
-    ensures sum { (other : ℕ) → own_in own.new other ≡ own_in own.old other + (if name == other then length else 0) }
-    ensures kept { (other : ℕ) → IsSome (get nat_eq own.old other) → IsSome (get nat_eq own.new other) }
-{
-    let held = own_in(own, name);
-    set_own(own, name, held + length);
-}
-
-fn lose_own(own: &mut IndexMap<u32, u64>, name: u32, length: u64)
-    requires some { 0 < length }
-    requires held { length ≤ own_in own.old name }
-    ensures sum { (other : ℕ) → own_in own.new other + (if name == other then length else 0) ≡ own_in own.old other }
-    ensures kept { (other : ℕ) → IsSome (get nat_eq own.old other) → IsSome (get nat_eq own.new other) }
-{
-    let held = own_in(own, name);
-    set_own(own, name, held - length);
+    (reach - FEW) as u64
 }

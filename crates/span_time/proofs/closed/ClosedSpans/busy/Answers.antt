@@ -1,8 +1,6 @@
 use Rattle.std.proofs.Common.{ap, ◌∙◌}
 use Rattle.span_time.specs.Spans.{busy_time}
-use Rattle.span_time.proofs.PartLengths.{whole_length-busy_time}
 use Rattle.span_time.proofs.closed.ClosedSpans.busy.Goals as goal
 
 pub returns : goal.returns
-returns c =
-    c.busy.ensures ∙ c.self.invariant.2.sums.of_all ∙ whole_length-busy_time _ _ c.self.invariant.0 c.self.invariant.2.parts ∙ ap busy_time c.self.view_is
+returns c = c.busy.ensures _ c.self.invariant.0 c.self.invariant.2 ∙ ap busy_time c.self.view_is
