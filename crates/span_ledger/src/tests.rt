@@ -34,13 +34,11 @@ fn rows(alloc: Global, ledger: &Ledger) -> Result<String, AllocError> {
     Ok(lines)
 }
 
-#[test]
-fn spans_nest(rt: HostRuntime) -> Result<(), Fail> {
+fn spans_nest_in(rt: &(impl Abort + AllocGlobal), ledger: &mut Ledger) -> Result<(), Fail> {
     let alloc = rt.alloc();
-    let mut ledger = Ledger::new(alloc, 100);
     let told = answers(
         alloc,
-        &mut ledger,
+        ledger,
         "[{\"ph\":\"B\",\"name\":\"a\",\"ts\":0,\"pid\":1,\"tid\":1},{\"ph\":\"B\",\"name\":\"b\",\"ts\":2,\"pid\":1,\"tid\":1},{\"ph\":\"E\",\"ts\":5,\"pid\":1,\"tid\":1},{\"ph\":\"E\",\"ts\":10,\"pid\":1,\"tid\":1}]",
     )?;
     assert_eq!(rt;
@@ -48,7 +46,7 @@ fn spans_nest(rt: HostRuntime) -> Result<(), Fail> {
         "Opened { depth: 1 }\nOpened { depth: 2 }\nClosed { start: 2, length: 3, args: Args { pairs: [] } }\nClosed { start: 0, length: 10, args: Args { pairs: [] } }\n"
     );
     assert_eq!(rt;
-        rows(alloc, &ledger)?.as_str(),
+        rows(alloc, ledger)?.as_str(),
         "a 1 10 7\nb 1 3 3\nopen 0 busy 10\n"
     );
     assert_eq!(rt; ledger.len(), 4);
@@ -60,8 +58,31 @@ fn spans_nest(rt: HostRuntime) -> Result<(), Fail> {
 }
 
 #[test]
-fn later_and_inner_spans_own_their_time(rt: HostRuntime) -> Result<(), Fail> {
+fn spans_nest(rt: HostRuntime) -> Result<(), Fail> {
+    let mut ledger = Ledger::new(rt.alloc(), 100);
+    spans_nest_in(&rt, &mut ledger)
+}
+
+// The names, with their own times, that these events give.
+fn own_times_in(
+    rt: &(impl Abort + AllocGlobal),
+    ledger: &mut Ledger,
+    events: &str,
+    want: &str,
+) -> Result<(), Fail> {
     let alloc = rt.alloc();
+    answers(alloc, ledger, events)?;
+    assert_eq!(rt; rows(alloc, ledger)?.as_str(), want);
+    Ok(())
+}
+
+fn own_times(rt: &(impl Abort + AllocGlobal), events: &str, want: &str) -> Result<(), Fail> {
+    let mut ledger = Ledger::new(rt.alloc(), 100);
+    own_times_in(rt, &mut ledger, events, want)
+}
+
+#[test]
+fn later_and_inner_spans_own_their_time(rt: HostRuntime) -> Result<(), Fail> {
     for (events, want) in [
         (
             "[{\"ph\":\"X\",\"name\":\"c\",\"ts\":2,\"dur\":3},{\"ph\":\"X\",\"name\":\"p\",\"ts\":0,\"dur\":10}]",
@@ -88,16 +109,20 @@ fn later_and_inner_spans_own_their_time(rt: HostRuntime) -> Result<(), Fail> {
             "a 1 10 5\nb 1 10 10\nc 1 20 15\nopen 0 busy 30\n",
         ),
     ] {
-        let mut ledger = Ledger::new(alloc, 100);
-        answers(alloc, &mut ledger, events)?;
-        assert_eq!(rt; rows(alloc, &ledger)?.as_str(), want);
+        own_times(&rt, events, want)?;
     }
+    Ok(())
+}
+
+fn answers_are(rt: &(impl Abort + AllocGlobal), events: &str, want: &str) -> Result<(), Fail> {
+    let mut ledger = Ledger::new(rt.alloc(), 100);
+    let told = answers(rt.alloc(), &mut ledger, events)?;
+    assert_eq!(rt; told.as_str(), want);
     Ok(())
 }
 
 #[test]
 fn refusals_are_entries(rt: HostRuntime) -> Result<(), Fail> {
-    let alloc = rt.alloc();
     for (events, want) in [
         (
             "[{\"ph\":\"E\",\"ts\":3},{\"ph\":\"B\",\"name\":\"a\",\"ts\":1}]",
@@ -112,19 +137,19 @@ fn refusals_are_entries(rt: HostRuntime) -> Result<(), Fail> {
             "Refused(11)\nSkipped\nRefused(15)\n",
         ),
     ] {
-        let mut ledger = Ledger::new(alloc, 100);
-        assert_eq!(rt; answers(alloc, &mut ledger, events)?.as_str(), want);
+        answers_are(&rt, events, want)?;
     }
     Ok(())
 }
 
-#[test]
-fn refusals_are_counted(rt: HostRuntime) -> Result<(), Fail> {
+fn refusals_are_counted_in(
+    rt: &(impl Abort + AllocGlobal),
+    ledger: &mut Ledger,
+) -> Result<(), Fail> {
     let alloc = rt.alloc();
-    let mut ledger = Ledger::new(alloc, 100);
     answers(
         alloc,
-        &mut ledger,
+        ledger,
         "[{\"ph\":\"E\",\"ts\":3},{\"ph\":\"B\",\"name\":\"a\",\"ts\":1}]",
     )?;
     assert_eq!(rt;
@@ -145,12 +170,19 @@ fn refusals_are_counted(rt: HostRuntime) -> Result<(), Fail> {
 }
 
 #[test]
-fn an_end_merges_the_arguments_of_both(rt: HostRuntime) -> Result<(), Fail> {
+fn refusals_are_counted(rt: HostRuntime) -> Result<(), Fail> {
+    let mut ledger = Ledger::new(rt.alloc(), 100);
+    refusals_are_counted_in(&rt, &mut ledger)
+}
+
+fn an_end_merges_the_arguments_of_both_in(
+    rt: &(impl Abort + AllocGlobal),
+    ledger: &mut Ledger,
+) -> Result<(), Fail> {
     let alloc = rt.alloc();
-    let mut ledger = Ledger::new(alloc, 100);
     let told = answers(
         alloc,
-        &mut ledger,
+        ledger,
         "[{\"ph\":\"B\",\"name\":\"a\",\"ts\":0,\"args\":{\"x\":1,\"y\":2}},{\"ph\":\"E\",\"ts\":1,\"args\":{\"y\":3,\"z\":true}}]",
     )?;
     assert_eq!(rt;
@@ -165,12 +197,19 @@ fn an_end_merges_the_arguments_of_both(rt: HostRuntime) -> Result<(), Fail> {
 }
 
 #[test]
-fn a_full_journal_gives_the_operation_back(rt: HostRuntime) -> Result<(), Fail> {
+fn an_end_merges_the_arguments_of_both(rt: HostRuntime) -> Result<(), Fail> {
+    let mut ledger = Ledger::new(rt.alloc(), 100);
+    an_end_merges_the_arguments_of_both_in(&rt, &mut ledger)
+}
+
+fn a_full_journal_gives_the_operation_back_in(
+    rt: &(impl Abort + AllocGlobal),
+    ledger: &mut Ledger,
+) -> Result<(), Fail> {
     let alloc = rt.alloc();
-    let mut ledger = Ledger::new(alloc, 3);
     let begin = "{\"ph\":\"B\",\"name\":\"a\",\"ts\":0}";
     let events = format!(in alloc; "[{begin},{begin},{begin},{begin}]")?;
-    let told = answers(alloc, &mut ledger, events.as_str())?;
+    let told = answers(alloc, ledger, events.as_str())?;
     assert_eq!(rt;
         told.as_str(),
         "Opened { depth: 1 }\nOpened { depth: 2 }\nOpened { depth: 3 }\nFull\n"
@@ -182,6 +221,12 @@ fn a_full_journal_gives_the_operation_back(rt: HostRuntime) -> Result<(), Fail> 
     assert_eq!(rt; back.cause.code(), 32);
     assert!(rt; matches!(back.op, Op::One(Item::Other)));
     Ok(())
+}
+
+#[test]
+fn a_full_journal_gives_the_operation_back(rt: HostRuntime) -> Result<(), Fail> {
+    let mut ledger = Ledger::new(rt.alloc(), 3);
+    a_full_journal_gives_the_operation_back_in(&rt, &mut ledger)
 }
 
 // All that the readers tell, in lines.
@@ -231,8 +276,10 @@ fn tell_at_last(
 }
 
 // Runs with each growth refused in turn, by tests/refused_growths.
-#[test]
-fn a_refused_growth_changes_nothing(rt: HostRuntime) -> Result<(), Fail> {
+fn a_refused_growth_changes_nothing_in(
+    rt: &(impl Abort + AllocGlobal),
+    ledger: &mut Ledger,
+) -> Result<(), Fail> {
     let alloc = rt.alloc();
     let events =
         "[{\"ph\":\"B\",\"name\":\"a\",\"ts\":0,\"args\":{\"x\":1,\"y\":2}},{\"ph\":\"B\",\"name\":\"b\",\"ts\":2},{\"ph\":\"E\",\"ts\":1},{\"ph\":\"E\",\"ts\":5,\"args\":{\"z\":true}},{\"ph\":\"E\",\"ts\":10,\"args\":{\"y\":3,\"z\":true}},{\"ph\":\"E\",\"ts\":11},{\"ph\":\"X\",\"name\":\"c\",\"ts\":3,\"dur\":4,\"tid\":7}]";
@@ -240,11 +287,10 @@ fn a_refused_growth_changes_nothing(rt: HostRuntime) -> Result<(), Fail> {
         Ok(items) => items,
         Err(_) => read_items(alloc, events.as_bytes())?,
     };
-    let mut ledger = Ledger::new(alloc, 100);
     for item in items.into_list() {
-        tell_at_last(&rt, &mut ledger, item)?;
+        tell_at_last(rt, ledger, item)?;
     }
-    let last = seen_at_last(alloc, &ledger)?;
+    let last = seen_at_last(alloc, ledger)?;
     assert_eq!(rt;
         last.as_str(),
         "a 1 10 7\nb 1 3 3\nc 1 4 4\nopen 0 busy 10\nopen 0 busy 4\nprocess 0\nentries 7 accepted 5 refused 2 skipped 0\n"
@@ -253,12 +299,19 @@ fn a_refused_growth_changes_nothing(rt: HostRuntime) -> Result<(), Fail> {
 }
 
 #[test]
-fn asynchronous_spans_match_by_scope(rt: HostRuntime) -> Result<(), Fail> {
+fn a_refused_growth_changes_nothing(rt: HostRuntime) -> Result<(), Fail> {
+    let mut ledger = Ledger::new(rt.alloc(), 100);
+    a_refused_growth_changes_nothing_in(&rt, &mut ledger)
+}
+
+fn asynchronous_spans_match_by_scope_in(
+    rt: &(impl Abort + AllocGlobal),
+    ledger: &mut Ledger,
+) -> Result<(), Fail> {
     let alloc = rt.alloc();
-    let mut ledger = Ledger::new(alloc, 100);
     let told = answers(
         alloc,
-        &mut ledger,
+        ledger,
         "[{\"ph\":\"b\",\"cat\":\"net\",\"scope\":\"A\",\"id\":5,\"ts\":10},{\"ph\":\"e\",\"cat\":\"net\",\"scope\":\"B\",\"id\":5,\"ts\":11},{\"ph\":\"e\",\"cat\":\"net\",\"scope\":\"A\",\"id\":\"5\",\"ts\":14}]",
     )?;
     assert_eq!(rt;
@@ -286,12 +339,19 @@ fn asynchronous_spans_match_by_scope(rt: HostRuntime) -> Result<(), Fail> {
 }
 
 #[test]
-fn a_local_id_is_its_processs_own(rt: HostRuntime) -> Result<(), Fail> {
+fn asynchronous_spans_match_by_scope(rt: HostRuntime) -> Result<(), Fail> {
+    let mut ledger = Ledger::new(rt.alloc(), 100);
+    asynchronous_spans_match_by_scope_in(&rt, &mut ledger)
+}
+
+fn a_local_id_is_its_processs_own_in(
+    rt: &(impl Abort + AllocGlobal),
+    ledger: &mut Ledger,
+) -> Result<(), Fail> {
     let alloc = rt.alloc();
-    let mut ledger = Ledger::new(alloc, 100);
     let told = answers(
         alloc,
-        &mut ledger,
+        ledger,
         "[{\"ph\":\"b\",\"id2\":{\"local\":\"1\"},\"pid\":1,\"ts\":1},{\"ph\":\"e\",\"id2\":{\"local\":\"1\"},\"pid\":2,\"ts\":2},{\"ph\":\"e\",\"id2\":{\"local\":\"1\"},\"pid\":1,\"ts\":0},{\"ph\":\"e\",\"id2\":{\"local\":\"1\"},\"pid\":1,\"ts\":3}]",
     )?;
     assert_eq!(rt;
@@ -316,12 +376,19 @@ fn a_local_id_is_its_processs_own(rt: HostRuntime) -> Result<(), Fail> {
 }
 
 #[test]
-fn flow_chains_start_and_end(rt: HostRuntime) -> Result<(), Fail> {
+fn a_local_id_is_its_processs_own(rt: HostRuntime) -> Result<(), Fail> {
+    let mut ledger = Ledger::new(rt.alloc(), 100);
+    a_local_id_is_its_processs_own_in(&rt, &mut ledger)
+}
+
+fn flow_chains_start_and_end_in(
+    rt: &(impl Abort + AllocGlobal),
+    ledger: &mut Ledger,
+) -> Result<(), Fail> {
     let alloc = rt.alloc();
-    let mut ledger = Ledger::new(alloc, 100);
     let told = answers(
         alloc,
-        &mut ledger,
+        ledger,
         "[{\"ph\":\"s\",\"id\":9,\"ts\":1},{\"ph\":\"s\",\"id\":9,\"ts\":2},{\"ph\":\"t\",\"id\":9,\"ts\":3},{\"ph\":\"f\",\"id\":9,\"ts\":5},{\"ph\":\"f\",\"id\":9,\"ts\":6},{\"ph\":\"s\",\"id\":9,\"ts\":7},{\"ph\":\"t\",\"id\":9,\"ts\":6}]",
     )?;
     assert_eq!(rt;
@@ -346,9 +413,16 @@ fn flow_chains_start_and_end(rt: HostRuntime) -> Result<(), Fail> {
 }
 
 #[test]
-fn an_entry_has_its_callers_number(rt: HostRuntime) -> Result<(), Fail> {
+fn flow_chains_start_and_end(rt: HostRuntime) -> Result<(), Fail> {
+    let mut ledger = Ledger::new(rt.alloc(), 100);
+    flow_chains_start_and_end_in(&rt, &mut ledger)
+}
+
+fn an_entry_has_its_callers_number_in(
+    rt: &(impl Abort + AllocGlobal),
+    ledger: &mut Ledger,
+) -> Result<(), Fail> {
     let alloc = rt.alloc();
-    let mut ledger = Ledger::new(alloc, 100);
     for caller in [7, 65_535] {
         let told = ledger.apply(caller, Op::One(Item::Other));
         assert!(rt; told.is_ok());
@@ -356,4 +430,10 @@ fn an_entry_has_its_callers_number(rt: HostRuntime) -> Result<(), Fail> {
     assert_eq!(rt; ledger.entry(0).ok_or("no entry")?.caller, 7);
     assert_eq!(rt; ledger.entry(1).ok_or("no entry")?.caller, 65_535);
     Ok(())
+}
+
+#[test]
+fn an_entry_has_its_callers_number(rt: HostRuntime) -> Result<(), Fail> {
+    let mut ledger = Ledger::new(rt.alloc(), 100);
+    an_entry_has_its_callers_number_in(&rt, &mut ledger)
 }
