@@ -66,6 +66,14 @@ impl Args {
         }
         None
     }
+
+    /// The pairs, in byte order of their names. Takes no memory.
+    pub fn pairs(&self) -> &[(Text, ArgValue)]
+        ensures pairs { result.now ≡ self.now }
+        ensures in_order { IsInNameOrder self.now }
+    {
+        &self.pairs
+    }
 }
 
 impl Args {

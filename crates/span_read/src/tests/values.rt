@@ -76,6 +76,10 @@ fn the_value_of_the_end_is_taken(rt: HostRuntime) -> Result<(), Fail> {
         shown(alloc, &merged)?.as_str(),
         shown(alloc, &whole.args)?.as_str()
     );
+    assert_eq!(rt; merged.pairs().len(), 3);
+    let (name, value) = merged.pairs().get(1).ok_or("a second pair")?;
+    assert_eq!(rt; name.as_str(), "y");
+    assert!(rt; *value == ArgValue::Whole(3));
     let none = Args::empty(alloc);
     let first = merge_args(alloc, &begin.args, &none)?;
     assert_eq!(rt;
