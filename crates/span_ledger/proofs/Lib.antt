@@ -10,5 +10,6 @@ pub mod Results
 pub mod Taking
 pub mod Threads
 pub mod Totals
+pub mod TrackReplies
 pub mod TrackRows
 pub mod TrackMaps

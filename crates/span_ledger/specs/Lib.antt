@@ -5,6 +5,7 @@ pub mod Kind
 pub mod Legal
 pub mod Numbered
 pub mod Refusal
+pub mod Replies
 pub mod Rows
 pub mod Told
 pub mod Tracked

@@ -9,7 +9,10 @@ mod kind;
 pub mod laws;
 mod ledger;
 mod listed;
+mod query;
 mod refusal;
+mod replies;
+mod reply;
 mod rows;
 mod thread;
 mod thread_tracks;
@@ -19,7 +22,9 @@ mod tracks;
 pub use entry::{Answer, Entry, Op};
 pub use kind::Kind;
 pub use ledger::Ledger;
+pub use query::Query;
 pub use refusal::{Back, Cause};
+pub use reply::Reply;
 pub use rows::{CountRow, ProcessRow, SpanRow, ThreadRow};
 pub use span_read::{
     ArgValue, Args, Event, Field, IdKey, Item, ItemFault, Items, Phase, Reach, Text,

@@ -10,13 +10,13 @@ use span_read::Text;
 /// How many entries of each kind a journal holds.
 #[derive(Clone, Copy, Debug, PartialEq, Eq)]
 pub struct CountRow {
-    /// Events that opened or closed a span, or told of a whole one.
+    /// Events that are taken into account.
     pub accepted: u32,
     /// Elements that were refused, with whatever number.
     pub refused: u32,
     /// Elements that have no effect.
     pub skipped: u32,
-    /// 0, as long as no operation is a query.
+    /// Queries.
     pub queries: u32,
 }
 
@@ -41,6 +41,7 @@ impl CountRow {
             Kind::Accepted => self.accepted += 1,
             Kind::Refused => self.refused += 1,
             Kind::Skipped => self.skipped += 1,
+            Kind::Replied => self.queries += 1,
         }
     }
 }

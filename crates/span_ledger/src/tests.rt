@@ -1,5 +1,7 @@
 ghost use Rattle.span_read.specs.Item.{IsGoodItem};
 
+mod queries;
+
 use crate::{AsyncTotals, Cause, CountRow, FlowTotals, Item, Ledger, Op, ProcessRow};
 use span_read::read_items;
 use std::alloc::{AllocError, Global};

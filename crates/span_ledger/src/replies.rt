@@ -1,0 +1,88 @@
+//! The replies to queries, from the tracks and the counts of a journal.
+ghost use Rattle.std.specs.Prelude.{◌≡◌, IfOk};
+ghost use Rattle.span_track.specs.Numbering.{number_in};
+ghost use Rattle.span_ledger.specs.Replies.{reply_to};
+ghost use Rattle.span_ledger.specs.Rows.{count_row};
+ghost use Rattle.span_ledger.specs.Tracked.{FollowsJournal, track_at, track_reply, number_reply};
+
+use crate::entry::Entry;
+use crate::query::Query;
+use crate::reply::Reply;
+use crate::rows::CountRow;
+use crate::thread::Thread;
+use crate::tracks::Tracks;
+use span_read::Text;
+use std::alloc::{AllocError, Global};
+
+// The reply to a query that comes after the entries of `journal`.
+pub(crate) fn reply_to(
+    alloc: Global,
+    journal: &[Entry],
+    counts: CountRow,
+    tracks: &Tracks,
+    query: &Query,
+) -> Result<Reply, AllocError>
+    requires follows { FollowsJournal journal.now tracks.now }
+    requires counted { counts ≡ count_row journal.now }
+    ensures { IfOk result (λ reply. reply ≡ reply_to journal.now query.now) }
+{
+    match query {
+        Query::Thread { pid, tid } => Ok(thread_reply(
+            tracks,
+            &Thread {
+                pid: *pid,
+                tid: *tid,
+            },
+        )),
+        Query::Name { pid, tid, name } => Ok(name_reply(
+            tracks,
+            &Thread {
+                pid: *pid,
+                tid: *tid,
+            },
+            name,
+        )),
+        Query::AsyncOf(key) => Ok(Reply::Async(tracks.asynchronous.of(key))),
+        Query::FlowOf(key) => Ok(Reply::Flow(tracks.flows.of(key))),
+        Query::Counts => Ok(Reply::Counts(counts)),
+    }
+}
+
+fn thread_reply(tracks: &Tracks, thread: &Thread) -> Reply
+    ensures { result ≡ track_reply (track_at tracks.now.threads thread.now) }
+{
+    let (unclosed, busy, last) = match tracks.threads.get(thread) {
+        Some(track) => (track.depth(), track.busy(), track.last_time()),
+        None => (0, 0, None),
+    };
+    Reply::Thread {
+        unclosed,
+        busy,
+        last,
+    }
+}
+
+// A name without a number is that of no span.
+fn name_reply(tracks: &Tracks, thread: &Thread, name: &Text) -> Reply
+    ensures { result ≡ number_reply (track_at tracks.now.threads thread.now) (number_in tracks.now.names name.now) }
+{
+    let Some(number) = tracks.names.find(name) else {
+        return Reply::Name {
+            count: 0,
+            total: 0,
+            self_time: 0,
+        };
+    };
+    let (count, total, self_time) = match tracks.threads.get(thread) {
+        Some(track) => {
+            let totals = track.total_of(number);
+            (totals.count, totals.total, track.self_of(number))
+        }
+        None => (0, 0, 0),
+    };
+    Reply::Name {
+        count,
+        total,
+        self_time,
+    }
+}
