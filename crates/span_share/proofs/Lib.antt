@@ -1,0 +1,4 @@
+pub mod CallersLists
+pub mod Turning
+pub mod Seeing
+pub mod Booking

@@ -1,0 +1,5 @@
+pub mod Callers
+pub mod Entries
+pub mod Turns
+pub mod Steps
+pub mod Seats
