@@ -1,4 +1,2 @@
 pub mod EndLines
 pub mod OneFile
-pub mod Padding
-pub mod Taking

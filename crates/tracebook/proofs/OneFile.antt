@@ -8,7 +8,7 @@ use Rattle.tracebook.specs.declared.files.FileEnd.{FileEnd}
 use Rattle.tracebook.specs.declared.files.FileEnd.TheVariants.{Read, Refused, Stopped, NotStarted}
 use Rattle.tracebook.specs.declared.files.Input.{Input}
 use Rattle.tracebook.specs.Collection.{items_told, journal_of, IsEndOf, status_of}
-use Rattle.tracebook.specs.Report.{report_of}
+use Rattle.span_report.specs.Report.{report_of}
 use Rattle.tracebook.specs.Run.{IsWithin, report_of_files}
 
 -- a list of one element is that element

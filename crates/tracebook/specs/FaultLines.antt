@@ -4,7 +4,7 @@ use Rattle.span_ledger.specs.Refusal.{code_of}
 use Rattle.tracebook.specs.declared.files.FileEnd.{FileEnd}
 use Rattle.tracebook.specs.declared.files.FileEnd.TheVariants.{Read, Refused, Stopped, NotStarted}
 use Rattle.tracebook.specs.declared.files.Input.{Input}
-use Rattle.tracebook.specs.Lines.{line_of, json_text_of}
+use Rattle.span_report.specs.Lines.{line_of, json_text_of}
 use Rattle.tracebook.specs.Words.{numbered}
 
 -- the program, and the file's name as JSON text

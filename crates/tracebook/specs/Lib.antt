@@ -1,9 +1,5 @@
 pub mod Collection
 pub mod FaultLines
-pub mod Lines
-pub mod Report
 pub mod Run
-pub mod Sink
 pub mod Source
 pub mod Words
-pub mod Writing

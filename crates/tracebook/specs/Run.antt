@@ -7,8 +7,8 @@ use Rattle.tracebook.specs.declared.runs.RunEnd.{RunEnd}
 use Rattle.tracebook.specs.declared.runs.RunError.{RunError}
 use Rattle.tracebook.specs.declared.runs.RunError.TheVariants.{FileCount, Memory, Output}
 use Rattle.tracebook.specs.Collection.{items_told, journal_of, IsEndOf, status_of}
-use Rattle.tracebook.specs.Report.{report_of}
-use Rattle.tracebook.specs.Sink.{SinkState, Fails}
+use Rattle.span_report.specs.Report.{report_of}
+use Rattle.span_report.specs.Sink.{SinkState, Fails}
 
 abbrev pub code_of : RunError → ℕ
 code_of FileCount = 41

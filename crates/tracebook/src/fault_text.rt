@@ -3,9 +3,9 @@ ghost use Rattle.std.specs.Prelude.{◌≡◌, ◌++◌, length, string_bytes, O
 ghost use Rattle.tracebook.specs.FaultLines.{end_line, end_lines, fault_line, stop_line};
 
 use crate::files::{FileEnd, Input};
-use crate::lines::json_text;
 use crate::words::numbered_text;
 use span_ledger::Text;
+use span_report::json_text;
 use std::alloc::{AllocError, Global};
 
 /// A file's line with a number and its word.

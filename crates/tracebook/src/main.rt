@@ -4,34 +4,24 @@
 mod collecting;
 mod fault_text;
 mod files;
-mod layout;
-mod lines;
-mod pouring;
 mod reading;
-mod reporting;
 mod runs;
-mod sink;
 mod telling;
 #[cfg(test)]
 mod tests;
 mod words;
-mod writer;
-mod writing;
 
 pub use fault_text::fault_lines;
 use fault_text::put_fault;
 pub use files::{FileEnd, Input};
 use reading::{SourceFault, read_up_to};
-pub use reporting::report;
 pub use runs::{RunEnd, RunError, run};
-pub use sink::{Sink, SinkFault};
 use span_ledger::Text;
+use span_report::Writer;
 use std::alloc::{AllocError, Global};
 use std::io::Write;
 use std::process::ExitCode;
 pub use words::fault_word;
-pub use writer::Writer;
-pub use writing::{WriteFault, write_report};
 
 /// The most entries of the journal.
 const LIMIT: u32 = 16_777_216;

@@ -1,13 +1,12 @@
 //! A run: one file is collected, and its report is written.
 ghost use Rattle.std.specs.Prelude.{◌≡◌, ◌≢◌, ◌-◌, ◌^◌, ◌<◌, ◌↔◌, length, IfOk, IfErr};
 ghost use Rattle.tracebook.specs.Run.{code_of, IsRunOf, report_of_files, LeavesOutput};
-ghost use Rattle.tracebook.specs.Sink.{Takes};
+ghost use Rattle.span_report.specs.Sink.{Takes};
 
 use crate::collecting::{collect, exit_status};
 use crate::files::{FileEnd, Input};
-use crate::sink::Sink;
-use crate::writing::{WriteFault, write_report};
 use span_ledger::Ledger;
+use span_report::{Sink, WriteFault, write_report};
 use std::alloc::Global;
 use thiserror::Error;
 

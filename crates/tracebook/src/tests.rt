@@ -1,13 +1,10 @@
 //! Whole runs over worked examples, whose reports were written by hand from the format.
 ghost use Rattle.std.specs.Prelude.{◌≡◌, vec_len, IfOk};
 
-use crate::{
-    FileEnd, Input, RunError, WriteFault, Writer, fault_lines, fault_word, run, write_report,
-};
-use span_ledger::{Cause, Ledger, Text};
+use crate::{FileEnd, Input, RunError, fault_lines, fault_word, run};
+use span_ledger::{Cause, Text};
+use span_report::Writer;
 use std::alloc::{AllocError, Global};
-use std::io;
-use std::io::{ErrorKind, Write};
 use std::test::Fail;
 
 const EMPTY_REPORT: &str = "tracebook 1\nevents 0 refused 0 skipped 0 queries 0\n";
@@ -19,42 +16,6 @@ fn one_file(alloc: Global, text: &str) -> Result<Vec<Input>, AllocError>
     let bytes = Vec::from_slice(alloc, text.as_bytes())?;
     let files = vec![in alloc; Input { name, bytes }]?;
     Ok(files)
-}
-
-// A writer that takes the first bytes, and then fails.
-#[derive(Drop)]
-struct Short {
-    room: usize,
-    taken: Vec<u8>,
-    flushes: bool,
-}
-
-impl Write for Short {
-    fn write(&mut self, bytes: &[u8]) -> io::Result<usize> {
-        let count = bytes.len().min(self.room);
-        if count == 0 {
-            return Err(io::Error::from(ErrorKind::BrokenPipe));
-        }
-        self.taken.extend_from_slice(&bytes[..count])?;
-        self.room -= count;
-        Ok(count)
-    }
-
-    fn flush(&mut self) -> io::Result<()> {
-        if self.flushes {
-            return Ok(());
-        }
-        Err(io::Error::from(ErrorKind::BrokenPipe))
-    }
-}
-
-fn short_of(alloc: Global, room: usize, flushes: bool) -> Short {
-    let taken = Vec::new(alloc);
-    Short {
-        room,
-        taken,
-        flushes,
-    }
 }
 
 #[test]
@@ -141,28 +102,6 @@ fn wants_exactly_one_file(rt: HostRuntime) -> Result<(), Fail> {
     let two = run(alloc, &files, 3, &mut Writer::new(&mut out));
     assert!(rt; matches!(two, Err(RunError::FileCount)));
     assert!(rt; out.is_empty());
-    Ok(())
-}
-
-#[test]
-fn says_how_much_a_failed_output_took(rt: HostRuntime) -> Result<(), Fail> {
-    let alloc = rt.alloc();
-    let ledger = Ledger::new(alloc, 1);
-    let report = EMPTY_REPORT.as_bytes();
-    for room in 0..report.len() {
-        let mut short = short_of(alloc, room, true);
-        let result = write_report(alloc, &ledger, &mut Writer::new(&mut short));
-        let written = room as u64;
-        assert!(rt; result == Err(WriteFault::Output { written }), "at {room}");
-        assert!(rt; short.taken.as_slice() == &report[..room], "at {room}");
-    }
-    let mut enough = short_of(alloc, 51, true);
-    let result = write_report(alloc, &ledger, &mut Writer::new(&mut enough));
-    assert!(rt; result == Ok(()));
-    assert!(rt; enough.taken.as_slice() == report);
-    let mut unflushed = short_of(alloc, 51, false);
-    let result = write_report(alloc, &ledger, &mut Writer::new(&mut unflushed));
-    assert!(rt; result == Err(WriteFault::Output { written: 51 }));
     Ok(())
 }
 

@@ -1,0 +1,107 @@
+-- The rows of a journal are in order.
+use Rattle.std.proofs.Common.{◌≡◌, false, List, [], ◌∷◌, ◌++◌, refl, ap, ap₂, ◌∙◌, map}
+use Rattle.std.specs.Prelude.{fold, flat_map, filter_map}
+use Rattle.std.specs.List.{AllByRecursion}
+use Rattle.std.specs.List.Sorted.{IsStrictlySortedBy}
+use Rattle.std.specs.declared.cmp.Ordering.{Ordering}
+use Rattle.std.specs.declared.cmp.Ordering.TheVariants.{Less, Equal, Greater}
+use Rattle.std.specs.Ordering.{is_gt, match_ordering, ordering_reverse}
+use Rattle.std.specs.Cmp.{IsTotalOrder, tied_itself, int_cmp_total}
+use Rattle.std.specs.BTreeSet.{insert_key}
+use Rattle.span_track.specs.Nesting.{closed_spans}
+use Rattle.span_ledger.specs.declared.entry.Entry.{Entry}
+use Rattle.span_ledger.specs.declared.thread.Thread.{Thread}
+use Rattle.span_ledger.specs.declared.rows.ProcessRow.{ProcessRow}
+use Rattle.span_ledger.specs.declared.rows.ThreadRow.{ThreadRow}
+use Rattle.span_ledger.specs.Journal.{accepted}
+use Rattle.span_ledger.specs.Told.{Words, told, listed_by, thread_events}
+use Rattle.span_ledger.specs.Rows.{ascending, process_keys, thread_keys, process_row, thread_row, span_row, thread_span_rows}
+use Rattle.span_ledger.proofs.Threads.{thread_cmp-total}
+use Rattle.span_report.specs.Report.{rows_of}
+use Rattle.span_report.specs.Parts.{AreAscending, RowsAreInOrder, thread_of_span}
+use Rattle.span_report.proofs.Walks.{AllByRecursion-map}
+
+module _ {K : Type 0} {R : K → K → Ordering} (o : IsTotalOrder R) where
+  below-inserted : (x k : K) (ks : List K) → R x k ≡ Less → AllByRecursion (λ y. R x y ≡ Less) ks → AllByRecursion (λ y. R x y ≡ Less) (insert_key R ks k)
+  below-inserted x k [] first rest = (first, tt)
+  below-inserted x k (y ∷ ys) first rest = by (R k y) (below-inserted x k ys first rest.1)
+    where
+      by : (r : Ordering) → AllByRecursion (λ z. R x z ≡ Less) (insert_key R ys k) → AllByRecursion (λ z. R x z ≡ Less) (match_ordering r (k ∷ y ∷ ys) (y ∷ ys) (y ∷ insert_key R ys k))
+      by Less more = (first, rest)
+      by Equal more = rest
+      by Greater more = (rest.0, more)
+
+  insert_key-sorted : (k : K) (ks : List K) → IsStrictlySortedBy R ks → IsStrictlySortedBy R (insert_key R ks k)
+  unfolding IsStrictlySortedBy
+  insert_key-sorted k [] sorted = (tt, tt)
+  insert_key-sorted k (x ∷ xs) sorted = by (R k x) refl (insert_key-sorted k xs sorted.1)
+    where
+      by : (r : Ordering) → R k x ≡ r → IsStrictlySortedBy R (insert_key R xs k) → IsStrictlySortedBy R (match_ordering r (k ∷ x ∷ xs) (x ∷ xs) (x ∷ insert_key R xs k))
+      by Less below more = ((below, AllByRecursion-map (λ y. R x y ≡ Less) (λ y. R k y ≡ Less) (λ (y : K) (next : R x y ≡ Less). o.trans k x y below next) xs sorted.0), sorted)
+      by Equal below more = sorted
+      by Greater above more = (below-inserted x k xs (o.antisymm x k ∙ ap ordering_reverse above) sorted.0, more)
+
+  fold-sorted : (keys done : List K) → IsStrictlySortedBy R done → IsStrictlySortedBy R (fold (insert_key R) done keys)
+  fold-sorted [] done sorted = sorted
+  fold-sorted (k ∷ keys) done sorted = fold-sorted keys (insert_key R done k) (insert_key-sorted k done sorted)
+
+  pub ascending-sorted : (keys : List K) → IsStrictlySortedBy R (ascending R keys)
+  unfolding IsStrictlySortedBy
+  ascending-sorted keys = fold-sorted keys [] tt
+
+  module _ {A : Type 0} (key : A → K) where
+    -- rows that are made of sorted keys are sorted by them
+    pub map-sorted : (f : K → A) → ((k : K) → key (f k) ≡ k) → (keys : List K) → IsStrictlySortedBy R keys → IsStrictlySortedBy (λ a b. R (key a) (key b)) (map f keys)
+    unfolding IsStrictlySortedBy
+    map-sorted f made [] sorted = tt
+    map-sorted f made (k ∷ keys) sorted = (below keys sorted.0, map-sorted f made keys sorted.1)
+      where
+        below : (ks : List K) → AllByRecursion (λ y. R k y ≡ Less) ks → AllByRecursion (λ b. R (key (f k)) (key b) ≡ Less) (map f ks)
+        below [] h = tt
+        below (y ∷ ys) h = (ap₂ R (made k) (made y) ∙ h.0, below ys h.1)
+
+    -- rows of one key, and then rows of greater ones
+    then-greater : (k : K) (xs ys : List A) → AllByRecursion (λ a. key a ≡ k) xs → AllByRecursion (λ a. R k (key a) ≡ Less) ys → AreAscending R key ys → AreAscending R key (xs ++ ys)
+    then-greater k [] ys same above up = up
+    then-greater k (x ∷ xs) ys same above up = (reach xs same.1, then-greater k xs ys same.1 above up)
+      where
+        after : (zs : List A) → AllByRecursion (λ a. R k (key a) ≡ Less) zs → AllByRecursion (λ a. is_gt (R (key x) (key a)) ≡ false) zs
+        after [] h = tt
+        after (z ∷ zs) h = (ap is_gt (ap (λ c. R c (key z)) same.0 ∙ h.0), after zs h.1)
+
+        reach : (zs : List A) → AllByRecursion (λ a. key a ≡ k) zs → AllByRecursion (λ a. is_gt (R (key x) (key a)) ≡ false) (zs ++ ys)
+        reach [] h = after ys above
+        reach (z ∷ zs) h = (ap is_gt (ap₂ R same.0 h.0 ∙ tied_itself o k), reach zs h.1)
+
+    -- rows of sorted keys, each with the rows of its own
+    module _ (f : K → List A) (made : (k : K) → AllByRecursion (λ a. key a ≡ k) (f k)) where
+      above-all : (k : K) (keys : List K) → AllByRecursion (λ y. R k y ≡ Less) keys → AllByRecursion (λ a. R k (key a) ≡ Less) (flat_map f keys)
+      above-all k [] h = tt
+      above-all k (y ∷ ys) h = reach (f y) (made y) (above-all k ys h.1)
+        where
+          reach : (zs : List A) → AllByRecursion (λ a. key a ≡ y) zs → AllByRecursion (λ a. R k (key a) ≡ Less) (flat_map f ys) → AllByRecursion (λ a. R k (key a) ≡ Less) (zs ++ flat_map f ys)
+          reach [] g more = more
+          reach (z ∷ zs) g more = (ap (R k) g.0 ∙ h.0, reach zs g.1 more)
+
+      pub flat_map-ascending : (keys : List K) → IsStrictlySortedBy R keys → AreAscending R key (flat_map f keys)
+      unfolding IsStrictlySortedBy
+      flat_map-ascending [] sorted = tt
+      flat_map-ascending (k ∷ keys) sorted = then-greater k (f k) (flat_map f keys) (made k) (above-all k keys sorted.0) (flat_map-ascending keys sorted.1)
+
+span_rows-made : (journal : List Entry) (thread : Thread) → AllByRecursion (λ row. thread_of_span row ≡ thread) (thread_span_rows journal thread)
+span_rows-made journal thread = each (ascending _ (map (λ s. s.name) (closed_spans (thread_events thread journal))))
+  where
+    each : (names : List Words) → AllByRecursion (λ row. thread_of_span row ≡ thread) (map (span_row thread (closed_spans (thread_events thread journal))) names)
+    each [] = tt
+    each (name ∷ names) = (refl, each names)
+
+pub rows_of-in_order : (journal : List Entry) → RowsAreInOrder (rows_of journal)
+rows_of-in_order journal =
+    let threads = ascending-sorted thread_cmp-total (filter_map (λ a. listed_by (told a)) (accepted journal)) in
+    record {
+      processes = map-sorted int_cmp_total (λ (row : ProcessRow). row.pid) process_row (λ pid. refl) (process_keys (accepted journal)) (ascending-sorted int_cmp_total (map (λ a. a.event.pid) (accepted journal)));
+      parts = record {
+        threads = map-sorted thread_cmp-total (λ (row : ThreadRow). record { pid = row.pid; tid = row.tid }) (thread_row journal) (λ thread. refl) (thread_keys (accepted journal)) threads;
+        spans = flat_map-ascending thread_cmp-total thread_of_span (thread_span_rows journal) (span_rows-made journal) (thread_keys (accepted journal)) threads;
+      };
+    }

@@ -1,0 +1,5 @@
+pub mod InOrder
+pub mod Padding
+pub mod Taking
+pub mod Under
+pub mod Walks

@@ -1,0 +1,162 @@
+-- Threads and spans that are printed under a process leave what stands under later ones.
+use Rattle.std.proofs.Common.{◌≡◌, ℕ, ◌+◌, ℤ, get_or, false, List, [], ◌∷◌, ◌++◌, true, refl, sym, ap, ◌∙◌, subst, drop, length, length-drop, ◌<◌, arith, append_assoc}
+use Rattle.std.proofs.lemmas.List.{drop_more}
+use Rattle.std.specs.Prelude.{filter, flat_map}
+use Rattle.std.specs.List.{AllByRecursion}
+use Rattle.std.specs.List.Sorted.{IsStrictlySortedBy}
+use Rattle.std.specs.declared.cmp.Ordering.{Ordering}
+use Rattle.std.specs.declared.cmp.Ordering.TheVariants.{Less, Equal, Greater}
+use Rattle.std.specs.Ordering.{is_eq, is_gt, int_cmp, eq_by_cmp, ordering_then}
+use Rattle.std.specs.Cmp.{int_cmp_total, signed_Decides}
+use Rattle.span_ledger.specs.declared.thread.Thread.{Thread}
+use Rattle.span_ledger.specs.declared.rows.ProcessRow.{ProcessRow}
+use Rattle.span_ledger.specs.declared.rows.ThreadRow.{ThreadRow}
+use Rattle.span_ledger.specs.declared.rows.SpanRow.{SpanRow}
+use Rattle.span_ledger.specs.Rows.{thread_cmp}
+use Rattle.span_ledger.proofs.Threads.{thread_cmp-total, same_thread-cmp}
+use Rattle.span_report.specs.Lines.{thread_line, process_line, span_line}
+use Rattle.span_report.specs.Report.{PartRows, is_on_thread, thread_lines, process_lines}
+use Rattle.span_report.specs.Parts.{AreAscending, Passes, AreInOrder, IsPastThread, IsPastProcess, threads_in, spans_on, thread_of_row, thread_of_span}
+use Rattle.span_report.proofs.Walks.{AllByRecursion-map, AllByRecursion-filter, filter-same, flat_map-same, IsStrictlySortedBy-drop, first-below, rest-sorted, Passes-ascending, next-here, next-later}
+
+-- threads by process and number
+abbrev pub row_cmp : ThreadRow → ThreadRow → Ordering
+row_cmp a b = thread_cmp (thread_of_row a) (thread_of_row b)
+
+-- the spans of a thread, as a report tests them
+pub spans_on-thread : (thread : ThreadRow) (spans : List SpanRow) → filter (is_on_thread thread) spans ≡ spans_on (thread_of_row thread) spans
+spans_on-thread thread spans = filter-same (is_on_thread thread) (λ s. eq_by_cmp thread_cmp (thread_of_span s) (thread_of_row thread)) (λ s. same_thread-cmp (thread_of_span s) (thread_of_row thread)) spans
+
+-- the lines of a thread are the same where its spans are
+pub thread_lines-spans : (old new : PartRows) (thread : ThreadRow) → spans_on (thread_of_row thread) new.spans ≡ spans_on (thread_of_row thread) old.spans → thread_lines old thread ≡ thread_lines new thread
+thread_lines-spans old new thread same =
+    ap (λ spans. thread_line thread ++ flat_map span_line spans) (spans_on-thread thread old.spans ∙ sym same ∙ sym (spans_on-thread thread new.spans))
+
+-- an order by two keys, where the first is below
+then-less : (r s : Ordering) → r ≡ Less → ordering_then r s ≡ Less
+then-less r s below = ap (λ q. ordering_then q s) below
+
+-- a thread of a later process is a later thread
+later-thread : (pid : ℤ) (a b : Thread) → a.pid ≡ pid → int_cmp pid b.pid ≡ Less → thread_cmp a b ≡ Less
+later-thread pid a b at below = then-less (int_cmp a.pid b.pid) (int_cmp a.tid b.tid) (ap (λ p. int_cmp p b.pid) at ∙ below)
+
+-- a row of a process has its number
+same_pid : (a b : ℤ) → is_eq (int_cmp a b) ≡ true → a ≡ b
+same_pid a b at = (signed_Decides a b).0 at
+
+-- one span more of a thread is taken
+pub IsPastThread-next : (thread : Thread) (old mid : PartRows) (spans : List SpanRow) (span : SpanRow) → IsPastThread thread old mid →
+    Passes thread_cmp thread_of_span thread mid.spans (span ∷ spans) → eq_by_cmp thread_cmp (thread_of_span span) thread ≡ true → IsPastThread thread old (record mid { spans = spans })
+IsPastThread-next thread old mid spans span past next at = record {
+  threads = past.threads;
+  spans = λ later above. next-later thread_cmp-total thread_of_span thread mid.spans spans span next at later above ∙ past.spans later above;
+  order = record { threads = past.order.threads; spans = (Passes-ascending thread_cmp-total thread_of_span thread mid.spans (span ∷ spans) next past.order.spans).1 };
+}
+
+-- the lines of later threads are the same
+pub lines-past-thread : (thread : ThreadRow) (old new : PartRows) → ((later : Thread) → thread_cmp (thread_of_row thread) later ≡ Less → spans_on later new.spans ≡ spans_on later old.spans) →
+    (threads : List ThreadRow) → AllByRecursion (λ t. row_cmp thread t ≡ Less) threads → flat_map (thread_lines old) threads ≡ flat_map (thread_lines new) threads
+lines-past-thread thread old new same threads later =
+    flat_map-same (thread_lines old) (thread_lines new) threads
+    (AllByRecursion-map (λ t. row_cmp thread t ≡ Less) (λ t. thread_lines old t ≡ thread_lines new t)
+    (λ (t : ThreadRow) (above : row_cmp thread t ≡ Less). thread_lines-spans old new t (same (thread_of_row t) above)) threads later)
+
+-- the lines of later processes are the same
+pub process_lines-past : (pid : ℤ) (old new : PartRows) (process : ProcessRow) → IsPastProcess pid old new → int_cmp pid process.pid ≡ Less → process_lines old process ≡ process_lines new process
+process_lines-past pid old new process past above =
+    ap (λ lines. process_line process ++ lines)
+    (ap (flat_map (thread_lines old)) (sym (past.threads process.pid above))
+    ∙ flat_map-same (thread_lines old) (thread_lines new) (threads_in process.pid new.threads)
+    (AllByRecursion-filter (λ t. thread_lines old t ≡ thread_lines new t) (λ t. eq_by_cmp int_cmp t.pid process.pid) new.threads (each new.threads)))
+  where
+    each : (ts : List ThreadRow) → AllByRecursion (λ t. eq_by_cmp int_cmp t.pid process.pid ≡ true → thread_lines old t ≡ thread_lines new t) ts
+    each [] = tt
+    each (t ∷ ts) = ((λ at. thread_lines-spans old new t (past.spans (thread_of_row t) (ap (int_cmp pid) (same_pid t.pid process.pid at) ∙ above))), each ts)
+
+not_above : (r s : Ordering) → ordering_then r s ≡ Less → is_gt r ≡ false
+not_above Less s below = refl
+not_above Equal s below = refl
+not_above Greater s below = cc
+
+-- threads that ascend by process and number do so by process
+pub pids-ascending : (threads : List ThreadRow) → IsStrictlySortedBy row_cmp threads → AreAscending int_cmp (λ row. row.pid) threads
+unfolding IsStrictlySortedBy
+pids-ascending [] sorted = tt
+pids-ascending (t ∷ ts) sorted = (
+  AllByRecursion-map (λ u. row_cmp t u ≡ Less) (λ u. is_gt (int_cmp t.pid u.pid) ≡ false)
+      (λ (u : ThreadRow) (below : row_cmp t u ≡ Less). not_above (int_cmp t.pid u.pid) (int_cmp t.tid u.tid) below) ts sorted.0,
+  pids-ascending ts sorted.1,
+)
+
+module _ (pid : ℤ) (old mid : PartRows) (past : IsPastProcess pid old mid) where
+  threads-left : (new : List ThreadRow) → Passes int_cmp (λ row. row.pid) pid mid.threads new → IsStrictlySortedBy row_cmp new
+  threads-left new next = subst (IsStrictlySortedBy row_cmp) next.left (IsStrictlySortedBy-drop row_cmp next.passed mid.threads past.order.threads)
+
+  -- no thread of the process is left
+  pub IsPastProcess-end : (threads : List ThreadRow) → Passes int_cmp (λ row. row.pid) pid mid.threads threads → IsPastProcess pid old (record mid { threads = threads })
+  IsPastProcess-end threads next = record {
+    threads = λ later above. next.later later above ∙ past.threads later above;
+    spans = past.spans;
+    order = record { threads = threads-left threads next; spans = past.order.spans };
+  }
+
+  module _ (thread : ThreadRow) (threads : List ThreadRow) (next : Passes int_cmp (λ row. row.pid) pid mid.threads (thread ∷ threads)) (at : eq_by_cmp int_cmp thread.pid pid ≡ true) where
+    -- the rows are in order when a thread is taken
+    pub thread-order : AreInOrder (record mid { threads = threads })
+    thread-order = record { threads = rest-sorted row_cmp thread threads (threads-left (thread ∷ threads) next); spans = past.order.spans }
+
+    module _ (new : PartRows) (done : IsPastThread (thread_of_row thread) (record mid { threads = threads }) new) where
+      -- one thread more of the process is printed
+      pub IsPastProcess-next : IsPastProcess pid old new
+      IsPastProcess-next = record {
+        threads = λ later above. ap (threads_in later) done.threads ∙ next-later int_cmp_total (λ (row : ThreadRow). row.pid) pid mid.threads threads thread next at later above ∙ past.threads later above;
+        spans = λ later above. done.spans later (later-thread pid (thread_of_row thread) later (same_pid thread.pid pid at) above) ∙ past.spans later above;
+        order = done.order;
+      }
+
+      -- its lines, and those of the process's threads that are left then
+      pub thread-then_rest : flat_map (thread_lines mid) (threads_in pid mid.threads) ≡ thread_lines mid thread ++ flat_map (thread_lines new) (threads_in pid new.threads)
+      thread-then_rest =
+          ap (flat_map (thread_lines mid)) (next-here int_cmp_total (λ (row : ThreadRow). row.pid) pid mid.threads threads thread next at)
+          ∙ ap (λ lines. thread_lines mid thread ++ lines)
+          (lines-past-thread thread (record mid { threads = threads }) new done.spans (threads_in pid threads)
+          (AllByRecursion-filter (λ t. row_cmp thread t ≡ Less) (λ t. eq_by_cmp int_cmp t.pid pid) threads
+          (AllByRecursion-map (λ t. row_cmp thread t ≡ Less) (λ t. eq_by_cmp int_cmp t.pid pid ≡ true → row_cmp thread t ≡ Less) (λ (t : ThreadRow) below in_process. below) threads
+          (first-below row_cmp thread threads (threads-left (thread ∷ threads) next))))
+          ∙ ap (λ ts. flat_map (thread_lines new) (threads_in pid ts)) (sym done.threads))
+
+-- the lines so far, one part more, and the rest
+pub one-more : (out next one rest all whole : List ℕ) → next ≡ out ++ one → all ≡ one ++ rest → out ++ all ≡ whole → next ++ rest ≡ whole
+one-more out next one rest all whole put parts lines =
+    ap (λ l. l ++ rest) put ∙ append_assoc out one rest ∙ ap (λ l. out ++ l) (sym parts) ∙ lines
+
+-- the lines of the processes that are left are the same
+pub lines-past-process : (old new : PartRows) (process : ProcessRow) → IsPastProcess process.pid old new → (processes : List ProcessRow) → AllByRecursion (λ p. int_cmp process.pid p.pid ≡ Less) processes →
+    flat_map (process_lines old) processes ≡ flat_map (process_lines new) processes
+lines-past-process old new process past processes later =
+    flat_map-same (process_lines old) (process_lines new) processes
+    (AllByRecursion-map (λ p. int_cmp process.pid p.pid ≡ Less) (λ p. process_lines old p ≡ process_lines new p)
+    (λ (p : ProcessRow) (above : int_cmp process.pid p.pid ≡ Less). process_lines-past process.pid old new p past above) processes later)
+
+-- a row that is taken is left no more
+pub next-shorter : {R K : Type 0} (cmp : K → K → Ordering) (key : R → K) (k : K) (old new : List R) (row : R) → Passes cmp key k old (row ∷ new) → length new < length old
+next-shorter cmp key k old new row next =
+    let left : length (drop next.passed old) ≡ length (row ∷ new) = ap length next.left in
+    omega (arith, left, length-drop next.passed old)
+
+-- no span of the thread is left
+pub IsPastThread-end : (thread : Thread) (old mid : PartRows) (spans : List SpanRow) → IsPastThread thread old mid → Passes thread_cmp thread_of_span thread mid.spans spans → IsPastThread thread old (record mid { spans = spans })
+IsPastThread-end thread old mid spans past next = record {
+  threads = past.threads;
+  spans = λ later above. next.later later above ∙ past.spans later above;
+  order = record { threads = past.order.threads; spans = Passes-ascending thread_cmp-total thread_of_span thread mid.spans spans next past.order.spans };
+}
+
+-- the lines of the next process, and those of the processes that are left then
+pub process-then_rest : (old new : PartRows) (processes : List ProcessRow) (i : ℕ) (process d : ProcessRow) → IsStrictlySortedBy (λ a b. int_cmp a.pid b.pid) processes → i < length processes → process ≡ get_or processes i d → IsPastProcess process.pid old new →
+    flat_map (process_lines old) (drop i processes) ≡ process_lines old process ++ flat_map (process_lines new) (drop (i + 1) processes)
+process-then_rest old new processes i process d sorted within at past =
+    let left : drop i processes ≡ process ∷ drop (i + 1) processes = drop_more processes i d within ∙ ap (λ p. p ∷ drop (i + 1) processes) (sym at) in
+    let order : ProcessRow → ProcessRow → Ordering = λ a b. int_cmp a.pid b.pid in
+    let later = first-below order process (drop (i + 1) processes) (subst (IsStrictlySortedBy order) left (IsStrictlySortedBy-drop order i processes sorted)) in
+    ap (flat_map (process_lines old)) left ∙ ap (λ lines. process_lines old process ++ lines) (lines-past-process old new process past (drop (i + 1) processes) later)

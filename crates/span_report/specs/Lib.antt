@@ -1,0 +1,5 @@
+pub mod Lines
+pub mod Output
+pub mod Parts
+pub mod Report
+pub mod Sink

@@ -1,0 +1,65 @@
+-- The lines of a report.
+use Rattle.std.specs.Prelude.{ℕ, ◌-◌, ℤ, List, [], ◌∷◌, ◌++◌, length, replicate, flat_map, Option, Some, None, codes, decimal}
+use Rattle.std.specs.Fmt.{signed_decimal}
+use Rattle.json.specs.Print.{quoted}
+use Rattle.span_read.specs.declared.event.IdKey.{IdKey}
+use Rattle.span_track.specs.declared.async_track.AsyncRow.{AsyncRow}
+use Rattle.span_track.specs.declared.flow_track.FlowRow.{FlowRow}
+use Rattle.span_ledger.specs.declared.rows.CountRow.{CountRow}
+use Rattle.span_ledger.specs.declared.rows.ProcessRow.{ProcessRow}
+use Rattle.span_ledger.specs.declared.rows.ThreadRow.{ThreadRow}
+use Rattle.span_ledger.specs.declared.rows.SpanRow.{SpanRow}
+
+-- the words with one blank between them, ended by a line feed
+abbrev pub line_of : List (List ℕ) → List ℕ
+line_of [] = 10 ∷ []
+line_of (word ∷ []) = word ++ 10 ∷ []
+line_of (word ∷ next ∷ words) = word ++ 32 ∷ line_of (next ∷ words)
+
+-- blanks on the left fill the width; longer digits take the places that they need
+abbrev pub right_in : ℕ → List ℕ → List ℕ
+right_in width digits = replicate (width - length digits) 32 ++ digits
+
+-- a text as JSON text
+unfoldable pub json_text_of : List ℕ → List ℕ
+json_text_of text = quoted text
+
+-- the name as JSON text, or `-` where there is none
+abbrev pub name_text : Option (List ℕ) → List ℕ
+name_text None = codes "-"
+name_text (Some name) = json_text_of name
+
+unfoldable pub first_line : List ℕ
+first_line = line_of (codes "tracebook" ∷ codes "1" ∷ [])
+
+unfoldable pub count_line : CountRow → List ℕ
+count_line row = line_of (codes "events" ∷ decimal row.accepted ∷ codes "refused" ∷ decimal row.refused ∷ codes "skipped" ∷ decimal row.skipped ∷ codes "queries" ∷ decimal row.queries ∷ [])
+
+unfoldable pub process_line : ProcessRow → List ℕ
+process_line row = line_of (codes "process" ∷ signed_decimal row.pid ∷ name_text row.name ∷ [])
+
+unfoldable pub thread_line : ThreadRow → List ℕ
+thread_line row = line_of (codes "thread" ∷ signed_decimal row.pid ∷ signed_decimal row.tid ∷ name_text row.name ∷ codes "open" ∷ decimal row.unclosed ∷ codes "busy" ∷ decimal row.busy ∷ [])
+
+unfoldable pub span_line : SpanRow → List ℕ
+span_line row = line_of (codes "span" ∷ right_in 8 (decimal row.count) ∷ right_in 16 (decimal row.total) ∷ right_in 16 (decimal row.self_time) ∷ json_text_of row.name ∷ [])
+
+-- a process and a colon before the text of an id that belongs to a process
+abbrev pub with_home : Option ℤ → List ℕ → List ℕ
+with_home None text = text
+with_home (Some home) text = signed_decimal home ++ (codes ":" ++ text)
+
+unfoldable pub id_text : IdKey → List ℕ
+id_text key = with_home key.home (json_text_of key.id)
+
+unfoldable pub async_line : AsyncRow → List ℕ
+async_line row = line_of (codes "async" ∷ json_text_of row.key.cat ∷ json_text_of row.key.scope ∷ id_text row.key.id ∷ json_text_of row.key.name ∷ codes "closed" ∷ decimal row.totals.closed ∷ codes "total" ∷ decimal row.totals.total ∷ codes "open" ∷ decimal row.totals.unclosed ∷ codes "points" ∷ decimal row.totals.points ∷ [])
+
+abbrev pub async_lines : List AsyncRow → List ℕ
+async_lines rows = flat_map async_line rows
+
+unfoldable pub flow_line : FlowRow → List ℕ
+flow_line row = line_of (codes "flow" ∷ json_text_of row.key.cat ∷ json_text_of row.key.name ∷ id_text row.key.id ∷ codes "ended" ∷ decimal row.totals.ended ∷ codes "total" ∷ decimal row.totals.total ∷ codes "open" ∷ decimal row.totals.unclosed ∷ [])
+
+abbrev pub flow_lines : List FlowRow → List ℕ
+flow_lines rows = flat_map flow_line rows

@@ -1,0 +1,63 @@
+//! Writes the report of a ledger to a sink.
+ghost use Rattle.std.specs.Prelude.{◌≡◌, ◌-◌, ◌^◌, ◌<◌, ◌≤◌, length, take, IfErr, OnOk};
+ghost use Rattle.span_report.specs.Report.{report_of};
+ghost use Rattle.span_report.specs.Sink.{Takes, Fails};
+ghost use Rattle.span_report.specs.Output.{code_of, LeavesOutput};
+
+use crate::sink::Sink;
+use crate::text::report;
+use span_ledger::Ledger;
+use std::alloc::Global;
+
+/// Why a report was not written whole.
+#[derive(Clone, Copy, Debug, PartialEq, Eq)]
+pub enum WriteFault {
+    /// 31: memory was refused, and nothing was written.
+    Memory,
+    /// 51: the output failed after this many bytes.
+    Output { written: u64 },
+}
+
+impl WriteFault {
+    pub fn code(&self) -> u16
+        ensures { result ≡ code_of self.now }
+    {
+        match self {
+            WriteFault::Memory => 31,
+            WriteFault::Output { .. } => 51,
+        }
+    }
+}
+
+/// Writes the report of the ledger's journal. The first fault of the output ends it, and nothing is tried again.
+pub fn write_report<O: Sink>(alloc: Global, ledger: &Ledger, out: &mut O) -> Result<(), WriteFault>
+    requires { (O.state out.old).failures < 2 ^ 64 - 1 }
+    ensures ok { OnOk result (Takes (O.state out.old) (O.state out.new) (report_of ledger.now.journal)) }
+    ensures fault { IfErr result
+        (λ fault. LeavesOutput fault (report_of ledger.now.journal) (O.state out.old) (O.state out.new)) }
+{
+    let Ok(text) = report(alloc, ledger) else {
+        return Err(WriteFault::Memory);
+    };
+    pour(&text, out).map_err(|written| WriteFault::Output { written })
+}
+
+// Puts the bytes until all are taken, then finishes once. The error is how many bytes were taken.
+fn pour<O: Sink>(bytes: &[u8], out: &mut O) -> Result<(), u64>
+    requires { (O.state out.old).failures < 2 ^ 64 - 1 }
+    ensures ok { OnOk result (Takes (O.state out.old) (O.state out.new) bytes.now) }
+    ensures within { IfErr result (λ written. written ≤ length bytes.now) }
+    ensures fault { IfErr result (λ written. Fails (O.state out.old) (O.state out.new) (take written bytes.now)) }
+{
+    let mut taken = 0;
+    while taken < bytes.len() {
+        match out.put(&bytes[taken..]) {
+            Ok(n) => taken += n,
+            Err(_) => return Err(taken as u64),
+        }
+    }
+    match out.finish() {
+        Ok(()) => Ok(()),
+        Err(_) => Err(taken as u64),
+    }
+}

@@ -1,0 +1,26 @@
+//! Where a report goes: a sink takes bytes, and tells in contracts which.
+ghost use Rattle.std.specs.Prelude.{◌≡◌, ◌-◌, ◌^◌, ◌<◌, ◌≤◌, [], length, take, IfOk, OnOk, OnErr};
+ghost use Rattle.span_report.specs.Sink.{SinkState, Takes, Fails};
+
+/// A call on a sink failed. It took no byte.
+#[derive(Clone, Copy, Debug, PartialEq, Eq)]
+pub struct SinkFault;
+
+/// An output. Contracts see the bytes that it took, where it tells them, and how many calls on it failed.
+pub trait Sink {
+    ghost state: { Self → SinkState };
+
+    /// Takes the first of the bytes, at least one, and answers how many.
+    fn put(&mut self, bytes: &[u8]) -> Result<usize, SinkFault>
+        requires some { 0 < length bytes.now }
+        requires countable { (state self.old).failures < 2 ^ 64 - 1 }
+        ensures progress { IfOk result (λ n. (0 < n) × (n ≤ length bytes.now)) }
+        ensures ok { IfOk result (λ n. Takes (state self.old) (state self.new) (take n bytes.now)) }
+        ensures fault { OnErr result (Fails (state self.old) (state self.new) []) };
+
+    /// Called once, after the last byte.
+    fn finish(&mut self) -> Result<(), SinkFault>
+        requires { (state self.old).failures < 2 ^ 64 - 1 }
+        ensures ok { OnOk result (Takes (state self.old) (state self.new) []) }
+        ensures fault { OnErr result (Fails (state self.old) (state self.new) []) };
+}

@@ -1,0 +1,207 @@
+//! Reports of worked traces, written by hand from the format, and outputs that fail.
+use crate::{Ledger, Text, WriteFault, Writer, json_text, report, write_report};
+use span_ledger::Op;
+use span_read::read_items;
+use std::alloc::Global;
+use std::io;
+use std::io::{ErrorKind, Write};
+use std::process::Abort;
+use std::test::Fail;
+
+const EMPTY_REPORT: &str = "tracebook 1\nevents 0 refused 0 skipped 0 queries 0\n";
+
+// Tells the ledger the events of a text.
+fn tell(alloc: Global, ledger: &mut Ledger, text: &str) -> Result<(), Fail> {
+    let items = read_items(alloc, text.as_bytes())?;
+    for item in items.into_list() {
+        if ledger.apply(1, Op::One(item)).is_err() {
+            return Err(Fail::from("not taken"));
+        }
+    }
+    Ok(())
+}
+
+fn reports_in(
+    rt: &(impl Abort + AllocGlobal),
+    ledger: &mut Ledger,
+    events: &str,
+    want: &str,
+) -> Result<(), Fail> {
+    let alloc = rt.alloc();
+    tell(alloc, ledger, events)?;
+    let text = report(alloc, ledger)?;
+    assert!(rt; text.as_slice() == want.as_bytes(), "at {events}");
+    Ok(())
+}
+
+fn reports(rt: &(impl Abort + AllocGlobal), events: &str, want: &str) -> Result<(), Fail> {
+    let mut ledger = Ledger::new(rt.alloc(), 100);
+    reports_in(rt, &mut ledger, events, want)
+}
+
+#[test]
+fn prints_threads_under_their_processes(rt: HostRuntime) -> Result<(), Fail> {
+    for (events, want) in [
+        ("[]", EMPTY_REPORT),
+        (
+            "[{\"ph\":\"B\",\"name\":\"a\",\"ts\":1,\"pid\":1,\"tid\":2},{\"ph\":\"E\",\"ts\":11,\"pid\":1,\"tid\":2}]",
+            "tracebook 1\nevents 2 refused 0 skipped 0 queries 0\nprocess 1 -\nthread 1 2 - open 0 busy 10\nspan        1               10               10 \"a\"\n",
+        ),
+        (
+            "[{\"ph\":\"X\",\"name\":\"b\",\"ts\":0,\"dur\":2,\"pid\":2,\"tid\":1},{\"ph\":\"B\",\"name\":\"c\",\"ts\":0,\"pid\":-1,\"tid\":5},{\"ph\":\"X\",\"name\":\"a\",\"ts\":0,\"dur\":9,\"pid\":-1,\"tid\":-3},{\"ph\":\"s\",\"id\":1,\"ts\":0,\"pid\":1},{\"ph\":\"X\",\"name\":\"B\",\"ts\":0,\"dur\":1,\"pid\":2,\"tid\":1}]",
+            "tracebook 1\nevents 5 refused 0 skipped 0 queries 0\nprocess -1 -\nthread -1 -3 - open 0 busy 9\nspan        1                9                9 \"a\"\nthread -1 5 - open 1 busy 0\nprocess 1 -\nprocess 2 -\nthread 2 1 - open 0 busy 2\nspan        1                1                1 \"B\"\nspan        1                2                1 \"b\"\nflow \"\" \"\" \"1\" ended 0 total 0 open 1\n",
+        ),
+    ] {
+        reports(&rt, events, want)?;
+    }
+    Ok(())
+}
+
+#[test]
+fn prints_asynchronous_keys_and_flow_keys(rt: HostRuntime) -> Result<(), Fail> {
+    for (events, want) in [
+        (
+            "[{\"ph\":\"b\",\"cat\":\"net\",\"scope\":\"A\",\"id\":5,\"ts\":10},{\"ph\":\"e\",\"cat\":\"net\",\"scope\":\"B\",\"id\":5,\"ts\":11},{\"ph\":\"e\",\"cat\":\"net\",\"scope\":\"A\",\"id\":\"5\",\"ts\":14}]",
+            "tracebook 1\nevents 2 refused 1 skipped 0 queries 0\nprocess 0 -\nasync \"net\" \"A\" \"5\" \"\" closed 1 total 4 open 0 points 0\n",
+        ),
+        (
+            "[{\"ph\":\"b\",\"id2\":{\"local\":\"1\"},\"pid\":1,\"ts\":1},{\"ph\":\"e\",\"id2\":{\"local\":\"1\"},\"pid\":2,\"ts\":2},{\"ph\":\"e\",\"id2\":{\"local\":\"1\"},\"pid\":1,\"ts\":0},{\"ph\":\"e\",\"id2\":{\"local\":\"1\"},\"pid\":1,\"ts\":3}]",
+            "tracebook 1\nevents 2 refused 2 skipped 0 queries 0\nprocess 1 -\nasync \"\" \"\" 1:\"1\" \"\" closed 1 total 2 open 0 points 0\n",
+        ),
+        (
+            "[{\"ph\":\"s\",\"id\":9,\"ts\":1},{\"ph\":\"s\",\"id\":9,\"ts\":2},{\"ph\":\"t\",\"id\":9,\"ts\":3},{\"ph\":\"f\",\"id\":9,\"ts\":5},{\"ph\":\"f\",\"id\":9,\"ts\":6},{\"ph\":\"s\",\"id\":9,\"ts\":7},{\"ph\":\"t\",\"id\":9,\"ts\":6}]",
+            "tracebook 1\nevents 4 refused 3 skipped 0 queries 0\nprocess 0 -\nflow \"\" \"\" \"9\" ended 1 total 4 open 1\n",
+        ),
+    ] {
+        reports(&rt, events, want)?;
+    }
+    Ok(())
+}
+
+#[test]
+fn writes_names_as_json_text(rt: HostRuntime) -> Result<(), Fail> {
+    let alloc = rt.alloc();
+    let name = Text::of(alloc, "a\"\n/é")?;
+    assert_eq!(rt; json_text(alloc, &name)?.as_str(), "\"a\\\"\\n/é\"");
+    Ok(())
+}
+
+// A writer that takes the first bytes, and fails a number of writes; it counts the calls.
+#[derive(Drop)]
+struct Short {
+    room: usize,
+    failing: u32,
+    flushes: bool,
+    taken: Vec<u8>,
+    writes: u64,
+    flushed: u64,
+}
+
+impl Write for Short {
+    fn write(&mut self, bytes: &[u8]) -> io::Result<usize> {
+        self.writes = self.writes.wrapping_add(1);
+        if self.failing > 0 {
+            self.failing -= 1;
+            return Err(io::Error::from(ErrorKind::Interrupted));
+        }
+        let count = bytes.len().min(self.room);
+        if count == 0 {
+            return Err(io::Error::from(ErrorKind::BrokenPipe));
+        }
+        self.taken.extend_from_slice(&bytes[..count])?;
+        self.room -= count;
+        Ok(count)
+    }
+
+    fn flush(&mut self) -> io::Result<()> {
+        self.flushed = self.flushed.wrapping_add(1);
+        if self.flushes {
+            return Ok(());
+        }
+        Err(io::Error::from(ErrorKind::BrokenPipe))
+    }
+}
+
+fn short_of(alloc: Global, room: usize) -> Short {
+    Short {
+        room,
+        failing: 0,
+        flushes: true,
+        taken: Vec::new(alloc),
+        writes: 0,
+        flushed: 0,
+    }
+}
+
+#[test]
+fn says_how_much_a_failed_output_took(rt: HostRuntime) -> Result<(), Fail> {
+    let alloc = rt.alloc();
+    let ledger = Ledger::new(alloc, 1);
+    let report = EMPTY_REPORT.as_bytes();
+    for room in 0..report.len() {
+        let mut short = short_of(alloc, room);
+        let result = write_report(alloc, &ledger, &mut Writer::new(&mut short));
+        let written = room as u64;
+        assert!(rt; result == Err(WriteFault::Output { written }), "at {room}");
+        assert!(rt; short.taken.as_slice() == &report[..room], "at {room}");
+        assert_eq!(rt; short.flushed, 0, "at {room}");
+    }
+    assert_eq!(rt; WriteFault::Output { written: 3 }.code(), 51);
+    Ok(())
+}
+
+#[test]
+fn finishes_once(rt: HostRuntime) -> Result<(), Fail> {
+    let alloc = rt.alloc();
+    let ledger = Ledger::new(alloc, 1);
+    let mut enough = short_of(alloc, 51);
+    let result = write_report(alloc, &ledger, &mut Writer::new(&mut enough));
+    assert!(rt; result == Ok(()));
+    assert!(rt; enough.taken.as_slice() == EMPTY_REPORT.as_bytes());
+    assert_eq!(rt; enough.flushed, 1);
+    let mut unflushed = short_of(alloc, 51);
+    unflushed.flushes = false;
+    let result = write_report(alloc, &ledger, &mut Writer::new(&mut unflushed));
+    assert!(rt; result == Err(WriteFault::Output { written: 51 }));
+    assert_eq!(rt; unflushed.flushed, 1);
+    Ok(())
+}
+
+#[test]
+fn tries_no_failed_write_again(rt: HostRuntime) -> Result<(), Fail> {
+    let alloc = rt.alloc();
+    let ledger = Ledger::new(alloc, 1);
+    let mut interrupted = short_of(alloc, 51);
+    interrupted.failing = 1;
+    let result = write_report(alloc, &ledger, &mut Writer::new(&mut interrupted));
+    assert!(rt; result == Err(WriteFault::Output { written: 0 }));
+    assert!(rt; interrupted.taken.is_empty());
+    assert_eq!(rt; interrupted.writes, 1);
+    Ok(())
+}
+
+fn writes_long_reports_in(
+    rt: &(impl Abort + AllocGlobal),
+    ledger: &mut Ledger,
+    name: &str,
+) -> Result<(), Fail> {
+    let alloc = rt.alloc();
+    let events = format!(in alloc; "[{{\"ph\":\"X\",\"name\":\"{name}\",\"ts\":0,\"dur\":1}}]")?;
+    tell(alloc, ledger, events.as_str())?;
+    let want = format!(in alloc;
+        "tracebook 1\nevents 1 refused 0 skipped 0 queries 0\nprocess 0 -\nthread 0 0 - open 0 busy 1\nspan        1                1                1 \"{name}\"\n"
+    )?;
+    let mut all = short_of(alloc, 1_000_000);
+    let result = write_report(alloc, ledger, &mut Writer::new(&mut all));
+    assert!(rt; result == Ok(()));
+    assert!(rt; all.taken.as_slice() == want.as_bytes());
+    Ok(())
+}
+
+#[test]
+fn writes_long_reports(rt: HostRuntime) -> Result<(), Fail> {
+    let alloc = rt.alloc();
+    let mut ledger = Ledger::new(alloc, 1);
+    let name = String::from_str(alloc, "abcdefghij")?.repeat(alloc, 10_000)?;
+    writes_long_reports_in(&rt, &mut ledger, name.as_str())
+}
