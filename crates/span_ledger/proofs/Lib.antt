@@ -3,6 +3,7 @@ pub mod Ascending
 pub mod Counting
 pub mod FlowAnswers
 pub mod Following
+pub mod KeyedEvents
 pub mod Later
 pub mod LegalJournals
 pub mod Renaming

@@ -1,18 +1,38 @@
 //! An asynchronous event, told to the track of asynchronous spans.
 ghost use Rattle.std.specs.Prelude.{◌≡◌};
-ghost use Rattle.span_read.specs.Event.{IsTime};
+ghost use Rattle.span_read.specs.Event.{IsGood, IsTime};
 ghost use Rattle.span_track.specs.Async.{AsyncStandsFor, HasAsyncRoom};
 ghost use Rattle.span_track.specs.Matching.{opens, closes, other};
 ghost use Rattle.span_ledger.specs.Answers.{async_answer};
-ghost use Rattle.span_ledger.specs.Told.{async_step};
+ghost use Rattle.span_ledger.specs.Told.{async_step, async_event, IsAsync};
 ghost use Rattle.span_ledger.specs.Tracked.{Tells};
 
 use crate::entry::Answer;
-use span_read::Phase;
+use crate::event_key::{put_async_key, take_async_key};
+use span_read::{Event, Phase};
 use span_track::{AsyncKey, AsyncTrack, TrackFault};
+use std::alloc::Global;
+
+// An asynchronous event is told to the track. Its key has the event's own texts for so long.
+pub(crate) fn tell_async(
+    alloc: Global,
+    track: &mut AsyncTrack,
+    event: &mut Event,
+) -> Result<(Answer, Answer), TrackFault>
+    requires good { IsGood event.old }
+    requires phase { IsAsync event.old.phase }
+    requires room { (key : AsyncKey) → HasAsyncRoom track.old key }
+    ensures same { event.new ≡ event.old }
+    ensures tells { Tells AsyncStandsFor async_answer track.old (async_event event.old event.old.phase) result track.new }
+{
+    let key = take_async_key(alloc, event);
+    let told = tell_step(track, &key, event.phase, event.ts);
+    put_async_key(event, key);
+    told
+}
 
 // Tells the track the step of a key that an event of this phase is.
-pub(crate) fn tell_async(
+fn tell_step(
     track: &mut AsyncTrack,
     key: &AsyncKey,
     phase: Phase,

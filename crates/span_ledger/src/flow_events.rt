@@ -1,17 +1,37 @@
 //! A flow event, told to the track of flow chains.
 ghost use Rattle.std.specs.Prelude.{◌≡◌};
-ghost use Rattle.span_read.specs.Event.{IsTime};
+ghost use Rattle.span_read.specs.Event.{IsGood, IsTime};
 ghost use Rattle.span_track.specs.Flow.{FlowStandsFor, HasFlowRoom, started, stepped, finished};
 ghost use Rattle.span_ledger.specs.Answers.{flow_answer};
-ghost use Rattle.span_ledger.specs.Told.{flow_point};
+ghost use Rattle.span_ledger.specs.Told.{flow_point, flow_event, IsFlow};
 ghost use Rattle.span_ledger.specs.Tracked.{Tells};
 
 use crate::entry::Answer;
-use span_read::Phase;
+use crate::event_key::{put_flow_key, take_flow_key};
+use span_read::{Event, Phase};
 use span_track::{FlowClosed, FlowKey, FlowTrack, TrackFault};
+use std::alloc::Global;
+
+// A flow event is told to the track. Its key has the event's own texts for so long.
+pub(crate) fn tell_flow(
+    alloc: Global,
+    track: &mut FlowTrack,
+    event: &mut Event,
+) -> Result<(Answer, Answer), TrackFault>
+    requires good { IsGood event.old }
+    requires phase { IsFlow event.old.phase }
+    requires room { (key : FlowKey) → HasFlowRoom track.old key }
+    ensures same { event.new ≡ event.old }
+    ensures tells { Tells FlowStandsFor flow_answer track.old (flow_event event.old event.old.phase) result track.new }
+{
+    let key = take_flow_key(alloc, event);
+    let told = tell_point(track, &key, event.phase, event.ts);
+    put_flow_key(event, key);
+    told
+}
 
 // Tells the track the point of a key that an event of this phase is.
-pub(crate) fn tell_flow(
+fn tell_point(
     track: &mut FlowTrack,
     key: &FlowKey,
     phase: Phase,

@@ -5,6 +5,7 @@ mod async_events;
 mod entry;
 mod event_key;
 mod flow_events;
+mod keyed_tracks;
 mod kind;
 pub mod laws;
 mod ledger;

@@ -42,8 +42,8 @@ pub(crate) fn reply_to(
             },
             name,
         )),
-        Query::AsyncOf(key) => Ok(Reply::Async(tracks.asynchronous.of(key))),
-        Query::FlowOf(key) => Ok(Reply::Flow(tracks.flows.of(key))),
+        Query::AsyncOf(key) => Ok(Reply::Async(tracks.keyed.async_of(key))),
+        Query::FlowOf(key) => Ok(Reply::Flow(tracks.keyed.flow_of(key))),
         Query::Counts => Ok(Reply::Counts(counts)),
     }
 }

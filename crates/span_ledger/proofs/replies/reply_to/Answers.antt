@@ -23,9 +23,9 @@ returns-in-Name c =
 pub returns-in-AsyncOf : goal.returns-in-AsyncOf
 returns-in-AsyncOf c =
     let ready = subst (FollowsJournal c.args.journal.now) (sym c.tracks.view_is) c.requires.follows in
-    rw c.in-AsyncOf.is (ap Async (c.of.ensures ∙ ap async_totals (async_spans_at-StandsFor _ _ c.in-AsyncOf.key ready.asynchronous)))
+    rw c.in-AsyncOf.is (ap Async (c.async_of.ensures ∙ ap async_totals (async_spans_at-StandsFor _ _ c.in-AsyncOf.key ready.keyed.asynchronous)))
 
 pub returns-in-FlowOf : goal.returns-in-FlowOf
 returns-in-FlowOf c =
     let ready = subst (FollowsJournal c.args.journal.now) (sym c.tracks.view_is) c.requires.follows in
-    rw c.in-FlowOf.is (ap Flow (c.of-in-FlowOf.ensures ∙ ap flow_totals (flow_chains_at-StandsFor _ _ c.in-FlowOf.key ready.flows)))
+    rw c.in-FlowOf.is (ap Flow (c.flow_of.ensures ∙ ap flow_totals (flow_chains_at-StandsFor _ _ c.in-FlowOf.key ready.keyed.flows)))
