@@ -11,3 +11,6 @@ pub use book::{Book, Receipt};
 pub use seat::Seat;
 pub use share::{Share, ShareError};
 pub use span_ledger::{Answer, Back, Cause, Entry, Item, Ledger, Op};
+
+#[cfg(test)]
+mod tests;
