@@ -5,7 +5,7 @@ ghost use Rattle.span_share.specs.Seats.{IsSeatOf};
 
 use crate::steps::take_turn;
 use crate::turn::Returns;
-use crate::{Back, Cause, Item, Ledger, Op, Receipt, Seat, Share};
+use crate::{Back, Cause, Item, Ledger, Op, Query, Receipt, Seat, Share};
 use span_read::read_items;
 use std::alloc::{AllocGlobal, Global};
 use std::process::Abort;
@@ -141,10 +141,17 @@ fn one_try_while_another_has_the_turn(
     };
     assert_eq!(rt; back.cause, Cause::Busy { front: 0 });
     assert_eq!(rt; back.cause.code(), 33);
-    let Op::One(item) = back.op;
+    let Op::One(item) = back.op else {
+        return Err(Fail::from("another operation came back"));
+    };
     let told = share.try_tell(second, item);
     assert_eq!(rt; line_of(alloc, told)?.as_str(), "0 Opened { depth: 1 }");
-    assert_eq!(rt; share.front(first), 1);
+    let asked = share.try_ask(second, Query::Counts);
+    assert_eq!(rt;
+        line_of(alloc, asked)?.as_str(),
+        "1 Reply(Counts(CountRow { accepted: 1, refused: 0, skipped: 0, queries: 0 }))"
+    );
+    assert_eq!(rt; share.front(first), 2);
     Ok(())
 }
 
