@@ -19,7 +19,7 @@ use Rattle.span_track.specs.Keyed.{Keyed, steps_at, keys_in, entry_of, entries_i
 abbrev pub has_key : {K : Type 0} → (K → K → Ordering) → K → List K → Bool
 has_key cmp key ks = list_any (λ x. is_eq (cmp key x)) ks
 
-neither : (a b : Bool) → (a || b) ≡ false → (a ≡ false) × (b ≡ false)
+pub neither : (a b : Bool) → (a || b) ≡ false → (a ≡ false) × (b ≡ false)
 neither true b h = cc
 neither false b h = (refl, h)
 
@@ -93,7 +93,7 @@ module _ {K : Type 0} {cmp : K → K → Ordering} (o : IsTotalOrder cmp) where
 
 -- where keys that the order does not tell apart are the same
 module _ {K : Type 0} {cmp : K → K → Ordering} (o : IsTotalOrder cmp) (same : (a b : K) → cmp a b ≡ Equal → a ≡ b) where
-  same_from_is_eq : (a b : K) → is_eq (cmp a b) ≡ true → a ≡ b
+  pub same_from_is_eq : (a b : K) → is_eq (cmp a b) ≡ true → a ≡ b
   same_from_is_eq a b h = by (cmp a b) refl h
     where
       by : (r : Ordering) → cmp a b ≡ r → is_eq r ≡ true → a ≡ b
@@ -184,7 +184,7 @@ module _ {K : Type 0} {cmp : K → K → Ordering} (o : IsTotalOrder cmp) (same 
         by Greater e rest = ap₂ (λ x l. (k, x) ∷ l) (agree k (ap is_eq e)) rest
 
   -- a value found is the one that its key was made with
-  lookup-made : {X : Type 0} (f : K → X) (key : K) (ks : List K) (v : X) → lookup (is_at (cmp key)) (map (entry_of f) ks) ≡ Some v → v ≡ f key
+  pub lookup-made : {X : Type 0} (f : K → X) (key : K) (ks : List K) (v : X) → lookup (is_at (cmp key)) (map (entry_of f) ks) ≡ Some v → v ≡ f key
   lookup-made {X = X} f key [] v found = absurd cc
   lookup-made {X = X} f key (k ∷ ks) v found = by (is_eq (cmp key k)) refl (lookup-made f key ks v) found
     where

@@ -1,3 +1,4 @@
+pub mod Ascending
 pub mod Async
 pub mod AsyncRoom
 pub mod Flow
@@ -10,3 +11,4 @@ pub mod Numbers
 pub mod Orders
 pub mod Results
 pub mod Threads
+pub mod Uses

@@ -11,3 +11,4 @@ pub mod Matching
 pub mod Nesting
 pub mod Numbering
 pub mod Thread
+pub mod Uses
