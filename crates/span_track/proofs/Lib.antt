@@ -1,6 +1,7 @@
 pub mod Ascending
 pub mod Async
 pub mod AsyncRoom
+pub mod Counters
 pub mod Flow
 pub mod FlowRoom
 pub mod Keyed
@@ -10,5 +11,7 @@ pub mod Matching
 pub mod Numbers
 pub mod Orders
 pub mod Results
+pub mod SeriesCodes
+pub mod SeriesMaps
 pub mod Threads
 pub mod Uses

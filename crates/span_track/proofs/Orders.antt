@@ -1,16 +1,19 @@
 -- The orders of keys are total, and equal keys are the same.
-use Rattle.std.proofs.Common.{◌≡◌, ℕ, Ordering, Less, Equal, Greater, List, nat_cmp, refl}
-use Rattle.std.specs.Ordering.{ordering_then}
+use Rattle.std.proofs.Common.{◌≡◌, ℕ, Ordering, Less, Equal, Greater, List, Option, Some, None, nat_cmp, ap, refl}
+use Rattle.std.specs.Option.{option_cmp}
+use Rattle.std.specs.Ordering.{int_cmp, ordering_then}
 use Rattle.std.specs.Cmp.{IsTotalOrder}
-use Rattle.std.specs.Cmp.Lexicographic.{slice_cmp}
-use Rattle.std.specs.FinMap.{slice_cmp-IsAntisymmetric, nat_cmp-IsAntisymmetric}
-use Rattle.std.proofs.lemmas.Cmp.{then_total, on_total, nat_list_cmp_total}
+use Rattle.std.specs.Cmp.Lexicographic.{slice_cmp, options_total}
+use Rattle.std.specs.FinMap.{int_cmp-IsAntisymmetric, slice_cmp-IsAntisymmetric, nat_cmp-IsAntisymmetric}
+use Rattle.std.proofs.lemmas.Cmp.{then_total, on_total, int_cmp_total, nat_list_cmp_total}
 use Rattle.span_read.specs.Orders.{id_cmp}
 use Rattle.span_read.proofs.Orders.{id_cmp-total, id_cmp-same}
 use Rattle.span_track.specs.declared.keys.AsyncKey.{AsyncKey}
 use Rattle.span_track.specs.declared.keys.FlowKey.{FlowKey}
 use Rattle.span_track.specs.Async.{async_cmp}
+use Rattle.span_track.specs.declared.keys.SeriesKey.{SeriesKey}
 use Rattle.span_track.specs.Flow.{flow_cmp}
+use Rattle.span_track.specs.Counters.{series_cmp}
 
 both_equal : (r s : Ordering) → ordering_then r s ≡ Equal → (r ≡ Equal) × (s ≡ Equal)
 both_equal Less s e = cc
@@ -51,3 +54,27 @@ flow_cmp-same a b e =
     let name = text_same a.name b.name second.0 in
     let id = id_cmp-same a.id b.id second.1 in
     λ i. record { cat = cat i; name = name i; id = id i }
+
+option_same : {A : Type 0} {cmp : A → A → Ordering} → ((a b : A) → cmp a b ≡ Equal → a ≡ b) → (a b : Option A) → option_cmp cmp a b ≡ Equal → a ≡ b
+option_same same None None e = refl
+option_same same None (Some y) e = cc
+option_same same (Some x) None e = cc
+option_same same (Some x) (Some y) e = ap Some (same x y e)
+
+-- the order of series is total
+pub series_cmp-total : IsTotalOrder series_cmp
+series_cmp-total =
+    then_total (on_total (λ k. k.pid) int_cmp_total)
+    (then_total (on_total (λ k. k.name) nat_list_cmp_total) (then_total (on_total (λ k. k.id) (options_total id_cmp-total)) (on_total (λ k. k.series) nat_list_cmp_total)))
+
+-- series that it does not tell apart are the same
+pub series_cmp-same : (a b : SeriesKey) → series_cmp a b ≡ Equal → a ≡ b
+series_cmp-same a b e =
+    let first = both_equal (int_cmp a.pid b.pid) (ordering_then (slice_cmp nat_cmp a.name b.name) (ordering_then (option_cmp id_cmp a.id b.id) (slice_cmp nat_cmp a.series b.series))) e in
+    let second = both_equal (slice_cmp nat_cmp a.name b.name) (ordering_then (option_cmp id_cmp a.id b.id) (slice_cmp nat_cmp a.series b.series)) first.1 in
+    let third = both_equal (option_cmp id_cmp a.id b.id) (slice_cmp nat_cmp a.series b.series) second.1 in
+    let pid = int_cmp-IsAntisymmetric a.pid b.pid first.0 in
+    let name = text_same a.name b.name second.0 in
+    let id = option_same id_cmp-same a.id b.id third.0 in
+    let series = text_same a.series b.series third.1 in
+    λ i. record { pid = pid i; name = name i; id = id i; series = series i }

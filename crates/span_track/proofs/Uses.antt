@@ -1,22 +1,22 @@
 -- How what is kept for the keys that events use changes with one more use.
-use Rattle.std.proofs.Common.{◌≡◌, List, [], ◌∷◌, ◌++◌, Bool, true, false, ◌||◌, cond, Option, Some, None, refl, sym, ap, ap₂, ◌∙◌, map}
-use Rattle.std.specs.Prelude.{fold, flat_map, is_some, unwrap_or}
-use Rattle.std.specs.List.{list_any, AllByRecursion}
+use Rattle.std.proofs.Common.{◌≡◌, List, [], ◌∷◌, ◌++◌, Bool, true, false, ◌||◌, cond, Some, None, refl, sym, ap, ap₂, ◌∙◌, map}
+use Rattle.std.specs.Prelude.{fold, is_some}
+use Rattle.std.specs.List.{AllByRecursion}
 use Rattle.std.specs.declared.cmp.Ordering.{Ordering}
 use Rattle.std.specs.declared.cmp.Ordering.TheVariants.{Less, Equal, Greater}
+use Rattle.std.specs.Option.{option_map}
 use Rattle.std.specs.Ordering.{is_eq, eq_by_cmp, match_ordering, ordering_reverse}
-use Rattle.std.specs.Cmp.{IsTotalOrder, tied_itself}
-use Rattle.std.specs.Map.{lookup, keys_of}
+use Rattle.std.specs.Cmp.{IsTotalOrder}
+use Rattle.std.specs.Map.{lookup}
 use Rattle.std.specs.BTreeMap.{is_at, insert_entry}
 use Rattle.std.specs.BTreeSet.{insert_key}
 use Rattle.indexmap.specs.IndexMap.{insert_entry as put_entry}
 use Rattle.indexmap.specs.IndexSet.{insert_key as add_key}
 use Rattle.std.proofs.lemmas.List.Sums.{fold-append}
-use Rattle.std.proofs.lemmas.List.Folds.{list_any-append}
-use Rattle.span_track.specs.Keyed.{ascending, entry_of, kept_at}
-use Rattle.span_track.specs.Uses.{first_uses, uses_in}
+use Rattle.span_track.specs.Keyed.{ascending, entry_of}
+use Rattle.span_track.specs.Uses.{first_uses}
 use Rattle.span_track.proofs.Ascending.{ascending-fold}
-use Rattle.span_track.proofs.Keyed.{has_key, neither, same_from_is_eq, is_some-lookup, keys_of-made, lookup-made}
+use Rattle.span_track.proofs.Keyed.{has_key, neither, same_from_is_eq, is_some-lookup, keys_of-made}
 
 module _ {K : Type 0} {cmp : K → K → Ordering} (o : IsTotalOrder cmp) where
   -- which of two keys is asked about is all one
@@ -66,6 +66,7 @@ module _ {K : Type 0} {cmp : K → K → Ordering} (o : IsTotalOrder cmp) (same 
         pushed : (b : Bool) → (k, g k) ∷ map (entry_of g) (cond b ks (ks ++ key ∷ [])) ≡ map (entry_of g) (cond b (k ∷ ks) (k ∷ ks ++ key ∷ []))
         pushed true = refl
         pushed false = refl
+
         by : (b : Bool) → is_eq (cmp key k) ≡ b → put_entry (eq_by_cmp cmp) (map (entry_of f) ks) key (g key) ≡ map (entry_of g) (add_key (eq_by_cmp cmp) ks key) →
             cond b ((k, g key) ∷ map (entry_of f) ks) ((k, f k) ∷ put_entry (eq_by_cmp cmp) (map (entry_of f) ks) key (g key)) ≡ map (entry_of g) (cond (b || has_key cmp key ks) (k ∷ ks) (k ∷ ks ++ key ∷ []))
         by true h rest =
@@ -87,12 +88,14 @@ module _ {K : Type 0} {cmp : K → K → Ordering} (o : IsTotalOrder cmp) (same 
       apart : (b : Bool) → is_eq (cmp key x) ≡ b → has_key cmp key ks ≡ false → has_key cmp x ks ≡ true → b ≡ false
       apart true h none has = let clash : true ≡ false = sym has ∙ ap (λ q. has_key cmp q ks) (sym (same_from_is_eq o same key x h)) ∙ none in cc
       apart false h none has = refl
+
       pushed : (ks : List K) → has_key cmp key (ks ++ x ∷ []) ≡ false → (is_eq (cmp key x) ≡ false) × (has_key cmp key ks ≡ false)
       pushed [] none = ((neither (is_eq (cmp key x)) false none).0, refl)
       pushed (y ∷ ys) none =
           let parts = neither (is_eq (cmp key y)) (has_key cmp key (ys ++ x ∷ [])) none in
           let rest = pushed ys parts.1 in
           (rest.0, ap₂ (λ a b. a || b) parts.0 rest.1)
+
       by : (b : Bool) → has_key cmp x ks ≡ b → has_key cmp key (cond b ks (ks ++ x ∷ [])) ≡ false → (is_eq (cmp key x) ≡ false) × (has_key cmp key ks ≡ false)
       by true h none = (apart (is_eq (cmp key x)) refl none h, none)
       by false h none = pushed ks none
@@ -132,27 +135,34 @@ module _ {K : Type 0} {cmp : K → K → Ordering} (o : IsTotalOrder cmp) (same 
     first_uses-ascending ks = made-fold [] (first_uses cmp ks) ∙ ap (map (entry_of f)) (ascending-fold o same (eq_by_cmp cmp) tied [] ks)
 
 -- a map whose keys are written as codes
-module _ {C K X : Type 0} (cmp : K → K → Ordering) (code_eq : C → C → Bool) (key_of : C → K) (code : C) where
-  -- the code is that of each entry just where the keys are the same
+module _ {C K X Y : Type 0} (cmp : K → K → Ordering) (code_eq : C → C → Bool) (key_of : C → K) (value_of : X → Y) (code : C) where
+  -- the code is that of an entry just where the keys are the same
   abbrev pub Tells : List (C × X) → Type 0
   Tells es = AllByRecursion (λ (e : C × X). code_eq code e.0 ≡ is_eq (cmp (key_of code) (key_of e.0))) es
 
-  abbrev pub decoded : List (C × X) → List (K × X)
-  decoded es = map (λ (e : C × X). (key_of e.0, e.1)) es
+  abbrev by_keys : List (C × X) → List (K × Y)
+  by_keys es = map (λ (e : C × X). (key_of e.0, value_of e.1)) es
 
-  pub decoded-put_entry : (es : List (C × X)) (v : X) → Tells es → decoded (put_entry code_eq es code v) ≡ put_entry (eq_by_cmp cmp) (decoded es) (key_of code) v
+  -- what is put at a code is put at its key
+  pub decoded-put_entry : (es : List (C × X)) (v : X) → Tells es → by_keys (put_entry code_eq es code v) ≡ put_entry (eq_by_cmp cmp) (by_keys es) (key_of code) (value_of v)
   decoded-put_entry [] v tells = refl
   decoded-put_entry (e ∷ es) v tells =
-      ap (λ b. decoded (cond b ((e.0, v) ∷ es) (e ∷ put_entry code_eq es code v))) tells.0
+      ap (λ b. by_keys (cond b ((e.0, v) ∷ es) (e ∷ put_entry code_eq es code v))) tells.0
       ∙ by (is_eq (cmp (key_of code) (key_of e.0))) (decoded-put_entry es v tells.1)
     where
-      by : (b : Bool) → decoded (put_entry code_eq es code v) ≡ put_entry (eq_by_cmp cmp) (decoded es) (key_of code) v →
-          decoded (cond b ((e.0, v) ∷ es) (e ∷ put_entry code_eq es code v)) ≡ cond b ((key_of e.0, v) ∷ decoded es) ((key_of e.0, e.1) ∷ put_entry (eq_by_cmp cmp) (decoded es) (key_of code) v)
+      by : (b : Bool) → by_keys (put_entry code_eq es code v) ≡ put_entry (eq_by_cmp cmp) (by_keys es) (key_of code) (value_of v) →
+          by_keys (cond b ((e.0, v) ∷ es) (e ∷ put_entry code_eq es code v)) ≡ cond b ((key_of e.0, value_of v) ∷ by_keys es) ((key_of e.0, value_of e.1) ∷ put_entry (eq_by_cmp cmp) (by_keys es) (key_of code) (value_of v))
       by true rest = refl
-      by false rest = ap (λ l. (key_of e.0, e.1) ∷ l) rest
+      by false rest = ap (λ l. (key_of e.0, value_of e.1) ∷ l) rest
 
-  pub lookup-decoded : (es : List (C × X)) → Tells es → lookup (code_eq code) es ≡ lookup (is_at (cmp (key_of code))) (decoded es)
+  -- what is found at a code is found at its key
+  pub lookup-decoded : (es : List (C × X)) → Tells es → option_map value_of (lookup (code_eq code) es) ≡ lookup (is_at (cmp (key_of code))) (by_keys es)
   lookup-decoded [] tells = refl
   lookup-decoded (e ∷ es) tells =
-      ap (λ b. cond b (Some e.1) (lookup (code_eq code) es)) tells.0
-      ∙ ap (λ l. cond (is_eq (cmp (key_of code) (key_of e.0))) (Some e.1) l) (lookup-decoded es tells.1)
+      ap (λ b. option_map value_of (cond b (Some e.1) (lookup (code_eq code) es))) tells.0
+      ∙ by (is_eq (cmp (key_of code) (key_of e.0))) (lookup-decoded es tells.1)
+    where
+      by : (b : Bool) → option_map value_of (lookup (code_eq code) es) ≡ lookup (is_at (cmp (key_of code))) (by_keys es) →
+          option_map value_of (cond b (Some e.1) (lookup (code_eq code) es)) ≡ cond b (Some (value_of e.1)) (lookup (is_at (cmp (key_of code))) (by_keys es))
+      by true rest = refl
+      by false rest = rest

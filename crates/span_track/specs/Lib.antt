@@ -1,5 +1,7 @@
 pub mod Async
 pub mod AsyncKept
+pub mod Counters
+pub mod CountersKept
 pub mod Fault
 pub mod Flow
 pub mod FlowKept
@@ -10,5 +12,6 @@ pub mod Maps
 pub mod Matching
 pub mod Nesting
 pub mod Numbering
+pub mod SeriesCodes
 pub mod Thread
 pub mod Uses

@@ -1,4 +1,4 @@
-//! The keys of asynchronous spans and of flow chains.
+//! The keys of asynchronous spans, of flow chains and of series.
 ghost use Rattle.std.specs.Prelude.{◌≡◌, IfOk};
 
 use span_read::{IdKey, Text};
@@ -49,4 +49,14 @@ impl FlowKey {
         let id = self.id.try_clone(alloc)?;
         Ok(FlowKey { cat, name, id })
     }
+}
+
+/// What the samples of a series share: the counter's process, name and id, and the name of the series. Ordered by its fields in
+/// their order, no id before any.
+#[derive(Debug, Drop, PartialEq, Eq, PartialOrd, Ord, Hash)]
+pub struct SeriesKey {
+    pub pid: i64,
+    pub name: Text,
+    pub id: Option<IdKey>,
+    pub series: Text,
 }

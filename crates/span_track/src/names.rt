@@ -2,7 +2,7 @@
 ghost use Rattle.std.specs.Prelude.{◌≡◌, ◌-◌, ◌<◌, ◌^◌, List, ℕ, [], Some, length, slice_get, take, option_copied, IfOk, OnOk, OnErr};
 ghost use Rattle.span_track.specs.Numbering.{number_in, with_name};
 
-use indexmap::IndexSet;
+use crate::texts::Texts;
 use span_read::Text;
 use std::alloc::{AllocError, Global};
 use std::marker::Model;
@@ -10,7 +10,7 @@ use std::marker::Model;
 /// Distinct texts, numbered from 0 in the order of their first use.
 #[derive(Drop)]
 pub struct Names {
-    texts: IndexSet<Text>,
+    texts: Texts,
 }
 
 impl Model for Names {
@@ -18,9 +18,9 @@ impl Model for Names {
 
     ghost Value = { List (List ℕ) };
 
-    ghost view = { λ n. n.texts.keys };
+    ghost view = { λ n. n.texts };
 
-    ghost invariant = { λ n. length n.texts.keys < 2 ^ 32 };
+    ghost invariant = { λ n. length n.texts < 2 ^ 32 };
 }
 
 impl Names {
@@ -29,7 +29,7 @@ impl Names {
         ensures { result ≡ [] }
     {
         Names {
-            texts: IndexSet::new(alloc),
+            texts: Texts::new(alloc),
         }
     }
 
@@ -37,7 +37,7 @@ impl Names {
     pub fn count(&self) -> u32
         ensures { result ≡ length self.now }
     {
-        self.texts.len() as u32
+        self.texts.count() as u32
     }
 
     /// The number of `text`, which gets the next one where it has none. Only a new text takes memory.
@@ -47,27 +47,23 @@ impl Names {
         ensures names { OnOk result (self.new ≡ with_name self.old text.now) }
         ensures err { OnErr result (self.new ≡ self.old) }
     {
-        if let Some(number) = self.find(text) {
-            return Ok(number);
-        }
-        let copy = text.try_clone(*self.texts.allocator())?;
-        let (index, _) = self.texts.insert_full(copy)?;
-        Ok(index as u32)
+        let number = self.texts.number_of(text)?;
+        Ok(number as u32)
     }
 
     /// The number of `text`, where it has one.
     pub fn find(&self, text: &Text) -> Option<u32>
         ensures { result ≡ number_in self.now text.now }
     {
-        let index = self.texts.get_index_of(text)?;
-        Some(index as u32)
+        let number = self.texts.find(text)?;
+        Some(number as u32)
     }
 
     /// The text that has this number.
     pub fn text_of(&self, number: u32) -> Option<&Text>
         ensures { option_copied result ≡ slice_get self.now number }
     {
-        self.texts.get_index(number as usize)
+        self.texts.text_of(number as usize)
     }
 
     /// Keeps the first `count` names, as before the later ones were numbered.

@@ -4,7 +4,7 @@ use Rattle.std.specs.Cmp.Lexicographic.{pointwise, nat_list_eq_equiv}
 use Rattle.indexmap.specs.IndexSet.{insert_key}
 use Rattle.span_track.specs.Numbering.{number_in}
 use Rattle.span_track.proofs.Lists.Places.{position_or_len-None, list_any-None, position-append}
-use Rattle.span_track.proofs.names.Names.number_of.Goals as goal
+use Rattle.span_track.proofs.texts.Texts.number_of.Goals as goal
 
 -- a text that is new goes last, under the number of its place
 number_in-insert_key : (names after : List (List ℕ)) (text copy : List ℕ) (n : ℕ) → number_in names text ≡ None → copy ≡ text → after ≡ insert_key (pointwise nat_eq) names copy → n ≡ position_or_len (pointwise nat_eq copy) names → number_in after text ≡ Some n
