@@ -2,6 +2,7 @@
 #![tactic(auto)]
 
 mod async_events;
+mod counter_events;
 mod entry;
 mod event_key;
 mod flow_events;
@@ -30,7 +31,10 @@ pub use rows::{CountRow, ProcessRow, SpanRow, ThreadRow};
 pub use span_read::{
     ArgValue, Args, Event, Field, IdKey, Item, ItemFault, Items, Phase, Reach, Text,
 };
-pub use span_track::{AsyncKey, AsyncRow, AsyncTotals, FlowKey, FlowRow, FlowTotals};
+pub use span_track::{
+    AsyncKey, AsyncRow, AsyncTotals, FlowKey, FlowRow, FlowTotals, SeriesKey, SeriesRow,
+    SeriesTotals,
+};
 
 #[cfg(test)]
 mod tests;

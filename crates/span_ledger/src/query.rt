@@ -2,7 +2,7 @@
 ghost use Rattle.std.specs.Prelude.{◌≡◌, IfOk};
 
 use span_read::Text;
-use span_track::{AsyncKey, FlowKey};
+use span_track::{AsyncKey, FlowKey, SeriesKey};
 use std::alloc::{AllocError, Global};
 
 /// A question about the entries before it. It is an entry itself, and changes nothing else.
@@ -16,6 +16,8 @@ pub enum Query {
     AsyncOf(AsyncKey),
     /// The flow chains of a key.
     FlowOf(FlowKey),
+    /// The samples of a series.
+    Series(SeriesKey),
     /// How many entries of each kind there are.
     Counts,
 }
@@ -40,6 +42,7 @@ impl Query {
             }
             Query::AsyncOf(key) => Ok(Query::AsyncOf(key.try_clone(alloc)?)),
             Query::FlowOf(key) => Ok(Query::FlowOf(key.try_clone(alloc)?)),
+            Query::Series(key) => Ok(Query::Series(key.try_clone(alloc)?)),
             Query::Counts => Ok(Query::Counts),
         }
     }

@@ -44,6 +44,7 @@ pub(crate) fn reply_to(
         )),
         Query::AsyncOf(key) => Ok(Reply::Async(tracks.keyed.async_of(key))),
         Query::FlowOf(key) => Ok(Reply::Flow(tracks.keyed.flow_of(key))),
+        Query::Series(key) => Ok(Reply::Series(tracks.keyed.series_of(key))),
         Query::Counts => Ok(Reply::Counts(counts)),
     }
 }

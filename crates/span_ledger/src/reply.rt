@@ -2,7 +2,7 @@
 ghost use Rattle.std.specs.Prelude.{◌≡◌, IfOk};
 
 use crate::rows::CountRow;
-use span_track::{AsyncTotals, FlowTotals};
+use span_track::{AsyncTotals, FlowTotals, SeriesTotals};
 use std::alloc::{AllocError, Global};
 
 /// The reply to a query. Times and lengths are microseconds.
@@ -24,6 +24,8 @@ pub enum Reply {
     Async(AsyncTotals),
     /// Of a flow key. Zeros where no event has it.
     Flow(FlowTotals),
+    /// Of a series. None where it has no sample.
+    Series(Option<SeriesTotals>),
     /// How many entries of each kind stand before the query.
     Counts(CountRow),
 }
@@ -54,6 +56,7 @@ impl Reply {
             }),
             Reply::Async(totals) => Ok(Reply::Async(*totals)),
             Reply::Flow(totals) => Ok(Reply::Flow(*totals)),
+            Reply::Series(totals) => Ok(Reply::Series(*totals)),
             Reply::Counts(row) => Ok(Reply::Counts(*row)),
         }
     }

@@ -1,5 +1,6 @@
 ghost use Rattle.span_read.specs.Item.{IsGoodItem};
 
+mod counters;
 mod queries;
 
 use crate::{AsyncTotals, Cause, CountRow, FlowTotals, Item, Ledger, Op, ProcessRow};

@@ -60,3 +60,23 @@ pub struct SeriesKey {
     pub id: Option<IdKey>,
     pub series: Text,
 }
+
+impl SeriesKey {
+    /// A copy of the key.
+    pub fn try_clone(&self, alloc: Global) -> Result<SeriesKey, AllocError>
+        ensures { IfOk result (λ key. key ≡ self.now) }
+    {
+        let name = self.name.try_clone(alloc)?;
+        let series = self.series.try_clone(alloc)?;
+        let id = match &self.id {
+            Some(id) => Some(id.try_clone(alloc)?),
+            None => None,
+        };
+        Ok(SeriesKey {
+            pid: self.pid,
+            name,
+            id,
+            series,
+        })
+    }
+}

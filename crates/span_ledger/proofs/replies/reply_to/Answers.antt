@@ -3,7 +3,7 @@ use Rattle.span_track.specs.Async.{async_totals}
 use Rattle.span_track.specs.Flow.{flow_totals}
 use Rattle.span_track.proofs.Async.{async_spans_at-StandsFor}
 use Rattle.span_track.proofs.Flow.{flow_chains_at-StandsFor}
-use Rattle.span_ledger.specs.declared.reply.Reply.TheVariants.{Async, Flow}
+use Rattle.span_ledger.specs.declared.reply.Reply.TheVariants.{Async, Flow, Series}
 use Rattle.span_ledger.specs.Tracked.{FollowsJournal}
 use Rattle.span_ledger.proofs.TrackReplies.{track_reply-is, number_reply-is}
 use Rattle.span_ledger.proofs.replies.reply_to.Goals as goal
@@ -29,3 +29,8 @@ pub returns-in-FlowOf : goal.returns-in-FlowOf
 returns-in-FlowOf c =
     let ready = subst (FollowsJournal c.args.journal.now) (sym c.tracks.view_is) c.requires.follows in
     rw c.in-FlowOf.is (ap Flow (c.flow_of.ensures ∙ ap flow_totals (flow_chains_at-StandsFor _ _ c.in-FlowOf.key ready.keyed.flows)))
+
+pub returns-in-Series : goal.returns-in-Series
+returns-in-Series c =
+    let ready = subst (FollowsJournal c.args.journal.now) (sym c.tracks.view_is) c.requires.follows in
+    rw c.in-Series.is (ap Series (c.series_of.ensures _ ready.keyed.counters))

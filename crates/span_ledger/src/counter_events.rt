@@ -1,0 +1,24 @@
+//! A counter event, told to the track of counters.
+ghost use Rattle.std.specs.Prelude.{◌≡◌};
+ghost use Rattle.span_read.specs.declared.event.Phase.TheVariants.{Counter};
+ghost use Rattle.span_read.specs.Event.{IsGood};
+ghost use Rattle.span_track.specs.Counters.{CounterStandsFor, HasCounterRoom};
+ghost use Rattle.span_ledger.specs.Answers.{counter_answer};
+ghost use Rattle.span_ledger.specs.Tracked.{Tells};
+
+use crate::entry::Answer;
+use span_read::Event;
+use span_track::{CounterTrack, TrackFault};
+
+pub(crate) fn tell_counter(
+    track: &mut CounterTrack,
+    event: &Event,
+) -> Result<(Answer, Answer), TrackFault>
+    requires good { IsGood event.now }
+    requires phase { event.now.phase ≡ Counter }
+    requires room { HasCounterRoom track.old }
+    ensures { Tells CounterStandsFor counter_answer track.old event.now result track.new }
+{
+    track.sample(event)?;
+    Ok((Answer::Counted, Answer::Counted))
+}
