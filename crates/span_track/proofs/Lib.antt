@@ -8,6 +8,7 @@ pub mod Keyed
 pub mod Lists
 pub mod Maps
 pub mod Matching
+pub mod Meta
 pub mod Numbers
 pub mod Orders
 pub mod Results

@@ -15,7 +15,7 @@ use Rattle.span_track.specs.declared.keys.SeriesKey.{SeriesKey}
 use Rattle.span_track.specs.Flow.{flow_cmp}
 use Rattle.span_track.specs.Counters.{series_cmp}
 
-both_equal : (r s : Ordering) → ordering_then r s ≡ Equal → (r ≡ Equal) × (s ≡ Equal)
+pub both_equal : (r s : Ordering) → ordering_then r s ≡ Equal → (r ≡ Equal) × (s ≡ Equal)
 both_equal Less s e = cc
 both_equal Equal s e = (refl, e)
 both_equal Greater s e = cc
@@ -55,7 +55,7 @@ flow_cmp-same a b e =
     let id = id_cmp-same a.id b.id second.1 in
     λ i. record { cat = cat i; name = name i; id = id i }
 
-option_same : {A : Type 0} {cmp : A → A → Ordering} → ((a b : A) → cmp a b ≡ Equal → a ≡ b) → (a b : Option A) → option_cmp cmp a b ≡ Equal → a ≡ b
+pub option_same : {A : Type 0} {cmp : A → A → Ordering} → ((a b : A) → cmp a b ≡ Equal → a ≡ b) → (a b : Option A) → option_cmp cmp a b ≡ Equal → a ≡ b
 option_same same None None e = refl
 option_same same None (Some y) e = cc
 option_same same (Some x) None e = cc

@@ -10,6 +10,8 @@ pub mod Keyed
 pub mod Last
 pub mod Maps
 pub mod Matching
+pub mod Meta
+pub mod MetaKept
 pub mod Nesting
 pub mod Numbering
 pub mod SeriesCodes

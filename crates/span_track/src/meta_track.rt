@@ -1,0 +1,131 @@
+//! The track of metadata events.
+ghost use Rattle.std.specs.Prelude.{◌≡◌, [], List, Some, None, option_copied, OnOk, OnErr};
+ghost use Rattle.span_read.specs.declared.event.Event.{Event};
+ghost use Rattle.span_read.specs.declared.event.Phase.TheVariants.{Meta};
+ghost use Rattle.span_read.specs.Event.{IsGood};
+ghost use Rattle.span_track.specs.Fault.{Answers};
+ghost use Rattle.span_track.specs.Meta.{MetaStandsFor, TakesMeta, TakesSetting, names_in};
+ghost use Rattle.span_track.specs.MetaKept.{keyed_setting};
+
+mod named;
+mod setting;
+
+use crate::fault::TrackFault;
+use named::Named;
+pub use setting::names_thread;
+use setting::{Holder, Setting, setting_of};
+use span_read::{Event, Text};
+use std::alloc::Global;
+use std::collections::BTreeMap;
+use std::marker::Model;
+
+/// What metadata events set of a process.
+pub struct ProcessNames<'a> {
+    pub name: Option<&'a Text>,
+    pub labels: Option<&'a Text>,
+    pub sort_index: Option<i64>,
+}
+
+/// What metadata events set of a thread.
+pub struct ThreadNames<'a> {
+    pub name: Option<&'a Text>,
+    pub sort_index: Option<i64>,
+}
+
+/// The names of all processes and threads.
+#[derive(Drop)]
+pub struct MetaTrack {
+    alloc: Global,
+    names: BTreeMap<Holder, Named>,
+}
+
+impl Model for MetaTrack {
+    ghost use Rattle.span_track.specs.Meta.{MetaKept};
+
+    ghost Value = { MetaKept };
+
+    ghost view = { λ t. t.names.entries };
+}
+
+impl MetaTrack {
+    /// The track of no events. Takes no memory.
+    pub fn new(alloc: Global) -> MetaTrack
+        ensures { MetaStandsFor result [] }
+    {
+        MetaTrack {
+            alloc,
+            names: BTreeMap::new(alloc),
+        }
+    }
+
+    /// A metadata event. One without effect sets nothing and takes no memory. Only want of memory refuses it.
+    pub fn name_event(&mut self, event: &Event) -> Result<(), TrackFault>
+        requires good { IsGood event.now }
+        requires phase { event.now.phase ≡ Meta }
+        ensures refusal { Answers result None }
+        ensures stands { OnOk result (TakesMeta self.old self.new event.now) }
+        ensures err { OnErr result (self.new ≡ self.old) }
+    {
+        let Ok(set) = setting_of(self.alloc, event) else {
+            return Err(TrackFault::Memory);
+        };
+        match set {
+            Some((holder, setting)) => self.set(holder, setting),
+            None => Ok(()),
+        }
+    }
+
+    /// What the last metadata events set of the process. Takes no memory.
+    pub fn process_of(&self, pid: i64) -> ProcessNames<'_>
+        ensures name { (es : List Event) → MetaStandsFor self.now es → option_copied result.name ≡ (names_in es (pid, None)).name }
+        ensures labels { (es : List Event) → MetaStandsFor self.now es → option_copied result.labels ≡ (names_in es (pid, None)).labels }
+        ensures sort_index { (es : List Event) → MetaStandsFor self.now es → result.sort_index ≡ (names_in es (pid, None)).sort_index }
+    {
+        match self.names.get(&(pid, None)) {
+            Some(named) => ProcessNames {
+                name: named.name(),
+                labels: named.labels(),
+                sort_index: named.sort_index(),
+            },
+            None => ProcessNames {
+                name: None,
+                labels: None,
+                sort_index: None,
+            },
+        }
+    }
+
+    /// What the last metadata events set of the thread. Takes no memory.
+    pub fn thread_of(&self, pid: i64, tid: i64) -> ThreadNames<'_>
+        ensures name { (es : List Event) → MetaStandsFor self.now es → option_copied result.name ≡ (names_in es (pid, Some tid)).name }
+        ensures sort_index { (es : List Event) → MetaStandsFor self.now es → result.sort_index ≡ (names_in es (pid, Some tid)).sort_index }
+    {
+        match self.names.get(&(pid, Some(tid))) {
+            Some(named) => ThreadNames {
+                name: named.name(),
+                sort_index: named.sort_index(),
+            },
+            None => ThreadNames {
+                name: None,
+                sort_index: None,
+            },
+        }
+    }
+
+    fn set(&mut self, holder: Holder, setting: Setting) -> Result<(), TrackFault>
+        ensures refusal { Answers result None }
+        ensures takes { OnOk result (TakesSetting self.old self.new (keyed_setting (holder, setting))) }
+        ensures err { OnErr result (self.new ≡ self.old) }
+    {
+        if let Some(named) = self.names.get_mut(&holder) {
+            named.set(setting);
+            return Ok(());
+        }
+        let mut named = Named::new();
+        named.set(setting);
+        match self.names.insert(holder, named) {
+            Ok(_) => Ok(()),
+            Err(_) => Err(TrackFault::Memory),
+        }
+    }
+}
