@@ -10,7 +10,7 @@ mod text;
 mod writer;
 
 pub use lines::json_text;
-pub use output::{WriteFault, write_report};
+pub use output::{WriteFault, write_bytes, write_report};
 pub use sink::{Sink, SinkFault};
 pub use span_ledger::{Ledger, Text};
 pub use text::report;

@@ -39,11 +39,12 @@ pub fn write_report<O: Sink>(alloc: Global, ledger: &Ledger, out: &mut O) -> Res
     let Ok(text) = report(alloc, ledger) else {
         return Err(WriteFault::Memory);
     };
-    pour(&text, out).map_err(|written| WriteFault::Output { written })
+    write_bytes(&text, out).map_err(|written| WriteFault::Output { written })
 }
 
-// Puts the bytes until all are taken, then finishes once. The error is how many bytes were taken.
-fn pour<O: Sink>(bytes: &[u8], out: &mut O) -> Result<(), u64>
+/// Puts the bytes until all are taken, then finishes once. The first fault of the output ends it; the error is how many bytes
+/// it took.
+pub fn write_bytes<O: Sink>(bytes: &[u8], out: &mut O) -> Result<(), u64>
     requires { (O.state out.old).failures < 2 ^ 64 - 1 }
     ensures ok { OnOk result (Takes (O.state out.old) (O.state out.new) bytes.now) }
     ensures within { IfErr result (λ written. written ≤ length bytes.now) }

@@ -1,2 +1,4 @@
 pub mod EndLines
+pub mod Ends
 pub mod OneFile
+pub mod Operations

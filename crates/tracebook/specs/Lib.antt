@@ -1,3 +1,4 @@
+pub mod Account
 pub mod Collection
 pub mod FaultLines
 pub mod Run

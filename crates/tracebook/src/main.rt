@@ -1,86 +1,77 @@
-//! Reads a trace from standard input and prints a report of its spans.
+//! Reports where the time went in trace event files.
 #![tactic(auto)]
 
-mod collecting;
-mod fault_text;
+mod collection;
+mod command;
+mod faults;
 mod files;
+mod program;
 mod reading;
 mod runs;
-mod telling;
+mod source;
 #[cfg(test)]
 mod tests;
 mod words;
 
-pub use fault_text::fault_lines;
-use fault_text::put_fault;
+pub use faults::fault_lines;
 pub use files::{FileEnd, Input};
-use reading::{SourceFault, read_up_to};
+pub use program::perform;
+use reading::read_up_to;
 pub use runs::{RunEnd, RunError, run};
+pub use source::{Source, SourceFault};
 use span_ledger::Text;
 use span_report::Writer;
-use std::alloc::{AllocError, Global};
-use std::io::Write;
+use std::fs::File;
+use std::io::ErrorKind;
 use std::process::ExitCode;
+use std::{env, io};
 pub use words::fault_word;
 
-/// The most entries of the journal.
-const LIMIT: u32 = 16_777_216;
-
-/// The most bytes that are read: one more than a file may have, so that a longer one is refused.
-const MOST_READ: usize = 67_108_865;
-
-const FAILED: u8 = 2;
-
-const MEMORY: u16 = 31;
-
-const NOT_OPENED: u16 = 52;
-
-fn not_opened_line(alloc: Global, name: &Text) -> Result<Vec<u8>, AllocError> {
-    let mut line = String::new(alloc);
-    put_fault(alloc, &mut line, name, NOT_OPENED)?;
-    Ok(line.into_bytes())
+// The real files and standard input.
+#[derive(Drop)]
+struct Host<'a> {
+    rt: &'a HostRuntime,
 }
 
-// Prints the fault of the program as a whole. Nothing can be done where standard error fails.
-fn print_fault(rt: &HostRuntime, code: u16) -> u8 {
-    let word = fault_word(code).unwrap_or("");
-    let _ = eprintln!(rt; "tracebook: {code} {word}");
-    FAILED
-}
+impl<'a> Source for Host<'a> {
+    fn standard(&mut self, most: u64) -> Result<Vec<u8>, SourceFault> {
+        read_up_to(self.rt.alloc(), &mut self.rt.stdin(), most as usize)
+    }
 
-fn print_lines(rt: &HostRuntime, lines: Result<Vec<u8>, AllocError>, status: u8) -> u8 {
-    match lines {
-        Ok(lines) => {
-            let _ = rt.stderr().write_all(&lines);
-            status
+    fn file(&mut self, name: &Text, most: u64) -> Result<Vec<u8>, SourceFault> {
+        match File::open(self.rt, name.as_str()) {
+            Ok(mut file) => read_up_to(self.rt.alloc(), &mut file, most as usize),
+            Err(_) => Err(SourceFault::NotOpened),
         }
-        Err(_) => print_fault(rt, MEMORY),
     }
 }
 
-fn run_on(rt: &HostRuntime, file: Input) -> u8 {
+// The words of the command line behind the program's name. Each of them must be text.
+fn words_of(rt: &HostRuntime) -> io::Result<Vec<Text>> {
     let alloc = rt.alloc();
-    let Ok(files) = vec![in alloc; file] else {
-        return print_fault(rt, MEMORY);
-    };
-    match run(alloc, &files, LIMIT, &mut Writer::new(rt.stdout())) {
-        Ok(end) => print_lines(rt, fault_lines(alloc, &files, &end.ends), end.status),
-        Err(error) => print_fault(rt, error.code()),
+    let mut words = Vec::new(alloc);
+    for word in env::args(rt)?.skip(1) {
+        words.push(Text::of(alloc, word.as_str())?)?;
     }
+    Ok(words)
 }
 
-fn run_program(rt: &HostRuntime) -> u8 {
-    let alloc = rt.alloc();
-    let Ok(name) = Text::of(alloc, "-") else {
-        return print_fault(rt, MEMORY);
+// Says why there are no words. Nothing can be done where standard error fails.
+fn fail_without_words(rt: &HostRuntime, error: io::Error) -> ExitCode {
+    let _ = match error.kind() {
+        ErrorKind::OutOfMemory => eprintln!(rt; "tracebook: 31 Memory"),
+        _ => eprintln!(rt; "tracebook: a word of the command line is not UTF-8 text"),
     };
-    match read_up_to(alloc, &mut rt.stdin(), MOST_READ) {
-        Ok(bytes) => run_on(rt, Input { name, bytes }),
-        Err(SourceFault::NotOpened) => print_lines(rt, not_opened_line(alloc, &name), FAILED),
-        Err(SourceFault::Memory) => print_fault(rt, MEMORY),
-    }
+    ExitCode::from(2)
 }
 
 fn main(rt: HostRuntime) -> ExitCode {
-    ExitCode::from(run_program(&rt))
+    let words = match words_of(&rt) {
+        Ok(words) => words,
+        Err(error) => return fail_without_words(&rt, error),
+    };
+    let mut source = Host { rt: &rt };
+    let mut out = Writer::new(rt.stdout());
+    let status = perform(rt.alloc(), &words, &mut source, &mut out, &mut rt.stderr());
+    ExitCode::from(status)
 }

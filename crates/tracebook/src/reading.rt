@@ -1,20 +1,12 @@
-//! Reads the bytes of a file.
+//! Reads the bytes of an opened file.
 ghost use Rattle.std.specs.Prelude.{◌≡◌, ◌+◌, ◌<◌, ◌≤◌, length, vec_len, IfOk};
 ghost use Rattle.tracebook.specs.Source.{AreFirst, Brings};
 
+use crate::source::SourceFault;
 use std::alloc::Global;
 use std::io::Read;
 
 const CHUNK: usize = 65_536;
-
-/// Why a file could not be read.
-#[derive(Clone, Copy, Debug, PartialEq, Eq)]
-pub enum SourceFault {
-    /// 52: a read failed, or was interrupted.
-    NotOpened,
-    /// 31: memory was refused.
-    Memory,
-}
 
 fn chunk_of(alloc: Global, size: usize) -> Result<Vec<u8>, SourceFault>
     ensures { IfOk result (λ chunk. vec_len chunk ≡ size) }

@@ -1,107 +1,278 @@
-//! Whole runs over worked examples, whose reports were written by hand from the format.
-ghost use Rattle.std.specs.Prelude.{◌≡◌, vec_len, IfOk};
+//! Whole runs of the program over files in memory; reports and fault lines were written by hand from the format.
+ghost use Rattle.std.specs.Prelude.{◌≤◌, vec_len, IfOk};
 
-use crate::{FileEnd, Input, RunError, fault_lines, fault_word, run};
+use crate::command::{Order, order_of};
+use crate::{FileEnd, Input, RunError, Source, SourceFault, fault_lines, fault_word, perform, run};
 use span_ledger::{Cause, Text};
 use span_report::Writer;
 use std::alloc::{AllocError, Global};
+use std::io;
+use std::io::{ErrorKind, Write};
+use std::process::Abort;
 use std::test::Fail;
+
+const GOOD: &str =
+    "[{\"ph\":\"B\",\"name\":\"a\",\"ts\":1,\"pid\":1,\"tid\":2},{\"ph\":\"E\",\"ts\":11,\"pid\":1,\"tid\":2}]";
+
+const GOOD_REPORT: &str =
+    "tracebook 1\nevents 2 refused 0 skipped 0 queries 0\nprocess 1 -\nthread 1 2 - open 0 busy 10\nspan        1               10               10 \"a\"\n";
 
 const EMPTY_REPORT: &str = "tracebook 1\nevents 0 refused 0 skipped 0 queries 0\n";
 
-fn one_file(alloc: Global, text: &str) -> Result<Vec<Input>, AllocError>
-    ensures { IfOk result (λ files. vec_len files ≡ 1) }
-{
-    let name = Text::of(alloc, "four.json")?;
-    let bytes = Vec::from_slice(alloc, text.as_bytes())?;
-    let files = vec![in alloc; Input { name, bytes }]?;
-    Ok(files)
+const FOUR: &str =
+    "[{\"ph\":\"B\",\"ts\":1},{\"ph\":\"B\",\"ts\":1},{\"ph\":\"B\",\"ts\":1},{\"ph\":\"B\",\"ts\":1}]";
+
+// The files in memory; standard input is `-`.
+static FILES: [(&str, &str); 5] = [
+    ("-", GOOD),
+    ("good.json", GOOD),
+    ("cut.json", "[{\"ph\":\"B\",\"na"),
+    ("four.json", FOUR),
+    ("empty.json", "[]"),
+];
+
+#[derive(Drop)]
+struct Table {
+    alloc: Global,
+}
+
+impl Table {
+    fn find(&self, name: &str, most: u64) -> Result<Vec<u8>, SourceFault>
+        ensures { IfOk result (λ bytes. vec_len bytes ≤ most) }
+    {
+        for (own, text) in &FILES {
+            if *own == name {
+                let bytes = text.as_bytes();
+                let count = bytes.len().min(most as usize);
+                return Vec::from_slice(self.alloc, &bytes[..count]).map_err(
+                    |_| SourceFault::Memory,
+                );
+            }
+        }
+        Err(SourceFault::NotOpened)
+    }
+}
+
+impl Source for Table {
+    fn standard(&mut self, most: u64) -> Result<Vec<u8>, SourceFault> {
+        self.find("-", most)
+    }
+
+    fn file(&mut self, name: &Text, most: u64) -> Result<Vec<u8>, SourceFault> {
+        self.find(name.as_str(), most)
+    }
+}
+
+fn texts_of(alloc: Global, words: &[&str]) -> Result<Vec<Text>, AllocError> {
+    let mut texts = Vec::new(alloc);
+    for word in words {
+        texts.push(Text::of(alloc, word)?)?;
+    }
+    Ok(texts)
+}
+
+// The program ends with this status, this standard output and this standard error.
+fn ends_with(
+    rt: &(impl Abort + AllocGlobal),
+    words: &[Text],
+    status: u8,
+    report: &str,
+    lines: &str,
+) {
+    let alloc = rt.alloc();
+    let mut source = Table { alloc };
+    let mut out = Vec::new(alloc);
+    let mut faults = Vec::new(alloc);
+    let mut writer = Writer::new(&mut out);
+    let own = perform(alloc, words, &mut source, &mut writer, &mut faults);
+    assert_eq!(rt; own, status, "{lines}");
+    assert!(rt; out.as_slice() == report.as_bytes(), "{lines}");
+    assert!(rt; faults.as_slice() == lines.as_bytes(), "{lines}");
+}
+
+fn performs(
+    rt: &(impl Abort + AllocGlobal),
+    words: &[&str],
+    status: u8,
+    report: &str,
+    lines: &str,
+) -> Result<(), Fail> {
+    let texts = texts_of(rt.alloc(), words)?;
+    ends_with(rt, &texts, status, report, lines);
+    Ok(())
 }
 
 #[test]
-fn prints_the_reports_of_worked_traces(rt: HostRuntime) -> Result<(), Fail> {
-    let alloc = rt.alloc();
-    let cases = [
-        ("[]", 0u32, EMPTY_REPORT),
-        (
-            "[{\"ph\":\"B\",\"name\":\"a\",\"ts\":1,\"pid\":1,\"tid\":2},{\"ph\":\"E\",\"ts\":11,\"pid\":1,\"tid\":2}]",
-            2,
-            "tracebook 1\nevents 2 refused 0 skipped 0 queries 0\nprocess 1 -\nthread 1 2 - open 0 busy 10\nspan        1               10               10 \"a\"\n",
-        ),
-        (
-            "[{\"ph\":\"B\",\"name\":\"a\",\"ts\":0,\"pid\":1,\"tid\":1},{\"ph\":\"B\",\"name\":\"b\",\"ts\":2,\"pid\":1,\"tid\":1},{\"ph\":\"E\",\"ts\":5,\"pid\":1,\"tid\":1},{\"ph\":\"E\",\"ts\":10,\"pid\":1,\"tid\":1}]",
-            4,
-            "tracebook 1\nevents 4 refused 0 skipped 0 queries 0\nprocess 1 -\nthread 1 1 - open 0 busy 10\nspan        1               10                7 \"a\"\nspan        1                3                3 \"b\"\n",
-        ),
-    ];
-    for (text, count, report) in cases {
-        let files = one_file(alloc, text)?;
-        let mut out = Vec::new(alloc);
-        let end = run(alloc, &files, 100, &mut Writer::new(&mut out))?;
-        assert_eq!(rt; end.status, 0, "at {text}");
-        let read = FileEnd::Read {
-            caller: 1,
-            items: count,
-        };
-        assert!(rt; end.ends.as_slice() == [read].as_slice(), "at {text}");
-        assert!(rt; out.as_slice() == report.as_bytes(), "at {text}");
-    }
-    Ok(())
+fn reads_standard_input_where_no_file_is_named(rt: HostRuntime) -> Result<(), Fail> {
+    performs(&rt, &[], 0, GOOD_REPORT, "")
+}
+
+#[test]
+fn reports_of_the_other_files_where_one_is_cut(rt: HostRuntime) -> Result<(), Fail> {
+    let line = "tracebook: \"cut.json\": 1 NotJson\n";
+    performs(&rt, &["good.json", "cut.json"], 1, GOOD_REPORT, line)?;
+    performs(&rt, &["cut.json", "good.json"], 1, GOOD_REPORT, line)?;
+    performs(&rt, &["cut.json"], 1, EMPTY_REPORT, line)
+}
+
+#[test]
+fn counts_a_file_that_is_named_twice_twice(rt: HostRuntime) -> Result<(), Fail> {
+    let report =
+        "tracebook 1\nevents 2 refused 2 skipped 0 queries 0\nprocess 1 -\nthread 1 2 - open 0 busy 10\nspan        1               10               10 \"a\"\n";
+    performs(&rt, &["good.json", "good.json"], 0, report, "")
 }
 
 #[test]
 fn stops_at_the_limit(rt: HostRuntime) -> Result<(), Fail> {
-    let alloc = rt.alloc();
-    let begin = "{\"ph\":\"B\",\"ts\":1,\"pid\":1,\"tid\":1}";
-    let text = format!(in alloc; "[{begin},{begin},{begin},{begin}]")?;
-    let files = one_file(alloc, text.as_str())?;
-    let mut out = Vec::new(alloc);
-    let end = run(alloc, &files, 3, &mut Writer::new(&mut out))?;
-    assert_eq!(rt; end.status, 2);
-    let stopped = FileEnd::Stopped {
-        caller: 1,
-        done: 3,
-        cause: Cause::Full,
-    };
-    assert!(rt; end.ends.as_slice() == [stopped].as_slice());
-    assert!(rt; out.is_empty());
-    let lines = fault_lines(alloc, &files, &[stopped])?;
-    let wanted = "tracebook: \"four.json\": 32 Full after 3\n";
-    assert!(rt; lines.as_slice() == wanted.as_bytes());
-    Ok(())
+    let line = "tracebook: \"four.json\": 32 Full after 3\n";
+    performs(&rt, &["--limit", "3", "four.json"], 2, "", line)
 }
 
 #[test]
-fn refuses_a_file_that_is_no_trace(rt: HostRuntime) -> Result<(), Fail> {
+fn makes_no_collection_where_a_file_is_missing(rt: HostRuntime) -> Result<(), Fail> {
+    let line = "tracebook: \"missing.json\": 52 NotOpened\n";
+    performs(&rt, &["missing.json"], 2, "", line)?;
+    performs(&rt, &["good.json", "missing.json"], 2, "", line)
+}
+
+#[test]
+fn takes_up_to_64_files(rt: HostRuntime) -> Result<(), Fail> {
+    performs(&rt, &["empty.json"; 64], 0, EMPTY_REPORT, "")?;
+    performs(&rt, &["empty.json"; 65], 2, "", "tracebook: 41 FileCount\n")
+}
+
+fn status_of(rt: &(impl Abort + AllocGlobal), words: &[Text], out: &mut Short) -> u8 {
     let alloc = rt.alloc();
-    for (text, code, line) in [
-        ("{", 1u16, "tracebook: \"four.json\": 1 NotJson\n"),
-        ("5", 2, "tracebook: \"four.json\": 2 NotTrace\n"),
+    let mut source = Table { alloc };
+    let mut faults = Vec::new(alloc);
+    perform(
+        alloc,
+        words,
+        &mut source,
+        &mut Writer::new(out),
+        &mut faults,
+    )
+}
+
+// A writer that takes so many bytes, and then fails.
+#[derive(Drop)]
+struct Short {
+    room: usize,
+    taken: usize,
+}
+
+impl Write for Short {
+    fn write(&mut self, bytes: &[u8]) -> io::Result<usize> {
+        let count = bytes.len().min(self.room);
+        if count == 0 {
+            return Err(io::Error::from(ErrorKind::BrokenPipe));
+        }
+        self.room -= count;
+        self.taken = self.taken.wrapping_add(count);
+        Ok(count)
+    }
+
+    fn flush(&mut self) -> io::Result<()> {
+        Ok(())
+    }
+}
+
+#[test]
+fn prints_help_and_refuses_wrong_words(rt: HostRuntime) -> Result<(), Fail> {
+    let alloc = rt.alloc();
+    for (word, room, status, is_printed) in [
+        ("--help", 100_000usize, 0u8, true),
+        ("--version", 100_000, 0, true),
+        ("--help", 10, 2, true),
+        ("--wrong", 100_000, 2, false),
+        ("--limit=0", 100_000, 2, false),
+        ("--limit=4294967296", 100_000, 2, false),
     ] {
-        let files = one_file(alloc, text)?;
-        let mut out = Vec::new(alloc);
-        let end = run(alloc, &files, 3, &mut Writer::new(&mut out))?;
-        assert_eq!(rt; end.status, 1, "at {text}");
-        let refused = FileEnd::Refused { caller: 1, code };
-        assert!(rt; end.ends.as_slice() == [refused].as_slice(), "at {text}");
-        assert!(rt; out.as_slice() == EMPTY_REPORT.as_bytes(), "at {text}");
-        let lines = fault_lines(alloc, &files, &[refused])?;
-        assert!(rt; lines.as_slice() == line.as_bytes(), "at {text}");
+        let mut out = Short { room, taken: 0 };
+        let words = texts_of(alloc, &[word])?;
+        assert_eq!(rt; status_of(&rt, &words, &mut out), status, "{word}");
+        assert_eq!(rt; out.taken > 0, is_printed, "{word}");
+    }
+    Ok(())
+}
+
+fn orders(
+    rt: &(impl Abort + AllocGlobal),
+    words: &[Text],
+    limit: u32,
+    count: usize,
+) -> Result<(), Fail> {
+    match order_of(rt.alloc(), words)? {
+        Order::Collect { limit: own, files } => {
+            assert_eq!(rt; own, limit);
+            assert_eq!(rt; files.len(), count);
+            Ok(())
+        }
+        _ => Err(Fail::from("nothing is collected")),
+    }
+}
+
+#[test]
+fn knows_the_limit_and_the_files(rt: HostRuntime) -> Result<(), Fail> {
+    for (words, limit, count) in [
+        ([].as_slice(), 16_777_216u32, 0usize),
+        (["-"].as_slice(), 16_777_216, 1),
+        (["x", "--limit", "1", "y"].as_slice(), 1, 2),
+        (["--limit=4294967295"].as_slice(), 4_294_967_295, 0),
+        (["--", "--limit"].as_slice(), 16_777_216, 1),
+    ] {
+        let texts = texts_of(rt.alloc(), words)?;
+        orders(&rt, &texts, limit, count)?;
     }
     Ok(())
 }
 
 #[test]
-fn wants_exactly_one_file(rt: HostRuntime) -> Result<(), Fail> {
+fn wants_1_to_64_files(rt: HostRuntime) -> Result<(), Fail> {
     let alloc = rt.alloc();
     let mut out = Vec::new(alloc);
     let none = run(alloc, &[], 3, &mut Writer::new(&mut out));
     assert!(rt; matches!(none, Err(RunError::FileCount)));
-    let mut files = one_file(alloc, "[]")?;
-    files.append(&mut one_file(alloc, "[]")?)?;
-    let two = run(alloc, &files, 3, &mut Writer::new(&mut out));
-    assert!(rt; matches!(two, Err(RunError::FileCount)));
+    assert_eq!(rt; RunError::FileCount.code(), 41);
     assert!(rt; out.is_empty());
+    Ok(())
+}
+
+#[test]
+fn names_how_each_file_ended(rt: HostRuntime) -> Result<(), Fail> {
+    let alloc = rt.alloc();
+    let name = Text::of(alloc, "a\"")?;
+    let files = vec![in alloc;
+        Input {
+            name,
+            bytes: Vec::new(alloc)
+        },
+    ]?;
+    for (end, line) in [
+        (
+            FileEnd::Read {
+                caller: 1,
+                items: 2,
+            },
+            "",
+        ),
+        (
+            FileEnd::Refused { caller: 1, code: 3 },
+            "tracebook: \"a\\\"\": 3 TooLarge\n",
+        ),
+        (
+            FileEnd::Stopped {
+                caller: 1,
+                done: 7,
+                cause: Cause::Memory,
+            },
+            "tracebook: \"a\\\"\": 31 Memory after 7\n",
+        ),
+        (FileEnd::NotStarted, "tracebook: \"a\\\"\": 42 NotStarted\n"),
+    ] {
+        let lines = fault_lines(alloc, &files, &[end])?;
+        assert!(rt; lines.as_slice() == line.as_bytes(), "{line}");
+    }
     Ok(())
 }
 

@@ -1,38 +1,54 @@
-use Rattle.tracebook.proofs.OneFile.{one_element, report_of-journal, status_of-lt, is_within}
+use Rattle.std.proofs.Common.{refl, ap, ◌∙◌, arith}
+use Rattle.tracebook.specs.Run.{status_of}
+use Rattle.tracebook.proofs.Ends.{IsCollected-accounts}
+use Rattle.tracebook.proofs.OneFile.{account-one, status_of-lt}
 use Rattle.tracebook.proofs.runs.run.Goals as goal
 
-pub returns-then-status-eq2-clause-end : goal.returns-then-status-eq2-clause-end
-returns-then-status-eq2-clause-end g c = record {
-  file = c.file-item.result;
-  end = c.collect-end.result;
-  one_file = one_element _ _ c.in-len1.len_at_least c.in-len1.len_below c.file-item.is;
-  one_end = c.in-Ok.ensures.items;
-  ended = rw c.new-ledger.ensures at c.collect-end.ensures.end;
-  status = c.exit_status-status.ensures;
-}
+-- nothing was written
+pub returns-then-status-eq2-clause-run : goal.returns-then-status-eq2-clause-run
+returns-then-status-eq2-clause-run g c =
+    let collected = rw c.new-ledger.ensures at c.in-Ok.ensures in
+    record {
+      journal = c.collect_all.new.ledger.journal;
+      account = IsCollected-accounts c.args.files.now c.args.limit c.in-Ok.ends.items c.collect_all.new.ledger.journal collected;
+      numbered = collected.numbered;
+      status = c.exit_status-status.ensures ∙ ap status_of c.deref.ensures.value;
+      written = λ below. absurd (omega (arith, below, c.if-status-eq2.true));
+      silent = λ two. refl;
+    }
 
-pub returns-in-Ok-write_report-clause-end : goal.returns-in-Ok-write_report-clause-end
-returns-in-Ok-write_report-clause-end g c = record {
-  file = c.file-item.result;
-  end = c.collect-end.result;
-  one_file = one_element _ _ c.in-len1.len_at_least c.in-len1.len_below c.file-item.is;
-  one_end = c.in-Ok.ensures.items;
-  ended = rw c.new-ledger.ensures at c.collect-end.ensures.end;
-  status = c.exit_status-status.ensures;
-}
+-- the report of the ledger was written
+pub returns-in-Ok-write_report-clause-run : goal.returns-in-Ok-write_report-clause-run
+returns-in-Ok-write_report-clause-run g c =
+    let collected = rw c.new-ledger.ensures at c.in-Ok.ensures in
+    record {
+      journal = c.collect_all.new.ledger.journal;
+      account = IsCollected-accounts c.args.files.now c.args.limit c.in-Ok.ends.items c.collect_all.new.ledger.journal collected;
+      numbered = collected.numbered;
+      status = c.exit_status-status.ensures ∙ ap status_of c.deref.ensures.value;
+      written = λ below. c.in-Ok-write_report.ensures.ok;
+      silent = λ two. absurd (c.if-status-eq2.false two);
+    }
 
--- the report of the ledger is that of the file
-pub returns-in-Ok-write_report-clause-written : goal.returns-in-Ok-write_report-clause-written
-returns-in-Ok-write_report-clause-written g c = λ printed.
-    let one = one_element _ _ c.in-len1.len_at_least c.in-len1.len_below c.file-item.is in
-    let journal = c.collect-end.ensures.journal (rw c.exit_status-status.ensures at printed) in
-    rw (report_of-journal _ _ _ one journal) at c.in-Ok-write_report.ensures.ok
+-- of one file the journal is known
+pub returns-in-Ok-write_report-clause-one_file : goal.returns-in-Ok-write_report-clause-one_file
+returns-in-Ok-write_report-clause-one_file g c = λ below file one.
+    let collected = rw c.new-ledger.ensures at c.in-Ok.ensures in
+    let journal = c.collect_all.new.ledger.journal in
+    let account = IsCollected-accounts c.args.files.now c.args.limit c.in-Ok.ends.items journal collected in
+    let same = account-one file c.args.limit c.in-Ok.ends.items journal (rw one at account) (rw one at collected.numbered) (rw (c.exit_status-status.ensures, c.deref.ensures.value) at below) in
+    rw same at c.in-Ok-write_report.ensures.ok
 
--- the output failed in the report of the file, which was read or refused
+-- the output failed in the report of what was collected
 pub returns-clause-error : goal.returns-clause-error
 returns-clause-error g c =
-    let one = one_element _ _ c.in-len1.len_at_least c.in-len1.len_below c.file-item.is in
-    let printed = status_of-lt c.collect-end.result (rw c.exit_status-status.ensures at c.if-status-eq2.false) in
-    let journal = c.collect-end.ensures.journal printed in
-    let left = rw (c.in-Err-Output.field-0-is, report_of-journal _ _ _ one journal) at c.in-Err-Output.ensures.fault in
-    (is_within _ _ _ _ one (rw c.new-ledger.ensures at c.collect-end.ensures.end) printed, left.0, left.1)
+    let collected = rw c.new-ledger.ensures at c.in-Ok.ensures in
+    let fault = rw c.in-Err-Output.field-0-is at c.in-Err-Output.ensures.fault in
+    record {
+      ends = c.in-Ok.ends.items;
+      journal = c.collect_all.new.ledger.journal;
+      account = IsCollected-accounts c.args.files.now c.args.limit c.in-Ok.ends.items c.collect_all.new.ledger.journal collected;
+      status = status_of-lt c.in-Ok.ends.items (rw (c.exit_status-status.ensures, c.deref.ensures.value) at c.if-status-eq2.false);
+      within = fault.0;
+      output = fault.1;
+    }

@@ -1,6 +1,6 @@
 use Rattle.tracebook.specs.declared.files.FileEnd.TheVariants.{Read}
 use Rattle.tracebook.proofs.EndLines.{end_lines-take_more}
-use Rattle.tracebook.proofs.fault_text.fault_lines.Goals as goal
+use Rattle.tracebook.proofs.faults.fault_lines.Goals as goal
 
 -- the line that was put is the next one
 pub loop-place-preserved : goal.loop-place-preserved

@@ -1,6 +1,6 @@
 use Rattle.std.proofs.Common.{length, ◌-◌, ◌≤◌, take}
 use Rattle.span_report.specs.Sink.{Takes}
-use Rattle.span_report.proofs.output.pour.Given as goal
+use Rattle.span_report.proofs.output.write_bytes.Given as goal
 
 -- the sink took the bytes so far, and no call failed
 abbrev pub invariant-loop-taken : goal.invariant-loop-taken

@@ -1,5 +1,5 @@
 use Rattle.tracebook.specs.FaultLines.{fault_line}
-use Rattle.tracebook.proofs.fault_text.put_fault.Goals as goal
+use Rattle.tracebook.proofs.faults.put_fault.Goals as goal
 
 pub returns : goal.returns
 unfolding fault_line

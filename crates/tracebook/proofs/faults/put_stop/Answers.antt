@@ -1,5 +1,5 @@
 use Rattle.tracebook.specs.FaultLines.{stop_line}
-use Rattle.tracebook.proofs.fault_text.put_stop.Goals as goal
+use Rattle.tracebook.proofs.faults.put_stop.Goals as goal
 
 pub returns : goal.returns
 unfolding stop_line

@@ -1,6 +1,6 @@
 use Rattle.std.proofs.Common.{◌≡◌, string_bytes, take}
 use Rattle.tracebook.specs.FaultLines.{end_lines}
-use Rattle.tracebook.proofs.fault_text.fault_lines.Given as goal
+use Rattle.tracebook.proofs.faults.fault_lines.Given as goal
 
 -- the lines of the files so far
 abbrev pub invariant-loop-place : goal.invariant-loop-place

@@ -1,0 +1,144 @@
+//! The program, over whatever files and outputs it is given.
+ghost use Rattle.std.specs.Prelude.{◌-◌, ◌^◌, ◌<◌, ◌≤◌};
+
+use crate::command::{Order, order_of};
+use crate::faults::{fault_lines, put_fault};
+use crate::files::Input;
+use crate::runs::run;
+use crate::source::{Source, SourceFault};
+use crate::words::numbered_text;
+use span_ledger::Text;
+use span_report::{Sink, write_bytes};
+use std::alloc::{AllocError, Global};
+use std::io::Write;
+
+/// The most bytes that are read of a file: one more than it may have, so that a longer one is refused.
+const MOST_READ: u64 = 67_108_865;
+
+const FAILED: u8 = 2;
+
+const MEMORY: u16 = 31;
+
+const NOT_OPENED: u16 = 52;
+
+/// Does what the words ask for, which leave out the program's own name, and gives the exit status: 0 where all files were read,
+/// 1 where one was refused, else 2. Files are read in the order of the words; the first that cannot be read decides. A failed
+/// write to `faults` changes nothing.
+pub fn perform<S: Source, O: Sink, F: Write>(
+    alloc: Global,
+    words: &[Text],
+    source: &mut S,
+    out: &mut O,
+    faults: &mut F,
+) -> u8
+    requires { (O.state out.old).failures < 2 ^ 64 - 1 }
+    ensures { result ≤ 2 }
+{
+    match order_of(alloc, words) {
+        Ok(Order::Collect { limit, files }) => match inputs_of(alloc, files, source) {
+            Ok(inputs) => collect(alloc, limit, &inputs, out, faults),
+            Err(Unread::Memory) => fail(alloc, MEMORY, faults),
+            Err(Unread::NotOpened(name)) => fail_at(alloc, &name, faults),
+        },
+        Ok(Order::Show(text)) => match write_bytes(text.as_bytes(), out) {
+            Ok(()) => 0,
+            Err(_) => FAILED,
+        },
+        Ok(Order::Refuse(text)) => {
+            let _ = faults.write_all(text.as_bytes());
+            FAILED
+        }
+        Err(_) => fail(alloc, MEMORY, faults),
+    }
+}
+
+// Why the files were not all read.
+#[derive(Drop)]
+enum Unread {
+    NotOpened(Text),
+    Memory,
+}
+
+// The files of these names; standard input, as the file `-`, where there are none.
+fn inputs_of<S: Source>(
+    alloc: Global,
+    names: Vec<Text>,
+    source: &mut S,
+) -> Result<Vec<Input>, Unread> {
+    let mut inputs = Vec::new(alloc);
+    if names.is_empty() {
+        let name = Text::of(alloc, "-").map_err(|_| Unread::Memory)?;
+        let read = source.standard(MOST_READ);
+        add_input(&mut inputs, name, read)?;
+    }
+    for name in names {
+        let read = source.file(&name, MOST_READ);
+        add_input(&mut inputs, name, read)?;
+    }
+    Ok(inputs)
+}
+
+fn add_input(
+    inputs: &mut Vec<Input>,
+    name: Text,
+    read: Result<Vec<u8>, SourceFault>,
+) -> Result<(), Unread> {
+    match read {
+        Ok(bytes) => inputs
+            .push(Input { name, bytes })
+            .map_err(|_| Unread::Memory),
+        Err(SourceFault::NotOpened) => Err(Unread::NotOpened(name)),
+        Err(SourceFault::Memory) => Err(Unread::Memory),
+    }
+}
+
+fn collect<O: Sink, F: Write>(
+    alloc: Global,
+    limit: u32,
+    files: &[Input],
+    out: &mut O,
+    faults: &mut F,
+) -> u8
+    requires { (O.state out.old).failures < 2 ^ 64 - 1 }
+    ensures { result ≤ 2 }
+{
+    match run(alloc, files, limit, out) {
+        Ok(end) => match fault_lines(alloc, files, &end.ends) {
+            Ok(lines) => {
+                let _ = faults.write_all(&lines);
+                end.status
+            }
+            Err(_) => fail(alloc, MEMORY, faults),
+        },
+        Err(error) => fail(alloc, error.code(), faults),
+    }
+}
+
+// Says that the program as a whole failed.
+fn fail<F: Write>(alloc: Global, code: u16, faults: &mut F) -> u8
+    ensures { result ≤ 2 }
+{
+    if let Ok(fault) = numbered_text(alloc, code) {
+        let _ = writeln!(faults, "tracebook: {fault}");
+    }
+    FAILED
+}
+
+// Says that a file could not be read.
+fn fail_at<F: Write>(alloc: Global, name: &Text, faults: &mut F) -> u8
+    ensures { result ≤ 2 }
+{
+    match fault_line_of(alloc, name) {
+        Ok(line) => {
+            let _ = faults.write_all(line.as_bytes());
+            FAILED
+        }
+        Err(_) => fail(alloc, MEMORY, faults),
+    }
+}
+
+fn fault_line_of(alloc: Global, name: &Text) -> Result<String, AllocError> {
+    let mut line = String::new(alloc);
+    put_fault(alloc, &mut line, name, NOT_OPENED)?;
+    Ok(line)
+}
