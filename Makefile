@@ -25,17 +25,22 @@ test:
 	tests/documented_words
 	tests/refused_growths
 	tests/refused_reading
+	tests/refused_runs
 
-# Times the reading of traces beside that of other readers, the division of a thread's time, and a report beside its reading.
+# Times the reading of traces beside that of other readers, the division of a thread's time, a report beside its reading, and
+# whole runs over many threads.
 bench: tracebook
 	cd crates/reading_time && rt run < stdin
 	cd crates/track_time && rt run < stdin
 	bench/reading
 	bench/tracking
+	bench/threads
 
 install: tracebook
 	install -d $(DESTDIR)$(PREFIX)/bin
 	install -m 755 tracebook $(DESTDIR)$(PREFIX)/bin/tracebook
+	install -d $(DESTDIR)$(PREFIX)/share/man/man1
+	install -m 644 docs/tracebook.1 $(DESTDIR)$(PREFIX)/share/man/man1/tracebook.1
 
 clean:
 	rm -f tracebook
