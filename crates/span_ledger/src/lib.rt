@@ -11,6 +11,7 @@ mod kind;
 pub mod laws;
 mod ledger;
 mod listed;
+mod meta_events;
 mod query;
 mod refusal;
 mod replies;

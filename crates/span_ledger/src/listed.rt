@@ -1,11 +1,10 @@
 //! The processes and threads that a journal lists.
-ghost use Rattle.std.specs.Prelude.{◌≡◌, ◌<◌, [], map, IfOk, OnOk, OnErr};
+ghost use Rattle.std.specs.Prelude.{◌≡◌, ◌<◌, [], IfOk, OnOk, OnErr};
 ghost use Rattle.std.specs.Ordering.{int_cmp};
 ghost use Rattle.std.specs.BTreeSet.{insert_key};
 ghost use Rattle.indexmap.specs.IndexSet.{spare};
-ghost use Rattle.span_ledger.specs.Rows.{ascending, thread_cmp, process_row};
+ghost use Rattle.span_ledger.specs.Rows.{ascending, thread_cmp};
 
-use crate::rows::ProcessRow;
 use crate::thread::Thread;
 use indexmap::IndexSet;
 use std::alloc::{AllocError, Global};
@@ -64,19 +63,7 @@ impl Listed {
         }
     }
 
-    pub(crate) fn process_rows(&self, alloc: Global) -> Result<Vec<ProcessRow>, AllocError>
-        ensures { IfOk result (λ rows. rows.items ≡ map process_row (ascending int_cmp self.now.processes.keys)) }
-    {
-        self.ordered_processes(alloc)?
-            .iter()
-            .map(|pid| ProcessRow {
-                pid: *pid,
-                name: None,
-            })
-            .collect(alloc)
-    }
-
-    fn ordered_processes(&self, alloc: Global) -> Result<BTreeSet<i64>, AllocError>
+    pub(crate) fn ordered_processes(&self, alloc: Global) -> Result<BTreeSet<i64>, AllocError>
         ensures { IfOk result (λ set. set.keys ≡ ascending int_cmp self.now.processes.keys) }
     {
         let mut set = BTreeSet::new(alloc);

@@ -18,6 +18,8 @@ pub enum Query {
     FlowOf(FlowKey),
     /// The samples of a series.
     Series(SeriesKey),
+    /// The names of a process, or of one of its threads.
+    NamesOf { pid: i64, tid: Option<i64> },
     /// How many entries of each kind there are.
     Counts,
 }
@@ -43,6 +45,10 @@ impl Query {
             Query::AsyncOf(key) => Ok(Query::AsyncOf(key.try_clone(alloc)?)),
             Query::FlowOf(key) => Ok(Query::FlowOf(key.try_clone(alloc)?)),
             Query::Series(key) => Ok(Query::Series(key.try_clone(alloc)?)),
+            Query::NamesOf { pid, tid } => Ok(Query::NamesOf {
+                pid: *pid,
+                tid: *tid,
+            }),
             Query::Counts => Ok(Query::Counts),
         }
     }

@@ -1,13 +1,16 @@
 //! The replies to queries, from the tracks and the counts of a journal.
-ghost use Rattle.std.specs.Prelude.{◌≡◌, IfOk};
+ghost use Rattle.std.specs.Prelude.{◌≡◌, List, Some, None, IfOk};
+ghost use Rattle.span_read.specs.declared.event.Event.{Event};
+ghost use Rattle.span_track.specs.Meta.{MetaStandsFor, names_in};
 ghost use Rattle.span_track.specs.Numbering.{number_in};
-ghost use Rattle.span_ledger.specs.Replies.{reply_to};
+ghost use Rattle.span_ledger.specs.Replies.{reply_to, process_reply, thread_names_reply};
 ghost use Rattle.span_ledger.specs.Rows.{count_row};
 ghost use Rattle.span_ledger.specs.Tracked.{FollowsJournal, track_at, track_reply, number_reply};
 
 use crate::entry::Entry;
+use crate::keyed_tracks::KeyedTracks;
 use crate::query::Query;
-use crate::reply::Reply;
+use crate::reply::{Reply, copy_of};
 use crate::rows::CountRow;
 use crate::thread::Thread;
 use crate::tracks::Tracks;
@@ -45,6 +48,11 @@ pub(crate) fn reply_to(
         Query::AsyncOf(key) => Ok(Reply::Async(tracks.keyed.async_of(key))),
         Query::FlowOf(key) => Ok(Reply::Flow(tracks.keyed.flow_of(key))),
         Query::Series(key) => Ok(Reply::Series(tracks.keyed.series_of(key))),
+        Query::NamesOf { pid, tid: None } => process_names(alloc, &tracks.keyed, *pid),
+        Query::NamesOf {
+            pid,
+            tid: Some(tid),
+        } => thread_names(alloc, &tracks.keyed, *pid, *tid),
         Query::Counts => Ok(Reply::Counts(counts)),
     }
 }
@@ -86,4 +94,34 @@ fn name_reply(tracks: &Tracks, thread: &Thread, name: &Text) -> Reply
         total,
         self_time,
     }
+}
+
+fn process_names(alloc: Global, tracks: &KeyedTracks, pid: i64) -> Result<Reply, AllocError>
+    ensures { IfOk result (λ reply. (es : List Event) → MetaStandsFor tracks.now.meta es → reply ≡ process_reply (names_in es (pid, None))) }
+{
+    let names = tracks.process_names(pid);
+    let name = copy_of(alloc, names.name)?;
+    let labels = copy_of(alloc, names.labels)?;
+    Ok(Reply::Names {
+        name,
+        labels,
+        sort_index: names.sort_index,
+    })
+}
+
+fn thread_names(
+    alloc: Global,
+    tracks: &KeyedTracks,
+    pid: i64,
+    tid: i64,
+) -> Result<Reply, AllocError>
+    ensures { IfOk result (λ reply. (es : List Event) → MetaStandsFor tracks.now.meta es → reply ≡ thread_names_reply (names_in es (pid, Some tid))) }
+{
+    let names = tracks.thread_names(pid, tid);
+    let name = copy_of(alloc, names.name)?;
+    Ok(Reply::Names {
+        name,
+        labels: None,
+        sort_index: names.sort_index,
+    })
 }

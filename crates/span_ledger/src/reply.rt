@@ -1,7 +1,8 @@
 //! What the ledger replies to a query.
-ghost use Rattle.std.specs.Prelude.{◌≡◌, IfOk};
+ghost use Rattle.std.specs.Prelude.{◌≡◌, option_copied, IfOk};
 
 use crate::rows::CountRow;
+use span_read::Text;
 use span_track::{AsyncTotals, FlowTotals, SeriesTotals};
 use std::alloc::{AllocError, Global};
 
@@ -26,6 +27,12 @@ pub enum Reply {
     Flow(FlowTotals),
     /// Of a series. None where it has no sample.
     Series(Option<SeriesTotals>),
+    /// What metadata events set last, where they did; a thread has no labels.
+    Names {
+        name: Option<Text>,
+        labels: Option<Text>,
+        sort_index: Option<i64>,
+    },
     /// How many entries of each kind stand before the query.
     Counts(CountRow),
 }
@@ -57,7 +64,30 @@ impl Reply {
             Reply::Async(totals) => Ok(Reply::Async(*totals)),
             Reply::Flow(totals) => Ok(Reply::Flow(*totals)),
             Reply::Series(totals) => Ok(Reply::Series(*totals)),
+            Reply::Names {
+                name,
+                labels,
+                sort_index,
+            } => {
+                let name = copy_of(alloc, name.as_ref())?;
+                let labels = copy_of(alloc, labels.as_ref())?;
+                Ok(Reply::Names {
+                    name,
+                    labels,
+                    sort_index: *sort_index,
+                })
+            }
             Reply::Counts(row) => Ok(Reply::Counts(*row)),
         }
+    }
+}
+
+// A copy of a text, if there is one.
+pub(crate) fn copy_of(alloc: Global, text: Option<&Text>) -> Result<Option<Text>, AllocError>
+    ensures { IfOk result (λ copy. copy ≡ option_copied text.entry) }
+{
+    match text {
+        Some(text) => Ok(Some(text.try_clone(alloc)?)),
+        None => Ok(None),
     }
 }

@@ -1,6 +1,7 @@
 ghost use Rattle.span_read.specs.Item.{IsGoodItem};
 
 mod counters;
+mod names;
 mod queries;
 
 use crate::{AsyncTotals, Cause, CountRow, FlowTotals, Item, Ledger, Op, ProcessRow};

@@ -1,11 +1,13 @@
-//! The rows of the threads and of their names, from the tracks.
+//! The rows of processes, of threads and of their names, from the tracks.
 ghost use Rattle.std.specs.Prelude.{◌≡◌, ◌++◌, IfOk, OnOk, map, flat_map, option_copied, option_and_then, slice_get};
 ghost use Rattle.std.specs.BTreeSet.{insert_key, IsOrdered as AreOrdered};
 ghost use Rattle.std.specs.BTreeMap.{IsOrdered};
-ghost use Rattle.span_ledger.specs.Rows.{thread_cmp, text_cmp, ascending};
-ghost use Rattle.span_ledger.specs.Tracked.{track_row, track_span_row, span_rows_of_track, track_span_rows, closed_names};
+ghost use Rattle.span_ledger.specs.Rows.{thread_cmp, text_cmp, ascending, process_row, process_rows, thread_row, thread_rows};
+ghost use Rattle.span_ledger.specs.Tracked.{FollowsJournal, track_row, track_span_row, span_rows_of_track, track_span_rows, closed_names};
 
-use crate::rows::{SpanRow, ThreadRow};
+use crate::entry::Entry;
+use crate::reply::copy_of;
+use crate::rows::{ProcessRow, SpanRow, ThreadRow};
 use crate::thread::Thread;
 use crate::tracks::Tracks;
 use span_read::Text;
@@ -13,18 +15,72 @@ use span_track::{Names, ThreadTrack};
 use std::alloc::{AllocError, Global};
 use std::collections::{BTreeMap, BTreeSet};
 
-pub(crate) fn thread_rows(alloc: Global, tracks: &Tracks) -> Result<Vec<ThreadRow>, AllocError>
-    ensures { IfOk result (λ rows. rows.items ≡ map (track_row tracks.now.threads) tracks.now.listed) }
+// The rows of the processes of a journal, which is what the tracks follow.
+pub(crate) fn process_rows(
+    alloc: Global,
+    journal: &[Entry],
+    tracks: &Tracks,
+) -> Result<Vec<ProcessRow>, AllocError>
+    requires { FollowsJournal journal.now tracks.now }
+    ensures { IfOk result (λ rows. rows.items ≡ process_rows journal.now) }
 {
     let mut rows = Vec::new(alloc);
-    for thread in &tracks.listed.ordered_threads(alloc)? {
-        rows.push(thread_row(&tracks.threads, thread))?;
+    for pid in &tracks.listed.ordered_processes(alloc)? {
+        rows.push(process_row(alloc, journal, tracks, *pid)?)?;
     }
     Ok(rows)
 }
 
-fn thread_row(tracks: &BTreeMap<Thread, ThreadTrack>, thread: &Thread) -> ThreadRow
-    ensures { result ≡ track_row tracks.now.entries thread.now }
+fn process_row(
+    alloc: Global,
+    journal: &[Entry],
+    tracks: &Tracks,
+    pid: i64,
+) -> Result<ProcessRow, AllocError>
+    requires { FollowsJournal journal.now tracks.now }
+    ensures { IfOk result (λ row. row ≡ process_row journal.now pid) }
+{
+    let name = copy_of(alloc, tracks.keyed.process_names(pid).name)?;
+    Ok(ProcessRow { pid, name })
+}
+
+// The rows of its threads.
+pub(crate) fn thread_rows(
+    alloc: Global,
+    journal: &[Entry],
+    tracks: &Tracks,
+) -> Result<Vec<ThreadRow>, AllocError>
+    requires { FollowsJournal journal.now tracks.now }
+    ensures { IfOk result (λ rows. rows.items ≡ thread_rows journal.now) }
+{
+    let mut rows = Vec::new(alloc);
+    for thread in &tracks.listed.ordered_threads(alloc)? {
+        rows.push(thread_row(alloc, journal, tracks, thread)?)?;
+    }
+    Ok(rows)
+}
+
+fn thread_row(
+    alloc: Global,
+    journal: &[Entry],
+    tracks: &Tracks,
+    thread: &Thread,
+) -> Result<ThreadRow, AllocError>
+    requires { FollowsJournal journal.now tracks.now }
+    ensures { IfOk result (λ row. row ≡ thread_row journal.now thread.now) }
+{
+    let names = tracks.keyed.thread_names(thread.pid, thread.tid);
+    let name = copy_of(alloc, names.name)?;
+    Ok(named_row(&tracks.threads, thread, name))
+}
+
+// The row of a thread that has this name.
+fn named_row(
+    tracks: &BTreeMap<Thread, ThreadTrack>,
+    thread: &Thread,
+    name: Option<Text>,
+) -> ThreadRow
+    ensures { result ≡ track_row tracks.now.entries thread.now name }
 {
     let (unclosed, busy) = match tracks.get(thread) {
         Some(track) => (track.depth(), track.busy()),
@@ -33,7 +89,7 @@ fn thread_row(tracks: &BTreeMap<Thread, ThreadTrack>, thread: &Thread) -> Thread
     ThreadRow {
         pid: thread.pid,
         tid: thread.tid,
-        name: None,
+        name,
         unclosed,
         busy,
     }

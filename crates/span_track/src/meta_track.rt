@@ -20,6 +20,7 @@ use std::collections::BTreeMap;
 use std::marker::Model;
 
 /// What metadata events set of a process.
+#[derive(Clone, Copy, Debug)]
 pub struct ProcessNames<'a> {
     pub name: Option<&'a Text>,
     pub labels: Option<&'a Text>,
@@ -27,6 +28,7 @@ pub struct ProcessNames<'a> {
 }
 
 /// What metadata events set of a thread.
+#[derive(Clone, Copy, Debug)]
 pub struct ThreadNames<'a> {
     pub name: Option<&'a Text>,
     pub sort_index: Option<i64>,

@@ -1,0 +1,23 @@
+//! A metadata event, told to the track of names.
+ghost use Rattle.std.specs.Prelude.{◌≡◌};
+ghost use Rattle.span_read.specs.declared.event.Phase.TheVariants.{Meta};
+ghost use Rattle.span_read.specs.Event.{IsGood};
+ghost use Rattle.span_track.specs.Meta.{MetaStandsFor};
+ghost use Rattle.span_ledger.specs.Answers.{meta_answer};
+ghost use Rattle.span_ledger.specs.Tracked.{Tells};
+
+use crate::entry::Answer;
+use span_read::Event;
+use span_track::{MetaTrack, TrackFault};
+
+pub(crate) fn tell_meta(
+    track: &mut MetaTrack,
+    event: &Event,
+) -> Result<(Answer, Answer), TrackFault>
+    requires good { IsGood event.now }
+    requires phase { event.now.phase ≡ Meta }
+    ensures { Tells MetaStandsFor meta_answer track.old event.now result track.new }
+{
+    track.name_event(event)?;
+    Ok((Answer::Named, Answer::Named))
+}

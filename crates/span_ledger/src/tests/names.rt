@@ -1,0 +1,49 @@
+// What metadata events give.
+use super::answers;
+use crate::{Ledger, Op, Query};
+use std::alloc::{AllocError, Global};
+use std::process::Abort;
+use std::test::Fail;
+
+// The rows of processes and then of threads, with their names.
+fn names(alloc: Global, ledger: &Ledger) -> Result<String, AllocError> {
+    let mut lines = String::new(alloc);
+    for row in &ledger.processes(alloc)? {
+        writeln!(lines, "{} {:?}", row.pid, row.name)?;
+    }
+    for row in &ledger.threads(alloc)? {
+        writeln!(lines, "{} {} {:?}", row.pid, row.tid, row.name)?;
+    }
+    Ok(lines)
+}
+
+fn the_last_name_holds_in(
+    rt: &(impl Abort + AllocGlobal),
+    ledger: &mut Ledger,
+) -> Result<(), Fail> {
+    let alloc = rt.alloc();
+    let told = answers(
+        alloc,
+        ledger,
+        "[{\"ph\":\"M\",\"name\":\"process_name\",\"pid\":1,\"tid\":2,\"args\":{\"name\":\"Browser\"}},{\"ph\":\"M\",\"name\":\"thread_name\",\"pid\":1,\"tid\":2,\"args\":{\"name\":\"Main\"}},{\"ph\":\"M\",\"name\":\"process_name\",\"pid\":1,\"tid\":2,\"args\":{\"name\":\"Renderer\"}},{\"ph\":\"M\",\"name\":\"process_labels\",\"pid\":1,\"tid\":2,\"args\":{\"labels\":\"tab\"}},{\"ph\":\"M\",\"name\":\"process_sort_index\",\"pid\":1,\"tid\":2,\"args\":{\"sort_index\":-6}},{\"ph\":\"M\",\"name\":\"thread_name\",\"pid\":1,\"tid\":2,\"args\":{\"name\":5}}]",
+    )?;
+    assert_eq!(rt; told.as_str(), "Named\nNamed\nNamed\nNamed\nNamed\nNamed\n");
+    assert_eq!(rt;
+        names(alloc, ledger)?.as_str(),
+        "1 Some(\"Renderer\")\n1 2 Some(\"Main\")\n"
+    );
+    let Ok(reply) = ledger.apply(0, Op::Ask(Query::NamesOf { pid: 1, tid: None })) else {
+        return Err(Fail::from("no reply"));
+    };
+    assert_eq!(rt;
+        format!(in alloc; "{reply:?}")?.as_str(),
+        "Reply(Names { name: Some(\"Renderer\"), labels: Some(\"tab\"), sort_index: Some(-6) })"
+    );
+    Ok(())
+}
+
+#[test]
+fn the_last_name_holds(rt: HostRuntime) -> Result<(), Fail> {
+    let mut ledger = Ledger::new(rt.alloc(), 100);
+    the_last_name_holds_in(&rt, &mut ledger)
+}
