@@ -1,4 +1,7 @@
 //! One ledger for many threads: a turn word, a slot that holds the ledger, and a seat for each caller.
+//!
+//! `Share::start` gives a share and its first seat, and `enrol` a seat for each further thread, which tells with it. Once the threads
+//! are joined `meet` makes one seat of theirs, and `close` gives the ledger. The first test is a whole use.
 #![tactic(auto)]
 
 mod book;

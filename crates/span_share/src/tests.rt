@@ -1,6 +1,5 @@
-ghost use Rattle.std.specs.Prelude.{IfOk, IfErr, IfSome};
+ghost use Rattle.std.specs.Prelude.{IfSome};
 ghost use Rattle.span_read.specs.Item.{IsGoodItem};
-ghost use Rattle.span_ledger.specs.Legal.{IsGoodOp};
 ghost use Rattle.span_share.specs.Seats.{IsSeatOf};
 
 use crate::steps::take_turn;
