@@ -4,3 +4,4 @@ pub mod Seeing
 pub mod Booking
 pub mod Gathering
 pub mod Telling
+pub mod Opening
