@@ -1,25 +1,35 @@
 -- The rows of a journal are in order.
-use Rattle.std.proofs.Common.{◌≡◌, false, List, [], ◌∷◌, ◌++◌, refl, ap, ap₂, ◌∙◌, map}
+use Rattle.std.proofs.Common.{◌≡◌, false, List, [], ◌∷◌, ◌++◌, refl, ap, ap₂, ◌∙◌, map, Option, Some, None}
 use Rattle.std.specs.Prelude.{fold, flat_map, filter_map}
 use Rattle.std.specs.List.{AllByRecursion}
 use Rattle.std.specs.List.Sorted.{IsStrictlySortedBy}
 use Rattle.std.specs.declared.cmp.Ordering.{Ordering}
 use Rattle.std.specs.declared.cmp.Ordering.TheVariants.{Less, Equal, Greater}
-use Rattle.std.specs.Ordering.{is_gt, match_ordering, ordering_reverse}
+use Rattle.std.specs.Ordering.{is_gt, nat_cmp, int_cmp, match_ordering, ordering_reverse, ordering_then}
 use Rattle.std.specs.Cmp.{IsTotalOrder, tied_itself, int_cmp_total}
 use Rattle.std.specs.BTreeSet.{insert_key}
+use Rattle.std.specs.List.{cons_option}
+use Rattle.std.specs.Option.{option_cmp}
+use Rattle.std.specs.Cmp.Lexicographic.{slice_cmp}
+use Rattle.span_read.specs.Orders.{id_cmp}
+use Rattle.span_track.specs.declared.keys.SeriesKey.{SeriesKey}
+use Rattle.span_track.specs.declared.counter_track.SeriesRow.{SeriesRow}
+use Rattle.span_track.specs.Keyed.{entry_of}
+use Rattle.span_track.specs.Counters.{Series, series_cmp, series_from, series_keys, series_row}
+use Rattle.span_track.proofs.Orders.{series_cmp-total}
 use Rattle.span_track.specs.Nesting.{closed_spans}
 use Rattle.span_ledger.specs.declared.entry.Entry.{Entry}
 use Rattle.span_ledger.specs.declared.thread.Thread.{Thread}
 use Rattle.span_ledger.specs.declared.rows.ProcessRow.{ProcessRow}
 use Rattle.span_ledger.specs.declared.rows.ThreadRow.{ThreadRow}
 use Rattle.span_ledger.specs.Journal.{accepted}
-use Rattle.span_ledger.specs.Told.{Words, told, listed_by, thread_events}
+use Rattle.span_ledger.specs.Told.{Words, told, listed_by, thread_events, counter_events}
 use Rattle.span_ledger.specs.Rows.{ascending, process_keys, thread_keys, process_row, thread_row, span_row, thread_span_rows}
 use Rattle.span_ledger.proofs.Threads.{thread_cmp-total}
 use Rattle.span_report.specs.Report.{rows_of}
-use Rattle.span_report.specs.Parts.{AreAscending, RowsAreInOrder, thread_of_span}
+use Rattle.span_report.specs.Parts.{AreAscending, RowsAreInOrder, pid_of_series, thread_of_span}
 use Rattle.span_report.proofs.Walks.{AllByRecursion-map}
+use Rattle.span_report.proofs.Under.{not_above}
 
 module _ {K : Type 0} {R : K → K → Ordering} (o : IsTotalOrder R) where
   below-inserted : (x k : K) (ks : List K) → R x k ≡ Less → AllByRecursion (λ y. R x y ≡ Less) ks → AllByRecursion (λ y. R x y ≡ Less) (insert_key R ks k)
@@ -95,13 +105,40 @@ span_rows-made journal thread = each (ascending _ (map (λ s. s.name) (closed_sp
     each [] = tt
     each (name ∷ names) = (refl, each names)
 
+-- the order of series whose processes are the same
+abbrev rest_of : SeriesKey → SeriesKey → Ordering
+rest_of a b = ordering_then (slice_cmp nat_cmp a.name b.name) (ordering_then (option_cmp id_cmp a.id b.id) (slice_cmp nat_cmp a.series b.series))
+
+series-above : (give : SeriesKey → Option Series) (k : SeriesKey) (keys : List SeriesKey) → AllByRecursion (λ y. series_cmp k y ≡ Less) keys →
+    AllByRecursion (λ row. is_gt (int_cmp k.pid row.key.pid) ≡ false) (filter_map series_row (map (entry_of give) keys))
+series-above give k [] h = tt
+series-above give k (y ∷ ys) h = by (give y) (series-above give k ys h.1)
+  where
+    by : (o : Option Series) → AllByRecursion (λ row. is_gt (int_cmp k.pid row.key.pid) ≡ false) (filter_map series_row (map (entry_of give) ys)) →
+        AllByRecursion (λ row. is_gt (int_cmp k.pid row.key.pid) ≡ false) (cons_option (series_row (y, o)) (filter_map series_row (map (entry_of give) ys)))
+    by None rest = rest
+    by (Some s) rest = (not_above (int_cmp k.pid y.pid) (rest_of k y) h.0, rest)
+
+-- rows of series that ascend do so by process
+series-ascending : (give : SeriesKey → Option Series) (keys : List SeriesKey) → IsStrictlySortedBy series_cmp keys → AreAscending int_cmp pid_of_series (filter_map series_row (map (entry_of give) keys))
+unfolding IsStrictlySortedBy
+series-ascending give [] sorted = tt
+series-ascending give (k ∷ keys) sorted = by (give k) (series-ascending give keys sorted.1) (series-above give k keys sorted.0)
+  where
+    by : (o : Option Series) → AreAscending int_cmp pid_of_series (filter_map series_row (map (entry_of give) keys)) → AllByRecursion (λ row. is_gt (int_cmp k.pid row.key.pid) ≡ false) (filter_map series_row (map (entry_of give) keys)) →
+        AreAscending int_cmp pid_of_series (cons_option (series_row (k, o)) (filter_map series_row (map (entry_of give) keys)))
+    by None rest next = rest
+    by (Some s) rest next = (next, rest)
+
 pub rows_of-in_order : (journal : List Entry) → RowsAreInOrder (rows_of journal)
 rows_of-in_order journal =
     let threads = ascending-sorted thread_cmp-total (filter_map (λ a. listed_by (told a)) (accepted journal)) in
+    let events = counter_events (accepted journal) in
     record {
       processes = map-sorted int_cmp_total (λ (row : ProcessRow). row.pid) process_row (λ pid. refl) (process_keys (accepted journal)) (ascending-sorted int_cmp_total (map (λ a. a.event.pid) (accepted journal)));
       parts = record {
         threads = map-sorted thread_cmp-total (λ (row : ThreadRow). record { pid = row.pid; tid = row.tid }) (thread_row journal) (λ thread. refl) (thread_keys (accepted journal)) threads;
         spans = flat_map-ascending thread_cmp-total thread_of_span (thread_span_rows journal) (span_rows-made journal) (thread_keys (accepted journal)) threads;
+        series = series-ascending (series_from events) (ascending series_cmp (flat_map series_keys events)) (ascending-sorted series_cmp-total (flat_map series_keys events));
       };
     }

@@ -1,5 +1,5 @@
 -- Threads and spans that are printed under a process leave what stands under later ones.
-use Rattle.std.proofs.Common.{◌≡◌, ℕ, ◌+◌, ℤ, get_or, false, List, [], ◌∷◌, ◌++◌, true, refl, sym, ap, ◌∙◌, subst, drop, length, length-drop, ◌<◌, arith, append_assoc}
+use Rattle.std.proofs.Common.{◌≡◌, ℕ, ◌+◌, ℤ, get_or, false, List, [], ◌∷◌, ◌++◌, true, refl, sym, ap, ap₂, ◌∙◌, subst, drop, length, length-drop, ◌<◌, arith, append_assoc}
 use Rattle.std.proofs.lemmas.List.{drop_more}
 use Rattle.std.specs.Prelude.{filter, flat_map}
 use Rattle.std.specs.List.{AllByRecursion}
@@ -11,12 +11,13 @@ use Rattle.std.specs.Cmp.{int_cmp_total, signed_Decides}
 use Rattle.span_ledger.specs.declared.thread.Thread.{Thread}
 use Rattle.span_ledger.specs.declared.rows.ProcessRow.{ProcessRow}
 use Rattle.span_ledger.specs.declared.rows.ThreadRow.{ThreadRow}
+use Rattle.span_track.specs.declared.counter_track.SeriesRow.{SeriesRow}
 use Rattle.span_ledger.specs.declared.rows.SpanRow.{SpanRow}
 use Rattle.span_ledger.specs.Rows.{thread_cmp}
 use Rattle.span_ledger.proofs.Threads.{thread_cmp-total, same_thread-cmp}
-use Rattle.span_report.specs.Lines.{thread_line, process_line, span_line}
+use Rattle.span_report.specs.Lines.{thread_line, process_line, span_line, counter_line}
 use Rattle.span_report.specs.Report.{PartRows, is_on_thread, thread_lines, process_lines}
-use Rattle.span_report.specs.Parts.{AreAscending, Passes, AreInOrder, IsPastThread, IsPastProcess, threads_in, spans_on, thread_of_row, thread_of_span}
+use Rattle.span_report.specs.Parts.{AreAscending, Passes, AreInOrder, IsPastThread, IsPastProcess, threads_in, series_in, pid_of_series, spans_on, thread_of_row, thread_of_span}
 use Rattle.span_report.proofs.Walks.{AllByRecursion-map, AllByRecursion-filter, filter-same, flat_map-same, IsStrictlySortedBy-drop, first-below, rest-sorted, Passes-ascending, next-here, next-later}
 
 -- threads by process and number
@@ -50,7 +51,8 @@ pub IsPastThread-next : (thread : Thread) (old mid : PartRows) (spans : List Spa
 IsPastThread-next thread old mid spans span past next at = record {
   threads = past.threads;
   spans = λ later above. next-later thread_cmp-total thread_of_span thread mid.spans spans span next at later above ∙ past.spans later above;
-  order = record { threads = past.order.threads; spans = (Passes-ascending thread_cmp-total thread_of_span thread mid.spans (span ∷ spans) next past.order.spans).1 };
+  series = past.series;
+  order = record { threads = past.order.threads; spans = (Passes-ascending thread_cmp-total thread_of_span thread mid.spans (span ∷ spans) next past.order.spans).1; series = past.order.series };
 }
 
 -- the lines of later threads are the same
@@ -64,16 +66,17 @@ lines-past-thread thread old new same threads later =
 -- the lines of later processes are the same
 pub process_lines-past : (pid : ℤ) (old new : PartRows) (process : ProcessRow) → IsPastProcess pid old new → int_cmp pid process.pid ≡ Less → process_lines old process ≡ process_lines new process
 process_lines-past pid old new process past above =
-    ap (λ lines. process_line process ++ lines)
+    ap₂ (λ threads series. process_line process ++ (threads ++ series))
     (ap (flat_map (thread_lines old)) (sym (past.threads process.pid above))
     ∙ flat_map-same (thread_lines old) (thread_lines new) (threads_in process.pid new.threads)
     (AllByRecursion-filter (λ t. thread_lines old t ≡ thread_lines new t) (λ t. eq_by_cmp int_cmp t.pid process.pid) new.threads (each new.threads)))
+    (ap (flat_map counter_line) (sym (past.series process.pid above)))
   where
     each : (ts : List ThreadRow) → AllByRecursion (λ t. eq_by_cmp int_cmp t.pid process.pid ≡ true → thread_lines old t ≡ thread_lines new t) ts
     each [] = tt
     each (t ∷ ts) = ((λ at. thread_lines-spans old new t (past.spans (thread_of_row t) (ap (int_cmp pid) (same_pid t.pid process.pid at) ∙ above))), each ts)
 
-not_above : (r s : Ordering) → ordering_then r s ≡ Less → is_gt r ≡ false
+pub not_above : (r s : Ordering) → ordering_then r s ≡ Less → is_gt r ≡ false
 not_above Less s below = refl
 not_above Equal s below = refl
 not_above Greater s below = cc
@@ -97,13 +100,14 @@ module _ (pid : ℤ) (old mid : PartRows) (past : IsPastProcess pid old mid) whe
   IsPastProcess-end threads next = record {
     threads = λ later above. next.later later above ∙ past.threads later above;
     spans = past.spans;
-    order = record { threads = threads-left threads next; spans = past.order.spans };
+    series = past.series;
+    order = record { threads = threads-left threads next; spans = past.order.spans; series = past.order.series };
   }
 
   module _ (thread : ThreadRow) (threads : List ThreadRow) (next : Passes int_cmp (λ row. row.pid) pid mid.threads (thread ∷ threads)) (at : eq_by_cmp int_cmp thread.pid pid ≡ true) where
     -- the rows are in order when a thread is taken
     pub thread-order : AreInOrder (record mid { threads = threads })
-    thread-order = record { threads = rest-sorted row_cmp thread threads (threads-left (thread ∷ threads) next); spans = past.order.spans }
+    thread-order = record { threads = rest-sorted row_cmp thread threads (threads-left (thread ∷ threads) next); spans = past.order.spans; series = past.order.series }
 
     module _ (new : PartRows) (done : IsPastThread (thread_of_row thread) (record mid { threads = threads }) new) where
       -- one thread more of the process is printed
@@ -111,6 +115,7 @@ module _ (pid : ℤ) (old mid : PartRows) (past : IsPastProcess pid old mid) whe
       IsPastProcess-next = record {
         threads = λ later above. ap (threads_in later) done.threads ∙ next-later int_cmp_total (λ (row : ThreadRow). row.pid) pid mid.threads threads thread next at later above ∙ past.threads later above;
         spans = λ later above. done.spans later (later-thread pid (thread_of_row thread) later (same_pid thread.pid pid at) above) ∙ past.spans later above;
+        series = λ later above. ap (series_in later) done.series ∙ past.series later above;
         order = done.order;
       }
 
@@ -149,7 +154,8 @@ pub IsPastThread-end : (thread : Thread) (old mid : PartRows) (spans : List Span
 IsPastThread-end thread old mid spans past next = record {
   threads = past.threads;
   spans = λ later above. next.later later above ∙ past.spans later above;
-  order = record { threads = past.order.threads; spans = Passes-ascending thread_cmp-total thread_of_span thread mid.spans spans next past.order.spans };
+  series = past.series;
+  order = record { threads = past.order.threads; spans = Passes-ascending thread_cmp-total thread_of_span thread mid.spans spans next past.order.spans; series = past.order.series };
 }
 
 -- the lines of the next process, and those of the processes that are left then
@@ -160,3 +166,42 @@ process-then_rest old new processes i process d sorted within at past =
     let order : ProcessRow → ProcessRow → Ordering = λ a b. int_cmp a.pid b.pid in
     let later = first-below order process (drop (i + 1) processes) (subst (IsStrictlySortedBy order) left (IsStrictlySortedBy-drop order i processes sorted)) in
     ap (flat_map (process_lines old)) left ∙ ap (λ lines. process_lines old process ++ lines) (lines-past-process old new process past (drop (i + 1) processes) later)
+
+-- the lines of a process are those that are put for it in turn
+pub process-lines-put : (parts mid : PartRows) (process : ProcessRow) (out first second last : List ℕ) → mid.series ≡ parts.series → first ≡ out ++ process_line process → second ≡ first ++ flat_map (thread_lines parts) (threads_in process.pid parts.threads) →
+    last ≡ second ++ flat_map counter_line (series_in process.pid mid.series) → last ≡ out ++ process_lines parts process
+process-lines-put parts mid process out first second last kept head threads series =
+    let lines = flat_map (thread_lines parts) (threads_in process.pid parts.threads) in
+    let counters = flat_map counter_line (series_in process.pid parts.series) in
+    series
+    ∙ ap₂ (λ a b. a ++ flat_map counter_line (series_in process.pid b)) (threads ∙ ap (λ a. a ++ lines) head) kept
+    ∙ ap (λ a. a ++ counters) (append_assoc out (process_line process) lines)
+    ∙ append_assoc out (process_line process ++ lines) counters
+    ∙ ap (λ a. out ++ a) (append_assoc (process_line process) lines counters)
+
+pub IsPastProcess-trans : (pid : ℤ) (a b c : PartRows) → IsPastProcess pid a b → IsPastProcess pid b c → IsPastProcess pid a c
+IsPastProcess-trans pid a b c first second = record {
+  threads = λ later above. second.threads later above ∙ first.threads later above;
+  spans = λ later above. second.spans later above ∙ first.spans later above;
+  series = λ later above. second.series later above ∙ first.series later above;
+  order = second.order;
+}
+
+-- one series more of a process is taken
+pub IsPastProcess-series : (pid : ℤ) (old mid : PartRows) (series : List SeriesRow) (row : SeriesRow) → IsPastProcess pid old mid → Passes int_cmp pid_of_series pid mid.series (row ∷ series) → eq_by_cmp int_cmp row.key.pid pid ≡ true →
+    IsPastProcess pid old (record mid { series = series })
+IsPastProcess-series pid old mid series row past next at = record {
+  threads = past.threads;
+  spans = past.spans;
+  series = λ later above. next-later int_cmp_total pid_of_series pid mid.series series row next at later above ∙ past.series later above;
+  order = record { threads = past.order.threads; spans = past.order.spans; series = (Passes-ascending int_cmp_total pid_of_series pid mid.series (row ∷ series) next past.order.series).1 };
+}
+
+-- no series of the process is left
+pub IsPastProcess-series_end : (pid : ℤ) (old mid : PartRows) (series : List SeriesRow) → IsPastProcess pid old mid → Passes int_cmp pid_of_series pid mid.series series → IsPastProcess pid old (record mid { series = series })
+IsPastProcess-series_end pid old mid series past next = record {
+  threads = past.threads;
+  spans = past.spans;
+  series = λ later above. next.later later above ∙ past.series later above;
+  order = record { threads = past.order.threads; spans = past.order.spans; series = Passes-ascending int_cmp_total pid_of_series pid mid.series series next past.order.series };
+}

@@ -4,6 +4,8 @@ use Rattle.std.specs.Fmt.{signed_decimal}
 use Rattle.json.specs.Print.{quoted}
 use Rattle.span_read.specs.declared.event.IdKey.{IdKey}
 use Rattle.span_track.specs.declared.async_track.AsyncRow.{AsyncRow}
+use Rattle.span_track.specs.declared.counter_track.SeriesRow.{SeriesRow}
+use Rattle.span_track.specs.declared.counter_track.SeriesTotals.{SeriesTotals}
 use Rattle.span_track.specs.declared.flow_track.FlowRow.{FlowRow}
 use Rattle.span_ledger.specs.declared.rows.CountRow.{CountRow}
 use Rattle.span_ledger.specs.declared.rows.ProcessRow.{ProcessRow}
@@ -51,6 +53,17 @@ with_home (Some home) text = signed_decimal home ++ (codes ":" ++ text)
 
 unfoldable pub id_text : IdKey → List ℕ
 id_text key = with_home key.home (json_text_of key.id)
+
+-- `-` where there is no id
+abbrev pub any_id_text : Option IdKey → List ℕ
+any_id_text None = codes "-"
+any_id_text (Some key) = id_text key
+
+unfoldable pub samples_text : SeriesTotals → List ℕ
+samples_text totals = codes "samples " ++ (decimal totals.samples ++ (codes " least " ++ (signed_decimal totals.least ++ (codes " greatest " ++ (signed_decimal totals.greatest ++ (codes " last " ++ signed_decimal totals.last))))))
+
+unfoldable pub counter_line : SeriesRow → List ℕ
+counter_line row = line_of (codes "counter" ∷ signed_decimal row.key.pid ∷ json_text_of row.key.name ∷ any_id_text row.key.id ∷ json_text_of row.key.series ∷ samples_text row.totals ∷ [])
 
 unfoldable pub async_line : AsyncRow → List ℕ
 async_line row = line_of (codes "async" ∷ json_text_of row.key.cat ∷ json_text_of row.key.scope ∷ id_text row.key.id ∷ json_text_of row.key.name ∷ codes "closed" ∷ decimal row.totals.closed ∷ codes "total" ∷ decimal row.totals.total ∷ codes "open" ∷ decimal row.totals.unclosed ∷ codes "points" ∷ decimal row.totals.points ∷ [])

@@ -6,6 +6,7 @@ use Rattle.std.specs.Ordering.{int_cmp, is_gt, eq_by_cmp}
 use Rattle.std.specs.List.{AllByRecursion}
 use Rattle.std.specs.List.Sorted.{IsStrictlySortedBy}
 use denote.Ref.{Bor}
+use Rattle.span_track.specs.declared.counter_track.SeriesRow.{SeriesRow}
 use Rattle.span_ledger.specs.declared.thread.Thread.{Thread}
 use Rattle.span_ledger.specs.declared.rows.ThreadRow.{ThreadRow}
 use Rattle.span_ledger.specs.declared.rows.SpanRow.{SpanRow}
@@ -43,23 +44,32 @@ module _ {R K : Type 0} (cmp : K → K → Ordering) (key : R → K) where
 abbrev pub threads_in : ℤ → List ThreadRow → List ThreadRow
 threads_in = rows_at int_cmp (λ row. row.pid)
 
+abbrev pub pid_of_series : SeriesRow → ℤ
+pid_of_series row = row.key.pid
+
+abbrev pub series_in : ℤ → List SeriesRow → List SeriesRow
+series_in = rows_at int_cmp pid_of_series
+
 abbrev pub spans_on : Thread → List SpanRow → List SpanRow
 spans_on = rows_at thread_cmp thread_of_span
 
 pub record AreInOrder (parts : PartRows) : Type 0 where
   pub threads : IsStrictlySortedBy (λ a b. thread_cmp (thread_of_row a) (thread_of_row b)) parts.threads
   pub spans : AreAscending thread_cmp thread_of_span parts.spans
+  pub series : AreAscending int_cmp pid_of_series parts.series
 
 -- what stands under later threads is still there
 pub record IsPastThread (thread : Thread) (old new : PartRows) : Type 0 where
   pub threads : new.threads ≡ old.threads
   pub spans : (later : Thread) → thread_cmp thread later ≡ Less → spans_on later new.spans ≡ spans_on later old.spans
+  pub series : new.series ≡ old.series
   pub order : AreInOrder new
 
 -- what stands under later processes is still there
 pub record IsPastProcess (pid : ℤ) (old new : PartRows) : Type 0 where
   pub threads : (later : ℤ) → int_cmp pid later ≡ Less → threads_in later new.threads ≡ threads_in later old.threads
   pub spans : (later : Thread) → int_cmp pid later.pid ≡ Less → spans_on later new.spans ≡ spans_on later old.spans
+  pub series : (later : ℤ) → int_cmp pid later ≡ Less → series_in later new.series ≡ series_in later old.series
   pub order : AreInOrder new
 
 pub record RowsAreInOrder (rows : AllRows) : Type 0 where

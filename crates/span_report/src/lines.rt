@@ -1,9 +1,12 @@
 //! The lines of a report, each appended to a text.
 ghost use Rattle.std.specs.Prelude.{◌≡◌, ◌++◌, string_bytes, OnOk, IfOk};
-ghost use Rattle.span_report.specs.Lines.{first_line, count_line, process_line, thread_line, span_line, name_text, json_text_of, id_text, async_line, flow_line};
+ghost use Rattle.span_report.specs.Lines.{first_line, count_line, process_line, thread_line, span_line, name_text, json_text_of, id_text, any_id_text, counter_line, samples_text, async_line, flow_line};
 
 use serde_json::Value;
-use span_ledger::{AsyncRow, CountRow, FlowRow, IdKey, ProcessRow, SpanRow, Text, ThreadRow};
+use span_ledger::{
+    AsyncRow, CountRow, FlowRow, IdKey, ProcessRow, SeriesRow, SeriesTotals, SpanRow, Text,
+    ThreadRow,
+};
 use std::alloc::{AllocError, Global};
 
 /// The text as JSON text, which stands for it in a report and in a fault's line.
@@ -86,6 +89,44 @@ fn shown_id(alloc: Global, key: &IdKey) -> Result<String, AllocError>
         None => Ok(id),
         Some(home) => format!(in alloc; "{home}:{id}"),
     }
+}
+
+fn shown_any_id(alloc: Global, key: &Option<IdKey>) -> Result<String, AllocError>
+    ensures { IfOk result (λ s. string_bytes s ≡ any_id_text key.now) }
+{
+    match key {
+        None => String::from_str(alloc, "-"),
+        Some(key) => shown_id(alloc, key),
+    }
+}
+
+#[tactic(auto, unfolding(crate::specs::Lines::counter_line))]
+pub(crate) fn put_counter(
+    alloc: Global,
+    out: &mut String,
+    row: &SeriesRow,
+) -> Result<(), AllocError>
+    ensures { OnOk result (string_bytes out.new ≡ string_bytes out.old ++ counter_line row.now) }
+{
+    let name = json_text(alloc, &row.key.name)?;
+    let id = shown_any_id(alloc, &row.key.id)?;
+    let series = json_text(alloc, &row.key.series)?;
+    let samples = shown_samples(alloc, row.totals)?;
+    let pid = row.key.pid;
+    writeln!(out, "counter {pid} {name} {id} {series} {samples}")
+}
+
+#[tactic(auto, unfolding(crate::specs::Lines::samples_text))]
+fn shown_samples(alloc: Global, totals: SeriesTotals) -> Result<String, AllocError>
+    ensures { IfOk result (λ s. string_bytes s ≡ samples_text totals) }
+{
+    let SeriesTotals {
+        samples,
+        least,
+        greatest,
+        last,
+    } = totals;
+    format!(in alloc; "samples {samples} least {least} greatest {greatest} last {last}")
 }
 
 #[tactic(auto, unfolding(crate::specs::Lines::async_line))]

@@ -3,9 +3,9 @@ ghost use Rattle.std.specs.Prelude.{◌≡◌, ℤ};
 ghost use Rattle.std.specs.Ordering.{int_cmp};
 ghost use Rattle.span_ledger.specs.declared.thread.Thread.{Thread};
 ghost use Rattle.span_ledger.specs.Rows.{thread_cmp};
-ghost use Rattle.span_report.specs.Parts.{AreAscending, IsNext, thread_of_row, thread_of_span};
+ghost use Rattle.span_report.specs.Parts.{AreAscending, IsNext, pid_of_series, thread_of_row, thread_of_span};
 
-use span_ledger::{ProcessRow, SpanRow, ThreadRow};
+use span_ledger::{ProcessRow, SeriesRow, SpanRow, ThreadRow};
 use std::cmp::Ordering;
 use std::marker::Model;
 
@@ -35,6 +35,14 @@ impl InProcess for ThreadRow {
     }
 }
 
+impl InProcess for SeriesRow {
+    ghost home = { pid_of_series };
+
+    fn process_order(&self, process: &ProcessRow) -> Ordering {
+        self.key.pid.cmp(&process.pid)
+    }
+}
+
 impl OnThread for SpanRow {
     ghost owner = { thread_of_span };
 
@@ -46,11 +54,12 @@ impl OnThread for SpanRow {
     }
 }
 
-/// The rows of threads and of what they did that no process has taken yet.
+/// The rows of threads, of what they did and of series that no process has taken yet.
 #[derive(Drop)]
 pub(crate) struct Parts<'a> {
     pub(crate) threads: &'a [ThreadRow],
     pub(crate) spans: &'a [SpanRow],
+    pub(crate) series: &'a [SeriesRow],
 }
 
 impl<'a> Model for Parts<'a> {
@@ -58,7 +67,7 @@ impl<'a> Model for Parts<'a> {
 
     ghost Value = { PartRows };
 
-    ghost view = { λ p. record { threads = p.threads.now; spans = p.spans.now } };
+    ghost view = { λ p. record { threads = p.threads.now; spans = p.spans.now; series = p.series.now } };
 }
 
 /// Takes the next row of the process, and passes those of processes below it.

@@ -2,7 +2,7 @@
 ghost use Rattle.std.specs.Prelude.{◌≡◌, IfOk};
 ghost use Rattle.span_report.specs.Report.{rows_of};
 
-use span_ledger::{AsyncRow, CountRow, FlowRow, Ledger, ProcessRow, SpanRow, ThreadRow};
+use span_ledger::{AsyncRow, CountRow, FlowRow, Ledger, ProcessRow, SeriesRow, SpanRow, ThreadRow};
 use std::alloc::{AllocError, Global};
 use std::marker::Model;
 
@@ -13,6 +13,7 @@ pub(crate) struct Rows {
     pub(crate) processes: Vec<ProcessRow>,
     pub(crate) threads: Vec<ThreadRow>,
     pub(crate) spans: Vec<SpanRow>,
+    pub(crate) series: Vec<SeriesRow>,
     pub(crate) asynchronous: Vec<AsyncRow>,
     pub(crate) flows: Vec<FlowRow>,
 }
@@ -25,7 +26,7 @@ impl Model for Rows {
     ghost view = { λ r. record {
       counts = r.counts;
       processes = r.processes.items;
-      parts = record { threads = r.threads.items; spans = r.spans.items };
+      parts = record { threads = r.threads.items; spans = r.spans.items; series = r.series.items };
       asynchronous = r.asynchronous.items;
       flows = r.flows.items;
     } };
@@ -40,6 +41,7 @@ impl Rows {
             processes: ledger.processes(alloc)?,
             threads: ledger.threads(alloc)?,
             spans: ledger.span_rows(alloc)?,
+            series: ledger.series_rows(alloc)?,
             asynchronous: ledger.async_rows(alloc)?,
             flows: ledger.flow_rows(alloc)?,
         })

@@ -79,6 +79,15 @@ fn prints_asynchronous_keys_and_flow_keys(rt: HostRuntime) -> Result<(), Fail> {
 }
 
 #[test]
+fn prints_the_series_of_a_process_behind_its_threads(rt: HostRuntime) -> Result<(), Fail> {
+    let events =
+        "[{\"ph\":\"C\",\"name\":\"m\",\"ts\":5,\"pid\":1,\"args\":{\"k\":7}},{\"ph\":\"C\",\"name\":\"m\",\"ts\":3,\"pid\":1,\"args\":{\"k\":9}},{\"ph\":\"C\",\"name\":\"m\",\"ts\":8,\"pid\":1,\"args\":{\"k\":0.5}},{\"ph\":\"C\",\"name\":\"m\",\"id\":4,\"ts\":5,\"pid\":1,\"args\":{\"a\":-2,\"b\":1}},{\"ph\":\"X\",\"name\":\"x\",\"ts\":0,\"dur\":2,\"pid\":1},{\"ph\":\"C\",\"name\":\"n\",\"ts\":1,\"args\":{\"k\":3}}]";
+    let want =
+        "tracebook 1\nevents 5 refused 1 skipped 0 queries 0\nprocess 0 -\ncounter 0 \"n\" - \"k\" samples 1 least 3 greatest 3 last 3\nprocess 1 -\nthread 1 0 - open 0 busy 2\nspan        1                2                2 \"x\"\ncounter 1 \"m\" - \"k\" samples 2 least 7 greatest 9 last 7\ncounter 1 \"m\" \"4\" \"a\" samples 1 least -2 greatest -2 last -2\ncounter 1 \"m\" \"4\" \"b\" samples 1 least 1 greatest 1 last 1\n";
+    reports(&rt, events, want)
+}
+
+#[test]
 fn writes_names_as_json_text(rt: HostRuntime) -> Result<(), Fail> {
     let alloc = rt.alloc();
     let name = Text::of(alloc, "a\"\n/é")?;

@@ -1,10 +1,12 @@
 //! The text of a report: one walk over rows that are in their order.
-ghost use Rattle.std.specs.Prelude.{◌≡◌, ◌++◌, string_bytes, OnOk, IfOk};
-ghost use Rattle.span_report.specs.Lines.{async_lines, flow_lines};
-ghost use Rattle.span_report.specs.Report.{thread_lines, process_lines, report_text, report_of};
+ghost use Rattle.std.specs.Prelude.{◌≡◌, ◌++◌, string_bytes, filter, flat_map, OnOk, IfOk};
+ghost use Rattle.span_report.specs.Lines.{async_lines, counter_line, flow_lines};
+ghost use Rattle.span_report.specs.Report.{is_in_process, is_series_in, thread_lines, process_lines, report_text, report_of};
 ghost use Rattle.span_report.specs.Parts.{AreInOrder, IsPastThread, IsPastProcess, RowsAreInOrder, thread_of_row};
 
-use crate::lines::{put_async, put_counts, put_flow, put_process, put_span, put_thread, start};
+use crate::lines::{
+    put_async, put_counter, put_counts, put_flow, put_process, put_span, put_thread, start,
+};
 use crate::parts::{Parts, next_in, next_on};
 use crate::rows::Rows;
 use span_ledger::{AsyncRow, FlowRow, Ledger, ProcessRow, ThreadRow};
@@ -27,6 +29,7 @@ fn text_of(alloc: Global, rows: &Rows) -> Result<String, AllocError>
     let mut parts = Parts {
         threads: &rows.threads,
         spans: &rows.spans,
+        series: &rows.series,
     };
     for process in &rows.processes {
         put_process_lines(alloc, &mut out, process, &mut parts)?;
@@ -47,8 +50,41 @@ fn put_process_lines(
     ensures past { OnOk result (IsPastProcess process.now.pid parts.old parts.new) }
 {
     put_process(alloc, out, process)?;
+    put_threads(alloc, out, process, parts)?;
+    put_counters(alloc, out, process, parts)
+}
+
+fn put_threads(
+    alloc: Global,
+    out: &mut String,
+    process: &ProcessRow,
+    parts: &mut Parts<'_>,
+) -> Result<(), AllocError>
+    requires { AreInOrder parts.old }
+    ensures lines { OnOk result (string_bytes out.new ≡ string_bytes out.old
+        ++ flat_map (thread_lines parts.old) (filter (is_in_process process.now) parts.old.threads)) }
+    ensures past { OnOk result (IsPastProcess process.now.pid parts.old parts.new) }
+    ensures series { OnOk result (parts.new.series ≡ parts.old.series) }
+{
     while let Some(thread) = next_in(&mut parts.threads, process) {
         put_thread_lines(alloc, out, thread, parts)?;
+    }
+    Ok(())
+}
+
+fn put_counters(
+    alloc: Global,
+    out: &mut String,
+    process: &ProcessRow,
+    parts: &mut Parts<'_>,
+) -> Result<(), AllocError>
+    requires { AreInOrder parts.old }
+    ensures lines { OnOk result (string_bytes out.new ≡ string_bytes out.old
+        ++ flat_map counter_line (filter (is_series_in process.now) parts.old.series)) }
+    ensures past { OnOk result (IsPastProcess process.now.pid parts.old parts.new) }
+{
+    while let Some(row) = next_in(&mut parts.series, process) {
+        put_counter(alloc, out, row)?;
     }
     Ok(())
 }

@@ -9,7 +9,7 @@ use Rattle.span_report.proofs.text.put_thread_lines.Given as goal
 abbrev pub invariant-loop-span : goal.invariant-loop-span
 invariant-loop-span l = record {
   lines : string_bytes l.out ++ flat_map span_line (spans_on (thread_of_row l.thread) l.parts-inside.spans.now) ≡ string_bytes l.fn.out ++ thread_lines l.fn.parts l.thread;
-  past : IsPastThread (thread_of_row l.thread) l.fn.parts (record { threads = l.parts-inside.threads.now; spans = l.parts-inside.spans.now });
+  past : IsPastThread (thread_of_row l.thread) l.fn.parts (record { threads = l.parts-inside.threads.now; spans = l.parts-inside.spans.now; series = l.parts-inside.series.now });
 }
 
 abbrev pub decreases-loop-span : goal.decreases-loop-span

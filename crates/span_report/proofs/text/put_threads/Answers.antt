@@ -1,9 +1,9 @@
-use Rattle.std.proofs.Common.{◌≡◌, length, ap, arith}
+use Rattle.std.proofs.Common.{◌∙◌, ◌≡◌, length, ap, arith}
 use Rattle.std.specs.List.{flat_map}
 use Rattle.span_report.specs.Report.{PartRows, thread_lines}
 use Rattle.span_report.specs.Parts.{threads_in}
 use Rattle.span_report.proofs.Under.{pids-ascending, thread-order, next-shorter, thread-then_rest, one-more, IsPastProcess-next, IsPastProcess-end}
-use Rattle.span_report.proofs.text.put_process_lines.Goals as goal
+use Rattle.span_report.proofs.text.put_threads.Goals as goal
 
 -- threads ascend by process too
 pub next_in-requires : goal.next_in-requires
@@ -28,13 +28,14 @@ loop-thread-smaller c =
 pub loop-thread-preserved : goal.loop-thread-preserved
 loop-thread-preserved c =
     let pid = c.args.process.now.pid in
-    let mid : PartRows = record { threads = c.parts.inside.threads.now; spans = c.parts.inside.spans.now } in
+    let mid : PartRows = record { threads = c.parts.inside.threads.now; spans = c.parts.inside.spans.now; series = c.parts.inside.series.now } in
     let invariant = rw (← c.parts.view_is) at c.loop-thread.invariant in
     let done = c.in_ok-put_thread_lines.ensures.past in
     let rest = thread-then_rest pid c.args.parts.now mid invariant.past c.in-Some.thread.now c.next_in.new.rest.now c.in-Some.ensures.0 c.in-Some.ensures.1 c.put_thread_lines.new.parts done in
     record {
       lines = one-more _ _ (thread_lines mid c.in-Some.thread.now) (flat_map (thread_lines c.put_thread_lines.new.parts) (threads_in pid c.put_thread_lines.new.parts.threads)) _ _ c.in_ok-put_thread_lines.ensures.lines rest invariant.lines;
       past = IsPastProcess-next pid c.args.parts.now mid invariant.past c.in-Some.thread.now c.next_in.new.rest.now c.in-Some.ensures.0 c.in-Some.ensures.1 c.put_thread_lines.new.parts done;
+      series = done.series ∙ invariant.series;
     }
 
 -- no thread of the process is left
