@@ -135,7 +135,7 @@ rows_of-in_order journal =
     let threads = ascending-sorted thread_cmp-total (filter_map (λ a. listed_by (told a)) (accepted journal)) in
     let events = counter_events (accepted journal) in
     record {
-      processes = map-sorted int_cmp_total (λ (row : ProcessRow). row.pid) process_row (λ pid. refl) (process_keys (accepted journal)) (ascending-sorted int_cmp_total (map (λ a. a.event.pid) (accepted journal)));
+      processes = map-sorted int_cmp_total (λ (row : ProcessRow). row.pid) (process_row journal) (λ pid. refl) (process_keys (accepted journal)) (ascending-sorted int_cmp_total (map (λ a. a.event.pid) (accepted journal)));
       parts = record {
         threads = map-sorted thread_cmp-total (λ (row : ThreadRow). record { pid = row.pid; tid = row.tid }) (thread_row journal) (λ thread. refl) (thread_keys (accepted journal)) threads;
         spans = flat_map-ascending thread_cmp-total thread_of_span (thread_span_rows journal) (span_rows-made journal) (thread_keys (accepted journal)) threads;
