@@ -10,7 +10,7 @@ use Rattle.std.specs.FinMap.{int_cmp-IsAntisymmetric}
 use Rattle.std.proofs.lemmas.Cmp.{then_total, on_total, int_cmp_total}
 use Rattle.std.proofs.lemmas.List.Elements.{filter_map-append}
 use Rattle.span_read.specs.declared.event.Event.{Event}
-use Rattle.span_read.specs.declared.event.Phase.TheVariants.{Meta}
+use Rattle.span_read.specs.declared.event.Phase.TheVariants.{Instant, Meta}
 use Rattle.span_track.specs.Keyed.{Keyed}
 use Rattle.span_track.specs.Last.{last_of}
 use Rattle.span_track.specs.Meta.{Holder, holder_cmp, Setting, set_name, set_labels, set_sort_index, names_of, as_name, as_labels, as_sort_index, words_of, whole_of, name_setting, labels_setting, sort_setting, setting_of, settings_in, is_meta}
@@ -87,3 +87,10 @@ pub settings_in-push : (es : List Event) (event : Event) → event.phase ≡ Met
 settings_in-push es event phase =
     filter_map-append (λ (e : Event). cond (is_meta e.phase) (setting_of e) None) es (event ∷ [])
     ∙ ap (λ p. settings_in es ++ cons_option (cond (is_meta p) (setting_of event) None) []) phase
+
+-- an instant sets nothing
+pub settings_in-instant : (es : List Event) (event : Event) → event.phase ≡ Instant → settings_in (es ++ event ∷ []) ≡ settings_in es
+settings_in-instant es event phase =
+    filter_map-append (λ (e : Event). cond (is_meta e.phase) (setting_of e) None) es (event ∷ [])
+    ∙ ap (λ p. settings_in es ++ cons_option (cond (is_meta p) (setting_of event) None) []) phase
+    ∙ append-nil (settings_in es)

@@ -20,7 +20,7 @@ both_equal Less s e = cc
 both_equal Equal s e = (refl, e)
 both_equal Greater s e = cc
 
-text_same : (a b : List ℕ) → slice_cmp nat_cmp a b ≡ Equal → a ≡ b
+pub text_same : (a b : List ℕ) → slice_cmp nat_cmp a b ≡ Equal → a ≡ b
 text_same a b e = slice_cmp-IsAntisymmetric nat_cmp-IsAntisymmetric a b e
 
 -- the order of asynchronous keys is total

@@ -5,6 +5,8 @@ pub mod CountersKept
 pub mod Fault
 pub mod Flow
 pub mod FlowKept
+pub mod Instants
+pub mod InstantsKept
 pub mod Kept
 pub mod Keyed
 pub mod Last

@@ -1,5 +1,5 @@
 -- Names, labels and sort indices of processes and threads, and instants: what metadata events and instants tell.
-use Rattle.std.specs.Prelude.{◌≡◌, ℕ, ℤ, Bool, true, false, codes, nat_eq, is_some, List, [], ◌∷◌, ◌++◌, filter_map, Option, Some, None, option_and_then, if◌then◌else◌}
+use Rattle.std.specs.Prelude.{◌≡◌, ℕ, ◌≤◌, ◌^◌, ◌-◌, ℤ, Bool, true, false, codes, nat_eq, is_some, List, [], ◌∷◌, ◌++◌, length, filter_map, Option, Some, None, option_and_then, if◌then◌else◌}
 use Rattle.std.specs.Option.{option_map, option_cmp}
 use Rattle.std.specs.declared.cmp.Ordering.{Ordering}
 use Rattle.std.specs.Ordering.{int_cmp, ordering_then}
@@ -12,6 +12,7 @@ use Rattle.span_read.specs.declared.args.ArgValue.TheVariants.{Whole, Words, Fla
 use Rattle.span_read.specs.Args.{value_of}
 use Rattle.span_track.specs.Last.{last_of}
 use Rattle.span_track.specs.Keyed.{Keyed, steps_at, entries_in}
+use Rattle.span_track.specs.Instants.{InstantsKept, instants_counted, instants_in}
 
 -- a process; or one of its threads
 abbrev pub Holder : Type 0
@@ -131,13 +132,26 @@ names_thread event = if is_meta event.phase then is_some (option_and_then (λ (s
 abbrev pub TakesSetting : NamesKept → NamesKept → Keyed Holder Setting → Type 0
 TakesSetting old new s = (ss : List (Keyed Holder Setting)) → old ≡ entries_in holder_cmp names_of ss → new ≡ entries_in holder_cmp names_of (ss ++ s ∷ [])
 
--- the track keeps what the metadata events among these give
-abbrev pub MetaKept : Type 0
-MetaKept = NamesKept
+-- the names and the instants that are kept
+pub record MetaKept : Type 0 where
+  pub names : NamesKept
+  pub instants : InstantsKept
 
-abbrev pub MetaStandsFor : MetaKept → List Event → Type 0
-MetaStandsFor track es = NamesStandFor track es
+-- the track keeps what the metadata events and the instants among these give
+pub record MetaStandsFor (track : MetaKept) (es : List Event) : Type 0 where
+  pub names : NamesStandFor track.names es
+  pub instants : track.instants ≡ instants_counted (instants_in es)
 
 -- the track takes one more event
 abbrev pub TakesMeta : MetaKept → MetaKept → Event → Type 0
 TakesMeta old new e = (es : List Event) → MetaStandsFor old es → MetaStandsFor new (es ++ e ∷ [])
+
+-- the track stands for at most this many events
+pub record MetaOf (most : ℕ) (track : MetaKept) : Type 0 where
+  pub events : List Event
+  pub stands : MetaStandsFor track events
+  pub few : length events ≤ most
+
+-- there is room for the number of one more instant
+abbrev pub HasMetaRoom : MetaKept → Type 0
+HasMetaRoom track = MetaOf (2 ^ 32 - 2) track

@@ -1,5 +1,5 @@
 //! What the events of a trace stand for: of one thread open and closed spans, and how its time is divided among the closed ones;
-//! of a key asynchronous spans, and flow chains; of counters series of samples; and the names of processes and threads.
+//! of a key asynchronous spans, and flow chains; of counters series of samples; the names of processes and threads; and instants.
 #![tactic(auto)]
 
 mod async_track;
@@ -19,7 +19,7 @@ pub use counter_track::{CounterTrack, SeriesRow, SeriesTotals};
 pub use fault::TrackFault;
 pub use flow_track::{FlowClosed, FlowRow, FlowTotals, FlowTrack};
 pub use keys::{AsyncKey, FlowKey, SeriesKey};
-pub use meta_track::{MetaTrack, ProcessNames, ThreadNames, names_thread};
+pub use meta_track::{InstantRow, MetaTrack, ProcessNames, ThreadNames, names_thread};
 pub use names::Names;
 pub use span_time::{ClosedSpan, NameTotal, Segment};
 pub use thread::ThreadTrack;

@@ -1,21 +1,26 @@
 //! The track of metadata events.
-ghost use Rattle.std.specs.Prelude.{◌≡◌, [], List, Some, None, option_copied, OnOk, OnErr};
+ghost use Rattle.std.specs.Prelude.{◌≡◌, [], List, Some, None, option_copied, IfOk, OnOk, OnErr};
 ghost use Rattle.span_read.specs.declared.event.Event.{Event};
-ghost use Rattle.span_read.specs.declared.event.Phase.TheVariants.{Meta};
+ghost use Rattle.span_read.specs.declared.event.Phase.TheVariants.{Instant, Meta};
 ghost use Rattle.span_read.specs.Event.{IsGood};
 ghost use Rattle.span_track.specs.Fault.{Answers};
-ghost use Rattle.span_track.specs.Meta.{MetaStandsFor, TakesMeta, TakesSetting, names_in};
+ghost use Rattle.span_track.specs.Instants.{instant_rows, instants_of};
+ghost use Rattle.span_track.specs.Meta.{HasMetaRoom, MetaStandsFor, TakesMeta, TakesSetting, names_in};
 ghost use Rattle.span_track.specs.MetaKept.{keyed_setting};
 
+mod instants;
 mod named;
+mod reaches;
 mod setting;
 
 use crate::fault::TrackFault;
+pub use instants::InstantRow;
+use instants::Instants;
 use named::Named;
 pub use setting::names_thread;
 use setting::{Holder, Setting, setting_of};
-use span_read::{Event, Text};
-use std::alloc::Global;
+use span_read::{Event, Reach, Text};
+use std::alloc::{AllocError, Global};
 use std::collections::BTreeMap;
 use std::marker::Model;
 
@@ -34,11 +39,12 @@ pub struct ThreadNames<'a> {
     pub sort_index: Option<i64>,
 }
 
-/// The names of all processes and threads.
+/// The names of all processes and threads, and the instants.
 #[derive(Drop)]
 pub struct MetaTrack {
     alloc: Global,
     names: BTreeMap<Holder, Named>,
+    instants: Instants,
 }
 
 impl Model for MetaTrack {
@@ -46,7 +52,7 @@ impl Model for MetaTrack {
 
     ghost Value = { MetaKept };
 
-    ghost view = { λ t. t.names.entries };
+    ghost view = { λ t. record { names = t.names.entries; instants = t.instants } };
 }
 
 impl MetaTrack {
@@ -57,6 +63,7 @@ impl MetaTrack {
         MetaTrack {
             alloc,
             names: BTreeMap::new(alloc),
+            instants: Instants::new(alloc),
         }
     }
 
@@ -75,6 +82,25 @@ impl MetaTrack {
             Some((holder, setting)) => self.set(holder, setting),
             None => Ok(()),
         }
+    }
+
+    /// An instant. Only want of memory refuses it.
+    pub fn instant(&mut self, event: &Event) -> Result<(), TrackFault>
+        requires good { IsGood event.now }
+        requires phase { event.now.phase ≡ Instant }
+        requires room { HasMetaRoom self.old }
+        ensures refusal { Answers result None }
+        ensures stands { OnOk result (TakesMeta self.old self.new event.now) }
+        ensures err { OnErr result (self.new ≡ self.old) }
+    {
+        let Some(reach) = event.reach else {
+            unreachable!();
+        };
+        let thread = (event.pid, event.tid);
+        let Ok(()) = self.instants.add(self.alloc, thread, &event.name, reach) else {
+            return Err(TrackFault::Memory);
+        };
+        Ok(())
     }
 
     /// What the last metadata events set of the process. Takes no memory.
@@ -114,9 +140,24 @@ impl MetaTrack {
         }
     }
 
+    /// How many instants there are of the thread, the name and the reach. Takes no memory.
+    pub fn instants_of(&self, pid: i64, tid: i64, name: &Text, reach: Reach) -> u32
+        ensures { (es : List Event) → MetaStandsFor self.now es → result ≡ instants_of es (pid, tid) name.now reach }
+    {
+        self.instants.of((pid, tid), name, reach)
+    }
+
+    /// The row of each thread, name and reach that has an instant, in ascending order, the wider reach first.
+    pub fn instant_rows(&self, alloc: Global) -> Result<Vec<InstantRow>, AllocError>
+        ensures { IfOk result (λ rows. (es : List Event) → MetaStandsFor self.now es → rows.items ≡ instant_rows es) }
+    {
+        self.instants.rows(alloc)
+    }
+
     fn set(&mut self, holder: Holder, setting: Setting) -> Result<(), TrackFault>
         ensures refusal { Answers result None }
-        ensures takes { OnOk result (TakesSetting self.old self.new (keyed_setting (holder, setting))) }
+        ensures instants { self.new.instants ≡ self.old.instants }
+        ensures takes { OnOk result (TakesSetting self.old.names self.new.names (keyed_setting (holder, setting))) }
         ensures err { OnErr result (self.new ≡ self.old) }
     {
         if let Some(named) = self.names.get_mut(&holder) {
