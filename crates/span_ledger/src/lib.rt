@@ -33,8 +33,8 @@ pub use span_read::{
     ArgValue, Args, Event, Field, IdKey, Item, ItemFault, Items, Phase, Reach, Text,
 };
 pub use span_track::{
-    AsyncKey, AsyncRow, AsyncTotals, FlowKey, FlowRow, FlowTotals, SeriesKey, SeriesRow,
-    SeriesTotals,
+    AsyncKey, AsyncRow, AsyncTotals, FlowKey, FlowRow, FlowTotals, InstantRow, SeriesKey,
+    SeriesRow, SeriesTotals,
 };
 
 #[cfg(test)]

@@ -1,8 +1,8 @@
-//! A metadata event, told to the track of names.
+//! A metadata event or an instant, told to their track.
 ghost use Rattle.std.specs.Prelude.{◌≡◌};
-ghost use Rattle.span_read.specs.declared.event.Phase.TheVariants.{Meta};
+ghost use Rattle.span_read.specs.declared.event.Phase.TheVariants.{Meta, Instant};
 ghost use Rattle.span_read.specs.Event.{IsGood};
-ghost use Rattle.span_track.specs.Meta.{MetaStandsFor};
+ghost use Rattle.span_track.specs.Meta.{MetaStandsFor, HasMetaRoom};
 ghost use Rattle.span_ledger.specs.Answers.{meta_answer};
 ghost use Rattle.span_ledger.specs.Tracked.{Tells};
 
@@ -20,4 +20,17 @@ pub(crate) fn tell_meta(
 {
     track.name_event(event)?;
     Ok((Answer::Named, Answer::Named))
+}
+
+pub(crate) fn tell_instant(
+    track: &mut MetaTrack,
+    event: &Event,
+) -> Result<(Answer, Answer), TrackFault>
+    requires good { IsGood event.now }
+    requires phase { event.now.phase ≡ Instant }
+    requires room { HasMetaRoom track.old }
+    ensures { Tells MetaStandsFor meta_answer track.old event.now result track.new }
+{
+    track.instant(event)?;
+    Ok((Answer::Marked, Answer::Marked))
 }

@@ -1,4 +1,4 @@
-// What metadata events give.
+// What metadata events and instants give.
 use super::answers;
 use crate::{Ledger, Op, Query};
 use std::alloc::{AllocError, Global};
@@ -13,6 +13,16 @@ fn names(alloc: Global, ledger: &Ledger) -> Result<String, AllocError> {
     }
     for row in &ledger.threads(alloc)? {
         writeln!(lines, "{} {} {:?}", row.pid, row.tid, row.name)?;
+    }
+    Ok(lines)
+}
+
+// The rows of instants.
+fn instants(alloc: Global, ledger: &Ledger) -> Result<String, AllocError> {
+    let mut lines = String::new(alloc);
+    for row in &ledger.instant_rows(alloc)? {
+        let (name, reach, count) = (row.name.as_str(), row.reach, row.count);
+        writeln!(lines, "{} {} {name} {reach:?} {count}", row.pid, row.tid)?;
     }
     Ok(lines)
 }
@@ -32,6 +42,13 @@ fn the_last_name_holds_in(
         names(alloc, ledger)?.as_str(),
         "1 Some(\"Renderer\")\n1 2 Some(\"Main\")\n"
     );
+    let told = answers(
+        alloc,
+        ledger,
+        "[{\"ph\":\"i\",\"name\":\"gc\",\"ts\":3,\"pid\":1,\"tid\":2,\"s\":\"p\"}]",
+    )?;
+    assert_eq!(rt; told.as_str(), "Marked\n");
+    assert_eq!(rt; instants(alloc, ledger)?.as_str(), "1 2 gc Process 1\n");
     let Ok(reply) = ledger.apply(0, Op::Ask(Query::NamesOf { pid: 1, tid: None })) else {
         return Err(Fail::from("no reply"));
     };
