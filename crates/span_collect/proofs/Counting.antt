@@ -1,0 +1,77 @@
+-- How many entries a journal has of some callers.
+use Rattle.std.proofs.Common.{◌≡◌, ℕ, zero, suc, ◌+◌, ◌<◌, ◌≤◌, List, [], ◌∷◌, Bool, true, false, cond, eqb, eqb-true, length, All, Contains, refl, sym, subst, ap, ◌∙◌, arith}
+use Rattle.span_ledger.specs.declared.entry.Entry.{Entry}
+use Rattle.span_share.specs.Callers.{calls, AreDistinct}
+use Rattle.span_share.specs.Entries.{caller_of}
+use Rattle.span_share.proofs.CallersLists.{Contains-here}
+
+-- the entries of all these callers together
+abbrev pub total : List ℕ → List Entry → ℕ
+total [] journal = 0
+total (c ∷ cs) journal = length (calls caller_of c journal) + total cs journal
+
+-- how often a number stands in a list
+abbrev hits : ℕ → List ℕ → ℕ
+hits k [] = 0
+hits k (c ∷ cs) = cond (eqb k c) 1 0 + hits k cs
+
+Contains-later : (n : ℕ) (ns : List ℕ) (m : ℕ) → Contains ns m → Contains (n ∷ ns) m
+Contains-later n ns m h = (suc h.0, omega (arith, h.1), h.2)
+
+hits-contains : (k : ℕ) (cs : List ℕ) → 0 < hits k cs → Contains cs k
+hits-contains k [] some = absurd (omega (arith, some))
+hits-contains k (c ∷ cs) some = by (eqb k c) refl some (hits-contains k cs)
+  where
+    by : (b : Bool) → eqb k c ≡ b → 0 < cond b 1 0 + hits k cs → (0 < hits k cs → Contains cs k) → Contains (c ∷ cs) k
+    by true e some rest = subst (λ n. Contains (c ∷ cs) n) (sym (eqb-true k c e)) (Contains-here c cs)
+    by false e some rest = Contains-later c cs k (rest (omega (arith, some)))
+
+hits-once : (k : ℕ) (cs : List ℕ) → AreDistinct cs → hits k cs ≤ 1
+hits-once k [] distinct = omega arith
+hits-once k (c ∷ cs) distinct = by (eqb k c) refl (hits-once k cs distinct.1) (hits-contains k cs)
+  where
+    by : (b : Bool) → eqb k c ≡ b → hits k cs ≤ 1 → (0 < hits k cs → Contains cs k) → cond b 1 0 + hits k cs ≤ 1
+    by true e once in_rest = none (hits k cs) (λ some. distinct.0 (subst (Contains cs) (eqb-true k c e) (in_rest some)))
+      where
+        none : (n : ℕ) → (0 < n → ⊥) → 1 + n ≤ 1
+        none zero empty = omega arith
+        none (suc n) empty = absurd (empty (omega arith))
+    by false e once in_rest = omega (arith, once)
+
+total-nil : (cs : List ℕ) → total cs [] ≡ 0
+total-nil [] = refl
+total-nil (c ∷ cs) = omega (arith, total-nil cs)
+
+total-cons : (cs : List ℕ) (e : Entry) (journal : List Entry) → total cs (e ∷ journal) ≡ hits e.caller cs + total cs journal
+total-cons [] e journal = refl
+total-cons (c ∷ cs) e journal = omega (arith, one (eqb e.caller c) (calls caller_of c journal), total-cons cs e journal)
+  where
+    one : (b : Bool) (rest : List Entry) → length (cond b (e ∷ rest) rest) ≡ cond b 1 0 + length rest
+    one true rest = omega arith
+    one false rest = omega arith
+
+-- entries of distinct callers are no more than there are
+pub total-le : (cs : List ℕ) (journal : List Entry) → AreDistinct cs → total cs journal ≤ length journal
+total-le cs [] distinct = omega (arith, total-nil cs)
+total-le cs (e ∷ journal) distinct = omega (arith, total-cons cs e journal, hits-once e.caller cs distinct, total-le cs journal distinct)
+
+All-cons : {X : Type 0} (P : X → Type 0) (x : X) (xs : List X) → P x → All P xs → All P (x ∷ xs)
+All-cons P x xs px all zero d lt = px
+All-cons P x xs px all (suc k) d lt = all k d (omega (arith, lt))
+
+-- where they are all that there are, every entry is of one of them
+pub total-all : (cs : List ℕ) (journal : List Entry) → AreDistinct cs → total cs journal ≡ length journal → All (λ e. Contains cs e.caller) journal
+total-all cs [] distinct all = λ k d lt. absurd (omega (arith, lt))
+total-all cs (e ∷ journal) distinct all =
+    let split = total-cons cs e journal in
+    let once = hits-once e.caller cs distinct in
+    let most = total-le cs journal distinct in
+    All-cons (λ (x : Entry). Contains cs x.caller) e journal (hits-contains e.caller cs (omega (arith, all, split, once, most))) (total-all cs journal distinct (omega (arith, all, split, once, most)))
+
+pub length-calls : (caller : ℕ) (journal : List Entry) → length (calls caller_of caller journal) ≤ length journal
+length-calls caller [] = omega arith
+length-calls caller (e ∷ journal) = one (eqb e.caller caller) (calls caller_of caller journal) (length-calls caller journal)
+  where
+    one : (b : Bool) (rest : List Entry) → length rest ≤ length journal → length (cond b (e ∷ rest) rest) ≤ suc (length journal)
+    one true rest le = omega (arith, le)
+    one false rest le = omega (arith, le)

@@ -1,0 +1,4 @@
+pub mod Counting
+pub mod Recording
+pub mod Meeting
+pub mod Settling

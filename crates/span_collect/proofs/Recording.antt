@@ -1,0 +1,180 @@
+-- What one seat has recorded, and how its file ended.
+use Rattle.std.proofs.Common.{◌≡◌, ℕ, ◌+◌, ◌<◌, ◌≤◌, ◌⊎◌, List, [], ◌∷◌, ◌++◌, length, map, take, get_or, nat_lt, lt-ltb, Bool, true, false, Option, Some, None, Ok, Err, Contains, refl, sym, subst, ap, ap₂, ◌∙◌, append-nil, append_assoc, length-append, arith, inl, inr}
+use Rattle.std.specs.Prelude.{if◌then◌else◌, Result, IfOk, IfSome}
+use Rattle.std.specs.Result.{result_ok}
+use Rattle.std.proofs.lemmas.List.{map-append, length-map, take_more, length-take-le}
+use Rattle.serde_json.specs.Data.{Data, Items, no_items, item}
+use Rattle.serde_json.specs.Events.{items_len}
+use Rattle.span_read.specs.declared.item.Item.{Item}
+use Rattle.span_read.specs.declared.error.ReadError.{ReadError}
+use Rattle.span_read.specs.declared.error.ReadError.TheVariants.{TooLarge, TooMany}
+use Rattle.span_read.specs.Document.{doc, document, doc_of_document, doc_of_elements, elements_of, items_of, most_bytes, most_items}
+use Rattle.span_read.specs.ReadError.{code_of}
+use Rattle.span_ledger.specs.declared.entry.Entry.{Entry}
+use Rattle.span_ledger.specs.declared.entry.Op.{Op}
+use Rattle.span_ledger.specs.declared.entry.Op.TheVariants.{One, Ask}
+use Rattle.span_ledger.specs.declared.query.Query.{Query}
+use Rattle.span_ledger.specs.declared.refusal.Cause.{Cause}
+use Rattle.span_ledger.specs.declared.refusal.Cause.TheVariants.{Memory, Full, Busy}
+use Rattle.span_share.specs.declared.book.Receipt.{Receipt}
+use Rattle.span_share.specs.declared.share.ShareError.{ShareError}
+use Rattle.span_share.specs.Entries.{entry}
+use Rattle.span_share.specs.Seats.{ShareId, Seated, IsSeatOf, IsCauseAt, Keeps, Records, Enrols, mine}
+use Rattle.span_share.proofs.CallersLists.{Contains-here}
+use Rattle.span_collect.specs.declared.files.FileEnd.{FileEnd}
+use Rattle.span_collect.specs.declared.files.FileEnd.TheVariants.{Read, Refused, Stopped, NotStarted}
+use Rattle.span_collect.specs.Account.{Document, IsCause, operations, telling, asking}
+use Rattle.span_collect.specs.Work.{HasRecorded, IsNew, IsWorked}
+use Rattle.span_collect.proofs.Counting.{length-calls}
+
+-- a seat that was enrolled has recorded nothing
+pub HasRecorded-enrolled : (share : ShareId) (old new : Seated) → IsSeatOf share new → Enrols old new → IsNew share new
+HasRecorded-enrolled share old new seat enrols = record {
+  sound = seat;
+  alone = enrols.owned;
+  recorded = ap (map (λ (e : Entry). e.op)) enrols.empty;
+}
+
+-- one operation more is recorded
+pub HasRecorded-next : (share : ShareId) (ops : List Op) (op : Op) (receipt : Receipt) (old new : Seated) → HasRecorded share ops old → IsSeatOf share new → Records old new op receipt → HasRecorded share (ops ++ op ∷ []) new
+HasRecorded-next share ops op receipt old new has seat records = record {
+  sound = seat;
+  alone = records.owned ∙ has.alone ∙ ap (λ n. n ∷ []) (sym records.number);
+  recorded = ap (operations new.seen) records.number
+      ∙ ap (map (λ (e : Entry). e.op)) records.list
+      ∙ map-append (λ (e : Entry). e.op) (mine old old.number) (entry old.number op receipt.answer ∷ [])
+      ∙ ap (λ (os : List Op). os ++ op ∷ []) has.recorded;
+}
+
+-- a look, or a refusal, records nothing
+pub HasRecorded-keeps : (share : ShareId) (ops : List Op) (old new : Seated) → HasRecorded share ops old → IsSeatOf share new → Keeps old new → HasRecorded share ops new
+HasRecorded-keeps share ops old new has seat keeps = record {
+  sound = seat;
+  alone = keeps.owned ∙ has.alone ∙ ap (λ n. n ∷ []) (sym keeps.number);
+  recorded = ap (operations new.seen) keeps.number
+      ∙ ap (map (λ (e : Entry). e.op)) (keeps.lists old.number has.sound.own)
+      ∙ has.recorded;
+}
+
+-- why an operation was not taken
+pub IsCause-at : (limit : ℕ) (seen : List Entry) (cause : Cause) → (cause ≡ Full) ⊎ (cause ≡ Memory) → IsCauseAt limit (length seen) cause → IsCause seen limit cause
+IsCause-at limit seen Memory either at = tt
+IsCause-at limit seen Full either at = omega (arith, at)
+IsCause-at limit seen (Busy front) (inl same) at = absurd cc
+IsCause-at limit seen (Busy front) (inr same) at = absurd cc
+
+take-front : {A : Type 0} (xs ys : List A) → take (length xs) (xs ++ ys) ≡ xs
+take-front [] ys = refl
+take-front (x ∷ xs) ys = ap (λ l. x ∷ l) (take-front xs ys)
+
+-- those that were told are the first
+told-first : {A : Type 0} (told rest items : List A) (done : ℕ) → told ++ rest ≡ items → done ≡ length told → told ≡ take done items
+told-first told rest items done all counted = sym (take-front told rest) ∙ ap₂ (λ n xs. take n xs) (sym counted) all
+
+module _ (share : ShareId) (caller : ℕ) (seat : Seated) (named : caller ≡ seat.number) where
+  -- all items were told
+  pub IsWorked-read : (items told : List Item) (done : ℕ) → HasRecorded share (telling told) seat → told ++ [] ≡ items → done ≡ length told → IsWorked share (Ok items) (Read caller done) seat
+  IsWorked-read items told done has all counted = record {
+    sound = has.sound;
+    alone = has.alone;
+    named = ap (λ n. Some n) named;
+    ended = (counted ∙ ap length same, ap (operations seat.seen) named ∙ has.recorded ∙ ap telling same);
+  }
+    where
+      same : told ≡ items
+      same = sym (append-nil told) ∙ all
+
+  -- the first items were told, and the next one was not taken
+  pub IsWorked-stopped : (items told rest : List Item) (next : Item) (done : ℕ) (cause : Cause) → HasRecorded share (telling told) seat → told ++ next ∷ rest ≡ items → done ≡ length told →
+      (cause ≡ Full) ⊎ (cause ≡ Memory) → IsCauseAt share.limit (length seat.seen) cause → IsWorked share (Ok items) (Stopped caller done cause) seat
+  IsWorked-stopped items told rest next done cause has all counted either at = record {
+    sound = has.sound;
+    alone = has.alone;
+    named = ap (λ n. Some n) named;
+    ended = (
+      inl (
+        omega (arith, counted, ap length all, length-append told (next ∷ rest)),
+        ap (operations seat.seen) named ∙ has.recorded ∙ ap telling (told-first told (next ∷ rest) items done all counted),
+      ),
+      IsCause-at share.limit seat.seen cause either at,
+    );
+  }
+
+  -- the file was refused
+  pub IsWorked-refused : (document : Document) (error : ReadError) (code : ℕ) → HasRecorded share [] seat → document ≡ Err error → code ≡ code_of error → IsWorked share document (Refused caller code) seat
+  IsWorked-refused document error code has refused is = subst (λ d. IsWorked share d (Refused caller code) seat) (sym refused) (record {
+    sound = has.sound;
+    alone = has.alone;
+    named = ap (λ n. Some n) named;
+    ended = (is, ap (operations seat.seen) named ∙ has.recorded);
+  })
+
+  -- reading found no memory
+  pub IsWorked-unread : (document : Document) → HasRecorded share [] seat → IsWorked share document (Stopped caller 0 Memory) seat
+  IsWorked-unread document has = record {
+    sound = has.sound;
+    alone = has.alone;
+    named = ap (λ n. Some n) named;
+    ended = (inr (refl, refl, ap (operations seat.seen) named ∙ has.recorded), tt);
+  }
+
+-- one query more was asked
+pub asking-next : (asks : List Query) (i : ℕ) (query found : Query) → i < length asks → query ≡ found → found ≡ get_or asks i found → asking (take i asks) ++ Ask query ∷ [] ≡ asking (take (i + 1) asks)
+asking-next asks i query found within same at =
+    ap (λ (q : Query). asking (take i asks) ++ Ask q ∷ []) (same ∙ at)
+    ∙ sym (ap asking (take_more asks i found within) ∙ map-append (λ (q : Query). Ask q) (take i asks) (get_or asks i found ∷ []))
+
+-- as many entries as queries were seen
+pub asked-le : (share : ShareId) (asks : List Query) (i : ℕ) (seat : Seated) → HasRecorded share (asking (take i asks)) seat → i ≤ length asks → i ≤ length seat.seen
+asked-le share asks i seat has within =
+    omega (
+      arith,
+      length-take-le i asks within,
+      length-map (take i asks) (λ (q : Query). Ask q),
+      ap length has.recorded,
+      length-map (mine seat seat.number) (λ (e : Entry). e.op),
+      length-calls seat.number seat.seen,
+    )
+
+-- one item more was told
+pub telling-next : (told : List Item) (next : Item) → telling told ++ One next ∷ [] ≡ telling (told ++ next ∷ [])
+telling-next told next = sym (map-append (λ (i : Item). One i) told (next ∷ []))
+
+-- a document has no more items than a file may have
+pub document_is_small : (bytes : List ℕ) (items : List Item) → doc bytes ≡ Ok items → length items ≤ most_items
+document_is_small bytes items is = of_bytes (nat_lt most_bytes (length bytes)) (document bytes) items is
+  where
+    items_of-length : (ds : Items) → length (items_of ds) ≡ items_len ds
+    items_of-length no_items = refl
+    items_of-length (item d ds) = omega (arith, items_of-length ds)
+
+    of_elements : (b : Bool) (ds : Items) (is : List Item) → nat_lt most_items (items_len ds) ≡ b → (if b then Err TooMany else Ok (items_of ds)) ≡ Ok is → length is ≤ most_items
+    of_elements true ds is over e = absurd cc
+    of_elements false ds is over e =
+        let same : items_of ds ≡ is = cc in
+        let below : (most_items < items_len ds) → ⊥ = λ more. absurd (cc_of (lt-ltb most_items (items_len ds) more) over) in
+        omega (arith, items_of-length ds, ap length same, below)
+      where
+        cc_of : {b : Bool} → b ≡ true → b ≡ false → ⊥
+        cc_of e f = cc
+
+    of_option : (o : Option Items) (is : List Item) → doc_of_elements o ≡ Ok is → length is ≤ most_items
+    of_option None is e = absurd cc
+    of_option (Some ds) is e = of_elements (nat_lt most_items (items_len ds)) ds is refl e
+
+    of_data : (o : Option Data) (is : List Item) → doc_of_document o ≡ Ok is → length is ≤ most_items
+    of_data None is e = absurd cc
+    of_data (Some d) is e = of_option (elements_of d) is e
+
+    of_bytes : (b : Bool) (o : Option Data) (is : List Item) → (if b then Err TooLarge else doc_of_document o) ≡ Ok is → length is ≤ most_items
+    of_bytes true o is e = absurd cc
+    of_bytes false o is e = of_data o is e
+
+-- the same of a seat that enrolling may give
+pub enrolled : (share : ShareId) (old : Seated) (result : Result Seated ShareError) → IfOk result (IsSeatOf share) → IfOk result (Enrols old) → IfSome (result_ok result) (IsNew share)
+enrolled share old (Ok new) seat enrols = HasRecorded-enrolled share old new seat enrols
+enrolled share old (Err error) seat enrols = tt
+
+pub nothing_left : {A : Type 0} (xs : List A) → length xs ≡ 0 → xs ≡ []
+nothing_left [] none = refl
+nothing_left (x ∷ xs) none = absurd (omega (arith, none))

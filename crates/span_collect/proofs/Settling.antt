@@ -1,0 +1,96 @@
+-- The account of a closed ledger, from what the callers say that they recorded.
+use Rattle.std.proofs.Common.{◌≡◌, ℕ, ◌+◌, ◌^◌, ◌<◌, ◌≤◌, List, [], ◌∷◌, length, map, take, Some, None, Ok, Err, Option, Contains, refl, sym, subst, ap, ap₂, ◌∙◌, arith, inl, inr}
+use Rattle.std.specs.Prelude.{sum_by}
+use Rattle.std.proofs.lemmas.List.{length-map, length-take-le}
+use Rattle.std.proofs.lemmas.List.Sums.{sum_by-cons}
+use Rattle.span_read.specs.declared.item.Item.{Item}
+use Rattle.span_read.specs.Document.{doc}
+use Rattle.span_ledger.specs.declared.entry.Entry.{Entry}
+use Rattle.span_ledger.specs.declared.entry.Op.{Op}
+use Rattle.span_ledger.specs.declared.entry.Op.TheVariants.{One, Ask}
+use Rattle.span_ledger.specs.declared.query.Query.{Query}
+use Rattle.span_ledger.specs.Legal.{Kept}
+use Rattle.span_share.specs.Callers.{calls, AreDistinct}
+use Rattle.span_share.specs.Entries.{caller_of}
+use Rattle.span_share.proofs.CallersLists.{Contains-here}
+use Rattle.span_collect.specs.declared.files.FileEnd.{FileEnd}
+use Rattle.span_collect.specs.declared.files.FileEnd.TheVariants.{Read, Refused, Stopped, NotStarted}
+use Rattle.span_collect.specs.declared.files.Input.{Input}
+use Rattle.span_collect.specs.declared.queries.Asked.{Asked}
+use Rattle.span_collect.specs.Account.{Account, Document, EndsAs, EachEndsAs, IsAsked, StopsAsking, asking, callers_named, operations, telling}
+use Rattle.span_collect.specs.Collection.{IsClosed, calls_told, told_by}
+use Rattle.span_collect.proofs.Counting.{total, total-le, total-all}
+use Rattle.span_collect.proofs.Meeting.{BeginsWith-length, Contains-later, EachEndsAs-later, IsAsked-later}
+
+-- as many entries as operations
+calls-length : (journal : List Entry) (caller : ℕ) (ops : List Op) → operations journal caller ≡ ops → length (calls caller_of caller journal) ≡ length ops
+calls-length journal caller ops is = sym (length-map (calls caller_of caller journal) (λ (e : Entry). e.op)) ∙ ap length is
+
+length-telling : (items : List Item) → length (telling items) ≡ length items
+length-telling items = length-map items (λ (i : Item). One i)
+
+-- a file's items are as many as the entries of its caller
+told-one : (journal : List Entry) (limit : ℕ) (document : Document) (end : FileEnd) (ends : List FileEnd) → EndsAs journal limit document end → told_by end + total (callers_named ends) journal ≡ total (callers_named (end ∷ ends)) journal
+told-one journal limit (Ok items) (Read caller count) ends ended = omega (arith, ended.0, calls-length journal caller (telling items) ended.1, length-telling items)
+told-one journal limit (Err error) (Read caller count) ends ended = absurd ended
+told-one journal limit (Ok items) (Refused caller code) ends ended = absurd ended
+told-one journal limit (Err error) (Refused caller code) ends ended = omega (arith, calls-length journal caller [] ended.1)
+told-one journal limit (Ok items) (Stopped caller done cause) ends (inl first, is) =
+    omega (arith, calls-length journal caller (telling (take done items)) first.1, length-telling (take done items), length-take-le done items (omega (arith, first.0)))
+told-one journal limit (Err error) (Stopped caller done cause) ends (inl first, is) = absurd first
+told-one journal limit document (Stopped caller done cause) ends (inr unread, is) = omega (arith, unread.0, calls-length journal caller [] unread.2)
+told-one journal limit document NotStarted ends ended = omega arith
+
+told-total : (journal : List Entry) (limit : ℕ) (files : List Input) (ends : List FileEnd) → EachEndsAs journal limit files ends → sum_by told_by ends ≡ total (callers_named ends) journal
+told-total journal limit [] [] ended = refl
+told-total journal limit [] (end ∷ ends) ended = absurd ended
+told-total journal limit (file ∷ files) [] ended = absurd ended
+told-total journal limit (file ∷ files) (end ∷ ends) ended =
+    sum_by-cons told_by end ends ∙ ap (λ n. told_by end + n) (told-total journal limit files ends ended.1) ∙ told-one journal limit (doc file.bytes.items) end ends ended.0
+
+asked-total : (journal : List Entry) (limit : ℕ) (asks : List Query) (asked : Asked) → IsAsked journal limit asks asked → asked.done ≡ length (calls caller_of 0 journal)
+asked-total journal limit asks asked is =
+    sym (calls-length journal 0 (asking (take asked.done asks)) is.recorded ∙ length-map (take asked.done asks) (λ (q : Query). Ask q) ∙ length-take-le asked.done asks (within asked.cause is.stop))
+  where
+    within : (cause : Option _) → StopsAsking journal limit asks asked.done cause → asked.done ≤ length asks
+    within None stop = omega (arith, stop)
+    within (Some cause) stop = omega (arith, stop.0)
+
+module _ (files : List Input) (asks : List Query) (limit : ℕ) (ends : List FileEnd) (asked : Asked) (ledger : Kept) (closed : IsClosed files asks limit ends asked ledger) where
+  kept : (c : ℕ) → Contains (0 ∷ callers_named ends) c → operations ledger.journal c ≡ operations closed.seat.seen c
+  kept c at = ap (map (λ (e : Entry). e.op)) (closed.closes.lists c (subst (λ l. Contains l c) (sym closed.met.owned) at))
+
+  grows : length closed.seat.seen ≤ length ledger.journal
+  grows = BeginsWith-length ledger.journal closed.seat.seen closed.closes.begins
+
+  ended : EachEndsAs ledger.journal limit files ends
+  ended = subst (λ n. EachEndsAs ledger.journal n files ends) closed.limit_is
+      (EachEndsAs-later closed.share.limit closed.seat.seen ledger.journal files ends grows (λ c at. kept c (Contains-later 0 (callers_named ends) c at)) closed.met.ended)
+
+  queries : IsAsked ledger.journal limit asks asked
+  queries = subst (λ n. IsAsked ledger.journal n asks asked) closed.limit_is
+      (IsAsked-later closed.share.limit closed.seat.seen ledger.journal asks asked grows (kept 0 (Contains-here 0 (callers_named ends))) closed.met.queries)
+
+  distinct : AreDistinct (0 ∷ callers_named ends)
+  distinct = subst AreDistinct closed.met.owned closed.met.sound.distinct
+
+  within : length ledger.journal ≤ limit
+  within = omega (arith, closed.closes.lawful.within, closed.closes.limit, closed.limit_is)
+
+  all_calls : calls_told ends asked ≡ total (0 ∷ callers_named ends) ledger.journal
+  all_calls = ap₂ (λ (m n : ℕ). m + n) (asked-total ledger.journal limit asks asked queries) (told-total ledger.journal limit files ends ended)
+
+  -- the calls are no more than the entries, and so within the limit
+  pub IsClosed-few : calls_told ends asked ≤ limit
+  IsClosed-few = omega (arith, all_calls, total-le (0 ∷ callers_named ends) ledger.journal distinct, within)
+
+  -- where they are as many, nothing else stands in the journal
+  pub IsClosed-accounts : length ledger.journal ≡ calls_told ends asked → Account files asks limit ends asked ledger.journal
+  IsClosed-accounts same = record {
+    legal = closed.closes.lawful.legal;
+    within_limit = within;
+    each_file_once_in_order = ended;
+    each_query_once_in_order = queries;
+    distinct_callers = distinct;
+    nothing_else = total-all (0 ∷ callers_named ends) ledger.journal distinct (sym (same ∙ all_calls));
+  }

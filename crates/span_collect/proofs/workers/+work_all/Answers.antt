@@ -1,0 +1,33 @@
+use Rattle.std.proofs.Common.{◌≡◌, ◌++◌, ◌∷◌, [], length, sym, arith}
+use Rattle.span_read.specs.Document.{doc}
+use Rattle.span_collect.specs.Work.{HasMet, IsWorked}
+use Rattle.span_collect.proofs.Meeting.{EachEndsAs-length, HasMet-joined, HasMet-not_started}
+use Rattle.span_collect.proofs.workers.+work_all.Goals.{in-Some-handle, in-None}
+use Rattle.span_collect.proofs.workers.+work_all.Goals as goal
+
+-- the other files have an end each, and there is room for one more
+pub push_reserved-requires : goal.push_reserved-requires
+push_reserved-requires g t c =
+    let ends = c.work_all-asked.new.ends in
+    let met = c.work_all-asked.ensures.met in
+    omega (arith, EachEndsAs-length _ _ _ ends.items met.ended, ends.ok.0, c.work_all-asked.ensures.room, c.requires.room, c.in-Some.ensures.cases.1)
+
+-- the worker is met, or there was none
+pub returns-clause-met : goal.returns-clause-met
+returns-clause-met g t c =
+    let share = c.args.share.now in
+    let others = c.in-Some.others.now in
+    let asks = c.args.asks.now in
+    let ends = c.work_all-asked.new.ends.items in
+    let asked = c.work_all-asked.result in
+    let main = c.work_all-asked.new.main in
+    let met = c.work_all-asked.ensures.met in
+    let file = c.in-Some.file.now in
+    let split = c.in-Some.ensures.cases.0 in
+    elim c.match-handle.branch [
+      | in-Some-handle w ↦
+          let worked : IsWorked share (doc file.bytes.items) w.join-end.result.0 w.join-end.result.1 = rw (w.in-Some-handle.ensures.share, w.in-Some-handle.ensures.file) at w.join-end.ensures in
+          rw (w.main-is, c.push_reserved.ensures.items, w.end-is, split) (HasMet-joined share others asks ends asked main met file w.join-end.result.0 w.join-end.result.1 w.meet.new.seat worked w.meet.ensures.seat w.meet.ensures.gathered)
+      | in-None w ↦
+          rw (w.main-is, c.push_reserved.ensures.items, w.end-is, split) (HasMet-not_started share others asks ends asked main met file)
+    ]

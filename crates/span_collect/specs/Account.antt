@@ -1,0 +1,103 @@
+-- The account of a collection: how each file ended, what was asked, and what stands in the journal.
+use Rattle.std.specs.Prelude.{◌≡◌, ℕ, ◌<◌, ◌≤◌, ◌⊎◌, ⊤, List, [], ◌∷◌, length, map, take, filter_map, All, Contains, Option, Some, None, Result, Ok, Err}
+use Rattle.span_read.specs.declared.item.Item.{Item}
+use Rattle.span_read.specs.declared.error.ReadError.{ReadError}
+use Rattle.span_read.specs.Document.{doc}
+use Rattle.span_read.specs.ReadError.{code_of}
+use Rattle.span_ledger.specs.declared.entry.Entry.{Entry}
+use Rattle.span_ledger.specs.declared.entry.Op.{Op}
+use Rattle.span_ledger.specs.declared.entry.Op.TheVariants.{One, Ask}
+use Rattle.span_ledger.specs.declared.query.Query.{Query}
+use Rattle.span_ledger.specs.declared.refusal.Cause.{Cause}
+use Rattle.span_ledger.specs.declared.refusal.Cause.TheVariants.{Memory, Full, Busy}
+use Rattle.span_ledger.specs.Legal.{IsLegal}
+use Rattle.span_share.specs.Callers.{calls, AreDistinct}
+use Rattle.span_share.specs.Entries.{caller_of}
+use Rattle.span_collect.specs.declared.files.FileEnd.{FileEnd}
+use Rattle.span_collect.specs.declared.files.FileEnd.TheVariants.{Read, Refused, Stopped, NotStarted}
+use Rattle.span_collect.specs.declared.files.Input.{Input}
+use Rattle.span_collect.specs.declared.queries.Asked.{Asked}
+
+-- what a file gives: its items, or why it is refused
+abbrev pub Document : Type 0
+Document = Result (List Item) ReadError
+
+-- the operations that tell these items, and those that ask these queries
+abbrev pub telling : List Item → List Op
+telling items = map (λ item. One item) items
+
+abbrev pub asking : List Query → List Op
+asking queries = map (λ query. Ask query) queries
+
+-- the operations of a caller's entries, in order
+abbrev pub operations : List Entry → ℕ → List Op
+operations journal caller = map (λ entry. entry.op) (calls caller_of caller journal)
+
+-- the document has this many items, and all of them stand in the journal under this caller
+abbrev pub IsRead : List Entry → Document → ℕ → ℕ → Type 0
+IsRead journal (Ok items) caller count = (count ≡ length items) × (operations journal caller ≡ telling items)
+IsRead journal (Err error) caller count = ⊥
+
+-- the document is refused with this number, and this caller has no entry
+abbrev pub IsRefused : List Entry → Document → ℕ → ℕ → Type 0
+IsRefused journal (Ok items) caller code = ⊥
+IsRefused journal (Err error) caller code = (code ≡ code_of error) × (operations journal caller ≡ [])
+
+-- the document has more items than these, and just its first `done` stand in the journal under this caller
+abbrev pub HasFirst : List Entry → Document → ℕ → ℕ → Type 0
+HasFirst journal (Ok items) caller done = (done < length items) × (operations journal caller ≡ telling (take done items))
+HasFirst journal (Err error) caller done = ⊥
+
+-- reading found no memory: this caller has no entry
+abbrev pub IsUnread : List Entry → ℕ → ℕ → Cause → Type 0
+IsUnread journal caller done cause = (done ≡ 0) × (cause ≡ Memory) × (operations journal caller ≡ [])
+
+-- memory was refused, or the journal has all the entries that the limit allows
+abbrev pub IsCause : List Entry → ℕ → Cause → Type 0
+IsCause journal limit Memory = ⊤
+IsCause journal limit Full = limit ≤ length journal
+IsCause journal limit (Busy front) = ⊥
+
+-- a file that gives this document ended like this
+abbrev pub EndsAs : List Entry → ℕ → Document → FileEnd → Type 0
+EndsAs journal limit document (Read caller items) = IsRead journal document caller items
+EndsAs journal limit document (Refused caller code) = IsRefused journal document caller code
+EndsAs journal limit document (Stopped caller done cause) = (HasFirst journal document caller done ⊎ IsUnread journal caller done cause) × IsCause journal limit cause
+EndsAs journal limit document NotStarted = ⊤
+
+-- each file ended as its end says, and there is one end for each, in order
+abbrev pub EachEndsAs : List Entry → ℕ → List Input → List FileEnd → Type 0
+EachEndsAs journal limit [] [] = ⊤
+EachEndsAs journal limit [] (end ∷ ends) = ⊥
+EachEndsAs journal limit (file ∷ files) [] = ⊥
+EachEndsAs journal limit (file ∷ files) (end ∷ ends) = EndsAs journal limit (doc file.bytes.items) end × EachEndsAs journal limit files ends
+
+-- the asking ended with all queries, or for a cause before that
+abbrev pub StopsAsking : List Entry → ℕ → List Query → ℕ → Option Cause → Type 0
+StopsAsking journal limit asks done None = done ≡ length asks
+StopsAsking journal limit asks done (Some cause) = (done < length asks) × IsCause journal limit cause
+
+-- the first `done` queries stand in the journal under caller 0, and they are all unless there is a cause
+pub record IsAsked (journal : List Entry) (limit : ℕ) (asks : List Query) (asked : Asked) : Type 0 where
+  pub recorded : operations journal 0 ≡ asking (take asked.done asks)
+  pub stop : StopsAsking journal limit asks asked.done asked.cause
+
+-- the caller that an end names
+abbrev pub caller_named : FileEnd → Option ℕ
+caller_named (Read caller items) = Some caller
+caller_named (Refused caller code) = Some caller
+caller_named (Stopped caller done cause) = Some caller
+caller_named NotStarted = None
+
+abbrev pub callers_named : List FileEnd → List ℕ
+callers_named ends = filter_map caller_named ends
+
+-- The journal accounts for the files and the queries. Each file has one end, which says how many of its items stand in the journal,
+-- once and in order; so does each query; nothing else stands there. The files' callers are distinct, and none is 0, which asks.
+pub record Account (files : List Input) (asks : List Query) (limit : ℕ) (ends : List FileEnd) (asked : Asked) (journal : List Entry) : Type 0 where
+  pub legal : IsLegal journal
+  pub within_limit : length journal ≤ limit
+  pub each_file_once_in_order : EachEndsAs journal limit files ends
+  pub each_query_once_in_order : IsAsked journal limit asks asked
+  pub distinct_callers : AreDistinct (0 ∷ callers_named ends)
+  pub nothing_else : All (λ entry. Contains (0 ∷ callers_named ends) entry.caller) journal

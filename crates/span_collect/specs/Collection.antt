@@ -1,0 +1,46 @@
+-- What a collection gives, and its refusals.
+use Rattle.std.specs.Prelude.{◌≡◌, ◌≢◌, ℕ, ◌+◌, ◌<◌, ◌⊎◌, ⊤, List, length, sum_by}
+use Rattle.span_ledger.specs.declared.query.Query.{Query}
+use Rattle.span_ledger.specs.Legal.{Kept}
+use Rattle.span_share.specs.Seats.{ShareId, Seated, Closes}
+use Rattle.span_collect.specs.declared.collection.CollectError.{CollectError}
+use Rattle.span_collect.specs.declared.collection.CollectError.TheVariants.{FileCount, Memory, Unaccounted}
+use Rattle.span_collect.specs.declared.files.FileEnd.{FileEnd}
+use Rattle.span_collect.specs.declared.files.FileEnd.TheVariants.{Read, Refused, Stopped, NotStarted}
+use Rattle.span_collect.specs.declared.files.Input.{Input}
+use Rattle.span_collect.specs.declared.queries.Asked.{Asked}
+use Rattle.span_collect.specs.Work.{HasMet}
+
+abbrev pub code_of : CollectError → ℕ
+code_of FileCount = 41
+code_of Memory = 31
+code_of (Unaccounted entries calls) = 43
+
+-- there are none, or more than 64
+abbrev pub AreNoneOrTooMany : List Input → Type 0
+AreNoneOrTooMany files = (length files ≡ 0) ⊎ (64 < length files)
+
+-- an unaccounted journal has another number of entries than calls
+abbrev pub IsDifference : CollectError → Type 0
+IsDifference FileCount = ⊤
+IsDifference Memory = ⊤
+IsDifference (Unaccounted entries calls) = entries ≢ calls
+
+-- how many items of its file an end says stand in the journal
+abbrev pub told_by : FileEnd → ℕ
+told_by (Read caller items) = items
+told_by (Refused caller code) = 0
+told_by (Stopped caller done cause) = done
+told_by NotStarted = 0
+
+-- how many items and queries stand in the journal, by the ends and by what was asked
+abbrev pub calls_told : List FileEnd → Asked → ℕ
+calls_told ends asked = asked.done + sum_by told_by ends
+
+-- the main seat met all workers, and closed the share of this limit
+pub record IsClosed (files : List Input) (asks : List Query) (limit : ℕ) (ends : List FileEnd) (asked : Asked) (ledger : Kept) : Type 0 where
+  pub share : ShareId
+  pub seat : Seated
+  pub met : HasMet share files asks ends asked seat
+  pub closes : Closes share seat ledger
+  pub limit_is : share.limit ≡ limit

@@ -1,0 +1,32 @@
+-- What the seats of workers and the main seat stand for.
+use Rattle.std.specs.Prelude.{◌≡◌, ℕ, List, [], ◌∷◌, Some}
+use Rattle.span_ledger.specs.declared.entry.Op.{Op}
+use Rattle.span_ledger.specs.declared.query.Query.{Query}
+use Rattle.span_share.specs.Seats.{ShareId, Seated, IsSeatOf}
+use Rattle.span_collect.specs.declared.files.FileEnd.{FileEnd}
+use Rattle.span_collect.specs.declared.files.Input.{Input}
+use Rattle.span_collect.specs.declared.queries.Asked.{Asked}
+use Rattle.span_collect.specs.Account.{Document, EndsAs, EachEndsAs, IsAsked, caller_named, callers_named, operations}
+
+-- a seat that owns one number, under which just these operations are recorded
+pub record HasRecorded (share : ShareId) (ops : List Op) (seat : Seated) : Type 0 where
+  pub sound : IsSeatOf share seat
+  pub alone : seat.owned ≡ seat.number ∷ []
+  pub recorded : operations seat.seen seat.number ≡ ops
+
+abbrev pub IsNew : ShareId → Seated → Type 0
+IsNew share seat = HasRecorded share [] seat
+
+-- the seat of a worker whose file gave this document and ended like this
+pub record IsWorked (share : ShareId) (document : Document) (end : FileEnd) (seat : Seated) : Type 0 where
+  pub sound : IsSeatOf share seat
+  pub alone : seat.owned ≡ seat.number ∷ []
+  pub named : caller_named end ≡ Some seat.number
+  pub ended : EndsAs seat.seen share.limit document end
+
+-- a seat that has asked the queries and has met the workers of these files, whose numbers it owns in the files' order
+pub record HasMet (share : ShareId) (files : List Input) (asks : List Query) (ends : List FileEnd) (asked : Asked) (seat : Seated) : Type 0 where
+  pub sound : IsSeatOf share seat
+  pub owned : seat.owned ≡ 0 ∷ callers_named ends
+  pub ended : EachEndsAs seat.seen share.limit files ends
+  pub queries : IsAsked seat.seen share.limit asks asked

@@ -1,0 +1,126 @@
+//! Collects files into one ledger, and accounts for each of them.
+ghost use Rattle.std.specs.Prelude.{◌≡◌, ◌+◌, ◌^◌, ◌<◌, ◌≤◌, ◌↔◌, Err, length, IfOk, IfErr};
+ghost use Rattle.span_collect.specs.Account.{Account};
+ghost use Rattle.span_collect.specs.Collection.{AreNoneOrTooMany, IsClosed, IsDifference, code_of, calls_told, told_by};
+
+use crate::files::{FileEnd, Input};
+use crate::gate::Gate;
+use crate::queries::Asked;
+use crate::workers::{enrol_all, run_workers};
+use span_ledger::{Ledger, Query};
+use span_share::Share;
+use std::alloc::{AllocError, Global};
+use std::sync::Wait;
+use std::thread::Threads;
+use thiserror::Error;
+
+const MOST_FILES: usize = 64;
+
+/// What was collected.
+#[derive(Drop)]
+pub struct Outcome {
+    pub ledger: Ledger,
+    /// One end for each file, in order.
+    pub files: Vec<FileEnd>,
+    pub asked: Asked,
+}
+
+/// Why there is no outcome.
+#[derive(Debug, Drop, Error)]
+pub enum CollectError {
+    /// 41: there is no file, or there are more than 64.
+    #[error("no file, or more than 64")]
+    FileCount,
+    /// 31: memory was refused before any worker was started.
+    #[error("out of memory")]
+    Memory,
+    /// 43: the journal has another number of entries than the callers say that they recorded.
+    #[error("{entries} entries, but {calls} calls were taken")]
+    Unaccounted { entries: u32, calls: u32 },
+}
+
+impl CollectError {
+    /// 31 for want of memory, 41 for the count of files, 43 for a difference.
+    pub fn code(&self) -> u16
+        ensures { result ≡ code_of self.now }
+    {
+        match self {
+            CollectError::FileCount => 41,
+            CollectError::Memory => 31,
+            CollectError::Unaccounted { .. } => 43,
+        }
+    }
+}
+
+/// Reads 1 to 64 files and tells their items to one ledger of this limit, with one worker for each file, in threads. The queries
+/// are asked while the workers run. Waits until all are done.
+///
+/// The refusals come in this order: 41 `FileCount`; 31 `Memory`, before any worker is started; 43 `Unaccounted`, at the end.
+pub fn collect<G: Gate, R: Threads + Wait + Sync>(
+    rt: &R,
+    alloc: Global,
+    files: &[Input],
+    asks: &[Query],
+    gate: &G,
+    limit: u32,
+) -> Result<Outcome, CollectError>
+    ensures accounts { IfOk result (λ outcome. Account files.now asks.now limit outcome.files.items outcome.asked outcome.ledger.journal) }
+    ensures limit { IfOk result (λ outcome. outcome.ledger.limit ≡ limit) }
+    ensures count { (result ≡ Err CollectError.FileCount) ↔ AreNoneOrTooMany files.now }
+    ensures differ { IfErr result IsDifference }
+{
+    if files.is_empty() || files.len() > MOST_FILES {
+        return Err(CollectError::FileCount);
+    }
+    let Ok(outcome) = collect_unsettled(rt, alloc, files, asks, gate, limit) else {
+        return Err(CollectError::Memory);
+    };
+    let entries = outcome.ledger.len();
+    let calls = count_calls(&outcome.files, outcome.asked);
+    if entries != calls {
+        return Err(CollectError::Unaccounted { entries, calls });
+    }
+    Ok(outcome)
+}
+
+// Collects the files, and closes the ledger.
+fn collect_unsettled<G: Gate, R: Threads + Wait + Sync>(
+    rt: &R,
+    alloc: Global,
+    files: &[Input],
+    asks: &[Query],
+    gate: &G,
+    limit: u32,
+) -> Result<Outcome, AllocError>
+    requires { length files.now ≤ 64 }
+    ensures { IfOk result (λ outcome. IsClosed files.now asks.now limit outcome.files.items outcome.asked outcome.ledger) }
+{
+    let (share, mut main) = Share::start(alloc, limit)?;
+    let ends = Vec::with_capacity(alloc, files.len())?;
+    let seats = enrol_all(rt, alloc, &share, &mut main, files.len())?;
+    let (asked, main, files) = run_workers(rt, alloc, &share, gate, files, asks, seats, main, ends);
+    let (ledger, _) = share.close(rt, main);
+    Ok(Outcome {
+        ledger,
+        files,
+        asked,
+    })
+}
+
+// How many items and queries the callers say that they recorded.
+fn count_calls(ends: &[FileEnd], asked: Asked) -> u32
+    requires { calls_told ends.now asked < 2 ^ 32 }
+    ensures { result ≡ calls_told ends.now asked }
+{
+    asked.done + ends.iter().map(told).sum::<u32>()
+}
+
+fn told(end: &FileEnd) -> u32
+    ensures { result ≡ told_by end.now }
+{
+    match end {
+        FileEnd::Read { items, .. } => *items,
+        FileEnd::Stopped { done, .. } => *done,
+        FileEnd::Refused { .. } | FileEnd::NotStarted => 0,
+    }
+}

@@ -1,0 +1,75 @@
+//! What one worker does: it reads its file, and tells the items one by one.
+ghost use Rattle.std.specs.Prelude.{◌≡◌, ◌≤◌, length, All, Ok};
+ghost use Rattle.span_read.specs.Document.{doc, most_items};
+ghost use Rattle.span_read.specs.Item.{IsGoodItem};
+ghost use Rattle.span_collect.specs.Work.{IsNew, IsWorked};
+
+use crate::files::{FileEnd, Input};
+use crate::gate::Gate;
+use span_ledger::{Cause, Items};
+use span_read::{ReadError, read_items};
+use span_share::{Seat, Share};
+use std::alloc::Global;
+use std::sync::Wait;
+
+// Reads the file outside the turn, and tells its items.
+pub(crate) fn work<G: Gate, R: Wait>(
+    rt: &R,
+    alloc: Global,
+    share: &Share,
+    gate: &G,
+    worker: u32,
+    file: &Input,
+    seat: &mut Seat,
+) -> FileEnd
+    requires { IsNew share.now seat.old }
+    ensures { IsWorked share.now (doc file.now.bytes.items) result seat.new }
+{
+    let caller = seat.number();
+    gate.read(worker);
+    match read_items(alloc, &file.bytes) {
+        Ok(items) => tell_all(rt, share, gate, worker, items, seat),
+        Err(ReadError::Memory) => FileEnd::Stopped {
+            caller,
+            done: 0,
+            cause: Cause::Memory,
+        },
+        Err(error) => FileEnd::Refused {
+            caller,
+            code: error.code(),
+        },
+    }
+}
+
+// Tells the items in order, until one is not taken.
+fn tell_all<G: Gate, R: Wait>(
+    rt: &R,
+    share: &Share,
+    gate: &G,
+    worker: u32,
+    items: Items,
+    seat: &mut Seat,
+) -> FileEnd
+    requires new { IsNew share.now seat.old }
+    requires good { All IsGoodItem items }
+    requires few { length items ≤ most_items }
+    ensures { IsWorked share.now (Ok items) result seat.new }
+{
+    let caller = seat.number();
+    let mut done: u32 = 0;
+    for item in items.into_list() {
+        gate.pass(worker, done);
+        if let Err(back) = share.tell(rt, seat, item) {
+            return FileEnd::Stopped {
+                caller,
+                done,
+                cause: back.cause,
+            };
+        }
+        done += 1;
+    }
+    FileEnd::Read {
+        caller,
+        items: done,
+    }
+}

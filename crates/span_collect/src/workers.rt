@@ -1,0 +1,176 @@
+//! The threads of a collection: one worker for each file, and the main seat, which asks while they run.
+ghost use Rattle.std.specs.Prelude.{◌≡◌, ◌+◌, ◌≤◌, [], length, vec_len, vec_capacity, All, IfSome, IfOk};
+ghost use Rattle.span_read.specs.Document.{doc};
+ghost use Rattle.span_share.specs.Seats.{IsSeatOf};
+ghost use Rattle.span_collect.specs.Work.{IsNew, IsWorked, HasMet};
+
+use crate::files::{FileEnd, Input};
+use crate::gate::Gate;
+use crate::queries::{Asked, ask_all};
+use crate::worker::work;
+use span_ledger::Query;
+use span_share::{Seat, Share};
+use std::alloc::{AllocError, Global};
+use std::snapshot::Snapshot;
+use std::sync::Wait;
+use std::thread;
+use std::thread::{Promise, PromisedHandle, Scope, Threads};
+
+// What a worker's thread promises of its end and its seat.
+#[derive(Drop)]
+struct Worked {
+    share: Snapshot<Share>,
+    file: Snapshot<Input>,
+}
+
+impl Promise<(FileEnd, Seat)> for Worked {
+    ghost kept_by = { λ p r. IsWorked p.share.value (doc p.file.value.bytes.items) r.0 r.1 };
+}
+
+// A seat for each file, in order; none where every number was given.
+pub(crate) fn enrol_all<R: Wait>(
+    rt: &R,
+    alloc: Global,
+    share: &Share,
+    main: &mut Seat,
+    count: usize,
+) -> Result<Vec<Option<Seat>>, AllocError>
+    requires { IsSeatOf share.now main.old }
+    ensures same { main.new ≡ main.old }
+    ensures count { IfOk result (λ seats. length seats.items ≡ count) }
+    ensures new { IfOk result (λ seats. All (λ seat. IfSome seat (IsNew share.now)) seats.items) }
+{
+    let mut seats = Vec::with_capacity(alloc, count)?;
+    for _ in 0..count {
+        seats.push_reserved(share.enrol(rt, main).ok());
+    }
+    Ok(seats)
+}
+
+// Starts the worker of one file. None where it has no seat, or no thread could be made.
+fn start_worker<'s, E, G: Gate, R: Wait + Sync>(
+    rt: &'s R,
+    alloc: Global,
+    scope: &Scope<'s, E>,
+    share: &'s Share,
+    gate: &'s G,
+    worker: u32,
+    file: &'s Input,
+    seat: Option<Seat>,
+) -> Option<PromisedHandle<(FileEnd, Seat), Worked>>
+    requires { IfSome seat (IsNew share.now) }
+    ensures share { IfSome result (λ handle. handle.promise.share.value ≡ share.now) }
+    ensures file { IfSome result (λ handle. handle.promise.file.value ≡ file.now) }
+{
+    let seat = seat?;
+    let promise = Worked {
+        share: Snapshot::of(share),
+        file: Snapshot::of(file),
+    };
+    scope
+        .spawn_with(
+            promise,
+            move ||
+                requires { IsNew share.now seat }
+                ensures { IsWorked share.entry.now (doc file.entry.now.bytes.items) result.0 result.1 }
+            {
+                let mut seat = seat;
+                let end = work(rt, alloc, share, gate, worker, file, &mut seat);
+                (end, seat)
+            },
+        )
+        .ok()
+}
+
+// Starts the last file's worker and, by itself, those of the other files; the innermost call asks the queries. Then joins the one
+// worker and meets its seat.
+fn work_all<'s, E, G: Gate, R: Threads + Wait + Sync>(
+    rt: &'s R,
+    alloc: Global,
+    scope: &Scope<'s, E>,
+    share: &'s Share,
+    gate: &'s G,
+    workers: u32,
+    files: &'s [Input],
+    asks: &[Query],
+    seats: &mut Vec<Option<Seat>>,
+    main: &mut Seat,
+    ends: &mut Vec<FileEnd>,
+) -> Asked
+    requires main { IsNew share.now main.old }
+    requires first { main.old.number ≡ 0 }
+    requires count { length seats.old.items ≡ length files.now }
+    requires seats { All (λ seat. IfSome seat (IsNew share.now)) seats.old.items }
+    requires few { length files.now ≤ 64 }
+    requires ends { ends.old.items ≡ [] }
+    requires room { length files.now ≤ vec_capacity ends.old }
+    ensures met { HasMet share.now files.now asks.now ends.new.items result main.new }
+    ensures room { vec_capacity ends.new ≡ vec_capacity ends.old }
+{
+    let Some((file, others)) = files.split_last() else {
+        return ask_all(rt, alloc, share, gate, workers, asks, main);
+    };
+    let place = others.len() as u32;
+    let seat = seats.pop().flatten();
+    let handle = start_worker(rt, alloc, scope, share, gate, place, file, seat);
+    let asked = work_all(
+        rt, alloc, scope, share, gate, workers, others, asks, seats, main, ends,
+    );
+    let end = match handle {
+        Some(handle) => {
+            let (end, seat) = handle.join(rt);
+            share.meet(main, seat);
+            end
+        }
+        None => FileEnd::NotStarted,
+    };
+    ends.push_reserved(end);
+    asked
+}
+
+// Runs a worker for each file in one scope, and gives back the main seat, which has met them all.
+pub(crate) fn run_workers<G: Gate, R: Threads + Wait + Sync>(
+    rt: &R,
+    alloc: Global,
+    share: &Share,
+    gate: &G,
+    files: &[Input],
+    asks: &[Query],
+    seats: Vec<Option<Seat>>,
+    main: Seat,
+    ends: Vec<FileEnd>,
+) -> (Asked, Seat, Vec<FileEnd>)
+    requires main { IsNew share.now main }
+    requires first { main.number ≡ 0 }
+    requires count { length seats.items ≡ length files.now }
+    requires seats { All (λ seat. IfSome seat (IsNew share.now)) seats.items }
+    requires few { length files.now ≤ 64 }
+    requires ends { ends.items ≡ [] }
+    requires room { length files.now ≤ vec_capacity ends }
+    ensures { HasMet share.now files.now asks.now result.2.items result.0 result.1 }
+{
+    thread::scope(
+        thread::scope_env(),
+        rt,
+        move |scope|
+            requires main { IsNew share.now main }
+            requires first { main.number ≡ 0 }
+            requires count { length seats.items ≡ length files.now }
+            requires seats { All (λ seat. IfSome seat (IsNew share.now)) seats.items }
+            requires few { length files.now ≤ 64 }
+            requires ends { ends.items ≡ [] }
+            requires room { length files.now ≤ vec_capacity ends }
+            ensures { HasMet share.entry.now files.entry.now asks.entry.now result.2.items result.0 result.1 }
+        {
+            let mut seats = seats;
+            let mut main = main;
+            let mut ends = ends;
+            let workers = files.len() as u32;
+            let asked = work_all(
+                rt, alloc, scope, share, gate, workers, files, asks, &mut seats, &mut main,
+                &mut ends,
+            );
+            (asked, main, ends)
+        },
+    )
+}
