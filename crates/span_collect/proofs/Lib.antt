@@ -2,3 +2,5 @@ pub mod Counting
 pub mod Recording
 pub mod Meeting
 pub mod Settling
+pub mod EndLines
+pub mod Statuses

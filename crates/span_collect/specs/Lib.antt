@@ -1,3 +1,6 @@
 pub mod Account
 pub mod Work
 pub mod Collection
+pub mod FaultLines
+pub mod Run
+pub mod Words

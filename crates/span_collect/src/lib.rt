@@ -2,13 +2,21 @@
 #![tactic(auto)]
 
 mod collection;
+mod faults;
 mod files;
 mod gate;
 mod queries;
+mod runs;
+mod words;
 mod worker;
 mod workers;
 
 pub use collection::{CollectError, Outcome, collect};
+pub use faults::fault_lines;
 pub use files::{FileEnd, Input};
 pub use gate::{FreeGate, Gate};
 pub use queries::Asked;
+pub use runs::{RunEnd, RunError, run};
+pub use span_ledger::{Cause, Ledger, Query, Text};
+pub use span_report::{Sink, SinkFault, Writer};
+pub use words::fault_word;

@@ -1,0 +1,20 @@
+-- The statuses of runs.
+use Rattle.std.proofs.Common.{◌≡◌, ◌<◌, List, Bool, true, false, ◌||◌, refl, arith}
+use Rattle.std.specs.Prelude.{if◌then◌else◌, ℕ}
+use Rattle.std.specs.List.{list_any}
+use Rattle.std.specs.Option.{is_some}
+use Rattle.span_collect.specs.declared.files.FileEnd.{FileEnd}
+use Rattle.span_collect.specs.declared.queries.Asked.{Asked}
+use Rattle.span_collect.specs.Run.{is_cut, is_refused, status_of}
+
+abbrev status : Bool → Bool → ℕ
+status cut refused = if cut then 2 else if refused then 1 else 0
+
+status-lt : (cut refused : Bool) → (status cut refused ≡ 2 → ⊥) → status cut refused < 2
+status-lt true refused none = absurd (none refl)
+status-lt false true none = omega arith
+status-lt false false none = omega arith
+
+-- a status that is not 2 is 0 or 1
+pub status_of-lt : (ends : List FileEnd) (asked : Asked) → (status_of ends asked ≡ 2 → ⊥) → status_of ends asked < 2
+status_of-lt ends asked none = status-lt (list_any is_cut ends || is_some asked.cause) (list_any is_refused ends) none

@@ -1,0 +1,33 @@
+-- The lines that say how files failed.
+use Rattle.std.specs.Prelude.{ℕ, List, [], ◌∷◌, ◌++◌, codes, decimal}
+use Rattle.span_ledger.specs.Refusal.{code_of}
+use Rattle.span_collect.specs.declared.files.FileEnd.{FileEnd}
+use Rattle.span_collect.specs.declared.files.FileEnd.TheVariants.{Read, Refused, Stopped, NotStarted}
+use Rattle.span_collect.specs.declared.files.Input.{Input}
+use Rattle.span_report.specs.Lines.{line_of, json_text_of}
+use Rattle.span_collect.specs.Words.{numbered}
+
+-- the program, and the file's name as JSON text
+abbrev pub about_file : List ℕ → List ℕ → List ℕ
+about_file name rest = codes "tracebook: " ++ (json_text_of name ++ (codes ": " ++ rest))
+
+-- the line of a file and a fault
+unfoldable pub fault_line : List ℕ → ℕ → List ℕ
+fault_line name code = about_file name (line_of (numbered code ∷ []))
+
+-- the same where some items were taken before
+unfoldable pub stop_line : List ℕ → ℕ → ℕ → List ℕ
+stop_line name code done = about_file name (line_of (numbered code ∷ codes "after" ∷ decimal done ∷ []))
+
+-- the line of a file's end; a file that was read whole has none
+abbrev pub end_line : List ℕ → FileEnd → List ℕ
+end_line name (Read caller items) = []
+end_line name (Refused caller code) = fault_line name code
+end_line name (Stopped caller done cause) = stop_line name (code_of cause) done
+end_line name NotStarted = fault_line name 42
+
+-- the lines of all files, each with its end
+abbrev pub end_lines : List Input → List FileEnd → List ℕ
+end_lines [] ends = []
+end_lines (file ∷ files) [] = []
+end_lines (file ∷ files) (end ∷ ends) = end_line file.name end ++ end_lines files ends

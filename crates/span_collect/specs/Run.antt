@@ -1,0 +1,62 @@
+-- What a run does.
+use Rattle.std.specs.Prelude.{◌≡◌, ℕ, ◌<◌, ◌≤◌, Bool, true, false, ◌||◌, if◌then◌else◌, List, length, take, Option, Some, None}
+use Rattle.std.specs.List.{list_any}
+use Rattle.std.specs.Option.{is_some}
+use Rattle.span_ledger.specs.declared.entry.Entry.{Entry}
+use Rattle.span_ledger.specs.declared.query.Query.{Query}
+use Rattle.span_report.specs.Report.{report_of}
+use Rattle.span_report.specs.Sink.{SinkState, Takes, Fails}
+use Rattle.span_collect.specs.declared.files.FileEnd.{FileEnd}
+use Rattle.span_collect.specs.declared.files.FileEnd.TheVariants.{Refused, Stopped, NotStarted}
+use Rattle.span_collect.specs.declared.files.Input.{Input}
+use Rattle.span_collect.specs.declared.queries.Asked.{Asked}
+use Rattle.span_collect.specs.declared.runs.RunEnd.{RunEnd}
+use Rattle.span_collect.specs.declared.runs.RunError.{RunError}
+use Rattle.span_collect.specs.declared.runs.RunError.TheVariants.{FileCount, Memory, Unaccounted, Output}
+use Rattle.span_collect.specs.Account.{Account}
+
+abbrev pub code_of : RunError → ℕ
+code_of FileCount = 41
+code_of Memory = 31
+code_of (Unaccounted entries calls) = 43
+code_of (Output written) = 51
+
+-- the file stopped, or was not started
+abbrev pub is_cut : FileEnd → Bool
+is_cut (Stopped caller done cause) = true
+is_cut NotStarted = true
+is_cut end = false
+
+abbrev pub is_refused : FileEnd → Bool
+is_refused (Refused caller code) = true
+is_refused end = false
+
+-- 2 where a file stopped or was not started, or a query was not taken; else 1 where a file was refused, else 0
+abbrev pub status_of : List FileEnd → Asked → ℕ
+status_of ends asked = if list_any is_cut ends || is_some asked.cause then 2 else if list_any is_refused ends then 1 else 0
+
+-- a journal accounts for the files and the queries; unless the status is 2 its report was written, else nothing
+pub record IsRunOf (files : List Input) (asks : List Query) (limit : ℕ) (run : RunEnd) (old new : SinkState) : Type 0 where
+  pub journal : List Entry
+  pub account : Account files asks limit run.ends.items run.asked journal
+  pub status : run.status ≡ status_of run.ends.items run.asked
+  pub written : run.status < 2 → Takes old new (report_of journal)
+  pub silent : run.status ≡ 2 → new ≡ old
+
+-- a journal accounts for the files, each read or refused, and for all queries, and just the first `written` bytes of its report
+-- were written
+pub record IsCutShort (files : List Input) (asks : List Query) (limit : ℕ) (written : ℕ) (old new : SinkState) : Type 0 where
+  pub ends : List FileEnd
+  pub asked : Asked
+  pub journal : List Entry
+  pub account : Account files asks limit ends asked journal
+  pub status : status_of ends asked < 2
+  pub within : written ≤ length (report_of journal)
+  pub output : Fails old new (take written (report_of journal))
+
+-- what a refused run leaves: only a failed output took bytes
+abbrev pub LeavesOutput : RunError → List Input → List Query → ℕ → SinkState → SinkState → Type 0
+LeavesOutput FileCount files asks limit old new = new ≡ old
+LeavesOutput Memory files asks limit old new = new ≡ old
+LeavesOutput (Unaccounted entries calls) files asks limit old new = new ≡ old
+LeavesOutput (Output written) files asks limit old new = IsCutShort files asks limit written old new

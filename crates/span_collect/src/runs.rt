@@ -1,0 +1,122 @@
+//! A run: files are collected, and their report is written.
+ghost use Rattle.std.specs.Prelude.{◌≡◌, ◌-◌, ◌^◌, ◌<◌, ◌↔◌, Err, IfOk, IfErr};
+ghost use Rattle.std.specs.List.{list_any};
+ghost use Rattle.span_collect.specs.Collection.{AreNoneOrTooMany};
+ghost use Rattle.span_collect.specs.Run.{code_of, is_cut, is_refused, status_of, IsRunOf, LeavesOutput};
+
+use crate::collection::{CollectError, collect};
+use crate::files::{FileEnd, Input};
+use crate::gate::FreeGate;
+use crate::queries::Asked;
+use span_ledger::Query;
+use span_report::{Sink, WriteFault, write_report};
+use std::alloc::Global;
+use std::sync::Wait;
+use std::thread::Threads;
+use thiserror::Error;
+
+/// How a run ended.
+#[derive(Debug, Drop)]
+pub struct RunEnd {
+    /// 0 where every file was read, 1 where one was refused; 2 where one stopped or was not started, or a query was not taken: then
+    /// nothing was written.
+    pub status: u8,
+    /// One end for each file, in order.
+    pub ends: Vec<FileEnd>,
+    pub asked: Asked,
+}
+
+/// Why there is no run.
+#[derive(Debug, Drop, Error)]
+pub enum RunError {
+    /// 41: there is no file, or there are more than 64.
+    #[error("no file, or more than 64")]
+    FileCount,
+    /// 31: memory was refused, and nothing was written.
+    #[error("out of memory")]
+    Memory,
+    /// 43: the journal has another number of entries than the callers say that they recorded, and nothing was written.
+    #[error("{entries} entries, but {calls} calls were taken")]
+    Unaccounted { entries: u32, calls: u32 },
+    /// 51: the output failed after this many bytes of the report.
+    #[error("the output failed after {written} bytes")]
+    Output { written: u64 },
+}
+
+impl RunError {
+    /// 31 for want of memory, 41 for the count of files, 43 for a difference, 51 for the output.
+    pub fn code(&self) -> u16
+        ensures { result ≡ code_of self.now }
+    {
+        match self {
+            RunError::FileCount => 41,
+            RunError::Memory => 31,
+            RunError::Unaccounted { .. } => 43,
+            RunError::Output { .. } => 51,
+        }
+    }
+}
+
+/// Collects 1 to 64 files, with one worker for each in threads of their own, and writes the report of their journal.
+pub fn run<O: Sink, R: Threads + Wait + Sync>(
+    rt: &R,
+    alloc: Global,
+    files: &[Input],
+    asks: &[Query],
+    limit: u32,
+    out: &mut O,
+) -> Result<RunEnd, RunError>
+    requires { (O.state out.old).failures < 2 ^ 64 - 1 }
+    ensures run { IfOk result (λ run. IsRunOf files.now asks.now limit run (O.state out.old) (O.state out.new)) }
+    ensures count { (result ≡ Err RunError.FileCount) ↔ AreNoneOrTooMany files.now }
+    ensures error { IfErr result
+        (λ error. LeavesOutput error files.now asks.now limit (O.state out.old) (O.state out.new)) }
+{
+    let outcome = match collect(rt, alloc, files, asks, &FreeGate, limit) {
+        Ok(outcome) => outcome,
+        Err(CollectError::FileCount) => return Err(RunError::FileCount),
+        Err(CollectError::Memory) => return Err(RunError::Memory),
+        Err(CollectError::Unaccounted { entries, calls }) => {
+            return Err(RunError::Unaccounted { entries, calls });
+        }
+    };
+    let status = exit_status(&outcome.files, outcome.asked);
+    let end = RunEnd {
+        status,
+        ends: outcome.files,
+        asked: outcome.asked,
+    };
+    if status == 2 {
+        return Ok(end);
+    }
+    match write_report(alloc, &outcome.ledger, out) {
+        Ok(()) => Ok(end),
+        Err(WriteFault::Memory) => Err(RunError::Memory),
+        Err(WriteFault::Output { written }) => Err(RunError::Output { written }),
+    }
+}
+
+fn exit_status(ends: &[FileEnd], asked: Asked) -> u8
+    ensures { result ≡ status_of ends.now asked }
+{
+    if any_cut(ends) || asked.cause.is_some() {
+        2
+    } else if any_refused(ends) {
+        1
+    } else {
+        0
+    }
+}
+
+fn any_cut(ends: &[FileEnd]) -> bool
+    ensures { result ≡ list_any is_cut ends.now }
+{
+    ends.iter().any(|end| matches!(end, FileEnd::Stopped { .. } | FileEnd::NotStarted))
+}
+
+fn any_refused(ends: &[FileEnd]) -> bool
+    ensures { result ≡ list_any is_refused ends.now }
+{
+    ends.iter()
+        .any(|end| matches!(end, FileEnd::Refused { .. }))
+}
