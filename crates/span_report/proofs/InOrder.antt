@@ -1,6 +1,6 @@
 -- The rows of a journal are in order.
-use Rattle.std.proofs.Common.{◌≡◌, false, List, [], ◌∷◌, ◌++◌, refl, ap, ap₂, ◌∙◌, map, Option, Some, None}
-use Rattle.std.specs.Prelude.{fold, flat_map, filter_map}
+use Rattle.std.proofs.Common.{◌≡◌, ℕ, Bool, true, false, nat_eq, List, [], ◌∷◌, ◌++◌, refl, sym, ap, ap₂, ◌∙◌, map, Option, Some, None}
+use Rattle.std.specs.Prelude.{fold, flat_map, filter_map, if◌then◌else◌}
 use Rattle.std.specs.List.{AllByRecursion}
 use Rattle.std.specs.List.Sorted.{IsStrictlySortedBy}
 use Rattle.std.specs.declared.cmp.Ordering.{Ordering}
@@ -11,23 +11,28 @@ use Rattle.std.specs.BTreeSet.{insert_key}
 use Rattle.std.specs.List.{cons_option}
 use Rattle.std.specs.Option.{option_cmp}
 use Rattle.std.specs.Cmp.Lexicographic.{slice_cmp}
+use Rattle.std.proofs.lemmas.List.Folds.{flat_map-map}
+use Rattle.span_read.specs.declared.event.Reach.{Reach}
+use Rattle.span_read.specs.declared.event.Reach.TheVariants.{Global, Process, Thread as thread_reach}
 use Rattle.span_read.specs.Orders.{id_cmp}
 use Rattle.span_track.specs.declared.keys.SeriesKey.{SeriesKey}
-use Rattle.span_track.specs.declared.counter_track.SeriesRow.{SeriesRow}
-use Rattle.span_track.specs.Keyed.{entry_of}
+use Rattle.span_track.specs.declared.meta_track.instants.InstantRow.{InstantRow}
+use Rattle.span_track.specs.Keyed.{steps_at, keys_in, entry_of}
 use Rattle.span_track.specs.Counters.{Series, series_cmp, series_from, series_keys, series_row}
+use Rattle.span_track.specs.Instants.{ThreadKey, thread_cmp as key_cmp, ReachCounts, NamesCounted, names_counted, instants_in, instant_row, rows_of_name, rows_of_thread}
 use Rattle.span_track.proofs.Orders.{series_cmp-total}
+use Rattle.span_track.proofs.Instants.{thread_cmp-total as key_cmp-total}
 use Rattle.span_track.specs.Nesting.{closed_spans}
 use Rattle.span_ledger.specs.declared.entry.Entry.{Entry}
 use Rattle.span_ledger.specs.declared.thread.Thread.{Thread}
 use Rattle.span_ledger.specs.declared.rows.ProcessRow.{ProcessRow}
 use Rattle.span_ledger.specs.declared.rows.ThreadRow.{ThreadRow}
 use Rattle.span_ledger.specs.Journal.{accepted}
-use Rattle.span_ledger.specs.Told.{Words, told, listed_by, thread_events, counter_events}
-use Rattle.span_ledger.specs.Rows.{ascending, process_keys, thread_keys, process_row, thread_row, span_row, thread_span_rows}
+use Rattle.span_ledger.specs.Told.{Words, told, listed_by, thread_events, counter_events, meta_events}
+use Rattle.span_ledger.specs.Rows.{ascending, thread_cmp, process_keys, thread_keys, process_row, thread_row, span_row, thread_span_rows}
 use Rattle.span_ledger.proofs.Threads.{thread_cmp-total}
 use Rattle.span_report.specs.Report.{rows_of}
-use Rattle.span_report.specs.Parts.{AreAscending, RowsAreInOrder, pid_of_series, thread_of_span}
+use Rattle.span_report.specs.Parts.{AreAscending, RowsAreInOrder, pid_of_series, thread_of_span, thread_of_instant}
 use Rattle.span_report.proofs.Walks.{AllByRecursion-map}
 use Rattle.span_report.proofs.Under.{not_above}
 
@@ -130,15 +135,52 @@ series-ascending give (k ∷ keys) sorted = by (give k) (series-ascending give k
     by None rest next = rest
     by (Some s) rest next = (next, rest)
 
+AllByRecursion-append : {A : Type 0} (P : A → Type 0) (xs ys : List A) → AllByRecursion P xs → AllByRecursion P ys → AllByRecursion P (xs ++ ys)
+AllByRecursion-append P [] ys first second = second
+AllByRecursion-append P (x ∷ xs) ys first second = (first.0, AllByRecursion-append P xs ys first.1 second)
+
+AllByRecursion-flat_map : {A B : Type 0} (P : B → Type 0) (f : A → List B) → ((x : A) → AllByRecursion P (f x)) → (xs : List A) → AllByRecursion P (flat_map f xs)
+AllByRecursion-flat_map P f each [] = tt
+AllByRecursion-flat_map P f each (x ∷ xs) = AllByRecursion-append P (f x) (flat_map f xs) (each x) (AllByRecursion-flat_map P f each xs)
+
+-- an order of keys is that of what stands for them
+AreAscending-same : {R K L : Type 0} (c : K → K → Ordering) (d : L → L → Ordering) (key : R → K) (owner : R → L) → ((a b : R) → c (key a) (key b) ≡ d (owner a) (owner b)) → (rows : List R) → AreAscending c key rows → AreAscending d owner rows
+AreAscending-same c d key owner same [] up = tt
+AreAscending-same c d key owner same (row ∷ rows) up =
+    (AllByRecursion-map (λ next. is_gt (c (key row) (key next)) ≡ false) (λ next. is_gt (d (owner row) (owner next)) ≡ false) (λ next (below : is_gt (c (key row) (key next)) ≡ false). ap is_gt (sym (same row next)) ∙ below) rows up.0, AreAscending-same c d key owner same rows up.1)
+
+abbrev key_of : InstantRow → ThreadKey
+key_of row = (row.pid, row.tid)
+
+instant_row-made : (thread : ThreadKey) (name : List ℕ) (reach : Reach) (count : ℕ) → AllByRecursion (λ row. key_of row ≡ thread) (instant_row thread name reach count)
+instant_row-made thread name reach count = by (nat_eq count 0)
+  where
+    by : (b : Bool) → AllByRecursion (λ row. key_of row ≡ thread) (if b then [] else record { pid = thread.0; tid = thread.1; name = name; reach = reach; count = count } ∷ [])
+    by true = tt
+    by false = (refl, tt)
+
+rows_of_name-made : (thread : ThreadKey) (x : List ℕ × ReachCounts) → AllByRecursion (λ row. key_of row ≡ thread) (rows_of_name thread x)
+rows_of_name-made thread (name, counts) =
+    AllByRecursion-append _ (instant_row thread name Global counts.global) _ (instant_row-made thread name Global counts.global)
+    (AllByRecursion-append _ (instant_row thread name Process counts.process) _ (instant_row-made thread name Process counts.process) (instant_row-made thread name thread_reach counts.thread))
+
+-- rows of instants ascend by thread
+instants-ascending : (give : ThreadKey → NamesCounted) (keys : List ThreadKey) → IsStrictlySortedBy key_cmp keys → AreAscending thread_cmp thread_of_instant (flat_map rows_of_thread (map (entry_of give) keys))
+instants-ascending give keys sorted =
+    rw (flat_map-map rows_of_thread (entry_of give) keys) (AreAscending-same key_cmp thread_cmp key_of thread_of_instant (λ a b. refl) _
+    (flat_map-ascending key_cmp-total key_of (λ k. rows_of_thread (entry_of give k)) (λ k. AllByRecursion-flat_map (λ row. key_of row ≡ k) (rows_of_name k) (rows_of_name-made k) (give k)) keys sorted))
+
 pub rows_of-in_order : (journal : List Entry) → RowsAreInOrder (rows_of journal)
 rows_of-in_order journal =
     let threads = ascending-sorted thread_cmp-total (filter_map (λ a. listed_by (told a)) (accepted journal)) in
     let events = counter_events (accepted journal) in
+    let instants = instants_in (meta_events (accepted journal)) in
     record {
       processes = map-sorted int_cmp_total (λ (row : ProcessRow). row.pid) (process_row journal) (λ pid. refl) (process_keys (accepted journal)) (ascending-sorted int_cmp_total (map (λ a. a.event.pid) (accepted journal)));
       parts = record {
         threads = map-sorted thread_cmp-total (λ (row : ThreadRow). record { pid = row.pid; tid = row.tid }) (thread_row journal) (λ thread. refl) (thread_keys (accepted journal)) threads;
         spans = flat_map-ascending thread_cmp-total thread_of_span (thread_span_rows journal) (span_rows-made journal) (thread_keys (accepted journal)) threads;
+        instants = instants-ascending (λ thread. names_counted (steps_at key_cmp thread instants)) (keys_in key_cmp instants) (ascending-sorted key_cmp-total (map (λ s. s.key) instants));
         series = series-ascending (series_from events) (ascending series_cmp (flat_map series_keys events)) (ascending-sorted series_cmp-total (flat_map series_keys events));
       };
     }

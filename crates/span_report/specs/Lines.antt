@@ -3,6 +3,8 @@ use Rattle.std.specs.Prelude.{ℕ, ◌-◌, ℤ, List, [], ◌∷◌, ◌++◌, 
 use Rattle.std.specs.Fmt.{signed_decimal}
 use Rattle.json.specs.Print.{quoted}
 use Rattle.span_read.specs.declared.event.IdKey.{IdKey}
+use Rattle.span_read.specs.declared.event.Reach.{Reach}
+use Rattle.span_read.specs.declared.event.Reach.TheVariants.{Global, Process, Thread}
 use Rattle.span_track.specs.declared.async_track.AsyncRow.{AsyncRow}
 use Rattle.span_track.specs.declared.counter_track.SeriesRow.{SeriesRow}
 use Rattle.span_track.specs.declared.counter_track.SeriesTotals.{SeriesTotals}
@@ -11,6 +13,7 @@ use Rattle.span_ledger.specs.declared.rows.CountRow.{CountRow}
 use Rattle.span_ledger.specs.declared.rows.ProcessRow.{ProcessRow}
 use Rattle.span_ledger.specs.declared.rows.ThreadRow.{ThreadRow}
 use Rattle.span_ledger.specs.declared.rows.SpanRow.{SpanRow}
+use Rattle.span_track.specs.declared.meta_track.instants.InstantRow.{InstantRow}
 
 -- the words with one blank between them, ended by a line feed
 abbrev pub line_of : List (List ℕ) → List ℕ
@@ -45,6 +48,15 @@ thread_line row = line_of (codes "thread" ∷ signed_decimal row.pid ∷ signed_
 
 unfoldable pub span_line : SpanRow → List ℕ
 span_line row = line_of (codes "span" ∷ right_in 8 (decimal row.count) ∷ right_in 16 (decimal row.total) ∷ right_in 16 (decimal row.self_time) ∷ json_text_of row.name ∷ [])
+
+-- the letter of a reach in a trace
+abbrev pub reach_text : Reach → List ℕ
+reach_text Global = codes "g"
+reach_text Process = codes "p"
+reach_text Thread = codes "t"
+
+unfoldable pub instant_line : InstantRow → List ℕ
+instant_line row = line_of (codes "instant" ∷ reach_text row.reach ∷ right_in 8 (decimal row.count) ∷ json_text_of row.name ∷ [])
 
 -- a process and a colon before the text of an id that belongs to a process
 abbrev pub with_home : Option ℤ → List ℕ → List ℕ

@@ -10,6 +10,7 @@ use Rattle.span_track.specs.declared.counter_track.SeriesRow.{SeriesRow}
 use Rattle.span_ledger.specs.declared.thread.Thread.{Thread}
 use Rattle.span_ledger.specs.declared.rows.ThreadRow.{ThreadRow}
 use Rattle.span_ledger.specs.declared.rows.SpanRow.{SpanRow}
+use Rattle.span_track.specs.declared.meta_track.instants.InstantRow.{InstantRow}
 use Rattle.span_ledger.specs.Rows.{thread_cmp}
 use Rattle.span_report.specs.Report.{PartRows, AllRows}
 
@@ -18,6 +19,9 @@ thread_of_row row = record { pid = row.pid; tid = row.tid }
 
 abbrev pub thread_of_span : SpanRow → Thread
 thread_of_span row = record { pid = row.pid; tid = row.tid }
+
+abbrev pub thread_of_instant : InstantRow → Thread
+thread_of_instant row = record { pid = row.pid; tid = row.tid }
 
 module _ {R K : Type 0} (cmp : K → K → Ordering) (key : R → K) where
   -- no row has a key above that of a later one
@@ -53,15 +57,20 @@ series_in = rows_at int_cmp pid_of_series
 abbrev pub spans_on : Thread → List SpanRow → List SpanRow
 spans_on = rows_at thread_cmp thread_of_span
 
+abbrev pub instants_on : Thread → List InstantRow → List InstantRow
+instants_on = rows_at thread_cmp thread_of_instant
+
 pub record AreInOrder (parts : PartRows) : Type 0 where
   pub threads : IsStrictlySortedBy (λ a b. thread_cmp (thread_of_row a) (thread_of_row b)) parts.threads
   pub spans : AreAscending thread_cmp thread_of_span parts.spans
+  pub instants : AreAscending thread_cmp thread_of_instant parts.instants
   pub series : AreAscending int_cmp pid_of_series parts.series
 
 -- what stands under later threads is still there
 pub record IsPastThread (thread : Thread) (old new : PartRows) : Type 0 where
   pub threads : new.threads ≡ old.threads
   pub spans : (later : Thread) → thread_cmp thread later ≡ Less → spans_on later new.spans ≡ spans_on later old.spans
+  pub instants : (later : Thread) → thread_cmp thread later ≡ Less → instants_on later new.instants ≡ instants_on later old.instants
   pub series : new.series ≡ old.series
   pub order : AreInOrder new
 
@@ -69,6 +78,7 @@ pub record IsPastThread (thread : Thread) (old new : PartRows) : Type 0 where
 pub record IsPastProcess (pid : ℤ) (old new : PartRows) : Type 0 where
   pub threads : (later : ℤ) → int_cmp pid later ≡ Less → threads_in later new.threads ≡ threads_in later old.threads
   pub spans : (later : Thread) → int_cmp pid later.pid ≡ Less → spans_on later new.spans ≡ spans_on later old.spans
+  pub instants : (later : Thread) → int_cmp pid later.pid ≡ Less → instants_on later new.instants ≡ instants_on later old.instants
   pub series : (later : ℤ) → int_cmp pid later ≡ Less → series_in later new.series ≡ series_in later old.series
   pub order : AreInOrder new
 

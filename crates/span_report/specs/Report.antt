@@ -9,13 +9,15 @@ use Rattle.span_ledger.specs.declared.rows.CountRow.{CountRow}
 use Rattle.span_ledger.specs.declared.rows.ProcessRow.{ProcessRow}
 use Rattle.span_ledger.specs.declared.rows.ThreadRow.{ThreadRow}
 use Rattle.span_ledger.specs.declared.rows.SpanRow.{SpanRow}
-use Rattle.span_ledger.specs.Rows.{count_row, process_rows, thread_rows, span_rows, series_rows, async_rows, flow_rows}
-use Rattle.span_report.specs.Lines.{first_line, count_line, process_line, thread_line, span_line, counter_line, async_lines, flow_lines}
+use Rattle.span_track.specs.declared.meta_track.instants.InstantRow.{InstantRow}
+use Rattle.span_ledger.specs.Rows.{count_row, process_rows, thread_rows, span_rows, instant_rows, series_rows, async_rows, flow_rows}
+use Rattle.span_report.specs.Lines.{first_line, count_line, process_line, thread_line, span_line, instant_line, counter_line, async_lines, flow_lines}
 
 -- the rows that a report prints below those of processes
 pub record PartRows : Type 0 where
   pub threads : List ThreadRow
   pub spans : List SpanRow
+  pub instants : List InstantRow
   pub series : List SeriesRow
 
 -- all rows that a report prints, in the order in which it prints them
@@ -31,7 +33,7 @@ abbrev pub rows_of : List Entry → AllRows
 rows_of journal = record {
   counts = count_row journal;
   processes = process_rows journal;
-  parts = record { threads = thread_rows journal; spans = span_rows journal; series = series_rows journal };
+  parts = record { threads = thread_rows journal; spans = span_rows journal; instants = instant_rows journal; series = series_rows journal };
   asynchronous = async_rows journal;
   flows = flow_rows journal;
 }
@@ -42,9 +44,13 @@ is_in_process process thread = int_eq thread.pid process.pid
 abbrev pub is_on_thread : ThreadRow → SpanRow → Bool
 is_on_thread thread span = int_eq span.pid thread.pid && int_eq span.tid thread.tid
 
--- the line of a thread, and after it one for each of its names
+abbrev pub is_instant_on : ThreadRow → InstantRow → Bool
+is_instant_on thread row = int_eq row.pid thread.pid && int_eq row.tid thread.tid
+
+-- the line of a thread, after it one for each of its names, and then one for each name and reach of its instants
 abbrev pub thread_lines : PartRows → ThreadRow → List ℕ
-thread_lines parts thread = thread_line thread ++ flat_map span_line (filter (is_on_thread thread) parts.spans)
+thread_lines parts thread =
+    thread_line thread ++ (flat_map span_line (filter (is_on_thread thread) parts.spans) ++ flat_map instant_line (filter (is_instant_on thread) parts.instants))
 
 abbrev pub is_series_in : ProcessRow → SeriesRow → Bool
 is_series_in process row = int_eq row.key.pid process.pid

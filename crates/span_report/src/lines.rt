@@ -1,11 +1,11 @@
 //! The lines of a report, each appended to a text.
 ghost use Rattle.std.specs.Prelude.{◌≡◌, ◌++◌, string_bytes, OnOk, IfOk};
-ghost use Rattle.span_report.specs.Lines.{first_line, count_line, process_line, thread_line, span_line, name_text, json_text_of, id_text, any_id_text, counter_line, samples_text, async_line, flow_line};
+ghost use Rattle.span_report.specs.Lines.{first_line, count_line, process_line, thread_line, span_line, name_text, json_text_of, reach_text, instant_line, id_text, any_id_text, counter_line, samples_text, async_line, flow_line};
 
 use serde_json::Value;
 use span_ledger::{
-    AsyncRow, CountRow, FlowRow, IdKey, ProcessRow, SeriesRow, SeriesTotals, SpanRow, Text,
-    ThreadRow,
+    AsyncRow, CountRow, FlowRow, IdKey, InstantRow, ProcessRow, Reach, SeriesRow, SeriesTotals,
+    SpanRow, Text, ThreadRow,
 };
 use std::alloc::{AllocError, Global};
 
@@ -78,6 +78,29 @@ pub(crate) fn put_span(alloc: Global, out: &mut String, row: &SpanRow) -> Result
     let name = json_text(alloc, &row.name)?;
     let (count, total, self_time) = (row.count, row.total, row.self_time);
     writeln!(out, "span {count:>8} {total:>16} {self_time:>16} {name}")
+}
+
+fn letter_of(reach: Reach) -> &'static str
+    ensures { result.now ≡ reach_text reach }
+{
+    match reach {
+        Reach::Global => "g",
+        Reach::Process => "p",
+        Reach::Thread => "t",
+    }
+}
+
+#[tactic(auto, using(crate::proofs::Padding::padded_integral_right), unfolding(crate::specs::Lines::instant_line))]
+pub(crate) fn put_instant(
+    alloc: Global,
+    out: &mut String,
+    row: &InstantRow,
+) -> Result<(), AllocError>
+    ensures { OnOk result (string_bytes out.new ≡ string_bytes out.old ++ instant_line row.now) }
+{
+    let name = json_text(alloc, &row.name)?;
+    let (reach, count) = (letter_of(row.reach), row.count);
+    writeln!(out, "instant {reach} {count:>8} {name}")
 }
 
 #[tactic(auto, unfolding(crate::specs::Lines::id_text))]

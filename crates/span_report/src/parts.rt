@@ -3,9 +3,9 @@ ghost use Rattle.std.specs.Prelude.{◌≡◌, ℤ};
 ghost use Rattle.std.specs.Ordering.{int_cmp};
 ghost use Rattle.span_ledger.specs.declared.thread.Thread.{Thread};
 ghost use Rattle.span_ledger.specs.Rows.{thread_cmp};
-ghost use Rattle.span_report.specs.Parts.{AreAscending, IsNext, pid_of_series, thread_of_row, thread_of_span};
+ghost use Rattle.span_report.specs.Parts.{AreAscending, IsNext, pid_of_series, thread_of_instant, thread_of_row, thread_of_span};
 
-use span_ledger::{ProcessRow, SeriesRow, SpanRow, ThreadRow};
+use span_ledger::{InstantRow, ProcessRow, SeriesRow, SpanRow, ThreadRow};
 use std::cmp::Ordering;
 use std::marker::Model;
 
@@ -54,11 +54,23 @@ impl OnThread for SpanRow {
     }
 }
 
+impl OnThread for InstantRow {
+    ghost owner = { thread_of_instant };
+
+    fn thread_order(&self, thread: &ThreadRow) -> Ordering {
+        match self.pid.cmp(&thread.pid) {
+            Ordering::Equal => self.tid.cmp(&thread.tid),
+            order => order,
+        }
+    }
+}
+
 /// The rows of threads, of what they did and of series that no process has taken yet.
 #[derive(Drop)]
 pub(crate) struct Parts<'a> {
     pub(crate) threads: &'a [ThreadRow],
     pub(crate) spans: &'a [SpanRow],
+    pub(crate) instants: &'a [InstantRow],
     pub(crate) series: &'a [SeriesRow],
 }
 
@@ -67,7 +79,7 @@ impl<'a> Model for Parts<'a> {
 
     ghost Value = { PartRows };
 
-    ghost view = { λ p. record { threads = p.threads.now; spans = p.spans.now; series = p.series.now } };
+    ghost view = { λ p. record { threads = p.threads.now; spans = p.spans.now; instants = p.instants.now; series = p.series.now } };
 }
 
 /// Takes the next row of the process, and passes those of processes below it.

@@ -2,7 +2,9 @@
 ghost use Rattle.std.specs.Prelude.{◌≡◌, IfOk};
 ghost use Rattle.span_report.specs.Report.{rows_of};
 
-use span_ledger::{AsyncRow, CountRow, FlowRow, Ledger, ProcessRow, SeriesRow, SpanRow, ThreadRow};
+use span_ledger::{
+    AsyncRow, CountRow, FlowRow, InstantRow, Ledger, ProcessRow, SeriesRow, SpanRow, ThreadRow,
+};
 use std::alloc::{AllocError, Global};
 use std::marker::Model;
 
@@ -13,6 +15,7 @@ pub(crate) struct Rows {
     pub(crate) processes: Vec<ProcessRow>,
     pub(crate) threads: Vec<ThreadRow>,
     pub(crate) spans: Vec<SpanRow>,
+    pub(crate) instants: Vec<InstantRow>,
     pub(crate) series: Vec<SeriesRow>,
     pub(crate) asynchronous: Vec<AsyncRow>,
     pub(crate) flows: Vec<FlowRow>,
@@ -26,7 +29,7 @@ impl Model for Rows {
     ghost view = { λ r. record {
       counts = r.counts;
       processes = r.processes.items;
-      parts = record { threads = r.threads.items; spans = r.spans.items; series = r.series.items };
+      parts = record { threads = r.threads.items; spans = r.spans.items; instants = r.instants.items; series = r.series.items };
       asynchronous = r.asynchronous.items;
       flows = r.flows.items;
     } };
@@ -41,6 +44,7 @@ impl Rows {
             processes: ledger.processes(alloc)?,
             threads: ledger.threads(alloc)?,
             spans: ledger.span_rows(alloc)?,
+            instants: ledger.instant_rows(alloc)?,
             series: ledger.series_rows(alloc)?,
             asynchronous: ledger.async_rows(alloc)?,
             flows: ledger.flow_rows(alloc)?,

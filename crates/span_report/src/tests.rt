@@ -79,6 +79,23 @@ fn prints_asynchronous_keys_and_flow_keys(rt: HostRuntime) -> Result<(), Fail> {
 }
 
 #[test]
+fn prints_names_and_the_instants_of_a_thread(rt: HostRuntime) -> Result<(), Fail> {
+    for (events, want) in [
+        (
+            "[{\"ph\":\"M\",\"name\":\"process_name\",\"pid\":1,\"tid\":2,\"args\":{\"name\":\"Browser\"}},{\"ph\":\"M\",\"name\":\"thread_name\",\"pid\":1,\"tid\":2,\"args\":{\"name\":\"Main\"}},{\"ph\":\"M\",\"name\":\"process_name\",\"pid\":1,\"tid\":2,\"args\":{\"name\":\"Renderer\"}},{\"ph\":\"M\",\"name\":\"process_labels\",\"pid\":1,\"tid\":2,\"args\":{\"labels\":\"tab\"}},{\"ph\":\"M\",\"name\":\"process_sort_index\",\"pid\":1,\"tid\":2,\"args\":{\"sort_index\":-6}},{\"ph\":\"M\",\"name\":\"thread_name\",\"pid\":1,\"tid\":2,\"args\":{\"name\":5}},{\"ph\":\"i\",\"name\":\"gc\",\"ts\":3,\"pid\":1,\"tid\":2,\"s\":\"p\"}]",
+            "tracebook 1\nevents 7 refused 0 skipped 0 queries 0\nprocess 1 \"Renderer\"\nthread 1 2 \"Main\" open 0 busy 0\ninstant p        1 \"gc\"\n",
+        ),
+        (
+            "[{\"ph\":\"i\",\"name\":\"b\",\"ts\":3,\"pid\":1,\"s\":\"g\"},{\"ph\":\"i\",\"name\":\"a\",\"ts\":1,\"pid\":1},{\"ph\":\"I\",\"name\":\"a\",\"ts\":2,\"pid\":1,\"s\":\"p\"},{\"ph\":\"i\",\"name\":\"a\",\"ts\":1,\"pid\":1,\"s\":\"t\"},{\"ph\":\"X\",\"name\":\"x\",\"ts\":0,\"dur\":2,\"pid\":1},{\"ph\":\"i\",\"name\":\"a\",\"ts\":1,\"tid\":-1},{\"ph\":\"i\",\"name\":\"a\",\"ts\":1,\"pid\":1,\"s\":\"q\"}]",
+            "tracebook 1\nevents 6 refused 1 skipped 0 queries 0\nprocess 0 -\nthread 0 -1 - open 0 busy 0\ninstant t        1 \"a\"\nprocess 1 -\nthread 1 0 - open 0 busy 2\nspan        1                2                2 \"x\"\ninstant p        1 \"a\"\ninstant t        2 \"a\"\ninstant g        1 \"b\"\n",
+        ),
+    ] {
+        reports(&rt, events, want)?;
+    }
+    Ok(())
+}
+
+#[test]
 fn prints_the_series_of_a_process_behind_its_threads(rt: HostRuntime) -> Result<(), Fail> {
     let events =
         "[{\"ph\":\"C\",\"name\":\"m\",\"ts\":5,\"pid\":1,\"args\":{\"k\":7}},{\"ph\":\"C\",\"name\":\"m\",\"ts\":3,\"pid\":1,\"args\":{\"k\":9}},{\"ph\":\"C\",\"name\":\"m\",\"ts\":8,\"pid\":1,\"args\":{\"k\":0.5}},{\"ph\":\"C\",\"name\":\"m\",\"id\":4,\"ts\":5,\"pid\":1,\"args\":{\"a\":-2,\"b\":1}},{\"ph\":\"X\",\"name\":\"x\",\"ts\":0,\"dur\":2,\"pid\":1},{\"ph\":\"C\",\"name\":\"n\",\"ts\":1,\"args\":{\"k\":3}}]";

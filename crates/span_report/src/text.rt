@@ -1,11 +1,12 @@
 //! The text of a report: one walk over rows that are in their order.
 ghost use Rattle.std.specs.Prelude.{◌≡◌, ◌++◌, string_bytes, filter, flat_map, OnOk, IfOk};
-ghost use Rattle.span_report.specs.Lines.{async_lines, counter_line, flow_lines};
+ghost use Rattle.span_report.specs.Lines.{async_lines, counter_line, flow_lines, instant_line, span_line};
 ghost use Rattle.span_report.specs.Report.{is_in_process, is_series_in, thread_lines, process_lines, report_text, report_of};
-ghost use Rattle.span_report.specs.Parts.{AreInOrder, IsPastThread, IsPastProcess, RowsAreInOrder, thread_of_row};
+ghost use Rattle.span_report.specs.Parts.{AreInOrder, IsPastThread, IsPastProcess, RowsAreInOrder, instants_on, spans_on, thread_of_row};
 
 use crate::lines::{
-    put_async, put_counter, put_counts, put_flow, put_process, put_span, put_thread, start,
+    put_async, put_counter, put_counts, put_flow, put_instant, put_process, put_span, put_thread,
+    start,
 };
 use crate::parts::{Parts, next_in, next_on};
 use crate::rows::Rows;
@@ -29,6 +30,7 @@ fn text_of(alloc: Global, rows: &Rows) -> Result<String, AllocError>
     let mut parts = Parts {
         threads: &rows.threads,
         spans: &rows.spans,
+        instants: &rows.instants,
         series: &rows.series,
     };
     for process in &rows.processes {
@@ -100,8 +102,41 @@ fn put_thread_lines(
     ensures past { OnOk result (IsPastThread (thread_of_row thread.now) parts.old parts.new) }
 {
     put_thread(alloc, out, thread)?;
+    put_spans(alloc, out, thread, parts)?;
+    put_instants(alloc, out, thread, parts)
+}
+
+fn put_spans(
+    alloc: Global,
+    out: &mut String,
+    thread: &ThreadRow,
+    parts: &mut Parts<'_>,
+) -> Result<(), AllocError>
+    requires { AreInOrder parts.old }
+    ensures lines { OnOk result (string_bytes out.new ≡ string_bytes out.old
+        ++ flat_map span_line (spans_on (thread_of_row thread.now) parts.old.spans)) }
+    ensures past { OnOk result (IsPastThread (thread_of_row thread.now) parts.old parts.new) }
+    ensures instants { OnOk result (parts.new.instants ≡ parts.old.instants) }
+{
     while let Some(span) = next_on(&mut parts.spans, thread) {
         put_span(alloc, out, span)?;
+    }
+    Ok(())
+}
+
+fn put_instants(
+    alloc: Global,
+    out: &mut String,
+    thread: &ThreadRow,
+    parts: &mut Parts<'_>,
+) -> Result<(), AllocError>
+    requires { AreInOrder parts.old }
+    ensures lines { OnOk result (string_bytes out.new ≡ string_bytes out.old
+        ++ flat_map instant_line (instants_on (thread_of_row thread.now) parts.old.instants)) }
+    ensures past { OnOk result (IsPastThread (thread_of_row thread.now) parts.old parts.new) }
+{
+    while let Some(row) = next_on(&mut parts.instants, thread) {
+        put_instant(alloc, out, row)?;
     }
     Ok(())
 }

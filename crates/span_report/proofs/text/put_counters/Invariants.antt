@@ -8,7 +8,7 @@ use Rattle.span_report.proofs.text.put_counters.Given as goal
 abbrev pub invariant-loop-row : goal.invariant-loop-row
 invariant-loop-row l = record {
   lines : string_bytes l.out ++ flat_map counter_line (series_in l.process.pid l.parts-inside.series.now) ≡ string_bytes l.fn.out ++ flat_map counter_line (series_in l.process.pid l.fn.parts.series);
-  past : IsPastProcess l.process.pid l.fn.parts (record { threads = l.parts-inside.threads.now; spans = l.parts-inside.spans.now; series = l.parts-inside.series.now });
+  past : IsPastProcess l.process.pid l.fn.parts (record { threads = l.parts-inside.threads.now; spans = l.parts-inside.spans.now; instants = l.parts-inside.instants.now; series = l.parts-inside.series.now });
 }
 
 abbrev pub decreases-loop-row : goal.decreases-loop-row

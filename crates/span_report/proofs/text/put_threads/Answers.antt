@@ -28,7 +28,7 @@ loop-thread-smaller c =
 pub loop-thread-preserved : goal.loop-thread-preserved
 loop-thread-preserved c =
     let pid = c.args.process.now.pid in
-    let mid : PartRows = record { threads = c.parts.inside.threads.now; spans = c.parts.inside.spans.now; series = c.parts.inside.series.now } in
+    let mid : PartRows = record { threads = c.parts.inside.threads.now; spans = c.parts.inside.spans.now; instants = c.parts.inside.instants.now; series = c.parts.inside.series.now } in
     let invariant = rw (← c.parts.view_is) at c.loop-thread.invariant in
     let done = c.in_ok-put_thread_lines.ensures.past in
     let rest = thread-then_rest pid c.args.parts.now mid invariant.past c.in-Some.thread.now c.next_in.new.rest.now c.in-Some.ensures.0 c.in-Some.ensures.1 c.put_thread_lines.new.parts done in
