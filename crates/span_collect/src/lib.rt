@@ -20,3 +20,6 @@ pub use runs::{RunEnd, RunError, run};
 pub use span_ledger::{Cause, Ledger, Query, Text};
 pub use span_report::{Sink, SinkFault, Writer};
 pub use words::fault_word;
+
+#[cfg(test)]
+mod tests;

@@ -1,0 +1,265 @@
+//! Whole collections of files in memory, by threads that race. Reports and fault lines were written by hand from the format.
+use crate::{
+    Cause, CollectError, FileEnd, FreeGate, Gate, Input, Outcome, Query, RunError, Text, Writer,
+    collect, fault_lines, fault_word, run,
+};
+use span_report::report;
+use std::alloc::{AllocError, AllocGlobal, Global};
+use std::process::Abort;
+use std::sync::Wait;
+use std::sync::atomic::{AtomicBool, AtomicU32, Ordering};
+use std::test::Fail;
+use std::thread;
+use std::thread::Threads;
+
+const TURNS: u32 = 50_000_000;
+
+const FOUR: &str =
+    "[{\"ph\":\"B\",\"ts\":1},{\"ph\":\"B\",\"ts\":1},{\"ph\":\"B\",\"ts\":1},{\"ph\":\"B\",\"ts\":1}]";
+
+const TWO_REPORT: &str =
+    "tracebook 1\nevents 4 refused 0 skipped 0 queries 2\nprocess 1 -\nthread 1 2 - open 0 busy 10\nspan        1               10               10 \"a\"\nprocess 2 -\nthread 2 2 - open 0 busy 10\nspan        1               10               10 \"a\"\n";
+
+const ONE_REPORT: &str =
+    "tracebook 1\nevents 2 refused 0 skipped 0 queries 0\nprocess 1 -\nthread 1 2 - open 0 busy 10\nspan        1               10               10 \"a\"\n";
+
+// A span `a` of 10 microseconds on thread 2 of this process.
+fn span_of(alloc: Global, pid: u32) -> Result<String, AllocError> {
+    format!(in alloc;
+        "[{{\"ph\":\"B\",\"name\":\"a\",\"ts\":1,\"pid\":{pid},\"tid\":2}},{{\"ph\":\"E\",\"ts\":11,\"pid\":{pid},\"tid\":2}}]"
+    )
+}
+
+fn file_of(alloc: Global, name: &str, text: &str) -> Result<Input, AllocError> {
+    Ok(Input {
+        name: Text::of(alloc, name)?,
+        bytes: Vec::from_slice(alloc, text.as_bytes())?,
+    })
+}
+
+// So many files, each with the span of a process of its own, from number `first` on.
+fn files_of(alloc: Global, first: u32, count: u32) -> Result<Vec<Input>, AllocError> {
+    let mut files = Vec::new(alloc);
+    for place in 0..count {
+        let text = span_of(alloc, first.wrapping_add(place))?;
+        files.push(file_of(alloc, "span.json", text.as_str())?)?;
+    }
+    Ok(files)
+}
+
+// Raises a count, and yields until it has the height wanted; notes who waited in vain.
+fn wait_until(count: &AtomicU32, height: u32, late: &AtomicBool) {
+    for _ in 0..TURNS {
+        if count.load(Ordering::SeqCst) >= height {
+            return;
+        }
+        thread::yield_now();
+    }
+    late.store(true, Ordering::SeqCst);
+}
+
+// All must be reading at once, and then all, the asking seat too, must be at their second call at once.
+#[derive(Drop)]
+struct Together {
+    reading: AtomicU32,
+    telling: AtomicU32,
+    late: AtomicBool,
+}
+
+impl Gate for Together {
+    fn read(&self, _worker: u32) {
+        self.reading.fetch_add(1, Ordering::SeqCst);
+        wait_until(&self.reading, 2, &self.late);
+    }
+
+    fn pass(&self, _worker: u32, call: u32) {
+        if call == 1 {
+            self.telling.fetch_add(1, Ordering::SeqCst);
+            wait_until(&self.telling, 3, &self.late);
+        }
+    }
+}
+
+// Holds the first call of one worker until the other one is at its second.
+#[derive(Drop)]
+struct After {
+    held: u32,
+    told: AtomicU32,
+    late: AtomicBool,
+}
+
+impl Gate for After {
+    fn read(&self, _worker: u32) {}
+
+    fn pass(&self, worker: u32, call: u32) {
+        if worker == self.held && call == 0 {
+            wait_until(&self.told, 1, &self.late);
+        } else if worker < 2 && worker != self.held && call == 1 {
+            self.told.store(1, Ordering::SeqCst);
+        }
+    }
+}
+
+fn is_read(end: FileEnd, number: u32) -> bool {
+    end == FileEnd::Read {
+        caller: number,
+        items: 2,
+    }
+}
+
+fn has_report(alloc: Global, outcome: &Outcome, wanted: &str) -> Result<bool, AllocError> {
+    let text = report(alloc, &outcome.ledger)?;
+    Ok(text.as_slice() == wanted.as_bytes())
+}
+
+fn two_are_collected(rt: &(impl Abort + AllocGlobal), outcome: &Outcome) -> Result<(), Fail> {
+    assert_eq!(rt; outcome.files.len(), 2);
+    for (place, end) in outcome.files.iter().enumerate() {
+        assert!(rt; is_read(*end, (place as u32).wrapping_add(1)));
+    }
+    assert_eq!(rt; outcome.asked.done, 2);
+    assert!(rt; outcome.asked.cause.is_none());
+    assert!(rt; has_report(rt.alloc(), outcome, TWO_REPORT)?);
+    Ok(())
+}
+
+// Collects two files and asks two queries behind this gate.
+fn collect_two<G: Gate>(
+    rt: &(impl Threads + Wait + Sync + Abort + AllocGlobal),
+    gate: &G,
+) -> Result<(), Fail> {
+    let alloc = rt.alloc();
+    let files = files_of(alloc, 1, 2)?;
+    let outcome = collect(
+        rt,
+        alloc,
+        &files,
+        &[Query::Counts, Query::Counts],
+        gate,
+        100,
+    )?;
+    two_are_collected(rt, &outcome)
+}
+
+#[test]
+fn workers_read_and_tell_while_the_main_seat_asks(rt: HostRuntime) -> Result<(), Fail> {
+    let gate = Together {
+        reading: AtomicU32::new(0),
+        telling: AtomicU32::new(0),
+        late: AtomicBool::new(false),
+    };
+    collect_two(&rt, &gate)?;
+    assert!(rt; !gate.late.load(Ordering::SeqCst));
+    Ok(())
+}
+
+fn one_after_the_other(
+    rt: &(impl Threads + Wait + Sync + Abort + AllocGlobal),
+    held: u32,
+) -> Result<(), Fail> {
+    let gate = After {
+        held,
+        told: AtomicU32::new(0),
+        late: AtomicBool::new(false),
+    };
+    collect_two(rt, &gate)?;
+    assert!(rt; !gate.late.load(Ordering::SeqCst));
+    Ok(())
+}
+
+#[test]
+fn either_worker_may_be_ahead(rt: HostRuntime) -> Result<(), Fail> {
+    one_after_the_other(&rt, 0)?;
+    one_after_the_other(&rt, 1)
+}
+
+fn all_are_read(rt: &impl Abort, outcome: &Outcome) {
+    assert_eq!(rt; outcome.ledger.len(), 128);
+    assert_eq!(rt; outcome.files.len(), 64);
+    for (place, end) in outcome.files.iter().enumerate() {
+        assert!(rt; is_read(*end, (place as u32).wrapping_add(1)));
+    }
+}
+
+#[test]
+fn takes_64_files(rt: HostRuntime) -> Result<(), Fail> {
+    let alloc = rt.alloc();
+    let files = files_of(alloc, 0, 64)?;
+    let outcome = collect(&rt, alloc, &files, &[], &FreeGate, 1000)?;
+    all_are_read(&rt, &outcome);
+    Ok(())
+}
+
+#[test]
+fn wants_1_to_64_files(rt: HostRuntime) -> Result<(), Fail> {
+    let alloc = rt.alloc();
+    let none = collect(&rt, alloc, &[], &[], &FreeGate, 3);
+    assert!(rt; matches!(none, Err(CollectError::FileCount)));
+    let files = files_of(alloc, 0, 65)?;
+    let many = collect(&rt, alloc, &files, &[], &FreeGate, 1000);
+    assert!(rt; matches!(many, Err(CollectError::FileCount)));
+    assert_eq!(rt; CollectError::FileCount.code(), 41);
+    assert_eq!(rt; RunError::Output { written: 3 }.code(), 51);
+    Ok(())
+}
+
+// A run ends with this status and this output.
+fn runs(
+    rt: &(impl Threads + Wait + Sync + Abort + AllocGlobal),
+    files: &[Input],
+    limit: u32,
+    status: u8,
+    wanted: &str,
+    lines: &str,
+) -> Result<(), Fail> {
+    let alloc = rt.alloc();
+    let mut out = Vec::new(alloc);
+    let end = run(rt, alloc, files, &[], limit, &mut Writer::new(&mut out))?;
+    assert_eq!(rt; end.status, status);
+    assert!(rt; out.as_slice() == wanted.as_bytes());
+    let faults = fault_lines(alloc, files, &end.ends)?;
+    assert!(rt; faults.as_slice() == lines.as_bytes());
+    Ok(())
+}
+
+#[test]
+fn stops_at_the_limit(rt: HostRuntime) -> Result<(), Fail> {
+    let alloc = rt.alloc();
+    let files = vec![in alloc; file_of(alloc, "four.json", FOUR)?]?;
+    let outcome = collect(&rt, alloc, &files, &[], &FreeGate, 3)?;
+    let end = FileEnd::Stopped {
+        caller: 1,
+        done: 3,
+        cause: Cause::Full,
+    };
+    assert!(rt; outcome.files.as_slice() == [end].as_slice());
+    let line = "tracebook: \"four.json\": 32 Full after 3\n";
+    runs(&rt, &files, 3, 2, "", line)
+}
+
+#[test]
+fn reports_of_the_other_file_where_one_is_cut(rt: HostRuntime) -> Result<(), Fail> {
+    let alloc = rt.alloc();
+    let good = span_of(alloc, 1)?;
+    let files = vec![in alloc;
+        file_of(alloc, "good.json", good.as_str())?,
+        file_of(alloc, "cut.json", "[{\"ph\":\"B\",\"na")?,
+    ]?;
+    let line = "tracebook: \"cut.json\": 1 NotJson\n";
+    runs(&rt, &files, 100, 1, ONE_REPORT, line)
+}
+
+#[test]
+fn names_every_fault_and_no_other_number(rt: HostRuntime) {
+    for (code, word) in [
+        (1u16, "NotJson"),
+        (19, "BadSeries"),
+        (31, "Memory"),
+        (42, "NotStarted"),
+        (43, "Unaccounted"),
+        (52, "NotOpened"),
+    ] {
+        assert!(rt; fault_word(code) == Some(word), "at {code}");
+    }
+    assert!(rt; fault_word(20).is_none());
+}
