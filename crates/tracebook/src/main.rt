@@ -1,31 +1,21 @@
 //! Reports where the time went in trace event files.
 #![tactic(auto)]
 
-mod collection;
 mod command;
-mod faults;
-mod files;
 mod program;
 mod reading;
-mod runs;
 mod source;
 #[cfg(test)]
 mod tests;
-mod words;
 
-pub use faults::fault_lines;
-pub use files::{FileEnd, Input};
 pub use program::perform;
 use reading::read_up_to;
-pub use runs::{RunEnd, RunError, run};
 pub use source::{Source, SourceFault};
-use span_ledger::Text;
-use span_report::Writer;
+use span_collect::{Text, Writer};
 use std::fs::File;
 use std::io::ErrorKind;
 use std::process::ExitCode;
 use std::{env, io};
-pub use words::fault_word;
 
 // The real files and standard input.
 #[derive(Drop)]
@@ -72,6 +62,13 @@ fn main(rt: HostRuntime) -> ExitCode {
     };
     let mut source = Host { rt: &rt };
     let mut out = Writer::new(rt.stdout());
-    let status = perform(rt.alloc(), &words, &mut source, &mut out, &mut rt.stderr());
+    let status = perform(
+        &rt,
+        rt.alloc(),
+        &words,
+        &mut source,
+        &mut out,
+        &mut rt.stderr(),
+    );
     ExitCode::from(status)
 }

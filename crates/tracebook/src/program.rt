@@ -2,15 +2,13 @@
 ghost use Rattle.std.specs.Prelude.{◌-◌, ◌^◌, ◌<◌, ◌≤◌};
 
 use crate::command::{Order, order_of};
-use crate::faults::{fault_lines, put_fault};
-use crate::files::Input;
-use crate::runs::run;
 use crate::source::{Source, SourceFault};
-use crate::words::numbered_text;
-use span_ledger::Text;
-use span_report::{Sink, write_bytes};
+use span_collect::{Input, Sink, Text, fault_lines, fault_word, run};
+use span_report::{json_text, write_bytes};
 use std::alloc::{AllocError, Global};
 use std::io::Write;
+use std::sync::Wait;
+use std::thread::Threads;
 
 /// The most bytes that are read of a file: one more than it may have, so that a longer one is refused.
 const MOST_READ: u64 = 67_108_865;
@@ -23,8 +21,9 @@ const NOT_OPENED: u16 = 52;
 
 /// Does what the words ask for, which leave out the program's own name, and gives the exit status: 0 where all files were read,
 /// 1 where one was refused, else 2. Files are read in the order of the words; the first that cannot be read decides. A failed
-/// write to `faults` changes nothing.
-pub fn perform<S: Source, O: Sink, F: Write>(
+/// write to `faults` changes nothing. Waits for the workers, of which each file has one.
+pub fn perform<R: Threads + Wait + Sync, S: Source, O: Sink, F: Write>(
+    rt: &R,
     alloc: Global,
     words: &[Text],
     source: &mut S,
@@ -36,7 +35,7 @@ pub fn perform<S: Source, O: Sink, F: Write>(
 {
     match order_of(alloc, words) {
         Ok(Order::Collect { limit, files }) => match inputs_of(alloc, files, source) {
-            Ok(inputs) => collect(alloc, limit, &inputs, out, faults),
+            Ok(inputs) => collect(rt, alloc, limit, &inputs, out, faults),
             Err(Unread::Memory) => fail(alloc, MEMORY, faults),
             Err(Unread::NotOpened(name)) => fail_at(alloc, &name, faults),
         },
@@ -92,7 +91,8 @@ fn add_input(
     }
 }
 
-fn collect<O: Sink, F: Write>(
+fn collect<R: Threads + Wait + Sync, O: Sink, F: Write>(
+    rt: &R,
     alloc: Global,
     limit: u32,
     files: &[Input],
@@ -102,7 +102,7 @@ fn collect<O: Sink, F: Write>(
     requires { (O.state out.old).failures < 2 ^ 64 - 1 }
     ensures { result ≤ 2 }
 {
-    match run(alloc, files, limit, out) {
+    match run(rt, alloc, files, &[], limit, out) {
         Ok(end) => match fault_lines(alloc, files, &end.ends) {
             Ok(lines) => {
                 let _ = faults.write_all(&lines);
@@ -138,7 +138,15 @@ fn fail_at<F: Write>(alloc: Global, name: &Text, faults: &mut F) -> u8
 }
 
 fn fault_line_of(alloc: Global, name: &Text) -> Result<String, AllocError> {
-    let mut line = String::new(alloc);
-    put_fault(alloc, &mut line, name, NOT_OPENED)?;
-    Ok(line)
+    let name = json_text(alloc, name)?;
+    let fault = numbered_text(alloc, NOT_OPENED)?;
+    format!(in alloc; "tracebook: {name}: {fault}\n")
+}
+
+// The number, and its word where it has one.
+fn numbered_text(alloc: Global, code: u16) -> Result<String, AllocError> {
+    match fault_word(code) {
+        Some(word) => format!(in alloc; "{code} {word}"),
+        None => format!(in alloc; "{code}"),
+    }
 }

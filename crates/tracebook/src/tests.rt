@@ -2,14 +2,15 @@
 ghost use Rattle.std.specs.Prelude.{◌≤◌, vec_len, IfOk};
 
 use crate::command::{Order, order_of};
-use crate::{FileEnd, Input, RunError, Source, SourceFault, fault_lines, fault_word, perform, run};
-use span_ledger::{Cause, Text};
-use span_report::Writer;
+use crate::{Source, SourceFault, perform};
+use span_collect::{Text, Writer};
 use std::alloc::{AllocError, Global};
 use std::io;
 use std::io::{ErrorKind, Write};
 use std::process::Abort;
+use std::sync::Wait;
 use std::test::Fail;
+use std::thread::Threads;
 
 const GOOD: &str =
     "[{\"ph\":\"B\",\"name\":\"a\",\"ts\":1,\"pid\":1,\"tid\":2},{\"ph\":\"E\",\"ts\":11,\"pid\":1,\"tid\":2}]";
@@ -73,7 +74,7 @@ fn texts_of(alloc: Global, words: &[&str]) -> Result<Vec<Text>, AllocError> {
 
 // The program ends with this status, this standard output and this standard error.
 fn ends_with(
-    rt: &(impl Abort + AllocGlobal),
+    rt: &(impl Abort + AllocGlobal + Threads + Wait + Sync),
     words: &[Text],
     status: u8,
     report: &str,
@@ -84,14 +85,14 @@ fn ends_with(
     let mut out = Vec::new(alloc);
     let mut faults = Vec::new(alloc);
     let mut writer = Writer::new(&mut out);
-    let own = perform(alloc, words, &mut source, &mut writer, &mut faults);
+    let own = perform(rt, alloc, words, &mut source, &mut writer, &mut faults);
     assert_eq!(rt; own, status, "{lines}");
     assert!(rt; out.as_slice() == report.as_bytes(), "{lines}");
     assert!(rt; faults.as_slice() == lines.as_bytes(), "{lines}");
 }
 
 fn performs(
-    rt: &(impl Abort + AllocGlobal),
+    rt: &(impl Abort + AllocGlobal + Threads + Wait + Sync),
     words: &[&str],
     status: u8,
     report: &str,
@@ -141,11 +142,16 @@ fn takes_up_to_64_files(rt: HostRuntime) -> Result<(), Fail> {
     performs(&rt, &["empty.json"; 65], 2, "", "tracebook: 41 FileCount\n")
 }
 
-fn status_of(rt: &(impl Abort + AllocGlobal), words: &[Text], out: &mut Short) -> u8 {
+fn status_of(
+    rt: &(impl Abort + AllocGlobal + Threads + Wait + Sync),
+    words: &[Text],
+    out: &mut Short,
+) -> u8 {
     let alloc = rt.alloc();
     let mut source = Table { alloc };
     let mut faults = Vec::new(alloc);
     perform(
+        rt,
         alloc,
         words,
         &mut source,
@@ -225,80 +231,4 @@ fn knows_the_limit_and_the_files(rt: HostRuntime) -> Result<(), Fail> {
         orders(&rt, &texts, limit, count)?;
     }
     Ok(())
-}
-
-#[test]
-fn wants_1_to_64_files(rt: HostRuntime) -> Result<(), Fail> {
-    let alloc = rt.alloc();
-    let mut out = Vec::new(alloc);
-    let none = run(alloc, &[], 3, &mut Writer::new(&mut out));
-    assert!(rt; matches!(none, Err(RunError::FileCount)));
-    assert_eq!(rt; RunError::FileCount.code(), 41);
-    assert!(rt; out.is_empty());
-    Ok(())
-}
-
-#[test]
-fn names_how_each_file_ended(rt: HostRuntime) -> Result<(), Fail> {
-    let alloc = rt.alloc();
-    let name = Text::of(alloc, "a\"")?;
-    let files = vec![in alloc;
-        Input {
-            name,
-            bytes: Vec::new(alloc)
-        },
-    ]?;
-    for (end, line) in [
-        (
-            FileEnd::Read {
-                caller: 1,
-                items: 2,
-            },
-            "",
-        ),
-        (
-            FileEnd::Refused { caller: 1, code: 3 },
-            "tracebook: \"a\\\"\": 3 TooLarge\n",
-        ),
-        (
-            FileEnd::Stopped {
-                caller: 1,
-                done: 7,
-                cause: Cause::Memory,
-            },
-            "tracebook: \"a\\\"\": 31 Memory after 7\n",
-        ),
-        (FileEnd::NotStarted, "tracebook: \"a\\\"\": 42 NotStarted\n"),
-    ] {
-        let lines = fault_lines(alloc, &files, &[end])?;
-        assert!(rt; lines.as_slice() == line.as_bytes(), "{line}");
-    }
-    Ok(())
-}
-
-#[test]
-fn names_every_fault_and_no_other_number(rt: HostRuntime) {
-    for (code, word) in [
-        (1u16, "NotJson"),
-        (4, "TooMany"),
-        (11, "NotObject"),
-        (19, "BadSeries"),
-        (21, "NoOpenSpan"),
-        (26, "NoFlow"),
-        (31, "Memory"),
-        (34, "CallersFull"),
-        (41, "FileCount"),
-        (43, "Unaccounted"),
-        (51, "Output"),
-        (52, "NotOpened"),
-    ] {
-        assert!(rt; fault_word(code) == Some(word), "at {code}");
-    }
-    let mut count = 0u32;
-    for code in 0..=u16::MAX {
-        if fault_word(code).is_some() && count < 100 {
-            count += 1;
-        }
-    }
-    assert_eq!(rt; count, 28);
 }

@@ -15,3 +15,14 @@ returns-clause-error g c =
       within = fault.0;
       output = fault.1;
     }
+
+-- the report of what was collected was written
+pub returns-in-Ok-write_report-clause-run : goal.returns-in-Ok-write_report-clause-run
+returns-in-Ok-write_report-clause-run g c =
+    record {
+      journal = c.in-Ok.outcome.ledger.journal;
+      account = c.in-Ok.ensures.accounts;
+      status = rw c.deref.ensures.value at c.exit_status-status.ensures;
+      written = λ h. c.in-Ok-write_report.ensures.ok;
+      silent = λ two. absurd (c.if-status-eq2.false two);
+    }

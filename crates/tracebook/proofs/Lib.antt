@@ -1,4 +1,0 @@
-pub mod EndLines
-pub mod Ends
-pub mod OneFile
-pub mod Operations

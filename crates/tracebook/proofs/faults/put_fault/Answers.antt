@@ -1,6 +1,0 @@
-use Rattle.tracebook.specs.FaultLines.{fault_line}
-use Rattle.tracebook.proofs.faults.put_fault.Goals as goal
-
-pub returns : goal.returns
-unfolding fault_line
-returns c = rw (c.in_ok-name.ensures, c.in_ok-fault.ensures) at c.writeln.ensures.bytes
