@@ -1,5 +1,5 @@
 -- How many entries a journal has of some callers.
-use Rattle.std.proofs.Common.{◌≡◌, ℕ, zero, suc, ◌+◌, ◌<◌, ◌≤◌, List, [], ◌∷◌, Bool, true, false, cond, eqb, eqb-true, length, All, Contains, refl, sym, subst, ap, ◌∙◌, arith}
+use Rattle.std.proofs.Common.{◌≡◌, ℕ, zero, suc, ◌+◌, ◌<◌, ◌≤◌, List, [], ◌∷◌, Bool, true, false, cond, eqb, eqb-true, length, All, Contains, refl, sym, subst, arith}
 use Rattle.span_ledger.specs.declared.entry.Entry.{Entry}
 use Rattle.span_share.specs.Callers.{calls, AreDistinct}
 use Rattle.span_share.specs.Entries.{caller_of}

@@ -4,3 +4,4 @@ pub mod Meeting
 pub mod Settling
 pub mod EndLines
 pub mod Statuses
+pub mod OneFile

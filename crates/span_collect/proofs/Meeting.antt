@@ -1,6 +1,5 @@
 -- What the main seat has met, and the account of the journal that it closes.
-use Rattle.std.proofs.Common.{◌≡◌, ℕ, suc, ◌<◌, ◌≤◌, ◌⊎◌, List, [], ◌∷◌, ◌++◌, length, map, take, Option, Some, None, Ok, Err, Contains, refl, sym, subst, ap, ap₂, ◌∙◌, append_assoc, length-append, arith, inl, inr}
-use Rattle.std.specs.Prelude.{filter_map}
+use Rattle.std.proofs.Common.{◌≡◌, ℕ, suc, ◌≤◌, List, [], ◌∷◌, ◌++◌, length, map, take, Option, Some, None, Ok, Err, Contains, refl, sym, subst, ap, ap₂, ◌∙◌, length-append, arith, inl, inr}
 use Rattle.std.proofs.lemmas.List.Elements.{filter_map-append}
 use Rattle.span_read.specs.Document.{doc}
 use Rattle.span_ledger.specs.declared.entry.Entry.{Entry}

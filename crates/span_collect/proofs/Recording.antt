@@ -1,5 +1,5 @@
 -- What one seat has recorded, and how its file ended.
-use Rattle.std.proofs.Common.{◌≡◌, ℕ, ◌+◌, ◌<◌, ◌≤◌, ◌⊎◌, List, [], ◌∷◌, ◌++◌, length, map, take, get_or, nat_lt, lt-ltb, Bool, true, false, Option, Some, None, Ok, Err, Contains, refl, sym, subst, ap, ap₂, ◌∙◌, append-nil, append_assoc, length-append, arith, inl, inr}
+use Rattle.std.proofs.Common.{◌≡◌, ℕ, ◌+◌, ◌<◌, ◌≤◌, ◌⊎◌, List, [], ◌∷◌, ◌++◌, length, map, take, get_or, nat_lt, lt-ltb, Bool, true, false, Option, Some, None, Ok, Err, refl, sym, subst, ap, ap₂, ◌∙◌, append-nil, length-append, arith, inl, inr}
 use Rattle.std.specs.Prelude.{if◌then◌else◌, Result, IfOk, IfSome}
 use Rattle.std.specs.Result.{result_ok}
 use Rattle.std.proofs.lemmas.List.{map-append, length-map, take_more, length-take-le}
@@ -20,9 +20,7 @@ use Rattle.span_share.specs.declared.book.Receipt.{Receipt}
 use Rattle.span_share.specs.declared.share.ShareError.{ShareError}
 use Rattle.span_share.specs.Entries.{entry}
 use Rattle.span_share.specs.Seats.{ShareId, Seated, IsSeatOf, IsCauseAt, Keeps, Records, Enrols, mine}
-use Rattle.span_share.proofs.CallersLists.{Contains-here}
-use Rattle.span_collect.specs.declared.files.FileEnd.{FileEnd}
-use Rattle.span_collect.specs.declared.files.FileEnd.TheVariants.{Read, Refused, Stopped, NotStarted}
+use Rattle.span_collect.specs.declared.files.FileEnd.TheVariants.{Read, Refused, Stopped}
 use Rattle.span_collect.specs.Account.{Document, IsCause, operations, telling, asking}
 use Rattle.span_collect.specs.Work.{HasRecorded, IsNew, IsWorked}
 use Rattle.span_collect.proofs.Counting.{length-calls}

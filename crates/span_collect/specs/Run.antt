@@ -1,9 +1,11 @@
 -- What a run does.
-use Rattle.std.specs.Prelude.{◌≡◌, ℕ, ◌<◌, ◌≤◌, Bool, true, false, ◌||◌, if◌then◌else◌, List, length, take, Option, Some, None}
+use Rattle.std.specs.Prelude.{◌≡◌, ℕ, ◌<◌, ◌≤◌, Bool, true, false, ◌||◌, if◌then◌else◌, List, [], length, map, take, Ok, Err}
 use Rattle.std.specs.List.{list_any}
 use Rattle.std.specs.Option.{is_some}
+use Rattle.span_read.specs.Document.{doc}
 use Rattle.span_ledger.specs.declared.entry.Entry.{Entry}
 use Rattle.span_ledger.specs.declared.query.Query.{Query}
+use Rattle.span_ledger.specs.Legal.{sequential}
 use Rattle.span_report.specs.Report.{report_of}
 use Rattle.span_report.specs.Sink.{SinkState, Takes, Fails}
 use Rattle.span_collect.specs.declared.files.FileEnd.{FileEnd}
@@ -13,7 +15,7 @@ use Rattle.span_collect.specs.declared.queries.Asked.{Asked}
 use Rattle.span_collect.specs.declared.runs.RunEnd.{RunEnd}
 use Rattle.span_collect.specs.declared.runs.RunError.{RunError}
 use Rattle.span_collect.specs.declared.runs.RunError.TheVariants.{FileCount, Memory, Unaccounted, Output}
-use Rattle.span_collect.specs.Account.{Account}
+use Rattle.span_collect.specs.Account.{Account, Document, telling}
 
 abbrev pub code_of : RunError → ℕ
 code_of FileCount = 41
@@ -60,3 +62,12 @@ LeavesOutput FileCount files asks limit old new = new ≡ old
 LeavesOutput Memory files asks limit old new = new ≡ old
 LeavesOutput (Unaccounted entries calls) files asks limit old new = new ≡ old
 LeavesOutput (Output written) files asks limit old new = IsCutShort files asks limit written old new
+
+-- the journal that one caller makes of a document: of all its items, and of none where it is refused
+abbrev pub journal_by : ℕ → Document → List Entry
+journal_by caller (Ok items) = sequential (map (λ op. (caller, op)) (telling items))
+journal_by caller (Err error) = []
+
+-- the report of the journal that one caller makes of the file was written
+abbrev pub TakesReportOf : Input → SinkState → SinkState → Type 0
+TakesReportOf file old new = (caller : ℕ) × Takes old new (report_of (journal_by caller (doc file.bytes.items)))

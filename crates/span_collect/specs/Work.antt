@@ -1,5 +1,5 @@
 -- What the seats of workers and the main seat stand for.
-use Rattle.std.specs.Prelude.{◌≡◌, ℕ, List, [], ◌∷◌, Some}
+use Rattle.std.specs.Prelude.{◌≡◌, List, [], ◌∷◌, Some}
 use Rattle.span_ledger.specs.declared.entry.Op.{Op}
 use Rattle.span_ledger.specs.declared.query.Query.{Query}
 use Rattle.span_share.specs.Seats.{ShareId, Seated, IsSeatOf}

@@ -1,8 +1,9 @@
 //! A run: files are collected, and their report is written.
-ghost use Rattle.std.specs.Prelude.{◌≡◌, ◌-◌, ◌^◌, ◌<◌, ◌↔◌, Err, IfOk, IfErr};
+ghost use Rattle.std.specs.Prelude.{◌≡◌, ◌-◌, ◌^◌, ◌<◌, ◌↔◌, [], ◌∷◌, Err, IfOk, IfErr};
 ghost use Rattle.std.specs.List.{list_any};
 ghost use Rattle.span_collect.specs.Collection.{AreNoneOrTooMany};
-ghost use Rattle.span_collect.specs.Run.{code_of, is_cut, is_refused, status_of, IsRunOf, LeavesOutput};
+ghost use Rattle.span_collect.specs.Run.{code_of, is_cut, is_refused, status_of, IsRunOf, LeavesOutput, TakesReportOf};
+ghost use Rattle.span_collect.specs.declared.files.Input.{Input as TheInput};
 
 use crate::collection::{CollectError, collect};
 use crate::files::{FileEnd, Input};
@@ -68,6 +69,8 @@ pub fn run<O: Sink, R: Threads + Wait + Sync>(
 ) -> Result<RunEnd, RunError>
     requires { (O.state out.old).failures < 2 ^ 64 - 1 }
     ensures run { IfOk result (λ run. IsRunOf files.now asks.now limit run (O.state out.old) (O.state out.new)) }
+    ensures one_file { IfOk result (λ run. run.status < 2 → (file : TheInput) → files.now ≡ file ∷ [] → asks.now ≡ []
+        → TakesReportOf file (O.state out.old) (O.state out.new)) }
     ensures count { (result ≡ Err RunError.FileCount) ↔ AreNoneOrTooMany files.now }
     ensures error { IfErr result
         (λ error. LeavesOutput error files.now asks.now limit (O.state out.old) (O.state out.new)) }

@@ -47,10 +47,19 @@ fn files_of(alloc: Global, first: u32, count: u32) -> Result<Vec<Input>, AllocEr
     Ok(files)
 }
 
-// Raises a count, and yields until it has the height wanted; notes who waited in vain.
-fn wait_until(count: &AtomicU32, height: u32, late: &AtomicBool) {
+// Each worker has a flag of its own, and so has the asking thread.
+fn flag_of(worker: u32) -> u32 {
+    match worker {
+        0 => 1,
+        1 => 2,
+        _ => 4,
+    }
+}
+
+// Yields until these flags are up; notes who waited in vain.
+fn wait_until(flags: &AtomicU32, wanted: u32, late: &AtomicBool) {
     for _ in 0..TURNS {
-        if count.load(Ordering::SeqCst) >= height {
+        if flags.load(Ordering::SeqCst) == wanted {
             return;
         }
         thread::yield_now();
@@ -67,15 +76,15 @@ struct Together {
 }
 
 impl Gate for Together {
-    fn read(&self, _worker: u32) {
-        self.reading.fetch_add(1, Ordering::SeqCst);
-        wait_until(&self.reading, 2, &self.late);
+    fn read(&self, worker: u32) {
+        self.reading.fetch_or(flag_of(worker), Ordering::SeqCst);
+        wait_until(&self.reading, 3, &self.late);
     }
 
-    fn pass(&self, _worker: u32, call: u32) {
+    fn pass(&self, worker: u32, call: u32) {
         if call == 1 {
-            self.telling.fetch_add(1, Ordering::SeqCst);
-            wait_until(&self.telling, 3, &self.late);
+            self.telling.fetch_or(flag_of(worker), Ordering::SeqCst);
+            wait_until(&self.telling, 7, &self.late);
         }
     }
 }

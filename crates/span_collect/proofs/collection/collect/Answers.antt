@@ -1,5 +1,4 @@
-use Rattle.std.proofs.Common.{◌≡◌, ◌<◌, ◌^◌, sym, ◌∙◌, arith}
-use Rattle.span_collect.specs.Collection.{calls_told}
+use Rattle.std.proofs.Common.{sym, ◌∙◌, arith}
 use Rattle.span_collect.proofs.Settling.{IsClosed-few, IsClosed-accounts}
 use Rattle.span_collect.proofs.collection.collect.Goals as goal
 

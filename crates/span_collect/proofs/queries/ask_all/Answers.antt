@@ -1,5 +1,4 @@
-use Rattle.std.proofs.Common.{◌≡◌, ℕ, ◌+◌, ◌<◌, ◌≤◌, List, [], ◌∷◌, ◌++◌, length, take, Some, None, refl, ap, sym, subst, ◌∙◌, arith}
-use Rattle.span_ledger.specs.declared.entry.Op.{Op}
+use Rattle.std.proofs.Common.{◌+◌, take, Some, None, refl, ap, sym, subst, ◌∙◌, arith}
 use Rattle.span_ledger.specs.declared.entry.Op.TheVariants.{Ask}
 use Rattle.span_ledger.specs.declared.refusal.Cause.TheVariants.{Memory}
 use Rattle.span_collect.specs.Account.{asking}

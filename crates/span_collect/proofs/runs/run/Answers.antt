@@ -1,3 +1,5 @@
+use Rattle.std.proofs.Common.{arith}
+use Rattle.span_collect.proofs.OneFile.{one_report}
 use Rattle.span_collect.proofs.Statuses.{status_of-lt}
 use Rattle.span_collect.proofs.runs.run.Goals as goal
 
@@ -26,3 +28,13 @@ returns-in-Ok-write_report-clause-run g c =
       written = λ h. c.in-Ok-write_report.ensures.ok;
       silent = λ two. absurd (c.if-status-eq2.false two);
     }
+
+-- nothing was written
+pub returns-then-status-eq2-clause-one_file : goal.returns-then-status-eq2-clause-one_file
+returns-then-status-eq2-clause-one_file g c = λ below file one none. absurd (omega (arith, below, c.if-status-eq2.true))
+
+-- the report of one file was written
+pub returns-in-Ok-write_report-clause-one_file : goal.returns-in-Ok-write_report-clause-one_file
+returns-in-Ok-write_report-clause-one_file g c = λ below file one none.
+    let outcome = c.in-Ok.outcome in
+    one_report c.args.files.now c.args.asks.now c.args.limit outcome.files.items outcome.asked outcome.ledger.journal _ _ c.in-Ok.ensures.accounts (rw (c.exit_status-status.ensures, c.deref.ensures.value) at below) c.in-Ok-write_report.ensures.ok file one none

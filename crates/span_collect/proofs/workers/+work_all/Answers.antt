@@ -1,6 +1,6 @@
-use Rattle.std.proofs.Common.{◌≡◌, ◌++◌, ◌∷◌, [], length, sym, arith}
+use Rattle.std.proofs.Common.{arith}
 use Rattle.span_read.specs.Document.{doc}
-use Rattle.span_collect.specs.Work.{HasMet, IsWorked}
+use Rattle.span_collect.specs.Work.{IsWorked}
 use Rattle.span_collect.proofs.Meeting.{EachEndsAs-length, HasMet-joined, HasMet-not_started}
 use Rattle.span_collect.proofs.workers.+work_all.Goals.{in-Some-handle, in-None}
 use Rattle.span_collect.proofs.workers.+work_all.Goals as goal

@@ -1,4 +1,4 @@
-use Rattle.std.proofs.Common.{rules, ◌≡◌, ◌+◌, ◌∷◌, [], ◌++◌, length, All, IfSome, refl, ap, sym, subst, ◌∙◌, length-append, arith}
+use Rattle.std.proofs.Common.{◌∷◌, [], length, All, IfSome, refl, ap, sym, subst, ◌∙◌, length-append, arith}
 use Rattle.std.proofs.lemmas.List.Elements.{All-push}
 use Rattle.span_share.specs.Seats.{IsSeatOf}
 use Rattle.span_collect.specs.Work.{IsNew}
@@ -23,12 +23,12 @@ pub loop-preserved : goal.loop-preserved
 loop-preserved g c =
     let invariant = c.loop.invariant in
     let new = enrolled c.args.share.now c.loop.main c.enrol.result c.enrol.ensures.seat c.enrol.ensures.new in
-    let one = subst (λ seat. IfSome seat (IsNew c.args.share.now)) (sym c.ok.ensures.value) new in
+    let one : IfSome c.ok.result (IsNew c.args.share.now) = rw c.ok.ensures.value new in
     record {
       same = c.enrol.ensures.same ∙ invariant.same;
       count = omega (arith, ap length c.push_reserved.ensures.items, length-append c.loop.seats.items (c.ok.result ∷ []), invariant.count);
       room = omega (arith, invariant.room, c.push_reserved.ensures.capacity);
-      new = subst (All (λ seat. IfSome seat (IsNew c.args.share.now))) (sym c.push_reserved.ensures.items) (All-push (λ seat. IfSome seat (IsNew c.args.share.now)) c.loop.seats.items c.ok.result invariant.new one);
+      new = rw c.push_reserved.ensures.items (All-push (λ seat. IfSome seat (IsNew c.args.share.now)) c.loop.seats.items c.ok.result invariant.new one);
     }
 
 pub returns-clause-same : goal.returns-clause-same
