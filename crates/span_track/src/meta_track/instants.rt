@@ -1,6 +1,6 @@
 //! The instants of all threads.
 ghost use Rattle.std.specs.Prelude.{◌≡◌, ◌++◌, [], IfOk, OnOk, OnErr};
-ghost use Rattle.span_track.specs.Instants.{HasInstantRoom, HasNameRoom, NamedReach, TakesInstant, TakesName, count_of, counts_of, name_cmp, names_counted, rows_of_instants, rows_of_thread, thread_cmp};
+ghost use Rattle.span_track.specs.Instants.{HasInstantRoom, HasNameRoom, TakesInstant, TakesName, counts_of, name_cmp, names_counted, rows_of_instants, rows_of_thread, thread_cmp};
 ghost use Rattle.span_track.specs.InstantsKept.{count_at};
 ghost use Rattle.span_track.specs.Keyed.{kept_at};
 

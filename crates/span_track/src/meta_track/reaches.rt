@@ -1,6 +1,6 @@
 //! The counts of the instants of one thread and name.
 ghost use Rattle.std.specs.Prelude.{◌≡◌, ◌<◌, ◌^◌, ◌-◌, [], ◌++◌, OnOk};
-ghost use Rattle.span_track.specs.Instants.{ThreadKey, counts_of, instant_row, rows_of_name};
+ghost use Rattle.span_track.specs.Instants.{counts_of, instant_row, rows_of_name};
 ghost use Rattle.span_track.specs.InstantsKept.{count_at, with_reach};
 
 use super::instants::InstantRow;
