@@ -110,3 +110,6 @@ fn rows_of(
     }
     Ok(rows)
 }
+
+#[cfg(test)]
+mod tests;

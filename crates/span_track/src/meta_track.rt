@@ -172,3 +172,6 @@ impl MetaTrack {
         }
     }
 }
+
+#[cfg(test)]
+mod tests;
