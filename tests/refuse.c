@@ -1,4 +1,5 @@
-// Preloaded, refuses the allocation of the number REFUSE_AT of a program, and says at its end whether it came to it.
+// Preloaded, refuses the allocation of the number REFUSE_AT of a program, and says so when it comes to it: a program with
+// threads may end without telling those that wait for its end.
 #define _GNU_SOURCE
 #include <dlfcn.h>
 #include <stddef.h>
@@ -6,7 +7,6 @@
 #include <unistd.h>
 
 static long asked = 0;
-static int refused = 0;
 
 static int is_refused(void)
 {
@@ -15,9 +15,11 @@ static int is_refused(void)
         const char *text = getenv("REFUSE_AT");
         at = text ? atol(text) : 0;
     }
-    asked += 1;
-    refused = refused || asked == at;
-    return asked == at;
+    if (__atomic_add_fetch(&asked, 1, __ATOMIC_RELAXED) != at)
+        return 0;
+    if (write(2, "refused\n", 8) < 0)
+        _exit(3);
+    return 1;
 }
 
 void *malloc(size_t size)
@@ -34,10 +36,4 @@ void *realloc(void *block, size_t size)
     if (!next)
         next = dlsym(RTLD_NEXT, "realloc");
     return is_refused() ? NULL : next(block, size);
-}
-
-__attribute__((destructor)) static void tell(void)
-{
-    if (refused && write(2, "refused\n", 8) < 0)
-        _exit(3);
 }
