@@ -24,12 +24,16 @@ const FOUR: &str =
     "[{\"ph\":\"B\",\"ts\":1},{\"ph\":\"B\",\"ts\":1},{\"ph\":\"B\",\"ts\":1},{\"ph\":\"B\",\"ts\":1}]";
 
 // The files in memory; standard input is `-`.
-static FILES: [(&str, &str); 5] = [
+static FILES: [(&str, &str); 6] = [
     ("-", GOOD),
     ("good.json", GOOD),
     ("cut.json", "[{\"ph\":\"B\",\"na"),
     ("four.json", FOUR),
     ("empty.json", "[]"),
+    (
+        "whole.json",
+        "[{\"ph\":\"X\",\"name\":\"a\",\"ts\":1,\"dur\":10,\"pid\":1,\"tid\":2}]",
+    ),
 ];
 
 #[derive(Drop)]
@@ -119,8 +123,8 @@ fn reports_of_the_other_files_where_one_is_cut(rt: HostRuntime) -> Result<(), Fa
 #[test]
 fn counts_a_file_that_is_named_twice_twice(rt: HostRuntime) -> Result<(), Fail> {
     let report =
-        "tracebook 1\nevents 2 refused 2 skipped 0 queries 0\nprocess 1 -\nthread 1 2 - open 0 busy 10\nspan        1               10               10 \"a\"\n";
-    performs(&rt, &["good.json", "good.json"], 0, report, "")
+        "tracebook 1\nevents 2 refused 0 skipped 0 queries 0\nprocess 1 -\nthread 1 2 - open 0 busy 10\nspan        2               20               10 \"a\"\n";
+    performs(&rt, &["whole.json", "whole.json"], 0, report, "")
 }
 
 #[test]
