@@ -15,7 +15,7 @@ abbrev hits : ℕ → List ℕ → ℕ
 hits k [] = 0
 hits k (c ∷ cs) = cond (eqb k c) 1 0 + hits k cs
 
-Contains-later : (n : ℕ) (ns : List ℕ) (m : ℕ) → Contains ns m → Contains (n ∷ ns) m
+pub Contains-later : (n : ℕ) (ns : List ℕ) (m : ℕ) → Contains ns m → Contains (n ∷ ns) m
 Contains-later n ns m h = (suc h.0, omega (arith, h.1), h.2)
 
 hits-contains : (k : ℕ) (cs : List ℕ) → 0 < hits k cs → Contains cs k

@@ -1,5 +1,5 @@
 -- What the main seat has met, and the account of the journal that it closes.
-use Rattle.std.proofs.Common.{◌≡◌, ℕ, suc, ◌≤◌, List, [], ◌∷◌, ◌++◌, length, map, take, Option, Some, None, Ok, Err, Contains, refl, sym, subst, ap, ap₂, ◌∙◌, length-append, arith, inl, inr}
+use Rattle.std.proofs.Common.{◌≡◌, ℕ, suc, ◌≤◌, List, [], ◌∷◌, ◌++◌, length, map, take, Option, Some, None, Ok, Err, Contains, refl, sym, subst, ap, ap₂, ◌∙◌, append-nil, length-append, arith, inl, inr}
 use Rattle.std.proofs.lemmas.List.Elements.{filter_map-append}
 use Rattle.span_read.specs.Document.{doc}
 use Rattle.span_ledger.specs.declared.entry.Entry.{Entry}
@@ -15,12 +15,10 @@ use Rattle.span_collect.specs.declared.files.Input.{Input}
 use Rattle.span_collect.specs.declared.queries.Asked.{Asked}
 use Rattle.span_collect.specs.Account.{Document, IsCause, EndsAs, EachEndsAs, IsAsked, StopsAsking, asking, caller_named, callers_named, operations}
 use Rattle.span_collect.specs.Work.{HasRecorded, IsWorked, HasMet}
+use Rattle.span_collect.proofs.Counting.{Contains-later}
 
 pub BeginsWith-length : (new old : List Entry) → BeginsWith new old → length old ≤ length new
 BeginsWith-length new old begins = omega (arith, ap length begins.1, length-append old begins.0)
-
-pub Contains-later : (n : ℕ) (ns : List ℕ) (m : ℕ) → Contains ns m → Contains (n ∷ ns) m
-Contains-later n ns m h = (suc h.0, omega (arith, h.1), h.2)
 
 cause-later : (limit : ℕ) (old new : List Entry) (cause : Cause) → length old ≤ length new → IsCause old limit cause → IsCause new limit cause
 cause-later limit old new Memory grows is = tt
@@ -133,11 +131,7 @@ module _ (share : ShareId) (files : List Input) (asks : List Query) (ends : List
   pub HasMet-not_started : HasMet share (files ++ file ∷ []) asks (ends ++ NotStarted ∷ []) asked main
   HasMet-not_started = record {
     sound = met.sound;
-    owned = met.owned ∙ ap (λ l. 0 ∷ l) (sym (filter_map-append caller_named ends (NotStarted ∷ []) ∙ end_nil (callers_named ends)));
+    owned = met.owned ∙ ap (λ l. 0 ∷ l) (sym (filter_map-append caller_named ends (NotStarted ∷ []) ∙ append-nil (callers_named ends)));
     ended = EachEndsAs-push main.seen share.limit files ends file NotStarted met.ended tt;
     queries = met.queries;
   }
-    where
-      end_nil : (l : List ℕ) → l ++ [] ≡ l
-      end_nil [] = refl
-      end_nil (x ∷ l) = ap (λ r. x ∷ r) (end_nil l)

@@ -19,8 +19,8 @@ use Rattle.span_collect.specs.declared.files.Input.{Input}
 use Rattle.span_collect.specs.declared.queries.Asked.{Asked}
 use Rattle.span_collect.specs.Account.{Account, Document, EndsAs, EachEndsAs, IsAsked, StopsAsking, asking, callers_named, operations, telling}
 use Rattle.span_collect.specs.Collection.{IsClosed, calls_told, told_by}
-use Rattle.span_collect.proofs.Counting.{total, total-le, total-all}
-use Rattle.span_collect.proofs.Meeting.{BeginsWith-length, Contains-later, EachEndsAs-later, IsAsked-later}
+use Rattle.span_collect.proofs.Counting.{Contains-later, total, total-le, total-all}
+use Rattle.span_collect.proofs.Meeting.{BeginsWith-length, EachEndsAs-later, IsAsked-later}
 
 -- as many entries as operations
 calls-length : (journal : List Entry) (caller : ℕ) (ops : List Op) → operations journal caller ≡ ops → length (calls caller_of caller journal) ≡ length ops
