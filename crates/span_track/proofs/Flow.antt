@@ -7,9 +7,8 @@ use Rattle.std.proofs.lemmas.List.Sums.{sum_by-append}
 use Rattle.span_time.specs.Spans.{distance}
 use Rattle.span_track.specs.declared.keys.FlowKey.{FlowKey}
 use Rattle.span_track.specs.declared.flow_track.FlowClosed.{FlowClosed}
-use Rattle.span_track.specs.declared.flow_track.key_chains.OpenChain.{OpenChain}
 use Rattle.span_track.specs.Keyed.{steps_at}
-use Rattle.span_track.specs.Flow.{FlowPoint, started, stepped, finished, FlowEvent, FlowKept, FlowStandsFor, closed_at, time_of, is_start, is_finish, from_last_start, unless_finished, chain_of, start_of, length_from, length_ended_by, lengths_after, ended_lengths, latest, summary, flow_chains, flow_chains_at, flow_cmp}
+use Rattle.span_track.specs.Flow.{FlowPoint, started, stepped, finished, FlowEvent, FlowKept, FlowStandsFor, closed_at, time_of, is_start, is_finish, from_last_start, unless_finished, chain_of, start_of, length_from, length_ended_by, lengths_after, ended_lengths, latest, OpenChain, summary, flow_chains, flow_chains_at, flow_cmp}
 use Rattle.span_track.specs.FlowKept.{with_start, with_step, with_finish, longer, length_at}
 use Rattle.span_track.proofs.Keyed.{kept_at-entries_in}
 use Rattle.span_track.proofs.Orders.{flow_cmp-total, flow_cmp-same}

@@ -2,9 +2,8 @@
 use Rattle.std.proofs.Common.{ℕ, ◌+◌, ◌-◌, ◌<◌, ◌≤◌, ◌^◌, ℤ, List, [], ◌∷◌, ◌++◌, length, Option, Some, None, ap, subst, arith, append_assoc, append-nil}
 use Rattle.std.specs.Option.{option_map}
 use Rattle.span_track.specs.declared.keys.FlowKey.{FlowKey}
-use Rattle.span_track.specs.declared.flow_track.key_chains.OpenChain.{OpenChain}
 use Rattle.span_track.specs.Keyed.{steps_at}
-use Rattle.span_track.specs.Flow.{FlowPoint, started, stepped, finished, FlowChains, FlowKept, FlowEvent, FlowStandsFor, HasFlowRoom, chain_of, flow_chains, flow_cmp, points_of, summary}
+use Rattle.span_track.specs.Flow.{FlowPoint, started, stepped, finished, OpenChain, FlowChains, FlowKept, FlowEvent, FlowStandsFor, HasFlowRoom, chain_of, flow_chains, flow_cmp, points_of, summary}
 use Rattle.span_track.specs.FlowKept.{longer}
 use Rattle.span_track.proofs.Flow.{count-append, flow_chains-started, flow_chains-stepped, unclosed-finished, flow_chains_at-StandsFor}
 use Rattle.span_track.proofs.Keyed.{length-steps_at}

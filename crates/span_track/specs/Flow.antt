@@ -10,7 +10,6 @@ use Rattle.span_track.specs.declared.keys.FlowKey.{FlowKey}
 use Rattle.span_track.specs.declared.flow_track.FlowRow.{FlowRow}
 use Rattle.span_track.specs.declared.flow_track.FlowTotals.{FlowTotals}
 use Rattle.span_track.specs.declared.flow_track.FlowClosed.{FlowClosed}
-use Rattle.span_track.specs.declared.flow_track.key_chains.OpenChain.{OpenChain}
 use Rattle.span_track.specs.Keyed.{Keyed, entries_in, kept_at}
 
 -- by category, name and id; texts by their bytes
@@ -90,7 +89,13 @@ abbrev pub latest : ℤ → List FlowPoint → ℤ
 latest ts [] = ts
 latest ts (point ∷ later) = latest (time_of point) later
 
--- a chain by the times of its first and last point, and the number of its points
+-- a chain by the times of its first and last point, and how many points it has
+pub record OpenChain : Type 0 where
+  pub start : ℤ
+  pub last : ℤ
+  pub points : ℕ
+
+-- these points as a chain; no chain where there are none
 abbrev pub summary : List FlowPoint → Option OpenChain
 summary [] = None
 summary (point ∷ later) = Some (record { start = time_of point; last = latest (time_of point) later; points = length (point ∷ later) })

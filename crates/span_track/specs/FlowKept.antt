@@ -3,8 +3,7 @@ use Rattle.std.specs.Prelude.{ℕ, ◌+◌, ◌*◌, ◌<◌, ◌≤◌, ◌^◌
 use Rattle.std.specs.Option.{option_map}
 use Rattle.span_read.specs.Event.{IsTime, greatest_time}
 use Rattle.span_time.specs.Spans.{distance}
-use Rattle.span_track.specs.declared.flow_track.key_chains.OpenChain.{OpenChain}
-use Rattle.span_track.specs.Flow.{FlowChains, points_of}
+use Rattle.span_track.specs.Flow.{OpenChain, FlowChains, points_of}
 
 -- times of the chain are in range, and its last point is not before its first
 abbrev pub IsInTime : Option OpenChain → Type 0

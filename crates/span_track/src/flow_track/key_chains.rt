@@ -10,19 +10,29 @@ use crate::fault::TrackFault;
 use crate::refusal::{NO_CHAIN, TIME_GOES_BACK, UNCLOSED_CHAIN};
 use std::marker::Model;
 
-// A chain that no finish has ended: the times of its first and last point, and how many points it has.
+// A chain that no finish has ended.
 #[derive(Clone, Copy)]
-struct OpenChain {
+struct Chain {
     start: i64,
     last: i64,
     points: u32,
+}
+
+impl Model for Chain {
+    ghost use Rattle.span_track.specs.Flow.{OpenChain};
+
+    ghost Value = { OpenChain };
+
+    ghost view = { λ chain. record { start = chain.start; last = chain.last; points = chain.points } };
+
+    ghost inverse = { λ chain. record { start = chain.start; last = chain.last; points = chain.points } };
 }
 
 #[derive(Drop)]
 pub(crate) struct KeyChains {
     ended: u32,
     total: u128,
-    unclosed: Option<OpenChain>,
+    unclosed: Option<Chain>,
 }
 
 impl Model for KeyChains {
@@ -45,7 +55,7 @@ impl KeyChains {
         KeyChains {
             ended: 0,
             total: 0,
-            unclosed: Some(OpenChain {
+            unclosed: Some(Chain {
                 start: ts,
                 last: ts,
                 points: 1,
@@ -63,7 +73,7 @@ impl KeyChains {
         if self.unclosed.is_some() {
             return Err(TrackFault::Refused(UNCLOSED_CHAIN));
         }
-        self.unclosed = Some(OpenChain {
+        self.unclosed = Some(Chain {
             start: ts,
             last: ts,
             points: 1,
@@ -72,7 +82,7 @@ impl KeyChains {
     }
 
     // The unclosed chain, where a point at `ts` can follow its last.
-    fn chain_until(&self, ts: i64) -> Result<OpenChain, TrackFault>
+    fn chain_until(&self, ts: i64) -> Result<Chain, TrackFault>
         requires in_time { IsTime ts }
         ensures refusal { Answers result (flow_point_refusal self.now ts) }
         ensures chain { IfOk result (λ chain. self.now.unclosed ≡ Some chain) }
@@ -95,7 +105,7 @@ impl KeyChains {
         ensures err { OnErr result (self.new ≡ self.old) }
     {
         let chain = self.chain_until(ts)?;
-        self.unclosed = Some(OpenChain {
+        self.unclosed = Some(Chain {
             start: chain.start,
             last: ts,
             points: chain.points + 1,
