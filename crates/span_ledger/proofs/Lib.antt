@@ -7,7 +7,8 @@ pub mod KeyedEvents
 pub mod Later
 pub mod LegalJournals
 pub mod Renaming
-pub mod Results
+pub mod RowOrder
+pub mod Sorted
 pub mod Taking
 pub mod Threads
 pub mod Totals

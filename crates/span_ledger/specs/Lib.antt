@@ -4,6 +4,7 @@ pub mod Keys
 pub mod Kind
 pub mod Legal
 pub mod Numbered
+pub mod Order
 pub mod Refusal
 pub mod Replies
 pub mod Rows

@@ -2,7 +2,8 @@
 ghost use Rattle.std.specs.Prelude.{◌≡◌, ◌++◌, IfOk, OnOk, map, flat_map, option_copied, option_and_then, slice_get};
 ghost use Rattle.std.specs.BTreeSet.{insert_key, IsOrdered as AreOrdered};
 ghost use Rattle.std.specs.BTreeMap.{IsOrdered};
-ghost use Rattle.span_ledger.specs.Rows.{thread_cmp, text_cmp, ascending, process_row, process_rows, thread_row, thread_rows};
+ghost use Rattle.span_track.specs.Keyed.{ascending};
+ghost use Rattle.span_ledger.specs.Rows.{thread_cmp, text_cmp, process_row, process_rows, thread_row, thread_rows};
 ghost use Rattle.span_ledger.specs.Tracked.{FollowsJournal, track_row, track_span_row, span_rows_of_track, track_span_rows, closed_names};
 
 use crate::entry::Entry;

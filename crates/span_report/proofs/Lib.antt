@@ -1,4 +1,3 @@
-pub mod InOrder
 pub mod Padding
 pub mod Taking
 pub mod Under

@@ -16,14 +16,12 @@ use Rattle.span_ledger.specs.declared.rows.SpanRow.{SpanRow}
 use Rattle.span_track.specs.declared.meta_track.instants.InstantRow.{InstantRow}
 use Rattle.span_ledger.specs.Rows.{thread_cmp}
 use Rattle.span_ledger.proofs.Threads.{thread_cmp-total, same_thread-cmp}
+use Rattle.span_ledger.specs.Order.{thread_of_row, thread_of_span, thread_of_instant, thread_order}
+use Rattle.span_ledger.proofs.Sorted.{AllByRecursion-map}
 use Rattle.span_report.specs.Lines.{thread_line, process_line, span_line, instant_line, counter_line}
 use Rattle.span_report.specs.Report.{PartRows, thread_lines, process_lines}
-use Rattle.span_report.specs.Parts.{AreAscending, Passes, AreInOrder, IsPastThread, IsPastProcess, rows_at, threads_in, series_in, pid_of_series, spans_on, instants_on, thread_of_row, thread_of_span, thread_of_instant}
-use Rattle.span_report.proofs.Walks.{AllByRecursion-map, AllByRecursion-filter, filter-same, flat_map-same, IsStrictlySortedBy-drop, first-below, rest-sorted, Passes-ascending, next-here, next-later}
-
--- threads by process and number
-abbrev pub row_cmp : ThreadRow → ThreadRow → Ordering
-row_cmp a b = thread_cmp (thread_of_row a) (thread_of_row b)
+use Rattle.span_report.specs.Parts.{AreAscending, Passes, AreInOrder, IsPastThread, IsPastProcess, rows_at, threads_in, series_in, pid_of_series, spans_on, instants_on}
+use Rattle.span_report.proofs.Walks.{AllByRecursion-filter, filter-same, flat_map-same, IsStrictlySortedBy-drop, first-below, rest-sorted, Passes-ascending, next-here, next-later}
 
 -- the rows of a thread, as a report tests them
 pub filter-thread : {R : Type 0} (owner : R → Thread) (thread : Thread) (rows : List R) → filter (λ row. int_eq (owner row).pid thread.pid && int_eq (owner row).tid thread.tid) rows ≡ rows_at thread_cmp owner thread rows
@@ -80,11 +78,11 @@ IsPastThread-instant thread old mid instants row past next at = record {
 
 -- the lines of later threads are the same
 pub lines-past-thread : (thread : ThreadRow) (old new : PartRows) → IsPastThread (thread_of_row thread) old new →
-    (threads : List ThreadRow) → AllByRecursion (λ t. row_cmp thread t ≡ Less) threads → flat_map (thread_lines old) threads ≡ flat_map (thread_lines new) threads
+    (threads : List ThreadRow) → AllByRecursion (λ t. thread_order thread t ≡ Less) threads → flat_map (thread_lines old) threads ≡ flat_map (thread_lines new) threads
 lines-past-thread thread old new past threads later =
     flat_map-same (thread_lines old) (thread_lines new) threads
-    (AllByRecursion-map (λ t. row_cmp thread t ≡ Less) (λ t. thread_lines old t ≡ thread_lines new t)
-    (λ (t : ThreadRow) (above : row_cmp thread t ≡ Less). thread_lines-same old new t (past.spans (thread_of_row t) above) (past.instants (thread_of_row t) above)) threads later)
+    (AllByRecursion-map (λ t. thread_order thread t ≡ Less) (λ t. thread_lines old t ≡ thread_lines new t)
+    (λ (t : ThreadRow) (above : thread_order thread t ≡ Less). thread_lines-same old new t (past.spans (thread_of_row t) above) (past.instants (thread_of_row t) above)) threads later)
 
 -- the lines of later processes are the same
 pub process_lines-past : (pid : ℤ) (old new : PartRows) (process : ProcessRow) → IsPastProcess pid old new → int_cmp pid process.pid ≡ Less → process_lines old process ≡ process_lines new process
@@ -102,24 +100,9 @@ process_lines-past pid old new process past above =
       each ts,
     )
 
-pub not_above : (r s : Ordering) → ordering_then r s ≡ Less → is_gt r ≡ false
-not_above Less s below = refl
-not_above Equal s below = refl
-not_above Greater s below = cc
-
--- threads that ascend by process and number do so by process
-pub pids-ascending : (threads : List ThreadRow) → IsStrictlySortedBy row_cmp threads → AreAscending int_cmp (λ row. row.pid) threads
-unfolding IsStrictlySortedBy
-pids-ascending [] sorted = tt
-pids-ascending (t ∷ ts) sorted = (
-  AllByRecursion-map (λ u. row_cmp t u ≡ Less) (λ u. is_gt (int_cmp t.pid u.pid) ≡ false)
-      (λ (u : ThreadRow) (below : row_cmp t u ≡ Less). not_above (int_cmp t.pid u.pid) (int_cmp t.tid u.tid) below) ts sorted.0,
-  pids-ascending ts sorted.1,
-)
-
 module _ (pid : ℤ) (old mid : PartRows) (past : IsPastProcess pid old mid) where
-  threads-left : (new : List ThreadRow) → Passes int_cmp (λ row. row.pid) pid mid.threads new → IsStrictlySortedBy row_cmp new
-  threads-left new next = subst (IsStrictlySortedBy row_cmp) next.left (IsStrictlySortedBy-drop row_cmp next.passed mid.threads past.order.threads)
+  threads-left : (new : List ThreadRow) → Passes int_cmp (λ row. row.pid) pid mid.threads new → IsStrictlySortedBy thread_order new
+  threads-left new next = subst (IsStrictlySortedBy thread_order) next.left (IsStrictlySortedBy-drop thread_order next.passed mid.threads past.order.threads)
 
   -- no thread of the process is left
   pub IsPastProcess-end : (threads : List ThreadRow) → Passes int_cmp (λ row. row.pid) pid mid.threads threads → IsPastProcess pid old (record mid { threads = threads })
@@ -134,7 +117,7 @@ module _ (pid : ℤ) (old mid : PartRows) (past : IsPastProcess pid old mid) whe
   module _ (thread : ThreadRow) (threads : List ThreadRow) (next : Passes int_cmp (λ row. row.pid) pid mid.threads (thread ∷ threads)) (at : eq_by_cmp int_cmp thread.pid pid ≡ true) where
     -- the rows are in order when a thread is taken
     pub thread-order : AreInOrder (record mid { threads = threads })
-    thread-order = record { threads = rest-sorted row_cmp thread threads (threads-left (thread ∷ threads) next); spans = past.order.spans; instants = past.order.instants; series = past.order.series }
+    thread-order = record { threads = rest-sorted thread_order thread threads (threads-left (thread ∷ threads) next); spans = past.order.spans; instants = past.order.instants; series = past.order.series }
 
     module _ (new : PartRows) (done : IsPastThread (thread_of_row thread) (record mid { threads = threads }) new) where
       -- one thread more of the process is printed
@@ -153,9 +136,9 @@ module _ (pid : ℤ) (old mid : PartRows) (past : IsPastProcess pid old mid) whe
           ap (flat_map (thread_lines mid)) (next-here int_cmp_total (λ (row : ThreadRow). row.pid) pid mid.threads threads thread next at)
           ∙ ap (λ lines. thread_lines mid thread ++ lines)
           (lines-past-thread thread (record mid { threads = threads }) new done (threads_in pid threads)
-          (AllByRecursion-filter (λ t. row_cmp thread t ≡ Less) (λ t. eq_by_cmp int_cmp t.pid pid) threads
-          (AllByRecursion-map (λ t. row_cmp thread t ≡ Less) (λ t. eq_by_cmp int_cmp t.pid pid ≡ true → row_cmp thread t ≡ Less) (λ (t : ThreadRow) below in_process. below) threads
-          (first-below row_cmp thread threads (threads-left (thread ∷ threads) next))))
+          (AllByRecursion-filter (λ t. thread_order thread t ≡ Less) (λ t. eq_by_cmp int_cmp t.pid pid) threads
+          (AllByRecursion-map (λ t. thread_order thread t ≡ Less) (λ t. eq_by_cmp int_cmp t.pid pid ≡ true → thread_order thread t ≡ Less) (λ (t : ThreadRow) below in_process. below) threads
+          (first-below thread_order thread threads (threads-left (thread ∷ threads) next))))
           ∙ ap (λ ts. flat_map (thread_lines new) (threads_in pid ts)) (sym done.threads))
 
 -- the lines so far, one part more, and the rest

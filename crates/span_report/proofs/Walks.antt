@@ -5,13 +5,10 @@ use Rattle.std.specs.List.{AllByRecursion}
 use Rattle.std.specs.List.Sorted.{IsStrictlySortedBy}
 use Rattle.std.specs.declared.cmp.Ordering.{Ordering}
 use Rattle.std.specs.declared.cmp.Ordering.TheVariants.{Less, Equal, Greater}
-use Rattle.std.specs.Ordering.{is_eq, is_gt, eq_by_cmp, ordering_reverse}
+use Rattle.std.specs.Ordering.{is_eq, is_gt, eq_by_cmp, ordering_reverse, ordering_then}
 use Rattle.std.specs.Cmp.{IsTotalOrder, Equal-is}
+use Rattle.span_ledger.proofs.Sorted.{AllByRecursion-map}
 use Rattle.span_report.specs.Parts.{AreAscending, rows_at, Passes}
-
-pub AllByRecursion-map : {A : Type 0} (P Q : A → Type 0) → ((x : A) → P x → Q x) → (xs : List A) → AllByRecursion P xs → AllByRecursion Q xs
-AllByRecursion-map P Q f [] h = tt
-AllByRecursion-map P Q f (x ∷ xs) h = (f x h.0, AllByRecursion-map P Q f xs h.1)
 
 -- what holds of all where a test passes holds of all that a filter keeps
 pub AllByRecursion-filter : {A : Type 0} (P : A → Type 0) (test : A → Bool) → (xs : List A) → AllByRecursion (λ x. test x ≡ true → P x) xs → AllByRecursion P (filter test xs)
@@ -98,3 +95,19 @@ module _ {R K : Type 0} {cmp : K → K → Ordering} (o : IsTotalOrder cmp) (key
   pub next-later : (k : K) (old new : List R) (row : R) → Passes cmp key k old (row ∷ new) → eq_by_cmp cmp (key row) k ≡ true → (l : K) → cmp k l ≡ Less → rows_at cmp key l new ≡ rows_at cmp key l old
   next-later k old new row p at l above =
       sym (rows_at-other l row new (o.congr (key row) k l ((Equal-is (cmp (key row) k)).0 at) ∙ above)) ∙ p.later l above
+
+not_above : (r s : Ordering) → ordering_then r s ≡ Less → is_gt r ≡ false
+not_above Less s below = refl
+not_above Equal s below = refl
+not_above Greater s below = cc
+
+-- rows that are sorted by their keys first ascend by key
+pub AreAscending-sorted : {R K : Type 0} (cmp : K → K → Ordering) (key : R → K) (finer : R → R → Ordering) (rows : List R) →
+    IsStrictlySortedBy (λ a b. ordering_then (cmp (key a) (key b)) (finer a b)) rows → AreAscending cmp key rows
+unfolding IsStrictlySortedBy
+AreAscending-sorted cmp key finer [] sorted = tt
+AreAscending-sorted cmp key finer (row ∷ rows) sorted = (
+  AllByRecursion-map (λ next. ordering_then (cmp (key row) (key next)) (finer row next) ≡ Less) (λ next. is_gt (cmp (key row) (key next)) ≡ false)
+      (λ next below. not_above (cmp (key row) (key next)) (finer row next) below) rows sorted.0,
+  AreAscending-sorted cmp key finer rows sorted.1,
+)

@@ -11,17 +11,9 @@ use Rattle.span_ledger.specs.declared.thread.Thread.{Thread}
 use Rattle.span_ledger.specs.declared.rows.ThreadRow.{ThreadRow}
 use Rattle.span_ledger.specs.declared.rows.SpanRow.{SpanRow}
 use Rattle.span_track.specs.declared.meta_track.instants.InstantRow.{InstantRow}
+use Rattle.span_ledger.specs.Order.{process_order, thread_order, thread_of_span, thread_of_instant}
 use Rattle.span_ledger.specs.Rows.{thread_cmp}
 use Rattle.span_report.specs.Report.{PartRows, AllRows}
-
-abbrev pub thread_of_row : ThreadRow → Thread
-thread_of_row row = record { pid = row.pid; tid = row.tid }
-
-abbrev pub thread_of_span : SpanRow → Thread
-thread_of_span row = record { pid = row.pid; tid = row.tid }
-
-abbrev pub thread_of_instant : InstantRow → Thread
-thread_of_instant row = record { pid = row.pid; tid = row.tid }
 
 module _ {R K : Type 0} (cmp : K → K → Ordering) (key : R → K) where
   -- no row has a key above that of a later one
@@ -61,7 +53,7 @@ abbrev pub instants_on : Thread → List InstantRow → List InstantRow
 instants_on = rows_at thread_cmp thread_of_instant
 
 pub record AreInOrder (parts : PartRows) : Type 0 where
-  pub threads : IsStrictlySortedBy (λ a b. thread_cmp (thread_of_row a) (thread_of_row b)) parts.threads
+  pub threads : IsStrictlySortedBy thread_order parts.threads
   pub spans : AreAscending thread_cmp thread_of_span parts.spans
   pub instants : AreAscending thread_cmp thread_of_instant parts.instants
   pub series : AreAscending int_cmp pid_of_series parts.series
@@ -83,5 +75,5 @@ pub record IsPastProcess (pid : ℤ) (old new : PartRows) : Type 0 where
   pub order : AreInOrder new
 
 pub record RowsAreInOrder (rows : AllRows) : Type 0 where
-  pub processes : IsStrictlySortedBy (λ a b. int_cmp a.pid b.pid) rows.processes
+  pub processes : IsStrictlySortedBy process_order rows.processes
   pub parts : AreInOrder rows.parts

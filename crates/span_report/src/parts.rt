@@ -3,7 +3,8 @@ ghost use Rattle.std.specs.Prelude.{◌≡◌, ℤ};
 ghost use Rattle.std.specs.Ordering.{int_cmp};
 ghost use Rattle.span_ledger.specs.declared.thread.Thread.{Thread};
 ghost use Rattle.span_ledger.specs.Rows.{thread_cmp};
-ghost use Rattle.span_report.specs.Parts.{AreAscending, IsNext, pid_of_series, thread_of_instant, thread_of_row, thread_of_span};
+ghost use Rattle.span_ledger.specs.Order.{thread_of_row, thread_of_span, thread_of_instant};
+ghost use Rattle.span_report.specs.Parts.{AreAscending, IsNext, pid_of_series};
 
 use span_ledger::{InstantRow, ProcessRow, SeriesRow, SpanRow, ThreadRow};
 use std::cmp::Ordering;

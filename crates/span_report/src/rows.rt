@@ -1,5 +1,6 @@
 //! The rows of a ledger, all that a report prints.
 ghost use Rattle.std.specs.Prelude.{◌≡◌, IfOk};
+ghost use Rattle.span_report.specs.Parts.{RowsAreInOrder};
 ghost use Rattle.span_report.specs.Report.{rows_of};
 
 use span_ledger::{
@@ -37,7 +38,8 @@ impl Model for Rows {
 
 impl Rows {
     pub(crate) fn of(alloc: Global, ledger: &Ledger) -> Result<Rows, AllocError>
-        ensures { IfOk result (λ rows. rows ≡ rows_of ledger.now.journal) }
+        ensures rows { IfOk result (λ rows. rows ≡ rows_of ledger.now.journal) }
+        ensures order { IfOk result RowsAreInOrder }
     {
         Ok(Rows {
             counts: ledger.counts(),

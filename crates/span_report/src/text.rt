@@ -1,8 +1,9 @@
 //! The text of a report: one walk over rows that are in their order.
 ghost use Rattle.std.specs.Prelude.{◌≡◌, ◌++◌, string_bytes, filter, flat_map, OnOk, IfOk};
+ghost use Rattle.span_ledger.specs.Order.{thread_of_row};
 ghost use Rattle.span_report.specs.Lines.{async_lines, counter_line, flow_lines, instant_line, span_line};
 ghost use Rattle.span_report.specs.Report.{is_in_process, is_series_in, thread_lines, process_lines, report_text, report_of};
-ghost use Rattle.span_report.specs.Parts.{AreInOrder, IsPastThread, IsPastProcess, RowsAreInOrder, instants_on, spans_on, thread_of_row};
+ghost use Rattle.span_report.specs.Parts.{AreInOrder, IsPastThread, IsPastProcess, RowsAreInOrder, instants_on, spans_on};
 
 use crate::lines::{
     put_async, put_counter, put_counts, put_flow, put_instant, put_process, put_span, put_thread,

@@ -13,7 +13,8 @@ use Rattle.span_track.specs.Keyed.{kept_at}
 use Rattle.span_track.specs.Maps.{ChangesAt, KeepsAll}
 use Rattle.span_track.proofs.Keyed.{insert_key-present, is_some-lookup, keys_of-insert_entry, set_value-same}
 
-is_some-found : {A : Type 0} (o : Option A) (x : A) → Some x ≡ o → IsSome o
+-- what was found is there
+pub is_some-found : {A : Type 0} (o : Option A) (x : A) → Some x ≡ o → IsSome o
 is_some-found None x e = cc
 is_some-found (Some y) x e = refl
 

@@ -1,5 +1,7 @@
 -- What is said of a result where it is Ok, or an Err, from what was said of it before.
+use Rattle.std.proofs.Common.{◌≡◌, false}
 use Rattle.std.specs.Prelude.{Result, Ok, Err, IfOk, OnOk, OnErr}
+use Rattle.std.specs.Result.{is_err}
 
 -- what follows from a fact that holds on Ok holds on Ok
 pub on_ok-map : {T E : Type 0} (r : Result T E) (P Q : Type 0) → (P → Q) → OnOk r P → OnOk r Q
@@ -25,3 +27,8 @@ on_ok-if_ok (Err e) P Q f p = tt
 pub on_ok-both : {T E : Type 0} (r : Result T E) (P : T → Type 0) (Q R : Type 0) → ((x : T) → P x → Q → R) → IfOk r P → OnOk r Q → OnOk r R
 on_ok-both (Ok x) P Q R f p q = f x p q
 on_ok-both (Err e) P Q R f p q = tt
+
+-- what is said of a success holds, where there was one
+pub if_ok-there : {T E : Type 0} (r : Result T E) (P : Type 0) → false ≡ is_err r → IfOk r (λ x. P) → P
+if_ok-there (Ok x) P e p = p
+if_ok-there (Err x) P e p = absurd cc

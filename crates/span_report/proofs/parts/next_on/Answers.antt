@@ -2,7 +2,7 @@ use Rattle.std.proofs.Common.{◌≡◌, ◌∷◌, rules}
 use Rattle.std.specs.declared.cmp.Ordering.TheVariants.{Less, Greater}
 use Rattle.span_ledger.specs.Rows.{thread_cmp}
 use Rattle.span_ledger.proofs.Threads.{thread_cmp-total}
-use Rattle.span_report.specs.Parts.{thread_of_row}
+use Rattle.span_ledger.specs.Order.{thread_of_row}
 use Rattle.span_report.proofs.Walks.{Passes-below, rows_at-beyond}
 use Rattle.span_report.proofs.parts.next_on.Goals as goal
 

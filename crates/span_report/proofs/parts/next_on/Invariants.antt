@@ -1,6 +1,7 @@
 use Rattle.std.proofs.Common.{length}
 use Rattle.span_ledger.specs.Rows.{thread_cmp}
-use Rattle.span_report.specs.Parts.{AreAscending, Passes, thread_of_row}
+use Rattle.span_ledger.specs.Order.{thread_of_row}
+use Rattle.span_report.specs.Parts.{AreAscending, Passes}
 use Rattle.span_report.proofs.parts.next_on.Given as goal
 
 -- the rows so far are below the thread

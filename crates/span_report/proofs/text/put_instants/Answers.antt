@@ -1,8 +1,9 @@
 use Rattle.std.proofs.Common.{ap}
 use Rattle.std.specs.List.{flat_map}
 use Rattle.span_ledger.proofs.Threads.{thread_cmp-total}
+use Rattle.span_ledger.specs.Order.{thread_of_row, thread_of_instant}
 use Rattle.span_report.specs.Lines.{instant_line}
-use Rattle.span_report.specs.Parts.{thread_of_row, thread_of_instant, instants_on}
+use Rattle.span_report.specs.Parts.{instants_on}
 use Rattle.span_report.proofs.Walks.{next-here}
 use Rattle.span_report.proofs.Under.{IsPastThread-instant, IsPastThread-instants_end, next-shorter, one-more}
 use Rattle.span_report.proofs.text.put_instants.Goals as goal

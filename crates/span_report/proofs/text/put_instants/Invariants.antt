@@ -1,7 +1,8 @@
 use Rattle.std.proofs.Common.{◌≡◌, ◌++◌, string_bytes, length}
 use Rattle.std.specs.List.{flat_map}
+use Rattle.span_ledger.specs.Order.{thread_of_row}
 use Rattle.span_report.specs.Lines.{instant_line}
-use Rattle.span_report.specs.Parts.{IsPastThread, instants_on, thread_of_row}
+use Rattle.span_report.specs.Parts.{IsPastThread, instants_on}
 use Rattle.span_report.proofs.text.put_instants.Given as goal
 
 -- the lines so far, with those of the thread's instants that are left, are the lines of all its instants

@@ -1,8 +1,9 @@
 use Rattle.std.proofs.Common.{ap}
 use Rattle.std.specs.List.{flat_map}
 use Rattle.span_ledger.proofs.Threads.{thread_cmp-total}
+use Rattle.span_ledger.specs.Order.{thread_of_row, thread_of_span}
 use Rattle.span_report.specs.Lines.{span_line}
-use Rattle.span_report.specs.Parts.{thread_of_row, thread_of_span, spans_on}
+use Rattle.span_report.specs.Parts.{spans_on}
 use Rattle.span_report.proofs.Walks.{next-here}
 use Rattle.span_report.proofs.Under.{IsPastThread-next, IsPastThread-end, next-shorter, one-more}
 use Rattle.span_report.proofs.text.put_spans.Goals as goal

@@ -1,7 +1,8 @@
 use Rattle.std.proofs.Common.{◌≡◌, ◌++◌, string_bytes, length}
 use Rattle.std.specs.List.{flat_map}
+use Rattle.span_ledger.specs.Order.{thread_of_row}
 use Rattle.span_report.specs.Lines.{span_line}
-use Rattle.span_report.specs.Parts.{IsPastThread, spans_on, thread_of_row}
+use Rattle.span_report.specs.Parts.{IsPastThread, spans_on}
 use Rattle.span_report.proofs.text.put_spans.Given as goal
 
 -- the lines so far, with those of the thread's spans that are left, are the lines of all its spans

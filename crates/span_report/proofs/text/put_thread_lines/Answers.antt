@@ -1,8 +1,9 @@
 use Rattle.std.proofs.Common.{◌++◌, ◌∙◌, string_bytes, ap, sym}
 use Rattle.std.proofs.lemmas.Result.{on_ok_weaker}
 use Rattle.std.specs.List.{flat_map}
+use Rattle.span_ledger.specs.Order.{thread_of_row}
 use Rattle.span_report.specs.Lines.{thread_line, span_line, instant_line}
-use Rattle.span_report.specs.Parts.{thread_of_row, spans_on, instants_on}
+use Rattle.span_report.specs.Parts.{spans_on, instants_on}
 use Rattle.span_report.proofs.Under.{thread_lines-rows, put-in_turn}
 use Rattle.span_report.proofs.text.put_thread_lines.Goals as goal
 

@@ -1,15 +1,18 @@
 use Rattle.std.proofs.Common.{◌∙◌, ◌≡◌, length, ap, arith}
 use Rattle.std.specs.List.{flat_map}
+use Rattle.std.specs.Ordering.{int_cmp}
+use Rattle.span_ledger.specs.declared.rows.ThreadRow.{ThreadRow}
 use Rattle.span_report.specs.Report.{PartRows, thread_lines}
 use Rattle.span_report.specs.Parts.{threads_in}
-use Rattle.span_report.proofs.Under.{pids-ascending, thread-order, next-shorter, thread-then_rest, one-more, IsPastProcess-next, IsPastProcess-end}
+use Rattle.span_report.proofs.Walks.{AreAscending-sorted}
+use Rattle.span_report.proofs.Under.{thread-order, next-shorter, thread-then_rest, one-more, IsPastProcess-next, IsPastProcess-end}
 use Rattle.span_report.proofs.text.put_threads.Goals as goal
 
 -- threads ascend by process too
 pub next_in-requires : goal.next_in-requires
 next_in-requires c =
     let past = rw (← c.parts.view_is) at c.loop-thread.invariant.past in
-    pids-ascending c.parts.inside.threads.now past.order.threads
+    AreAscending-sorted int_cmp (λ (row : ThreadRow). row.pid) (λ (a b : ThreadRow). int_cmp a.tid b.tid) c.parts.inside.threads.now past.order.threads
 
 pub put_thread_lines-requires : goal.put_thread_lines-requires
 put_thread_lines-requires c =

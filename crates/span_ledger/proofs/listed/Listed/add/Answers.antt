@@ -4,11 +4,12 @@ use Rattle.std.specs.declared.cmp.Ordering.TheVariants.{Equal}
 use Rattle.indexmap.specs.IndexSet.{insert_key as add_key}
 use Rattle.span_ledger.specs.declared.thread.Thread.{Thread}
 use Rattle.span_ledger.specs.Told.{same_thread}
-use Rattle.span_ledger.specs.Rows.{ascending, thread_cmp}
-use Rattle.span_ledger.proofs.Ascending.{ascending-add_key}
-use Rattle.span_ledger.proofs.Results.{if_ok-there}
+use Rattle.span_ledger.specs.Rows.{thread_cmp}
 use Rattle.span_ledger.proofs.Threads.{thread_cmp-total, thread_cmp-same, same_thread-cmp}
 use Rattle.span_ledger.proofs.listed.Listed.add.Goals as goal
+use Rattle.span_track.proofs.Ascending.{ascending-add_key}
+use Rattle.span_track.proofs.Results.{if_ok-there}
+use Rattle.span_track.specs.Keyed.{ascending}
 
 pub returns-clause-threads : goal.returns-clause-threads
 returns-clause-threads c =

@@ -2,10 +2,10 @@ use Rattle.std.proofs.Common.{◌≡◌, rules, ap, ◌∙◌, to_z, of_z, w64}
 use Rattle.std.specs.Ordering.{int_cmp, int_eq, is_eq}
 use Rattle.indexmap.specs.IndexSet.{insert_key as add_key}
 use Rattle.std.specs.Cmp.{int_cmp_total, signed_Decides}
-use Rattle.span_ledger.specs.Rows.{ascending}
-use Rattle.span_ledger.proofs.Ascending.{ascending-add_key}
-use Rattle.span_ledger.proofs.Results.{if_ok-there}
 use Rattle.span_ledger.proofs.listed.Listed.add_process.Goals as goal
+use Rattle.span_track.proofs.Ascending.{ascending-add_key}
+use Rattle.span_track.proofs.Results.{if_ok-there}
+use Rattle.span_track.specs.Keyed.{ascending}
 
 pub returns-clause-processes : goal.returns-clause-processes
 returns-clause-processes c =
