@@ -104,6 +104,16 @@ fn prints_the_series_of_a_process_behind_its_threads(rt: HostRuntime) -> Result<
     reports(&rt, events, want)
 }
 
+// As Chrome writes them: the object form, fields that are not read, a name of a thread, and a phase that is not used.
+#[test]
+fn prints_events_as_chrome_writes_them(rt: HostRuntime) -> Result<(), Fail> {
+    let events =
+        r#"{"traceEvents":[{"pid":7,"tid":1,"ts":100,"ph":"X","cat":"toplevel","name":"Run","args":{"src":"a.cc"},"dur":30,"tdur":20,"tts":5},{"pid":7,"tid":1,"ts":0,"ph":"M","cat":"__metadata","name":"thread_name","args":{"name":"CrMain"}},{"pid":7,"tid":1,"ts":110,"ph":"P","cat":"x","name":"s"}],"metadata":{}}"#;
+    let want =
+        "tracebook 1\nevents 2 refused 0 skipped 1 queries 0\nprocess 7 -\nthread 7 1 \"CrMain\" open 0 busy 30\nspan        1               30               30 \"Run\"\n";
+    reports(&rt, events, want)
+}
+
 #[test]
 fn writes_names_as_json_text(rt: HostRuntime) -> Result<(), Fail> {
     let alloc = rt.alloc();
