@@ -100,7 +100,7 @@ filter_map-map f g (x ∷ xs) = ap (cons_option (f (g x))) (filter_map-map f g x
 
 -- rows of sorted keys, each with sorted rows of its own
 module _ {K A : Type 0} {R : K → K → Ordering} (o : IsTotalOrder R) (key : A → K) (T : A → A → Ordering)
-  (f : K → List A) (made : (k : K) → AllByRecursion (λ a. key a ≡ k) (f k)) (inner : (k : K) → IsStrictlySortedBy T (f k)) where
+    (f : K → List A) (made : (k : K) → AllByRecursion (λ a. key a ≡ k) (f k)) (inner : (k : K) → IsStrictlySortedBy T (f k)) where
   -- by key, and then in the order of one key's rows
   abbrev first_by_key : A → A → Ordering
   first_by_key a b = ordering_then (R (key a) (key b)) (T a b)

@@ -233,7 +233,7 @@ fn a_full_journal_gives_the_operation_back(rt: HostRuntime) -> Result<(), Fail> 
     a_full_journal_gives_the_operation_back_in(&rt, &mut ledger)
 }
 
-// All that the readers tell, in lines.
+// The counts, and the rows of spans, threads and processes, in lines.
 fn seen(alloc: Global, ledger: &Ledger) -> Result<String, AllocError> {
     let mut lines = rows(alloc, ledger)?;
     for row in &ledger.processes(alloc)? {

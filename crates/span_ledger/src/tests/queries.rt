@@ -1,6 +1,6 @@
 // What the ledger replies to queries.
 use super::answers;
-use crate::{Ledger, Op, Query, Text};
+use crate::{AsyncKey, FlowKey, IdKey, Ledger, Op, Query, Text};
 use std::alloc::Global;
 use std::process::Abort;
 use std::test::Fail;
@@ -67,4 +67,62 @@ fn queries_are_answered_from_the_entries_before_in(
 fn queries_are_answered_from_the_entries_before(rt: HostRuntime) -> Result<(), Fail> {
     let mut ledger = Ledger::new(rt.alloc(), 100);
     queries_are_answered_from_the_entries_before_in(&rt, &mut ledger)
+}
+
+fn id(alloc: Global, text: &str) -> Result<IdKey, Fail> {
+    let id = Text::of(alloc, text)?;
+    Ok(IdKey { home: None, id })
+}
+
+fn asynchronous(alloc: Global, scope: &str) -> Result<Query, Fail> {
+    Ok(Query::AsyncOf(AsyncKey {
+        cat: Text::of(alloc, "net")?,
+        scope: Text::of(alloc, scope)?,
+        id: id(alloc, "5")?,
+        name: Text::of(alloc, "")?,
+    }))
+}
+
+fn flow(alloc: Global, text: &str) -> Result<Query, Fail> {
+    Ok(Query::FlowOf(FlowKey {
+        cat: Text::of(alloc, "")?,
+        name: Text::of(alloc, "")?,
+        id: id(alloc, text)?,
+    }))
+}
+
+fn keys_are_asked_for_in(rt: &(impl Abort + AllocGlobal), ledger: &mut Ledger) -> Result<(), Fail> {
+    let alloc = rt.alloc();
+    answers(
+        alloc,
+        ledger,
+        "[{\"ph\":\"b\",\"cat\":\"net\",\"scope\":\"A\",\"id\":5,\"ts\":10},{\"ph\":\"e\",\"cat\":\"net\",\"scope\":\"A\",\"id\":\"5\",\"ts\":14},{\"ph\":\"s\",\"id\":9,\"ts\":1},{\"ph\":\"f\",\"id\":9,\"ts\":5},{\"ph\":\"s\",\"id\":9,\"ts\":7}]",
+    )?;
+    let known = reply(rt, ledger, asynchronous(alloc, "A")?)?;
+    assert_eq!(rt;
+        known.as_str(),
+        "Reply(Async(AsyncTotals { closed: 1, total: 4, unclosed: 0, points: 0 }))"
+    );
+    let unknown = reply(rt, ledger, asynchronous(alloc, "B")?)?;
+    assert_eq!(rt;
+        unknown.as_str(),
+        "Reply(Async(AsyncTotals { closed: 0, total: 0, unclosed: 0, points: 0 }))"
+    );
+    let known = reply(rt, ledger, flow(alloc, "9")?)?;
+    assert_eq!(rt;
+        known.as_str(),
+        "Reply(Flow(FlowTotals { ended: 1, total: 4, unclosed: 1 }))"
+    );
+    let unknown = reply(rt, ledger, flow(alloc, "8")?)?;
+    assert_eq!(rt;
+        unknown.as_str(),
+        "Reply(Flow(FlowTotals { ended: 0, total: 0, unclosed: 0 }))"
+    );
+    Ok(())
+}
+
+#[test]
+fn keys_are_asked_for(rt: HostRuntime) -> Result<(), Fail> {
+    let mut ledger = Ledger::new(rt.alloc(), 100);
+    keys_are_asked_for_in(&rt, &mut ledger)
 }
