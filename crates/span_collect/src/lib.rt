@@ -16,7 +16,7 @@ pub use faults::fault_lines;
 pub use files::{FileEnd, Input};
 pub use gate::{FreeGate, Gate};
 pub use queries::Asked;
-pub use runs::{RunEnd, RunError, run};
+pub use runs::{Collected, RunEnd, RunError, run, run_to_ledger};
 pub use span_ledger::{Cause, Ledger, Query, Text};
 pub use span_report::{Sink, SinkFault, Writer};
 pub use words::fault_word;

@@ -1,6 +1,9 @@
 //! A run: files are collected, and their report is written.
 ghost use Rattle.std.specs.Prelude.{◌≡◌, ◌-◌, ◌^◌, ◌<◌, ◌↔◌, [], ◌∷◌, Err, IfOk, IfErr};
 ghost use Rattle.std.specs.List.{list_any};
+ghost use Rattle.span_report.specs.Report.{report_of};
+ghost use Rattle.span_report.specs.Sink.{Takes};
+ghost use Rattle.span_collect.specs.Account.{Account};
 ghost use Rattle.span_collect.specs.Collection.{AreNoneOrTooMany};
 ghost use Rattle.span_collect.specs.Run.{code_of, is_cut, is_refused, status_of, IsRunOf, LeavesOutput, TakesReportOf};
 ghost use Rattle.span_collect.specs.declared.files.Input.{Input as TheInput};
@@ -9,7 +12,7 @@ use crate::collection::{CollectError, collect};
 use crate::files::{FileEnd, Input};
 use crate::gate::FreeGate;
 use crate::queries::Asked;
-use span_ledger::Query;
+use span_ledger::{Ledger, Query};
 use span_report::{Sink, WriteFault, write_report};
 use std::alloc::Global;
 use std::sync::Wait;
@@ -58,6 +61,13 @@ impl RunError {
     }
 }
 
+/// A run that ended, and what it collected.
+#[derive(Drop)]
+pub struct Collected {
+    pub end: RunEnd,
+    pub ledger: Ledger,
+}
+
 /// Collects 1 to 64 files, with one worker for each in threads of their own, and writes the report of their journal.
 pub fn run<O: Sink, R: Threads + Wait + Sync>(
     rt: &R,
@@ -75,6 +85,33 @@ pub fn run<O: Sink, R: Threads + Wait + Sync>(
     ensures error { IfErr result
         (λ error. LeavesOutput error files.now asks.now limit (O.state out.old) (O.state out.new)) }
 {
+    match run_to_ledger(rt, alloc, files, asks, limit, out) {
+        Ok(collected) => Ok(collected.end),
+        Err(error) => Err(error),
+    }
+}
+
+/// As `run`, and gives what was collected: a program that ends then need not free it, which takes long.
+pub fn run_to_ledger<O: Sink, R: Threads + Wait + Sync>(
+    rt: &R,
+    alloc: Global,
+    files: &[Input],
+    asks: &[Query],
+    limit: u32,
+    out: &mut O,
+) -> Result<Collected, RunError>
+    requires { (O.state out.old).failures < 2 ^ 64 - 1 }
+    ensures run { IfOk result (λ collected. IsRunOf files.now asks.now limit collected.end (O.state out.old) (O.state out.new)) }
+    ensures one_file { IfOk result (λ collected. collected.end.status < 2 → (file : TheInput) → files.now ≡ file ∷ [] → asks.now ≡ []
+        → TakesReportOf file (O.state out.old) (O.state out.new)) }
+    ensures count { (result ≡ Err RunError.FileCount) ↔ AreNoneOrTooMany files.now }
+    ensures error { IfErr result
+        (λ error. LeavesOutput error files.now asks.now limit (O.state out.old) (O.state out.new)) }
+    ensures account { IfOk result
+        (λ collected. Account files.now asks.now limit collected.end.ends.items collected.end.asked collected.ledger.journal) }
+    ensures report { IfOk result
+        (λ collected. collected.end.status < 2 → Takes (O.state out.old) (O.state out.new) (report_of collected.ledger.journal)) }
+{
     let outcome = match collect(rt, alloc, files, asks, &FreeGate, limit) {
         Ok(outcome) => outcome,
         Err(CollectError::FileCount) => return Err(RunError::FileCount),
@@ -84,16 +121,19 @@ pub fn run<O: Sink, R: Threads + Wait + Sync>(
         }
     };
     let status = exit_status(&outcome.files, outcome.asked);
-    let end = RunEnd {
-        status,
-        ends: outcome.files,
-        asked: outcome.asked,
+    let collected = Collected {
+        end: RunEnd {
+            status,
+            ends: outcome.files,
+            asked: outcome.asked,
+        },
+        ledger: outcome.ledger,
     };
     if status == 2 {
-        return Ok(end);
+        return Ok(collected);
     }
-    match write_report(alloc, &outcome.ledger, out) {
-        Ok(()) => Ok(end),
+    match write_report(alloc, &collected.ledger, out) {
+        Ok(()) => Ok(collected),
         Err(WriteFault::Memory) => Err(RunError::Memory),
         Err(WriteFault::Output { written }) => Err(RunError::Output { written }),
     }

@@ -1,7 +1,7 @@
 use Rattle.std.proofs.Common.{arith}
 use Rattle.span_collect.proofs.OneFile.{one_report}
 use Rattle.span_collect.proofs.Statuses.{status_of-lt}
-use Rattle.span_collect.proofs.runs.run.Goals as goal
+use Rattle.span_collect.proofs.runs.run_to_ledger.Goals as goal
 
 -- the output failed in the report of what was collected
 pub returns-clause-error : goal.returns-clause-error
