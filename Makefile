@@ -26,6 +26,7 @@ test:
 	tests/refused_growths
 	tests/refused_reading
 	tests/refused_runs
+	tests/terminal_line
 
 # Times the reading of traces beside that of other readers, the division of a thread's time, a report beside its reading, and
 # whole runs over many threads and over several files.

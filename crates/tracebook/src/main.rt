@@ -3,17 +3,19 @@
 
 mod command;
 mod program;
+mod progress;
 mod reading;
 mod source;
 #[cfg(test)]
 mod tests;
 
 pub use program::perform;
+use progress::{Cleared, Progress, Watched};
 use reading::read_up_to;
 pub use source::{Source, SourceFault};
 use span_collect::{Text, Writer};
 use std::fs::File;
-use std::io::ErrorKind;
+use std::io::{ErrorKind, IsTerminal};
 use std::process::ExitCode;
 use std::{env, io};
 
@@ -21,18 +23,37 @@ use std::{env, io};
 #[derive(Drop)]
 struct Host<'a> {
     rt: &'a HostRuntime,
+    progress: Progress<'a>,
 }
 
 impl<'a> Source for Host<'a> {
     fn standard(&mut self, most: u64) -> Result<Vec<u8>, SourceFault> {
-        read_up_to(self.rt.alloc(), &mut self.rt.stdin(), most as usize)
+        self.progress.open(0);
+        let mut reader = Watched {
+            inner: self.rt.stdin(),
+            progress: &mut self.progress,
+        };
+        read_up_to(self.rt.alloc(), &mut reader, most as usize)
     }
 
     fn file(&mut self, name: &Text, most: u64) -> Result<Vec<u8>, SourceFault> {
-        match File::open(self.rt, name.as_str()) {
-            Ok(mut file) => read_up_to(self.rt.alloc(), &mut file, most as usize),
-            Err(_) => Err(SourceFault::NotOpened),
-        }
+        let Ok(file) = File::open(self.rt, name.as_str()) else {
+            return Err(SourceFault::NotOpened);
+        };
+        let size = match file.metadata() {
+            Ok(metadata) => metadata.len(),
+            Err(_) => 0,
+        };
+        self.progress.open(size);
+        let mut reader = Watched {
+            inner: file,
+            progress: &mut self.progress,
+        };
+        read_up_to(self.rt.alloc(), &mut reader, most as usize)
+    }
+
+    fn end(&mut self) {
+        self.progress.collect();
     }
 }
 
@@ -60,15 +81,13 @@ fn main(rt: HostRuntime) -> ExitCode {
         Ok(words) => words,
         Err(error) => return fail_without_words(&rt, error),
     };
-    let mut source = Host { rt: &rt };
-    let mut out = Writer::new(rt.stdout());
-    let status = perform(
-        &rt,
-        rt.alloc(),
-        &words,
-        &mut source,
-        &mut out,
-        &mut rt.stderr(),
-    );
+    let is_terminal = rt.stderr().is_terminal();
+    let mut source = Host {
+        rt: &rt,
+        progress: Progress::new(&rt, is_terminal),
+    };
+    let mut out = Writer::new(Cleared::new(&rt, rt.stdout(), is_terminal));
+    let mut faults = Cleared::new(&rt, rt.stderr(), is_terminal);
+    let status = perform(&rt, rt.alloc(), &words, &mut source, &mut out, &mut faults);
     ExitCode::from(status)
 }

@@ -1,12 +1,13 @@
 //! The program, over whatever files and outputs it is given.
-ghost use Rattle.std.specs.Prelude.{◌-◌, ◌^◌, ◌<◌, ◌≤◌};
+ghost use Rattle.std.specs.Prelude.{◌≡◌, ◌-◌, ◌^◌, ◌<◌, ◌≤◌, length};
 
 use crate::command::{Order, order_of};
 use crate::source::{Source, SourceFault};
-use span_collect::{Input, Sink, Text, fault_lines, fault_word, run};
+use span_collect::{Input, RunEnd, Sink, Text, fault_lines, fault_word, run_to_ledger};
 use span_report::{json_text, write_bytes};
 use std::alloc::{AllocError, Global};
 use std::io::Write;
+use std::mem::forget;
 use std::sync::Wait;
 use std::thread::Threads;
 
@@ -35,7 +36,10 @@ pub fn perform<R: Threads + Wait + Sync, S: Source, O: Sink, F: Write>(
 {
     match order_of(alloc, words) {
         Ok(Order::Collect { limit, files }) => match inputs_of(alloc, files, source) {
-            Ok(inputs) => collect(rt, alloc, limit, &inputs, out, faults),
+            Ok(inputs) => {
+                source.end();
+                collect(rt, alloc, limit, &inputs, out, faults)
+            }
             Err(Unread::Memory) => fail(alloc, MEMORY, faults),
             Err(Unread::NotOpened(name)) => fail_at(alloc, &name, faults),
         },
@@ -102,15 +106,28 @@ fn collect<R: Threads + Wait + Sync, O: Sink, F: Write>(
     requires { (O.state out.old).failures < 2 ^ 64 - 1 }
     ensures { result ≤ 2 }
 {
-    match run(rt, alloc, files, &[], limit, out) {
-        Ok(end) => match fault_lines(alloc, files, &end.ends) {
-            Ok(lines) => {
-                let _ = faults.write_all(&lines);
-                end.status
-            }
-            Err(_) => fail(alloc, MEMORY, faults),
-        },
+    match run_to_ledger(rt, alloc, files, &[], limit, out) {
+        Ok(collected) => {
+            // The program ends next, and then the system frees all at once, where freeing one by one takes long.
+            forget(collected.ledger);
+            report_faults(alloc, files, &collected.end, faults)
+        }
         Err(error) => fail(alloc, error.code(), faults),
+    }
+}
+
+// Writes the lines of files that were not read whole, and gives the status of the run.
+fn report_faults<F: Write>(alloc: Global, files: &[Input], end: &RunEnd, faults: &mut F) -> u8
+    requires lines { length files.now ≡ length end.now.ends.items }
+    requires status { end.now.status ≤ 2 }
+    ensures { result ≤ 2 }
+{
+    match fault_lines(alloc, files, &end.ends) {
+        Ok(lines) => {
+            let _ = faults.write_all(&lines);
+            end.status
+        }
+        Err(_) => fail(alloc, MEMORY, faults),
     }
 }
 

@@ -21,4 +21,7 @@ pub trait Source {
     /// The bytes of the file, or the first `most` of them.
     fn file(&mut self, name: &Text, most: u64) -> Result<Vec<u8>, SourceFault>
         ensures { IfOk result (λ bytes. vec_len bytes ≤ most) };
+
+    /// Called once, after the last file was read.
+    fn end(&mut self) {}
 }
