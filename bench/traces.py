@@ -5,6 +5,7 @@ import time
 
 CRATES = os.path.join(os.path.dirname(os.path.abspath(__file__)), "..", "crates")
 READING_TIME = os.path.join(CRATES, "reading_time", "out", "reading_time")
+TRACEBOOK = os.path.join(CRATES, "..", "tracebook")
 END = '],"beginningOfTime":1}'
 TURNS = 3
 # A file of the largest size that is read, but for a little.
