@@ -58,62 +58,81 @@ const NOTHING: AsyncTotals = AsyncTotals {
     points: 0,
 };
 
-#[test]
-fn a_key_in_two_scopes(rt: HostRuntime) -> Result<(), Fail> {
-    let mut track = AsyncTrack::new(rt.alloc());
-    let here = key(rt.alloc(), "net", "A", None, "5", "")?;
-    let elsewhere = key(rt.alloc(), "net", "B", None, "5", "")?;
-    begin(&rt, &mut track, &here, 10)?;
+fn a_key_in_two_scopes_on(
+    rt: &(impl Abort + AllocGlobal),
+    track: &mut AsyncTrack,
+    here: &AsyncKey,
+    elsewhere: &AsyncKey,
+) -> Result<(), Fail> {
+    begin(rt, track, here, 10)?;
     assert_eq!(rt;
-        track.end_async(&elsewhere, 11),
+        track.end_async(elsewhere, 11),
         Err(TrackFault::Refused(23))
     );
-    assert_eq!(rt; track.end_async(&here, 14)?, 4);
+    assert_eq!(rt; track.end_async(here, 14)?, 4);
     let totals = AsyncTotals {
         closed: 1,
         total: 4,
         unclosed: 0,
         points: 0,
     };
-    assert_eq!(rt; track.of(&here), totals);
-    assert_eq!(rt; track.of(&elsewhere), NOTHING);
+    assert_eq!(rt; track.of(here), totals);
+    assert_eq!(rt; track.of(elsewhere), NOTHING);
     let rows = track.rows(rt.alloc())?;
     assert_eq!(rt; rows.len(), 1);
     let row = rows.first().ok_or("a row")?;
-    assert!(rt; row.key == here);
+    assert!(rt; row.key == *here);
     assert_eq!(rt; row.totals, totals);
     Ok(())
 }
 
 #[test]
-fn an_id_of_two_processes(rt: HostRuntime) -> Result<(), Fail> {
+fn a_key_in_two_scopes(rt: HostRuntime) -> Result<(), Fail> {
+    let here = key(rt.alloc(), "net", "A", None, "5", "")?;
+    let elsewhere = key(rt.alloc(), "net", "B", None, "5", "")?;
     let mut track = AsyncTrack::new(rt.alloc());
-    let first = key(rt.alloc(), "", "", Some(1), "1", "")?;
-    let second = key(rt.alloc(), "", "", Some(2), "1", "")?;
-    begin(&rt, &mut track, &first, 1)?;
-    assert_eq!(rt; track.end_async(&second, 2), Err(TrackFault::Refused(23)));
-    assert_eq!(rt; track.end_async(&first, 0), Err(TrackFault::Refused(24)));
-    assert_eq!(rt; track.end_async(&first, 3)?, 2);
-    assert_eq!(rt; track.end_async(&first, 3), Err(TrackFault::Refused(23)));
-    assert_eq!(rt; track.of(&second), NOTHING);
+    a_key_in_two_scopes_on(&rt, &mut track, &here, &elsewhere)
+}
+
+fn an_id_of_two_processes_on(
+    rt: &impl Abort,
+    track: &mut AsyncTrack,
+    first: &AsyncKey,
+    second: &AsyncKey,
+) -> Result<(), Fail> {
+    begin(rt, track, first, 1)?;
+    assert_eq!(rt; track.end_async(second, 2), Err(TrackFault::Refused(23)));
+    assert_eq!(rt; track.end_async(first, 0), Err(TrackFault::Refused(24)));
+    assert_eq!(rt; track.end_async(first, 3)?, 2);
+    assert_eq!(rt; track.end_async(first, 3), Err(TrackFault::Refused(23)));
+    assert_eq!(rt; track.of(second), NOTHING);
     Ok(())
 }
 
 #[test]
-fn spans_of_one_key_that_nest(rt: HostRuntime) -> Result<(), Fail> {
+fn an_id_of_two_processes(rt: HostRuntime) -> Result<(), Fail> {
+    let first = key(rt.alloc(), "", "", Some(1), "1", "")?;
+    let second = key(rt.alloc(), "", "", Some(2), "1", "")?;
     let mut track = AsyncTrack::new(rt.alloc());
-    let key = key(rt.alloc(), "c", "", None, "x", "n")?;
-    assert_eq!(rt; track.of(&key), NOTHING);
-    point(&rt, &mut track, &key)?;
-    begin(&rt, &mut track, &key, 9)?;
-    begin(&rt, &mut track, &key, -5)?;
-    begin(&rt, &mut track, &key, 2)?;
-    point(&rt, &mut track, &key)?;
-    assert_eq!(rt; track.end_async(&key, 2)?, 0);
-    assert_eq!(rt; track.end_async(&key, 3)?, 8);
-    assert_eq!(rt; track.end_async(&key, 8), Err(TrackFault::Refused(24)));
+    an_id_of_two_processes_on(&rt, &mut track, &first, &second)
+}
+
+fn spans_of_one_key_that_nest_on(
+    rt: &impl Abort,
+    track: &mut AsyncTrack,
+    key: &AsyncKey,
+) -> Result<(), Fail> {
+    assert_eq!(rt; track.of(key), NOTHING);
+    point(rt, track, key)?;
+    begin(rt, track, key, 9)?;
+    begin(rt, track, key, -5)?;
+    begin(rt, track, key, 2)?;
+    point(rt, track, key)?;
+    assert_eq!(rt; track.end_async(key, 2)?, 0);
+    assert_eq!(rt; track.end_async(key, 3)?, 8);
+    assert_eq!(rt; track.end_async(key, 8), Err(TrackFault::Refused(24)));
     assert_eq!(rt;
-        track.of(&key),
+        track.of(key),
         AsyncTotals {
             closed: 2,
             total: 8,
@@ -125,68 +144,91 @@ fn spans_of_one_key_that_nest(rt: HostRuntime) -> Result<(), Fail> {
 }
 
 #[test]
-fn the_longest_span_three_times(rt: HostRuntime) -> Result<(), Fail> {
+fn spans_of_one_key_that_nest(rt: HostRuntime) -> Result<(), Fail> {
+    let key = key(rt.alloc(), "c", "", None, "x", "n")?;
     let mut track = AsyncTrack::new(rt.alloc());
-    let key = key(rt.alloc(), "", "", None, "", "")?;
+    spans_of_one_key_that_nest_on(&rt, &mut track, &key)
+}
+
+fn the_longest_span_three_times_on(
+    rt: &impl Abort,
+    track: &mut AsyncTrack,
+    key: &AsyncKey,
+) -> Result<(), Fail> {
     for _ in 0..3u32 {
-        begin(&rt, &mut track, &key, -9_007_199_254_740_991)?;
+        begin(rt, track, key, -9_007_199_254_740_991)?;
         assert_eq!(rt;
-            track.end_async(&key, 9_007_199_254_740_991)?,
+            track.end_async(key, 9_007_199_254_740_991)?,
             18_014_398_509_481_982
         );
     }
-    assert_eq!(rt; track.of(&key).total, 54_043_195_528_445_946);
+    assert_eq!(rt; track.of(key).total, 54_043_195_528_445_946);
     Ok(())
 }
 
+#[test]
+fn the_longest_span_three_times(rt: HostRuntime) -> Result<(), Fail> {
+    let key = key(rt.alloc(), "", "", None, "", "")?;
+    let mut track = AsyncTrack::new(rt.alloc());
+    the_longest_span_three_times_on(&rt, &mut track, &key)
+}
+
 // A step of the second key and then of the first: their rows come the other way round.
-fn expect_order(
-    rt: &impl Abort,
-    alloc: Global,
+fn expect_order_on(
+    rt: &(impl Abort + AllocGlobal),
+    track: &mut AsyncTrack,
     first: &AsyncKey,
     second: &AsyncKey,
 ) -> Result<(), Fail> {
-    let mut track = AsyncTrack::new(alloc);
-    point(rt, &mut track, second)?;
-    point(rt, &mut track, first)?;
-    let rows = track.rows(alloc)?;
+    point(rt, track, second)?;
+    point(rt, track, first)?;
+    let rows = track.rows(rt.alloc())?;
     assert_eq!(rt; rows.len(), 2);
     let row = rows.first().ok_or("a row")?;
     assert!(rt; row.key == *first);
     Ok(())
 }
 
+fn expect_order(
+    rt: &(impl Abort + AllocGlobal),
+    first: &AsyncKey,
+    second: &AsyncKey,
+) -> Result<(), Fail> {
+    let mut track = AsyncTrack::new(rt.alloc());
+    expect_order_on(rt, &mut track, first, second)
+}
+
 #[test]
 fn rows_are_ordered_by_category_before_scope(rt: HostRuntime) -> Result<(), Fail> {
     let first = key(rt.alloc(), "a", "b", None, "b", "b")?;
     let second = key(rt.alloc(), "b", "a", None, "a", "a")?;
-    expect_order(&rt, rt.alloc(), &first, &second)
+    expect_order(&rt, &first, &second)
 }
 
 #[test]
 fn rows_are_ordered_by_scope_before_id(rt: HostRuntime) -> Result<(), Fail> {
     let first = key(rt.alloc(), "a", "a", Some(1), "b", "b")?;
     let second = key(rt.alloc(), "a", "b", None, "a", "a")?;
-    expect_order(&rt, rt.alloc(), &first, &second)
+    expect_order(&rt, &first, &second)
 }
 
 #[test]
 fn rows_are_ordered_by_process_before_the_text_of_the_id(rt: HostRuntime) -> Result<(), Fail> {
     let first = key(rt.alloc(), "a", "a", None, "b", "b")?;
     let second = key(rt.alloc(), "a", "a", Some(-1), "a", "a")?;
-    expect_order(&rt, rt.alloc(), &first, &second)
+    expect_order(&rt, &first, &second)
 }
 
 #[test]
 fn rows_are_ordered_by_id_before_name(rt: HostRuntime) -> Result<(), Fail> {
     let first = key(rt.alloc(), "a", "a", Some(2), "10", "b")?;
     let second = key(rt.alloc(), "a", "a", Some(2), "9", "a")?;
-    expect_order(&rt, rt.alloc(), &first, &second)
+    expect_order(&rt, &first, &second)
 }
 
 #[test]
 fn rows_are_ordered_by_name_last(rt: HostRuntime) -> Result<(), Fail> {
     let first = key(rt.alloc(), "a", "a", Some(2), "9", "")?;
     let second = key(rt.alloc(), "a", "a", Some(2), "9", "a")?;
-    expect_order(&rt, rt.alloc(), &first, &second)
+    expect_order(&rt, &first, &second)
 }

@@ -61,17 +61,15 @@ fn end(
     track.end_flow(key, ts)
 }
 
-#[test]
-fn a_chain_and_the_start_of_another(rt: HostRuntime) -> Result<(), Fail> {
-    let mut track = FlowTrack::new(rt.alloc());
-    let key = key(rt.alloc(), "", "", None, "9")?;
-    start(&rt, &mut track, &key, 1)?;
-    assert_eq!(rt;
-        start(&rt, &mut track, &key, 2),
-        Err(TrackFault::Refused(25))
-    );
-    step(&rt, &mut track, &key, 3)?;
-    let closed = end(&rt, &mut track, &key, 5)?;
+fn a_chain_and_the_start_of_another_on(
+    rt: &(impl Abort + AllocGlobal),
+    track: &mut FlowTrack,
+    key: &FlowKey,
+) -> Result<(), Fail> {
+    start(rt, track, key, 1)?;
+    assert_eq!(rt; start(rt, track, key, 2), Err(TrackFault::Refused(25)));
+    step(rt, track, key, 3)?;
+    let closed = end(rt, track, key, 5)?;
     assert_eq!(rt;
         closed,
         FlowClosed {
@@ -79,45 +77,44 @@ fn a_chain_and_the_start_of_another(rt: HostRuntime) -> Result<(), Fail> {
             length: 4
         }
     );
-    assert_eq!(rt; end(&rt, &mut track, &key, 6), Err(TrackFault::Refused(26)));
-    start(&rt, &mut track, &key, 7)?;
-    assert_eq!(rt;
-        step(&rt, &mut track, &key, 6),
-        Err(TrackFault::Refused(22))
-    );
+    assert_eq!(rt; end(rt, track, key, 6), Err(TrackFault::Refused(26)));
+    start(rt, track, key, 7)?;
+    assert_eq!(rt; step(rt, track, key, 6), Err(TrackFault::Refused(22)));
     let totals = FlowTotals {
         ended: 1,
         total: 4,
         unclosed: 1,
     };
-    assert_eq!(rt; track.of(&key), totals);
+    assert_eq!(rt; track.of(key), totals);
     let rows = track.rows(rt.alloc())?;
     assert_eq!(rt; rows.len(), 1);
     let row = rows.first().ok_or("a row")?;
-    assert!(rt; row.key == key);
+    assert!(rt; row.key == *key);
     assert_eq!(rt; row.totals, totals);
     Ok(())
 }
 
 #[test]
-fn points_of_two_keys(rt: HostRuntime) -> Result<(), Fail> {
+fn a_chain_and_the_start_of_another(rt: HostRuntime) -> Result<(), Fail> {
+    let key = key(rt.alloc(), "", "", None, "9")?;
     let mut track = FlowTrack::new(rt.alloc());
-    let first = key(rt.alloc(), "c", "n", None, "x")?;
-    let second = key(rt.alloc(), "c", "n", Some(1), "x")?;
-    start(&rt, &mut track, &first, 0)?;
-    assert_eq!(rt;
-        step(&rt, &mut track, &second, 9),
-        Err(TrackFault::Refused(26))
-    );
+    a_chain_and_the_start_of_another_on(&rt, &mut track, &key)
+}
+
+fn points_of_two_keys_on(
+    rt: &(impl Abort + AllocGlobal),
+    track: &mut FlowTrack,
+    first: &FlowKey,
+    second: &FlowKey,
+) -> Result<(), Fail> {
+    start(rt, track, first, 0)?;
+    assert_eq!(rt; step(rt, track, second, 9), Err(TrackFault::Refused(26)));
     assert_eq!(rt; track.rows(rt.alloc())?.len(), 1);
-    start(&rt, &mut track, &second, -4)?;
-    step(&rt, &mut track, &first, 0)?;
-    step(&rt, &mut track, &first, 2)?;
-    assert_eq!(rt;
-        end(&rt, &mut track, &first, 1),
-        Err(TrackFault::Refused(22))
-    );
-    let closed = end(&rt, &mut track, &first, 2)?;
+    start(rt, track, second, -4)?;
+    step(rt, track, first, 0)?;
+    step(rt, track, first, 2)?;
+    assert_eq!(rt; end(rt, track, first, 1), Err(TrackFault::Refused(22)));
+    let closed = end(rt, track, first, 2)?;
     assert_eq!(rt;
         closed,
         FlowClosed {
@@ -125,45 +122,61 @@ fn points_of_two_keys(rt: HostRuntime) -> Result<(), Fail> {
             length: 2
         }
     );
-    assert_eq!(rt; track.of(&second).unclosed, 1);
-    assert_eq!(rt; track.of(&first).unclosed, 0);
+    assert_eq!(rt; track.of(second).unclosed, 1);
+    assert_eq!(rt; track.of(first).unclosed, 0);
     Ok(())
 }
 
+#[test]
+fn points_of_two_keys(rt: HostRuntime) -> Result<(), Fail> {
+    let first = key(rt.alloc(), "c", "n", None, "x")?;
+    let second = key(rt.alloc(), "c", "n", Some(1), "x")?;
+    let mut track = FlowTrack::new(rt.alloc());
+    points_of_two_keys_on(&rt, &mut track, &first, &second)
+}
+
 // A point of the second key and then of the first: their rows come the other way round.
-fn expect_order(
-    rt: &impl Abort,
-    alloc: Global,
+fn expect_order_on(
+    rt: &(impl Abort + AllocGlobal),
+    track: &mut FlowTrack,
     first: &FlowKey,
     second: &FlowKey,
 ) -> Result<(), Fail> {
-    let mut track = FlowTrack::new(alloc);
-    start(rt, &mut track, second, 0)?;
-    start(rt, &mut track, first, 0)?;
-    let rows = track.rows(alloc)?;
+    start(rt, track, second, 0)?;
+    start(rt, track, first, 0)?;
+    let rows = track.rows(rt.alloc())?;
     assert_eq!(rt; rows.len(), 2);
     let row = rows.first().ok_or("a row")?;
     assert!(rt; row.key == *first);
     Ok(())
 }
 
+fn expect_order(
+    rt: &(impl Abort + AllocGlobal),
+    first: &FlowKey,
+    second: &FlowKey,
+) -> Result<(), Fail> {
+    let mut track = FlowTrack::new(rt.alloc());
+    expect_order_on(rt, &mut track, first, second)
+}
+
 #[test]
 fn rows_are_ordered_by_category_before_name(rt: HostRuntime) -> Result<(), Fail> {
     let first = key(rt.alloc(), "a", "b", Some(1), "b")?;
     let second = key(rt.alloc(), "b", "a", None, "a")?;
-    expect_order(&rt, rt.alloc(), &first, &second)
+    expect_order(&rt, &first, &second)
 }
 
 #[test]
 fn rows_are_ordered_by_name_before_id(rt: HostRuntime) -> Result<(), Fail> {
     let first = key(rt.alloc(), "a", "a", Some(1), "b")?;
     let second = key(rt.alloc(), "a", "b", None, "a")?;
-    expect_order(&rt, rt.alloc(), &first, &second)
+    expect_order(&rt, &first, &second)
 }
 
 #[test]
 fn rows_are_ordered_by_id_last(rt: HostRuntime) -> Result<(), Fail> {
     let first = key(rt.alloc(), "a", "a", None, "b")?;
     let second = key(rt.alloc(), "a", "a", Some(0), "a")?;
-    expect_order(&rt, rt.alloc(), &first, &second)
+    expect_order(&rt, &first, &second)
 }

@@ -103,13 +103,19 @@ fn begin(
     begun
 }
 
-fn end(rt: &impl Abort, track: &mut ThreadTrack, ts: i64) -> Result<ClosedSpan, TrackFault>
+// The span that the end closes: its name, start, end and place.
+fn end(
+    rt: &impl Abort,
+    track: &mut ThreadTrack,
+    ts: i64,
+) -> Result<(u32, i64, i64, u32), TrackFault>
     requires { IsTime ts }
 {
     let none = Args::empty(*track.opened.allocator());
     let ended = track.end_span(ts, &none);
     expect_plain_times(rt, track);
-    ended
+    let span = ended?;
+    Ok((span.name, span.start, span.until, span.at))
 }
 
 fn complete(
@@ -182,124 +188,150 @@ fn a_track_without_events(rt: HostRuntime) {
     expect_busy(&rt, &track, 0);
 }
 
-#[test]
-fn a_span_in_a_span(rt: HostRuntime) -> Result<(), Fail> {
-    let mut track = ThreadTrack::new(rt.alloc());
-    assert_eq!(rt; begin(&rt, &mut track, 0, 0, 0)?, 1);
-    assert_eq!(rt; begin(&rt, &mut track, 1, 1, 2)?, 2);
-    let inner = end(&rt, &mut track, 5)?;
-    assert!(rt; inner.name == 1 && inner.start == 2 && inner.until == 5 && inner.at == 1);
+fn a_span_in_a_span_on(rt: &impl Abort, track: &mut ThreadTrack) -> Result<(), Fail> {
+    assert_eq!(rt; begin(rt, track, 0, 0, 0)?, 1);
+    assert_eq!(rt; begin(rt, track, 1, 1, 2)?, 2);
+    assert_eq!(rt; end(rt, track, 5)?, (1, 2, 5, 1));
     assert_eq!(rt; track.depth(), 1);
-    let outer = end(&rt, &mut track, 10)?;
-    assert!(rt; outer.name == 0 && outer.start == 0 && outer.until == 10 && outer.at == 0);
+    assert_eq!(rt; end(rt, track, 10)?, (0, 0, 10, 0));
     assert_eq!(rt; track.last_time(), Some(10));
     assert_eq!(rt; track.closed_count(), 2);
     let first = track.closed(0).ok_or("a closed span")?;
     assert!(rt; first.name == 1 && first.start == 2 && first.until == 5 && first.at == 1);
-    expect_name(&rt, &track, 0, 1, 10, 7);
-    expect_name(&rt, &track, 1, 1, 3, 3);
-    expect_busy(&rt, &track, 10);
+    expect_name(rt, track, 0, 1, 10, 7);
+    expect_name(rt, track, 1, 1, 3, 3);
+    expect_busy(rt, track, 10);
+    Ok(())
+}
+
+#[test]
+fn a_span_in_a_span(rt: HostRuntime) -> Result<(), Fail> {
+    let mut track = ThreadTrack::new(rt.alloc());
+    a_span_in_a_span_on(&rt, &mut track)
+}
+
+fn a_child_that_came_first_on(rt: &impl Abort, track: &mut ThreadTrack) -> Result<(), Fail> {
+    complete(rt, track, 0, 2, 2, 3)?;
+    complete(rt, track, 1, 3, 0, 10)?;
+    expect_name(rt, track, 3, 1, 10, 7);
+    expect_name(rt, track, 2, 1, 3, 3);
+    expect_busy(rt, track, 10);
+    let segments = [
+        segment(0, 2, 3, 1),
+        segment(2, 5, 2, 0),
+        segment(5, 10, 3, 1),
+    ];
+    expect_all_segments(rt, track, &segments);
     Ok(())
 }
 
 #[test]
 fn a_child_that_came_first(rt: HostRuntime) -> Result<(), Fail> {
     let mut track = ThreadTrack::new(rt.alloc());
-    complete(&rt, &mut track, 0, 2, 2, 3)?;
-    complete(&rt, &mut track, 1, 3, 0, 10)?;
-    expect_name(&rt, &track, 3, 1, 10, 7);
-    expect_name(&rt, &track, 2, 1, 3, 3);
-    expect_busy(&rt, &track, 10);
+    a_child_that_came_first_on(&rt, &mut track)
+}
+
+fn a_span_that_takes_from_two_on(rt: &impl Abort, track: &mut ThreadTrack) -> Result<(), Fail> {
+    complete(rt, track, 0, 0, 0, 10)?;
+    complete(rt, track, 1, 1, 20, 10)?;
+    complete(rt, track, 2, 2, 5, 20)?;
+    expect_name(rt, track, 0, 1, 10, 5);
+    expect_name(rt, track, 1, 1, 10, 10);
+    expect_name(rt, track, 2, 1, 20, 15);
+    expect_busy(rt, track, 30);
     let segments = [
-        segment(0, 2, 3, 1),
-        segment(2, 5, 2, 0),
-        segment(5, 10, 3, 1),
+        segment(0, 5, 0, 0),
+        segment(5, 20, 2, 2),
+        segment(20, 30, 1, 1),
     ];
-    expect_all_segments(&rt, &track, &segments);
+    expect_all_segments(rt, track, &segments);
     Ok(())
 }
 
 #[test]
 fn a_span_that_takes_from_two(rt: HostRuntime) -> Result<(), Fail> {
     let mut track = ThreadTrack::new(rt.alloc());
-    complete(&rt, &mut track, 0, 0, 0, 10)?;
-    complete(&rt, &mut track, 1, 1, 20, 10)?;
-    complete(&rt, &mut track, 2, 2, 5, 20)?;
-    expect_name(&rt, &track, 0, 1, 10, 5);
-    expect_name(&rt, &track, 1, 1, 10, 10);
-    expect_name(&rt, &track, 2, 1, 20, 15);
-    expect_busy(&rt, &track, 30);
-    let segments = [
-        segment(0, 5, 0, 0),
-        segment(5, 20, 2, 2),
-        segment(20, 30, 1, 1),
-    ];
-    expect_all_segments(&rt, &track, &segments);
+    a_span_that_takes_from_two_on(&rt, &mut track)
+}
+
+fn spans_that_cross_on(rt: &impl Abort, track: &mut ThreadTrack) -> Result<(), Fail> {
+    complete(rt, track, 0, 3, 0, 10)?;
+    complete(rt, track, 1, 4, 5, 10)?;
+    expect_name(rt, track, 3, 1, 10, 5);
+    expect_name(rt, track, 4, 1, 10, 10);
+    expect_busy(rt, track, 15);
     Ok(())
 }
 
 #[test]
 fn spans_that_cross(rt: HostRuntime) -> Result<(), Fail> {
     let mut track = ThreadTrack::new(rt.alloc());
-    complete(&rt, &mut track, 0, 3, 0, 10)?;
-    complete(&rt, &mut track, 1, 4, 5, 10)?;
-    expect_name(&rt, &track, 3, 1, 10, 5);
-    expect_name(&rt, &track, 4, 1, 10, 10);
-    expect_busy(&rt, &track, 15);
+    spans_that_cross_on(&rt, &mut track)
+}
+
+fn equal_spans_and_an_empty_one_on(rt: &impl Abort, track: &mut ThreadTrack) -> Result<(), Fail> {
+    complete(rt, track, 0, 0, 0, 4)?;
+    complete(rt, track, 1, 1, 0, 4)?;
+    complete(rt, track, 2, 25, 9, 0)?;
+    expect_name(rt, track, 0, 1, 4, 0);
+    expect_name(rt, track, 1, 1, 4, 4);
+    expect_name(rt, track, 25, 1, 0, 0);
+    expect_busy(rt, track, 4);
     Ok(())
 }
 
 #[test]
 fn equal_spans_and_an_empty_one(rt: HostRuntime) -> Result<(), Fail> {
     let mut track = ThreadTrack::new(rt.alloc());
-    complete(&rt, &mut track, 0, 0, 0, 4)?;
-    complete(&rt, &mut track, 1, 1, 0, 4)?;
-    complete(&rt, &mut track, 2, 25, 9, 0)?;
-    expect_name(&rt, &track, 0, 1, 4, 0);
-    expect_name(&rt, &track, 1, 1, 4, 4);
-    expect_name(&rt, &track, 25, 1, 0, 0);
-    expect_busy(&rt, &track, 4);
+    equal_spans_and_an_empty_one_on(&rt, &mut track)
+}
+
+fn the_longest_span_twice_on(rt: &impl Abort, track: &mut ThreadTrack) -> Result<(), Fail> {
+    complete(rt, track, 0, 7, 0, 9_007_199_254_740_991)?;
+    complete(rt, track, 1, 7, 0, 9_007_199_254_740_991)?;
+    expect_name(
+        rt,
+        track,
+        7,
+        2,
+        18_014_398_509_481_982,
+        9_007_199_254_740_991,
+    );
+    expect_busy(rt, track, 9_007_199_254_740_991);
     Ok(())
 }
 
 #[test]
 fn the_longest_span_twice(rt: HostRuntime) -> Result<(), Fail> {
     let mut track = ThreadTrack::new(rt.alloc());
-    complete(&rt, &mut track, 0, 7, 0, 9_007_199_254_740_991)?;
-    complete(&rt, &mut track, 1, 7, 0, 9_007_199_254_740_991)?;
-    expect_name(
-        &rt,
-        &track,
-        7,
-        2,
-        18_014_398_509_481_982,
-        9_007_199_254_740_991,
-    );
-    expect_busy(&rt, &track, 9_007_199_254_740_991);
+    the_longest_span_twice_on(&rt, &mut track)
+}
+
+fn an_end_without_a_begin_on(rt: &impl Abort, track: &mut ThreadTrack) -> Result<(), Fail> {
+    assert_eq!(rt; end(rt, track, 3), Err(TrackFault::Refused(21)));
+    assert_eq!(rt; begin(rt, track, 1, 0, 1)?, 1);
     Ok(())
 }
 
 #[test]
 fn an_end_without_a_begin(rt: HostRuntime) -> Result<(), Fail> {
     let mut track = ThreadTrack::new(rt.alloc());
-    assert!(rt; matches!(end(&rt, &mut track, 3), Err(TrackFault::Refused(21))));
-    assert_eq!(rt; begin(&rt, &mut track, 1, 0, 1)?, 1);
+    an_end_without_a_begin_on(&rt, &mut track)
+}
+
+fn times_that_go_back_on(rt: &impl Abort, track: &mut ThreadTrack) -> Result<(), Fail> {
+    assert_eq!(rt; begin(rt, track, 0, 0, 10)?, 1);
+    assert_eq!(rt; end(rt, track, 9), Err(TrackFault::Refused(22)));
+    assert_eq!(rt; end(rt, track, 10)?, (0, 10, 10, 0));
+    assert_eq!(rt; end(rt, track, 9), Err(TrackFault::Refused(21)));
+    assert_eq!(rt; begin(rt, track, 4, 1, 9), Err(TrackFault::Refused(22)));
     Ok(())
 }
 
 #[test]
 fn times_that_go_back(rt: HostRuntime) -> Result<(), Fail> {
     let mut track = ThreadTrack::new(rt.alloc());
-    assert_eq!(rt; begin(&rt, &mut track, 0, 0, 10)?, 1);
-    assert!(rt; matches!(end(&rt, &mut track, 9), Err(TrackFault::Refused(22))));
-    let span = end(&rt, &mut track, 10)?;
-    assert!(rt; span.start == 10 && span.until == 10);
-    assert!(rt; matches!(end(&rt, &mut track, 9), Err(TrackFault::Refused(21))));
-    assert_eq!(rt;
-        begin(&rt, &mut track, 4, 1, 9),
-        Err(TrackFault::Refused(22))
-    );
-    Ok(())
+    times_that_go_back_on(&rt, &mut track)
 }
 
 fn args_at(items: &Items, i: usize) -> Option<&Args> {
@@ -315,6 +347,24 @@ fn expect_merged(rt: &impl Abort, args: &Args) {
     assert!(rt; matches!(args.get("z"), Some(ArgValue::Flag(true))));
 }
 
+fn arguments_of_begin_and_end_on(
+    rt: &(impl Abort + AllocGlobal),
+    track: &mut ThreadTrack,
+    first: &Args,
+    second: &Args,
+) -> Result<(), Fail> {
+    ready(rt, track, 0);
+    track.begin_span(0, 0, 0, first)?;
+    expect_plain_times(rt, track);
+    let span = track.end_span(1, second)?;
+    expect_plain_times(rt, track);
+    expect_merged(rt, &span.args);
+    expect_merged(rt, &merge_args(rt.alloc(), first, second)?);
+    let kept = track.closed(0).ok_or("a closed span")?;
+    expect_merged(rt, &kept.args);
+    Ok(())
+}
+
 #[test]
 fn arguments_of_begin_and_end(rt: HostRuntime) -> Result<(), Fail> {
     let items = read_items(
@@ -324,15 +374,27 @@ fn arguments_of_begin_and_end(rt: HostRuntime) -> Result<(), Fail> {
     let first = args_at(&items, 0).ok_or("a begin")?;
     let second = args_at(&items, 1).ok_or("an end")?;
     let mut track = ThreadTrack::new(rt.alloc());
-    ready(&rt, &track, 0);
+    arguments_of_begin_and_end_on(&rt, &mut track, first, second)
+}
+
+fn an_end_with_arguments_merged_before_on(
+    rt: &impl Abort,
+    track: &mut ThreadTrack,
+    first: &Args,
+    second: &Args,
+) -> Result<(), Fail> {
+    ready(rt, track, 0);
     track.begin_span(0, 0, 0, first)?;
-    expect_plain_times(&rt, &track);
-    let span = track.end_span(1, second)?;
-    expect_plain_times(&rt, &track);
-    expect_merged(&rt, &span.args);
-    expect_merged(&rt, &merge_args(rt.alloc(), first, second)?);
-    let kept = track.closed(0).ok_or("a closed span")?;
-    expect_merged(&rt, &kept.args);
+    let merged = track.merged_args(second)?;
+    expect_merged(rt, &merged);
+    let None = track.end_refusal(1) else {
+        panic!(rt; "the end is refused");
+    };
+    assert_eq!(rt; track.close_span(1, merged)?, 0);
+    assert_eq!(rt; track.depth(), 0);
+    let span = track.closed(0).ok_or("a closed span")?;
+    assert!(rt; span.start == 0 && span.until == 1);
+    expect_merged(rt, &span.args);
     Ok(())
 }
 
@@ -345,27 +407,13 @@ fn an_end_with_arguments_merged_before(rt: HostRuntime) -> Result<(), Fail> {
     let first = args_at(&items, 0).ok_or("a begin")?;
     let second = args_at(&items, 1).ok_or("an end")?;
     let mut track = ThreadTrack::new(rt.alloc());
-    ready(&rt, &track, 0);
-    track.begin_span(0, 0, 0, first)?;
-    let merged = track.merged_args(second)?;
-    expect_merged(&rt, &merged);
-    let None = track.end_refusal(1) else {
-        panic!(rt; "the end is refused");
-    };
-    assert_eq!(rt; track.close_span(1, merged)?, 0);
-    assert_eq!(rt; track.depth(), 0);
-    let span = track.closed(0).ok_or("a closed span")?;
-    assert!(rt; span.start == 0 && span.until == 1);
-    expect_merged(&rt, &span.args);
-    Ok(())
+    an_end_with_arguments_merged_before_on(&rt, &mut track, first, second)
 }
 
-#[test]
-fn refusals_that_are_told_before(rt: HostRuntime) -> Result<(), Fail> {
-    let mut track = ThreadTrack::new(rt.alloc());
+fn refusals_that_are_told_before_on(rt: &impl Abort, track: &mut ThreadTrack) -> Result<(), Fail> {
     assert_eq!(rt; track.begin_refusal(-5), None);
     assert_eq!(rt; track.end_refusal(-5), Some(21));
-    begin(&rt, &mut track, 0, 0, 10)?;
+    begin(rt, track, 0, 0, 10)?;
     assert_eq!(rt; track.begin_refusal(9), Some(22));
     assert_eq!(rt; track.end_refusal(9), Some(22));
     assert_eq!(rt; track.begin_refusal(10), None);
@@ -374,11 +422,18 @@ fn refusals_that_are_told_before(rt: HostRuntime) -> Result<(), Fail> {
 }
 
 #[test]
-fn a_stack_200_deep(rt: HostRuntime) -> Result<(), Fail> {
+fn refusals_that_are_told_before(rt: HostRuntime) -> Result<(), Fail> {
     let mut track = ThreadTrack::new(rt.alloc());
+    refusals_that_are_told_before_on(&rt, &mut track)
+}
+
+fn a_stack_200_deep_on(
+    rt: &(impl Abort + AllocGlobal),
+    track: &mut ThreadTrack,
+) -> Result<(), Fail> {
     let none = Args::empty(rt.alloc());
     for at in 0..200u32 {
-        ready(&rt, &track, at);
+        ready(rt, track, at);
         assert_eq!(rt; track.begin_span(at, i64::from(at), at, &none)?, at + 1);
     }
     for i in 0..200u32 {
@@ -392,11 +447,18 @@ fn a_stack_200_deep(rt: HostRuntime) -> Result<(), Fail> {
 }
 
 #[test]
-fn more_than_4096_closed_spans(rt: HostRuntime) -> Result<(), Fail> {
+fn a_stack_200_deep(rt: HostRuntime) -> Result<(), Fail> {
     let mut track = ThreadTrack::new(rt.alloc());
+    a_stack_200_deep_on(&rt, &mut track)
+}
+
+fn more_than_4096_closed_spans_on(
+    rt: &(impl Abort + AllocGlobal),
+    track: &mut ThreadTrack,
+) -> Result<(), Fail> {
     let none = Args::empty(rt.alloc());
     for at in 0..4_100u32 {
-        ready(&rt, &track, at);
+        ready(rt, track, at);
         track.complete(at % 2, i64::from(at), 1, at, &none)?;
     }
     assert_eq!(rt; track.closed_count(), 4_100);
@@ -411,4 +473,10 @@ fn more_than_4096_closed_spans(rt: HostRuntime) -> Result<(), Fail> {
     );
     assert_eq!(rt; track.self_of(0), 2_050);
     Ok(())
+}
+
+#[test]
+fn more_than_4096_closed_spans(rt: HostRuntime) -> Result<(), Fail> {
+    let mut track = ThreadTrack::new(rt.alloc());
+    more_than_4096_closed_spans_on(&rt, &mut track)
 }
