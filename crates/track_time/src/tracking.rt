@@ -20,9 +20,7 @@ fn take(track: &mut ThreadTrack, at: u32, step: &Step) -> Result<u32, TrackFault
         Phase::SpanBegin => {
             track.begin_span(step.number, event.ts, at, &event.args)?;
         }
-        Phase::SpanEnd => {
-            track.end_span(event.ts, &event.args)?;
-        }
+        Phase::SpanEnd => drop(track.end_span(event.ts, &event.args)?),
         Phase::Complete => {
             track.complete(step.number, event.ts, event.dur, at, &event.args)?;
         }
