@@ -1,5 +1,5 @@
 -- The first pair of two lists of arguments merged, and the order of the whole.
-use Rattle.std.proofs.Common.{◌≡◌, ℕ, List, [], ◌∷◌, ◌++◌, length, Bool, true, false, cond, None, Ordering, Less, Equal, Greater, is_eq, nat_eq, nat_cmp, filter, is_none, refl, sym, ap, subst, ◌∙◌, arith}
+use Rattle.std.proofs.Common.{◌≡◌, ℕ, List, [], ◌∷◌, ◌++◌, length, Bool, true, false, cond, None, Ordering, Less, Equal, Greater, is_eq, nat_eq, nat_cmp, filter, is_none, append-nil, refl, sym, ap, subst, ◌∙◌, arith}
 use Rattle.std.specs.Cmp.Lexicographic.{slice_cmp, pointwise}
 use Rattle.std.specs.Ordering.{ordering_reverse, match_ordering}
 use Rattle.std.specs.BTreeMap.{insert_entry}
@@ -84,6 +84,11 @@ IsInNameOrder-in_name_order (p ∷ ps) = IsInNameOrder-insert_entry p (in_name_o
 pub IsInNameOrder-merged : (a b : List Pair) → IsInNameOrder (merged a b)
 IsInNameOrder-merged a b = IsInNameOrder-in_name_order (b ++ lacking b a)
 
+-- pairs that are in order stay as they are
+in_name_order-sorted : (ps : List Pair) → IsInNameOrder ps → in_name_order ps ≡ ps
+in_name_order-sorted [] sorted = refl
+in_name_order-sorted (p ∷ ps) sorted = rw (in_name_order-sorted ps sorted.1) (insert_entry-below p ps sorted.0)
+
 -- ---- the pairs whose name the other list lacks
 
 -- a name below all of a list has no value there
@@ -139,3 +144,17 @@ below_the_other k l above = nat_list_cmp_total.antisymm l k ∙ ap ordering_reve
 pub IsBelowAll-none : (k : List ℕ) (a : List Pair) → length a ≡ 0 → IsBelowAll k a
 IsBelowAll-none k [] none = tt
 IsBelowAll-none k (p ∷ a) none = absurd (omega arith)
+
+-- ---- where one of both has no pairs
+
+lacking-none : (a : List Pair) → lacking [] a ≡ a
+lacking-none [] = refl
+lacking-none (p ∷ a) = ap (λ rest. p ∷ rest) (lacking-none a)
+
+pub merged-no_end : (a b : List Pair) → length b ≡ 0 → IsInNameOrder a → merged a b ≡ a
+merged-no_end a [] none sorted = rw (lacking-none a) (in_name_order-sorted a sorted)
+merged-no_end a (q ∷ b) none sorted = absurd (omega arith)
+
+pub merged-no_begin : (a b : List Pair) → length a ≡ 0 → IsInNameOrder b → merged a b ≡ b
+merged-no_begin [] b none sorted = rw (append-nil b) (in_name_order-sorted b sorted)
+merged-no_begin (p ∷ a) b none sorted = absurd (omega arith)

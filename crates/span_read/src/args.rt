@@ -1,4 +1,6 @@
 ghost use Rattle.std.specs.Prelude.{◌≡◌, List, ℕ, [], ◌∷◌, ◌++◌, option_copied, IfOk, IfSome, IfNone};
+ghost use Rattle.std.specs.Option.{option_map_or};
+ghost use Rattle.std.specs.Arc.{arc_slice_items};
 ghost use Rattle.span_read.specs.declared.args.ArgValue.{ArgValue};
 ghost use Rattle.span_read.specs.Args.{IsInNameOrder, value_of, merged};
 
@@ -6,7 +8,9 @@ use crate::text::Text;
 use std::alloc::{AllocError, Global};
 use std::cmp::Ordering;
 use std::collections::BTreeMap;
+use std::fmt::{self, Debug, Formatter, Write};
 use std::marker::Model;
+use std::sync::ArcSlice;
 
 /// A value of an event's arguments. Arrays, objects and numbers that are not whole are kept as `Other`.
 #[derive(Debug, Drop, PartialEq, Eq)]
@@ -32,34 +36,48 @@ impl ArgValue {
     }
 }
 
-/// The arguments of an event: pairs of a name and a value, each name once, in byte order of names.
-#[derive(Debug, Drop)]
+/// The arguments of an event: pairs of a name and a value, each name once, in byte order of names. Copies share them.
 pub struct Args {
-    pairs: Vec<(Text, ArgValue)>,
+    // None where there are none: most events have none, and take no memory for them
+    pairs: Option<ArcSlice<(Text, ArgValue)>>,
 }
 
 impl Model for Args {
     ghost Value = { List (List ℕ × ArgValue) };
 
-    ghost view = { λ a. a.pairs.items };
+    ghost view = { λ a. option_map_or arc_slice_items a.pairs [] };
 
-    ghost invariant = { λ a. IsInNameOrder a.pairs.items };
+    ghost invariant = { λ a. IsInNameOrder (option_map_or arc_slice_items a.pairs []) };
+}
+
+// Written out, so that who lets go of arguments makes one call, whether there are some or none.
+impl Drop for Args {
+    fn drop(self) {
+        let Args { pairs } = self;
+        drop(pairs);
+    }
+}
+
+impl Debug for Args {
+    fn fmt<W: Write>(&self, f: &mut Formatter<W>) -> fmt::Result {
+        f.debug_struct("Args")
+            .field("pairs", &self.pairs())
+            .finish()
+    }
 }
 
 impl Args {
     /// No arguments. Takes no memory.
-    pub fn empty(alloc: Global) -> Args
+    pub fn empty(_alloc: Global) -> Args
         ensures { result ≡ [] }
     {
-        Args {
-            pairs: Vec::new(alloc),
-        }
+        Args { pairs: None }
     }
 
     pub fn get(&self, name: &str) -> Option<&ArgValue>
         ensures { option_copied result ≡ value_of name.now self.now }
     {
-        for (key, value) in &self.pairs {
+        for (key, value) in self.pairs() {
             if key.as_str() == name {
                 return Some(value);
             }
@@ -72,7 +90,10 @@ impl Args {
         ensures pairs { result.now ≡ self.now }
         ensures in_order { IsInNameOrder self.now }
     {
-        &self.pairs
+        match &self.pairs {
+            Some(pairs) => pairs.as_slice(),
+            None => &[],
+        }
     }
 }
 
@@ -83,7 +104,7 @@ impl Args {
     pub(crate) fn all_whole(&self) -> bool
         ensures { result ≡ all_whole self.now }
     {
-        for (_, value) in &self.pairs {
+        for (_, value) in self.pairs() {
             if !matches!(value, ArgValue::Whole(_)) {
                 return false;
             }
@@ -98,34 +119,48 @@ impl Args {
         for (name, value) in map {
             pairs.push((name, value))?;
         }
-        Ok(Args { pairs })
+        Args::of_pairs(pairs)
     }
 
-    /// The pairs as they are. Takes no memory.
-    pub(crate) fn of_pairs(pairs: Vec<(Text, ArgValue)>) -> Args
+    /// The pairs as they are.
+    pub(crate) fn of_pairs(pairs: Vec<(Text, ArgValue)>) -> Result<Args, AllocError>
         requires { IsInNameOrder pairs.items }
-        ensures { result ≡ pairs.items }
+        ensures { IfOk result (λ args. args ≡ pairs.items) }
     {
-        Args { pairs }
+        if pairs.is_empty() {
+            return Ok(Args { pairs: None });
+        }
+        let pairs = ArcSlice::from_vec(pairs)?;
+        Ok(Args { pairs: Some(pairs) })
     }
 
-    pub fn try_clone(&self, alloc: Global) -> Result<Args, AllocError>
+    /// A copy shares the pairs: it takes no memory, and fails only where there are 2^63 copies.
+    pub fn try_clone(&self, _alloc: Global) -> Result<Args, AllocError>
         ensures { IfOk result (λ a. a ≡ self.now) }
     {
-        let mut pairs = Vec::with_capacity(alloc, self.pairs.len())?;
-        for pair in &self.pairs {
-            pairs.push(copy_of_pair(alloc, pair)?)?;
+        match &self.pairs {
+            Some(pairs) => Ok(Args {
+                pairs: Some(pairs.clone()?),
+            }),
+            None => Ok(Args { pairs: None }),
         }
-        Ok(Args { pairs })
     }
 }
 
-/// The arguments of a span, from those of its begin and of its end. Where both have a name, the end's value is taken.
+/// The arguments of a span, from those of its begin and of its end. Where both have a name, the end's value is taken. Where only
+/// one of the two has arguments, the span shares them.
 pub fn merge_args(alloc: Global, begin: &Args, end: &Args) -> Result<Args, AllocError>
     ensures { IfOk result (λ args. args ≡ merged begin.now end.now) }
 {
-    let pairs = merge_pairs(alloc, &begin.pairs, &end.pairs)?;
-    Ok(Args { pairs })
+    let (first, last) = (begin.pairs(), end.pairs());
+    if last.is_empty() {
+        return begin.try_clone(alloc);
+    }
+    if first.is_empty() {
+        return end.try_clone(alloc);
+    }
+    let pairs = merge_pairs(alloc, first, last)?;
+    Args::of_pairs(pairs)
 }
 
 fn merge_pairs(

@@ -56,7 +56,7 @@ fn args_of_members(alloc: Global, members: &Members) -> Result<Args, AllocError>
     for (name, value) in members.iter() {
         pairs.push((Text::of(alloc, name.as_str())?, arg_value(alloc, value)?))?;
     }
-    Ok(Args::of_pairs(pairs))
+    Args::of_pairs(pairs)
 }
 
 fn arg_value(alloc: Global, value: &Value) -> Result<ArgValue, AllocError>

@@ -3,8 +3,8 @@ use Rattle.span_read.specs.Args.{IsInNameOrder}
 use Rattle.span_read.proofs.NameOrder.{IsInNameOrder-sorted}
 use Rattle.span_read.proofs.args.Args.of_map.Goals as goal
 
-pub invariant_of-result : goal.invariant_of-result
-invariant_of-result c =
+pub of_pairs-requires : goal.of_pairs-requires
+of_pairs-requires c =
     let pairs = c.loop-name.pairs.items in
     let entries = c.args.map.entries in
     let all : pairs ≡ entries = sym (append-nil pairs) ∙ ap (λ left. pairs ++ left) (sym c.in-None.ensures.steps.0) ∙ c.loop-name.invariant in
