@@ -172,7 +172,3 @@ document_is_small bytes items is = of_bytes (nat_lt most_bytes (length bytes)) (
 pub enrolled : (share : ShareId) (old : Seated) (result : Result Seated ShareError) → IfOk result (IsSeatOf share) → IfOk result (Enrols old) → IfSome (result_ok result) (IsNew share)
 enrolled share old (Ok new) seat enrols = HasRecorded-enrolled share old new seat enrols
 enrolled share old (Err error) seat enrols = tt
-
-pub nothing_left : {A : Type 0} (xs : List A) → length xs ≡ 0 → xs ≡ []
-nothing_left [] none = refl
-nothing_left (x ∷ xs) none = absurd (omega (arith, none))

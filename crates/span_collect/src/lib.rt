@@ -6,6 +6,7 @@ mod faults;
 mod files;
 mod gate;
 mod queries;
+mod remaining;
 mod runs;
 mod words;
 mod worker;

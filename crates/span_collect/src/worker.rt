@@ -6,6 +6,7 @@ ghost use Rattle.span_collect.specs.Work.{IsNew, IsWorked};
 
 use crate::files::{FileEnd, Input};
 use crate::gate::Gate;
+use crate::remaining::Remaining;
 use span_ledger::{Cause, Items};
 use span_read::{ReadError, read_items};
 use span_share::{Seat, Share};
@@ -57,7 +58,8 @@ fn tell_all<G: Gate, R: Wait>(
 {
     let caller = seat.number();
     let mut done: u32 = 0;
-    for item in items.into_list() {
+    let mut remaining = Remaining::of(items);
+    'items: while let Some(item) = remaining.next() {
         gate.pass(worker, done);
         if let Err(back) = share.tell(rt, seat, item) {
             return FileEnd::Stopped {

@@ -1,17 +1,16 @@
 use Rattle.std.proofs.Common.{◌≡◌, ◌∷◌, [], ◌++◌, length, All, refl, ap, sym, subst, ◌∙◌, append_assoc, length-append, arith}
-use Rattle.std.specs.Vec.Iter.{into_iter_items}
 use Rattle.std.proofs.lemmas.List.Elements.{All-head, All-tail}
 use Rattle.span_read.specs.Item.{IsGoodItem}
 use Rattle.span_ledger.specs.declared.entry.Op.TheVariants.{One}
 use Rattle.span_collect.specs.Account.{telling}
 use Rattle.span_collect.specs.Work.{HasRecorded}
-use Rattle.span_collect.proofs.Recording.{HasRecorded-next, HasRecorded-keeps, IsWorked-read, IsWorked-stopped, nothing_left, telling-next}
+use Rattle.span_collect.proofs.Recording.{HasRecorded-next, HasRecorded-keeps, IsWorked-read, IsWorked-stopped, telling-next}
 use Rattle.span_collect.proofs.worker.tell_all.Goals as goal
 
 -- nothing was told
-pub loop-item-init : goal.loop-item-init
-loop-item-init g c =
-    let all = c.into_iter-item-iterator.ensures.into_iter_gives.0 ∙ c.into_list-item-items.ensures in
+pub items-init : goal.items-init
+items-init g c =
+    let all = c.of-remaining.ensures in
     record {
       told = [];
       all = all;
@@ -22,46 +21,46 @@ loop-item-init g c =
     }
 
 pub tell-requires-clause-seat : goal.tell-requires-clause-seat
-tell-requires-clause-seat g c = c.loop-item.invariant.recorded.sound
+tell-requires-clause-seat g c = c.items.invariant.recorded.sound
 
 pub tell-requires-clause-good : goal.tell-requires-clause-good
-tell-requires-clause-good g c = All-head IsGoodItem c.in-Some.item (into_iter_items c.next.new.self) (rw c.in-Some.ensures.steps.0 at c.loop-item.invariant.good)
+tell-requires-clause-good g c = All-head IsGoodItem c.in-Some.item c.next.new.self (rw c.in-Some.ensures.first at c.items.invariant.good)
 
 -- this item was not taken
 pub returns-in-Err : goal.returns-in-Err
 returns-in-Err g c =
-    let invariant = c.loop-item.invariant in
-    let kept = HasRecorded-keeps c.args.share.now (telling invariant.told) c.loop-item.seat c.tell.new.seat invariant.recorded c.in-Err.ensures.seat c.in-Err.ensures.kept in
-    IsWorked-stopped c.args.share.now c.number-caller.result c.tell.new.seat (invariant.named ∙ sym c.in-Err.ensures.kept.number) c.args.items invariant.told (into_iter_items c.next.new.self) c.in-Some.item c.loop-item.done c.in-Err.back.cause
-    kept (rw c.in-Some.ensures.steps.0 at invariant.all) invariant.done c.in-Err.ensures.cause c.in-Err.ensures.when
+    let invariant = c.items.invariant in
+    let kept = HasRecorded-keeps c.args.share.now (telling invariant.told) c.items.seat c.tell.new.seat invariant.recorded c.in-Err.ensures.seat c.in-Err.ensures.kept in
+    IsWorked-stopped c.args.share.now c.number-caller.result c.tell.new.seat (invariant.named ∙ sym c.in-Err.ensures.kept.number) c.args.items invariant.told c.next.new.self c.in-Some.item c.items.done c.in-Err.back.cause
+    kept (rw c.in-Some.ensures.first at invariant.all) invariant.done c.in-Err.ensures.cause c.in-Err.ensures.when
 
 -- a file has few items
 pub overflow_add-done : goal.overflow_add-done
 overflow_add-done g c =
-    let invariant = c.loop-item.invariant in
-    let rest = into_iter_items c.next.new.self in
-    let all : invariant.told ++ c.in-Some.item ∷ rest ≡ c.args.items = rw c.in-Some.ensures.steps.0 at invariant.all in
+    let invariant = c.items.invariant in
+    let rest = c.next.new.self in
+    let all : invariant.told ++ c.in-Some.item ∷ rest ≡ c.args.items = rw c.in-Some.ensures.first at invariant.all in
     omega (arith, invariant.done, ap length all, length-append invariant.told (c.in-Some.item ∷ rest), c.requires.few)
 
 -- the item was told
-pub loop-item-preserved : goal.loop-item-preserved
-loop-item-preserved g c =
-    let invariant = c.loop-item.invariant in
-    let rest = into_iter_items c.next.new.self in
-    let first = c.in-Some.ensures.steps.0 in
-    let next = HasRecorded-next c.args.share.now (telling invariant.told) (One c.in-Some.item) c.in_default.field-0 c.loop-item.seat c.tell.new.seat invariant.recorded c.in_default.ensures.seat c.in_default.ensures.told in
+pub items-preserved : goal.items-preserved
+items-preserved g c =
+    let invariant = c.items.invariant in
+    let rest = c.next.new.self in
+    let first = c.in-Some.ensures.first in
+    let told = c.in_default-tell in
+    let next = HasRecorded-next c.args.share.now (telling invariant.told) (One c.in-Some.item) told.field-0 c.items.seat c.tell.new.seat invariant.recorded told.ensures.seat told.ensures.told in
     record {
       told = invariant.told ++ c.in-Some.item ∷ [];
       all = append_assoc invariant.told (c.in-Some.item ∷ []) rest ∙ ap (λ items. invariant.told ++ items) (sym first) ∙ invariant.all;
       done = omega (arith, invariant.done, length-append invariant.told (c.in-Some.item ∷ []));
       recorded = subst (λ ops. HasRecorded c.args.share.now ops c.tell.new.seat) (telling-next invariant.told c.in-Some.item) next;
-      named = invariant.named ∙ sym c.in_default.ensures.told.number;
+      named = invariant.named ∙ sym told.ensures.told.number;
       good = All-tail IsGoodItem c.in-Some.item rest (rw first at invariant.good);
     }
 
 -- all items were told
 pub returns : goal.returns
 returns g c =
-    let invariant = c.loop-item.invariant in
-    let none : into_iter_items c.loop-item.item-iterator ≡ [] = nothing_left _ (sym c.loop-item.item-iterator.rest.ok.0 ∙ c.in-None.ensures.steps.0) in
-    IsWorked-read c.args.share.now c.number-caller.result c.loop-item.seat invariant.named c.args.items invariant.told c.loop-item.done invariant.recorded (rw none at invariant.all) invariant.done
+    let invariant = c.items.invariant in
+    IsWorked-read c.args.share.now c.number-caller.result c.items.seat invariant.named c.args.items invariant.told c.items.done invariant.recorded (rw c.in_default.ensures.none at invariant.all) invariant.done

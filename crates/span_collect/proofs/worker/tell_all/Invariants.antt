@@ -1,5 +1,4 @@
 use Rattle.std.proofs.Common.{◌≡◌, ◌++◌, All, List, length}
-use Rattle.std.specs.Vec.Iter.{into_iter_items}
 use Rattle.span_read.specs.Item.{IsGoodItem}
 use Rattle.span_read.specs.declared.item.Item.{Item}
 use Rattle.span_collect.specs.Account.{telling}
@@ -7,12 +6,15 @@ use Rattle.span_collect.specs.Work.{HasRecorded}
 use Rattle.span_collect.proofs.worker.tell_all.Given as goal
 
 -- the items so far were told
-abbrev pub invariant-loop-item : goal.invariant-loop-item
-invariant-loop-item g l = record {
+abbrev pub invariant-items : goal.invariant-items
+invariant-items g l = record {
   told : List Item;
-  all : told ++ into_iter_items l.item-iterator ≡ l.fn.items;
+  all : told ++ l.remaining ≡ l.fn.items;
   done : l.done ≡ length told;
   recorded : HasRecorded l.share (telling told) l.seat;
   named : l.caller ≡ l.seat.number;
-  good : All IsGoodItem (into_iter_items l.item-iterator);
+  good : All IsGoodItem l.remaining;
 }
+
+abbrev pub decreases-items : goal.decreases-items
+decreases-items g l = length l.remaining
