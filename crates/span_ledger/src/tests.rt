@@ -1,26 +1,68 @@
 ghost use Rattle.span_read.specs.Item.{IsGoodItem};
 
 mod counters;
+mod growths;
 mod names;
 mod queries;
 
-use crate::{AsyncTotals, Cause, CountRow, FlowTotals, Item, Ledger, Op, ProcessRow};
+use crate::{
+    Answer, AsyncTotals, Cause, CountRow, FlowTotals, Item, Ledger, Op, ProcessRow, Query,
+};
 use span_read::read_items;
 use std::alloc::{AllocError, Global};
 use std::process::Abort;
 use std::test::Fail;
+
+// What the ledger answers to an item, in a line. (Who lets go of an answer by a call of its own has one way to go on.)
+fn answer(alloc: Global, ledger: &mut Ledger, item: Item) -> Result<String, AllocError>
+    requires { IsGoodItem item }
+{
+    match ledger.apply(1, Op::One(item)) {
+        Ok(answer) => {
+            let line = format!(in alloc; "{answer:?}\n");
+            drop(answer);
+            line
+        }
+        Err(back) => {
+            let line = format!(in alloc; "{:?}\n", back.cause);
+            drop(back);
+            line
+        }
+    }
+}
 
 // What the ledger answers to the events of a text, one answer a line.
 fn answers(alloc: Global, ledger: &mut Ledger, text: &str) -> Result<String, Fail> {
     let items = read_items(alloc, text.as_bytes())?;
     let mut lines = String::new(alloc);
     for item in items.into_list() {
-        match ledger.apply(1, Op::One(item)) {
-            Ok(answer) => writeln!(lines, "{answer:?}")?,
-            Err(back) => writeln!(lines, "{:?}", back.cause)?,
-        }
+        let line = answer(alloc, ledger, item)?;
+        lines.push_str(line.as_str())?;
     }
     Ok(lines)
+}
+
+// What the ledger replies to a query, which equals its copy.
+fn reply(
+    rt: &(impl Abort + AllocGlobal),
+    ledger: &mut Ledger,
+    query: Query,
+) -> Result<String, Fail> {
+    let alloc = rt.alloc();
+    let copy = query.try_clone(alloc)?;
+    assert!(rt; copy == query);
+    drop(copy);
+    match ledger.apply(0, Op::Ask(query)) {
+        Ok(answer) => {
+            let text = format!(in alloc; "{answer:?}");
+            drop(answer);
+            Ok(text?)
+        }
+        Err(back) => {
+            drop(back);
+            Err("no reply")?
+        }
+    }
 }
 
 // The rows of names and then of threads, as a report has them.
@@ -179,6 +221,14 @@ fn refusals_are_counted(rt: HostRuntime) -> Result<(), Fail> {
     refusals_are_counted_in(&rt, &mut ledger)
 }
 
+// What a copy of an answer shows.
+fn copy_of(alloc: Global, answer: &Answer) -> Result<String, AllocError> {
+    let copy = answer.try_clone(alloc)?;
+    let text = format!(in alloc; "{copy:?}");
+    drop(copy);
+    text
+}
+
 fn an_end_merges_the_arguments_of_both_in(
     rt: &(impl Abort + AllocGlobal),
     ledger: &mut Ledger,
@@ -194,8 +244,7 @@ fn an_end_merges_the_arguments_of_both_in(
         "Opened { depth: 1 }\nClosed { start: 0, length: 1, args: Args { pairs: [(\"x\", Whole(1)), (\"y\", Whole(3)), (\"z\", Flag(true))] } }\n"
     );
     let entry = ledger.entry(1).ok_or("no entry")?;
-    let again = entry.answer.try_clone(alloc)?;
-    let text = format!(in alloc; "{again:?}")?;
+    let text = copy_of(alloc, &entry.answer)?;
     assert!(rt; told.as_str().contains(text.as_str()));
     Ok(())
 }
@@ -231,81 +280,6 @@ fn a_full_journal_gives_the_operation_back_in(
 fn a_full_journal_gives_the_operation_back(rt: HostRuntime) -> Result<(), Fail> {
     let mut ledger = Ledger::new(rt.alloc(), 3);
     a_full_journal_gives_the_operation_back_in(&rt, &mut ledger)
-}
-
-// The counts, and the rows of spans, threads and processes, in lines.
-fn seen(alloc: Global, ledger: &Ledger) -> Result<String, AllocError> {
-    let mut lines = rows(alloc, ledger)?;
-    for row in &ledger.processes(alloc)? {
-        let pid = row.pid;
-        writeln!(lines, "process {pid}")?;
-    }
-    let counts = ledger.counts();
-    let (accepted, refused, skipped) = (counts.accepted, counts.refused, counts.skipped);
-    let length = ledger.len();
-    writeln!(
-        lines,
-        "entries {length} accepted {accepted} refused {refused} skipped {skipped}"
-    )?;
-    Ok(lines)
-}
-
-// The same, where one growth may be refused.
-fn seen_at_last(alloc: Global, ledger: &Ledger) -> Result<String, AllocError> {
-    match seen(alloc, ledger) {
-        Ok(lines) => Ok(lines),
-        Err(_) => seen(alloc, ledger),
-    }
-}
-
-// Tells an item, again where memory was refused: then the readers must tell what they told before.
-fn tell_at_last(
-    rt: &(impl Abort + AllocGlobal),
-    ledger: &mut Ledger,
-    item: Item,
-) -> Result<(), Fail>
-    requires { IsGoodItem item }
-{
-    let alloc = rt.alloc();
-    let before = seen_at_last(alloc, ledger)?;
-    let Err(back) = ledger.apply(1, Op::One(item)) else {
-        return Ok(());
-    };
-    assert_eq!(rt; back.cause, Cause::Memory);
-    assert_eq!(rt; seen_at_last(alloc, ledger)?.as_str(), before.as_str());
-    match ledger.apply(1, back.op) {
-        Ok(_) => Ok(()),
-        Err(_) => Err(Fail::from("refused twice")),
-    }
-}
-
-// Runs with each growth refused in turn, by tests/refused_growths.
-fn a_refused_growth_changes_nothing_in(
-    rt: &(impl Abort + AllocGlobal),
-    ledger: &mut Ledger,
-) -> Result<(), Fail> {
-    let alloc = rt.alloc();
-    let events =
-        "[{\"ph\":\"B\",\"name\":\"a\",\"ts\":0,\"args\":{\"x\":1,\"y\":2}},{\"ph\":\"B\",\"name\":\"b\",\"ts\":2},{\"ph\":\"E\",\"ts\":1},{\"ph\":\"E\",\"ts\":5,\"args\":{\"z\":true}},{\"ph\":\"E\",\"ts\":10,\"args\":{\"y\":3,\"z\":true}},{\"ph\":\"E\",\"ts\":11},{\"ph\":\"X\",\"name\":\"c\",\"ts\":3,\"dur\":4,\"tid\":7}]";
-    let items = match read_items(alloc, events.as_bytes()) {
-        Ok(items) => items,
-        Err(_) => read_items(alloc, events.as_bytes())?,
-    };
-    for item in items.into_list() {
-        tell_at_last(rt, ledger, item)?;
-    }
-    let last = seen_at_last(alloc, ledger)?;
-    assert_eq!(rt;
-        last.as_str(),
-        "a 1 10 7\nb 1 3 3\nc 1 4 4\nopen 0 busy 10\nopen 0 busy 4\nprocess 0\nentries 7 accepted 5 refused 2 skipped 0\n"
-    );
-    Ok(())
-}
-
-#[test]
-fn a_refused_growth_changes_nothing(rt: HostRuntime) -> Result<(), Fail> {
-    let mut ledger = Ledger::new(rt.alloc(), 100);
-    a_refused_growth_changes_nothing_in(&rt, &mut ledger)
 }
 
 fn asynchronous_spans_match_by_scope_in(
@@ -430,6 +404,7 @@ fn an_entry_has_its_callers_number_in(
     for caller in [7, 65_535] {
         let told = ledger.apply(caller, Op::One(Item::Other));
         assert!(rt; told.is_ok());
+        drop(told);
     }
     assert_eq!(rt; ledger.entry(0).ok_or("no entry")?.caller, 7);
     assert_eq!(rt; ledger.entry(1).ok_or("no entry")?.caller, 65_535);

@@ -1,6 +1,6 @@
 // What counter events give.
-use super::answers;
-use crate::{Ledger, Op, Query, SeriesKey, Text};
+use super::{answers, reply};
+use crate::{Ledger, Query, SeriesKey, Text};
 use std::alloc::{AllocError, Global};
 use std::process::Abort;
 use std::test::Fail;
@@ -52,14 +52,9 @@ fn the_last_value_is_that_of_the_greatest_time_in(
         ledger,
         "[{\"ph\":\"C\",\"name\":\"m\",\"ts\":5,\"pid\":1,\"args\":{\"k\":1}}]",
     )?;
-    let query = Query::Series(key(alloc)?);
-    let copy = query.try_clone(alloc)?;
-    assert!(rt; copy == query);
-    let Ok(reply) = ledger.apply(0, Op::Ask(query)) else {
-        return Err(Fail::from("no reply"));
-    };
+    let reply = reply(rt, ledger, Query::Series(key(alloc)?))?;
     assert_eq!(rt;
-        format!(in alloc; "{reply:?}")?.as_str(),
+        reply.as_str(),
         "Reply(Series(Some(SeriesTotals { samples: 3, least: 1, greatest: 9, last: 1 })))"
     );
     Ok(())

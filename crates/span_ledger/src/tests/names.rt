@@ -1,6 +1,6 @@
 // What metadata events and instants give.
-use super::answers;
-use crate::{Ledger, Op, Query};
+use super::{answers, reply};
+use crate::{Ledger, Query};
 use std::alloc::{AllocError, Global};
 use std::process::Abort;
 use std::test::Fail;
@@ -49,11 +49,9 @@ fn the_last_name_holds_in(
     )?;
     assert_eq!(rt; told.as_str(), "Marked\n");
     assert_eq!(rt; instants(alloc, ledger)?.as_str(), "1 2 gc Process 1\n");
-    let Ok(reply) = ledger.apply(0, Op::Ask(Query::NamesOf { pid: 1, tid: None })) else {
-        return Err(Fail::from("no reply"));
-    };
+    let reply = reply(rt, ledger, Query::NamesOf { pid: 1, tid: None })?;
     assert_eq!(rt;
-        format!(in alloc; "{reply:?}")?.as_str(),
+        reply.as_str(),
         "Reply(Names { name: Some(\"Renderer\"), labels: Some(\"tab\"), sort_index: Some(-6) })"
     );
     Ok(())

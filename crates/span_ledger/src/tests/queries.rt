@@ -1,24 +1,9 @@
 // What the ledger replies to queries.
-use super::answers;
-use crate::{AsyncKey, FlowKey, IdKey, Ledger, Op, Query, Text};
+use super::{answers, reply};
+use crate::{AsyncKey, FlowKey, IdKey, Ledger, Query, Text};
 use std::alloc::Global;
 use std::process::Abort;
 use std::test::Fail;
-
-// What the ledger replies to a query, which equals its copy.
-fn reply(
-    rt: &(impl Abort + AllocGlobal),
-    ledger: &mut Ledger,
-    query: Query,
-) -> Result<String, Fail> {
-    let alloc = rt.alloc();
-    let copy = query.try_clone(alloc)?;
-    assert!(rt; copy == query);
-    match ledger.apply(0, Op::Ask(query)) {
-        Ok(answer) => Ok(format!(in alloc; "{answer:?}")?),
-        Err(_) => Err("no reply")?,
-    }
-}
 
 fn name(alloc: Global, text: &str) -> Result<Query, Fail> {
     let name = Text::of(alloc, text)?;
