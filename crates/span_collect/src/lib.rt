@@ -21,6 +21,3 @@ pub use runs::{Collected, RunEnd, RunError, run, run_to_ledger};
 pub use span_ledger::{Cause, Ledger, Query, Text};
 pub use span_report::{Sink, SinkFault, Writer};
 pub use words::fault_word;
-
-#[cfg(test)]
-mod tests;

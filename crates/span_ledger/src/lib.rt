@@ -36,6 +36,3 @@ pub use span_track::{
     AsyncKey, AsyncRow, AsyncTotals, FlowKey, FlowRow, FlowTotals, InstantRow, SeriesKey,
     SeriesRow, SeriesTotals,
 };
-
-#[cfg(test)]
-mod tests;

@@ -32,6 +32,3 @@ pub use item::{Field, Item, ItemFault};
 pub use items::Items;
 pub use read::read_items;
 pub use text::Text;
-
-#[cfg(test)]
-mod tests;

@@ -15,6 +15,3 @@ pub use sink::{Sink, SinkFault};
 pub use span_ledger::{Ledger, Text};
 pub use text::report;
 pub use writer::Writer;
-
-#[cfg(test)]
-mod tests;

@@ -5,7 +5,7 @@ mod growths;
 mod names;
 mod queries;
 
-use crate::{
+use span_ledger::{
     Answer, AsyncTotals, Cause, CountRow, FlowTotals, Item, Ledger, Op, ProcessRow, Query,
 };
 use span_read::read_items;
@@ -106,7 +106,9 @@ fn spans_nest_in(rt: &(impl Abort + AllocGlobal), ledger: &mut Ledger) -> Result
 #[test]
 fn spans_nest(rt: HostRuntime) -> Result<(), Fail> {
     let mut ledger = Ledger::new(rt.alloc(), 100);
-    spans_nest_in(&rt, &mut ledger)
+    let told = spans_nest_in(&rt, &mut ledger);
+    drop(ledger);
+    told
 }
 
 // The names, with their own times, that these events give.
@@ -124,7 +126,9 @@ fn own_times_in(
 
 fn own_times(rt: &(impl Abort + AllocGlobal), events: &str, want: &str) -> Result<(), Fail> {
     let mut ledger = Ledger::new(rt.alloc(), 100);
-    own_times_in(rt, &mut ledger, events, want)
+    let told = own_times_in(rt, &mut ledger, events, want);
+    drop(ledger);
+    told
 }
 
 #[test]
@@ -162,8 +166,9 @@ fn later_and_inner_spans_own_their_time(rt: HostRuntime) -> Result<(), Fail> {
 
 fn answers_are(rt: &(impl Abort + AllocGlobal), events: &str, want: &str) -> Result<(), Fail> {
     let mut ledger = Ledger::new(rt.alloc(), 100);
-    let told = answers(rt.alloc(), &mut ledger, events)?;
-    assert_eq!(rt; told.as_str(), want);
+    let told = answers(rt.alloc(), &mut ledger, events);
+    drop(ledger);
+    assert_eq!(rt; told?.as_str(), want);
     Ok(())
 }
 
@@ -218,7 +223,9 @@ fn refusals_are_counted_in(
 #[test]
 fn refusals_are_counted(rt: HostRuntime) -> Result<(), Fail> {
     let mut ledger = Ledger::new(rt.alloc(), 100);
-    refusals_are_counted_in(&rt, &mut ledger)
+    let told = refusals_are_counted_in(&rt, &mut ledger);
+    drop(ledger);
+    told
 }
 
 // What a copy of an answer shows.
@@ -252,7 +259,9 @@ fn an_end_merges_the_arguments_of_both_in(
 #[test]
 fn an_end_merges_the_arguments_of_both(rt: HostRuntime) -> Result<(), Fail> {
     let mut ledger = Ledger::new(rt.alloc(), 100);
-    an_end_merges_the_arguments_of_both_in(&rt, &mut ledger)
+    let told = an_end_merges_the_arguments_of_both_in(&rt, &mut ledger);
+    drop(ledger);
+    told
 }
 
 fn a_full_journal_gives_the_operation_back_in(
@@ -279,7 +288,9 @@ fn a_full_journal_gives_the_operation_back_in(
 #[test]
 fn a_full_journal_gives_the_operation_back(rt: HostRuntime) -> Result<(), Fail> {
     let mut ledger = Ledger::new(rt.alloc(), 3);
-    a_full_journal_gives_the_operation_back_in(&rt, &mut ledger)
+    let told = a_full_journal_gives_the_operation_back_in(&rt, &mut ledger);
+    drop(ledger);
+    told
 }
 
 fn asynchronous_spans_match_by_scope_in(
@@ -319,7 +330,9 @@ fn asynchronous_spans_match_by_scope_in(
 #[test]
 fn asynchronous_spans_match_by_scope(rt: HostRuntime) -> Result<(), Fail> {
     let mut ledger = Ledger::new(rt.alloc(), 100);
-    asynchronous_spans_match_by_scope_in(&rt, &mut ledger)
+    let told = asynchronous_spans_match_by_scope_in(&rt, &mut ledger);
+    drop(ledger);
+    told
 }
 
 fn a_local_id_is_its_processs_own_in(
@@ -356,7 +369,9 @@ fn a_local_id_is_its_processs_own_in(
 #[test]
 fn a_local_id_is_its_processs_own(rt: HostRuntime) -> Result<(), Fail> {
     let mut ledger = Ledger::new(rt.alloc(), 100);
-    a_local_id_is_its_processs_own_in(&rt, &mut ledger)
+    let told = a_local_id_is_its_processs_own_in(&rt, &mut ledger);
+    drop(ledger);
+    told
 }
 
 fn flow_chains_start_and_end_in(
@@ -393,7 +408,9 @@ fn flow_chains_start_and_end_in(
 #[test]
 fn flow_chains_start_and_end(rt: HostRuntime) -> Result<(), Fail> {
     let mut ledger = Ledger::new(rt.alloc(), 100);
-    flow_chains_start_and_end_in(&rt, &mut ledger)
+    let told = flow_chains_start_and_end_in(&rt, &mut ledger);
+    drop(ledger);
+    told
 }
 
 fn an_entry_has_its_callers_number_in(
@@ -414,5 +431,7 @@ fn an_entry_has_its_callers_number_in(
 #[test]
 fn an_entry_has_its_callers_number(rt: HostRuntime) -> Result<(), Fail> {
     let mut ledger = Ledger::new(rt.alloc(), 100);
-    an_entry_has_its_callers_number_in(&rt, &mut ledger)
+    let told = an_entry_has_its_callers_number_in(&rt, &mut ledger);
+    drop(ledger);
+    told
 }

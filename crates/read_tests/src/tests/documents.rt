@@ -1,6 +1,6 @@
 // Whole files: their forms, how they may end, and their limits.
 use super::described;
-use crate::{ReadError, read_items};
+use span_read::{ReadError, read_items};
 use std::alloc::{AllocError, Global};
 use std::test::Fail;
 

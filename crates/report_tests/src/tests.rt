@@ -1,7 +1,9 @@
 //! Reports of worked traces, written by hand from the format, and outputs that fail.
-use crate::{Ledger, Text, WriteFault, Writer, json_text, report, write_report};
+ghost use Rattle.span_read.specs.Item.{IsGoodItem};
+
 use span_ledger::Op;
-use span_read::read_items;
+use span_read::{Item, read_items};
+use span_report::{Ledger, Text, WriteFault, Writer, json_text, report, write_report};
 use std::alloc::Global;
 use std::io;
 use std::io::{ErrorKind, Write};
@@ -10,11 +12,27 @@ use std::test::Fail;
 
 const EMPTY_REPORT: &str = "tracebook 1\nevents 0 refused 0 skipped 0 queries 0\n";
 
+// Whether the ledger takes the item. (Who lets go of an answer by a call of its own has one way to go on.)
+fn takes(ledger: &mut Ledger, item: Item) -> bool
+    requires { IsGoodItem item }
+{
+    match ledger.apply(1, Op::One(item)) {
+        Ok(answer) => {
+            drop(answer);
+            true
+        }
+        Err(back) => {
+            drop(back);
+            false
+        }
+    }
+}
+
 // Tells the ledger the events of a text.
 fn tell(alloc: Global, ledger: &mut Ledger, text: &str) -> Result<(), Fail> {
     let items = read_items(alloc, text.as_bytes())?;
     for item in items.into_list() {
-        if ledger.apply(1, Op::One(item)).is_err() {
+        if !takes(ledger, item) {
             return Err(Fail::from("not taken"));
         }
     }
@@ -36,7 +54,9 @@ fn reports_in(
 
 fn reports(rt: &(impl Abort + AllocGlobal), events: &str, want: &str) -> Result<(), Fail> {
     let mut ledger = Ledger::new(rt.alloc(), 100);
-    reports_in(rt, &mut ledger, events, want)
+    let told = reports_in(rt, &mut ledger, events, want);
+    drop(ledger);
+    told
 }
 
 #[test]
@@ -169,51 +189,77 @@ fn short_of(alloc: Global, room: usize) -> Short {
     }
 }
 
-#[test]
-fn says_how_much_a_failed_output_took(rt: HostRuntime) -> Result<(), Fail> {
-    let alloc = rt.alloc();
+// Writes the report of no events.
+fn write_empty(alloc: Global, short: &mut Short) -> Result<(), WriteFault> {
     let ledger = Ledger::new(alloc, 1);
+    let written = write_report(alloc, &ledger, &mut Writer::new(short));
+    drop(ledger);
+    written
+}
+
+fn takes_the_first(rt: &(impl Abort + AllocGlobal), short: &mut Short, first: &[u8]) {
+    let result = write_empty(rt.alloc(), short);
+    let written = first.len() as u64;
+    assert!(rt;
+        result == Err(WriteFault::Output { written }),
+        "at {written}"
+    );
+    assert!(rt; short.taken.as_slice() == first, "at {written}");
+    assert_eq!(rt; short.flushed, 0, "at {written}");
+}
+
+#[test]
+fn says_how_much_a_failed_output_took(rt: HostRuntime) {
     let report = EMPTY_REPORT.as_bytes();
     for room in 0..report.len() {
-        let mut short = short_of(alloc, room);
-        let result = write_report(alloc, &ledger, &mut Writer::new(&mut short));
-        let written = room as u64;
-        assert!(rt; result == Err(WriteFault::Output { written }), "at {room}");
-        assert!(rt; short.taken.as_slice() == &report[..room], "at {room}");
-        assert_eq!(rt; short.flushed, 0, "at {room}");
+        let mut short = short_of(rt.alloc(), room);
+        takes_the_first(&rt, &mut short, &report[..room]);
+        drop(short);
     }
     assert_eq!(rt; WriteFault::Output { written: 3 }.code(), 51);
-    Ok(())
 }
 
-#[test]
-fn finishes_once(rt: HostRuntime) -> Result<(), Fail> {
-    let alloc = rt.alloc();
-    let ledger = Ledger::new(alloc, 1);
-    let mut enough = short_of(alloc, 51);
-    let result = write_report(alloc, &ledger, &mut Writer::new(&mut enough));
+fn finishes_once_in(rt: &(impl Abort + AllocGlobal), short: &mut Short) {
+    let result = write_empty(rt.alloc(), short);
     assert!(rt; result == Ok(()));
-    assert!(rt; enough.taken.as_slice() == EMPTY_REPORT.as_bytes());
-    assert_eq!(rt; enough.flushed, 1);
-    let mut unflushed = short_of(alloc, 51);
-    unflushed.flushes = false;
-    let result = write_report(alloc, &ledger, &mut Writer::new(&mut unflushed));
-    assert!(rt; result == Err(WriteFault::Output { written: 51 }));
-    assert_eq!(rt; unflushed.flushed, 1);
-    Ok(())
+    assert!(rt; short.taken.as_slice() == EMPTY_REPORT.as_bytes());
+    assert_eq!(rt; short.flushed, 1);
 }
 
 #[test]
-fn tries_no_failed_write_again(rt: HostRuntime) -> Result<(), Fail> {
-    let alloc = rt.alloc();
-    let ledger = Ledger::new(alloc, 1);
-    let mut interrupted = short_of(alloc, 51);
-    interrupted.failing = 1;
-    let result = write_report(alloc, &ledger, &mut Writer::new(&mut interrupted));
+fn finishes_once(rt: HostRuntime) {
+    let mut enough = short_of(rt.alloc(), 51);
+    finishes_once_in(&rt, &mut enough);
+    drop(enough);
+}
+
+fn tries_to_finish_once(rt: &(impl Abort + AllocGlobal), short: &mut Short) {
+    short.flushes = false;
+    let result = write_empty(rt.alloc(), short);
+    assert!(rt; result == Err(WriteFault::Output { written: 51 }));
+    assert_eq!(rt; short.flushed, 1);
+}
+
+#[test]
+fn a_failure_to_finish_is_told(rt: HostRuntime) {
+    let mut unflushed = short_of(rt.alloc(), 51);
+    tries_to_finish_once(&rt, &mut unflushed);
+    drop(unflushed);
+}
+
+fn tries_once(rt: &(impl Abort + AllocGlobal), short: &mut Short) {
+    short.failing = 1;
+    let result = write_empty(rt.alloc(), short);
     assert!(rt; result == Err(WriteFault::Output { written: 0 }));
-    assert!(rt; interrupted.taken.is_empty());
-    assert_eq!(rt; interrupted.writes, 1);
-    Ok(())
+    assert!(rt; short.taken.is_empty());
+    assert_eq!(rt; short.writes, 1);
+}
+
+#[test]
+fn tries_no_failed_write_again(rt: HostRuntime) {
+    let mut interrupted = short_of(rt.alloc(), 51);
+    tries_once(&rt, &mut interrupted);
+    drop(interrupted);
 }
 
 fn writes_long_reports_in(
@@ -237,7 +283,9 @@ fn writes_long_reports_in(
 #[test]
 fn writes_long_reports(rt: HostRuntime) -> Result<(), Fail> {
     let alloc = rt.alloc();
-    let mut ledger = Ledger::new(alloc, 1);
     let name = String::from_str(alloc, "abcdefghij")?.repeat(alloc, 10_000)?;
-    writes_long_reports_in(&rt, &mut ledger, name.as_str())
+    let mut ledger = Ledger::new(alloc, 1);
+    let told = writes_long_reports_in(&rt, &mut ledger, name.as_str());
+    drop(ledger);
+    told
 }

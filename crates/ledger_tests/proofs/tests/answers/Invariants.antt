@@ -1,7 +1,7 @@
 use Rattle.std.proofs.Common.{All}
 use Rattle.std.specs.Vec.Iter.{into_iter_items}
 use Rattle.span_read.specs.Item.{IsGoodItem}
-use Rattle.span_ledger.proofs.tests.answers.Given as goal
+use Rattle.ledger_tests.proofs.tests.answers.Given as goal
 
 -- the items that are left are good
 abbrev pub invariant-loop-item : goal.invariant-loop-item

@@ -4,7 +4,7 @@ mod documents;
 mod elements;
 mod values;
 
-use crate::{Item, read_items};
+use span_read::{Item, read_items};
 use std::alloc::{AllocError, Global};
 
 // One word for each item of a text, or the word of its refusal.

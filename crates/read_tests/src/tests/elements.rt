@@ -1,7 +1,7 @@
 // Single elements: their fields, their faults, and which fault comes first.
 use super::{described, word_of};
-use crate::{Event, Field, IdKey, Item, ItemFault, Phase, Reach, item_of, read_items};
 use serde_json::Value;
+use span_read::{Event, Field, IdKey, Item, ItemFault, Phase, Reach, item_of, read_items};
 use std::alloc::{AllocError, Global};
 use std::test::Fail;
 

@@ -4,7 +4,7 @@ ghost use Rattle.span_read.specs.Item.{IsGoodItem};
 ghost use Rattle.span_ledger.specs.Legal.{IsGoodOp};
 
 use super::rows;
-use crate::{Back, Cause, Item, Ledger, Op};
+use span_ledger::{Back, Cause, Item, Ledger, Op};
 use span_read::read_items;
 use std::alloc::{AllocError, Global};
 use std::process::Abort;
@@ -112,5 +112,7 @@ fn a_refused_growth_changes_nothing_in(
 #[test]
 fn a_refused_growth_changes_nothing(rt: HostRuntime) -> Result<(), Fail> {
     let mut ledger = Ledger::new(rt.alloc(), 100);
-    a_refused_growth_changes_nothing_in(&rt, &mut ledger)
+    let told = a_refused_growth_changes_nothing_in(&rt, &mut ledger);
+    drop(ledger);
+    told
 }

@@ -1,7 +1,7 @@
 //! Whole collections of files in memory, by threads that race. Reports and fault lines were written by hand from the format.
-use crate::{
-    Cause, CollectError, FileEnd, FreeGate, Gate, Input, Outcome, Query, RunError, Text, Writer,
-    collect, fault_lines, fault_word, run,
+use span_collect::{
+    Cause, CollectError, FileEnd, FreeGate, Gate, Input, Outcome, Query, RunEnd, RunError, Text,
+    Writer, collect, fault_lines, fault_word, run,
 };
 use span_report::report;
 use std::alloc::{AllocError, AllocGlobal, Global};
@@ -132,22 +132,27 @@ fn two_are_collected(rt: &(impl Abort + AllocGlobal), outcome: &Outcome) -> Resu
     Ok(())
 }
 
-// Collects two files and asks two queries behind this gate.
+// Collects these files and asks two queries behind this gate.
+fn collect_two_of<G: Gate>(
+    rt: &(impl Threads + Wait + Sync + Abort + AllocGlobal),
+    files: &[Input],
+    gate: &G,
+) -> Result<(), Fail> {
+    let alloc = rt.alloc();
+    let outcome = collect(rt, alloc, files, &[Query::Counts, Query::Counts], gate, 100)?;
+    let told = two_are_collected(rt, &outcome);
+    drop(outcome);
+    told
+}
+
 fn collect_two<G: Gate>(
     rt: &(impl Threads + Wait + Sync + Abort + AllocGlobal),
     gate: &G,
 ) -> Result<(), Fail> {
-    let alloc = rt.alloc();
-    let files = files_of(alloc, 1, 2)?;
-    let outcome = collect(
-        rt,
-        alloc,
-        &files,
-        &[Query::Counts, Query::Counts],
-        gate,
-        100,
-    )?;
-    two_are_collected(rt, &outcome)
+    let files = files_of(rt.alloc(), 1, 2)?;
+    let told = collect_two_of(rt, &files, gate);
+    drop(files);
+    told
 }
 
 #[test]
@@ -190,25 +195,57 @@ fn all_are_read(rt: &impl Abort, outcome: &Outcome) {
     }
 }
 
-#[test]
-fn takes_64_files(rt: HostRuntime) -> Result<(), Fail> {
-    let alloc = rt.alloc();
-    let files = files_of(alloc, 0, 64)?;
-    let outcome = collect(&rt, alloc, &files, &[], &FreeGate, 1000)?;
-    all_are_read(&rt, &outcome);
+fn collect_all(
+    rt: &(impl Threads + Wait + Sync + Abort + AllocGlobal),
+    files: &[Input],
+) -> Result<(), Fail> {
+    let outcome = collect(rt, rt.alloc(), files, &[], &FreeGate, 1000)?;
+    all_are_read(rt, &outcome);
+    drop(outcome);
     Ok(())
 }
 
 #[test]
+fn takes_64_files(rt: HostRuntime) -> Result<(), Fail> {
+    let files = files_of(rt.alloc(), 0, 64)?;
+    let told = collect_all(&rt, &files);
+    drop(files);
+    told
+}
+
+// The number with which the collection of these files is refused.
+fn refusal_of(rt: &(impl Threads + Wait + Sync + AllocGlobal), files: &[Input]) -> Option<u16> {
+    match collect(rt, rt.alloc(), files, &[], &FreeGate, 1000) {
+        Ok(outcome) => {
+            drop(outcome);
+            None
+        }
+        Err(error) => Some(error.code()),
+    }
+}
+
+#[test]
 fn wants_1_to_64_files(rt: HostRuntime) -> Result<(), Fail> {
-    let alloc = rt.alloc();
-    let none = collect(&rt, alloc, &[], &[], &FreeGate, 3);
-    assert!(rt; matches!(none, Err(CollectError::FileCount)));
-    let files = files_of(alloc, 0, 65)?;
-    let many = collect(&rt, alloc, &files, &[], &FreeGate, 1000);
-    assert!(rt; matches!(many, Err(CollectError::FileCount)));
+    assert_eq!(rt; refusal_of(&rt, &[]), Some(41));
+    let files = files_of(rt.alloc(), 0, 65)?;
+    assert_eq!(rt; refusal_of(&rt, &files), Some(41));
+    drop(files);
     assert_eq!(rt; CollectError::FileCount.code(), 41);
     assert_eq!(rt; RunError::Output { written: 3 }.code(), 51);
+    Ok(())
+}
+
+fn ends_with(
+    rt: &(impl Threads + Wait + Sync + Abort + AllocGlobal),
+    files: &[Input],
+    end: &RunEnd,
+    status: u8,
+    lines: &str,
+) -> Result<(), Fail> {
+    assert_eq!(rt; end.status, status);
+    assert!(rt; files.len() == end.ends.len());
+    let faults = fault_lines(rt.alloc(), files, &end.ends)?;
+    assert!(rt; faults.as_slice() == lines.as_bytes());
     Ok(())
 }
 
@@ -224,26 +261,36 @@ fn runs(
     let alloc = rt.alloc();
     let mut out = Vec::new(alloc);
     let end = run(rt, alloc, files, &[], limit, &mut Writer::new(&mut out))?;
-    assert_eq!(rt; end.status, status);
     assert!(rt; out.as_slice() == wanted.as_bytes());
-    let faults = fault_lines(alloc, files, &end.ends)?;
-    assert!(rt; faults.as_slice() == lines.as_bytes());
-    Ok(())
+    drop(out);
+    let told = ends_with(rt, files, &end, status, lines);
+    drop(end);
+    told
 }
 
-#[test]
-fn stops_at_the_limit(rt: HostRuntime) -> Result<(), Fail> {
-    let alloc = rt.alloc();
-    let files = vec![in alloc; file_of(alloc, "four.json", FOUR)?]?;
-    let outcome = collect(&rt, alloc, &files, &[], &FreeGate, 3)?;
+fn stops_at_the_limit_of(
+    rt: &(impl Threads + Wait + Sync + Abort + AllocGlobal),
+    files: &[Input],
+) -> Result<(), Fail> {
+    let outcome = collect(rt, rt.alloc(), files, &[], &FreeGate, 3)?;
     let end = FileEnd::Stopped {
         caller: 1,
         done: 3,
         cause: Cause::Full,
     };
     assert!(rt; outcome.files.as_slice() == [end].as_slice());
+    drop(outcome);
     let line = "tracebook: \"four.json\": 32 Full after 3\n";
-    runs(&rt, &files, 3, 2, "", line)
+    runs(rt, files, 3, 2, "", line)
+}
+
+#[test]
+fn stops_at_the_limit(rt: HostRuntime) -> Result<(), Fail> {
+    let alloc = rt.alloc();
+    let files = vec![in alloc; file_of(alloc, "four.json", FOUR)?]?;
+    let told = stops_at_the_limit_of(&rt, &files);
+    drop(files);
+    told
 }
 
 #[test]
@@ -255,7 +302,9 @@ fn reports_of_the_other_file_where_one_is_cut(rt: HostRuntime) -> Result<(), Fai
         file_of(alloc, "cut.json", "[{\"ph\":\"B\",\"na")?,
     ]?;
     let line = "tracebook: \"cut.json\": 1 NotJson\n";
-    runs(&rt, &files, 100, 1, ONE_REPORT, line)
+    let told = runs(&rt, &files, 100, 1, ONE_REPORT, line);
+    drop(files);
+    told
 }
 
 #[test]

@@ -1,6 +1,6 @@
 // What metadata events and instants give.
 use super::{answers, reply};
-use crate::{Ledger, Query};
+use span_ledger::{Ledger, Query};
 use std::alloc::{AllocError, Global};
 use std::process::Abort;
 use std::test::Fail;
@@ -60,5 +60,7 @@ fn the_last_name_holds_in(
 #[test]
 fn the_last_name_holds(rt: HostRuntime) -> Result<(), Fail> {
     let mut ledger = Ledger::new(rt.alloc(), 100);
-    the_last_name_holds_in(&rt, &mut ledger)
+    let told = the_last_name_holds_in(&rt, &mut ledger);
+    drop(ledger);
+    told
 }

@@ -1,6 +1,6 @@
 // What counter events give.
 use super::{answers, reply};
-use crate::{Ledger, Query, SeriesKey, Text};
+use span_ledger::{Ledger, Query, SeriesKey, Text};
 use std::alloc::{AllocError, Global};
 use std::process::Abort;
 use std::test::Fail;
@@ -63,5 +63,7 @@ fn the_last_value_is_that_of_the_greatest_time_in(
 #[test]
 fn the_last_value_is_that_of_the_greatest_time(rt: HostRuntime) -> Result<(), Fail> {
     let mut ledger = Ledger::new(rt.alloc(), 100);
-    the_last_value_is_that_of_the_greatest_time_in(&rt, &mut ledger)
+    let told = the_last_value_is_that_of_the_greatest_time_in(&rt, &mut ledger);
+    drop(ledger);
+    told
 }

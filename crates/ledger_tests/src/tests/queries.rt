@@ -1,6 +1,6 @@
 // What the ledger replies to queries.
 use super::{answers, reply};
-use crate::{AsyncKey, FlowKey, IdKey, Ledger, Query, Text};
+use span_ledger::{AsyncKey, FlowKey, IdKey, Ledger, Query, Text};
 use std::alloc::Global;
 use std::process::Abort;
 use std::test::Fail;
@@ -51,7 +51,9 @@ fn queries_are_answered_from_the_entries_before_in(
 #[test]
 fn queries_are_answered_from_the_entries_before(rt: HostRuntime) -> Result<(), Fail> {
     let mut ledger = Ledger::new(rt.alloc(), 100);
-    queries_are_answered_from_the_entries_before_in(&rt, &mut ledger)
+    let told = queries_are_answered_from_the_entries_before_in(&rt, &mut ledger);
+    drop(ledger);
+    told
 }
 
 fn id(alloc: Global, text: &str) -> Result<IdKey, Fail> {
@@ -109,5 +111,7 @@ fn keys_are_asked_for_in(rt: &(impl Abort + AllocGlobal), ledger: &mut Ledger) -
 #[test]
 fn keys_are_asked_for(rt: HostRuntime) -> Result<(), Fail> {
     let mut ledger = Ledger::new(rt.alloc(), 100);
-    keys_are_asked_for_in(&rt, &mut ledger)
+    let told = keys_are_asked_for_in(&rt, &mut ledger);
+    drop(ledger);
+    told
 }

@@ -1,6 +1,6 @@
 // Texts and arguments, their copies, and two arguments merged.
-use crate::{ArgValue, Args, Event, IdKey, Item, Reach, Text, item_of, merge_args};
 use serde_json::Value;
+use span_read::{ArgValue, Args, Event, IdKey, Item, Reach, Text, item_of, merge_args};
 use std::alloc::{AllocError, Global};
 use std::test::Fail;
 

@@ -1,6 +1,6 @@
 // Texts are read element by element, and by a value of the whole text and the items of its elements: both must agree.
-use crate::{item_of, read_items};
 use serde_json::Value;
+use span_read::{item_of, read_items};
 use std::alloc::{AllocError, Global};
 use std::str;
 use std::test::Fail;
