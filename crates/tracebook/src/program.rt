@@ -38,17 +38,25 @@ pub fn perform<R: Threads + Wait + Sync, S: Source, O: Sink, F: Write>(
         Ok(Order::Collect { limit, files }) => match inputs_of(alloc, files, source) {
             Ok(inputs) => {
                 source.end();
-                collect(rt, alloc, limit, &inputs, out, faults)
+                let status = collect(rt, alloc, limit, &inputs, out, faults);
+                drop(inputs);
+                status
             }
             Err(Unread::Memory) => fail(alloc, MEMORY, faults),
-            Err(Unread::NotOpened(name)) => fail_at(alloc, &name, faults),
+            Err(Unread::NotOpened(name)) => {
+                let status = fail_at(alloc, &name, faults);
+                drop(name);
+                status
+            }
         },
-        Ok(Order::Show(text)) => match write_bytes(text.as_bytes(), out) {
-            Ok(()) => 0,
-            Err(_) => FAILED,
-        },
+        Ok(Order::Show(text)) => {
+            let shown = write_bytes(text.as_bytes(), out);
+            drop(text);
+            if shown.is_ok() { 0 } else { FAILED }
+        }
         Ok(Order::Refuse(text)) => {
             let _ = faults.write_all(text.as_bytes());
+            drop(text);
             FAILED
         }
         Err(_) => fail(alloc, MEMORY, faults),
