@@ -155,6 +155,3 @@ impl AsyncTrack {
         Ok(rows)
     }
 }
-
-#[cfg(test)]
-mod tests;

@@ -110,6 +110,3 @@ fn rows_of(
     }
     Ok(rows)
 }
-
-#[cfg(test)]
-mod tests;

@@ -157,6 +157,3 @@ impl FlowTrack {
         Ok(rows)
     }
 }
-
-#[cfg(test)]
-mod tests;

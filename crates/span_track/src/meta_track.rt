@@ -172,6 +172,3 @@ impl MetaTrack {
         }
     }
 }
-
-#[cfg(test)]
-mod tests;

@@ -309,6 +309,3 @@ fn closed_at(begin: &OpenSpan, until: i64, args: Args) -> ClosedSpan
         args,
     }
 }
-
-#[cfg(test)]
-mod tests;

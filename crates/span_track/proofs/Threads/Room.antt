@@ -58,3 +58,17 @@ module _ {N : Type 0} where
   pub HasRoom-thread_spans : (at : ℕ) (es : List (ThreadEvent N)) → AreBefore at es → length es < 2 ^ 32 - 1 → HasRoom (thread_spans es)
   HasRoom-thread_spans at es before few =
       omega (arith, (from_there at [] es (All-nil (λ (b : Begin N). b.at < at), All-nil (λ (s : Span N). s.at < at)) before).1)
+
+  pub IsBefore-later : (at later : ℕ) (e : ThreadEvent N) → at ≤ later → IsBefore at e → IsBefore later e
+  IsBefore-later at later (opens b) up before = omega (arith, up, before)
+  IsBefore-later at later (closes e) up before = tt
+  IsBefore-later at later (other s) up before = omega (arith, up, before)
+
+  -- what stands before a position stands before each later one
+  pub AreBefore-later : (at later : ℕ) (es : List (ThreadEvent N)) → at ≤ later → AreBefore at es → AreBefore later es
+  AreBefore-later at later [] up before = tt
+  AreBefore-later at later (e ∷ es) up before = (IsBefore-later at later e up before.0, AreBefore-later at later es up before.1)
+
+  pub AreBefore-push : (at : ℕ) (es : List (ThreadEvent N)) (e : ThreadEvent N) → AreBefore at es → IsBefore at e → AreBefore at (es ++ e ∷ [])
+  AreBefore-push at [] e before latest = (latest, tt)
+  AreBefore-push at (d ∷ es) e before latest = (before.0, AreBefore-push at es e before.1 latest)

@@ -2,9 +2,8 @@ ghost use Rattle.std.specs.Prelude.{◌+◌, ◌<◌, All};
 ghost use Rattle.span_read.specs.Item.{IsGoodItem};
 ghost use Rattle.span_track.specs.Counters.{CountersOf};
 
-use super::{CounterTrack, SeriesTotals};
-use crate::keys::SeriesKey;
 use span_read::{Item, Items, Phase, Text, read_items};
+use span_track::{CounterTrack, SeriesKey, SeriesTotals};
 use std::alloc::{AllocError, Global};
 use std::process::Abort;
 use std::test::Fail;

@@ -1,10 +1,8 @@
 ghost use Rattle.span_read.specs.Event.{IsTime};
 ghost use Rattle.span_track.specs.Async.{HasAsyncRoom};
 
-use super::{AsyncTotals, AsyncTrack};
-use crate::fault::TrackFault;
-use crate::keys::AsyncKey;
 use span_read::{IdKey, Text};
+use span_track::{AsyncKey, AsyncTotals, AsyncTrack, TrackFault};
 use std::alloc::{AllocError, Global};
 use std::process::Abort;
 use std::test::Fail;

@@ -1,10 +1,8 @@
 ghost use Rattle.span_read.specs.Event.{IsTime};
 ghost use Rattle.span_track.specs.Flow.{HasFlowRoom};
 
-use super::{FlowClosed, FlowTotals, FlowTrack};
-use crate::fault::TrackFault;
-use crate::keys::FlowKey;
 use span_read::{IdKey, Text};
+use span_track::{FlowClosed, FlowKey, FlowTotals, FlowTrack, TrackFault};
 use std::alloc::{AllocError, Global};
 use std::process::Abort;
 use std::test::Fail;

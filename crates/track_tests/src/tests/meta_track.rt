@@ -2,8 +2,8 @@ ghost use Rattle.std.specs.Prelude.{◌+◌, ◌<◌, All};
 ghost use Rattle.span_read.specs.Item.{IsGoodItem};
 ghost use Rattle.span_track.specs.Meta.{MetaOf};
 
-use super::{MetaTrack, names_thread};
 use span_read::{Item, Items, Phase, Reach, Text, read_items};
+use span_track::{MetaTrack, names_thread};
 use std::alloc::Global;
 use std::process::Abort;
 use std::test::Fail;

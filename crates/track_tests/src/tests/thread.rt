@@ -1,48 +1,29 @@
-ghost use Rattle.std.specs.Prelude.{◌<◌, ◌≤◌, All, IsTrue, length};
+ghost use Rattle.std.specs.Prelude.{◌≤◌, []};
 ghost use Rattle.span_read.specs.Event.{IsTime, greatest_time};
-ghost use Rattle.span_track.specs.Thread.{IsNext};
+ghost use Rattle.span_track.specs.Thread.{StandsFor};
 
-use super::{OpenSpan, ThreadTrack};
-use crate::fault::TrackFault;
-use crate::laws::{busy_plain, self_law, self_plain};
+mod placed;
+
+use placed::Placed;
 use span_read::{ArgValue, Args, Item, Items, merge_args, read_items};
-use span_time::{ClosedSpan, NameTotal, Segment};
-use std::alloc::Global;
+use span_time::{NameTotal, Segment};
+use span_track::laws::{busy_plain, self_law, self_plain};
+use span_track::{ThreadTrack, TrackFault};
 use std::process::Abort;
 use std::test::Fail;
 
-fn all_opened_before(opened: &[OpenSpan], at: u32) -> bool
-    ensures { IsTrue result → All (λ begin. begin.at < at) opened.now }
-{
-    opened.iter().all(|begin| begin.at < at)
-}
-
-fn all_closed_before(closed: &[ClosedSpan], at: u32) -> bool
-    ensures { IsTrue result → All (λ span. span.at < at) closed.now }
-{
-    closed.iter().all(|span| span.at < at)
-}
-
-fn is_next(track: &ThreadTrack, at: u32) -> bool
-    ensures { IsTrue result → IsNext at track.now }
-{
-    all_opened_before(&track.opened, at) && all_closed_before(track.spans(), at)
-}
-
 // How many closed spans have a length.
 fn count_of_lasting(track: &ThreadTrack) -> usize {
-    track
-        .spans()
-        .iter()
+    (0..track.closed_count())
+        .filter_map(|i| track.closed(i))
         .filter(|span| span.start < span.until)
         .count()
 }
 
 // Some closed span starts or ends then.
 fn is_end(track: &ThreadTrack, time: i64) -> bool {
-    track
-        .spans()
-        .iter()
+    (0..track.closed_count())
+        .filter_map(|i| track.closed(i))
         .any(|span| span.start == time || span.until == time)
 }
 
@@ -76,51 +57,39 @@ fn expect_plain_times(rt: &impl Abort, track: &ThreadTrack) {
     expect_segments(rt, track);
 }
 
-// What a call that opens a span asks of the track.
-fn ready(rt: &impl Abort, track: &ThreadTrack, at: u32)
-    ensures next { IsNext at track.now }
-    ensures few_opened { length track.now.opened < 10000 }
-    ensures few_closed { length track.now.closed < 10000 }
-{
-    assert!(rt; is_next(track, at));
-    assert!(rt; track.depth() < 10_000);
-    assert!(rt; track.closed_count() < 10_000);
-}
-
 fn begin(
-    rt: &impl Abort,
-    track: &mut ThreadTrack,
+    rt: &(impl Abort + AllocGlobal),
+    placed: &mut Placed,
     at: u32,
     name: u32,
     ts: i64,
 ) -> Result<u32, TrackFault>
     requires { IsTime ts }
 {
-    ready(rt, track, at);
-    let none = Args::empty(*track.opened.allocator());
-    let begun = track.begin_span(name, ts, at, &none);
-    expect_plain_times(rt, track);
+    let none = Args::empty(rt.alloc());
+    let begun = placed.begin_span(rt, name, ts, at, &none);
+    expect_plain_times(rt, placed.track());
     begun
 }
 
 // The span that the end closes: its name, start, end and place.
 fn end(
-    rt: &impl Abort,
-    track: &mut ThreadTrack,
+    rt: &(impl Abort + AllocGlobal),
+    placed: &mut Placed,
     ts: i64,
 ) -> Result<(u32, i64, i64, u32), TrackFault>
     requires { IsTime ts }
 {
-    let none = Args::empty(*track.opened.allocator());
-    let ended = track.end_span(ts, &none);
-    expect_plain_times(rt, track);
+    let none = Args::empty(rt.alloc());
+    let ended = placed.end_span(rt, ts, &none);
+    expect_plain_times(rt, placed.track());
     let span = ended?;
     Ok((span.name, span.start, span.until, span.at))
 }
 
 fn complete(
-    rt: &impl Abort,
-    track: &mut ThreadTrack,
+    rt: &(impl Abort + AllocGlobal),
+    placed: &mut Placed,
     at: u32,
     name: u32,
     ts: i64,
@@ -129,10 +98,9 @@ fn complete(
     requires in_time { IsTime ts }
     requires lasts { dur ≤ greatest_time }
 {
-    ready(rt, track, at);
-    let none = Args::empty(*track.opened.allocator());
-    let completed = track.complete(name, ts, dur, at, &none);
-    expect_plain_times(rt, track);
+    let none = Args::empty(rt.alloc());
+    let completed = placed.complete(rt, name, ts, dur, at, &none);
+    expect_plain_times(rt, placed.track());
     completed
 }
 
@@ -188,12 +156,13 @@ fn a_track_without_events(rt: HostRuntime) {
     expect_busy(&rt, &track, 0);
 }
 
-fn a_span_in_a_span_on(rt: &impl Abort, track: &mut ThreadTrack) -> Result<(), Fail> {
-    assert_eq!(rt; begin(rt, track, 0, 0, 0)?, 1);
-    assert_eq!(rt; begin(rt, track, 1, 1, 2)?, 2);
-    assert_eq!(rt; end(rt, track, 5)?, (1, 2, 5, 1));
-    assert_eq!(rt; track.depth(), 1);
-    assert_eq!(rt; end(rt, track, 10)?, (0, 0, 10, 0));
+fn a_span_in_a_span_on(rt: &(impl Abort + AllocGlobal), placed: &mut Placed) -> Result<(), Fail> {
+    assert_eq!(rt; begin(rt, placed, 0, 0, 0)?, 1);
+    assert_eq!(rt; begin(rt, placed, 1, 1, 2)?, 2);
+    assert_eq!(rt; end(rt, placed, 5)?, (1, 2, 5, 1));
+    assert_eq!(rt; placed.track().depth(), 1);
+    assert_eq!(rt; end(rt, placed, 10)?, (0, 0, 10, 0));
+    let track = placed.track();
     assert_eq!(rt; track.last_time(), Some(10));
     assert_eq!(rt; track.closed_count(), 2);
     let first = track.closed(0).ok_or("a closed span")?;
@@ -206,13 +175,17 @@ fn a_span_in_a_span_on(rt: &impl Abort, track: &mut ThreadTrack) -> Result<(), F
 
 #[test]
 fn a_span_in_a_span(rt: HostRuntime) -> Result<(), Fail> {
-    let mut track = ThreadTrack::new(rt.alloc());
-    a_span_in_a_span_on(&rt, &mut track)
+    let mut placed = Placed::new(rt.alloc());
+    a_span_in_a_span_on(&rt, &mut placed)
 }
 
-fn a_child_that_came_first_on(rt: &impl Abort, track: &mut ThreadTrack) -> Result<(), Fail> {
-    complete(rt, track, 0, 2, 2, 3)?;
-    complete(rt, track, 1, 3, 0, 10)?;
+fn a_child_that_came_first_on(
+    rt: &(impl Abort + AllocGlobal),
+    placed: &mut Placed,
+) -> Result<(), Fail> {
+    complete(rt, placed, 0, 2, 2, 3)?;
+    complete(rt, placed, 1, 3, 0, 10)?;
+    let track = placed.track();
     expect_name(rt, track, 3, 1, 10, 7);
     expect_name(rt, track, 2, 1, 3, 3);
     expect_busy(rt, track, 10);
@@ -227,14 +200,18 @@ fn a_child_that_came_first_on(rt: &impl Abort, track: &mut ThreadTrack) -> Resul
 
 #[test]
 fn a_child_that_came_first(rt: HostRuntime) -> Result<(), Fail> {
-    let mut track = ThreadTrack::new(rt.alloc());
-    a_child_that_came_first_on(&rt, &mut track)
+    let mut placed = Placed::new(rt.alloc());
+    a_child_that_came_first_on(&rt, &mut placed)
 }
 
-fn a_span_that_takes_from_two_on(rt: &impl Abort, track: &mut ThreadTrack) -> Result<(), Fail> {
-    complete(rt, track, 0, 0, 0, 10)?;
-    complete(rt, track, 1, 1, 20, 10)?;
-    complete(rt, track, 2, 2, 5, 20)?;
+fn a_span_that_takes_from_two_on(
+    rt: &(impl Abort + AllocGlobal),
+    placed: &mut Placed,
+) -> Result<(), Fail> {
+    complete(rt, placed, 0, 0, 0, 10)?;
+    complete(rt, placed, 1, 1, 20, 10)?;
+    complete(rt, placed, 2, 2, 5, 20)?;
+    let track = placed.track();
     expect_name(rt, track, 0, 1, 10, 5);
     expect_name(rt, track, 1, 1, 10, 10);
     expect_name(rt, track, 2, 1, 20, 15);
@@ -250,13 +227,14 @@ fn a_span_that_takes_from_two_on(rt: &impl Abort, track: &mut ThreadTrack) -> Re
 
 #[test]
 fn a_span_that_takes_from_two(rt: HostRuntime) -> Result<(), Fail> {
-    let mut track = ThreadTrack::new(rt.alloc());
-    a_span_that_takes_from_two_on(&rt, &mut track)
+    let mut placed = Placed::new(rt.alloc());
+    a_span_that_takes_from_two_on(&rt, &mut placed)
 }
 
-fn spans_that_cross_on(rt: &impl Abort, track: &mut ThreadTrack) -> Result<(), Fail> {
-    complete(rt, track, 0, 3, 0, 10)?;
-    complete(rt, track, 1, 4, 5, 10)?;
+fn spans_that_cross_on(rt: &(impl Abort + AllocGlobal), placed: &mut Placed) -> Result<(), Fail> {
+    complete(rt, placed, 0, 3, 0, 10)?;
+    complete(rt, placed, 1, 4, 5, 10)?;
+    let track = placed.track();
     expect_name(rt, track, 3, 1, 10, 5);
     expect_name(rt, track, 4, 1, 10, 10);
     expect_busy(rt, track, 15);
@@ -265,14 +243,18 @@ fn spans_that_cross_on(rt: &impl Abort, track: &mut ThreadTrack) -> Result<(), F
 
 #[test]
 fn spans_that_cross(rt: HostRuntime) -> Result<(), Fail> {
-    let mut track = ThreadTrack::new(rt.alloc());
-    spans_that_cross_on(&rt, &mut track)
+    let mut placed = Placed::new(rt.alloc());
+    spans_that_cross_on(&rt, &mut placed)
 }
 
-fn equal_spans_and_an_empty_one_on(rt: &impl Abort, track: &mut ThreadTrack) -> Result<(), Fail> {
-    complete(rt, track, 0, 0, 0, 4)?;
-    complete(rt, track, 1, 1, 0, 4)?;
-    complete(rt, track, 2, 25, 9, 0)?;
+fn equal_spans_and_an_empty_one_on(
+    rt: &(impl Abort + AllocGlobal),
+    placed: &mut Placed,
+) -> Result<(), Fail> {
+    complete(rt, placed, 0, 0, 0, 4)?;
+    complete(rt, placed, 1, 1, 0, 4)?;
+    complete(rt, placed, 2, 25, 9, 0)?;
+    let track = placed.track();
     expect_name(rt, track, 0, 1, 4, 0);
     expect_name(rt, track, 1, 1, 4, 4);
     expect_name(rt, track, 25, 1, 0, 0);
@@ -282,13 +264,17 @@ fn equal_spans_and_an_empty_one_on(rt: &impl Abort, track: &mut ThreadTrack) -> 
 
 #[test]
 fn equal_spans_and_an_empty_one(rt: HostRuntime) -> Result<(), Fail> {
-    let mut track = ThreadTrack::new(rt.alloc());
-    equal_spans_and_an_empty_one_on(&rt, &mut track)
+    let mut placed = Placed::new(rt.alloc());
+    equal_spans_and_an_empty_one_on(&rt, &mut placed)
 }
 
-fn the_longest_span_twice_on(rt: &impl Abort, track: &mut ThreadTrack) -> Result<(), Fail> {
-    complete(rt, track, 0, 7, 0, 9_007_199_254_740_991)?;
-    complete(rt, track, 1, 7, 0, 9_007_199_254_740_991)?;
+fn the_longest_span_twice_on(
+    rt: &(impl Abort + AllocGlobal),
+    placed: &mut Placed,
+) -> Result<(), Fail> {
+    complete(rt, placed, 0, 7, 0, 9_007_199_254_740_991)?;
+    complete(rt, placed, 1, 7, 0, 9_007_199_254_740_991)?;
+    let track = placed.track();
     expect_name(
         rt,
         track,
@@ -303,35 +289,38 @@ fn the_longest_span_twice_on(rt: &impl Abort, track: &mut ThreadTrack) -> Result
 
 #[test]
 fn the_longest_span_twice(rt: HostRuntime) -> Result<(), Fail> {
-    let mut track = ThreadTrack::new(rt.alloc());
-    the_longest_span_twice_on(&rt, &mut track)
+    let mut placed = Placed::new(rt.alloc());
+    the_longest_span_twice_on(&rt, &mut placed)
 }
 
-fn an_end_without_a_begin_on(rt: &impl Abort, track: &mut ThreadTrack) -> Result<(), Fail> {
-    assert_eq!(rt; end(rt, track, 3), Err(TrackFault::Refused(21)));
-    assert_eq!(rt; begin(rt, track, 1, 0, 1)?, 1);
+fn an_end_without_a_begin_on(
+    rt: &(impl Abort + AllocGlobal),
+    placed: &mut Placed,
+) -> Result<(), Fail> {
+    assert_eq!(rt; end(rt, placed, 3), Err(TrackFault::Refused(21)));
+    assert_eq!(rt; begin(rt, placed, 1, 0, 1)?, 1);
     Ok(())
 }
 
 #[test]
 fn an_end_without_a_begin(rt: HostRuntime) -> Result<(), Fail> {
-    let mut track = ThreadTrack::new(rt.alloc());
-    an_end_without_a_begin_on(&rt, &mut track)
+    let mut placed = Placed::new(rt.alloc());
+    an_end_without_a_begin_on(&rt, &mut placed)
 }
 
-fn times_that_go_back_on(rt: &impl Abort, track: &mut ThreadTrack) -> Result<(), Fail> {
-    assert_eq!(rt; begin(rt, track, 0, 0, 10)?, 1);
-    assert_eq!(rt; end(rt, track, 9), Err(TrackFault::Refused(22)));
-    assert_eq!(rt; end(rt, track, 10)?, (0, 10, 10, 0));
-    assert_eq!(rt; end(rt, track, 9), Err(TrackFault::Refused(21)));
-    assert_eq!(rt; begin(rt, track, 4, 1, 9), Err(TrackFault::Refused(22)));
+fn times_that_go_back_on(rt: &(impl Abort + AllocGlobal), placed: &mut Placed) -> Result<(), Fail> {
+    assert_eq!(rt; begin(rt, placed, 0, 0, 10)?, 1);
+    assert_eq!(rt; end(rt, placed, 9), Err(TrackFault::Refused(22)));
+    assert_eq!(rt; end(rt, placed, 10)?, (0, 10, 10, 0));
+    assert_eq!(rt; end(rt, placed, 9), Err(TrackFault::Refused(21)));
+    assert_eq!(rt; begin(rt, placed, 4, 1, 9), Err(TrackFault::Refused(22)));
     Ok(())
 }
 
 #[test]
 fn times_that_go_back(rt: HostRuntime) -> Result<(), Fail> {
-    let mut track = ThreadTrack::new(rt.alloc());
-    times_that_go_back_on(&rt, &mut track)
+    let mut placed = Placed::new(rt.alloc());
+    times_that_go_back_on(&rt, &mut placed)
 }
 
 fn args_at(items: &Items, i: usize) -> Option<&Args> {
@@ -349,18 +338,19 @@ fn expect_merged(rt: &impl Abort, args: &Args) {
 
 fn arguments_of_begin_and_end_on(
     rt: &(impl Abort + AllocGlobal),
-    track: &mut ThreadTrack,
-    first: &Args,
-    second: &Args,
+    placed: &mut Placed,
+    items: &Items,
 ) -> Result<(), Fail> {
-    ready(rt, track, 0);
-    track.begin_span(0, 0, 0, first)?;
-    expect_plain_times(rt, track);
-    let span = track.end_span(1, second)?;
-    expect_plain_times(rt, track);
+    let first = args_at(items, 0).ok_or("a begin")?;
+    let second = args_at(items, 1).ok_or("an end")?;
+    placed.begin_span(rt, 0, 0, 0, first)?;
+    expect_plain_times(rt, placed.track());
+    let span = placed.end_span(rt, 1, second)?;
+    expect_plain_times(rt, placed.track());
     expect_merged(rt, &span.args);
+    drop(span);
     expect_merged(rt, &merge_args(rt.alloc(), first, second)?);
-    let kept = track.closed(0).ok_or("a closed span")?;
+    let kept = placed.track().closed(0).ok_or("a closed span")?;
     expect_merged(rt, &kept.args);
     Ok(())
 }
@@ -371,19 +361,19 @@ fn arguments_of_begin_and_end(rt: HostRuntime) -> Result<(), Fail> {
         rt.alloc(),
         br#"[{"ph":"B","ts":0,"args":{"x":1,"y":2}},{"ph":"E","ts":1,"args":{"y":3,"z":true}}]"#,
     )?;
-    let first = args_at(&items, 0).ok_or("a begin")?;
-    let second = args_at(&items, 1).ok_or("an end")?;
-    let mut track = ThreadTrack::new(rt.alloc());
-    arguments_of_begin_and_end_on(&rt, &mut track, first, second)
+    let mut placed = Placed::new(rt.alloc());
+    arguments_of_begin_and_end_on(&rt, &mut placed, &items)
 }
 
 fn an_end_with_arguments_merged_before_on(
     rt: &impl Abort,
     track: &mut ThreadTrack,
-    first: &Args,
-    second: &Args,
-) -> Result<(), Fail> {
-    ready(rt, track, 0);
+    items: &Items,
+) -> Result<(), Fail>
+    requires { StandsFor track.old [] }
+{
+    let first = args_at(items, 0).ok_or("a begin")?;
+    let second = args_at(items, 1).ok_or("an end")?;
     track.begin_span(0, 0, 0, first)?;
     let merged = track.merged_args(second)?;
     expect_merged(rt, &merged);
@@ -404,42 +394,39 @@ fn an_end_with_arguments_merged_before(rt: HostRuntime) -> Result<(), Fail> {
         rt.alloc(),
         br#"[{"ph":"B","ts":0,"args":{"x":1,"y":2}},{"ph":"E","ts":1,"args":{"y":3,"z":true}}]"#,
     )?;
-    let first = args_at(&items, 0).ok_or("a begin")?;
-    let second = args_at(&items, 1).ok_or("an end")?;
     let mut track = ThreadTrack::new(rt.alloc());
-    an_end_with_arguments_merged_before_on(&rt, &mut track, first, second)
+    an_end_with_arguments_merged_before_on(&rt, &mut track, &items)
 }
 
-fn refusals_that_are_told_before_on(rt: &impl Abort, track: &mut ThreadTrack) -> Result<(), Fail> {
-    assert_eq!(rt; track.begin_refusal(-5), None);
-    assert_eq!(rt; track.end_refusal(-5), Some(21));
-    begin(rt, track, 0, 0, 10)?;
-    assert_eq!(rt; track.begin_refusal(9), Some(22));
-    assert_eq!(rt; track.end_refusal(9), Some(22));
-    assert_eq!(rt; track.begin_refusal(10), None);
-    assert_eq!(rt; track.end_refusal(10), None);
+fn refusals_that_are_told_before_on(
+    rt: &(impl Abort + AllocGlobal),
+    placed: &mut Placed,
+) -> Result<(), Fail> {
+    assert_eq!(rt; placed.track().begin_refusal(-5), None);
+    assert_eq!(rt; placed.track().end_refusal(-5), Some(21));
+    begin(rt, placed, 0, 0, 10)?;
+    assert_eq!(rt; placed.track().begin_refusal(9), Some(22));
+    assert_eq!(rt; placed.track().end_refusal(9), Some(22));
+    assert_eq!(rt; placed.track().begin_refusal(10), None);
+    assert_eq!(rt; placed.track().end_refusal(10), None);
     Ok(())
 }
 
 #[test]
 fn refusals_that_are_told_before(rt: HostRuntime) -> Result<(), Fail> {
-    let mut track = ThreadTrack::new(rt.alloc());
-    refusals_that_are_told_before_on(&rt, &mut track)
+    let mut placed = Placed::new(rt.alloc());
+    refusals_that_are_told_before_on(&rt, &mut placed)
 }
 
-fn a_stack_200_deep_on(
-    rt: &(impl Abort + AllocGlobal),
-    track: &mut ThreadTrack,
-) -> Result<(), Fail> {
-    let none = Args::empty(rt.alloc());
+fn a_stack_200_deep_on(rt: &impl Abort, placed: &mut Placed, none: &Args) -> Result<(), Fail> {
     for at in 0..200u32 {
-        ready(rt, track, at);
-        assert_eq!(rt; track.begin_span(at, i64::from(at), at, &none)?, at + 1);
+        assert_eq!(rt; placed.begin_span(rt, at, i64::from(at), at, none)?, at + 1);
     }
     for i in 0..200u32 {
-        let span = track.end_span(i64::from(200 + i), &none)?;
+        let span = placed.end_span(rt, i64::from(200 + i), none)?;
         assert!(rt; span.at == 199 - i && span.until == i64::from(200 + i));
     }
+    let track = placed.track();
     assert_eq!(rt; track.depth(), 0);
     assert_eq!(rt; track.closed_count(), 200);
     assert_eq!(rt; track.busy(), 399);
@@ -448,19 +435,20 @@ fn a_stack_200_deep_on(
 
 #[test]
 fn a_stack_200_deep(rt: HostRuntime) -> Result<(), Fail> {
-    let mut track = ThreadTrack::new(rt.alloc());
-    a_stack_200_deep_on(&rt, &mut track)
+    let none = Args::empty(rt.alloc());
+    let mut placed = Placed::new(rt.alloc());
+    a_stack_200_deep_on(&rt, &mut placed, &none)
 }
 
 fn more_than_4096_closed_spans_on(
-    rt: &(impl Abort + AllocGlobal),
-    track: &mut ThreadTrack,
+    rt: &impl Abort,
+    placed: &mut Placed,
+    none: &Args,
 ) -> Result<(), Fail> {
-    let none = Args::empty(rt.alloc());
     for at in 0..4_100u32 {
-        ready(rt, track, at);
-        track.complete(at % 2, i64::from(at), 1, at, &none)?;
+        placed.complete(rt, at % 2, i64::from(at), 1, at, none)?;
     }
+    let track = placed.track();
     assert_eq!(rt; track.closed_count(), 4_100);
     assert_eq!(rt; track.busy(), 4_100);
     assert_eq!(rt; track.segment_count(), 4_100);
@@ -477,6 +465,7 @@ fn more_than_4096_closed_spans_on(
 
 #[test]
 fn more_than_4096_closed_spans(rt: HostRuntime) -> Result<(), Fail> {
-    let mut track = ThreadTrack::new(rt.alloc());
-    more_than_4096_closed_spans_on(&rt, &mut track)
+    let none = Args::empty(rt.alloc());
+    let mut placed = Placed::new(rt.alloc());
+    more_than_4096_closed_spans_on(&rt, &mut placed, &none)
 }

@@ -1,0 +1,5 @@
+//! What `span_track` promises, tried.
+#![tactic(auto)]
+
+#[cfg(test)]
+mod tests;
