@@ -1,4 +1,4 @@
-//! What `span_track` promises, tried.
+//! What `span_track` promises, tried through its public calls.
 #![tactic(auto)]
 
 #[cfg(test)]
