@@ -11,3 +11,4 @@ pub mod ReadError
 pub mod Reading
 pub mod Refusal
 pub mod Slots
+pub mod Text

@@ -5,32 +5,52 @@ ghost use Rattle.std.specs.Cmp.Lexicographic.{pointwise, slice_cmp, nat_list_eq_
 ghost use Rattle.std.specs.Cmp.{partial_equiv_from_equiv};
 ghost use Rattle.std.specs.Cmp.Rules.{hashing};
 ghost use Rattle.std.proofs.Common.{rules};
+ghost use Rattle.span_read.specs.Text.{held_bytes};
 
+use arrayvec::ArrayString;
 use std::alloc::{AllocError, Global};
 use std::cmp::Ordering;
 use std::fmt;
 use std::hash::{Hash, Hasher};
 use std::marker::Model;
 
-/// A text of a trace: valid UTF-8, kept as it was read. Order and equality are by bytes.
-#[derive(Drop)]
+// Names are mostly short. A text of so many bytes lies in the value itself, and takes no memory.
+const SHORT: usize = 16;
+
+enum Held {
+    Short(ArrayString<16>),
+    Long(String),
+}
+
+/// A text of a trace: valid UTF-8, kept as it was read. Order and equality are by bytes. Up to 16 bytes take no memory.
 pub struct Text {
-    text: String,
+    held: Held,
 }
 
 impl Model for Text {
     ghost Value = { List ℕ };
 
-    ghost view = { λ t. string_bytes t.text };
+    ghost view = { λ t. held_bytes t.held };
+}
+
+// Written out, so that who lets go of a text makes one call, however it is held.
+impl Drop for Text {
+    fn drop(self) {
+        let Text { held } = self;
+        match held {
+            Held::Short(_) => {}
+            Held::Long(text) => drop(text),
+        }
+    }
 }
 
 impl Text {
     /// The empty text. Takes no memory.
-    pub fn empty(alloc: Global) -> Text
+    pub fn empty(_alloc: Global) -> Text
         ensures { result ≡ [] }
     {
         Text {
-            text: String::new(alloc),
+            held: Held::Short(ArrayString::new()),
         }
     }
 
@@ -38,14 +58,26 @@ impl Text {
     pub fn of(alloc: Global, text: &str) -> Result<Text, AllocError>
         ensures { IfOk result (λ t. t ≡ text.now) }
     {
+        if text.len() <= SHORT {
+            let mut short = ArrayString::new();
+            short.push_str(text);
+            return Ok(Text {
+                held: Held::Short(short),
+            });
+        }
         let text = String::from_str(alloc, text)?;
-        Ok(Text { text })
+        Ok(Text {
+            held: Held::Long(text),
+        })
     }
 
     pub fn as_str(&self) -> &str
         ensures { result.now ≡ self.now }
     {
-        self.text.as_str()
+        match &self.held {
+            Held::Short(text) => text.as_str(),
+            Held::Long(text) => text.as_str(),
+        }
     }
 
     pub fn try_clone(&self, alloc: Global) -> Result<Text, AllocError>
@@ -60,7 +92,9 @@ impl From<String> for Text {
     ghost from_gives = { λ text t. t ≡ string_bytes text };
 
     fn from(text: String) -> Text {
-        Text { text }
+        Text {
+            held: Held::Long(text),
+        }
     }
 }
 
