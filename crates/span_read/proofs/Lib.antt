@@ -1,3 +1,4 @@
+pub mod ArgMaps
 pub mod Documents
 pub mod Elements
 pub mod Ends

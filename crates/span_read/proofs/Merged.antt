@@ -53,7 +53,7 @@ IsBelowAll-trans k l (p ∷ ps) below all = (nat_list_cmp_total.trans k l p.0 be
 
 -- ---- putting in order
 
-insert_entry-below : (p : Pair) (es : List Pair) → IsBelowAll p.0 es → insert_entry (slice_cmp nat_cmp) es p.0 p.1 ≡ p ∷ es
+pub insert_entry-below : (p : Pair) (es : List Pair) → IsBelowAll p.0 es → insert_entry (slice_cmp nat_cmp) es p.0 p.1 ≡ p ∷ es
 insert_entry-below p [] all = refl
 insert_entry-below p (e ∷ es) all = rw all.0
 
@@ -72,7 +72,7 @@ IsInNameOrder-placed Less p e es placed is sorted more below = ((is, IsBelowAll-
 IsInNameOrder-placed Equal p e es placed is sorted more below = sorted
 IsInNameOrder-placed Greater p e es placed is sorted more below = (below (nat_list_cmp_total.antisymm e.0 p.0 ∙ ap ordering_reverse is), more)
 
-IsInNameOrder-insert_entry : (p : Pair) (es : List Pair) → IsInNameOrder es → IsInNameOrder (insert_entry (slice_cmp nat_cmp) es p.0 p.1)
+pub IsInNameOrder-insert_entry : (p : Pair) (es : List Pair) → IsInNameOrder es → IsInNameOrder (insert_entry (slice_cmp nat_cmp) es p.0 p.1)
 IsInNameOrder-insert_entry p [] sorted = (tt, tt)
 IsInNameOrder-insert_entry p (e ∷ es) sorted =
     IsInNameOrder-placed (slice_cmp nat_cmp p.0 e.0) p e es _ refl sorted (IsInNameOrder-insert_entry p es sorted.1) (λ below. IsBelowAll-insert_entry e.0 p es below sorted.0)
@@ -118,7 +118,7 @@ merged-end p a b rest is sorted below =
     let first : IsBelowAll p.0 rest = (subst IsInNameOrder is sorted).0 in
     rw (is, lacking-other p a rest below) (insert_entry-below p _ (IsBelowAll-in_name_order p.0 _ (IsBelowAll-append p.0 rest (lacking rest a) first (IsBelowAll-filter p.0 (λ q. is_none (value_of q.0 rest)) a below))))
 
-same_name : (k l : List ℕ) → slice_cmp nat_cmp k l ≡ Equal → k ≡ l
+pub same_name : (k l : List ℕ) → slice_cmp nat_cmp k l ≡ Equal → k ≡ l
 same_name k l is = (bytes_eq-Decides k l).0 (sym (is_eq-slice_cmp k l) ∙ ap is_eq is)
 
 merged-both_first : (p q : Pair) (a b : List Pair) → slice_cmp nat_cmp p.0 q.0 ≡ Equal → IsInNameOrder (p ∷ a) → IsInNameOrder (q ∷ b) → merged (p ∷ a) (q ∷ b) ≡ q ∷ merged a b

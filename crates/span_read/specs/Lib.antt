@@ -1,3 +1,4 @@
+pub mod ArgMap
 pub mod Args
 pub mod Document
 pub mod Element

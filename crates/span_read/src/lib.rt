@@ -1,6 +1,7 @@
 //! Reads the bytes of a trace file into typed items: good events, numbered faults, and events of phases that are not used.
 #![tactic(auto)]
 
+mod arg_map;
 mod args;
 mod build;
 mod candidates;

@@ -5,6 +5,7 @@ ghost use Rattle.span_read.specs.Fields.{arg_value, field_value, pairs_of, field
 ghost use Rattle.span_read.specs.Reading.{data_at, TakesValue, TakesObject, IsNotJson};
 ghost use Rattle.span_read.specs.Slots.{data_of};
 
+use crate::arg_map::ArgMap;
 use crate::args::{ArgValue, Args};
 use crate::fields::{FieldValue, Fields};
 use crate::head::{Head, next_head};
@@ -13,7 +14,6 @@ use crate::stop::Stop;
 use crate::text::Text;
 use json::Reader;
 use std::alloc::Global;
-use std::collections::BTreeMap;
 
 /// The rest of an object whose bracket was taken.
 #[inline(never)]
@@ -67,13 +67,13 @@ fn read_pairs(alloc: Global, reader: &mut Reader<'_>, depth: usize) -> Result<Ar
     if depth == 0 {
         return Err(Stop::NotJson);
     }
-    let mut found = BTreeMap::new(alloc);
+    let mut found = ArgMap::new(alloc);
     'members: while let Some(key) = reader.next_key()? {
         let name = Text::of(alloc, key)?;
         let value = read_arg(alloc, reader, depth - 1)?;
-        drop(found.insert(name, value)?);
+        found = found.with(alloc, name, value)?;
     }
-    Ok(Args::of_map(alloc, found)?)
+    Ok(found.into_args(alloc)?)
 }
 
 #[inline(always)]

@@ -13,12 +13,12 @@ pub returns-then-depth-eq0-clause-refused : goal.returns-then-depth-eq0-clause-r
 returns-then-depth-eq0-clause-refused c = λ no. data_at-too_deep_object c.args.depth c.args.reader.now c.if-depth-eq0.true
 
 pub members-init : goal.members-init
-members-init c = members_start (c.args.depth - 1) c.args.reader.now (λ ms. c.new-found.result.entries ≡ pairs_of ms) c.new-found.ensures.empty
+members-init c = members_start (c.args.depth - 1) c.args.reader.now (λ ms. c.new-found.result ≡ pairs_of ms) c.new-found.ensures
 
 pub returns-in_err-key-clause-refused : goal.returns-in_err-key-clause-refused
 returns-in_err-key-clause-refused c = λ no.
     let l = c.members in
-    members_key_refused c.args.depth (omega arith) (λ ms. l.found.entries ≡ pairs_of ms) c.args.reader.now l.reader l.invariant c.in_err-key.ensures.value
+    members_key_refused c.args.depth (omega arith) (λ ms. l.found ≡ pairs_of ms) c.args.reader.now l.reader l.invariant c.in_err-key.ensures.value
 
 pub returns-in_err-value-clause-refused : goal.returns-in_err-value-clause-refused
 returns-in_err-value-clause-refused c = λ no.
@@ -26,7 +26,7 @@ returns-in_err-value-clause-refused c = λ no.
     let k = c.in-Some.key.now in
     let s = c.next_key.new.self in
     let named : read_key l.reader ≡ Some (Some k, s) = grind arith in
-    members_value_refused c.args.depth (omega arith) (λ ms. l.found.entries ≡ pairs_of ms) c.args.reader.now l.reader l.invariant k s named (c.read_arg.ensures.refused (grind arith))
+    members_value_refused c.args.depth (omega arith) (λ ms. l.found ≡ pairs_of ms) c.args.reader.now l.reader l.invariant k s named (c.read_arg.ensures.refused (grind arith))
 
 pub members-preserved : goal.members-preserved
 members-preserved c =
@@ -38,13 +38,13 @@ members-preserved c =
     let taken = done.value in
     let before = l.invariant.before in
     let copied : c.in_ok-name.name ≡ k = c.in_ok-name.ensures in
-    let inserted : c.insert.new.self.entries ≡ pairs_of (put k taken.0 before) =
-    c.in_ok-insert.ensures.entries ∙ ap₂ (λ (name : List ℕ) v. insert_entry (slice_cmp nat_cmp) l.found.entries name v) copied (sym taken.2)
+    let inserted : c.in_ok-found.found ≡ pairs_of (put k taken.0 before) =
+    c.in_ok-found.ensures ∙ ap₂ (λ (name : List ℕ) v. insert_entry (slice_cmp nat_cmp) l.found name v) copied (sym taken.2)
     ∙ ap (λ ps. insert_entry (slice_cmp nat_cmp) ps k (arg_value taken.0)) l.invariant.holds ∙ sym (pairs_of-put k taken.0 before) in
-    members_turn c.args.depth (omega arith) (λ ms. l.found.entries ≡ pairs_of ms) c.args.reader.now l.reader l.invariant (λ ms. c.insert.new.self.entries ≡ pairs_of ms) k taken.0 s c.read_arg.new.reader named taken.1 done.shorter inserted
+    members_turn c.args.depth (omega arith) (λ ms. l.found ≡ pairs_of ms) c.args.reader.now l.reader l.invariant (λ ms. c.in_ok-found.found ≡ pairs_of ms) k taken.0 s c.read_arg.new.reader named taken.1 done.shorter inserted
 
 pub returns-clause-pairs : goal.returns-clause-pairs
 returns-clause-pairs c =
     let l = c.members in
-    takes_object c.args.depth c.args.reader.now c.next_key.new.self (λ ms. l.found.entries ≡ pairs_of ms) (λ ms. c.in_ok-of_map.field-0 ≡ pairs_of ms) (λ ms holds. c.in_ok-of_map.ensures ∙ holds)
-    (members_finish c.args.depth (omega arith) (λ ms. l.found.entries ≡ pairs_of ms) c.args.reader.now l.reader l.invariant c.next_key.new.self (grind arith))
+    takes_object c.args.depth c.args.reader.now c.next_key.new.self (λ ms. l.found ≡ pairs_of ms) (λ ms. c.in_ok-into_args.field-0 ≡ pairs_of ms) (λ ms holds. c.in_ok-into_args.ensures ∙ holds)
+    (members_finish c.args.depth (omega arith) (λ ms. l.found ≡ pairs_of ms) c.args.reader.now l.reader l.invariant c.next_key.new.self (grind arith))

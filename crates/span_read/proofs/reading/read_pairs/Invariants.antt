@@ -4,7 +4,7 @@ use Rattle.span_read.specs.Reading.{MembersSoFar}
 use Rattle.span_read.proofs.reading.read_pairs.Given as goal
 
 abbrev pub invariant-members : goal.invariant-members
-invariant-members l = MembersSoFar (l.depth - 1) l.initial.reader l.reader (λ ms. l.found.entries ≡ pairs_of ms)
+invariant-members l = MembersSoFar (l.depth - 1) l.initial.reader l.reader (λ ms. l.found ≡ pairs_of ms)
 
 abbrev pub decreases-members : goal.decreases-members
 decreases-members l = length l.reader

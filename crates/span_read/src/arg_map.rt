@@ -1,0 +1,139 @@
+// The arguments of one object while its members are read.
+ghost use Rattle.std.specs.Prelude.{◌≡◌, ◌<◌, ◌≤◌, ℕ, List, [], length, set, IfOk, IfErr};
+ghost use Rattle.std.specs.List.{insert};
+ghost use Rattle.std.specs.Ordering.{nat_cmp};
+ghost use Rattle.std.specs.Cmp.Lexicographic.{slice_cmp};
+ghost use Rattle.std.specs.BTreeMap.{insert_entry};
+ghost use Rattle.span_read.specs.declared.args.ArgValue.{ArgValue};
+ghost use Rattle.span_read.specs.Args.{IsInNameOrder};
+ghost use Rattle.span_read.specs.ArgMap.{pairs_in};
+
+use crate::args::{ArgValue, Args};
+use crate::text::Text;
+use std::alloc::{AllocError, Global};
+use std::cmp::Ordering;
+use std::collections::BTreeMap;
+use std::marker::Model;
+
+/// To put pairs of a list in order takes time that grows with the square of their number, so more than these go to a map.
+const FEW: usize = 16;
+
+type Pair = (Text, ArgValue);
+
+// Most objects have few, for which a list costs less than a map.
+#[derive(Drop)]
+enum Kept {
+    Few(Vec<Pair>),
+    Many(BTreeMap<Text, ArgValue>),
+}
+
+/// Pairs in byte order of their names.
+#[derive(Drop)]
+pub(crate) struct ArgMap {
+    kept: Kept,
+}
+
+impl Model for ArgMap {
+    ghost Value = { List (List ℕ × ArgValue) };
+
+    ghost view = { λ m. pairs_in m.kept };
+
+    ghost invariant = { λ m. IsInNameOrder (pairs_in m.kept) };
+}
+
+impl ArgMap {
+    /// No pairs. Takes no memory.
+    pub(crate) fn new(alloc: Global) -> ArgMap
+        ensures { result ≡ [] }
+    {
+        ArgMap {
+            kept: Kept::Few(Vec::new(alloc)),
+        }
+    }
+
+    /// With one pair more. Of two pairs of one name the last stays.
+    pub(crate) fn with(
+        self,
+        alloc: Global,
+        name: Text,
+        value: ArgValue,
+    ) -> Result<ArgMap, AllocError>
+        ensures { IfOk result (λ map. map ≡ insert_entry (slice_cmp nat_cmp) self name value) }
+    {
+        let mut map = match self.kept {
+            Kept::Few(pairs) => {
+                if pairs.len() < FEW {
+                    let pairs = put(pairs, name, value)?;
+                    return Ok(ArgMap {
+                        kept: Kept::Few(pairs),
+                    });
+                }
+                map_of(alloc, pairs)?
+            }
+            Kept::Many(map) => map,
+        };
+        drop(map.insert(name, value)?);
+        Ok(ArgMap {
+            kept: Kept::Many(map),
+        })
+    }
+
+    pub(crate) fn into_args(self, alloc: Global) -> Result<Args, AllocError>
+        ensures { IfOk result (λ args. args ≡ self) }
+    {
+        match self.kept {
+            Kept::Few(pairs) => {
+                let mut pairs = pairs;
+                pairs.shrink_to_fit();
+                Args::of_pairs(pairs)
+            }
+            Kept::Many(map) => Args::of_map(alloc, map),
+        }
+    }
+}
+
+fn put(pairs: Vec<Pair>, name: Text, value: ArgValue) -> Result<Vec<Pair>, AllocError>
+    ensures { IfOk result (λ put. put.items ≡ insert_entry (slice_cmp nat_cmp) pairs.items name value) }
+{
+    let mut pairs = pairs;
+    match place_of(&pairs, &name) {
+        Ok(place) => pairs[place] = (name, value),
+        Err(place) => pairs.insert(place, (name, value))?,
+    }
+    Ok(pairs)
+}
+
+// Where the name stands, or else where it belongs.
+fn place_of(pairs: &[Pair], name: &Text) -> Result<usize, usize>
+    ensures within { IfOk result (λ place. place < length pairs.now) }
+    ensures held { IfOk result (λ place. (value : ArgValue)
+        → insert_entry (slice_cmp nat_cmp) pairs.now name.now value ≡ set pairs.now place (name.now, value)) }
+    ensures among { IfErr result (λ place. place ≤ length pairs.now) }
+    ensures free { IfErr result (λ place. (value : ArgValue)
+        → insert_entry (slice_cmp nat_cmp) pairs.now name.now value ≡ insert pairs.now place (name.now, value)) }
+{
+    let mut place = 0;
+    let mut rest = pairs;
+    'pairs: while let Some((pair, later)) = rest.split_first() {
+        match name.cmp(&pair.0) {
+            Ordering::Less => return Err(place),
+            Ordering::Equal => return Ok(place),
+            Ordering::Greater => {}
+        }
+        rest = later;
+        place += 1;
+    }
+    Err(place)
+}
+
+fn map_of(alloc: Global, pairs: Vec<Pair>) -> Result<BTreeMap<Text, ArgValue>, AllocError>
+    requires { IsInNameOrder pairs.items }
+    ensures { IfOk result (λ map. map.entries ≡ pairs.items) }
+{
+    let mut pairs = pairs;
+    let mut map = BTreeMap::new(alloc);
+    'pairs: while let Some((name, value)) = pairs.pop() {
+        drop(map.insert(name, value)?);
+    }
+    Ok(map)
+}
