@@ -1,23 +1,9 @@
 -- A track that can take an event at a position can take the next one after it.
 use Rattle.std.proofs.Common.{ℕ, ◌+◌, ◌<◌, ◌-◌, ◌^◌, List, [], ◌∷◌, ◌++◌, length-append, sym, subst, arith}
-use Rattle.span_track.specs.Matching.{opens, closes, other}
 use Rattle.span_track.specs.Nesting.{ThreadEvent}
-use Rattle.span_track.specs.Thread.{ThreadSpans, StandsFor, HasRoom, IsNext, IsBefore, AreBefore}
-use Rattle.span_track.proofs.Threads.Room.{IsNext-thread_spans, HasRoom-thread_spans}
+use Rattle.span_track.specs.Thread.{ThreadSpans, StandsFor, HasRoom, IsNext, IsBefore}
+use Rattle.span_track.proofs.Threads.Room.{IsNext-thread_spans, HasRoom-thread_spans, AreBefore-later, AreBefore-push}
 use Rattle.track_time.specs.Ready.{IsReady}
-
-IsBefore-later : (at : ℕ) (e : ThreadEvent ℕ) → IsBefore at e → IsBefore (at + 1) e
-IsBefore-later at (opens b) before = omega (arith, before)
-IsBefore-later at (closes e) before = tt
-IsBefore-later at (other s) before = omega (arith, before)
-
-AreBefore-later : (at : ℕ) (es : List (ThreadEvent ℕ)) → AreBefore at es → AreBefore (at + 1) es
-AreBefore-later at [] before = tt
-AreBefore-later at (e ∷ es) before = (IsBefore-later at e before.0, AreBefore-later at es before.1)
-
-AreBefore-push : (at : ℕ) (es : List (ThreadEvent ℕ)) (e : ThreadEvent ℕ) → AreBefore at es → IsBefore (at + 1) e → AreBefore (at + 1) (es ++ e ∷ [])
-AreBefore-push at [] e before latest = (latest, tt)
-AreBefore-push at (d ∷ es) e before latest = (IsBefore-later at d before.0, AreBefore-push at es e before.1 latest)
 
 pub IsNext-IsReady : (at : ℕ) (track : ThreadSpans ℕ) → IsReady at track → IsNext at track
 IsNext-IsReady at track is = subst (IsNext at) (sym is.stands) (IsNext-thread_spans at is.events is.before)
@@ -27,13 +13,13 @@ HasRoom-IsReady at track is room = subst HasRoom (sym is.stands) (HasRoom-thread
 
 -- a track that took nothing can as well take an event later
 pub IsReady-later : (at : ℕ) (track : ThreadSpans ℕ) → IsReady at track → IsReady (at + 1) track
-IsReady-later at track is = record { events = is.events; stands = is.stands; before = AreBefore-later at is.events is.before; few = omega (arith, is.few) }
+IsReady-later at track is = record { events = is.events; stands = is.stands; before = AreBefore-later at (at + 1) is.events (omega arith) is.before; few = omega (arith, is.few) }
 
 -- `took` is what each call of a track promises
 pub IsReady-next : (at : ℕ) (old new : ThreadSpans ℕ) (e : ThreadEvent ℕ) → IsBefore (at + 1) e → IsReady at old → ((es : List (ThreadEvent ℕ)) → StandsFor old es → StandsFor new (es ++ e ∷ [])) → IsReady (at + 1) new
 IsReady-next at old new e latest is took = record {
   events = is.events ++ e ∷ [];
   stands = took is.events is.stands;
-  before = AreBefore-push at is.events e is.before latest;
+  before = AreBefore-push (at + 1) is.events e (AreBefore-later at (at + 1) is.events (omega arith) is.before) latest;
   few = omega (arith, is.few, length-append is.events (e ∷ []));
 }
