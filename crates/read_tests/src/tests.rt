@@ -13,7 +13,9 @@ fn described(alloc: Global, bytes: &[u8]) -> Result<String, AllocError> {
         Ok(items) => {
             let mut words = String::new(alloc);
             for item in items.into_list() {
-                words.push_str(word_of(alloc, &item)?.as_str())?;
+                let word = word_of(alloc, &item);
+                drop(item);
+                words.push_str(word?.as_str())?;
                 words.push(' ')?;
             }
             Ok(words)

@@ -40,14 +40,20 @@ fn items_of_value(alloc: Global, document: &Value) -> Result<String, Fail> {
     let mut shown = String::new(alloc);
     for element in elements {
         let item = item_of(alloc, element)?;
-        shown.push_str(format!(in alloc; "{item:?} ")?.as_str())?;
+        let line = format!(in alloc; "{item:?} ");
+        drop(item);
+        shown.push_str(line?.as_str())?;
     }
     Ok(shown)
 }
 
 fn read_by_value(alloc: Global, bytes: &[u8]) -> Result<String, Fail> {
     match document_of(alloc, bytes)? {
-        Some(document) => items_of_value(alloc, &document),
+        Some(document) => {
+            let items = items_of_value(alloc, &document);
+            drop(document);
+            items
+        }
         None => Ok(String::from_str(alloc, "NotJson")?),
     }
 }
@@ -57,7 +63,9 @@ fn read_by_element(alloc: Global, bytes: &[u8]) -> Result<String, AllocError> {
         Ok(items) => {
             let mut shown = String::new(alloc);
             for item in items.into_list() {
-                shown.push_str(format!(in alloc; "{item:?} ")?.as_str())?;
+                let line = format!(in alloc; "{item:?} ");
+                drop(item);
+                shown.push_str(line?.as_str())?;
             }
             Ok(shown)
         }
@@ -84,7 +92,7 @@ const TEXTS: [&str; 8] = [
 
 #[test]
 fn each_beginning_agrees(rt: HostRuntime) -> Result<(), Fail> {
-    for text in TEXTS {
+    for text in &TEXTS {
         let bytes = text.as_bytes();
         for length in 0..=bytes.len() {
             assert!(rt;
@@ -98,7 +106,7 @@ fn each_beginning_agrees(rt: HostRuntime) -> Result<(), Fail> {
 
 #[test]
 fn texts_with_one_byte_replaced_agree(rt: HostRuntime) -> Result<(), Fail> {
-    for text in TEXTS {
+    for text in &TEXTS {
         for new in b"\"\\{}[],:-+.eE019 tfnu\x00\x1f\x7f\xc3\xff" {
             for index in 0..text.len() {
                 let mut bytes = Vec::new(rt.alloc());
@@ -163,8 +171,8 @@ const PLACES: [(&str, &str); 14] = [
 
 #[test]
 fn numbers_agree_wherever_they_stand(rt: HostRuntime) -> Result<(), Fail> {
-    for number in NUMBERS {
-        for (start, end) in PLACES {
+    for number in &NUMBERS {
+        for (start, end) in &PLACES {
             let text = format!(in rt.alloc(); "{start}{number}{end}")?;
             assert!(rt; agree(rt.alloc(), text.as_bytes())?, "{text}");
         }
@@ -193,19 +201,41 @@ const ESCAPES: [&str; 18] = [
     "\u{2028}",
 ];
 
+const QUOTES: [(&str, &str); 5] = [
+    (r#"[{"ph":"B","ts":1,"name":""#, r#""}]"#),
+    (r#"[{"ph":"B","ts":1,"args":{""#, r#"":1,"a":2}}]"#),
+    (r#"[{""#, r#"":1,"ph":"B","ts":1}]"#),
+    (r#"[""#, r#""]"#),
+    (r#"{""#, r#"":[],"traceEvents":[]}"#),
+];
+
 #[test]
 fn escapes_agree_in_names_and_texts(rt: HostRuntime) -> Result<(), Fail> {
-    for escape in ESCAPES {
-        for (start, end) in [
-            (r#"[{"ph":"B","ts":1,"name":""#, r#""}]"#),
-            (r#"[{"ph":"B","ts":1,"args":{""#, r#"":1,"a":2}}]"#),
-            (r#"[{""#, r#"":1,"ph":"B","ts":1}]"#),
-            (r#"[""#, r#""]"#),
-            (r#"{""#, r#"":[],"traceEvents":[]}"#),
-        ] {
+    for escape in &ESCAPES {
+        for (start, end) in &QUOTES {
             let text = format!(in rt.alloc(); "{start}{escape}{end}")?;
             assert!(rt; agree(rt.alloc(), text.as_bytes())?, "{text}");
         }
+    }
+    Ok(())
+}
+
+// An event with so many arguments, whose names neither rise nor fall, and then the first of them again.
+fn with_arguments(alloc: Global, count: u32) -> Result<String, AllocError> {
+    let mut text = String::from_str(alloc, r#"[{"ph":"B","ts":1,"args":{"#)?;
+    for place in 0..count {
+        let number = place.wrapping_mul(7) % 41;
+        write!(text, r#""k{number}":{place},"#)?;
+    }
+    text.push_str(r#""k0":true}}]"#)?;
+    Ok(text)
+}
+
+#[test]
+fn arguments_agree_however_many(rt: HostRuntime) -> Result<(), Fail> {
+    for count in [0, 1, 2, 15, 16, 17, 18, 41] {
+        let text = with_arguments(rt.alloc(), count)?;
+        assert!(rt; agree(rt.alloc(), text.as_bytes())?, "{text}");
     }
     Ok(())
 }
@@ -228,7 +258,7 @@ fn nesting_agrees_at_its_limits(rt: HostRuntime) -> Result<(), Fail> {
     for depth in 122..130 {
         for (open, close) in [("[", "]"), (r#"{"a":"#, "}")] {
             let deep = wrapped(rt.alloc(), depth, open, close)?;
-            for (start, end) in PLACES {
+            for (start, end) in &PLACES {
                 let text = format!(in rt.alloc(); "{start}{deep}{end}")?;
                 assert!(rt; agree(rt.alloc(), text.as_bytes())?, "{text}");
             }

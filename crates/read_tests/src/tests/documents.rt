@@ -1,85 +1,83 @@
 // Whole files: their forms, how they may end, and their limits.
 use super::described;
 use span_read::{ReadError, read_items};
-use std::alloc::{AllocError, Global};
+use std::alloc::{AllocError, AllocGlobal, Global};
+use std::process::Abort;
 use std::test::Fail;
 
 const TWO_EVENTS: &str =
     r#"[{"ph":"B","name":"a","ts":1,"pid":1,"tid":2},{"ph":"E","ts":11,"pid":1,"tid":2}]"#;
 
-#[test]
-fn both_forms_are_read(rt: HostRuntime) -> Result<(), Fail> {
-    let texts = [
-        ("[]", ""),
-        (TWO_EVENTS, "Good Good "),
-        (r#" { "otherData" : 1 , "traceEvents" : [ ] } "#, ""),
-        (
-            r#"{"traceEvents":[{"ph":"E","ts":1}],"metadata":{}}"#,
-            "Good ",
-        ),
-        (r#"[5,{"ph":"R","ts":1}]"#, "NotObject Other "),
-    ];
+// Each text has the items, or the refusal, of these words.
+fn are_described(rt: &(impl Abort + AllocGlobal), texts: &[(&str, &str)]) -> Result<(), Fail> {
     for (text, words) in texts {
         assert_eq!(rt;
             described(rt.alloc(), text.as_bytes())?.as_str(),
-            words,
+            *words,
             "{text}"
         );
     }
     Ok(())
+}
+
+#[test]
+fn both_forms_are_read(rt: HostRuntime) -> Result<(), Fail> {
+    are_described(
+        &rt,
+        &[
+            ("[]", ""),
+            (TWO_EVENTS, "Good Good "),
+            (r#" { "otherData" : 1 , "traceEvents" : [ ] } "#, ""),
+            (
+                r#"{"traceEvents":[{"ph":"E","ts":1}],"metadata":{}}"#,
+                "Good ",
+            ),
+            (r#"[5,{"ph":"R","ts":1}]"#, "NotObject Other "),
+        ],
+    )
 }
 
 #[test]
 fn an_array_may_lack_its_end(rt: HostRuntime) -> Result<(), Fail> {
-    let texts = [
-        ("[", ""),
-        ("[,", ""),
-        (" [ \t\r\n", ""),
-        ("[1],", "NotObject "),
-        ("[1] , ", "NotObject "),
-        ("[1", "NotObject "),
-        ("[1,", "NotObject "),
-        ("[1 ,\n", "NotObject "),
-        (r#"[{"ph":"E","ts":1},{"ph":"E","ts":2},"#, "Good Good "),
-    ];
-    for (text, words) in texts {
-        assert_eq!(rt;
-            described(rt.alloc(), text.as_bytes())?.as_str(),
-            words,
-            "{text}"
-        );
-    }
-    Ok(())
+    are_described(
+        &rt,
+        &[
+            ("[", ""),
+            ("[,", ""),
+            (" [ \t\r\n", ""),
+            ("[1],", "NotObject "),
+            ("[1] , ", "NotObject "),
+            ("[1", "NotObject "),
+            ("[1,", "NotObject "),
+            ("[1 ,\n", "NotObject "),
+            (r#"[{"ph":"E","ts":1},{"ph":"E","ts":2},"#, "Good Good "),
+        ],
+    )
 }
 
 #[test]
 fn other_texts_are_refused(rt: HostRuntime) -> Result<(), Fail> {
-    let texts = [
-        ("", "NotJson"),
-        (" ", "NotJson"),
-        ("[1,]", "NotJson"),
-        ("[1,,", "NotJson"),
-        ("[1]]", "NotJson"),
-        ("[{", "NotJson"),
-        (r#"[{"ph":"B","na"#, "NotJson"),
-        (r#"{"traceEvents":["#, "NotJson"),
-        (r#"{"traceEvents":[],"#, "NotJson"),
-        ("\u{feff}[]", "NotJson"),
-        ("5", "NotTrace"),
-        ("null", "NotTrace"),
-        ("{}", "NotTrace"),
-        (r#""[]""#, "NotTrace"),
-        (r#"{"traceEvents":5}"#, "NotTrace"),
-        (r#"{"traceEvents":"[]"}"#, "NotTrace"),
-    ];
-    for (text, words) in texts {
-        assert_eq!(rt;
-            described(rt.alloc(), text.as_bytes())?.as_str(),
-            words,
-            "{text}"
-        );
-    }
-    Ok(())
+    are_described(
+        &rt,
+        &[
+            ("", "NotJson"),
+            (" ", "NotJson"),
+            ("[1,]", "NotJson"),
+            ("[1,,", "NotJson"),
+            ("[1]]", "NotJson"),
+            ("[{", "NotJson"),
+            (r#"[{"ph":"B","na"#, "NotJson"),
+            (r#"{"traceEvents":["#, "NotJson"),
+            (r#"{"traceEvents":[],"#, "NotJson"),
+            ("\u{feff}[]", "NotJson"),
+            ("5", "NotTrace"),
+            ("null", "NotTrace"),
+            ("{}", "NotTrace"),
+            (r#""[]""#, "NotTrace"),
+            (r#"{"traceEvents":5}"#, "NotTrace"),
+            (r#"{"traceEvents":"[]"}"#, "NotTrace"),
+        ],
+    )
 }
 
 #[test]

@@ -2,23 +2,40 @@
 use super::{described, word_of};
 use serde_json::Value;
 use span_read::{Event, Field, IdKey, Item, ItemFault, Phase, Reach, item_of, read_items};
-use std::alloc::{AllocError, Global};
+use std::alloc::{AllocError, AllocGlobal, Global};
+use std::process::Abort;
 use std::test::Fail;
 
 // The event of an element's text, read as a file with that element alone.
 fn event_of(alloc: Global, text: &str) -> Result<Option<Event>, Fail> {
     let file = format!(in alloc; "[{text}]")?;
     let mut items = read_items(alloc, file.as_bytes())?.into_list();
-    match items.pop() {
+    let last = items.pop();
+    drop(items);
+    match last {
         Some(Item::Good(event)) => Ok(Some(event)),
-        _ => Ok(None),
+        other => {
+            drop(other);
+            Ok(None)
+        }
     }
 }
 
 fn word_of_element(alloc: Global, text: &str) -> Result<String, Fail> {
     let value = Value::from_str(alloc, text)?;
-    let item = item_of(alloc, &value)?;
-    Ok(word_of(alloc, &item)?)
+    let item = item_of(alloc, &value);
+    drop(value);
+    let item = item?;
+    let word = word_of(alloc, &item);
+    drop(item);
+    Ok(word?)
+}
+
+fn phase_of(alloc: Global, text: &str) -> Result<Option<Phase>, Fail> {
+    let event = event_of(alloc, text)?;
+    let phase = event.as_ref().map(|event| event.phase);
+    drop(event);
+    Ok(phase)
 }
 
 #[test]
@@ -38,17 +55,18 @@ fn each_letter_has_its_phase(rt: HostRuntime) -> Result<(), Fail> {
         ("I", Phase::Instant),
         ("M", Phase::Meta),
     ];
-    for (letter, phase) in letters {
+    for (letter, phase) in &letters {
         let text = format!(in rt.alloc(); r#"{{"ph":"{letter}","ts":1,"dur":1,"id":1}}"#)?;
-        let event = event_of(rt.alloc(), text.as_str())?.ok_or("an event")?;
-        assert_eq!(rt; event.phase, phase, "{letter}");
+        assert_eq!(rt;
+            phase_of(rt.alloc(), text.as_str())?,
+            Some(*phase),
+            "{letter}"
+        );
     }
     Ok(())
 }
 
-#[test]
-fn fields_have_defaults(rt: HostRuntime) -> Result<(), Fail> {
-    let event = event_of(rt.alloc(), r#"{"ph":"i","ts":9007199254740991}"#)?.ok_or("an event")?;
+fn has_defaults(rt: &impl Abort, event: &Event) {
     assert_eq!(rt; event.ts, 9_007_199_254_740_991);
     assert_eq!(rt; event.dur, 0);
     assert_eq!(rt; event.pid, 0);
@@ -59,6 +77,27 @@ fn fields_have_defaults(rt: HostRuntime) -> Result<(), Fail> {
     assert!(rt; event.key.is_none());
     assert_eq!(rt; event.reach, Some(Reach::Thread));
     assert!(rt; event.args.get("x").is_none());
+}
+
+#[test]
+fn fields_have_defaults(rt: HostRuntime) -> Result<(), Fail> {
+    let event = event_of(rt.alloc(), r#"{"ph":"i","ts":9007199254740991}"#)?.ok_or("an event")?;
+    has_defaults(&rt, &event);
+    drop(event);
+    Ok(())
+}
+
+fn has_fields(
+    rt: &(impl Abort + AllocGlobal),
+    event: &Event,
+    words: &str,
+    letter: &str,
+) -> Result<(), Fail> {
+    assert_eq!(rt; fields_of(rt.alloc(), event)?.as_str(), words, "{letter}");
+    assert_eq!(rt; (event.pid, event.tid), (1, 2), "{letter}");
+    assert_eq!(rt; event.name.as_str(), "n", "{letter}");
+    assert_eq!(rt; event.cat.as_str(), "c", "{letter}");
+    assert!(rt; event.args.get("k").is_some(), "{letter}");
     Ok(())
 }
 
@@ -80,14 +119,12 @@ fn fields_are_read_at_their_phases_alone(rt: HostRuntime) -> Result<(), Fail> {
         ("i", "7 0 - - Global"),
         ("M", "0 0 - - -"),
     ];
-    for (letter, words) in read {
+    for (letter, words) in &read {
         let text = format!(in rt.alloc(); r#"{{"ph":"{letter}",{fields}}}"#)?;
         let event = event_of(rt.alloc(), text.as_str())?.ok_or("an event")?;
-        assert_eq!(rt; fields_of(rt.alloc(), &event)?.as_str(), words, "{letter}");
-        assert_eq!(rt; (event.pid, event.tid), (1, 2), "{letter}");
-        assert_eq!(rt; event.name.as_str(), "n", "{letter}");
-        assert_eq!(rt; event.cat.as_str(), "c", "{letter}");
-        assert!(rt; event.args.get("k").is_some(), "{letter}");
+        let told = has_fields(&rt, &event, words, letter);
+        drop(event);
+        told?;
     }
     Ok(())
 }
@@ -114,103 +151,107 @@ fn fields_of(alloc: Global, event: &Event) -> Result<String, AllocError> {
     format!(in alloc; "{ts} {dur} {id} {scope} {reach}")
 }
 
-#[test]
-fn a_time_is_a_whole_number_in_range(rt: HostRuntime) -> Result<(), Fail> {
-    let times = [
-        ("1.5", "NotWhole"),
-        ("1.0", "NotWhole"),
-        ("1e3", "NotWhole"),
-        ("9007199254740992", "NotWhole"),
-        ("-9007199254740992", "NotWhole"),
-        ("9007199254740991", "Good"),
-        ("-9007199254740991", "Good"),
-        ("18446744073709551616", "NotWhole"),
-    ];
-    for (time, word) in times {
-        let text = format!(in rt.alloc(); r#"{{"ph":"i","ts":{time}}}"#)?;
+// Between these two texts, each value makes an element with this word.
+fn have_words(
+    rt: &(impl Abort + AllocGlobal),
+    start: &str,
+    end: &str,
+    values: &[(&str, &str)],
+) -> Result<(), Fail> {
+    for (value, word) in values {
+        let text = format!(in rt.alloc(); "{start}{value}{end}")?;
         assert_eq!(rt;
             word_of_element(rt.alloc(), text.as_str())?.as_str(),
-            word,
-            "{time}"
+            *word,
+            "{text}"
         );
     }
     Ok(())
+}
+
+#[test]
+fn a_time_is_a_whole_number_in_range(rt: HostRuntime) -> Result<(), Fail> {
+    have_words(
+        &rt,
+        r#"{"ph":"i","ts":"#,
+        "}",
+        &[
+            ("1.5", "NotWhole"),
+            ("1.0", "NotWhole"),
+            ("1e3", "NotWhole"),
+            ("9007199254740992", "NotWhole"),
+            ("-9007199254740992", "NotWhole"),
+            ("9007199254740991", "Good"),
+            ("-9007199254740991", "Good"),
+            ("18446744073709551616", "NotWhole"),
+        ],
+    )
 }
 
 #[test]
 fn a_duration_is_a_whole_number_in_range(rt: HostRuntime) -> Result<(), Fail> {
-    let durations = [
-        ("-1", "NotWhole"),
-        ("0", "Good"),
-        ("9007199254740991", "Good"),
-        ("9007199254740992", "NotWhole"),
-        ("0.5", "NotWhole"),
-    ];
-    for (duration, word) in durations {
-        let text = format!(in rt.alloc(); r#"{{"ph":"X","ts":0,"dur":{duration}}}"#)?;
-        assert_eq!(rt;
-            word_of_element(rt.alloc(), text.as_str())?.as_str(),
-            word,
-            "{duration}"
-        );
-    }
-    Ok(())
+    have_words(
+        &rt,
+        r#"{"ph":"X","ts":0,"dur":"#,
+        "}",
+        &[
+            ("-1", "NotWhole"),
+            ("0", "Good"),
+            ("9007199254740991", "Good"),
+            ("9007199254740992", "NotWhole"),
+            ("0.5", "NotWhole"),
+        ],
+    )
 }
 
 #[test]
 fn an_element_that_is_no_event_has_a_fault(rt: HostRuntime) -> Result<(), Fail> {
-    let elements = [
-        ("5", "NotObject"),
-        ("[]", "NotObject"),
-        ("{}", "NoPhase"),
-        (r#"{"ph":1}"#, "NoPhase"),
-        (r#"{"ph":""}"#, "Other"),
-        (r#"{"ph":"BB"}"#, "Other"),
-        (r#"{"ph":"B"}"#, "NoTime"),
-        (r#"{"ph":"M"}"#, "Good"),
-        (r#"{"ph":"X","ts":1}"#, "NoDuration"),
-        (r#"{"ph":"i","ts":1,"args":"x"}"#, "Good"),
-        (r#"{"ph":"s","ts":1}"#, "NoId"),
-        (r#"{"ph":"i","ts":1,"s":"q"}"#, "BadReach"),
-        (r#"{"ph":"i","ts":1,"pid":"1","tid":"2"}"#, "BadField(Pid)"),
-    ];
-    for (element, word) in elements {
-        assert_eq!(rt;
-            word_of_element(rt.alloc(), element)?.as_str(),
-            word,
-            "{element}"
-        );
-    }
-    Ok(())
+    have_words(
+        &rt,
+        "",
+        "",
+        &[
+            ("5", "NotObject"),
+            ("[]", "NotObject"),
+            ("{}", "NoPhase"),
+            (r#"{"ph":1}"#, "NoPhase"),
+            (r#"{"ph":""}"#, "Other"),
+            (r#"{"ph":"BB"}"#, "Other"),
+            (r#"{"ph":"B"}"#, "NoTime"),
+            (r#"{"ph":"M"}"#, "Good"),
+            (r#"{"ph":"X","ts":1}"#, "NoDuration"),
+            (r#"{"ph":"i","ts":1,"args":"x"}"#, "Good"),
+            (r#"{"ph":"s","ts":1}"#, "NoId"),
+            (r#"{"ph":"i","ts":1,"s":"q"}"#, "BadReach"),
+            (r#"{"ph":"i","ts":1,"pid":"1","tid":"2"}"#, "BadField(Pid)"),
+        ],
+    )
 }
 
 #[test]
 fn the_first_fault_is_given(rt: HostRuntime) -> Result<(), Fail> {
-    let elements = [
-        (r#"{"ph":"X","ts":1.5}"#, "NotWhole"),
-        (r#"{"ph":"X","dur":1.5}"#, "NoTime"),
-        (r#"{"ph":"X","ts":1,"dur":-1,"pid":"a"}"#, "NotWhole"),
-        (r#"{"ph":"b","pid":"a"}"#, "NoTime"),
-        (r#"{"ph":"b","ts":1,"pid":"a","tid":"a"}"#, "BadField(Pid)"),
-        (r#"{"ph":"b","ts":1,"tid":"a","name":1}"#, "BadField(Tid)"),
-        (r#"{"ph":"b","ts":1,"name":1,"cat":1}"#, "BadField(Name)"),
-        (r#"{"ph":"b","ts":1,"cat":1,"id":null}"#, "BadField(Cat)"),
-        (r#"{"ph":"b","ts":1,"id":null,"scope":1}"#, "BadField(Id)"),
-        (
-            r#"{"ph":"b","ts":1,"id":null,"id2":{"global":"1"}}"#,
-            "BadField(Id)",
-        ),
-        (r#"{"ph":"b","ts":1,"scope":1}"#, "BadField(Scope)"),
-        (r#"{"ph":"b","ts":1}"#, "NoId"),
-    ];
-    for (element, word) in elements {
-        assert_eq!(rt;
-            word_of_element(rt.alloc(), element)?.as_str(),
-            word,
-            "{element}"
-        );
-    }
-    Ok(())
+    have_words(
+        &rt,
+        "",
+        "",
+        &[
+            (r#"{"ph":"X","ts":1.5}"#, "NotWhole"),
+            (r#"{"ph":"X","dur":1.5}"#, "NoTime"),
+            (r#"{"ph":"X","ts":1,"dur":-1,"pid":"a"}"#, "NotWhole"),
+            (r#"{"ph":"b","pid":"a"}"#, "NoTime"),
+            (r#"{"ph":"b","ts":1,"pid":"a","tid":"a"}"#, "BadField(Pid)"),
+            (r#"{"ph":"b","ts":1,"tid":"a","name":1}"#, "BadField(Tid)"),
+            (r#"{"ph":"b","ts":1,"name":1,"cat":1}"#, "BadField(Name)"),
+            (r#"{"ph":"b","ts":1,"cat":1,"id":null}"#, "BadField(Cat)"),
+            (r#"{"ph":"b","ts":1,"id":null,"scope":1}"#, "BadField(Id)"),
+            (
+                r#"{"ph":"b","ts":1,"id":null,"id2":{"global":"1"}}"#,
+                "BadField(Id)",
+            ),
+            (r#"{"ph":"b","ts":1,"scope":1}"#, "BadField(Scope)"),
+            (r#"{"ph":"b","ts":1}"#, "NoId"),
+        ],
+    )
 }
 
 // A member of an event, and the words where its value is null, true, -1, "x", [] and {}.
@@ -322,8 +363,8 @@ const MEMBERS: [(&str, &str, [&str; 6]); 13] = [
 #[test]
 fn values_of_each_kind_are_read_or_refused(rt: HostRuntime) -> Result<(), Fail> {
     let values = ["null", "true", "-1", r#""x""#, "[]", "{}"];
-    for (start, end, words) in MEMBERS {
-        for (value, word) in values.iter().zip(&words) {
+    for (start, end, words) in &MEMBERS {
+        for (value, word) in values.iter().zip(words) {
             let text = format!(in rt.alloc(); "{{{start}{value}{end}")?;
             assert_eq!(rt;
                 word_of_element(rt.alloc(), text.as_str())?.as_str(),
@@ -332,6 +373,19 @@ fn values_of_each_kind_are_read_or_refused(rt: HostRuntime) -> Result<(), Fail> 
             );
         }
     }
+    Ok(())
+}
+
+fn has_key(
+    rt: &impl Abort,
+    event: &Event,
+    home: Option<i64>,
+    id: &str,
+    members: &str,
+) -> Result<(), Fail> {
+    let key = event.key.as_ref().ok_or("a key")?;
+    assert_eq!(rt; key.home, home, "{members}");
+    assert_eq!(rt; key.id.as_str(), id, "{members}");
     Ok(())
 }
 
@@ -350,9 +404,9 @@ fn ids_are_texts_or_whole_numbers(rt: HostRuntime) -> Result<(), Fail> {
     for (members, home, id) in ids {
         let text = format!(in rt.alloc(); r#"{{"ph":"b","ts":1,"pid":3,{members}}}"#)?;
         let event = event_of(rt.alloc(), text.as_str())?.ok_or("an event")?;
-        let key = event.key.ok_or("a key")?;
-        assert_eq!(rt; key.home, home, "{members}");
-        assert_eq!(rt; key.id.as_str(), id, "{members}");
+        let told = has_key(&rt, &event, home, id, members);
+        drop(event);
+        told?;
     }
     Ok(())
 }
@@ -361,6 +415,7 @@ fn ids_are_texts_or_whole_numbers(rt: HostRuntime) -> Result<(), Fail> {
 fn a_counter_may_lack_an_id(rt: HostRuntime) -> Result<(), Fail> {
     let event = event_of(rt.alloc(), r#"{"ph":"C","ts":1,"args":{"k":-5}}"#)?.ok_or("an event")?;
     assert!(rt; event.key.is_none());
+    drop(event);
     Ok(())
 }
 

@@ -1,15 +1,21 @@
 // Texts and arguments, their copies, and two arguments merged.
 use serde_json::Value;
 use span_read::{ArgValue, Args, Event, IdKey, Item, Reach, Text, item_of, merge_args};
-use std::alloc::{AllocError, Global};
+use std::alloc::{AllocError, AllocGlobal, Global};
+use std::process::Abort;
 use std::test::Fail;
 
 fn event_with(alloc: Global, args: &str) -> Result<Event, Fail> {
     let text = format!(in alloc; r#"{{"ph":"b","ts":1,"name":"a","id":"5","args":{args}}}"#)?;
     let value = Value::from_str(alloc, text.as_str())?;
-    match item_of(alloc, &value)? {
+    let item = item_of(alloc, &value);
+    drop(value);
+    match item? {
         Item::Good(event) => Ok(event),
-        _ => Err("no event")?,
+        other => {
+            drop(other);
+            Err("no event")?
+        }
     }
 }
 
@@ -38,12 +44,7 @@ fn shown(alloc: Global, args: &Args) -> Result<String, AllocError> {
     format!(in alloc; "{args:?}")
 }
 
-#[test]
-fn values_of_arguments_are_kept_by_kind(rt: HostRuntime) -> Result<(), Fail> {
-    let event = event_with(
-        rt.alloc(),
-        r#"{"n":1,"w":"x","f":true,"z":null,"d":1.5,"a":[],"o":{}}"#,
-    )?;
+fn has_values(rt: &(impl Abort + AllocGlobal), args: &Args) -> Result<(), Fail> {
     let kinds = [
         ("n", "Whole(1)"),
         ("w", r#"Words("x")"#),
@@ -54,56 +55,114 @@ fn values_of_arguments_are_kept_by_kind(rt: HostRuntime) -> Result<(), Fail> {
         ("o", "Other"),
     ];
     for (name, kind) in kinds {
-        let value = event.args.get(name).ok_or("a value")?;
+        let value = args.get(name).ok_or("a value")?;
         assert_eq!(rt;
             format!(in rt.alloc(); "{value:?}")?.as_str(),
             kind,
             "{name}"
         );
     }
-    assert!(rt; event.args.get("missing").is_none());
+    assert!(rt; args.get("missing").is_none());
     Ok(())
 }
 
 #[test]
-fn the_value_of_the_end_is_taken(rt: HostRuntime) -> Result<(), Fail> {
-    let alloc = rt.alloc();
-    let begin = event_with(alloc, r#"{"x":1,"y":2}"#)?;
-    let end = event_with(alloc, r#"{"y":3,"z":true}"#)?;
-    let merged = merge_args(alloc, &begin.args, &end.args)?;
-    let whole = event_with(alloc, r#"{"x":1,"y":3,"z":true}"#)?;
-    assert_eq!(rt;
-        shown(alloc, &merged)?.as_str(),
-        shown(alloc, &whole.args)?.as_str()
-    );
+fn values_of_arguments_are_kept_by_kind(rt: HostRuntime) -> Result<(), Fail> {
+    let event = event_with(
+        rt.alloc(),
+        r#"{"n":1,"w":"x","f":true,"z":null,"d":1.5,"a":[],"o":{}}"#,
+    )?;
+    let told = has_values(&rt, &event.args);
+    drop(event);
+    told
+}
+
+// What the arguments of an event with these members show.
+fn shown_of(alloc: Global, members: &str) -> Result<String, Fail> {
+    let event = event_with(alloc, members)?;
+    let shown = shown(alloc, &event.args);
+    drop(event);
+    Ok(shown?)
+}
+
+fn has_second_pair(rt: &impl Abort, merged: &Args) -> Result<(), Fail> {
     assert_eq!(rt; merged.pairs().len(), 3);
     let (name, value) = merged.pairs().get(1).ok_or("a second pair")?;
     assert_eq!(rt; name.as_str(), "y");
     assert!(rt; *value == ArgValue::Whole(3));
-    let none = Args::empty(alloc);
-    let first = merge_args(alloc, &begin.args, &none)?;
+    Ok(())
+}
+
+fn merges(rt: &(impl Abort + AllocGlobal), begin: &Args, end: &Args) -> Result<(), Fail> {
+    let alloc = rt.alloc();
+    let merged = merge_args(alloc, begin, end)?;
+    let told = has_second_pair(rt, &merged);
+    let merged_shown = shown(alloc, &merged);
+    drop(merged);
+    told?;
+    let whole = shown_of(alloc, r#"{"x":1,"y":3,"z":true}"#)?;
+    assert_eq!(rt; merged_shown?.as_str(), whole.as_str());
+    Ok(())
+}
+
+// Merged with no arguments of the end, those of the begin stand.
+fn stands_alone(rt: &(impl Abort + AllocGlobal), begin: &Args) -> Result<(), Fail> {
+    let alloc = rt.alloc();
+    let first = merge_args(alloc, begin, &Args::empty(alloc))?;
+    let first_shown = shown(alloc, &first);
+    drop(first);
+    assert_eq!(rt; first_shown?.as_str(), shown(alloc, begin)?.as_str());
+    Ok(())
+}
+
+fn merges_with_ends(rt: &(impl Abort + AllocGlobal), begin: &Args) -> Result<(), Fail> {
+    stands_alone(rt, begin)?;
+    let end = event_with(rt.alloc(), r#"{"y":3,"z":true}"#)?;
+    let told = merges(rt, begin, &end.args);
+    drop(end);
+    told
+}
+
+#[test]
+fn the_value_of_the_end_is_taken(rt: HostRuntime) -> Result<(), Fail> {
+    let begin = event_with(rt.alloc(), r#"{"x":1,"y":2}"#)?;
+    let told = merges_with_ends(&rt, &begin.args);
+    drop(begin);
+    told
+}
+
+fn shows_the_same(
+    rt: &(impl Abort + AllocGlobal),
+    event: &Event,
+    copy: &Event,
+) -> Result<(), Fail> {
+    let alloc = rt.alloc();
     assert_eq!(rt;
-        shown(alloc, &first)?.as_str(),
-        shown(alloc, &begin.args)?.as_str()
+        format!(in alloc; "{copy:?}")?.as_str(),
+        format!(in alloc; "{event:?}")?.as_str()
     );
+    Ok(())
+}
+
+fn equals_its_copy(rt: &(impl Abort + AllocGlobal), event: &Event) -> Result<(), Fail> {
+    let alloc = rt.alloc();
+    let copy = event.try_clone(alloc)?;
+    let told = shows_the_same(rt, event, &copy);
+    drop(copy);
+    told?;
+    let args = event.args.try_clone(alloc)?;
+    let args_shown = shown(alloc, &args);
+    drop(args);
+    assert_eq!(rt; args_shown?.as_str(), shown(alloc, &event.args)?.as_str());
     Ok(())
 }
 
 #[test]
 fn an_event_equals_its_copy(rt: HostRuntime) -> Result<(), Fail> {
-    let alloc = rt.alloc();
-    let event = event_with(alloc, r#"{"x":1,"y":2}"#)?;
-    let copy = event.try_clone(alloc)?;
-    assert_eq!(rt;
-        format!(in alloc; "{copy:?}")?.as_str(),
-        format!(in alloc; "{event:?}")?.as_str()
-    );
-    let args = event.args.try_clone(alloc)?;
-    assert_eq!(rt;
-        shown(alloc, &args)?.as_str(),
-        shown(alloc, &event.args)?.as_str()
-    );
-    Ok(())
+    let event = event_with(rt.alloc(), r#"{"x":1,"y":2}"#)?;
+    let told = equals_its_copy(&rt, &event);
+    drop(event);
+    told
 }
 
 #[test]
