@@ -6,7 +6,8 @@ mod names;
 mod queries;
 
 use span_ledger::{
-    Answer, AsyncTotals, Cause, CountRow, FlowTotals, Item, Ledger, Op, ProcessRow, Query,
+    Answer, AsyncTotals, Cause, CountRow, FlowTotals, Item, Ledger, Op, ProcessRow, Query, SpanRow,
+    ThreadRow,
 };
 use span_read::read_items;
 use std::alloc::{AllocError, Global};
@@ -65,18 +66,28 @@ fn reply(
     }
 }
 
-// The rows of names and then of threads, as a report has them.
-fn rows(alloc: Global, ledger: &Ledger) -> Result<String, AllocError> {
-    let mut lines = String::new(alloc);
-    for row in &ledger.span_rows(alloc)? {
+fn put_span_rows(lines: &mut String, rows: &[SpanRow]) -> Result<(), AllocError> {
+    for row in rows {
         let name = row.name.as_str();
         let (count, total, own) = (row.count, row.total, row.self_time);
         writeln!(lines, "{name} {count} {total} {own}")?;
     }
-    for row in &ledger.threads(alloc)? {
+    Ok(())
+}
+
+fn put_thread_rows(lines: &mut String, rows: &[ThreadRow]) -> Result<(), AllocError> {
+    for row in rows {
         let (unclosed, busy) = (row.unclosed, row.busy);
         writeln!(lines, "open {unclosed} busy {busy}")?;
     }
+    Ok(())
+}
+
+// The rows of names and then of threads, as a report has them.
+fn rows(alloc: Global, ledger: &Ledger) -> Result<String, AllocError> {
+    let mut lines = String::new(alloc);
+    put_span_rows(&mut lines, &ledger.span_rows(alloc)?)?;
+    put_thread_rows(&mut lines, &ledger.threads(alloc)?)?;
     Ok(lines)
 }
 

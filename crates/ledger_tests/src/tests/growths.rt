@@ -58,7 +58,13 @@ fn tell_again(
 ) -> Result<(), Fail>
     requires { IsGoodOp back.op }
 {
-    let now = seen_at_last(rt.alloc(), ledger)?;
+    let now = match seen_at_last(rt.alloc(), ledger) {
+        Ok(now) => now,
+        Err(error) => {
+            drop(back);
+            return Err(Fail::from(error));
+        }
+    };
     assert_eq!(rt; now.as_str(), before);
     match tell(ledger, back.op) {
         Ok(()) => Ok(()),
@@ -78,7 +84,13 @@ fn tell_at_last(
     requires { IsGoodItem item }
 {
     let alloc = rt.alloc();
-    let before = seen_at_last(alloc, ledger)?;
+    let before = match seen_at_last(alloc, ledger) {
+        Ok(before) => before,
+        Err(error) => {
+            drop(item);
+            return Err(Fail::from(error));
+        }
+    };
     let Err(back) = tell(ledger, Op::One(item)) else {
         return Ok(());
     };

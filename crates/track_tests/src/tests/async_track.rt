@@ -89,7 +89,11 @@ fn a_key_in_two_scopes(rt: HostRuntime) -> Result<(), Fail> {
     let here = key(rt.alloc(), "net", "A", None, "5", "")?;
     let elsewhere = key(rt.alloc(), "net", "B", None, "5", "")?;
     let mut track = AsyncTrack::new(rt.alloc());
-    a_key_in_two_scopes_on(&rt, &mut track, &here, &elsewhere)
+    let told = a_key_in_two_scopes_on(&rt, &mut track, &here, &elsewhere);
+    drop(track);
+    drop(elsewhere);
+    drop(here);
+    told
 }
 
 fn an_id_of_two_processes_on(
@@ -112,7 +116,11 @@ fn an_id_of_two_processes(rt: HostRuntime) -> Result<(), Fail> {
     let first = key(rt.alloc(), "", "", Some(1), "1", "")?;
     let second = key(rt.alloc(), "", "", Some(2), "1", "")?;
     let mut track = AsyncTrack::new(rt.alloc());
-    an_id_of_two_processes_on(&rt, &mut track, &first, &second)
+    let told = an_id_of_two_processes_on(&rt, &mut track, &first, &second);
+    drop(track);
+    drop(second);
+    drop(first);
+    told
 }
 
 fn spans_of_one_key_that_nest_on(
@@ -145,7 +153,10 @@ fn spans_of_one_key_that_nest_on(
 fn spans_of_one_key_that_nest(rt: HostRuntime) -> Result<(), Fail> {
     let key = key(rt.alloc(), "c", "", None, "x", "n")?;
     let mut track = AsyncTrack::new(rt.alloc());
-    spans_of_one_key_that_nest_on(&rt, &mut track, &key)
+    let told = spans_of_one_key_that_nest_on(&rt, &mut track, &key);
+    drop(track);
+    drop(key);
+    told
 }
 
 fn the_longest_span_three_times_on(
@@ -168,7 +179,10 @@ fn the_longest_span_three_times_on(
 fn the_longest_span_three_times(rt: HostRuntime) -> Result<(), Fail> {
     let key = key(rt.alloc(), "", "", None, "", "")?;
     let mut track = AsyncTrack::new(rt.alloc());
-    the_longest_span_three_times_on(&rt, &mut track, &key)
+    let told = the_longest_span_three_times_on(&rt, &mut track, &key);
+    drop(track);
+    drop(key);
+    told
 }
 
 // A step of the second key and then of the first: their rows come the other way round.
@@ -193,40 +207,57 @@ fn expect_order(
     second: &AsyncKey,
 ) -> Result<(), Fail> {
     let mut track = AsyncTrack::new(rt.alloc());
-    expect_order_on(rt, &mut track, first, second)
+    let told = expect_order_on(rt, &mut track, first, second);
+    drop(track);
+    told
 }
 
 #[test]
 fn rows_are_ordered_by_category_before_scope(rt: HostRuntime) -> Result<(), Fail> {
     let first = key(rt.alloc(), "a", "b", None, "b", "b")?;
     let second = key(rt.alloc(), "b", "a", None, "a", "a")?;
-    expect_order(&rt, &first, &second)
+    let told = expect_order(&rt, &first, &second);
+    drop(second);
+    drop(first);
+    told
 }
 
 #[test]
 fn rows_are_ordered_by_scope_before_id(rt: HostRuntime) -> Result<(), Fail> {
     let first = key(rt.alloc(), "a", "a", Some(1), "b", "b")?;
     let second = key(rt.alloc(), "a", "b", None, "a", "a")?;
-    expect_order(&rt, &first, &second)
+    let told = expect_order(&rt, &first, &second);
+    drop(second);
+    drop(first);
+    told
 }
 
 #[test]
 fn rows_are_ordered_by_process_before_the_text_of_the_id(rt: HostRuntime) -> Result<(), Fail> {
     let first = key(rt.alloc(), "a", "a", None, "b", "b")?;
     let second = key(rt.alloc(), "a", "a", Some(-1), "a", "a")?;
-    expect_order(&rt, &first, &second)
+    let told = expect_order(&rt, &first, &second);
+    drop(second);
+    drop(first);
+    told
 }
 
 #[test]
 fn rows_are_ordered_by_id_before_name(rt: HostRuntime) -> Result<(), Fail> {
     let first = key(rt.alloc(), "a", "a", Some(2), "10", "b")?;
     let second = key(rt.alloc(), "a", "a", Some(2), "9", "a")?;
-    expect_order(&rt, &first, &second)
+    let told = expect_order(&rt, &first, &second);
+    drop(second);
+    drop(first);
+    told
 }
 
 #[test]
 fn rows_are_ordered_by_name_last(rt: HostRuntime) -> Result<(), Fail> {
     let first = key(rt.alloc(), "a", "a", Some(2), "9", "")?;
     let second = key(rt.alloc(), "a", "a", Some(2), "9", "a")?;
-    expect_order(&rt, &first, &second)
+    let told = expect_order(&rt, &first, &second);
+    drop(second);
+    drop(first);
+    told
 }

@@ -89,5 +89,8 @@ fn the_last_value_is_that_at_the_greatest_time(rt: HostRuntime) -> Result<(), Fa
     )?;
     let mut track = new_track(rt.alloc());
     follow(&rt, rt.alloc(), &mut track, &items, &key);
+    drop(track);
+    drop(items);
+    drop(key);
     Ok(())
 }

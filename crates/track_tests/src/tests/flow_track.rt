@@ -96,7 +96,10 @@ fn a_chain_and_the_start_of_another_on(
 fn a_chain_and_the_start_of_another(rt: HostRuntime) -> Result<(), Fail> {
     let key = key(rt.alloc(), "", "", None, "9")?;
     let mut track = FlowTrack::new(rt.alloc());
-    a_chain_and_the_start_of_another_on(&rt, &mut track, &key)
+    let told = a_chain_and_the_start_of_another_on(&rt, &mut track, &key);
+    drop(track);
+    drop(key);
+    told
 }
 
 fn points_of_two_keys_on(
@@ -130,7 +133,11 @@ fn points_of_two_keys(rt: HostRuntime) -> Result<(), Fail> {
     let first = key(rt.alloc(), "c", "n", None, "x")?;
     let second = key(rt.alloc(), "c", "n", Some(1), "x")?;
     let mut track = FlowTrack::new(rt.alloc());
-    points_of_two_keys_on(&rt, &mut track, &first, &second)
+    let told = points_of_two_keys_on(&rt, &mut track, &first, &second);
+    drop(track);
+    drop(second);
+    drop(first);
+    told
 }
 
 // A point of the second key and then of the first: their rows come the other way round.
@@ -155,26 +162,37 @@ fn expect_order(
     second: &FlowKey,
 ) -> Result<(), Fail> {
     let mut track = FlowTrack::new(rt.alloc());
-    expect_order_on(rt, &mut track, first, second)
+    let told = expect_order_on(rt, &mut track, first, second);
+    drop(track);
+    told
 }
 
 #[test]
 fn rows_are_ordered_by_category_before_name(rt: HostRuntime) -> Result<(), Fail> {
     let first = key(rt.alloc(), "a", "b", Some(1), "b")?;
     let second = key(rt.alloc(), "b", "a", None, "a")?;
-    expect_order(&rt, &first, &second)
+    let told = expect_order(&rt, &first, &second);
+    drop(second);
+    drop(first);
+    told
 }
 
 #[test]
 fn rows_are_ordered_by_name_before_id(rt: HostRuntime) -> Result<(), Fail> {
     let first = key(rt.alloc(), "a", "a", Some(1), "b")?;
     let second = key(rt.alloc(), "a", "b", None, "a")?;
-    expect_order(&rt, &first, &second)
+    let told = expect_order(&rt, &first, &second);
+    drop(second);
+    drop(first);
+    told
 }
 
 #[test]
 fn rows_are_ordered_by_id_last(rt: HostRuntime) -> Result<(), Fail> {
     let first = key(rt.alloc(), "a", "a", None, "b")?;
     let second = key(rt.alloc(), "a", "a", Some(0), "a")?;
-    expect_order(&rt, &first, &second)
+    let told = expect_order(&rt, &first, &second);
+    drop(second);
+    drop(first);
+    told
 }

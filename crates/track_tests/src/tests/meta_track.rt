@@ -100,5 +100,8 @@ fn the_last_name_holds(rt: HostRuntime) -> Result<(), Fail> {
     follow(&rt, &mut track, &items);
     expect_names(&rt, &track);
     expect_instant(&rt, rt.alloc(), &track, &name);
+    drop(track);
+    drop(items);
+    drop(name);
     Ok(())
 }

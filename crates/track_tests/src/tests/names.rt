@@ -34,5 +34,9 @@ fn numbers_in_order_of_first_use(rt: HostRuntime) -> Result<(), Fail> {
     let a = Text::of(rt.alloc(), "a")?;
     let b = Text::of(rt.alloc(), "b")?;
     let mut names = Names::new(rt.alloc());
-    numbers_in_order_of_first_use_on(&rt, &mut names, &a, &b)
+    let told = numbers_in_order_of_first_use_on(&rt, &mut names, &a, &b);
+    drop(names);
+    drop(b);
+    drop(a);
+    told
 }

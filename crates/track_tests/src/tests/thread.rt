@@ -176,7 +176,9 @@ fn a_span_in_a_span_on(rt: &(impl Abort + AllocGlobal), placed: &mut Placed) -> 
 #[test]
 fn a_span_in_a_span(rt: HostRuntime) -> Result<(), Fail> {
     let mut placed = Placed::new(rt.alloc());
-    a_span_in_a_span_on(&rt, &mut placed)
+    let told = a_span_in_a_span_on(&rt, &mut placed);
+    drop(placed);
+    told
 }
 
 fn a_child_that_came_first_on(
@@ -201,7 +203,9 @@ fn a_child_that_came_first_on(
 #[test]
 fn a_child_that_came_first(rt: HostRuntime) -> Result<(), Fail> {
     let mut placed = Placed::new(rt.alloc());
-    a_child_that_came_first_on(&rt, &mut placed)
+    let told = a_child_that_came_first_on(&rt, &mut placed);
+    drop(placed);
+    told
 }
 
 fn a_span_that_takes_from_two_on(
@@ -228,7 +232,9 @@ fn a_span_that_takes_from_two_on(
 #[test]
 fn a_span_that_takes_from_two(rt: HostRuntime) -> Result<(), Fail> {
     let mut placed = Placed::new(rt.alloc());
-    a_span_that_takes_from_two_on(&rt, &mut placed)
+    let told = a_span_that_takes_from_two_on(&rt, &mut placed);
+    drop(placed);
+    told
 }
 
 fn spans_that_cross_on(rt: &(impl Abort + AllocGlobal), placed: &mut Placed) -> Result<(), Fail> {
@@ -244,7 +250,9 @@ fn spans_that_cross_on(rt: &(impl Abort + AllocGlobal), placed: &mut Placed) -> 
 #[test]
 fn spans_that_cross(rt: HostRuntime) -> Result<(), Fail> {
     let mut placed = Placed::new(rt.alloc());
-    spans_that_cross_on(&rt, &mut placed)
+    let told = spans_that_cross_on(&rt, &mut placed);
+    drop(placed);
+    told
 }
 
 fn equal_spans_and_an_empty_one_on(
@@ -265,7 +273,9 @@ fn equal_spans_and_an_empty_one_on(
 #[test]
 fn equal_spans_and_an_empty_one(rt: HostRuntime) -> Result<(), Fail> {
     let mut placed = Placed::new(rt.alloc());
-    equal_spans_and_an_empty_one_on(&rt, &mut placed)
+    let told = equal_spans_and_an_empty_one_on(&rt, &mut placed);
+    drop(placed);
+    told
 }
 
 fn the_longest_span_twice_on(
@@ -290,7 +300,9 @@ fn the_longest_span_twice_on(
 #[test]
 fn the_longest_span_twice(rt: HostRuntime) -> Result<(), Fail> {
     let mut placed = Placed::new(rt.alloc());
-    the_longest_span_twice_on(&rt, &mut placed)
+    let told = the_longest_span_twice_on(&rt, &mut placed);
+    drop(placed);
+    told
 }
 
 fn an_end_without_a_begin_on(
@@ -305,7 +317,9 @@ fn an_end_without_a_begin_on(
 #[test]
 fn an_end_without_a_begin(rt: HostRuntime) -> Result<(), Fail> {
     let mut placed = Placed::new(rt.alloc());
-    an_end_without_a_begin_on(&rt, &mut placed)
+    let told = an_end_without_a_begin_on(&rt, &mut placed);
+    drop(placed);
+    told
 }
 
 fn times_that_go_back_on(rt: &(impl Abort + AllocGlobal), placed: &mut Placed) -> Result<(), Fail> {
@@ -320,7 +334,9 @@ fn times_that_go_back_on(rt: &(impl Abort + AllocGlobal), placed: &mut Placed) -
 #[test]
 fn times_that_go_back(rt: HostRuntime) -> Result<(), Fail> {
     let mut placed = Placed::new(rt.alloc());
-    times_that_go_back_on(&rt, &mut placed)
+    let told = times_that_go_back_on(&rt, &mut placed);
+    drop(placed);
+    told
 }
 
 fn args_at(items: &Items, i: usize) -> Option<&Args> {
@@ -362,7 +378,10 @@ fn arguments_of_begin_and_end(rt: HostRuntime) -> Result<(), Fail> {
         br#"[{"ph":"B","ts":0,"args":{"x":1,"y":2}},{"ph":"E","ts":1,"args":{"y":3,"z":true}}]"#,
     )?;
     let mut placed = Placed::new(rt.alloc());
-    arguments_of_begin_and_end_on(&rt, &mut placed, &items)
+    let told = arguments_of_begin_and_end_on(&rt, &mut placed, &items);
+    drop(placed);
+    drop(items);
+    told
 }
 
 fn an_end_with_arguments_merged_before_on(
@@ -395,7 +414,10 @@ fn an_end_with_arguments_merged_before(rt: HostRuntime) -> Result<(), Fail> {
         br#"[{"ph":"B","ts":0,"args":{"x":1,"y":2}},{"ph":"E","ts":1,"args":{"y":3,"z":true}}]"#,
     )?;
     let mut track = ThreadTrack::new(rt.alloc());
-    an_end_with_arguments_merged_before_on(&rt, &mut track, &items)
+    let told = an_end_with_arguments_merged_before_on(&rt, &mut track, &items);
+    drop(track);
+    drop(items);
+    told
 }
 
 fn refusals_that_are_told_before_on(
@@ -415,7 +437,9 @@ fn refusals_that_are_told_before_on(
 #[test]
 fn refusals_that_are_told_before(rt: HostRuntime) -> Result<(), Fail> {
     let mut placed = Placed::new(rt.alloc());
-    refusals_that_are_told_before_on(&rt, &mut placed)
+    let told = refusals_that_are_told_before_on(&rt, &mut placed);
+    drop(placed);
+    told
 }
 
 fn a_stack_200_deep_on(rt: &impl Abort, placed: &mut Placed, none: &Args) -> Result<(), Fail> {
@@ -437,7 +461,10 @@ fn a_stack_200_deep_on(rt: &impl Abort, placed: &mut Placed, none: &Args) -> Res
 fn a_stack_200_deep(rt: HostRuntime) -> Result<(), Fail> {
     let none = Args::empty(rt.alloc());
     let mut placed = Placed::new(rt.alloc());
-    a_stack_200_deep_on(&rt, &mut placed, &none)
+    let told = a_stack_200_deep_on(&rt, &mut placed, &none);
+    drop(placed);
+    drop(none);
+    told
 }
 
 fn more_than_4096_closed_spans_on(
@@ -467,5 +494,8 @@ fn more_than_4096_closed_spans_on(
 fn more_than_4096_closed_spans(rt: HostRuntime) -> Result<(), Fail> {
     let none = Args::empty(rt.alloc());
     let mut placed = Placed::new(rt.alloc());
-    more_than_4096_closed_spans_on(&rt, &mut placed, &none)
+    let told = more_than_4096_closed_spans_on(&rt, &mut placed, &none);
+    drop(placed);
+    drop(none);
+    told
 }
