@@ -10,7 +10,7 @@ use span_read::read_items;
 use span_track::ThreadTrack;
 use std::io::{self, Read};
 use std::time::Instant;
-use step::steps_of;
+use step::{Step, steps_of};
 use tracking::track_of;
 
 // The self times of the first `names` names together: the busy time, where all spans have one of them.
@@ -22,26 +22,41 @@ fn own_times(track: &ThreadTrack, names: u32) -> u64 {
     sum
 }
 
+// What the track comes to, and how long it took to keep the events and to tell that.
+fn tell(rt: &HostRuntime, track: &ThreadTrack, names: u32, keeping: u128) -> io::Result<()> {
+    let start = Instant::now(rt)?;
+    let busy = track.busy();
+    let own = own_times(track, names);
+    let telling = start.elapsed(rt)?.as_nanos();
+    eprintln!(rt; "{keeping} {telling}")?;
+    let (closed, open) = (track.closed_count(), track.depth());
+    println!(rt; "closed {closed} open {open} busy {busy} own {own}")
+}
+
+fn keep(rt: &HostRuntime, steps: &[Step], names: u32) -> io::Result<()> {
+    let start = Instant::now(rt)?;
+    match track_of(rt.alloc(), steps) {
+        Ok(track) => {
+            let keeping = start.elapsed(rt)?.as_nanos();
+            let told = tell(rt, &track, names, keeping);
+            drop(track);
+            told
+        }
+        Err(fault) => println!(rt; "{fault:?}"),
+    }
+}
+
 fn main(rt: HostRuntime) -> io::Result<()> {
     let alloc = rt.alloc();
     let mut bytes = Vec::new(alloc);
     rt.stdin().read_to_end(&mut bytes)?;
-    let items = match read_items(alloc, &bytes) {
-        Ok(items) => items,
-        Err(error) => return println!(rt; "{error}"),
-    };
-    let (steps, names) = steps_of(alloc, items)?;
-    let start = Instant::now(&rt)?;
-    let track = match track_of(alloc, &steps) {
-        Ok(track) => track,
-        Err(fault) => return println!(rt; "{fault:?}"),
-    };
-    let keeping = start.elapsed(&rt)?.as_nanos();
-    let start = Instant::now(&rt)?;
-    let busy = track.busy();
-    let own = own_times(&track, names);
-    let telling = start.elapsed(&rt)?.as_nanos();
-    eprintln!(rt; "{keeping} {telling}")?;
-    let (closed, open) = (track.closed_count(), track.depth());
-    println!(rt; "closed {closed} open {open} busy {busy} own {own}")
+    match read_items(alloc, &bytes) {
+        Ok(items) => {
+            let (steps, names) = steps_of(alloc, items)?;
+            let told = keep(&rt, &steps, names);
+            drop(steps);
+            told
+        }
+        Err(error) => println!(rt; "{error}"),
+    }
 }
