@@ -1,33 +1,37 @@
-ghost use Rattle.span_read.specs.Item.{IsGoodItem};
+ghost use Rattle.span_event.specs.Item.{IsGoodItem};
 
 mod counters;
 mod growths;
 mod names;
 mod queries;
 
+use names::names;
 use span_ledger::{
-    Answer, AsyncTotals, Cause, CountRow, FlowTotals, Item, Ledger, Op, ProcessRow, Query, SpanRow,
-    ThreadRow,
+    Answer, Cause, CountRow, Item, Ledger, Op, ProcessRow, Query, SpanRow, ThreadRow,
 };
 use span_read::read_items;
 use std::alloc::{AllocError, Global};
 use std::process::Abort;
 use std::test::Fail;
 
-// What the ledger answers to an item, in a line. (Who lets go of an answer by a call of its own has one way to go on.)
+fn shown(alloc: Global, answer: &Answer) -> Result<String, AllocError> {
+    format!(in alloc; "{answer:?}")
+}
+
+// What the ledger answers to an item. (Who lets go of an answer by a call of its own has one way to go on.)
 fn answer(alloc: Global, ledger: &mut Ledger, item: Item) -> Result<String, AllocError>
     requires { IsGoodItem item }
 {
     match ledger.apply(1, Op::One(item)) {
         Ok(answer) => {
-            let line = format!(in alloc; "{answer:?}\n");
+            let text = shown(alloc, &answer);
             drop(answer);
-            line
+            text
         }
         Err(back) => {
-            let line = format!(in alloc; "{:?}\n", back.cause);
+            let text = format!(in alloc; "{:?}", back.cause);
             drop(back);
-            line
+            text
         }
     }
 }
@@ -37,31 +41,56 @@ fn answers(alloc: Global, ledger: &mut Ledger, text: &str) -> Result<String, Fai
     let items = read_items(alloc, text.as_bytes())?;
     let mut lines = String::new(alloc);
     for item in items.into_list() {
-        let line = answer(alloc, ledger, item)?;
-        lines.push_str(line.as_str())?;
+        let text = answer(alloc, ledger, item)?;
+        writeln!(lines, "{text}")?;
     }
     Ok(lines)
 }
 
-// What the ledger replies to a query, which equals its copy.
-fn reply(
+fn expect_answers(
+    rt: &(impl Abort + AllocGlobal),
+    ledger: &mut Ledger,
+    events: &str,
+    want: &str,
+) -> Result<(), Fail> {
+    let told = answers(rt.alloc(), ledger, events)?;
+    assert_eq!(rt; told.as_str(), want);
+    Ok(())
+}
+
+fn expect_text(rt: &impl Abort, text: Result<String, AllocError>, want: &str) -> Result<(), Fail> {
+    let text = text?;
+    assert_eq!(rt; text.as_str(), want);
+    Ok(())
+}
+
+fn expect_its_copy(rt: &(impl Abort + AllocGlobal), query: &Query) -> Result<(), Fail> {
+    let copy = query.try_clone(rt.alloc())?;
+    assert!(rt; copy == *query);
+    drop(copy);
+    Ok(())
+}
+
+// The ledger replies so to the query, which equals its copy.
+fn expect_reply(
     rt: &(impl Abort + AllocGlobal),
     ledger: &mut Ledger,
     query: Query,
-) -> Result<String, Fail> {
-    let alloc = rt.alloc();
-    let copy = query.try_clone(alloc)?;
-    assert!(rt; copy == query);
-    drop(copy);
+    want: &str,
+) -> Result<(), Fail> {
+    if let Err(fail) = expect_its_copy(rt, &query) {
+        drop(query);
+        return Err(fail);
+    }
     match ledger.apply(0, Op::Ask(query)) {
         Ok(answer) => {
-            let text = format!(in alloc; "{answer:?}");
+            let line = shown(rt.alloc(), &answer);
             drop(answer);
-            Ok(text?)
+            expect_text(rt, line, want)
         }
         Err(back) => {
             drop(back);
-            Err("no reply")?
+            Err(Fail::from("no reply"))
         }
     }
 }
@@ -93,19 +122,17 @@ fn rows(alloc: Global, ledger: &Ledger) -> Result<String, AllocError> {
 
 fn spans_nest_in(rt: &(impl Abort + AllocGlobal), ledger: &mut Ledger) -> Result<(), Fail> {
     let alloc = rt.alloc();
-    let told = answers(
-        alloc,
+    expect_answers(
+        rt,
         ledger,
         "[{\"ph\":\"B\",\"name\":\"a\",\"ts\":0,\"pid\":1,\"tid\":1},{\"ph\":\"B\",\"name\":\"b\",\"ts\":2,\"pid\":1,\"tid\":1},{\"ph\":\"E\",\"ts\":5,\"pid\":1,\"tid\":1},{\"ph\":\"E\",\"ts\":10,\"pid\":1,\"tid\":1}]",
+        "Opened { depth: 1 }\nOpened { depth: 2 }\nClosed { start: 2, length: 3, args: Args { pairs: [] } }\nClosed { start: 0, length: 10, args: Args { pairs: [] } }\n",
     )?;
-    assert_eq!(rt;
-        told.as_str(),
-        "Opened { depth: 1 }\nOpened { depth: 2 }\nClosed { start: 2, length: 3, args: Args { pairs: [] } }\nClosed { start: 0, length: 10, args: Args { pairs: [] } }\n"
-    );
-    assert_eq!(rt;
-        rows(alloc, ledger)?.as_str(),
-        "a 1 10 7\nb 1 3 3\nopen 0 busy 10\n"
-    );
+    expect_text(
+        rt,
+        rows(alloc, ledger),
+        "a 1 10 7\nb 1 3 3\nopen 0 busy 10\n",
+    )?;
     assert_eq!(rt; ledger.len(), 4);
     assert!(rt; !ledger.is_empty());
     assert_eq!(rt; ledger.limit(), 100);
@@ -131,7 +158,7 @@ fn own_times_in(
 ) -> Result<(), Fail> {
     let alloc = rt.alloc();
     answers(alloc, ledger, events)?;
-    assert_eq!(rt; rows(alloc, ledger)?.as_str(), want);
+    expect_text(rt, rows(alloc, ledger), want)?;
     Ok(())
 }
 
@@ -242,9 +269,9 @@ fn refusals_are_counted(rt: HostRuntime) -> Result<(), Fail> {
 // What a copy of an answer shows.
 fn copy_of(alloc: Global, answer: &Answer) -> Result<String, AllocError> {
     let copy = answer.try_clone(alloc)?;
-    let text = format!(in alloc; "{copy:?}");
+    let line = shown(alloc, &copy);
     drop(copy);
-    text
+    line
 }
 
 fn an_end_merges_the_arguments_of_both_in(
@@ -252,19 +279,18 @@ fn an_end_merges_the_arguments_of_both_in(
     ledger: &mut Ledger,
 ) -> Result<(), Fail> {
     let alloc = rt.alloc();
-    let told = answers(
-        alloc,
+    expect_answers(
+        rt,
         ledger,
         "[{\"ph\":\"B\",\"name\":\"a\",\"ts\":0,\"args\":{\"x\":1,\"y\":2}},{\"ph\":\"E\",\"ts\":1,\"args\":{\"y\":3,\"z\":true}}]",
+        "Opened { depth: 1 }\nClosed { start: 0, length: 1, args: Args { pairs: [(\"x\", Whole(1)), (\"y\", Whole(3)), (\"z\", Flag(true))] } }\n",
     )?;
-    assert_eq!(rt;
-        told.as_str(),
-        "Opened { depth: 1 }\nClosed { start: 0, length: 1, args: Args { pairs: [(\"x\", Whole(1)), (\"y\", Whole(3)), (\"z\", Flag(true))] } }\n"
-    );
     let entry = ledger.entry(1).ok_or("no entry")?;
-    let text = copy_of(alloc, &entry.answer)?;
-    assert!(rt; told.as_str().contains(text.as_str()));
-    Ok(())
+    expect_text(
+        rt,
+        copy_of(alloc, &entry.answer),
+        "Closed { start: 0, length: 1, args: Args { pairs: [(\"x\", Whole(1)), (\"y\", Whole(3)), (\"z\", Flag(true))] } }",
+    )
 }
 
 #[test]
@@ -282,17 +308,19 @@ fn a_full_journal_gives_the_operation_back_in(
     let alloc = rt.alloc();
     let begin = "{\"ph\":\"B\",\"name\":\"a\",\"ts\":0}";
     let events = format!(in alloc; "[{begin},{begin},{begin},{begin}]")?;
-    let told = answers(alloc, ledger, events.as_str())?;
-    assert_eq!(rt;
-        told.as_str(),
-        "Opened { depth: 1 }\nOpened { depth: 2 }\nOpened { depth: 3 }\nFull\n"
-    );
+    expect_answers(
+        rt,
+        ledger,
+        events.as_str(),
+        "Opened { depth: 1 }\nOpened { depth: 2 }\nOpened { depth: 3 }\nFull\n",
+    )?;
     let Err(back) = ledger.apply(1, Op::One(Item::Other)) else {
         return Err(Fail::from("taken"));
     };
     assert_eq!(rt; back.cause, Cause::Full);
     assert_eq!(rt; back.cause.code(), 32);
     assert!(rt; matches!(back.op, Op::One(Item::Other)));
+    drop(back);
     Ok(())
 }
 
@@ -304,38 +332,47 @@ fn a_full_journal_gives_the_operation_back(rt: HostRuntime) -> Result<(), Fail> 
     told
 }
 
+// The rows of asynchronous spans, as a report has them.
+fn asynchronous(alloc: Global, ledger: &Ledger) -> Result<String, AllocError> {
+    let mut lines = String::new(alloc);
+    for row in &ledger.async_rows(alloc)? {
+        let (cat, scope) = (row.key.cat.as_str(), row.key.scope.as_str());
+        let (home, id) = (row.key.id.home, row.key.id.id.as_str());
+        let totals = row.totals;
+        writeln!(lines, "{cat} {scope} {home:?} {id} {totals:?}")?;
+    }
+    Ok(lines)
+}
+
+// The rows of flows, as a report has them.
+fn flows(alloc: Global, ledger: &Ledger) -> Result<String, AllocError> {
+    let mut lines = String::new(alloc);
+    for row in &ledger.flow_rows(alloc)? {
+        let (cat, name) = (row.key.cat.as_str(), row.key.name.as_str());
+        let (home, id) = (row.key.id.home, row.key.id.id.as_str());
+        let totals = row.totals;
+        writeln!(lines, "{cat} {name} {home:?} {id} {totals:?}")?;
+    }
+    Ok(lines)
+}
+
 fn asynchronous_spans_match_by_scope_in(
     rt: &(impl Abort + AllocGlobal),
     ledger: &mut Ledger,
 ) -> Result<(), Fail> {
     let alloc = rt.alloc();
-    let told = answers(
-        alloc,
+    expect_answers(
+        rt,
         ledger,
         "[{\"ph\":\"b\",\"cat\":\"net\",\"scope\":\"A\",\"id\":5,\"ts\":10},{\"ph\":\"e\",\"cat\":\"net\",\"scope\":\"B\",\"id\":5,\"ts\":11},{\"ph\":\"e\",\"cat\":\"net\",\"scope\":\"A\",\"id\":\"5\",\"ts\":14}]",
+        "AsyncOpened\nRefused(23)\nAsyncClosed { length: 4 }\n",
     )?;
-    assert_eq!(rt;
-        told.as_str(),
-        "AsyncOpened\nRefused(23)\nAsyncClosed { length: 4 }\n"
-    );
-    let rows = ledger.async_rows(alloc)?;
-    assert_eq!(rt; rows.len(), 1);
-    let row = rows.first().ok_or("a row")?;
-    assert_eq!(rt; row.key.cat.as_str(), "net");
-    assert_eq!(rt; row.key.scope.as_str(), "A");
-    assert_eq!(rt; row.key.id.id.as_str(), "5");
-    assert_eq!(rt;
-        row.totals,
-        AsyncTotals {
-            closed: 1,
-            total: 4,
-            unclosed: 0,
-            points: 0
-        }
-    );
-    assert_eq!(rt; ledger.processes(alloc)?.len(), 1);
-    assert!(rt; ledger.threads(alloc)?.is_empty());
-    Ok(())
+    expect_text(
+        rt,
+        asynchronous(alloc, ledger),
+        "net A None 5 AsyncTotals { closed: 1, total: 4, unclosed: 0, points: 0 }\n",
+    )?;
+    expect_text(rt, names(alloc, ledger), "0 None\n")
 }
 
 #[test]
@@ -351,30 +388,18 @@ fn a_local_id_is_its_processs_own_in(
     ledger: &mut Ledger,
 ) -> Result<(), Fail> {
     let alloc = rt.alloc();
-    let told = answers(
-        alloc,
+    expect_answers(
+        rt,
         ledger,
         "[{\"ph\":\"b\",\"id2\":{\"local\":\"1\"},\"pid\":1,\"ts\":1},{\"ph\":\"e\",\"id2\":{\"local\":\"1\"},\"pid\":2,\"ts\":2},{\"ph\":\"e\",\"id2\":{\"local\":\"1\"},\"pid\":1,\"ts\":0},{\"ph\":\"e\",\"id2\":{\"local\":\"1\"},\"pid\":1,\"ts\":3}]",
+        "AsyncOpened\nRefused(23)\nRefused(24)\nAsyncClosed { length: 2 }\n",
     )?;
-    assert_eq!(rt;
-        told.as_str(),
-        "AsyncOpened\nRefused(23)\nRefused(24)\nAsyncClosed { length: 2 }\n"
-    );
-    let rows = ledger.async_rows(alloc)?;
-    assert_eq!(rt; rows.len(), 1);
-    let row = rows.first().ok_or("a row")?;
-    assert_eq!(rt; row.key.id.home, Some(1));
-    assert_eq!(rt;
-        row.totals,
-        AsyncTotals {
-            closed: 1,
-            total: 2,
-            unclosed: 0,
-            points: 0
-        }
-    );
-    assert_eq!(rt; ledger.processes(alloc)?.len(), 1);
-    Ok(())
+    expect_text(
+        rt,
+        asynchronous(alloc, ledger),
+        "  Some(1) 1 AsyncTotals { closed: 1, total: 2, unclosed: 0, points: 0 }\n",
+    )?;
+    expect_text(rt, names(alloc, ledger), "1 None\n")
 }
 
 #[test]
@@ -390,27 +415,17 @@ fn flow_chains_start_and_end_in(
     ledger: &mut Ledger,
 ) -> Result<(), Fail> {
     let alloc = rt.alloc();
-    let told = answers(
-        alloc,
+    expect_answers(
+        rt,
         ledger,
         "[{\"ph\":\"s\",\"id\":9,\"ts\":1},{\"ph\":\"s\",\"id\":9,\"ts\":2},{\"ph\":\"t\",\"id\":9,\"ts\":3},{\"ph\":\"f\",\"id\":9,\"ts\":5},{\"ph\":\"f\",\"id\":9,\"ts\":6},{\"ph\":\"s\",\"id\":9,\"ts\":7},{\"ph\":\"t\",\"id\":9,\"ts\":6}]",
+        "FlowStarted\nRefused(25)\nFlowStep\nFlowEnded { points: 3, length: 4 }\nRefused(26)\nFlowStarted\nRefused(22)\n",
     )?;
-    assert_eq!(rt;
-        told.as_str(),
-        "FlowStarted\nRefused(25)\nFlowStep\nFlowEnded { points: 3, length: 4 }\nRefused(26)\nFlowStarted\nRefused(22)\n"
-    );
-    let rows = ledger.flow_rows(alloc)?;
-    assert_eq!(rt; rows.len(), 1);
-    let row = rows.first().ok_or("a row")?;
-    assert_eq!(rt; row.key.id.id.as_str(), "9");
-    assert_eq!(rt;
-        row.totals,
-        FlowTotals {
-            ended: 1,
-            total: 4,
-            unclosed: 1
-        }
-    );
+    expect_text(
+        rt,
+        flows(alloc, ledger),
+        "  None 9 FlowTotals { ended: 1, total: 4, unclosed: 1 }\n",
+    )?;
     let counts = ledger.counts();
     assert_eq!(rt; (counts.accepted, counts.refused), (4, 3));
     Ok(())

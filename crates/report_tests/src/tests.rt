@@ -1,5 +1,5 @@
 //! Reports of worked traces, written by hand from the format, and outputs that fail.
-ghost use Rattle.span_read.specs.Item.{IsGoodItem};
+ghost use Rattle.span_event.specs.Item.{IsGoodItem};
 
 use span_ledger::Op;
 use span_read::{Item, read_items};

@@ -5,7 +5,7 @@ use Rattle.std.specs.Result.{result_ok}
 use Rattle.std.proofs.lemmas.List.{map-append, length-map, take_more, length-take-le}
 use Rattle.serde_json.specs.Data.{Data, Items, no_items, item}
 use Rattle.serde_json.specs.Events.{items_len}
-use Rattle.span_read.specs.declared.item.Item.{Item}
+use Rattle.span_event.specs.declared.item.Item.{Item}
 use Rattle.span_read.specs.declared.error.ReadError.{ReadError}
 use Rattle.span_read.specs.declared.error.ReadError.TheVariants.{TooLarge, TooMany}
 use Rattle.span_read.specs.Document.{doc, document, doc_of_document, doc_of_elements, elements_of, items_of, most_bytes, most_items}

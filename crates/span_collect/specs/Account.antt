@@ -1,6 +1,6 @@
 -- The account of a collection: how each file ended, what was asked, and what stands in the journal.
 use Rattle.std.specs.Prelude.{◌≡◌, ℕ, ◌<◌, ◌≤◌, ◌⊎◌, ⊤, List, [], ◌∷◌, length, map, take, filter_map, All, Contains, Option, Some, None, Result, Ok, Err}
-use Rattle.span_read.specs.declared.item.Item.{Item}
+use Rattle.span_event.specs.declared.item.Item.{Item}
 use Rattle.span_read.specs.declared.error.ReadError.{ReadError}
 use Rattle.span_read.specs.Document.{doc}
 use Rattle.span_read.specs.ReadError.{code_of}

@@ -1,6 +1,6 @@
 //! The items of a file that are still to be told.
 ghost use Rattle.std.specs.Prelude.{◌≡◌, List, [], ◌∷◌, reverse, IfSome, IfNone};
-ghost use Rattle.span_read.specs.declared.item.Item.{Item as TheItem};
+ghost use Rattle.span_event.specs.declared.item.Item.{Item as TheItem};
 
 use span_ledger::{Item, Items};
 use std::marker::Model;

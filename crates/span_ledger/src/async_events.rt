@@ -1,15 +1,15 @@
 //! An asynchronous event, told to the track of asynchronous spans.
 ghost use Rattle.std.specs.Prelude.{◌≡◌};
-ghost use Rattle.span_read.specs.Event.{IsGood, IsTime};
-ghost use Rattle.span_track.specs.Async.{AsyncStandsFor, HasAsyncRoom};
-ghost use Rattle.span_track.specs.Matching.{opens, closes, other};
+ghost use Rattle.span_event.specs.Event.{IsGood, IsTime};
+ghost use Rattle.span_keyed.specs.Async.{AsyncStandsFor, HasAsyncRoom};
+ghost use Rattle.span_keyed.specs.Matching.{opens, closes, other};
 ghost use Rattle.span_ledger.specs.Answers.{async_answer};
 ghost use Rattle.span_ledger.specs.Told.{async_step, async_event, IsAsync};
 ghost use Rattle.span_ledger.specs.Tracked.{Tells};
 
 use crate::entry::Answer;
 use crate::event_key::{put_async_key, take_async_key};
-use span_read::{Event, Phase};
+use span_event::{Event, Phase};
 use span_track::{AsyncKey, AsyncTrack, TrackFault};
 use std::alloc::Global;
 

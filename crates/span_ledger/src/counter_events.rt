@@ -1,13 +1,13 @@
 //! A counter event, told to the track of counters.
 ghost use Rattle.std.specs.Prelude.{◌≡◌};
-ghost use Rattle.span_read.specs.declared.event.Phase.TheVariants.{Counter};
-ghost use Rattle.span_read.specs.Event.{IsGood};
-ghost use Rattle.span_track.specs.Counters.{CounterStandsFor, HasCounterRoom};
+ghost use Rattle.span_event.specs.declared.event.Phase.TheVariants.{Counter};
+ghost use Rattle.span_event.specs.Event.{IsGood};
+ghost use Rattle.span_keyed.specs.Counters.{CounterStandsFor, HasCounterRoom};
 ghost use Rattle.span_ledger.specs.Answers.{counter_answer};
 ghost use Rattle.span_ledger.specs.Tracked.{Tells};
 
 use crate::entry::Answer;
-use span_read::Event;
+use span_event::Event;
 use span_track::{CounterTrack, TrackFault};
 
 pub(crate) fn tell_counter(

@@ -1,14 +1,14 @@
 //! A flow event, told to the track of flow chains.
 ghost use Rattle.std.specs.Prelude.{◌≡◌};
-ghost use Rattle.span_read.specs.Event.{IsGood, IsTime};
-ghost use Rattle.span_track.specs.Flow.{FlowStandsFor, HasFlowRoom, started, stepped, finished};
+ghost use Rattle.span_event.specs.Event.{IsGood, IsTime};
+ghost use Rattle.span_keyed.specs.Flow.{FlowStandsFor, HasFlowRoom, started, stepped, finished};
 ghost use Rattle.span_ledger.specs.Answers.{flow_answer};
 ghost use Rattle.span_ledger.specs.Told.{flow_point, flow_event, IsFlow};
 ghost use Rattle.span_ledger.specs.Tracked.{Tells};
 
 use crate::entry::Answer;
 use crate::event_key::{put_flow_key, take_flow_key};
-use span_read::{Event, Phase};
+use span_event::{Event, Phase};
 use span_track::{FlowClosed, FlowKey, FlowTrack, TrackFault};
 use std::alloc::Global;
 

@@ -29,7 +29,7 @@ pub use query::Query;
 pub use refusal::{Back, Cause};
 pub use reply::Reply;
 pub use rows::{CountRow, ProcessRow, SpanRow, ThreadRow};
-pub use span_read::{
+pub use span_event::{
     ArgValue, Args, Event, Field, IdKey, Item, ItemFault, Items, Phase, Reach, Text,
 };
 pub use span_track::{

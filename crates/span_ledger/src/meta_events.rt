@@ -1,13 +1,13 @@
 //! A metadata event or an instant, told to their track.
 ghost use Rattle.std.specs.Prelude.{◌≡◌};
-ghost use Rattle.span_read.specs.declared.event.Phase.TheVariants.{Meta, Instant};
-ghost use Rattle.span_read.specs.Event.{IsGood};
-ghost use Rattle.span_track.specs.Meta.{MetaStandsFor, HasMetaRoom};
+ghost use Rattle.span_event.specs.declared.event.Phase.TheVariants.{Meta, Instant};
+ghost use Rattle.span_event.specs.Event.{IsGood};
+ghost use Rattle.span_keyed.specs.Meta.{MetaStandsFor, HasMetaRoom};
 ghost use Rattle.span_ledger.specs.Answers.{meta_answer};
 ghost use Rattle.span_ledger.specs.Tracked.{Tells};
 
 use crate::entry::Answer;
-use span_read::Event;
+use span_event::Event;
 use span_track::{MetaTrack, TrackFault};
 
 pub(crate) fn tell_meta(

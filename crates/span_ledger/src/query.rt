@@ -1,7 +1,7 @@
 //! What a caller can ask of the entries so far.
 ghost use Rattle.std.specs.Prelude.{◌≡◌, IfOk};
 
-use span_read::Text;
+use span_event::Text;
 use span_track::{AsyncKey, FlowKey, SeriesKey};
 use std::alloc::{AllocError, Global};
 

@@ -1,8 +1,8 @@
 //! The replies to queries, from the tracks and the counts of a journal.
 ghost use Rattle.std.specs.Prelude.{◌≡◌, List, Some, None, IfOk};
-ghost use Rattle.span_read.specs.declared.event.Event.{Event};
-ghost use Rattle.span_track.specs.Meta.{MetaStandsFor, names_in};
-ghost use Rattle.span_track.specs.Numbering.{number_in};
+ghost use Rattle.span_event.specs.declared.event.Event.{Event};
+ghost use Rattle.span_keyed.specs.Meta.{MetaStandsFor, names_in};
+ghost use Rattle.span_keyed.specs.Numbering.{number_in};
 ghost use Rattle.span_ledger.specs.Replies.{reply_to, process_reply, thread_names_reply};
 ghost use Rattle.span_ledger.specs.Rows.{count_row};
 ghost use Rattle.span_ledger.specs.Tracked.{FollowsJournal, track_at, track_reply, number_reply};
@@ -14,7 +14,7 @@ use crate::reply::{Reply, copy_of};
 use crate::rows::CountRow;
 use crate::thread::Thread;
 use crate::tracks::Tracks;
-use span_read::Text;
+use span_event::Text;
 use std::alloc::{AllocError, Global};
 
 // The reply to a query that comes after the entries of `journal`.

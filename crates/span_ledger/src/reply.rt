@@ -2,7 +2,7 @@
 ghost use Rattle.std.specs.Prelude.{◌≡◌, option_copied, IfOk};
 
 use crate::rows::CountRow;
-use span_read::Text;
+use span_event::Text;
 use span_track::{AsyncTotals, FlowTotals, SeriesTotals};
 use std::alloc::{AllocError, Global};
 

@@ -5,7 +5,7 @@ ghost use Rattle.span_ledger.specs.Tracked.{counted, CanGrow};
 
 use crate::entry::Answer;
 use crate::kind::Kind;
-use span_read::Text;
+use span_event::Text;
 
 /// How many entries of each kind a journal holds.
 #[derive(Clone, Copy, Debug, PartialEq, Eq)]

@@ -2,7 +2,7 @@
 ghost use Rattle.std.specs.Prelude.{◌≡◌, ◌++◌, IfOk, OnOk, map, flat_map, option_copied, option_and_then, slice_get};
 ghost use Rattle.std.specs.BTreeSet.{insert_key, IsOrdered as AreOrdered};
 ghost use Rattle.std.specs.BTreeMap.{IsOrdered};
-ghost use Rattle.span_track.specs.Keyed.{ascending};
+ghost use Rattle.span_keyed.specs.Keyed.{ascending};
 ghost use Rattle.span_ledger.specs.Rows.{thread_cmp, text_cmp, process_row, process_rows, thread_row, thread_rows};
 ghost use Rattle.span_ledger.specs.Tracked.{FollowsJournal, track_row, track_span_row, span_rows_of_track, track_span_rows, closed_names};
 
@@ -11,7 +11,7 @@ use crate::reply::copy_of;
 use crate::rows::{ProcessRow, SpanRow, ThreadRow};
 use crate::thread::Thread;
 use crate::tracks::Tracks;
-use span_read::Text;
+use span_event::Text;
 use span_track::{Names, ThreadTrack};
 use std::alloc::{AllocError, Global};
 use std::collections::{BTreeMap, BTreeSet};

@@ -5,9 +5,9 @@ use Rattle.std.specs.Cmp.Lexicographic.{slice_cmp}
 use Rattle.std.specs.BTreeMap.{insert_entry}
 use Rattle.std.proofs.Math.Seq.{set-append_seam}
 use Rattle.std.proofs.lemmas.List.Edits.{insert-append_right}
-use Rattle.span_read.specs.declared.args.ArgValue.{ArgValue}
-use Rattle.span_read.specs.Args.{IsBelowAll, IsInNameOrder}
-use Rattle.span_read.proofs.Merged.{same_name}
+use Rattle.span_event.specs.declared.args.ArgValue.{ArgValue}
+use Rattle.span_event.specs.Args.{IsBelowAll, IsInNameOrder}
+use Rattle.span_event.proofs.Merged.{same_name}
 
 abbrev pub Pair : Type 0
 Pair = List ℕ × ArgValue

@@ -6,12 +6,12 @@ use Rattle.std.specs.Str.{IsUtf8, is_utf8}
 use Rattle.std.proofs.lemmas.Str.{is_utf8-from_IsUtf8, IsUtf8-from_is_utf8}
 use Rattle.serde_json.specs.Data.{Data, Items}
 use Rattle.serde_json.specs.Events.{items_len}
-use Rattle.span_read.specs.declared.item.Item.{Item}
+use Rattle.span_event.specs.declared.item.Item.{Item}
 use Rattle.span_read.specs.declared.error.ReadError.TheVariants.{TooLarge, NotJson, TooMany}
 use Rattle.span_read.specs.Document.{document, read_utf8, first_read, cut_text, opens_array, elements_of, doc, doc_of_document, doc_of_elements, items_of, most_bytes, most_items}
 use Rattle.serde_json.specs.Read.{read}
 use Rattle.span_read.proofs.Utf8.{IsUtf8-cut_text, IsUtf8-closed}
-use Rattle.span_read.specs.Item.{IsGoodItem}
+use Rattle.span_event.specs.Item.{IsGoodItem}
 use Rattle.span_read.proofs.Good.{All-good_items_of}
 
 pub read_utf8-of_utf8 : (text : List ℕ) → IsUtf8 text → read_utf8 text ≡ read text

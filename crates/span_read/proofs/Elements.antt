@@ -4,7 +4,7 @@ use Rattle.serde_json.specs.Data.{Data, object, Items, no_items, Members, put}
 use Rattle.serde_json.specs.Events.{items_len}
 use Rattle.serde_json.specs.Find.{as_array, get_member}
 use Rattle.serde_json.proofs.Views.{get_member-put, get_member-put_other}
-use Rattle.span_read.specs.declared.item.Item.{Item}
+use Rattle.span_event.specs.declared.item.Item.{Item}
 use Rattle.span_read.specs.declared.error.ReadError.TheVariants.{TooMany}
 use Rattle.span_read.specs.Document.{elements_of, items_of, doc_of_elements, most_items}
 use Rattle.span_read.specs.Element.{item_of_data}

@@ -7,20 +7,20 @@ use Rattle.std.proofs.lemmas.List.Elements.{All-from_recursion}
 use Rattle.serde_json.specs.Data.{Data, null, boolean, number, string, array, object, Items, no_items, item}
 use Rattle.span_read.specs.declared.fields.FieldValue.{FieldValue}
 use Rattle.span_read.specs.declared.fields.FieldValue.TheVariants.{Plain, Pairs}
-use Rattle.span_read.specs.declared.args.ArgValue.{ArgValue}
-use Rattle.span_read.specs.declared.args.ArgValue.TheVariants.{Whole, Words, Flag, Nil, Other}
-use Rattle.span_read.specs.declared.event.Phase.{Phase}
-use Rattle.span_read.specs.declared.event.Phase.TheVariants.{SpanBegin, SpanEnd, Complete, AsyncBegin, AsyncPoint, AsyncEnd, FlowStart, FlowStep, FlowEnd, Counter, Instant, Meta}
-use Rattle.span_read.specs.declared.event.IdKey.{IdKey}
-use Rattle.span_read.specs.declared.item.Field.TheVariants.{Id}
-use Rattle.span_read.specs.declared.item.Item.{Item}
-use Rattle.span_read.specs.declared.item.ItemFault.{ItemFault}
-use Rattle.span_read.specs.declared.item.ItemFault.TheVariants.{NotWhole, BadField, NoId, BadReach, BadSeries}
-use Rattle.span_read.specs.Event.{IsTime, IsKnownAt, IsGood, IsGoodAt, AllWhole, greatest_time}
-use Rattle.span_read.specs.Item.{IsGoodItem}
+use Rattle.span_event.specs.declared.args.ArgValue.{ArgValue}
+use Rattle.span_event.specs.declared.args.ArgValue.TheVariants.{Whole, Words, Flag, Nil, Other}
+use Rattle.span_event.specs.declared.event.Phase.{Phase}
+use Rattle.span_event.specs.declared.event.Phase.TheVariants.{SpanBegin, SpanEnd, Complete, AsyncBegin, AsyncPoint, AsyncEnd, FlowStart, FlowStep, FlowEnd, Counter, Instant, Meta}
+use Rattle.span_event.specs.declared.event.IdKey.{IdKey}
+use Rattle.span_event.specs.declared.item.Field.TheVariants.{Id}
+use Rattle.span_event.specs.declared.item.Item.{Item}
+use Rattle.span_event.specs.declared.item.ItemFault.{ItemFault}
+use Rattle.span_event.specs.declared.item.ItemFault.TheVariants.{NotWhole, BadField, NoId, BadReach, BadSeries}
+use Rattle.span_event.specs.Event.{IsTime, IsKnownAt, IsGood, IsGoodAt, AllWhole, greatest_time}
+use Rattle.span_event.specs.Item.{IsGoodItem}
 use Rattle.span_read.specs.Phase.{reads_time, reads_duration, reads_id, needs_id, reads_reach, wants_whole_args, phase_of}
 use Rattle.span_read.specs.Fields.{FieldData, fields_of, whole, words, pairs, is_time, is_duration, whole_or_zero, natural, duration_or_zero, id_text, parts_key, key_of, reach_of, args_of, all_whole}
-use Rattle.span_read.specs.Args.{value_of}
+use Rattle.span_event.specs.Args.{value_of}
 use Rattle.span_read.specs.Element.{unless, where_read, time_fault, duration_fault, id_fault, first_fault, faults, fault_of, event_of, item_at, item_of_phase, item_of_letter, item_of_fields, item_of_data}
 use Rattle.span_read.specs.Document.{items_of}
 

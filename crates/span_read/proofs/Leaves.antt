@@ -5,10 +5,10 @@ use Rattle.json.proofs.Grammar.{value_is}
 use Rattle.serde_json.specs.Data.{Data, null, boolean, number, string, array, object, Num}
 use Rattle.serde_json.specs.Find.{as_array}
 use Rattle.serde_json.specs.Read.{of_json, number_of, converted}
-use Rattle.span_read.specs.declared.args.ArgValue.{ArgValue}
+use Rattle.span_event.specs.declared.args.ArgValue.{ArgValue}
 use Rattle.span_read.specs.declared.fields.FieldValue.TheVariants.{Plain}
-use Rattle.span_read.specs.declared.item.Item.TheVariants.{Bad}
-use Rattle.span_read.specs.declared.item.ItemFault.TheVariants.{NotObject}
+use Rattle.span_event.specs.declared.item.Item.TheVariants.{Bad}
+use Rattle.span_event.specs.declared.item.ItemFault.TheVariants.{NotObject}
 use Rattle.span_read.specs.Document.{elements_of}
 use Rattle.span_read.specs.Element.{item_of_data}
 use Rattle.span_read.specs.Fields.{arg_value, field_value}

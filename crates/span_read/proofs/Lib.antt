@@ -6,9 +6,7 @@ pub mod Good
 pub mod Grammar
 pub mod LastByte
 pub mod Leaves
-pub mod Merged
 pub mod NameOrder
-pub mod Orders
 pub mod Slots
 pub mod Turns
 pub mod Unclosed

@@ -7,7 +7,7 @@ use Rattle.serde_json.specs.Data.{Data, array, object, Items, no_items, item}
 use Rattle.serde_json.specs.Events.{items_len}
 use Rattle.serde_json.specs.Find.{get_member, as_array}
 use Rattle.serde_json.specs.Read.{read}
-use Rattle.span_read.specs.declared.item.Item.{Item}
+use Rattle.span_event.specs.declared.item.Item.{Item}
 use Rattle.span_read.specs.declared.error.ReadError.{ReadError}
 use Rattle.span_read.specs.declared.error.ReadError.TheVariants.{TooLarge, NotJson, NotTrace, TooMany}
 use Rattle.span_read.specs.Element.{item_of_data}

@@ -2,15 +2,15 @@
 use Rattle.std.specs.Prelude.{ℕ, pos, List, [], ◌∷◌, ◌||◌, Bool, true, false, Option, Some, None, is_some, option_and_then, if◌then◌else◌}
 use Rattle.std.specs.Option.{option_or}
 use Rattle.serde_json.specs.Data.{Data, object}
-use Rattle.span_read.specs.declared.event.Event.{Event}
-use Rattle.span_read.specs.declared.event.Phase.{Phase}
+use Rattle.span_event.specs.declared.event.Event.{Event}
+use Rattle.span_event.specs.declared.event.Phase.{Phase}
 use Rattle.span_read.specs.declared.fields.FieldValue.{FieldValue}
-use Rattle.span_read.specs.declared.item.Field.{Field}
-use Rattle.span_read.specs.declared.item.Field.TheVariants.{Pid, Tid, Name, Cat, Id, Scope}
-use Rattle.span_read.specs.declared.item.Item.{Item}
-use Rattle.span_read.specs.declared.item.Item.TheVariants.{Good, Bad, Other}
-use Rattle.span_read.specs.declared.item.ItemFault.{ItemFault}
-use Rattle.span_read.specs.declared.item.ItemFault.TheVariants.{NotObject, NoPhase, NoTime, NotWhole, NoDuration, BadField, NoId, BadReach, BadSeries}
+use Rattle.span_event.specs.declared.item.Field.{Field}
+use Rattle.span_event.specs.declared.item.Field.TheVariants.{Pid, Tid, Name, Cat, Id, Scope}
+use Rattle.span_event.specs.declared.item.Item.{Item}
+use Rattle.span_event.specs.declared.item.Item.TheVariants.{Good, Bad, Other}
+use Rattle.span_event.specs.declared.item.ItemFault.{ItemFault}
+use Rattle.span_event.specs.declared.item.ItemFault.TheVariants.{NotObject, NoPhase, NoTime, NotWhole, NoDuration, BadField, NoId, BadReach, BadSeries}
 use Rattle.span_read.specs.Phase.{phase_of, reads_time, reads_duration, needs_id, reads_id, reads_scope, reads_reach, wants_whole_args}
 use Rattle.span_read.specs.Fields.{FieldData, fields_of, whole, words, is_time, is_duration, whole_or_zero, text_or_empty, duration_or_zero, key_of, reach_of, args_of, all_whole}
 

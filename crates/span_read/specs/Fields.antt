@@ -8,15 +8,15 @@ use Rattle.std.specs.Map.{lookup}
 use Rattle.std.specs.Cmp.Lexicographic.{pointwise}
 use Rattle.serde_json.specs.Data.{Data, null, boolean, number, string, array, object, Members, no_members, member}
 use Rattle.serde_json.specs.Find.{get_member, as_i64}
-use Rattle.span_read.specs.declared.args.ArgValue.{ArgValue}
-use Rattle.span_read.specs.declared.args.ArgValue.TheVariants.{Whole, Words, Flag, Nil, Other}
-use Rattle.span_read.specs.declared.event.IdKey.{IdKey}
-use Rattle.span_read.specs.declared.event.Reach.{Reach}
-use Rattle.span_read.specs.declared.event.Reach.TheVariants.{Global, Process, Thread}
+use Rattle.span_event.specs.declared.args.ArgValue.{ArgValue}
+use Rattle.span_event.specs.declared.args.ArgValue.TheVariants.{Whole, Words, Flag, Nil, Other}
+use Rattle.span_event.specs.declared.event.IdKey.{IdKey}
+use Rattle.span_event.specs.declared.event.Reach.{Reach}
+use Rattle.span_event.specs.declared.event.Reach.TheVariants.{Global, Process, Thread}
 use Rattle.span_read.specs.declared.fields.FieldValue.{FieldValue}
 use Rattle.span_read.specs.declared.fields.FieldValue.TheVariants.{Plain, Pairs}
-use Rattle.span_read.specs.Args.{value_of}
-use Rattle.span_read.specs.Event.{greatest_time}
+use Rattle.span_event.specs.Args.{value_of}
+use Rattle.span_event.specs.Event.{greatest_time}
 
 -- a value by its kind; a number is whole if it fits 64 bits with its sign, and `1.0`, `1e3` and `-0` are not whole
 abbrev pub arg_value : Data → ArgValue

@@ -1,15 +1,10 @@
 pub mod ArgMap
-pub mod Args
 pub mod Document
 pub mod Element
 pub mod Ending
-pub mod Event
 pub mod Fields
-pub mod Item
-pub mod Orders
 pub mod Phase
 pub mod ReadError
 pub mod Reading
 pub mod Refusal
 pub mod Slots
-pub mod Text

@@ -4,8 +4,8 @@ use Rattle.json.specs.Token.{Token}
 use Rattle.json.specs.Json.{value, items, members, parse_map}
 use Rattle.serde_json.specs.Data.{Data, null, boolean, number, string, array, object, Items, item, Members, no_members}
 use Rattle.serde_json.specs.Read.{of_json, of_items, of_members, converted}
-use Rattle.span_read.specs.declared.args.ArgValue.{ArgValue}
-use Rattle.span_read.specs.declared.args.ArgValue.TheVariants as arg
+use Rattle.span_event.specs.declared.args.ArgValue.{ArgValue}
+use Rattle.span_event.specs.declared.args.ArgValue.TheVariants as arg
 use Rattle.span_read.specs.declared.head.Head.{Head}
 use Rattle.span_read.specs.declared.head.Head.TheVariants.{Object, Array, Words, Plain}
 use Rattle.span_read.specs.declared.stop.Stop.{Stop}

@@ -1,6 +1,6 @@
 -- Why an event isn't made; for private clauses.
 use Rattle.std.specs.Prelude.{◌≡◌, Option, Some, ⊤}
-use Rattle.span_read.specs.declared.item.ItemFault.{ItemFault}
+use Rattle.span_event.specs.declared.item.ItemFault.{ItemFault}
 use Rattle.span_read.specs.declared.refusal.Refusal.{Refusal}
 use Rattle.span_read.specs.declared.refusal.Refusal.TheVariants.{Fault, Memory}
 

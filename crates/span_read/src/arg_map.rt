@@ -4,12 +4,11 @@ ghost use Rattle.std.specs.List.{insert};
 ghost use Rattle.std.specs.Ordering.{nat_cmp};
 ghost use Rattle.std.specs.Cmp.Lexicographic.{slice_cmp};
 ghost use Rattle.std.specs.BTreeMap.{insert_entry};
-ghost use Rattle.span_read.specs.declared.args.ArgValue.{ArgValue};
-ghost use Rattle.span_read.specs.Args.{IsInNameOrder};
+ghost use Rattle.span_event.specs.declared.args.ArgValue.{ArgValue};
+ghost use Rattle.span_event.specs.Args.{IsInNameOrder};
 ghost use Rattle.span_read.specs.ArgMap.{pairs_in};
 
-use crate::args::{ArgValue, Args};
-use crate::text::Text;
+use span_event::{ArgValue, Args, Text};
 use std::alloc::{AllocError, Global};
 use std::cmp::Ordering;
 use std::collections::BTreeMap;
@@ -87,7 +86,7 @@ impl ArgMap {
                 pairs.shrink_to_fit();
                 Args::of_pairs(pairs)
             }
-            Kept::Many(map) => Args::of_map(alloc, map),
+            Kept::Many(map) => args_of_map(alloc, map),
         }
     }
 }
@@ -136,4 +135,14 @@ fn map_of(alloc: Global, pairs: Vec<Pair>) -> Result<BTreeMap<Text, ArgValue>, A
         drop(map.insert(name, value)?);
     }
     Ok(map)
+}
+
+fn args_of_map(alloc: Global, map: BTreeMap<Text, ArgValue>) -> Result<Args, AllocError>
+    ensures { IfOk result (λ args. args ≡ map.entries) }
+{
+    let mut pairs = Vec::with_capacity(alloc, map.len())?;
+    for (name, value) in map {
+        pairs.push((name, value))?;
+    }
+    Args::of_pairs(pairs)
 }

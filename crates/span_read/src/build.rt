@@ -5,15 +5,14 @@ ghost use Rattle.span_read.specs.Element.{fault_of, event_of, where_read, unless
 ghost use Rattle.span_read.specs.Slots.{data_of};
 ghost use Rattle.span_read.specs.Refusal.{IsForFault};
 
-use crate::event::{Event, Phase};
 use crate::fields::Fields;
-use crate::item::{Field, ItemFault};
 use crate::key::take_key;
 use crate::phase::needs_id;
 use crate::refusal::Refusal;
 use crate::take::{
     take_args, take_duration, take_reach, take_scope, take_text, take_time, take_whole,
 };
+use span_event::{Event, Field, ItemFault, Phase};
 use std::alloc::Global;
 
 pub(crate) fn event_of(alloc: Global, phase: Phase, fields: Fields) -> Result<Event, Refusal>

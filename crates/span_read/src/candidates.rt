@@ -7,10 +7,10 @@ ghost use Rattle.span_read.specs.declared.error.ReadError.TheVariants.{Memory};
 ghost use Rattle.span_read.specs.Ending.{closes_array};
 
 use crate::error::ReadError;
-use crate::items::Items;
 use crate::stop::Stop;
 use crate::trace::read_document;
 use json::{Reader, Scratch};
+use span_event::Items;
 use std::alloc::{AllocError, Global};
 
 /// How deep arrays and objects may nest.

@@ -2,9 +2,9 @@
 ghost use Rattle.std.specs.Prelude.{◌≡◌, ◌<◌, ℕ, length, None, IfOk, OnOk, OnErr};
 ghost use Rattle.span_read.specs.Reading.{data_at, TakesHead};
 
-use crate::args::ArgValue;
 use crate::number::number_value;
 use json::{Invalid, Reader, Token};
+use span_event::ArgValue;
 
 /// The bracket of an array or an object, or else the whole value.
 #[derive(Drop)]

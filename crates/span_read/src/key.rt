@@ -6,13 +6,10 @@ ghost use Rattle.span_read.specs.Element.{where_read, id_fault, unless};
 ghost use Rattle.span_read.specs.Fields.{key_of, key_with};
 ghost use Rattle.span_read.specs.Refusal.{IsForFault};
 
-use crate::args::ArgValue;
-use crate::event::{IdKey, Phase};
 use crate::fields::FieldValue;
-use crate::item::{Field, ItemFault};
 use crate::phase::reads_id;
 use crate::refusal::Refusal;
-use crate::text::Text;
+use span_event::{ArgValue, Field, IdKey, ItemFault, Phase, Text};
 use std::alloc::{AllocError, Global};
 
 /// The key that `id` or `id2` gives, where the phase reads one and one of them is there.

@@ -1,17 +1,13 @@
-//! Reads the bytes of a trace file into typed items: good events, numbered faults, and events of phases that are not used.
+//! Reads the bytes of a trace file into typed items. With the types of events and items, which are a crate of their own.
 #![tactic(auto)]
 
 mod arg_map;
-mod args;
 mod build;
 mod candidates;
 mod element;
 mod error;
-mod event;
 mod fields;
 mod head;
-mod item;
-mod items;
 mod key;
 mod number;
 mod pass;
@@ -21,15 +17,12 @@ mod reading;
 mod refusal;
 mod stop;
 mod take;
-mod text;
 mod trace;
 mod values;
 
-pub use args::{ArgValue, Args, merge_args};
 pub use element::item_of;
 pub use error::ReadError;
-pub use event::{Event, IdKey, Phase, Reach};
-pub use item::{Field, Item, ItemFault};
-pub use items::Items;
 pub use read::read_items;
-pub use text::Text;
+pub use span_event::{
+    ArgValue, Args, Event, Field, IdKey, Item, ItemFault, Items, Phase, Reach, Text, merge_args,
+};

@@ -4,8 +4,8 @@ ghost use Rattle.serde_json.specs.Data.{number};
 ghost use Rattle.serde_json.specs.Read.{number_of, number_from, float_of};
 ghost use Rattle.span_read.specs.Fields.{arg_value};
 
-use crate::args::ArgValue;
 use fast_float::Numeral;
+use span_event::ArgValue;
 
 /// None where the number is too large for a float, so that the text that it stands in is refused.
 #[inline(always)]

@@ -1,8 +1,7 @@
+use span_event::Phase;
 // The letters of the phases, and which phases read which field.
 ghost use Rattle.std.specs.Prelude.{◌≡◌};
 ghost use Rattle.span_read.specs.Phase.{phase_of, needs_id, reads_id, reads_scope};
-
-use crate::event::Phase;
 
 pub(crate) fn phase_of(letter: &str) -> Option<Phase>
     ensures { result ≡ phase_of letter.now }

@@ -1,12 +1,12 @@
 // The items of a file.
 ghost use Rattle.std.specs.Prelude.{◌≡◌, ◌≢◌, ◌<◌, ◌↔◌, length, IfOk, IfErr, Ok, Err, All};
 ghost use Rattle.span_read.specs.Document.{doc, most_bytes};
-ghost use Rattle.span_read.specs.Item.{IsGoodItem};
+ghost use Rattle.span_event.specs.Item.{IsGoodItem};
 ghost use Rattle.span_read.specs.declared.error.ReadError.TheVariants.{TooLarge, Memory};
 
 use crate::candidates::read_first;
 use crate::error::ReadError;
-use crate::items::Items;
+use span_event::Items;
 use std::alloc::Global;
 use std::str;
 

@@ -6,13 +6,12 @@ ghost use Rattle.span_read.specs.Reading.{data_at, TakesValue, TakesObject, IsNo
 ghost use Rattle.span_read.specs.Slots.{data_of};
 
 use crate::arg_map::ArgMap;
-use crate::args::{ArgValue, Args};
 use crate::fields::{FieldValue, Fields};
 use crate::head::{Head, next_head};
 use crate::pass::{pass_array, pass_object};
 use crate::stop::Stop;
-use crate::text::Text;
 use json::Reader;
+use span_event::{ArgValue, Args, Text};
 use std::alloc::Global;
 
 /// The rest of an object whose bracket was taken.

@@ -1,7 +1,7 @@
 // Why an element's event isn't made.
 ghost use Rattle.std.specs.Prelude.{◌≡◌};
 
-use crate::item::ItemFault;
+use span_event::ItemFault;
 use std::alloc::AllocError;
 
 #[derive(Drop)]

@@ -4,15 +4,12 @@ ghost use Rattle.std.specs.Result.{result_err};
 ghost use Rattle.span_read.specs.Phase.{reads_time, reads_duration, reads_scope, reads_reach, wants_whole_args};
 ghost use Rattle.span_read.specs.Element.{where_read, time_fault, duration_fault, whole_fault, text_fault, unless};
 ghost use Rattle.span_read.specs.Fields.{whole_or_zero, text_or_empty, duration_or_zero, reach_of, args_of, all_whole};
-ghost use Rattle.span_read.specs.declared.item.Field.TheVariants.{Scope};
-ghost use Rattle.span_read.specs.declared.item.ItemFault.TheVariants.{BadReach, BadSeries};
+ghost use Rattle.span_event.specs.declared.item.Field.TheVariants.{Scope};
+ghost use Rattle.span_event.specs.declared.item.ItemFault.TheVariants.{BadReach, BadSeries};
 
-use crate::args::Args;
-use crate::event::{Phase, Reach};
 use crate::fields::FieldValue;
-use crate::item::{Field, ItemFault};
 use crate::phase::reads_scope;
-use crate::text::Text;
+use span_event::{ArgValue, Args, Field, ItemFault, Phase, Reach, Text};
 use std::alloc::Global;
 
 const LEAST_TIME: i64 = -9_007_199_254_740_991;
@@ -126,9 +123,21 @@ pub(crate) fn take_args(
         Some(FieldValue::Plain(_value)) => Args::empty(alloc),
         None => Args::empty(alloc),
     };
-    if phase == Phase::Counter && !args.all_whole() {
+    if phase == Phase::Counter && !all_whole(&args) {
         Err(ItemFault::BadSeries)
     } else {
         Ok(args)
     }
+}
+
+// Whether each value is a whole number.
+fn all_whole(args: &Args) -> bool
+    ensures { result ≡ all_whole args.now }
+{
+    for (_, value) in args.pairs() {
+        if !matches!(value, ArgValue::Whole(_)) {
+            return false;
+        }
+    }
+    true
 }

@@ -10,12 +10,11 @@ ghost use Rattle.span_read.specs.Reading.{data_at, TakesValue, TakesArray, Takes
 use crate::element::item_of_fields;
 use crate::error::ReadError;
 use crate::head::{Head, next_head};
-use crate::item::{Item, ItemFault};
-use crate::items::Items;
 use crate::pass::{pass_array, pass_items, pass_object, pass_value};
 use crate::reading::read_fields;
 use crate::stop::Stop;
 use json::Reader;
+use span_event::{Item, ItemFault, Items};
 use std::alloc::Global;
 
 const MOST_ITEMS: usize = 4_194_304;

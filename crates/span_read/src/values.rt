@@ -4,10 +4,9 @@ ghost use Rattle.serde_json.specs.View.{view, members_view};
 ghost use Rattle.span_read.specs.Fields.{arg_value, pairs_of, field_value, field_at, fields_of};
 ghost use Rattle.span_read.specs.Slots.{data_of};
 
-use crate::args::{ArgValue, Args};
 use crate::fields::{FieldValue, Fields};
-use crate::text::Text;
 use serde_json::{Map, Value};
+use span_event::{ArgValue, Args, Text};
 use std::alloc::{AllocError, Global};
 
 type Members = Map<String, Value>;

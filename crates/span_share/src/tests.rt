@@ -1,11 +1,11 @@
 ghost use Rattle.std.specs.Prelude.{IfSome};
-ghost use Rattle.span_read.specs.Item.{IsGoodItem};
+ghost use Rattle.span_event.specs.Item.{IsGoodItem};
 ghost use Rattle.span_share.specs.Seats.{IsSeatOf};
 
 use crate::steps::take_turn;
 use crate::turn::Returns;
 use crate::{Back, Cause, Item, Ledger, Op, Query, Receipt, Seat, Share};
-use span_read::read_items;
+use span_event::{Args, Event, Phase, Text};
 use std::alloc::{AllocGlobal, Global};
 use std::process::Abort;
 use std::sync::Wait;
@@ -17,11 +17,20 @@ use std::thread::Threads;
 fn begin(alloc: Global, thread: u32, time: u32) -> Option<Item>
     ensures { IfSome result IsGoodItem }
 {
-    let text = format!(in alloc;
-        "[{{\"ph\":\"B\",\"name\":\"a\",\"ts\":{time},\"pid\":1,\"tid\":{thread}}}]"
-    ).ok()?;
-    let items = read_items(alloc, text.as_bytes()).ok()?;
-    items.into_list().pop()
+    let name = Text::of(alloc, "a").ok()?;
+    Some(Item::Good(Event {
+        phase: Phase::SpanBegin,
+        name,
+        cat: Text::empty(alloc),
+        ts: i64::from(time),
+        dur: 0,
+        pid: 1,
+        tid: i64::from(thread),
+        key: None,
+        scope: Text::empty(alloc),
+        reach: None,
+        args: Args::empty(alloc),
+    }))
 }
 
 // What a thread with a seat of its own does: it tells three spans, and looks how many entries there are.

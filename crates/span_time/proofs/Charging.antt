@@ -6,7 +6,8 @@ use Rattle.indexmap.specs.IndexMap.{get}
 use Rattle.span_time.specs.declared.segment.Part.{Part}
 use Rattle.span_time.specs.declared.shares.Shares.{Shares}
 use Rattle.span_time.specs.declared.stretches.Stretches.{Stretches}
-use Rattle.span_time.specs.Spans.{Span, distance}
+use Rattle.span_event.specs.Time.{distance}
+use Rattle.span_time.specs.Spans.{Span}
 use Rattle.span_time.specs.Division.{Owners, SelfTimes, own_in, owner_of, taken}
 use Rattle.span_time.specs.Stretches.{at, IsDivided, IsEnd, IsPut}
 use Rattle.span_time.specs.Shares.{has_name, AreTimes, IsShared, IsEntrant, IsSharing, taken_to}

@@ -4,7 +4,8 @@ use Rattle.std.specs.List.{sum_by}
 use Rattle.std.proofs.lemmas.Bool.{and_left, and_right, and_from}
 use Rattle.std.proofs.lemmas.Int.{ints}
 use Rattle.std.proofs.lemmas.List.Sums.{sum_by-cons}
-use Rattle.span_time.specs.Spans.{Span, count_from, covers, length_of, distance, natural}
+use Rattle.span_event.specs.Time.{distance, natural}
+use Rattle.span_time.specs.Spans.{Span, count_from, covers, length_of}
 use Rattle.span_time.proofs.Tops.{one_if}
 
 pos-natural : (z : ℤ) → pos 0 ≤ℤ z → pos (natural z) ≡ z

@@ -4,7 +4,7 @@ use Rattle.std.proofs.lemmas.Int.{ints, by_lt_z}
 use Rattle.std.proofs.lemmas.List.{reverse-append, append_assoc, length-reverse, get_or-append_right, get_or-reverse}
 use Rattle.std.proofs.lemmas.Option.{slice_get-get_or}
 use Rattle.span_time.specs.declared.segment.Part.{Part}
-use Rattle.span_time.specs.Spans.{natural, distance}
+use Rattle.span_event.specs.Time.{natural, distance}
 use Rattle.span_time.specs.Division.{Owners, AreFuture, parts_of}
 use Rattle.span_time.specs.Cursor.{ends_by, lasts_beyond, starts_before}
 use Rattle.span_time.proofs.Counts.{add-distance}

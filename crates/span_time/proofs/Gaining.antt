@@ -3,7 +3,8 @@ use Rattle.std.proofs.Common.{◌≡◌, ◌≢◌, ℕ, ◌+◌, ◌-◌, nat_e
 use Rattle.std.proofs.lemmas.Int.{ints, by_lt_z}
 use Rattle.std.proofs.lemmas.List.Sums.{sum_by_push}
 use Rattle.span_time.specs.declared.segment.Part.{Part}
-use Rattle.span_time.specs.Spans.{Span, distance}
+use Rattle.span_event.specs.Time.{distance}
+use Rattle.span_time.specs.Spans.{Span}
 use Rattle.span_time.specs.Division.{Owners, owner_of, Belong, ArePast, IsOnly, part_length, named_length, whole_length, between}
 use Rattle.span_time.specs.Cursor.{IsTakenBack, IsGained}
 use Rattle.span_time.proofs.Cursor.{Some≢None}

@@ -6,7 +6,8 @@ use Rattle.std.proofs.lemmas.Bool.{and_parts, not-true}
 use Rattle.std.proofs.lemmas.List.Elements.{All-head, All-tail, All-nil, All-cons}
 use Rattle.std.proofs.lemmas.List.Folds.{list_any_none, list_any_at}
 use Rattle.std.proofs.lemmas.List.Sums.{sum_by-cons}
-use Rattle.span_time.specs.Spans.{Span, covers, outranks, is_outranked, is_covered, count_from, distance, self_time}
+use Rattle.span_event.specs.Time.{distance}
+use Rattle.span_time.specs.Spans.{Span, covers, outranks, is_outranked, is_covered, count_from, self_time}
 use Rattle.span_time.specs.Laws.{IsApart, AreSpans}
 use Rattle.span_time.specs.Division.{bare, owners_of}
 use Rattle.span_time.proofs.Counts.{count_from-none, count_from-covered, sum_by-count_from}

@@ -5,7 +5,8 @@ use Rattle.std.specs.Option.{is_some}
 use Rattle.std.proofs.lemmas.Int.{ints}
 use Rattle.std.proofs.lemmas.List.Sums.{sum_by-cons}
 use Rattle.span_time.specs.declared.segment.Part.{Part}
-use Rattle.span_time.specs.Spans.{Span, count_from, distance, self_time, self_of, busy_time}
+use Rattle.span_event.specs.Time.{distance}
+use Rattle.span_time.specs.Spans.{Span, count_from, self_time, self_of, busy_time}
 use Rattle.span_time.specs.Closed.{least_start, greatest_until, AreClosed}
 use Rattle.span_time.specs.Division.{Owners, bare, owners_of, owner_of, ArePast, AreFuture, AreParts, part_length, named_length, whole_length}
 use Rattle.span_time.proofs.Counts.{add-distance, count_from-none, count_from-unbroken}

@@ -5,7 +5,8 @@ use Rattle.std.proofs.lemmas.Int.{ints}
 use Rattle.std.proofs.lemmas.List.{reverse-append}
 use Rattle.std.proofs.lemmas.List.Sums.{sum_by-cons, sum_by_push, sum_by-append}
 use Rattle.span_time.specs.declared.segment.Part.{Part}
-use Rattle.span_time.specs.Spans.{Span, distance}
+use Rattle.span_event.specs.Time.{distance}
+use Rattle.span_time.specs.Spans.{Span}
 use Rattle.span_time.specs.Closed.{least_start, greatest_until}
 use Rattle.span_time.specs.Division.{Owners, taken, part_length, named_length, whole_length, SelfTimes, own_in, AreSums, parts_of, between, piece}
 use Rattle.span_time.specs.Cursor.{IsTakenTo, IsNextPart, IsGained}

@@ -3,7 +3,8 @@ use Rattle.std.proofs.Common.{◌≡◌, ◌≤ℤ◌, ℤ, List, [], ◌∷◌,
 use Rattle.std.specs.List.{sum_by}
 use Rattle.std.proofs.lemmas.Int.{ints, clamps}
 use Rattle.std.proofs.lemmas.List.Sums.{sum_by-cons}
-use Rattle.span_time.specs.Spans.{Span, self_time, busy_time, covers, outranks, is_outranked, is_covered, count_from, distance, earliest, latest}
+use Rattle.span_event.specs.Time.{distance}
+use Rattle.span_time.specs.Spans.{Span, self_time, busy_time, covers, outranks, is_outranked, is_covered, count_from, earliest, latest}
 use Rattle.span_time.specs.Laws.{AreSpans}
 use Rattle.span_time.proofs.Tops.{sum_by-tops}
 use Rattle.span_time.proofs.Counts.{count_from-covered, sum_by-count_from}

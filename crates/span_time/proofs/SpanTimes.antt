@@ -5,7 +5,8 @@ use Rattle.std.proofs.lemmas.Bool.{false_from_ne_true}
 use Rattle.std.proofs.lemmas.List.{take_more, take-map, map_push, get_or-map, length-map}
 use Rattle.std.proofs.lemmas.List.Elements.{All-nil, All-cons}
 use Rattle.std.proofs.lemmas.List.Folds.{list_any_at}
-use Rattle.span_time.specs.Spans.{Span, covers, distance, count_from, self_of, busy_time}
+use Rattle.span_event.specs.Time.{distance}
+use Rattle.span_time.specs.Spans.{Span, covers, count_from, self_of, busy_time}
 use Rattle.span_time.specs.Closed.{least_start, greatest_until, span_of, AreClosed}
 use Rattle.span_time.specs.Laws.{AreSpans}
 use Rattle.span_time.specs.declared.span.ClosedSpan.{ClosedSpan}

@@ -1,7 +1,8 @@
 -- How the time in which an owner passes a test changes as a stretch changes hands.
 use Rattle.std.proofs.Common.{◌≡◌, ◌≤◌, ◌^◌, ℕ, ◌+◌, Bool, true, false, cond, ℤ, pos, ◌-ℤ◌, ◌≤ℤ◌, ◌<ℤ◌, Option, None, ap, ◌∙◌, arith}
 use Rattle.std.proofs.lemmas.Int.{ints}
-use Rattle.span_time.specs.Spans.{Span, count_from, distance}
+use Rattle.span_event.specs.Time.{distance}
+use Rattle.span_time.specs.Spans.{Span, count_from}
 use Rattle.span_time.specs.Closed.{least_start, greatest_until}
 use Rattle.span_time.specs.Division.{Owners, Belong}
 use Rattle.span_time.specs.Shares.{time_of}

@@ -3,7 +3,8 @@ use Rattle.std.proofs.Common.{◌≡◌, ℕ, ◌+◌, ℤ, pos, negsuc, ◌≤�
 use Rattle.std.proofs.lemmas.Int.{ints, clamps}
 use Rattle.std.proofs.lemmas.List.Elements.{All-head, All-tail}
 use Rattle.span_time.specs.declared.span.ClosedSpan.{ClosedSpan}
-use Rattle.span_time.specs.Spans.{Span, distance, length_of, count_from, outranks, is_outranked, is_covered, self_time, busy_time, earliest, latest}
+use Rattle.span_event.specs.Time.{distance}
+use Rattle.span_time.specs.Spans.{Span, length_of, count_from, outranks, is_outranked, is_covered, self_time, busy_time, earliest, latest}
 use Rattle.span_time.specs.Closed.{span_of, IsInTime}
 use Rattle.span_time.specs.Walk.{IsUnbroken}
 use Rattle.span_time.proofs.Counts.{count_from-unbroken, count_from-le, add-distance}

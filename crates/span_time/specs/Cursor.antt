@@ -3,7 +3,8 @@ use Rattle.std.specs.Prelude.{◌≡◌, ◌≢◌, ℕ, ◌+◌, ◌*◌, ◌�
 use Rattle.indexmap.specs.IndexMap.{get}
 use Rattle.span_time.specs.declared.segment.Part.{Part}
 use Rattle.span_time.specs.declared.timeline.Timeline.{Timeline}
-use Rattle.span_time.specs.Spans.{Span, distance}
+use Rattle.span_event.specs.Time.{distance}
+use Rattle.span_time.specs.Spans.{Span}
 use Rattle.span_time.specs.Closed.{IsInTime}
 use Rattle.span_time.specs.Division.{Owners, taken, owner_of, Belong, ArePast, AreFuture, AreParts, AreSums, IsNew, IsChange, named_length, whole_length, parts_of, piece}
 

@@ -5,7 +5,8 @@ use Rattle.std.specs.declared.hash.FoldHasher.{FoldHasher}
 use Rattle.std.specs.declared.hash.BuildHasherDefault.{BuildHasherDefault}
 use Rattle.span_time.specs.declared.segment.Part.{Part}
 use Rattle.span_time.specs.declared.span.ClosedSpan.{ClosedSpan}
-use Rattle.span_time.specs.Spans.{Span, covers, outranks, distance}
+use Rattle.span_event.specs.Time.{distance}
+use Rattle.span_time.specs.Spans.{Span, covers, outranks}
 use Rattle.span_time.specs.Closed.{least_start, greatest_until}
 
 -- the one part of a span that has all of its time

@@ -4,7 +4,8 @@ use Rattle.std.specs.Option.{is_some}
 use Rattle.indexmap.specs.IndexMap.{get}
 use Rattle.span_time.specs.declared.segment.Part.{Part}
 use Rattle.span_time.specs.declared.shares.Shares.{Shares}
-use Rattle.span_time.specs.Spans.{Span, covers, distance, count_from}
+use Rattle.span_event.specs.Time.{distance}
+use Rattle.span_time.specs.Spans.{Span, covers, count_from}
 use Rattle.span_time.specs.Closed.{least_start, greatest_until, IsInTime}
 use Rattle.span_time.specs.Division.{Owners, SelfTimes, own_in, claims, taken, IsNew, AreParts}
 use Rattle.span_time.specs.Ties.{AreBarred}

@@ -1,9 +1,10 @@
 -- Closed spans of one thread, and how its microseconds are shared among them. A name is of a type N: a text, or its number.
-use Rattle.std.specs.Prelude.{ℕ, zero, suc, ◌+◌, nat_lt, Bool, not, ◌&&◌, ◌||◌, if◌then◌else◌, ℤ, pos, negsuc, ◌+ℤ◌, ◌-ℤ◌, int_lt, int_le, List, [], ◌∷◌, filter, sum_by}
+use Rattle.std.specs.Prelude.{ℕ, zero, suc, ◌+◌, nat_lt, Bool, not, ◌&&◌, ◌||◌, if◌then◌else◌, ℤ, pos, ◌+ℤ◌, int_lt, int_le, List, [], ◌∷◌, filter, sum_by}
 use Rattle.std.specs.List.{list_any}
 use Rattle.std.specs.Ordering.{int_eq}
 use Rattle.std.specs.Int.{int_min, int_max}
-use Rattle.span_read.specs.declared.args.ArgValue.{ArgValue}
+use Rattle.span_event.specs.Time.{distance}
+use Rattle.span_event.specs.declared.args.ArgValue.{ArgValue}
 
 -- the arguments of an event, as its reader gives them
 abbrev pub Arguments : Type 0
@@ -16,15 +17,6 @@ pub record Span (N : Type 0) : Type 0 where
   pub until : ℤ
   pub at : ℕ
   pub args : Arguments
-
--- a whole number, but 0 in the place of a negative one
-abbrev pub natural : ℤ → ℕ
-natural (pos n) = n
-natural (negsuc n) = 0
-
--- how many whole numbers lie from a to before b
-abbrev pub distance : ℤ → ℤ → ℕ
-distance a b = natural (b -ℤ a)
 
 module _ {N : Type 0} where
   -- the span's length in microseconds

@@ -1,4 +1,4 @@
-use span_read::Args;
+use span_event::Args;
 
 /// A span that has ended, with the number of its name. It covers the microseconds from `start` to before `until`; `at` is the
 /// position in the journal of the event that opened it.

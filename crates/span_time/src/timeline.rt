@@ -1,7 +1,8 @@
 //! The time of a thread, divided among its closed spans.
 ghost use Rattle.std.specs.Prelude.{true, false, map, option_copied, ◌≡◌, ◌≤◌, ◌<◌, ◌+◌, ◌*◌, ◌^◌, ◌==◌, ◌≤ℤ◌, ◌<ℤ◌, ℕ, [], ◌++◌, nat_eq, reverse, length, Some, slice_get, vec_len, vec_capacity, if◌then◌else◌, IsSome, OnOk, OnErr};
 ghost use Rattle.indexmap.specs.IndexMap.{get, spare};
-ghost use Rattle.span_time.specs.Spans.{distance, outranks};
+ghost use Rattle.span_event.specs.Time.{distance};
+ghost use Rattle.span_time.specs.Spans.{outranks};
 ghost use Rattle.span_time.specs.Closed.{least_start, greatest_until};
 ghost use Rattle.span_time.specs.Division.{Owners, owner_of, taken, Belong, ArePast, own_in, IsOnly, IsNew, ForSome, parts_of, piece};
 ghost use Rattle.span_time.specs.Cursor.{ends_by, lasts_beyond, starts_before, IsTimeline, IsEntering, IsTaking, IsAhead, IsPassing, IsTakenBack, IsGained};

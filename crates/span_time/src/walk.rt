@@ -1,6 +1,7 @@
 //! Self and busy times of a list of spans, found by walking from each start or end to the next. Takes no memory.
 ghost use Rattle.std.specs.Prelude.{◌≡◌, ◌⊎◌, ◌≤◌, ◌^◌, ℤ, ◌≤ℤ◌, ◌<ℤ◌, nat_eq, map, All};
-ghost use Rattle.span_time.specs.Spans.{distance, covers, outranks, is_outranked, is_covered, earliest, latest, self_time, busy_time, self_of};
+ghost use Rattle.span_event.specs.Time.{distance};
+ghost use Rattle.span_time.specs.Spans.{covers, outranks, is_outranked, is_covered, earliest, latest, self_time, busy_time, self_of};
 ghost use Rattle.span_time.specs.Closed.{span_of, least_start, greatest_until, IsInTime, AreClosed};
 ghost use Rattle.span_time.specs.Walk.{IsUnbroken};
 

@@ -2,8 +2,8 @@
 ghost use Rattle.std.specs.Prelude.{◌≡◌, nat_eq, ◌+◌, ◌*◌, ◌-◌, ◌≤◌, ℕ, List, [], ◌∷◌, ◌++◌, length, map, slice_get, Some, None, pos, ◌+ℤ◌, option_copied, IfSome, IfOk, OnOk, OnErr};
 ghost use Rattle.std.specs.List.{count_by};
 ghost use Rattle.std.specs.Option.{option_map};
-ghost use Rattle.span_read.specs.Event.{IsTime, greatest_time};
-ghost use Rattle.span_track.specs.Fault.{Answers};
+ghost use Rattle.span_event.specs.Event.{IsTime, greatest_time};
+ghost use Rattle.span_keyed.specs.Fault.{Answers};
 ghost use Rattle.span_track.specs.Nesting.{ThreadEvent, began, ended, completed, closed_by, opener};
 ghost use Rattle.span_time.specs.declared.segment.Segment.{Segment};
 ghost use Rattle.span_time.specs.Segments.{lasts, AreSegments, HasSegments, HasEnds};
@@ -11,9 +11,9 @@ ghost use Rattle.span_time.specs.Spans.{Arguments, self_of, busy_time};
 ghost use Rattle.span_track.specs.Thread.{StandsFor, TakesEvent, HasRoom, IsNext, goes_back, begin_refusal, end_refusal, merged_args};
 ghost use Rattle.span_time.specs.Closed.{span_of, total_for, AreClosed};
 
-use crate::fault::TrackFault;
-use crate::refusal::{NO_OPEN_SPAN, TIME_GOES_BACK};
-use span_read::{Args, merge_args};
+use span_event::{Args, merge_args};
+use span_keyed::TrackFault;
+use span_keyed::refusal::{NO_OPEN_SPAN, TIME_GOES_BACK};
 use span_time::{ClosedSpan, ClosedSpans, NameTotal, Segment};
 use std::alloc::{AllocError, Global};
 use std::marker::Model;

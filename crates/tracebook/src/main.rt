@@ -1,19 +1,11 @@
 //! Reports where the time went in trace event files.
 #![tactic(auto)]
 
-mod command;
-mod program;
 mod progress;
-mod reading;
-mod source;
-#[cfg(test)]
-mod tests;
 
-pub use program::perform;
 use progress::{Cleared, Progress, Watched};
-use reading::read_up_to;
-pub use source::{Source, SourceFault};
 use span_collect::{Text, Writer};
+use span_command::{Source, SourceFault, perform, read_up_to};
 use std::fs::File;
 use std::io::{ErrorKind, IsTerminal};
 use std::process::ExitCode;

@@ -1,10 +1,10 @@
 //! The events of a trace that have to do with spans, as a track takes them.
 ghost use Rattle.std.specs.Prelude.{◌≡◌, ◌≤◌, All};
-ghost use Rattle.span_read.specs.Event.{IsTime, greatest_time};
-ghost use Rattle.span_read.specs.declared.event.Phase.TheVariants.{Complete};
-ghost use Rattle.span_read.specs.Item.{IsGoodItem};
+ghost use Rattle.span_event.specs.Event.{IsTime, greatest_time};
+ghost use Rattle.span_event.specs.declared.event.Phase.TheVariants.{Complete};
+ghost use Rattle.span_event.specs.Item.{IsGoodItem};
 
-use span_read::{Event, Item, Items, Phase};
+use span_event::{Event, Item, Items, Phase};
 use span_track::Names;
 use std::alloc::{AllocError, Global};
 

@@ -3,7 +3,7 @@ ghost use Rattle.std.specs.Prelude.{IfOk};
 ghost use Rattle.track_time.specs.Ready.{IsReady};
 
 use crate::step::Step;
-use span_read::Phase;
+use span_event::Phase;
 use span_track::{ThreadTrack, TrackFault};
 use std::alloc::Global;
 

@@ -1,5 +1,5 @@
 // What counter events give.
-use super::{answers, reply};
+use super::{answers, expect_answers, expect_reply, expect_text};
 use span_ledger::{Ledger, Query, SeriesKey, Text};
 use std::alloc::{AllocError, Global};
 use std::process::Abort;
@@ -32,31 +32,32 @@ fn the_last_value_is_that_of_the_greatest_time_in(
     ledger: &mut Ledger,
 ) -> Result<(), Fail> {
     let alloc = rt.alloc();
-    let told = answers(
-        alloc,
+    expect_answers(
+        rt,
         ledger,
         "[{\"ph\":\"C\",\"name\":\"m\",\"ts\":5,\"pid\":1,\"args\":{\"k\":7}},{\"ph\":\"C\",\"name\":\"m\",\"ts\":3,\"pid\":1,\"args\":{\"k\":9}}]",
+        "Counted\nCounted\n",
     )?;
-    assert_eq!(rt; told.as_str(), "Counted\nCounted\n");
     let two = "1 m k SeriesTotals { samples: 2, least: 7, greatest: 9, last: 7 }\n";
-    assert_eq!(rt; series(alloc, ledger)?.as_str(), two);
-    let told = answers(
-        alloc,
+    expect_text(rt, series(alloc, ledger), two)?;
+    expect_answers(
+        rt,
         ledger,
         "[{\"ph\":\"C\",\"name\":\"m\",\"ts\":8,\"pid\":1,\"args\":{\"k\":0.5}}]",
+        "Refused(19)\n",
     )?;
-    assert_eq!(rt; told.as_str(), "Refused(19)\n");
-    assert_eq!(rt; series(alloc, ledger)?.as_str(), two);
+    expect_text(rt, series(alloc, ledger), two)?;
     answers(
         alloc,
         ledger,
         "[{\"ph\":\"C\",\"name\":\"m\",\"ts\":5,\"pid\":1,\"args\":{\"k\":1}}]",
     )?;
-    let reply = reply(rt, ledger, Query::Series(key(alloc)?))?;
-    assert_eq!(rt;
-        reply.as_str(),
-        "Reply(Series(Some(SeriesTotals { samples: 3, least: 1, greatest: 9, last: 1 })))"
-    );
+    expect_reply(
+        rt,
+        ledger,
+        Query::Series(key(alloc)?),
+        "Reply(Series(Some(SeriesTotals { samples: 3, least: 1, greatest: 9, last: 1 })))",
+    )?;
     Ok(())
 }
 

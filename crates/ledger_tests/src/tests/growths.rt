@@ -1,6 +1,6 @@
 // What readers tell where a growth of the ledger is refused.
 ghost use Rattle.std.specs.Prelude.{IfErr};
-ghost use Rattle.span_read.specs.Item.{IsGoodItem};
+ghost use Rattle.span_event.specs.Item.{IsGoodItem};
 ghost use Rattle.span_ledger.specs.Legal.{IsGoodOp};
 
 use super::rows;

@@ -1,5 +1,5 @@
 // What the ledger replies to queries.
-use super::{answers, reply};
+use super::{answers, expect_reply};
 use span_ledger::{AsyncKey, FlowKey, IdKey, Ledger, Query, Text};
 use std::alloc::Global;
 use std::process::Abort;
@@ -24,26 +24,30 @@ fn queries_are_answered_from_the_entries_before_in(
         ledger,
         "[{\"ph\":\"B\",\"name\":\"a\",\"ts\":0,\"pid\":1,\"tid\":1},{\"ph\":\"B\",\"name\":\"b\",\"ts\":2,\"pid\":1,\"tid\":1},{\"ph\":\"E\",\"ts\":5,\"pid\":1,\"tid\":1},{\"ph\":\"E\",\"ts\":10,\"pid\":1,\"tid\":1}]",
     )?;
-    let thread = reply(rt, ledger, Query::Thread { pid: 1, tid: 1 })?;
-    assert_eq!(rt;
-        thread.as_str(),
-        "Reply(Thread { unclosed: 0, busy: 10, last: Some(10) })"
-    );
-    let known = reply(rt, ledger, name(alloc, "a")?)?;
-    assert_eq!(rt;
-        known.as_str(),
-        "Reply(Name { count: 1, total: 10, self_time: 7 })"
-    );
-    let unknown = reply(rt, ledger, name(alloc, "zz")?)?;
-    assert_eq!(rt;
-        unknown.as_str(),
-        "Reply(Name { count: 0, total: 0, self_time: 0 })"
-    );
-    let counts = reply(rt, ledger, Query::Counts)?;
-    assert_eq!(rt;
-        counts.as_str(),
-        "Reply(Counts(CountRow { accepted: 4, refused: 0, skipped: 0, queries: 3 }))"
-    );
+    expect_reply(
+        rt,
+        ledger,
+        Query::Thread { pid: 1, tid: 1 },
+        "Reply(Thread { unclosed: 0, busy: 10, last: Some(10) })",
+    )?;
+    expect_reply(
+        rt,
+        ledger,
+        name(alloc, "a")?,
+        "Reply(Name { count: 1, total: 10, self_time: 7 })",
+    )?;
+    expect_reply(
+        rt,
+        ledger,
+        name(alloc, "zz")?,
+        "Reply(Name { count: 0, total: 0, self_time: 0 })",
+    )?;
+    expect_reply(
+        rt,
+        ledger,
+        Query::Counts,
+        "Reply(Counts(CountRow { accepted: 4, refused: 0, skipped: 0, queries: 3 }))",
+    )?;
     assert_eq!(rt; ledger.len(), 8);
     Ok(())
 }
@@ -85,26 +89,30 @@ fn keys_are_asked_for_in(rt: &(impl Abort + AllocGlobal), ledger: &mut Ledger) -
         ledger,
         "[{\"ph\":\"b\",\"cat\":\"net\",\"scope\":\"A\",\"id\":5,\"ts\":10},{\"ph\":\"e\",\"cat\":\"net\",\"scope\":\"A\",\"id\":\"5\",\"ts\":14},{\"ph\":\"s\",\"id\":9,\"ts\":1},{\"ph\":\"f\",\"id\":9,\"ts\":5},{\"ph\":\"s\",\"id\":9,\"ts\":7}]",
     )?;
-    let known = reply(rt, ledger, asynchronous(alloc, "A")?)?;
-    assert_eq!(rt;
-        known.as_str(),
-        "Reply(Async(AsyncTotals { closed: 1, total: 4, unclosed: 0, points: 0 }))"
-    );
-    let unknown = reply(rt, ledger, asynchronous(alloc, "B")?)?;
-    assert_eq!(rt;
-        unknown.as_str(),
-        "Reply(Async(AsyncTotals { closed: 0, total: 0, unclosed: 0, points: 0 }))"
-    );
-    let known = reply(rt, ledger, flow(alloc, "9")?)?;
-    assert_eq!(rt;
-        known.as_str(),
-        "Reply(Flow(FlowTotals { ended: 1, total: 4, unclosed: 1 }))"
-    );
-    let unknown = reply(rt, ledger, flow(alloc, "8")?)?;
-    assert_eq!(rt;
-        unknown.as_str(),
-        "Reply(Flow(FlowTotals { ended: 0, total: 0, unclosed: 0 }))"
-    );
+    expect_reply(
+        rt,
+        ledger,
+        asynchronous(alloc, "A")?,
+        "Reply(Async(AsyncTotals { closed: 1, total: 4, unclosed: 0, points: 0 }))",
+    )?;
+    expect_reply(
+        rt,
+        ledger,
+        asynchronous(alloc, "B")?,
+        "Reply(Async(AsyncTotals { closed: 0, total: 0, unclosed: 0, points: 0 }))",
+    )?;
+    expect_reply(
+        rt,
+        ledger,
+        flow(alloc, "9")?,
+        "Reply(Flow(FlowTotals { ended: 1, total: 4, unclosed: 1 }))",
+    )?;
+    expect_reply(
+        rt,
+        ledger,
+        flow(alloc, "8")?,
+        "Reply(Flow(FlowTotals { ended: 0, total: 0, unclosed: 0 }))",
+    )?;
     Ok(())
 }
 

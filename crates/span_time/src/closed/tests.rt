@@ -4,7 +4,7 @@ ghost use Rattle.span_time.specs.Closed.{span_of, AreClosed};
 use super::ClosedSpans;
 use crate::span::ClosedSpan;
 use crate::walk::{busy_time, self_of};
-use span_read::Args;
+use span_event::Args;
 use std::alloc::Global;
 use std::process::Abort;
 use std::test::Fail;
@@ -76,18 +76,43 @@ fn expect_same(rt: &impl Abort, searched: &ClosedSpans, stacked: &ClosedSpans) {
     assert_eq!(rt; searched.segment(count), None);
 }
 
-// Adds the spans to both, and expects the same after each.
-fn expect_all(rt: &impl Abort, alloc: Global, given: &[Given]) -> Result<(), Fail> {
-    let mut one = searched(alloc);
-    let mut other = ClosedSpans::new(alloc);
+// Adds a span to both, and expects the same of them.
+fn add_to_both(
+    rt: &impl Abort,
+    alloc: Global,
+    one: &mut ClosedSpans,
+    other: &mut ClosedSpans,
+    at: u32,
+    given: &Given,
+) -> Result<(), Fail> {
+    add(rt, alloc, one, at, given)?;
+    add(rt, alloc, other, at, given)?;
+    expect_same(rt, one, other);
+    Ok(())
+}
+
+fn add_all(
+    rt: &impl Abort,
+    alloc: Global,
+    one: &mut ClosedSpans,
+    other: &mut ClosedSpans,
+    given: &[Given],
+) -> Result<(), Fail> {
     let mut at = 0u32;
     for span in given {
-        add(rt, alloc, &mut one, at, span)?;
-        add(rt, alloc, &mut other, at, span)?;
-        expect_same(rt, &one, &other);
+        add_to_both(rt, alloc, one, other, at, span)?;
         at = at.saturating_add(1);
     }
     Ok(())
+}
+
+fn expect_all(rt: &impl Abort, alloc: Global, given: &[Given]) -> Result<(), Fail> {
+    let mut one = searched(alloc);
+    let mut other = ClosedSpans::new(alloc);
+    let told = add_all(rt, alloc, &mut one, &mut other, given);
+    drop(other);
+    drop(one);
+    told
 }
 
 fn span_of_name(name: u32, start: i64, until: i64) -> Given {
@@ -179,11 +204,12 @@ fn next_chance(chance: u64) -> u64 {
         .wrapping_add(1442695040888963407)
 }
 
-#[test]
-fn spans_at_random(rt: HostRuntime) -> Result<(), Fail> {
-    let alloc = rt.alloc();
-    let mut one = searched(alloc);
-    let mut other = ClosedSpans::new(alloc);
+fn add_at_random(
+    rt: &impl Abort,
+    alloc: Global,
+    one: &mut ClosedSpans,
+    other: &mut ClosedSpans,
+) -> Result<(), Fail> {
     let mut chance = 1u64;
     for at in 0..40u32 {
         chance = next_chance(chance);
@@ -191,9 +217,17 @@ fn spans_at_random(rt: HostRuntime) -> Result<(), Fail> {
         chance = next_chance(chance);
         let length = ((chance >> 33) % 20) as i64;
         let span = span_of_name(at % NAMES, start, start + length);
-        add(&rt, alloc, &mut one, at, &span)?;
-        add(&rt, alloc, &mut other, at, &span)?;
-        expect_same(&rt, &one, &other);
+        add_to_both(rt, alloc, one, other, at, &span)?;
     }
     Ok(())
+}
+
+#[test]
+fn spans_at_random(rt: HostRuntime) -> Result<(), Fail> {
+    let mut one = searched(rt.alloc());
+    let mut other = ClosedSpans::new(rt.alloc());
+    let told = add_at_random(&rt, rt.alloc(), &mut one, &mut other);
+    drop(other);
+    drop(one);
+    told
 }

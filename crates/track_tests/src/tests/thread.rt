@@ -1,11 +1,11 @@
-ghost use Rattle.std.specs.Prelude.{◌≤◌, []};
-ghost use Rattle.span_read.specs.Event.{IsTime, greatest_time};
-ghost use Rattle.span_track.specs.Thread.{StandsFor};
+ghost use Rattle.std.specs.Prelude.{◌≤◌};
+ghost use Rattle.span_event.specs.Event.{IsTime, greatest_time};
 
+mod arguments;
 mod placed;
 
 use placed::Placed;
-use span_read::{ArgValue, Args, Item, Items, merge_args, read_items};
+use span_read::Args;
 use span_time::{NameTotal, Segment};
 use span_track::laws::{busy_plain, self_law, self_plain};
 use span_track::{ThreadTrack, TrackFault};
@@ -104,6 +104,40 @@ fn complete(
     completed
 }
 
+fn expect_begun(
+    rt: &(impl Abort + AllocGlobal),
+    placed: &mut Placed,
+    at: u32,
+    name: u32,
+    ts: i64,
+    depth: u32,
+) -> Result<(), Fail>
+    requires { IsTime ts }
+{
+    let begun = begin(rt, placed, at, name, ts)?;
+    assert_eq!(rt; begun, depth);
+    Ok(())
+}
+
+fn expect_ended(
+    rt: &(impl Abort + AllocGlobal),
+    placed: &mut Placed,
+    ts: i64,
+    span: (u32, i64, i64, u32),
+) -> Result<(), Fail>
+    requires { IsTime ts }
+{
+    let ended = end(rt, placed, ts)?;
+    assert_eq!(rt; ended, span);
+    Ok(())
+}
+
+fn expect_end_refused(rt: &(impl Abort + AllocGlobal), placed: &mut Placed, ts: i64, number: u16)
+    requires { IsTime ts }
+{
+    assert_eq!(rt; end(rt, placed, ts), Err(TrackFault::Refused(number)));
+}
+
 fn segment(start: i64, until: i64, name: u32, at: u32) -> Segment {
     Segment {
         start,
@@ -157,11 +191,11 @@ fn a_track_without_events(rt: HostRuntime) {
 }
 
 fn a_span_in_a_span_on(rt: &(impl Abort + AllocGlobal), placed: &mut Placed) -> Result<(), Fail> {
-    assert_eq!(rt; begin(rt, placed, 0, 0, 0)?, 1);
-    assert_eq!(rt; begin(rt, placed, 1, 1, 2)?, 2);
-    assert_eq!(rt; end(rt, placed, 5)?, (1, 2, 5, 1));
+    expect_begun(rt, placed, 0, 0, 0, 1)?;
+    expect_begun(rt, placed, 1, 1, 2, 2)?;
+    expect_ended(rt, placed, 5, (1, 2, 5, 1))?;
     assert_eq!(rt; placed.track().depth(), 1);
-    assert_eq!(rt; end(rt, placed, 10)?, (0, 0, 10, 0));
+    expect_ended(rt, placed, 10, (0, 0, 10, 0))?;
     let track = placed.track();
     assert_eq!(rt; track.last_time(), Some(10));
     assert_eq!(rt; track.closed_count(), 2);
@@ -309,8 +343,8 @@ fn an_end_without_a_begin_on(
     rt: &(impl Abort + AllocGlobal),
     placed: &mut Placed,
 ) -> Result<(), Fail> {
-    assert_eq!(rt; end(rt, placed, 3), Err(TrackFault::Refused(21)));
-    assert_eq!(rt; begin(rt, placed, 1, 0, 1)?, 1);
+    expect_end_refused(rt, placed, 3, 21);
+    expect_begun(rt, placed, 1, 0, 1, 1)?;
     Ok(())
 }
 
@@ -323,10 +357,10 @@ fn an_end_without_a_begin(rt: HostRuntime) -> Result<(), Fail> {
 }
 
 fn times_that_go_back_on(rt: &(impl Abort + AllocGlobal), placed: &mut Placed) -> Result<(), Fail> {
-    assert_eq!(rt; begin(rt, placed, 0, 0, 10)?, 1);
-    assert_eq!(rt; end(rt, placed, 9), Err(TrackFault::Refused(22)));
-    assert_eq!(rt; end(rt, placed, 10)?, (0, 10, 10, 0));
-    assert_eq!(rt; end(rt, placed, 9), Err(TrackFault::Refused(21)));
+    expect_begun(rt, placed, 0, 0, 10, 1)?;
+    expect_end_refused(rt, placed, 9, 22);
+    expect_ended(rt, placed, 10, (0, 10, 10, 0))?;
+    expect_end_refused(rt, placed, 9, 21);
     assert_eq!(rt; begin(rt, placed, 4, 1, 9), Err(TrackFault::Refused(22)));
     Ok(())
 }
@@ -336,87 +370,6 @@ fn times_that_go_back(rt: HostRuntime) -> Result<(), Fail> {
     let mut placed = Placed::new(rt.alloc());
     let told = times_that_go_back_on(&rt, &mut placed);
     drop(placed);
-    told
-}
-
-fn args_at(items: &Items, i: usize) -> Option<&Args> {
-    match items.get(i)? {
-        Item::Good(event) => Some(&event.args),
-        _ => None,
-    }
-}
-
-fn expect_merged(rt: &impl Abort, args: &Args) {
-    assert!(rt; matches!(args.get("x"), Some(ArgValue::Whole(1))));
-    assert!(rt; matches!(args.get("y"), Some(ArgValue::Whole(3))));
-    assert!(rt; matches!(args.get("z"), Some(ArgValue::Flag(true))));
-}
-
-fn arguments_of_begin_and_end_on(
-    rt: &(impl Abort + AllocGlobal),
-    placed: &mut Placed,
-    items: &Items,
-) -> Result<(), Fail> {
-    let first = args_at(items, 0).ok_or("a begin")?;
-    let second = args_at(items, 1).ok_or("an end")?;
-    placed.begin_span(rt, 0, 0, 0, first)?;
-    expect_plain_times(rt, placed.track());
-    let span = placed.end_span(rt, 1, second)?;
-    expect_plain_times(rt, placed.track());
-    expect_merged(rt, &span.args);
-    drop(span);
-    expect_merged(rt, &merge_args(rt.alloc(), first, second)?);
-    let kept = placed.track().closed(0).ok_or("a closed span")?;
-    expect_merged(rt, &kept.args);
-    Ok(())
-}
-
-#[test]
-fn arguments_of_begin_and_end(rt: HostRuntime) -> Result<(), Fail> {
-    let items = read_items(
-        rt.alloc(),
-        br#"[{"ph":"B","ts":0,"args":{"x":1,"y":2}},{"ph":"E","ts":1,"args":{"y":3,"z":true}}]"#,
-    )?;
-    let mut placed = Placed::new(rt.alloc());
-    let told = arguments_of_begin_and_end_on(&rt, &mut placed, &items);
-    drop(placed);
-    drop(items);
-    told
-}
-
-fn an_end_with_arguments_merged_before_on(
-    rt: &impl Abort,
-    track: &mut ThreadTrack,
-    items: &Items,
-) -> Result<(), Fail>
-    requires { StandsFor track.old [] }
-{
-    let first = args_at(items, 0).ok_or("a begin")?;
-    let second = args_at(items, 1).ok_or("an end")?;
-    track.begin_span(0, 0, 0, first)?;
-    let merged = track.merged_args(second)?;
-    expect_merged(rt, &merged);
-    let None = track.end_refusal(1) else {
-        panic!(rt; "the end is refused");
-    };
-    assert_eq!(rt; track.close_span(1, merged)?, 0);
-    assert_eq!(rt; track.depth(), 0);
-    let span = track.closed(0).ok_or("a closed span")?;
-    assert!(rt; span.start == 0 && span.until == 1);
-    expect_merged(rt, &span.args);
-    Ok(())
-}
-
-#[test]
-fn an_end_with_arguments_merged_before(rt: HostRuntime) -> Result<(), Fail> {
-    let items = read_items(
-        rt.alloc(),
-        br#"[{"ph":"B","ts":0,"args":{"x":1,"y":2}},{"ph":"E","ts":1,"args":{"y":3,"z":true}}]"#,
-    )?;
-    let mut track = ThreadTrack::new(rt.alloc());
-    let told = an_end_with_arguments_merged_before_on(&rt, &mut track, &items);
-    drop(track);
-    drop(items);
     told
 }
 

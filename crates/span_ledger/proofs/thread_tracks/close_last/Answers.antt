@@ -1,6 +1,6 @@
 use Rattle.std.proofs.Common.{◌≡◌, to_z, of_z, w64, rules}
 use Rattle.span_track.specs.Thread.{merged_args}
-use Rattle.span_time.specs.Spans.{distance}
+use Rattle.span_event.specs.Time.{distance}
 use Rattle.span_ledger.proofs.Answering.{Closes-opener}
 use Rattle.span_ledger.proofs.thread_tracks.close_last.Goals as goal
 

@@ -1,7 +1,7 @@
 use Rattle.std.proofs.Common.{◌≡◌, subst, sym}
 use Rattle.std.proofs.lemmas.Result.{IfOk-weaker}
 use Rattle.span_read.specs.Element.{item_of_fields}
-use Rattle.span_read.specs.Item.{IsGoodItem}
+use Rattle.span_event.specs.Item.{IsGoodItem}
 use Rattle.span_read.specs.Slots.{data_of}
 use Rattle.span_read.proofs.Good.{IsGoodItem-item_of_fields}
 use Rattle.span_read.proofs.element.item_of.Goals as goal

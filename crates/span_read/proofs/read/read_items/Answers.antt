@@ -3,7 +3,7 @@ use Rattle.std.specs.Prelude.{IfErr}
 use Rattle.std.proofs.lemmas.Result.{IfOk-weaker}
 use Rattle.span_read.specs.declared.error.ReadError.TheVariants.{Memory}
 use Rattle.span_read.specs.Document.{doc, doc_of_document, document, first_read, candidates}
-use Rattle.span_read.specs.Item.{IsGoodItem}
+use Rattle.span_event.specs.Item.{IsGoodItem}
 use Rattle.span_read.proofs.Documents.{document-of_no_utf8, doc-small, right_items, right_refusal, All-good_document}
 use Rattle.span_read.proofs.read.read_items.Goals as goal
 

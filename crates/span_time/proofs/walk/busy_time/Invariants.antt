@@ -1,5 +1,6 @@
 use Rattle.std.proofs.Common.{◌≡◌, ◌+◌, ◌≤ℤ◌, map}
-use Rattle.span_time.specs.Spans.{distance, earliest, busy_time}
+use Rattle.span_event.specs.Time.{distance}
+use Rattle.span_time.specs.Spans.{earliest, busy_time}
 use Rattle.span_time.specs.Closed.{span_of}
 use Rattle.span_time.proofs.Unbroken.{busy_time_from}
 use Rattle.span_time.proofs.walk.busy_time.Given as goal

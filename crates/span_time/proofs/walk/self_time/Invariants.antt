@@ -1,5 +1,6 @@
 use Rattle.std.proofs.Common.{◌≡◌, ◌+◌, ◌≤ℤ◌, map}
-use Rattle.span_time.specs.Spans.{distance, self_time}
+use Rattle.span_event.specs.Time.{distance}
+use Rattle.span_time.specs.Spans.{self_time}
 use Rattle.span_time.specs.Closed.{span_of}
 use Rattle.span_time.proofs.Unbroken.{self_time_from}
 use Rattle.span_time.proofs.walk.self_time.Given as goal

@@ -1,6 +1,6 @@
 //! A track that is told events at places that rise, as those of a journal do.
 ghost use Rattle.std.specs.Prelude.{◌≡◌, ◌<◌, ◌≤◌};
-ghost use Rattle.span_read.specs.Event.{IsTime, greatest_time};
+ghost use Rattle.span_event.specs.Event.{IsTime, greatest_time};
 
 use span_read::Args;
 use span_time::ClosedSpan;

@@ -1,7 +1,7 @@
 use Rattle.std.proofs.Common.{subst}
-use Rattle.span_read.specs.declared.event.Phase.{Phase}
-use Rattle.span_read.specs.Event.{IsGood, IsGoodAt}
-use Rattle.span_read.specs.Item.{IsGoodItem}
+use Rattle.span_event.specs.declared.event.Phase.{Phase}
+use Rattle.span_event.specs.Event.{IsGood, IsGoodAt}
+use Rattle.span_event.specs.Item.{IsGoodItem}
 use Rattle.track_time.proofs.step.add.Goals as goal
 
 pub invariant_of-push : goal.invariant_of-push

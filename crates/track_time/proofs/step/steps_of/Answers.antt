@@ -1,5 +1,5 @@
 use Rattle.std.proofs.Common.{List, ◌∷◌, suc, All, arith}
-use Rattle.span_read.specs.Item.{IsGoodItem}
+use Rattle.span_event.specs.Item.{IsGoodItem}
 use Rattle.track_time.proofs.step.steps_of.Goals as goal
 
 All-rest : {X : Type 0} (P : X → Type 0) (x : X) (xs : List X) → All P (x ∷ xs) → All P xs

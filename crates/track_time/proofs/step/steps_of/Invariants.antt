@@ -1,6 +1,6 @@
 use Rattle.std.proofs.Common.{All}
 use Rattle.std.specs.Vec.Iter.{into_iter_items}
-use Rattle.span_read.specs.Item.{IsGoodItem}
+use Rattle.span_event.specs.Item.{IsGoodItem}
 use Rattle.track_time.proofs.step.steps_of.Given as goal
 
 -- the items that are left are good

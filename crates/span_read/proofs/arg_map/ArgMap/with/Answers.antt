@@ -1,7 +1,7 @@
 use Rattle.std.proofs.Common.{sym, subst}
-use Rattle.span_read.specs.Args.{IsInNameOrder}
+use Rattle.span_event.specs.Args.{IsInNameOrder}
 use Rattle.span_read.specs.ArgMap.{pairs_in}
-use Rattle.span_read.proofs.Merged.{IsInNameOrder-insert_entry}
+use Rattle.span_event.proofs.Merged.{IsInNameOrder-insert_entry}
 use Rattle.span_read.proofs.NameOrder.{IsInNameOrder-sorted}
 use Rattle.span_read.proofs.arg_map.ArgMap.with.Goals as goal
 

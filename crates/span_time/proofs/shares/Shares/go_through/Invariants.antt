@@ -1,4 +1,4 @@
-use Rattle.span_time.specs.Spans.{distance}
+use Rattle.span_event.specs.Time.{distance}
 use Rattle.span_time.specs.Division.{Owners, owner_of}
 use Rattle.span_time.specs.Shares.{IsEntrant, IsSharing}
 use Rattle.span_time.proofs.shares.Shares.go_through.Given as goal

@@ -2,7 +2,7 @@ use Rattle.std.proofs.Common.{rules, ◌≡◌, Some, sym, ap, subst, w64, to_z,
 use Rattle.std.specs.Option.{is_some}
 use Rattle.span_time.specs.declared.segment.Part.{Part}
 use Rattle.span_time.specs.declared.stretches.Stretches.{Stretches}
-use Rattle.span_time.specs.Spans.{distance}
+use Rattle.span_event.specs.Time.{distance}
 use Rattle.span_time.specs.Division.{owner_of, between}
 use Rattle.span_time.specs.Stretches.{at, IsPut}
 use Rattle.span_time.specs.Shares.{IsSharing, taken_to, has_name}

@@ -2,7 +2,7 @@ use Rattle.std.proofs.Common.{rules, ◌≡◌, ◌++◌, w64, to_z, of_z, ap, a
 use Rattle.std.specs.Int.{int_min}
 use Rattle.std.specs.Vec.{vec_len, vec_capacity}
 use Rattle.std.proofs.lemmas.Int.{ints}
-use Rattle.span_time.specs.Spans.{distance}
+use Rattle.span_event.specs.Time.{distance}
 use Rattle.span_time.specs.Division.{owner_of, taken, piece}
 use Rattle.span_time.proofs.Taking.{IsTakenUpTo, IsTakenTo-ceded, IsOnly-taken, IsTakenUpTo-next, piece-none, ArePast-ceded, Belong-ceded}
 use Rattle.span_time.proofs.PartSums.{AreSums-ceded, AreSmall-next, part-le-own, distance-positive}

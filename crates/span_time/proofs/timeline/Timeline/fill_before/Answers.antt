@@ -1,7 +1,7 @@
 use Rattle.std.proofs.Common.{rules, ◌≡◌, ◌<ℤ◌, w64, to_z, of_z, ap, arith}
 use Rattle.std.specs.Vec.{vec_len, vec_capacity}
 use Rattle.std.proofs.lemmas.Int.{ints}
-use Rattle.span_time.specs.Spans.{distance}
+use Rattle.span_event.specs.Time.{distance}
 use Rattle.span_time.specs.Division.{owner_of, taken}
 use Rattle.span_time.proofs.Taking.{IsGapBefore-taken, IsNextPart-filled, IsNextPart-at, IsOnly-taken, piece-none}
 use Rattle.span_time.proofs.PartSums.{AreSums-filled_before, AreSmall-next_of}

@@ -1,6 +1,6 @@
 use Rattle.std.proofs.Common.{rules, ◌≡◌, reverse, w64, to_z, of_z, arith}
 use Rattle.std.proofs.lemmas.Int.{ints}
-use Rattle.span_time.specs.Spans.{distance}
+use Rattle.span_event.specs.Time.{distance}
 use Rattle.span_time.specs.Division.{owner_of, taken}
 use Rattle.span_time.proofs.Cursor.{StartsFrom-starts_before}
 use Rattle.span_time.proofs.Taking.{AreParts-taken, AreParts-filled, Belong-gap, IsOnly-taken}

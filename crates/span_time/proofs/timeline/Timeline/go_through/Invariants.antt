@@ -1,4 +1,4 @@
-use Rattle.span_time.specs.Spans.{distance}
+use Rattle.span_event.specs.Time.{distance}
 use Rattle.span_time.specs.Division.{Owners, owner_of}
 use Rattle.span_time.specs.Cursor.{IsTaking}
 use Rattle.span_time.proofs.timeline.Timeline.go_through.Given as goal

@@ -1,10 +1,10 @@
 use Rattle.std.proofs.Common.{rules, ◌≡◌, ℕ, ◌-◌, false, [], ◌∷◌, ◌++◌, length, take, Some, map, slice_get, refl, sym, ap, ◌∙◌, subst, w64, to_z, of_z, to_z-of_z}
 use Rattle.std.proofs.lemmas.List.{map_push}
-use Rattle.span_read.specs.Args.{merged}
+use Rattle.span_event.specs.Args.{merged}
 use Rattle.span_track.specs.Nesting.{ended}
 use Rattle.span_track.specs.Thread.{ThreadSpans, StandsFor, goes_back, merged_args}
 use Rattle.span_track.specs.Kept.{begin_of}
-use Rattle.span_track.proofs.Lists.Last.{take-last}
+use Rattle.span_keyed.proofs.Lists.Last.{take-last}
 use Rattle.span_track.proofs.Threads.Closing.{opener_of_last, merged_args-open}
 use Rattle.span_track.proofs.thread.ThreadTrack.end_span.Goals as goal
 

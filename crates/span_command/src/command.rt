@@ -1,0 +1,95 @@
+//! The command line: its words, and what they ask for.
+use clap::error::ErrorKind;
+use clap::{Arg, ArgAction, ArgMatches, Command};
+use span_ledger::Text;
+use std::alloc::{AllocError, Global};
+
+/// The most entries of the journal, where the command line does not say.
+pub(crate) const DEFAULT_LIMIT: u32 = 16_777_216;
+
+const ABOUT: &str =
+    "Reports where the time went in trace event files, of Chrome, clang, node and other tools: for each thread how long the spans of each name took, together and on their own.";
+
+const AFTER: &str =
+    "All times are whole microseconds, as Chrome, clang, node and cmake write them. An event with
+a fraction, as Go's build trace has, is refused and counted, and begins and ends may then pair wrongly.
+
+Status:
+  0  every file was read, and the report is on standard output
+  1  a file is no trace, which standard error says; the report is that of the others
+  2  a file could not be read, memory ran out or the limit was reached: there is no report
+
+Example:
+  tracebook build.json | grep '^span' | sort -k4,4nr | head
+shows the names that took the most time of their own.";
+
+/// What a command line asks for.
+#[derive(Debug, Drop)]
+pub enum Order {
+    /// Collect these files, or standard input where there are none.
+    Collect { limit: u32, files: Vec<Text> },
+    /// Print this help, or the version.
+    Show(String),
+    /// The words are refused, by this text.
+    Refuse(String),
+}
+
+/// What the words ask for; they leave out the program's own name.
+pub fn order_of(alloc: Global, words: &[Text]) -> Result<Order, AllocError> {
+    let limit_help = format!(in alloc;
+        "The most entries of the journal, 1 to 4294967295 [default: {DEFAULT_LIMIT}]"
+    )?;
+    let command = command_of(alloc, limit_help.as_str())?;
+    let all = with_program(alloc, words)?;
+    match command.try_get_matches_from(all.as_slice()) {
+        Ok(matches) => collect_order(alloc, &matches),
+        Err(error) => match error.kind() {
+            ErrorKind::OutOfMemory => Err(AllocError),
+            ErrorKind::DisplayHelp | ErrorKind::DisplayVersion => {
+                Ok(Order::Show(format!(in alloc; "{error}")?))
+            }
+            _ => Ok(Order::Refuse(format!(in alloc; "{error}")?)),
+        },
+    }
+}
+
+fn command_of<'a>(alloc: Global, limit_help: &'a str) -> Result<Command<'a>, AllocError> {
+    let limit = Arg::new(alloc, "limit")
+        .long("limit")
+        .value_name("N")
+        .value_parser(clap::value_parser!(u32).range(1..))
+        .action(ArgAction::Set)
+        .help(limit_help);
+    let files = Arg::new(alloc, "files")
+        .value_name("FILE")
+        .num_args(0..)
+        .action(ArgAction::Append)
+        .help("A trace; without one, standard input is read");
+    Command::new(alloc, "tracebook")
+        .version("1")
+        .about(ABOUT)
+        .after_help(AFTER)
+        .arg(limit)?
+        .arg(files)
+}
+
+// The program's name, and then the words.
+fn with_program<'a>(alloc: Global, words: &'a [Text]) -> Result<Vec<&'a str>, AllocError> {
+    let mut all = Vec::new(alloc);
+    all.push("tracebook")?;
+    for word in words {
+        all.push(word.as_str())?;
+    }
+    Ok(all)
+}
+
+fn collect_order(alloc: Global, matches: &ArgMatches<'_>) -> Result<Order, AllocError> {
+    let limit = matches.get_one::<u32>("limit").unwrap_or(DEFAULT_LIMIT);
+    let mut files = Vec::new(alloc);
+    if let Some(names) = matches.get_strs("files") {
+        for name in names {
+            files.push(Text::of(alloc, name)?)?;
+        }
+    }
+    Ok(Order::Collect { limit, files })
+}

@@ -1,0 +1,12 @@
+//! The program, over whatever files and outputs it is given: the words of its command line, and what they ask for.
+#![tactic(auto)]
+
+mod command;
+mod program;
+mod reading;
+mod source;
+
+pub use command::{Order, order_of};
+pub use program::perform;
+pub use reading::read_up_to;
+pub use source::{Source, SourceFault};

@@ -1,0 +1,6 @@
+pub mod Args
+pub mod Event
+pub mod Item
+pub mod Orders
+pub mod Text
+pub mod Time

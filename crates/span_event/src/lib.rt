@@ -1,0 +1,15 @@
+//! The events of a trace as they are read: texts, arguments, ids, phases; and the items of a file, which are good events,
+//! numbered faults, and events of phases that are not used.
+#![tactic(auto)]
+
+mod args;
+mod event;
+mod item;
+mod items;
+mod text;
+
+pub use args::{ArgValue, Args, merge_args};
+pub use event::{Event, IdKey, Phase, Reach};
+pub use item::{Field, Item, ItemFault};
+pub use items::Items;
+pub use text::Text;

@@ -1,0 +1,21 @@
+//! What the events of a key stand for: asynchronous spans, and flow chains; of counters series of samples; the names of
+//! processes and threads; and instants. And the numbers of names.
+#![tactic(auto)]
+
+mod async_track;
+mod counter_track;
+mod fault;
+mod flow_track;
+mod keys;
+mod meta_track;
+mod names;
+pub mod refusal;
+mod texts;
+
+pub use async_track::{AsyncRow, AsyncTotals, AsyncTrack};
+pub use counter_track::{CounterTrack, SeriesRow, SeriesTotals};
+pub use fault::TrackFault;
+pub use flow_track::{FlowClosed, FlowRow, FlowTotals, FlowTrack};
+pub use keys::{AsyncKey, FlowKey, SeriesKey};
+pub use meta_track::{InstantRow, MetaTrack, ProcessNames, ThreadNames, names_thread};
+pub use names::Names;

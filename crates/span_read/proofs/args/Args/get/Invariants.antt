@@ -1,7 +1,0 @@
-use Rattle.std.proofs.Common.{◌≡◌, drop}
-use Rattle.span_read.specs.Args.{value_of}
-use Rattle.span_read.proofs.args.Args.get.Given as goal
-
--- the pairs passed so far don't have the name
-abbrev pub invariant-loop-key : goal.invariant-loop-key
-invariant-loop-key l = value_of l.name l.key-items ≡ value_of l.name (drop l.key-index l.key-items)
