@@ -1,7 +1,8 @@
 // Texts are read element by element, and by a value of the whole text and the items of its elements: both must agree.
 use serde_json::Value;
 use span_read::{item_of, read_items};
-use std::alloc::{AllocError, Global};
+use std::alloc::{AllocError, AllocGlobal, Global};
+use std::process::Abort;
 use std::str;
 use std::test::Fail;
 
@@ -77,6 +78,11 @@ fn agree(alloc: Global, bytes: &[u8]) -> Result<bool, Fail> {
     let by_element = read_by_element(alloc, bytes)?;
     let by_value = read_by_value(alloc, bytes)?;
     Ok(by_element.as_str() == by_value.as_str())
+}
+
+fn expect_agree(rt: &(impl Abort + AllocGlobal), text: &str) -> Result<(), Fail> {
+    assert!(rt; agree(rt.alloc(), text.as_bytes())?, "{text}");
+    Ok(())
 }
 
 const TEXTS: [&str; 8] = [
@@ -169,13 +175,18 @@ const PLACES: [(&str, &str); 14] = [
     (r#"[{"ph":"M","unread":{"k":"#, "}}]"),
 ];
 
+fn agree_in_each_place(rt: &(impl Abort + AllocGlobal), value: &str) -> Result<(), Fail> {
+    for (start, end) in &PLACES {
+        let text = format!(in rt.alloc(); "{start}{value}{end}")?;
+        expect_agree(rt, text.as_str())?;
+    }
+    Ok(())
+}
+
 #[test]
 fn numbers_agree_wherever_they_stand(rt: HostRuntime) -> Result<(), Fail> {
     for number in &NUMBERS {
-        for (start, end) in &PLACES {
-            let text = format!(in rt.alloc(); "{start}{number}{end}")?;
-            assert!(rt; agree(rt.alloc(), text.as_bytes())?, "{text}");
-        }
+        agree_in_each_place(&rt, number)?;
     }
     Ok(())
 }
@@ -214,7 +225,7 @@ fn escapes_agree_in_names_and_texts(rt: HostRuntime) -> Result<(), Fail> {
     for escape in &ESCAPES {
         for (start, end) in &QUOTES {
             let text = format!(in rt.alloc(); "{start}{escape}{end}")?;
-            assert!(rt; agree(rt.alloc(), text.as_bytes())?, "{text}");
+            expect_agree(&rt, text.as_str())?;
         }
     }
     Ok(())
@@ -235,7 +246,7 @@ fn with_arguments(alloc: Global, count: u32) -> Result<String, AllocError> {
 fn arguments_agree_however_many(rt: HostRuntime) -> Result<(), Fail> {
     for count in [0, 1, 2, 15, 16, 17, 18, 41] {
         let text = with_arguments(rt.alloc(), count)?;
-        assert!(rt; agree(rt.alloc(), text.as_bytes())?, "{text}");
+        expect_agree(&rt, text.as_str())?;
     }
     Ok(())
 }
@@ -253,16 +264,21 @@ fn wrapped(alloc: Global, depth: u32, open: &str, close: &str) -> Result<String,
     Ok(text)
 }
 
+fn agree_in_brackets(
+    rt: &(impl Abort + AllocGlobal),
+    depth: u32,
+    open: &str,
+    close: &str,
+) -> Result<(), Fail> {
+    let deep = wrapped(rt.alloc(), depth, open, close)?;
+    agree_in_each_place(rt, deep.as_str())
+}
+
 #[test]
 fn nesting_agrees_at_its_limits(rt: HostRuntime) -> Result<(), Fail> {
     for depth in 122..130 {
-        for (open, close) in [("[", "]"), (r#"{"a":"#, "}")] {
-            let deep = wrapped(rt.alloc(), depth, open, close)?;
-            for (start, end) in &PLACES {
-                let text = format!(in rt.alloc(); "{start}{deep}{end}")?;
-                assert!(rt; agree(rt.alloc(), text.as_bytes())?, "{text}");
-            }
-        }
+        agree_in_brackets(&rt, depth, "[", "]")?;
+        agree_in_brackets(&rt, depth, r#"{"a":"#, "}")?;
     }
     Ok(())
 }

@@ -66,38 +66,29 @@ fn each_letter_has_its_phase(rt: HostRuntime) -> Result<(), Fail> {
     Ok(())
 }
 
-fn has_defaults(rt: &impl Abort, event: &Event) {
-    assert_eq!(rt; event.ts, 9_007_199_254_740_991);
-    assert_eq!(rt; event.dur, 0);
-    assert_eq!(rt; event.pid, 0);
-    assert_eq!(rt; event.tid, 0);
-    assert_eq!(rt; event.name.as_str(), "");
-    assert_eq!(rt; event.cat.as_str(), "");
-    assert_eq!(rt; event.scope.as_str(), "");
-    assert!(rt; event.key.is_none());
-    assert_eq!(rt; event.reach, Some(Reach::Thread));
-    assert!(rt; event.args.get("x").is_none());
+fn has_defaults(rt: &(impl Abort + AllocGlobal), event: &Event) -> Result<(), Fail> {
+    let shown = format!(in rt.alloc(); "{event:?}")?;
+    assert_eq!(rt;
+        shown.as_str(),
+        r#"Event { phase: Instant, name: "", cat: "", ts: 9007199254740991, dur: 0, pid: 0, tid: 0, key: None, scope: "", reach: Some(Thread), args: Args { pairs: [] } }"#
+    );
+    Ok(())
 }
 
 #[test]
 fn fields_have_defaults(rt: HostRuntime) -> Result<(), Fail> {
     let event = event_of(rt.alloc(), r#"{"ph":"i","ts":9007199254740991}"#)?.ok_or("an event")?;
-    has_defaults(&rt, &event);
+    let told = has_defaults(&rt, &event);
     drop(event);
-    Ok(())
+    told
 }
 
-fn has_fields(
-    rt: &(impl Abort + AllocGlobal),
-    event: &Event,
-    words: &str,
-    letter: &str,
-) -> Result<(), Fail> {
-    assert_eq!(rt; fields_of(rt.alloc(), event)?.as_str(), words, "{letter}");
-    assert_eq!(rt; (event.pid, event.tid), (1, 2), "{letter}");
-    assert_eq!(rt; event.name.as_str(), "n", "{letter}");
-    assert_eq!(rt; event.cat.as_str(), "c", "{letter}");
-    assert!(rt; event.args.get("k").is_some(), "{letter}");
+fn has_fields(rt: &(impl Abort + AllocGlobal), event: &Event, words: &str) -> Result<(), Fail> {
+    assert_eq!(rt; fields_of(rt.alloc(), event)?.as_str(), words);
+    assert_eq!(rt;
+        shared_fields_of(rt.alloc(), event)?.as_str(),
+        "1 2 n c true"
+    );
     Ok(())
 }
 
@@ -122,11 +113,19 @@ fn fields_are_read_at_their_phases_alone(rt: HostRuntime) -> Result<(), Fail> {
     for (letter, words) in &read {
         let text = format!(in rt.alloc(); r#"{{"ph":"{letter}",{fields}}}"#)?;
         let event = event_of(rt.alloc(), text.as_str())?.ok_or("an event")?;
-        let told = has_fields(&rt, &event, words, letter);
+        let told = has_fields(&rt, &event, words);
         drop(event);
         told?;
     }
     Ok(())
+}
+
+// The fields that each phase reads: pid, tid, name and category; and whether there is an argument `k`.
+fn shared_fields_of(alloc: Global, event: &Event) -> Result<String, AllocError> {
+    let (pid, tid) = (event.pid, event.tid);
+    let (name, cat) = (event.name.as_str(), event.cat.as_str());
+    let has_k = event.args.get("k").is_some();
+    format!(in alloc; "{pid} {tid} {name} {cat} {has_k}")
 }
 
 // The fields that only some phases read: ts, dur, id, scope and reach.

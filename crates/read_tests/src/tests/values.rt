@@ -44,25 +44,26 @@ fn shown(alloc: Global, args: &Args) -> Result<String, AllocError> {
     format!(in alloc; "{args:?}")
 }
 
-fn has_values(rt: &(impl Abort + AllocGlobal), args: &Args) -> Result<(), Fail> {
-    let kinds = [
-        ("n", "Whole(1)"),
-        ("w", r#"Words("x")"#),
-        ("f", "Flag(true)"),
-        ("z", "Nil"),
-        ("d", "Other"),
-        ("a", "Other"),
-        ("o", "Other"),
-    ];
-    for (name, kind) in kinds {
-        let value = args.get(name).ok_or("a value")?;
-        assert_eq!(rt;
-            format!(in rt.alloc(); "{value:?}")?.as_str(),
-            kind,
-            "{name}"
-        );
+// The values under these names, in the order of the names.
+fn values_of(alloc: Global, args: &Args, names: &[&str]) -> Result<String, AllocError> {
+    let mut values = String::new(alloc);
+    for name in names {
+        let value = args.get(name);
+        write!(values, "{value:?} ")?;
     }
-    assert!(rt; args.get("missing").is_none());
+    Ok(values)
+}
+
+fn has_values(rt: &(impl Abort + AllocGlobal), args: &Args) -> Result<(), Fail> {
+    let values = values_of(
+        rt.alloc(),
+        args,
+        &["n", "w", "f", "z", "d", "a", "o", "missing"],
+    )?;
+    assert_eq!(rt;
+        values.as_str(),
+        r#"Some(Whole(1)) Some(Words("x")) Some(Flag(true)) Some(Nil) Some(Other) Some(Other) Some(Other) None "#
+    );
     Ok(())
 }
 
