@@ -1,6 +1,5 @@
 //! What was asked while the files were told.
-ghost use Rattle.std.specs.Prelude.{◌≡◌, [], ◌∷◌};
-ghost use Rattle.span_share.specs.Seats.{IsSeatOf, mine};
+ghost use Rattle.std.specs.Prelude.{◌≡◌, []};
 ghost use Rattle.span_collect.specs.Work.{IsNew, HasMet};
 
 use crate::gate::Gate;

@@ -1,5 +1,5 @@
 //! What one worker does: it reads its file, and tells the items one by one.
-ghost use Rattle.std.specs.Prelude.{◌≡◌, ◌≤◌, length, All, Ok};
+ghost use Rattle.std.specs.Prelude.{◌≤◌, length, All, Ok};
 ghost use Rattle.span_read.specs.Document.{doc, most_items};
 ghost use Rattle.span_event.specs.Item.{IsGoodItem};
 ghost use Rattle.span_collect.specs.Work.{IsNew, IsWorked};

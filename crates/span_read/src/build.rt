@@ -1,7 +1,7 @@
 // The event that fields give. Each field is checked and taken at once, in the order of the faults; texts are moved.
-ghost use Rattle.std.specs.Prelude.{◌≡◌, ◌||◌, is_some, None, IfOk, IfErr};
+ghost use Rattle.std.specs.Prelude.{◌≡◌, None, IfOk, IfErr};
 ghost use Rattle.span_read.specs.Phase.{needs_id};
-ghost use Rattle.span_read.specs.Element.{fault_of, event_of, where_read, unless};
+ghost use Rattle.span_read.specs.Element.{fault_of, event_of};
 ghost use Rattle.span_read.specs.Slots.{data_of};
 ghost use Rattle.span_read.specs.Refusal.{IsForFault};
 

@@ -1,12 +1,12 @@
 -- Rows that are printed under a process or a thread leave what stands under later ones.
-use Rattle.std.proofs.Common.{◌≡◌, ℕ, ◌+◌, ℤ, get_or, false, List, [], ◌∷◌, ◌++◌, true, refl, sym, ap, ap₂, ◌∙◌, subst, drop, length, length-drop, ◌<◌, arith, append_assoc}
+use Rattle.std.proofs.Common.{◌≡◌, ℕ, ◌+◌, ℤ, get_or, List, [], ◌∷◌, ◌++◌, true, sym, ap, ap₂, ◌∙◌, subst, drop, length, length-drop, ◌<◌, arith, append_assoc}
 use Rattle.std.proofs.lemmas.List.{drop_more}
 use Rattle.std.specs.Prelude.{◌&&◌, filter, flat_map}
 use Rattle.std.specs.List.{AllByRecursion}
 use Rattle.std.specs.List.Sorted.{IsStrictlySortedBy}
 use Rattle.std.specs.declared.cmp.Ordering.{Ordering}
-use Rattle.std.specs.declared.cmp.Ordering.TheVariants.{Less, Equal, Greater}
-use Rattle.std.specs.Ordering.{is_eq, is_gt, int_cmp, int_eq, eq_by_cmp, ordering_then}
+use Rattle.std.specs.declared.cmp.Ordering.TheVariants.{Less}
+use Rattle.std.specs.Ordering.{is_eq, int_cmp, int_eq, eq_by_cmp, ordering_then}
 use Rattle.std.specs.Cmp.{int_cmp_total, signed_Decides}
 use Rattle.span_ledger.specs.declared.thread.Thread.{Thread}
 use Rattle.span_ledger.specs.declared.rows.ProcessRow.{ProcessRow}
@@ -20,7 +20,7 @@ use Rattle.span_ledger.specs.Order.{thread_of_row, thread_of_span, thread_of_ins
 use Rattle.span_ledger.proofs.Sorted.{AllByRecursion-map}
 use Rattle.span_report.specs.Lines.{thread_line, process_line, span_line, instant_line, counter_line}
 use Rattle.span_report.specs.Report.{PartRows, thread_lines, process_lines}
-use Rattle.span_report.specs.Parts.{AreAscending, Passes, AreInOrder, IsPastThread, IsPastProcess, rows_at, threads_in, series_in, pid_of_series, spans_on, instants_on}
+use Rattle.span_report.specs.Parts.{Passes, AreInOrder, IsPastThread, IsPastProcess, rows_at, threads_in, series_in, pid_of_series, spans_on, instants_on}
 use Rattle.span_report.proofs.Walks.{AllByRecursion-filter, filter-same, flat_map-same, IsStrictlySortedBy-drop, first-below, rest-sorted, Passes-ascending, next-here, next-later}
 
 -- the rows of a thread, as a report tests them

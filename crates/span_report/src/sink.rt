@@ -1,5 +1,5 @@
 //! Where a report goes: a sink takes bytes, and tells in contracts which.
-ghost use Rattle.std.specs.Prelude.{◌≡◌, ◌-◌, ◌^◌, ◌<◌, ◌≤◌, [], length, take, IfOk, OnOk, OnErr};
+ghost use Rattle.std.specs.Prelude.{◌-◌, ◌^◌, ◌<◌, ◌≤◌, [], length, take, IfOk, OnOk, OnErr};
 ghost use Rattle.span_report.specs.Sink.{SinkState, Takes, Fails};
 
 /// A call on a sink failed. It took no byte.

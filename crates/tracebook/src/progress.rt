@@ -1,5 +1,4 @@
 //! A line on a terminal that tells what a run is doing.
-ghost use Rattle.std.specs.Prelude.{◌≡◌};
 
 use std::io;
 use std::io::{Read, Write};

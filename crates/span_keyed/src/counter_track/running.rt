@@ -1,6 +1,5 @@
 //! The samples of one series so far.
 ghost use Rattle.std.specs.Prelude.{◌≡◌, ◌<◌, ◌^◌, ◌-◌, option_copied, Some};
-ghost use Rattle.span_keyed.specs.Counters.{series_of};
 ghost use Rattle.span_keyed.specs.CountersKept.{samples_before, with_sample};
 
 use super::SeriesTotals;

@@ -1,5 +1,5 @@
 //! What a metadata event sets.
-ghost use Rattle.std.specs.Prelude.{◌≡◌, ℤ, option_map, IfOk};
+ghost use Rattle.std.specs.Prelude.{◌≡◌, option_map, IfOk};
 ghost use Rattle.span_keyed.specs.Meta.{labels_setting, name_setting, names_thread, setting_of, sort_setting, whole_of, words_of};
 ghost use Rattle.span_keyed.specs.MetaKept.{keyed_setting};
 

@@ -1,5 +1,5 @@
-ghost use Rattle.std.specs.Prelude.{◌≡◌, ◌≢◌, All, IsTrue};
-ghost use Rattle.span_time.specs.Closed.{span_of, AreClosed};
+ghost use Rattle.std.specs.Prelude.{◌≢◌, All, IsTrue};
+ghost use Rattle.span_time.specs.Closed.{span_of};
 
 use super::ClosedSpans;
 use crate::span::ClosedSpan;
