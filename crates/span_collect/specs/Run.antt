@@ -1,5 +1,5 @@
 -- What a run does.
-use Rattle.std.specs.Prelude.{◌≡◌, ℕ, ◌<◌, ◌≤◌, Bool, true, false, ◌||◌, if◌then◌else◌, List, [], length, map, take, Ok, Err}
+use Rattle.std.specs.Prelude.{◌≡◌, ℕ, ◌<◌, ◌≤◌, Bool, true, false, ◌||◌, if◌then◌else◌, List, [], ◌∷◌, length, map, take, Ok, Err}
 use Rattle.std.specs.List.{list_any}
 use Rattle.std.specs.Option.{is_some}
 use Rattle.span_read.specs.Document.{doc}
@@ -71,3 +71,7 @@ journal_by caller (Err error) = []
 -- the report of the journal that one caller makes of the file was written
 abbrev pub TakesReportOf : Input → SinkState → SinkState → Type 0
 TakesReportOf file old new = (caller : ℕ) × Takes old new (report_of (journal_by caller (doc file.bytes.items)))
+
+-- where one file is given, no query, and the status isn't 2, the report of that file was written
+abbrev pub ReportsOneFile : List Input → List Query → ℕ → SinkState → SinkState → Type 0
+ReportsOneFile files asks status old new = status < 2 → (file : Input) → files ≡ file ∷ [] → asks ≡ [] → TakesReportOf file old new

@@ -64,7 +64,8 @@ pub fn collect<G: Gate, R: Threads + Wait + Sync>(
     gate: &G,
     limit: u32,
 ) -> Result<Outcome, CollectError>
-    ensures accounts { IfOk result (λ outcome. Account files.now asks.now limit outcome.files.items outcome.asked outcome.ledger.journal) }
+    ensures accounts { IfOk result
+        (λ outcome. Account files.now asks.now limit outcome.files.items outcome.asked outcome.ledger.journal) }
     ensures limit { IfOk result (λ outcome. outcome.ledger.limit ≡ limit) }
     ensures count { (result ≡ Err CollectError.FileCount) ↔ AreNoneOrTooMany files.now }
     ensures differ { IfErr result IsDifference }
@@ -93,7 +94,8 @@ fn collect_unsettled<G: Gate, R: Threads + Wait + Sync>(
     limit: u32,
 ) -> Result<Outcome, AllocError>
     requires { length files.now ≤ 64 }
-    ensures { IfOk result (λ outcome. IsClosed files.now asks.now limit outcome.files.items outcome.asked outcome.ledger) }
+    ensures { IfOk result
+        (λ outcome. IsClosed files.now asks.now limit outcome.files.items outcome.asked outcome.ledger) }
 {
     let (share, mut main) = Share::start(alloc, limit)?;
     let ends = Vec::with_capacity(alloc, files.len())?;

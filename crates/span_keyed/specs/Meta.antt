@@ -10,6 +10,7 @@ use Rattle.span_event.specs.declared.event.Phase.TheVariants.{SpanBegin, SpanEnd
 use Rattle.span_event.specs.declared.args.ArgValue.{ArgValue}
 use Rattle.span_event.specs.declared.args.ArgValue.TheVariants.{Whole, Words, Flag, Nil, Other}
 use Rattle.span_event.specs.Args.{value_of}
+use Rattle.span_event.specs.Given.{Gives}
 use Rattle.span_keyed.specs.Last.{last_of}
 use Rattle.span_keyed.specs.Keyed.{Keyed, steps_at, entries_in}
 use Rattle.span_keyed.specs.Instants.{InstantsKept, instants_counted, instants_in}
@@ -155,3 +156,13 @@ pub record MetaOf (most : ℕ) (track : MetaKept) : Type 0 where
 -- there is room for the number of one more instant
 abbrev pub HasMetaRoom : MetaKept → Type 0
 HasMetaRoom track = MetaOf (2 ^ 32 - 2) track
+
+-- the name, the labels and the sort index that the track's events give this process or thread
+abbrev pub HasName : MetaKept → Holder → Option (List ℕ) → Type 0
+HasName track holder = Gives MetaStandsFor track (λ es. (names_in es holder).name)
+
+abbrev pub HasLabels : MetaKept → Holder → Option (List ℕ) → Type 0
+HasLabels track holder = Gives MetaStandsFor track (λ es. (names_in es holder).labels)
+
+abbrev pub HasSortIndex : MetaKept → Holder → Option ℤ → Type 0
+HasSortIndex track holder = Gives MetaStandsFor track (λ es. (names_in es holder).sort_index)

@@ -83,7 +83,8 @@ impl AsyncTrack {
     /// is left that it matches, or 24 where `ts` is below the time of that begin. Takes no memory.
     pub fn end_async(&mut self, key: &AsyncKey, ts: i64) -> Result<u64, TrackFault>
         requires in_time { IsTime ts }
-        ensures refusal { (es : List AsyncEvent) → AsyncStandsFor self.old es → Answers result (async_end_refusal (steps_at async_cmp key.now es) ts) }
+        ensures refusal { (es : List AsyncEvent) → AsyncStandsFor self.old es
+            → Answers result (async_end_refusal (steps_at async_cmp key.now es) ts) }
         ensures length { IfOk result (λ length. (es : List AsyncEvent) → AsyncStandsFor self.old es
             → length_closed_by (steps_at async_cmp key.now es) (closes ts) ≡ length ∷ []) }
         ensures stands { OnOk result (TakesAsync self.old self.new (record { key = key.now; step = closes ts })) }

@@ -1,8 +1,9 @@
 //! The track of counters.
-ghost use Rattle.std.specs.Prelude.{◌≡◌, [], List, None, map, IfOk, OnOk, OnErr};
+ghost use Rattle.std.specs.Prelude.{◌≡◌, [], None, map, IfOk, OnOk, OnErr};
 ghost use Rattle.span_event.specs.declared.event.Event.{Event};
 ghost use Rattle.span_event.specs.declared.event.Phase.TheVariants.{Counter};
 ghost use Rattle.span_event.specs.Event.{IsGood};
+ghost use Rattle.span_event.specs.Given.{Gives};
 ghost use Rattle.span_keyed.specs.Fault.{Answers};
 ghost use Rattle.span_keyed.specs.Counters.{CounterStandsFor, HasCounterRoom, TakesCounter, series_rows, series_totals};
 ghost use Rattle.span_keyed.specs.CountersKept.{totals_row};
@@ -84,14 +85,14 @@ impl CounterTrack {
 
     /// What the samples of the series give; nothing where it has none. Takes no memory.
     pub fn of(&self, key: &SeriesKey) -> Option<SeriesTotals>
-        ensures { (es : List Event) → CounterStandsFor self.now es → result ≡ series_totals key.now es }
+        ensures { Gives CounterStandsFor self.now (series_totals key.now) result }
     {
         self.series.of(key)
     }
 
     /// The row of each series that has a sample, in ascending order of keys.
     pub fn rows(&self, alloc: Global) -> Result<Vec<SeriesRow>, AllocError>
-        ensures { IfOk result (λ rows. (es : List Event) → CounterStandsFor self.now es → rows.items ≡ series_rows es) }
+        ensures { IfOk result (λ rows. Gives CounterStandsFor self.now series_rows rows.items) }
     {
         let sorted = self.series.sorted(alloc)?;
         rows_of(alloc, sorted)

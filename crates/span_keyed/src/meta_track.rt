@@ -1,11 +1,12 @@
 //! The track of metadata events.
-ghost use Rattle.std.specs.Prelude.{◌≡◌, [], List, Some, None, option_copied, IfOk, OnOk, OnErr};
+ghost use Rattle.std.specs.Prelude.{◌≡◌, [], Some, None, option_copied, IfOk, OnOk, OnErr};
 ghost use Rattle.span_event.specs.declared.event.Event.{Event};
 ghost use Rattle.span_event.specs.declared.event.Phase.TheVariants.{Instant, Meta};
 ghost use Rattle.span_event.specs.Event.{IsGood};
+ghost use Rattle.span_event.specs.Given.{Gives};
 ghost use Rattle.span_keyed.specs.Fault.{Answers};
 ghost use Rattle.span_keyed.specs.Instants.{instant_rows, instants_of};
-ghost use Rattle.span_keyed.specs.Meta.{HasMetaRoom, MetaStandsFor, TakesMeta, TakesSetting, names_in};
+ghost use Rattle.span_keyed.specs.Meta.{HasLabels, HasMetaRoom, HasName, HasSortIndex, MetaStandsFor, TakesMeta, TakesSetting};
 ghost use Rattle.span_keyed.specs.MetaKept.{keyed_setting};
 
 mod instants;
@@ -105,9 +106,9 @@ impl MetaTrack {
 
     /// What the last metadata events set of the process. Takes no memory.
     pub fn process_of(&self, pid: i64) -> ProcessNames<'_>
-        ensures name { (es : List Event) → MetaStandsFor self.now es → option_copied result.name ≡ (names_in es (pid, None)).name }
-        ensures labels { (es : List Event) → MetaStandsFor self.now es → option_copied result.labels ≡ (names_in es (pid, None)).labels }
-        ensures sort_index { (es : List Event) → MetaStandsFor self.now es → result.sort_index ≡ (names_in es (pid, None)).sort_index }
+        ensures name { HasName self.now (pid, None) (option_copied result.name) }
+        ensures labels { HasLabels self.now (pid, None) (option_copied result.labels) }
+        ensures sort_index { HasSortIndex self.now (pid, None) result.sort_index }
     {
         match self.names.get(&(pid, None)) {
             Some(named) => ProcessNames {
@@ -125,8 +126,8 @@ impl MetaTrack {
 
     /// What the last metadata events set of the thread. Takes no memory.
     pub fn thread_of(&self, pid: i64, tid: i64) -> ThreadNames<'_>
-        ensures name { (es : List Event) → MetaStandsFor self.now es → option_copied result.name ≡ (names_in es (pid, Some tid)).name }
-        ensures sort_index { (es : List Event) → MetaStandsFor self.now es → result.sort_index ≡ (names_in es (pid, Some tid)).sort_index }
+        ensures name { HasName self.now (pid, Some tid) (option_copied result.name) }
+        ensures sort_index { HasSortIndex self.now (pid, Some tid) result.sort_index }
     {
         match self.names.get(&(pid, Some(tid))) {
             Some(named) => ThreadNames {
@@ -142,14 +143,14 @@ impl MetaTrack {
 
     /// How many instants there are of the thread, the name and the reach. Takes no memory.
     pub fn instants_of(&self, pid: i64, tid: i64, name: &Text, reach: Reach) -> u32
-        ensures { (es : List Event) → MetaStandsFor self.now es → result ≡ instants_of es (pid, tid) name.now reach }
+        ensures { Gives MetaStandsFor self.now (λ es. instants_of es (pid, tid) name.now reach) result }
     {
         self.instants.of((pid, tid), name, reach)
     }
 
     /// The row of each thread, name and reach that has an instant, in ascending order, the wider reach first.
     pub fn instant_rows(&self, alloc: Global) -> Result<Vec<InstantRow>, AllocError>
-        ensures { IfOk result (λ rows. (es : List Event) → MetaStandsFor self.now es → rows.items ≡ instant_rows es) }
+        ensures { IfOk result (λ rows. Gives MetaStandsFor self.now instant_rows rows.items) }
     {
         self.instants.rows(alloc)
     }

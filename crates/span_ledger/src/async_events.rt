@@ -1,11 +1,10 @@
 //! An asynchronous event, told to the track of asynchronous spans.
 ghost use Rattle.std.specs.Prelude.{◌≡◌};
 ghost use Rattle.span_event.specs.Event.{IsGood, IsTime};
-ghost use Rattle.span_keyed.specs.Async.{AsyncStandsFor, HasAsyncRoom};
+ghost use Rattle.span_keyed.specs.Async.{HasAsyncRoom};
 ghost use Rattle.span_keyed.specs.Matching.{opens, closes, other};
-ghost use Rattle.span_ledger.specs.Answers.{async_answer};
 ghost use Rattle.span_ledger.specs.Told.{async_step, async_event, IsAsync};
-ghost use Rattle.span_ledger.specs.Tracked.{Tells};
+ghost use Rattle.span_ledger.specs.Tracked.{TellsAsync};
 
 use crate::entry::Answer;
 use crate::event_key::{put_async_key, take_async_key};
@@ -23,7 +22,7 @@ pub(crate) fn tell_async(
     requires phase { IsAsync event.old.phase }
     requires room { (key : AsyncKey) → HasAsyncRoom track.old key }
     ensures same { event.new ≡ event.old }
-    ensures tells { Tells AsyncStandsFor async_answer track.old (async_event event.old event.old.phase) result track.new }
+    ensures tells { TellsAsync track.old (async_event event.old event.old.phase) result track.new }
 {
     let key = take_async_key(alloc, event);
     let told = tell_step(track, &key, event.phase, event.ts);
@@ -40,7 +39,7 @@ fn tell_step(
 ) -> Result<(Answer, Answer), TrackFault>
     requires room { HasAsyncRoom track.old key.now }
     requires in_time { IsTime ts }
-    ensures { Tells AsyncStandsFor async_answer track.old (record { key = key.now; step = async_step phase ts }) result track.new }
+    ensures { TellsAsync track.old (record { key = key.now; step = async_step phase ts }) result track.new }
 {
     match phase {
         Phase::AsyncBegin => begin_async(track, key, ts),
@@ -56,7 +55,7 @@ fn begin_async(
 ) -> Result<(Answer, Answer), TrackFault>
     requires room { HasAsyncRoom track.old key.now }
     requires in_time { IsTime ts }
-    ensures { Tells AsyncStandsFor async_answer track.old (record { key = key.now; step = opens ts }) result track.new }
+    ensures { TellsAsync track.old (record { key = key.now; step = opens ts }) result track.new }
 {
     track.begin_async(key, ts)?;
     Ok((Answer::AsyncOpened, Answer::AsyncOpened))
@@ -68,7 +67,7 @@ fn end_async(
     ts: i64,
 ) -> Result<(Answer, Answer), TrackFault>
     requires in_time { IsTime ts }
-    ensures { Tells AsyncStandsFor async_answer track.old (record { key = key.now; step = closes ts }) result track.new }
+    ensures { TellsAsync track.old (record { key = key.now; step = closes ts }) result track.new }
 {
     let length = track.end_async(key, ts)?;
     Ok((
@@ -79,7 +78,7 @@ fn end_async(
 
 fn point(track: &mut AsyncTrack, key: &AsyncKey) -> Result<(Answer, Answer), TrackFault>
     requires room { HasAsyncRoom track.old key.now }
-    ensures { Tells AsyncStandsFor async_answer track.old (record { key = key.now; step = other tt }) result track.new }
+    ensures { TellsAsync track.old (record { key = key.now; step = other tt }) result track.new }
 {
     track.point(key)?;
     Ok((Answer::AsyncPoint, Answer::AsyncPoint))

@@ -1,10 +1,9 @@
 //! A flow event, told to the track of flow chains.
 ghost use Rattle.std.specs.Prelude.{◌≡◌};
 ghost use Rattle.span_event.specs.Event.{IsGood, IsTime};
-ghost use Rattle.span_keyed.specs.Flow.{FlowStandsFor, HasFlowRoom, started, stepped, finished};
-ghost use Rattle.span_ledger.specs.Answers.{flow_answer};
+ghost use Rattle.span_keyed.specs.Flow.{HasFlowRoom, started, stepped, finished};
 ghost use Rattle.span_ledger.specs.Told.{flow_point, flow_event, IsFlow};
-ghost use Rattle.span_ledger.specs.Tracked.{Tells};
+ghost use Rattle.span_ledger.specs.Tracked.{TellsFlow};
 
 use crate::entry::Answer;
 use crate::event_key::{put_flow_key, take_flow_key};
@@ -22,7 +21,7 @@ pub(crate) fn tell_flow(
     requires phase { IsFlow event.old.phase }
     requires room { (key : FlowKey) → HasFlowRoom track.old key }
     ensures same { event.new ≡ event.old }
-    ensures tells { Tells FlowStandsFor flow_answer track.old (flow_event event.old event.old.phase) result track.new }
+    ensures tells { TellsFlow track.old (flow_event event.old event.old.phase) result track.new }
 {
     let key = take_flow_key(alloc, event);
     let told = tell_point(track, &key, event.phase, event.ts);
@@ -39,7 +38,7 @@ fn tell_point(
 ) -> Result<(Answer, Answer), TrackFault>
     requires room { HasFlowRoom track.old key.now }
     requires in_time { IsTime ts }
-    ensures { Tells FlowStandsFor flow_answer track.old (record { key = key.now; step = flow_point phase ts }) result track.new }
+    ensures { TellsFlow track.old (record { key = key.now; step = flow_point phase ts }) result track.new }
 {
     match phase {
         Phase::FlowStart => start_flow(track, key, ts),
@@ -51,7 +50,7 @@ fn tell_point(
 fn start_flow(track: &mut FlowTrack, key: &FlowKey, ts: i64) -> Result<(Answer, Answer), TrackFault>
     requires room { HasFlowRoom track.old key.now }
     requires in_time { IsTime ts }
-    ensures { Tells FlowStandsFor flow_answer track.old (record { key = key.now; step = started ts }) result track.new }
+    ensures { TellsFlow track.old (record { key = key.now; step = started ts }) result track.new }
 {
     match track.start_flow(key, ts) {
         Ok(()) => Ok((Answer::FlowStarted, Answer::FlowStarted)),
@@ -62,7 +61,7 @@ fn start_flow(track: &mut FlowTrack, key: &FlowKey, ts: i64) -> Result<(Answer, 
 fn step_flow(track: &mut FlowTrack, key: &FlowKey, ts: i64) -> Result<(Answer, Answer), TrackFault>
     requires room { HasFlowRoom track.old key.now }
     requires in_time { IsTime ts }
-    ensures { Tells FlowStandsFor flow_answer track.old (record { key = key.now; step = stepped ts }) result track.new }
+    ensures { TellsFlow track.old (record { key = key.now; step = stepped ts }) result track.new }
 {
     match track.step_flow(key, ts) {
         Ok(()) => Ok((Answer::FlowStep, Answer::FlowStep)),
@@ -73,7 +72,7 @@ fn step_flow(track: &mut FlowTrack, key: &FlowKey, ts: i64) -> Result<(Answer, A
 fn end_flow(track: &mut FlowTrack, key: &FlowKey, ts: i64) -> Result<(Answer, Answer), TrackFault>
     requires room { HasFlowRoom track.old key.now }
     requires in_time { IsTime ts }
-    ensures { Tells FlowStandsFor flow_answer track.old (record { key = key.now; step = finished ts }) result track.new }
+    ensures { TellsFlow track.old (record { key = key.now; step = finished ts }) result track.new }
 {
     match track.end_flow(key, ts) {
         Ok(FlowClosed { points, length }) => Ok((

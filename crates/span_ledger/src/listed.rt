@@ -1,5 +1,5 @@
 //! The processes and threads that a journal lists.
-ghost use Rattle.std.specs.Prelude.{◌≡◌, ◌<◌, [], IfOk, OnOk, OnErr};
+ghost use Rattle.std.specs.Prelude.{◌≡◌, ◌<◌, [], IfOk, OnOk};
 ghost use Rattle.std.specs.Ordering.{int_cmp};
 ghost use Rattle.std.specs.BTreeSet.{insert_key};
 ghost use Rattle.indexmap.specs.IndexSet.{spare};
@@ -43,7 +43,8 @@ impl Listed {
     // Lists a process.
     pub(crate) fn add_process(&mut self, pid: i64)
         requires { 0 < spare self.old.processes }
-        ensures processes { ascending int_cmp self.new.processes.keys ≡ insert_key int_cmp (ascending int_cmp self.old.processes.keys) pid }
+        ensures processes { ascending int_cmp self.new.processes.keys
+            ≡ insert_key int_cmp (ascending int_cmp self.old.processes.keys) pid }
         ensures threads { self.new.threads ≡ self.old.threads }
     {
         if self.processes.insert(pid).is_err() {
@@ -55,8 +56,10 @@ impl Listed {
     pub(crate) fn add(&mut self, thread: Thread)
         requires process_room { 0 < spare self.old.processes }
         requires thread_room { 0 < spare self.old.threads }
-        ensures processes { ascending int_cmp self.new.processes.keys ≡ insert_key int_cmp (ascending int_cmp self.old.processes.keys) thread.pid }
-        ensures threads { ascending thread_cmp self.new.threads.keys ≡ insert_key thread_cmp (ascending thread_cmp self.old.threads.keys) thread }
+        ensures processes { ascending int_cmp self.new.processes.keys
+            ≡ insert_key int_cmp (ascending int_cmp self.old.processes.keys) thread.pid }
+        ensures threads { ascending thread_cmp self.new.threads.keys
+            ≡ insert_key thread_cmp (ascending thread_cmp self.old.threads.keys) thread }
     {
         self.add_process(thread.pid);
         if self.threads.insert(thread).is_err() {

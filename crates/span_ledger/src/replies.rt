@@ -1,6 +1,6 @@
 //! The replies to queries, from the tracks and the counts of a journal.
-ghost use Rattle.std.specs.Prelude.{◌≡◌, List, Some, None, IfOk};
-ghost use Rattle.span_event.specs.declared.event.Event.{Event};
+ghost use Rattle.std.specs.Prelude.{◌≡◌, Some, None, IfOk};
+ghost use Rattle.span_event.specs.Given.{Gives};
 ghost use Rattle.span_keyed.specs.Meta.{MetaStandsFor, names_in};
 ghost use Rattle.span_keyed.specs.Numbering.{number_in};
 ghost use Rattle.span_ledger.specs.Replies.{reply_to, process_reply, thread_names_reply};
@@ -97,7 +97,8 @@ fn name_reply(tracks: &Tracks, thread: &Thread, name: &Text) -> Reply
 }
 
 fn process_names(alloc: Global, tracks: &KeyedTracks, pid: i64) -> Result<Reply, AllocError>
-    ensures { IfOk result (λ reply. (es : List Event) → MetaStandsFor tracks.now.meta es → reply ≡ process_reply (names_in es (pid, None))) }
+    ensures { IfOk result
+        (λ reply. Gives MetaStandsFor tracks.now.meta (λ es. process_reply (names_in es (pid, None))) reply) }
 {
     let names = tracks.process_names(pid);
     let name = copy_of(alloc, names.name)?;
@@ -115,7 +116,8 @@ fn thread_names(
     pid: i64,
     tid: i64,
 ) -> Result<Reply, AllocError>
-    ensures { IfOk result (λ reply. (es : List Event) → MetaStandsFor tracks.now.meta es → reply ≡ thread_names_reply (names_in es (pid, Some tid))) }
+    ensures { IfOk result
+        (λ reply. Gives MetaStandsFor tracks.now.meta (λ es. thread_names_reply (names_in es (pid, Some tid))) reply) }
 {
     let names = tracks.thread_names(pid, tid);
     let name = copy_of(alloc, names.name)?;

@@ -1,9 +1,8 @@
 //! The rows of processes, of threads and of their names, from the tracks.
 ghost use Rattle.std.specs.Prelude.{◌≡◌, ◌++◌, IfOk, OnOk, map, flat_map, option_copied, option_and_then, slice_get};
 ghost use Rattle.std.specs.BTreeSet.{insert_key, IsOrdered as AreOrdered};
-ghost use Rattle.std.specs.BTreeMap.{IsOrdered};
 ghost use Rattle.span_keyed.specs.Keyed.{ascending};
-ghost use Rattle.span_ledger.specs.Rows.{thread_cmp, text_cmp, process_row, process_rows, thread_row, thread_rows};
+ghost use Rattle.span_ledger.specs.Rows.{text_cmp, process_row, process_rows, thread_row, thread_rows};
 ghost use Rattle.span_ledger.specs.Tracked.{FollowsJournal, track_row, track_span_row, span_rows_of_track, track_span_rows, closed_names};
 
 use crate::entry::Entry;
@@ -97,7 +96,8 @@ fn named_row(
 }
 
 pub(crate) fn span_rows(alloc: Global, tracks: &Tracks) -> Result<Vec<SpanRow>, AllocError>
-    ensures { IfOk result (λ rows. rows.items ≡ flat_map (track_span_rows tracks.now.names tracks.now.threads) tracks.now.listed) }
+    ensures { IfOk result (λ rows. rows.items
+        ≡ flat_map (track_span_rows tracks.now.names tracks.now.threads) tracks.now.listed) }
 {
     let mut rows = Vec::new(alloc);
     for thread in &tracks.listed.ordered_threads(alloc)? {
@@ -139,7 +139,8 @@ fn names_of(alloc: Global, names: &Names, track: &ThreadTrack) -> Result<BTreeSe
 
 // The name of the closed span at a place.
 fn closed_name<'a>(names: &'a Names, track: &ThreadTrack, i: u32) -> Option<&'a Text>
-    ensures { option_copied result ≡ option_and_then (λ s. slice_get names.now s.name) (slice_get track.now.closed i) }
+    ensures { option_copied result
+        ≡ option_and_then (λ s. slice_get names.now s.name) (slice_get track.now.closed i) }
 {
     let span = track.closed(i)?;
     names.text_of(span.name)

@@ -1,5 +1,5 @@
 // Each field of an event, checked and taken at once.
-ghost use Rattle.std.specs.Prelude.{◌≡◌, ◌||◌, is_some, pos, [], None, IfOk, if◌then◌else◌};
+ghost use Rattle.std.specs.Prelude.{◌≡◌, is_some, pos, [], None, IfOk, if◌then◌else◌};
 ghost use Rattle.std.specs.Result.{result_err};
 ghost use Rattle.span_read.specs.Phase.{reads_time, reads_duration, reads_scope, reads_reach, wants_whole_args};
 ghost use Rattle.span_read.specs.Element.{where_read, time_fault, duration_fault, whole_fault, text_fault, unless};
@@ -115,7 +115,8 @@ pub(crate) fn take_args(
     phase: Phase,
     args: Option<FieldValue>,
 ) -> Result<Args, ItemFault>
-    ensures fault { result_err result ≡ where_read (wants_whole_args phase) (unless (all_whole (args_of args)) BadSeries) }
+    ensures fault { result_err result
+        ≡ where_read (wants_whole_args phase) (unless (all_whole (args_of args)) BadSeries) }
     ensures value { IfOk result (λ taken. taken ≡ (args_of args)) }
 {
     let args = match args {

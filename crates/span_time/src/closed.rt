@@ -2,7 +2,7 @@
 ghost use Rattle.std.specs.Prelude.{◌≡◌, ◌≢◌, ◌+◌, ◌<◌, ◌≤◌, ◌*◌, ◌-◌, ◌^◌, ◌==◌, ℕ, [], ◌∷◌, ◌++◌, ◌≤ℤ◌, if◌then◌else◌, List, length, map, nat_eq, slice_get, option_copied, All, IfSome, OnOk, OnErr};
 ghost use Rattle.std.specs.List.{count_by};
 ghost use Rattle.indexmap.specs.IndexMap.{spare};
-ghost use Rattle.span_time.specs.declared.segment.Segment.{Segment};
+ghost use Rattle.span_event.specs.Given.{Gives};
 ghost use Rattle.span_time.specs.Spans.{self_of, busy_time};
 ghost use Rattle.span_time.specs.Closed.{total_in, total_for, span_of, IsInTime, AreClosed};
 ghost use Rattle.span_time.specs.Segments.{lasts, AreSegments, HasSegments, HasEnds};
@@ -108,7 +108,7 @@ impl ClosedSpans {
 
     /// How many segments of time there are: stretches, each as long as can be, in which one span ranks above all others that cover it.
     pub fn segment_count(&self) -> u64
-        ensures count { (segments : List Segment) → AreSegments self.now segments → result ≡ length segments }
+        ensures count { Gives AreSegments self.now length result }
         ensures segments { HasSegments self.now }
         ensures bound { result ≤ 2 * count_by lasts self.now - 1 }
     {
@@ -117,7 +117,7 @@ impl ClosedSpans {
 
     /// A segment of time, in ascending order, counted from 0; None from the number of segments on.
     pub fn segment(&self, i: u64) -> Option<&Segment>
-        ensures segment { (segments : List Segment) → AreSegments self.now segments → option_copied result ≡ slice_get segments i }
+        ensures segment { Gives AreSegments self.now (λ segments. slice_get segments i) (option_copied result) }
         ensures ends { IfSome (option_copied result) (HasEnds self.now) }
     {
         self.division.segment(i)

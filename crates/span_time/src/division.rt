@@ -30,7 +30,8 @@ impl Division {
     }
 
     pub(crate) fn self_of(&self, name: u32) -> u64
-        ensures { (spans : List (Span ℕ)) → AreClosed spans → IsDivision (owners_of spans) self.now → result ≡ self_of nat_eq name spans }
+        ensures { (spans : List (Span ℕ)) → AreClosed spans → IsDivision (owners_of spans) self.now
+            → result ≡ self_of nat_eq name spans }
     {
         match self {
             Division::Stacked(timeline) => timeline.self_of(name),
@@ -39,7 +40,8 @@ impl Division {
     }
 
     pub(crate) fn busy(&self) -> u64
-        ensures { (spans : List (Span ℕ)) → AreClosed spans → IsDivision (owners_of spans) self.now → result ≡ busy_time spans }
+        ensures { (spans : List (Span ℕ)) → AreClosed spans → IsDivision (owners_of spans) self.now
+            → result ≡ busy_time spans }
     {
         match self {
             Division::Stacked(timeline) => timeline.busy(),
@@ -48,7 +50,8 @@ impl Division {
     }
 
     pub(crate) fn segment_count(&self) -> u64
-        ensures { (owners : Owners) → IsDivision owners self.now → HasParts owners (λ parts. result ≡ length parts) }
+        ensures { (owners : Owners) → IsDivision owners self.now
+            → HasParts owners (λ parts. result ≡ length parts) }
     {
         match self {
             Division::Stacked(timeline) => timeline.segment_count(),
@@ -69,11 +72,13 @@ impl Division {
     /// The span takes the microseconds that it covers from no one and from the spans that it outranks. Where memory is refused,
     /// no reader sees a change.
     pub(crate) fn add(&mut self, span: &Part) -> Result<(), AllocError>
-        requires is { ForSome (λ owners. IsDivision owners self.old × IsNew (owner_of span.now) owners × AreSettled owners) }
+        requires is { ForSome (λ owners. IsDivision owners self.old
+            × IsNew (owner_of span.now) owners × AreSettled owners) }
         requires forward { span.now.span_start ≤ℤ span.now.span_until }
         requires from_in_time { least_start ≤ℤ span.now.span_start }
         requires to_in_time { span.now.span_until ≤ℤ greatest_until }
-        ensures ok { OnOk result ((owners : Owners) → IsDivision owners self.old → IsNew (owner_of span.now) owners → AreSettled owners
+        ensures ok { OnOk result ((owners : Owners) → IsDivision owners self.old
+            → IsNew (owner_of span.now) owners → AreSettled owners
             → IsDivision (taken (owner_of span.now) owners) self.new) }
         ensures err { OnErr result ((owners : Owners) → IsDivision owners self.old → IsDivision owners self.new) }
     {
@@ -93,7 +98,8 @@ impl Division {
         alloc: Global,
     ) -> Result<u64, AllocError>
         requires { AreClosed (map span_of spans.now) }
-        ensures { IsDivision (owners_of (map span_of spans.now)) self.old → IsDivision (owners_of (map span_of spans.now)) self.new }
+        ensures { IsDivision (owners_of (map span_of spans.now)) self.old
+            → IsDivision (owners_of (map span_of spans.now)) self.new }
     {
         let moves = moves.saturating_add(self.moves_for(span));
         if moves / MOVES_FOR_A_SPAN > spans.len() as u64 {
@@ -114,7 +120,8 @@ impl Division {
     // nothing changes.
     fn search(&mut self, spans: &[ClosedSpan], alloc: Global) -> Result<(), AllocError>
         requires { AreClosed (map span_of spans.now) }
-        ensures { IsDivision (owners_of (map span_of spans.now)) self.old → IsDivision (owners_of (map span_of spans.now)) self.new }
+        ensures { IsDivision (owners_of (map span_of spans.now)) self.old
+            → IsDivision (owners_of (map span_of spans.now)) self.new }
     {
         if let Division::Stacked(_) = self {
             *self = Division::Searched(shares_of(spans, alloc)?);

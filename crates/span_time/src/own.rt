@@ -16,7 +16,8 @@ pub(crate) fn own_in(own: &IndexMap<u32, u64>, name: u32) -> u64
 
 fn set_own(own: &mut IndexMap<u32, u64>, name: u32, time: u64)
     requires { IsSome (get nat_eq own.old name) }
-    ensures { (other : ℕ) → get nat_eq own.new other ≡ (if name == other then Some time else get nat_eq own.old other) }
+    ensures { (other : ℕ) → get nat_eq own.new other
+        ≡ (if name == other then Some time else get nat_eq own.old other) }
 {
     if own.insert(name, time).is_err() {
         unreachable!();
@@ -38,7 +39,8 @@ pub(crate) fn keep_name(own: &mut IndexMap<u32, u64>, name: u32)
 pub(crate) fn gain_own(own: &mut IndexMap<u32, u64>, name: u32, length: u64)
     requires kept { IsSome (get nat_eq own.old name) }
     requires small { own_in own.old name + length < 2 ^ 64 }
-    ensures sum { (other : ℕ) → own_in own.new other ≡ own_in own.old other + (if name == other then length else 0) }
+    ensures sum { (other : ℕ) → own_in own.new other
+        ≡ own_in own.old other + (if name == other then length else 0) }
     ensures kept { (other : ℕ) → IsSome (get nat_eq own.old other) → IsSome (get nat_eq own.new other) }
 {
     let held = own_in(own, name);
@@ -48,7 +50,8 @@ pub(crate) fn gain_own(own: &mut IndexMap<u32, u64>, name: u32, length: u64)
 pub(crate) fn lose_own(own: &mut IndexMap<u32, u64>, name: u32, length: u64)
     requires some { 0 < length }
     requires held { length ≤ own_in own.old name }
-    ensures sum { (other : ℕ) → own_in own.new other + (if name == other then length else 0) ≡ own_in own.old other }
+    ensures sum { (other : ℕ) → own_in own.new other + (if name == other then length else 0)
+        ≡ own_in own.old other }
     ensures kept { (other : ℕ) → IsSome (get nat_eq own.old other) → IsSome (get nat_eq own.new other) }
 {
     let held = own_in(own, name);

@@ -62,7 +62,8 @@ impl Stretches {
 
     /// The last stretch that starts no later than `time`.
     pub(crate) fn last_at(&self, time: i64) -> Option<(i64, Option<Part>)>
-        ensures { MatchOption result ((q : ℤ) → q ≤ℤ time → at self.now q ≡ None) (λ e. IsLast (at self.now) time e.0 e.1) }
+        ensures { MatchOption result ((q : ℤ) → q ≤ℤ time → at self.now q ≡ None)
+            (λ e. IsLast (at self.now) time e.0 e.1) }
     {
         match self.map.range(..=time).next_back() {
             Some((start, part)) => Some((*start, *part)),
@@ -72,7 +73,8 @@ impl Stretches {
 
     /// The part that `time` lies in, if there is one.
     pub(crate) fn part_at(&self, time: i64) -> Option<Part>
-        ensures owner { (owners : Owners) → IsDivided owners (at self.now) → option_map owner_of result ≡ owners time }
+        ensures owner { (owners : Owners) → IsDivided owners (at self.now)
+            → option_map owner_of result ≡ owners time }
         ensures starts { IsSome (at self.now time) → at self.now time ≡ Some result }
     {
         match self.last_at(time) {
@@ -110,10 +112,13 @@ impl Stretches {
     pub(crate) fn split(&mut self, time: i64) -> Result<(), AllocError>
         requires from_in_time { least_start ≤ℤ time }
         requires to_in_time { time ≤ℤ greatest_until }
-        ensures divided { OnOk result ((owners : Owners) → IsDivided owners (at self.old) → IsDivided owners (at self.new)) }
+        ensures divided { OnOk result ((owners : Owners) → IsDivided owners (at self.old)
+            → IsDivided owners (at self.new)) }
         ensures starts { OnOk result (IsSome (at self.new time)) }
-        ensures keeps { OnOk result ((owners : Owners) (q : ℤ) → IsDivided owners (at self.old) → IsSome (at self.old q) → IsSome (at self.new q)) }
-        ensures ends { OnOk result ((owners : Owners) (t : ℤ) (o : Span ℕ) → IsDivided owners (at self.old) → IsEnd (at self.new) t o → (t ≡ time) ⊎ IsEnd (at self.old) t o) }
+        ensures keeps { OnOk result ((owners : Owners) (q : ℤ) → IsDivided owners (at self.old)
+            → IsSome (at self.old q) → IsSome (at self.new q)) }
+        ensures ends { OnOk result ((owners : Owners) (t : ℤ) (o : Span ℕ) → IsDivided owners (at self.old)
+            → IsEnd (at self.new) t o → (t ≡ time) ⊎ IsEnd (at self.old) t o) }
         ensures err { OnErr result ((q : ℤ) → at self.new q ≡ at self.old q) }
     {
         let Some((start, held)) = self.last_at(time) else {
@@ -137,8 +142,10 @@ impl Stretches {
         requires from_in_time { least_start ≤ℤ time }
         ensures divided { (owners : Owners) → IsDivided owners (at self.old) → IsDivided owners (at self.new) }
         ensures keeps { (q : ℤ) → q ≢ time → IsSome (at self.old q) → IsSome (at self.new q) }
-        ensures ends { (owners : Owners) (t : ℤ) (o : Span ℕ) → IsDivided owners (at self.old) → IsEnd (at self.new) t o → IsEnd (at self.old) t o }
-        ensures apart { (owners : Owners) (o : Span ℕ) → IsDivided owners (at self.old) → IsEnd (at self.new) time o → owners time ≢ Some o }
+        ensures ends { (owners : Owners) (t : ℤ) (o : Span ℕ) → IsDivided owners (at self.old)
+            → IsEnd (at self.new) t o → IsEnd (at self.old) t o }
+        ensures apart { (owners : Owners) (o : Span ℕ) → IsDivided owners (at self.old)
+            → IsEnd (at self.new) time o → owners time ≢ Some o }
     {
         let Some(later) = self.part_from(time) else {
             return;
@@ -161,10 +168,13 @@ impl Stretches {
         requires forward { from ≤ℤ until }
         requires to_in_time { until ≤ℤ greatest_until }
         ensures divided { (owners : Owners) → IsDivided owners (at self.old) → IsDivided owners (at self.new) }
-        ensures from { OnOk result ((owners : Owners) → IsDivided owners (at self.old) → IsSome (at self.new from)) }
+        ensures from { OnOk result ((owners : Owners) → IsDivided owners (at self.old)
+            → IsSome (at self.new from)) }
         ensures until { OnOk result (IsSome (at self.new until)) }
-        ensures ends { OnOk result ((owners : Owners) (t : ℤ) (o : Span ℕ) → IsDivided owners (at self.old) → IsEnd (at self.new) t o → (t ≡ until) ⊎ ((t ≡ from) ⊎ IsEnd (at self.old) t o)) }
-        ensures err { OnErr result ((owners : Owners) → IsDivided owners (at self.old) → AreWhole owners (at self.old) → AreWhole owners (at self.new)) }
+        ensures ends { OnOk result ((owners : Owners) (t : ℤ) (o : Span ℕ) → IsDivided owners (at self.old)
+            → IsEnd (at self.new) t o → (t ≡ until) ⊎ ((t ≡ from) ⊎ IsEnd (at self.old) t o)) }
+        ensures err { OnErr result ((owners : Owners) → IsDivided owners (at self.old)
+            → AreWhole owners (at self.old) → AreWhole owners (at self.new)) }
     {
         self.split(from)?;
         if let Err(refused) = self.split(until) {
@@ -176,7 +186,8 @@ impl Stretches {
 
     // The part that starts at `time`.
     fn part_from(&self, time: i64) -> Option<Part>
-        ensures { MatchOption result ((p : Part) → at self.now time ≢ Some (Some p)) (λ p. at self.now time ≡ Some (Some p)) }
+        ensures { MatchOption result ((p : Part) → at self.now time ≢ Some (Some p))
+            (λ p. at self.now time ≡ Some (Some p)) }
     {
         match self.map.get(&time) {
             Some(Some(part)) => Some(*part),

@@ -39,7 +39,8 @@ impl Ties {
     }
 
     pub(crate) fn note(&mut self, start: i64, end: i64)
-        ensures { (owners : Owners) → AreBarred owners self.old → IsBarred owners start end → AreBarred owners self.new }
+        ensures { (owners : Owners) → AreBarred owners self.old → IsBarred owners start end
+            → AreBarred owners self.new }
     {
         match self.ends.insert((start, end)) {
             Ok(_) => {}

@@ -1,6 +1,6 @@
 //! The time of a thread, divided among its closed spans.
 ghost use Rattle.std.specs.Prelude.{true, false, map, option_copied, ◌≡◌, ◌≤◌, ◌<◌, ◌+◌, ◌*◌, ◌^◌, ◌==◌, ◌≤ℤ◌, ◌<ℤ◌, ℕ, [], ◌++◌, nat_eq, reverse, length, Some, slice_get, vec_len, vec_capacity, if◌then◌else◌, IsSome, OnOk, OnErr};
-ghost use Rattle.indexmap.specs.IndexMap.{get, spare};
+ghost use Rattle.indexmap.specs.IndexMap.{get};
 ghost use Rattle.span_event.specs.Time.{distance};
 ghost use Rattle.span_time.specs.Spans.{outranks};
 ghost use Rattle.span_time.specs.Closed.{least_start, greatest_until};
@@ -59,7 +59,8 @@ impl Timeline {
     }
 
     pub(crate) fn segment(&self, i: u64) -> Option<&Segment>
-        ensures { option_copied result ≡ slice_get (map (λ part. part.segment) (parts_of self.now.past.items self.now.future.items)) i }
+        ensures { option_copied result
+            ≡ slice_get (map (λ part. part.segment) (parts_of self.now.past.items self.now.future.items)) i }
     {
         let i = i as usize;
         if let Some(part) = self.past.get(i) {
@@ -107,7 +108,8 @@ impl Timeline {
 
     // Moves the cursor back, behind the parts that end no later than `time`.
     fn rewind(&mut self, time: i64) -> Result<(), AllocError>
-        ensures parts { parts_of self.new.past.items self.new.future.items ≡ parts_of self.old.past.items self.old.future.items }
+        ensures parts { parts_of self.new.past.items self.new.future.items
+            ≡ parts_of self.old.past.items self.old.future.items }
         ensures own { self.new.own ≡ self.old.own }
         ensures busy { self.new.busy ≡ self.old.busy }
         ensures past { OnOk result (lasts_beyond time (reverse self.new.past.items) ≡ false) }
@@ -124,10 +126,12 @@ impl Timeline {
 
     // Moves the cursor on, behind the parts that end no later than `time`.
     fn advance(&mut self, time: i64) -> Result<(), AllocError>
-        ensures parts { parts_of self.new.past.items self.new.future.items ≡ parts_of self.old.past.items self.old.future.items }
+        ensures parts { parts_of self.new.past.items self.new.future.items
+            ≡ parts_of self.old.past.items self.old.future.items }
         ensures own { self.new.own ≡ self.old.own }
         ensures busy { self.new.busy ≡ self.old.busy }
-        ensures past { lasts_beyond time (reverse self.old.past.items) ≡ false → lasts_beyond time (reverse self.new.past.items) ≡ false }
+        ensures past { lasts_beyond time (reverse self.old.past.items) ≡ false
+            → lasts_beyond time (reverse self.new.past.items) ≡ false }
         ensures future { OnOk result (ends_by time (reverse self.new.future.items) ≡ false) }
     {
         while ends_by(&self.future, time) {
@@ -143,7 +147,8 @@ impl Timeline {
     // Passes the part that the span starts in, if there is one. Returns the time before which all is taken.
     fn enter(&mut self, span: &Part) -> i64
         requires { ForSome (IsEntering (owner_of span.now) self.old) }
-        ensures { (owners : Owners) → IsEntering (owner_of span.now) self.old owners → IsTaking (owner_of span.now) result self.new owners }
+        ensures { (owners : Owners) → IsEntering (owner_of span.now) self.old owners
+            → IsTaking (owner_of span.now) result self.new owners }
     {
         if !starts_before(&self.future, span.span_start) {
             return span.span_start;
@@ -157,7 +162,8 @@ impl Timeline {
     // Passes the other parts that the span reaches, each after the gap before it. Returns the time before which all is taken.
     fn go_through(&mut self, span: &Part, from: i64) -> i64
         requires { ForSome (IsTaking (owner_of span.now) from self.old) }
-        ensures taken { (owners : Owners) → IsTaking (owner_of span.now) from self.old owners → IsTaking (owner_of span.now) result self.new owners }
+        ensures taken { (owners : Owners) → IsTaking (owner_of span.now) from self.old owners
+            → IsTaking (owner_of span.now) result self.new owners }
         ensures gap { starts_before span.now.span_until (reverse self.new.future.items) ≡ false }
     {
         let mut time = from;
@@ -171,7 +177,8 @@ impl Timeline {
     fn go_on(&mut self, span: &Part, time: i64) -> i64
         requires taken { ForSome (IsTaking (owner_of span.now) time self.old) }
         requires next { starts_before span.now.span_until (reverse self.old.future.items) ≡ true }
-        ensures taken { (owners : Owners) → IsTaking (owner_of span.now) time self.old owners → IsTaking (owner_of span.now) result self.new owners }
+        ensures taken { (owners : Owners) → IsTaking (owner_of span.now) time self.old owners
+            → IsTaking (owner_of span.now) result self.new owners }
         ensures on { time <ℤ result }
     {
         let Some(part) = self.future.pop() else {
@@ -186,7 +193,8 @@ impl Timeline {
     fn fill_before(&mut self, span: &Part, part: &Part, time: i64)
         requires ahead { ForSome (IsAhead (owner_of span.now) time part.now self.old) }
         requires within { part.now.segment.start <ℤ span.now.span_until }
-        ensures { (owners : Owners) → IsAhead (owner_of span.now) time part.now self.old owners → IsPassing (owner_of span.now) part.now.segment.start part.now self.new owners }
+        ensures { (owners : Owners) → IsAhead (owner_of span.now) time part.now self.old owners
+            → IsPassing (owner_of span.now) part.now.segment.start part.now self.new owners }
     {
         if time < part.segment.start {
             self.busy += distance(time, part.segment.start);
@@ -198,7 +206,8 @@ impl Timeline {
     fn finish(&mut self, span: &Part, time: i64)
         requires taken { ForSome (IsTaking (owner_of span.now) time self.old) }
         requires gap { starts_before span.now.span_until (reverse self.old.future.items) ≡ false }
-        ensures { (owners : Owners) → IsTaking (owner_of span.now) time self.old owners → IsTimeline (taken (owner_of span.now) owners) self.new }
+        ensures { (owners : Owners) → IsTaking (owner_of span.now) time self.old owners
+            → IsTimeline (taken (owner_of span.now) owners) self.new }
     {
         if time < span.span_until {
             self.busy += distance(time, span.span_until);
@@ -209,7 +218,8 @@ impl Timeline {
     // Puts the part back, but for what the span takes of it from `from` on. Returns the time before which all is taken.
     fn pass(&mut self, span: &Part, part: Part, from: i64) -> i64
         requires { ForSome (IsPassing (owner_of span.now) from part self.old) }
-        ensures taken { (owners : Owners) → IsPassing (owner_of span.now) from part self.old owners → IsTaking (owner_of span.now) result self.new owners }
+        ensures taken { (owners : Owners) → IsPassing (owner_of span.now) from part self.old owners
+            → IsTaking (owner_of span.now) result self.new owners }
         ensures on { from <ℤ result }
     {
         if span.outranks(&part) {
@@ -224,7 +234,8 @@ impl Timeline {
     fn cede(&mut self, span: &Part, part: &Part, from: i64) -> i64
         requires next { ForSome (IsPassing (owner_of span.now) from part.now self.old) }
         requires above { outranks (owner_of span.now) (owner_of part.now) ≡ true }
-        ensures taken { (owners : Owners) → IsPassing (owner_of span.now) from part.now self.old owners → IsTaking (owner_of span.now) result self.new owners }
+        ensures taken { (owners : Owners) → IsPassing (owner_of span.now) from part.now self.old owners
+            → IsTaking (owner_of span.now) result self.new owners }
         ensures on { from <ℤ result }
     {
         push_between(&mut self.past, part, part.segment.start, from);
@@ -242,10 +253,14 @@ impl Timeline {
         requires room { vec_len self.old.past < vec_capacity self.old.past }
         requires kept { IsSome (get nat_eq self.old.own span.now.segment.name) }
         requires small { own_in self.old.own span.now.segment.name + distance from until < 2 ^ 64 }
-        ensures past { (owners : Owners) → IsOnly (owner_of span.now) owners → Belong owners from until (Some (owner_of span.now))
-            → ArePast owners from (reverse self.old.past.items) → IsGained (owner_of span.now) from until self.old.past.items self.new.past.items owners }
-        ensures own { (other : ℕ) → own_in self.new.own other ≡ own_in self.old.own other + (if span.now.segment.name == other then distance from until else 0) }
-        ensures kept { (other : ℕ) → IsSome (get nat_eq self.old.own other) → IsSome (get nat_eq self.new.own other) }
+        ensures past { (owners : Owners) → IsOnly (owner_of span.now) owners
+            → Belong owners from until (Some (owner_of span.now))
+            → ArePast owners from (reverse self.old.past.items)
+            → IsGained (owner_of span.now) from until self.old.past.items self.new.past.items owners }
+        ensures own { (other : ℕ) → own_in self.new.own other
+            ≡ own_in self.old.own other + (if span.now.segment.name == other then distance from until else 0) }
+        ensures kept { (other : ℕ) → IsSome (get nat_eq self.old.own other)
+            → IsSome (get nat_eq self.new.own other) }
         ensures room { vec_len self.new.past ≤ vec_len self.old.past + 1 }
         ensures capacity { vec_capacity self.new.past ≡ vec_capacity self.old.past }
         ensures future { self.new.future ≡ self.old.future }
@@ -259,7 +274,8 @@ impl Timeline {
 
 // Takes the last part back where it is of the span and ends at `from`. Returns from when on the span's time reaches to `from`.
 fn take_back(past: &mut Vec<Part>, span: &Part, from: i64) -> i64
-    ensures past { (owners : Owners) → IsOnly (owner_of span.now) owners → ArePast owners from (reverse past.old.items)
+    ensures past { (owners : Owners) → IsOnly (owner_of span.now) owners
+        → ArePast owners from (reverse past.old.items)
         → IsTakenBack (owner_of span.now) result from past.old.items past.new.items owners }
     ensures len { vec_len past.new ≤ vec_len past.old }
     ensures capacity { vec_capacity past.new ≡ vec_capacity past.old }

@@ -1,6 +1,6 @@
 -- Which begins and ends of one thread belong together.
 use Rattle.std.specs.Prelude.{ℕ, ℤ, List, [], ◌∷◌, length, Option, Some, None}
-use Rattle.std.specs.Option.{option_or}
+use Rattle.std.specs.Option.{option_map, option_or}
 use Rattle.span_event.specs.Args.{merged}
 use Rattle.span_time.specs.Spans.{Arguments, Span}
 use Rattle.span_keyed.specs.Matching
@@ -49,6 +49,10 @@ module _ {N : Type 0} where
   -- the begin that an end right after these events matches
   abbrev pub opener : List (ThreadEvent N) → Option (Begin N)
   opener es = Matching.opener es
+
+  -- its arguments
+  abbrev pub opener_args : List (ThreadEvent N) → Option Arguments
+  opener_args es = option_map (λ begin. begin.args) (opener es)
 
   -- the begins that no end matches
   abbrev pub open_spans : List (ThreadEvent N) → List (Begin N)

@@ -1,11 +1,11 @@
 //! The track of one thread.
-ghost use Rattle.std.specs.Prelude.{◌≡◌, nat_eq, ◌+◌, ◌*◌, ◌-◌, ◌≤◌, ℕ, List, [], ◌∷◌, ◌++◌, length, map, slice_get, Some, None, pos, ◌+ℤ◌, option_copied, IfSome, IfOk, OnOk, OnErr};
+ghost use Rattle.std.specs.Prelude.{◌≡◌, nat_eq, ◌+◌, ◌*◌, ◌-◌, ◌≤◌, ℕ, List, [], ◌∷◌, length, map, slice_get, Some, None, pos, ◌+ℤ◌, option_copied, IfSome, IfOk, OnOk, OnErr};
 ghost use Rattle.std.specs.List.{count_by};
 ghost use Rattle.std.specs.Option.{option_map};
 ghost use Rattle.span_event.specs.Event.{IsTime, greatest_time};
+ghost use Rattle.span_event.specs.Given.{Gives};
 ghost use Rattle.span_keyed.specs.Fault.{Answers};
-ghost use Rattle.span_track.specs.Nesting.{ThreadEvent, began, ended, completed, closed_by, opener};
-ghost use Rattle.span_time.specs.declared.segment.Segment.{Segment};
+ghost use Rattle.span_track.specs.Nesting.{ThreadEvent, began, ended, completed, closed_by, opener, opener_args};
 ghost use Rattle.span_time.specs.Segments.{lasts, AreSegments, HasSegments, HasEnds};
 ghost use Rattle.span_time.specs.Spans.{Arguments, self_of, busy_time};
 ghost use Rattle.span_track.specs.Thread.{StandsFor, TakesEvent, HasRoom, IsNext, goes_back, begin_refusal, end_refusal, merged_args};
@@ -45,7 +45,8 @@ impl Model for ThreadTrack {
 
     ghost view = { λ t. record { opened = map begin_of t.opened.items; closed = t.closed; last = t.last } };
 
-    ghost invariant = { λ t. IsSound (record { opened = map begin_of t.opened.items; closed = t.closed; last = t.last }) };
+    ghost invariant = { λ t. IsSound
+        (record { opened = map begin_of t.opened.items; closed = t.closed; last = t.last }) };
 }
 
 impl ThreadTrack {
@@ -74,7 +75,8 @@ impl ThreadTrack {
         requires in_time { IsTime ts }
         ensures refusal { Answers result (begin_refusal self.old ts) }
         ensures depth { IfOk result (λ depth. depth ≡ length self.new.opened) }
-        ensures stands { OnOk result (TakesEvent self.old self.new (began (record { name = name; ts = ts; at = at; args = args.now }))) }
+        ensures stands { OnOk result (TakesEvent self.old self.new
+            (began (record { name = name; ts = ts; at = at; args = args.now }))) }
         ensures err { OnErr result (self.new ≡ self.old) }
     {
         if self.goes_back(ts) {
@@ -120,8 +122,10 @@ impl ThreadTrack {
     pub fn close_span(&mut self, ts: i64, merged: Args) -> Result<i64, AllocError>
         requires in_time { IsTime ts }
         requires taken { end_refusal self.old ts ≡ None }
-        ensures start { IfOk result (λ start. (es : List (ThreadEvent ℕ)) → StandsFor self.old es → option_map (λ begin. begin.ts) (opener es) ≡ Some start) }
-        ensures stands { OnOk result ((args : Arguments) → merged ≡ merged_args self.old args → TakesEvent self.old self.new (ended ts args)) }
+        ensures start { IfOk result (λ start. (es : List (ThreadEvent ℕ)) → StandsFor self.old es
+            → option_map (λ begin. begin.ts) (opener es) ≡ Some start) }
+        ensures stands { OnOk result ((args : Arguments) → merged ≡ merged_args self.old args
+            → TakesEvent self.old self.new (ended ts args)) }
         ensures err { OnErr result (self.new ≡ self.old) }
     {
         let Some(last_open) = self.opened.last() else {
@@ -185,7 +189,8 @@ impl ThreadTrack {
         requires in_time { IsTime ts }
         requires lasts { dur ≤ greatest_time }
         ensures refusal { Answers result None }
-        ensures stands { OnOk result (TakesEvent self.old self.new (completed (record { name = name; start = ts; until = ts +ℤ pos dur; at = at; args = args.now }))) }
+        ensures stands { OnOk result (TakesEvent self.old self.new
+            (completed (record { name = name; start = ts; until = ts +ℤ pos dur; at = at; args = args.now }))) }
         ensures err { OnErr result (self.new ≡ self.old) }
     {
         let args = args
@@ -205,7 +210,7 @@ impl ThreadTrack {
 
     /// The arguments of the begin that the next end matches. Takes no memory.
     pub fn open_args(&self) -> Option<&Args>
-        ensures { (es : List (ThreadEvent ℕ)) → StandsFor self.now es → option_copied result ≡ option_map (λ begin. begin.args) (opener es) }
+        ensures { Gives StandsFor self.now opener_args (option_copied result) }
     {
         match self.opened.last() {
             Some(begin) => Some(&begin.args),
@@ -274,7 +279,7 @@ impl ThreadTrack {
     /// How many segments of time there are: stretches, each as long as can be, in which one closed span ranks above all others
     /// that cover it. With n closed spans of a microsecond or more there are at most 2n - 1, and none where n is 0. Takes no memory.
     pub fn segment_count(&self) -> u64
-        ensures count { (segments : List Segment) → AreSegments self.now.closed segments → result ≡ length segments }
+        ensures count { Gives AreSegments self.now.closed length result }
         ensures segments { HasSegments self.now.closed }
         ensures bound { result ≤ 2 * count_by lasts self.now.closed - 1 }
     {
@@ -283,7 +288,7 @@ impl ThreadTrack {
 
     /// A segment of time, in ascending order, counted from 0; None from the number of segments on. Takes no memory.
     pub fn segment(&self, i: u64) -> Option<&Segment>
-        ensures segment { (segments : List Segment) → AreSegments self.now.closed segments → option_copied result ≡ slice_get segments i }
+        ensures segment { Gives AreSegments self.now.closed (λ segments. slice_get segments i) (option_copied result) }
         ensures ends { IfSome (option_copied result) (HasEnds self.now.closed) }
     {
         self.closed.segment(i)
@@ -299,7 +304,8 @@ impl ThreadTrack {
 
 // The span that ends at `until`.
 fn closed_at(begin: &OpenSpan, until: i64, args: Args) -> ClosedSpan
-    ensures { result ≡ record { name = begin.now.name; start = begin.now.ts; until = until; at = begin.now.at; args = args } }
+    ensures { result
+        ≡ record { name = begin.now.name; start = begin.now.ts; until = until; at = begin.now.at; args = args } }
 {
     ClosedSpan {
         name: begin.name,

@@ -28,7 +28,8 @@ impl Model for KeySpans {
 
     ghost view = { λ s. record { opened = s.opened.items; closed = s.closed; total = s.total; points = s.points } };
 
-    ghost invariant = { λ s. AreBounded (record { opened = s.opened.items; closed = s.closed; total = s.total; points = s.points }) };
+    ghost invariant = { λ s. AreBounded
+        (record { opened = s.opened.items; closed = s.closed; total = s.total; points = s.points }) };
 }
 
 impl KeySpans {

@@ -1,6 +1,5 @@
 //! What is kept of each series, by a code of its key.
 ghost use Rattle.std.specs.Prelude.{◌≡◌, ◌+◌, ◌≤◌, ◌<◌, ◌^◌, ◌-◌, [], map, Some, None, Option, IfOk, IfSome, IfNone, vec_len, length};
-ghost use Rattle.std.specs.List.{AllByRecursion};
 ghost use Rattle.std.specs.Map.{lookup};
 ghost use Rattle.std.specs.Option.{option_map};
 ghost use Rattle.span_keyed.specs.Keyed.{kept_at};
@@ -9,9 +8,9 @@ ghost use Rattle.span_keyed.specs.declared.counter_track.codes.SeriesCode.{Serie
 ghost use Rattle.indexmap.specs.IndexMap.{insert_entry, spare};
 ghost use Rattle.span_event.specs.Event.{AllWhole};
 ghost use Rattle.span_event.specs.Args.{IsInNameOrder};
-ghost use Rattle.span_keyed.specs.Counters.{HasCounterRoom, Series, TakesCounter, series_cmp, series_key};
+ghost use Rattle.span_keyed.specs.Counters.{HasCounterRoom, Series, TakesCounter, series_cmp};
 ghost use Rattle.span_keyed.specs.CountersKept.{samples_before, with_sample};
-ghost use Rattle.span_keyed.specs.Numbering.{KeepsNumbers, number_in, text_at};
+ghost use Rattle.span_keyed.specs.Numbering.{KeepsNumbers};
 ghost use Rattle.span_keyed.specs.SeriesCodes.{AreCodes, AreSamples, decoded, IsCounterCode, IsIdCode, IsSeriesCode, code_eq, id_at, member_at, series_at, sorted_totals};
 ghost use Rattle.span_event.specs.declared.args.ArgValue.TheVariants.{Whole};
 
@@ -63,7 +62,9 @@ impl CodedSeries {
 
     pub(crate) fn of(&self, key: &SeriesKey) -> Option<SeriesTotals>
         requires { AreCodes self.now.texts self.now.entries.entries }
-        ensures { result ≡ option_map (λ (s : Series). s.totals) (kept_at series_cmp None (decoded self.now.texts self.now.entries.entries) key.now) }
+        ensures { result
+            ≡ option_map (λ (s : Series). s.totals)
+            (kept_at series_cmp None (decoded self.now.texts self.now.entries.entries) key.now) }
     {
         let code = find_code(&self.texts, key)?;
         let running = self.entries.get(&code)?;
@@ -93,7 +94,8 @@ impl CodedSeries {
         requires fits { length samples.now ≤ spare self.old.entries }
         requires room { HasCounterRoom (decoded self.old.texts self.old.entries.entries) }
         ensures codes { AreCodes self.new.texts self.new.entries.entries }
-        ensures takes { TakesCounter (decoded self.old.texts self.old.entries.entries) (decoded self.new.texts self.new.entries.entries) event.now }
+        ensures takes { TakesCounter (decoded self.old.texts self.old.entries.entries)
+            (decoded self.new.texts self.new.entries.entries) event.now }
     {
         for sample in samples {
             self.add(sample.0, event.ts, sample.1);
@@ -106,7 +108,8 @@ impl CodedSeries {
         requires room { samples_before (lookup (code_eq code) self.old.entries.entries) < 2 ^ 32 - 1 }
         ensures texts { self.new.texts ≡ self.old.texts }
         ensures entries { self.new.entries.entries
-            ≡ insert_entry code_eq self.old.entries.entries code (with_sample (lookup (code_eq code) self.old.entries.entries) (record { ts = ts; value = value })) }
+            ≡ insert_entry code_eq self.old.entries.entries code
+            (with_sample (lookup (code_eq code) self.old.entries.entries) (record { ts = ts; value = value })) }
         ensures spare { spare self.old.entries ≤ spare self.new.entries + 1 }
     {
         let running = Running::with(self.entries.get(&code), ts, value);

@@ -60,7 +60,8 @@ impl ThreadInstants {
     }
 
     fn of(&self, name: &Text, reach: Reach) -> u32
-        ensures { result ≡ count_at reach (kept_at name_cmp (counts_of []) self.now name.now) }
+        ensures { result
+            ≡ count_at reach (kept_at name_cmp (counts_of []) self.now name.now) }
     {
         match self.names.get(name) {
             Some(reaches) => reaches.of(reach),
@@ -113,7 +114,8 @@ impl Instants {
         reach: Reach,
     ) -> Result<(), AllocError>
         requires { HasInstantRoom self.old }
-        ensures takes { OnOk result (TakesInstant self.old self.new (record { key = thread; step = record { key = name.now; step = reach } })) }
+        ensures takes { OnOk result (TakesInstant self.old self.new
+            (record { key = thread; step = record { key = name.now; step = reach } })) }
         ensures err { OnErr result (self.new ≡ self.old) }
     {
         if let Some(instants) = self.threads.get_mut(&thread) {
@@ -126,7 +128,8 @@ impl Instants {
     }
 
     pub(crate) fn of(&self, thread: (i64, i64), name: &Text, reach: Reach) -> u32
-        ensures { result ≡ count_at reach (kept_at name_cmp (counts_of []) (kept_at thread_cmp [] self.now thread) name.now) }
+        ensures { result
+            ≡ count_at reach (kept_at name_cmp (counts_of []) (kept_at thread_cmp [] self.now thread) name.now) }
     {
         match self.threads.get(&thread) {
             Some(instants) => instants.of(name, reach),
