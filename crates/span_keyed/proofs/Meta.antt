@@ -1,7 +1,9 @@
--- What is kept of the names of a process or thread, from one setting to the next.
-use Rattle.std.proofs.Common.{◌≡◌, ℤ, List, [], ◌∷◌, ◌++◌, Bool, true, false, cond, is_some, codes, nat_eq, Option, Some, None, option_and_then, Equal, refl, ap, ◌∙◌, append-nil}
+-- What is kept of the names of a process or thread: from one setting to the next, and after all.
+use Rattle.std.proofs.Common.{◌≡◌, ℤ, List, [], ◌∷◌, ◌++◌, Bool, true, false, cond, is_some, codes, nat_eq, Option, Some, None, option_and_then, Equal, refl, sym, ap, ◌∙◌, append-nil}
 use Rattle.std.specs.Prelude.{filter_map}
 use Rattle.std.specs.List.{cons_option}
+use Rattle.std.specs.Map.{lookup}
+use Rattle.std.specs.BTreeMap.{is_at}
 use Rattle.std.specs.Option.{option_cmp, option_map}
 use Rattle.std.specs.Ordering.{int_cmp}
 use Rattle.std.specs.Cmp.{IsTotalOrder}
@@ -11,10 +13,11 @@ use Rattle.std.proofs.lemmas.Cmp.{then_total, on_total, int_cmp_total}
 use Rattle.std.proofs.lemmas.List.Elements.{filter_map-append}
 use Rattle.span_event.specs.declared.event.Event.{Event}
 use Rattle.span_event.specs.declared.event.Phase.TheVariants.{Instant, Meta}
-use Rattle.span_keyed.specs.Keyed.{Keyed}
+use Rattle.span_keyed.specs.Keyed.{Keyed, entries_in}
 use Rattle.span_keyed.specs.Last.{last_of}
-use Rattle.span_keyed.specs.Meta.{Holder, holder_cmp, Setting, set_name, set_labels, set_sort_index, names_of, as_name, as_labels, as_sort_index, words_of, whole_of, name_setting, labels_setting, sort_setting, setting_of, settings_in, is_meta}
+use Rattle.span_keyed.specs.Meta.{Holder, holder_cmp, MetaKept, MetaStandsFor, Names, NamesKept, Setting, set_name, set_labels, set_sort_index, names_in, names_of, as_name, as_labels, as_sort_index, words_of, whole_of, name_setting, labels_setting, sort_setting, setting_of, settings_in, is_meta}
 use Rattle.span_keyed.specs.MetaKept.{with_setting}
+use Rattle.span_keyed.proofs.Keyed.{lookup-entries_in, steps_at-absent}
 use Rattle.span_keyed.proofs.Lists.Last.{last_of-append}
 use Rattle.span_keyed.proofs.Orders.{both_equal, option_same}
 
@@ -94,3 +97,15 @@ settings_in-instant es event phase =
     filter_map-append (λ (e : Event). cond (is_meta e.phase) (setting_of e) None) es (event ∷ [])
     ∙ ap (λ p. settings_in es ++ cons_option (cond (is_meta p) (setting_of event) None) []) phase
     ∙ append-nil (settings_in es)
+
+module _ (track : MetaKept) (kept : NamesKept) (es : List Event) (holder key : Holder) (view : kept ≡ track.names) (stands : MetaStandsFor track es) (same : key ≡ holder) where
+  lookup-kept : lookup (is_at (holder_cmp holder)) (entries_in holder_cmp names_of (settings_in es)) ≡ lookup (is_at (holder_cmp key)) kept
+  lookup-kept = ap (lookup (is_at (holder_cmp holder))) (sym (view ∙ stands.names)) ∙ ap (λ h. lookup (is_at (holder_cmp h)) kept) (sym same)
+
+  -- the names that are kept of a process or thread are those that the events give
+  pub names_in-kept : (names : Names) → Some names ≡ lookup (is_at (holder_cmp key)) kept → names ≡ names_in es holder
+  names_in-kept names found = lookup-entries_in holder_cmp-total holder_cmp-same names_of (settings_in es) holder names (lookup-kept ∙ sym found)
+
+  -- where none are kept, the events give none
+  pub names_in-none : None ≡ lookup (is_at (holder_cmp key)) kept → names_of [] ≡ names_in es holder
+  names_in-none none = sym (ap names_of (steps_at-absent holder_cmp-total holder_cmp-same names_of (settings_in es) holder (lookup-kept ∙ sym none)))
