@@ -2,6 +2,7 @@
 #![tactic(auto)]
 
 mod command;
+mod inputs;
 mod program;
 mod reading;
 mod source;

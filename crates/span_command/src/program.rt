@@ -1,8 +1,10 @@
 //! The program, over whatever files and outputs it is given.
-ghost use Rattle.std.specs.Prelude.{◌≡◌, ◌-◌, ◌^◌, ◌<◌, ◌≤◌, length};
+ghost use Rattle.std.specs.Prelude.{◌≡◌, ◌-◌, ◌^◌, ◌<◌, ◌≤◌, ◌⊎◌, length};
+ghost use Rattle.span_command.specs.Order.{EndsWith, LeavesPart, Collects, CollectsPart, Performs, GivesUp};
 
-use crate::command::{Order, order_of};
-use crate::source::{Source, SourceFault};
+use crate::command::Order;
+use crate::inputs::{Unread, inputs_of};
+use crate::source::Source;
 use span_collect::{Input, RunEnd, Sink, Text, fault_lines, fault_word, run_to_ledger};
 use span_report::{json_text, write_bytes};
 use std::alloc::{AllocError, Global};
@@ -11,95 +13,75 @@ use std::mem::forget;
 use std::sync::Wait;
 use std::thread::Threads;
 
-/// The most bytes that are read of a file: one more than it may have, so that a longer one is refused.
-const MOST_READ: u64 = 67_108_865;
-
 const FAILED: u8 = 2;
 
 const MEMORY: u16 = 31;
 
 const NOT_OPENED: u16 = 52;
 
-/// Does what the words ask for, which leave out the program's own name, and gives the exit status: 0 where all files were read,
-/// 1 where one was refused, else 2. Files are read in the order of the words; the first that cannot be read decides. A failed
-/// write to `faults` changes nothing. Waits for the workers, of which each file has one.
+/// Does what the order asks for, and gives the exit status: 0 where all files were read, 1 where one was refused, else 2. Files are
+/// read in the order of their names; the first that cannot be read decides. A failed write to `faults` changes nothing. Waits for
+/// the workers, of which each file has one.
 pub fn perform<R: Threads + Wait + Sync, S: Source, O: Sink, F: Write>(
     rt: &R,
     alloc: Global,
-    words: &[Text],
+    order: Order,
     source: &mut S,
     out: &mut O,
     faults: &mut F,
 ) -> u8
     requires { (O.state out.old).failures < 2 ^ 64 - 1 }
-    ensures { result ≤ 2 }
+    ensures status { result ≤ 2 }
+    ensures done { result < 2
+        → Performs (S.bytes source.old) order result (O.state out.old) (O.state out.new) }
+    ensures failed { result ≡ 2 → GivesUp (S.bytes source.old) order (O.state out.old) (O.state out.new) }
 {
-    match order_of(alloc, words) {
-        Ok(Order::Collect { limit, files }) => match inputs_of(alloc, files, source) {
-            Ok(inputs) => {
-                source.end();
-                let status = collect(rt, alloc, limit, &inputs, out, faults);
-                drop(inputs);
-                status
-            }
-            Err(Unread::Memory) => fail(alloc, MEMORY, faults),
-            Err(Unread::NotOpened(name)) => {
-                let status = fail_at(alloc, &name, faults);
-                drop(name);
-                status
-            }
-        },
-        Ok(Order::Show(text)) => {
+    match order {
+        Order::Collect { limit, files } => {
+            collect_files(rt, alloc, limit, files, source, out, faults)
+        }
+        Order::Show(text) => {
             let shown = write_bytes(text.as_bytes(), out);
             drop(text);
             if shown.is_ok() { 0 } else { FAILED }
         }
-        Ok(Order::Refuse(text)) => {
+        Order::Refuse(text) => {
             let _ = faults.write_all(text.as_bytes());
             drop(text);
             FAILED
         }
-        Err(_) => fail(alloc, MEMORY, faults),
     }
 }
 
-// Why the files were not all read.
-#[derive(Drop)]
-enum Unread {
-    NotOpened(Text),
-    Memory,
-}
-
-// The files of these names; standard input, as the file `-`, where there are none.
-fn inputs_of<S: Source>(
+fn collect_files<R: Threads + Wait + Sync, S: Source, O: Sink, F: Write>(
+    rt: &R,
     alloc: Global,
+    limit: u32,
     names: Vec<Text>,
     source: &mut S,
-) -> Result<Vec<Input>, Unread> {
-    let mut inputs = Vec::new(alloc);
-    if names.is_empty() {
-        let name = Text::of(alloc, "-").map_err(|_| Unread::Memory)?;
-        let read = source.standard(MOST_READ);
-        add_input(&mut inputs, name, read)?;
-    }
-    for name in names {
-        let read = source.file(&name, MOST_READ);
-        add_input(&mut inputs, name, read)?;
-    }
-    Ok(inputs)
-}
-
-fn add_input(
-    inputs: &mut Vec<Input>,
-    name: Text,
-    read: Result<Vec<u8>, SourceFault>,
-) -> Result<(), Unread> {
-    match read {
-        Ok(bytes) => inputs
-            .push(Input { name, bytes })
-            .map_err(|_| Unread::Memory),
-        Err(SourceFault::NotOpened) => Err(Unread::NotOpened(name)),
-        Err(SourceFault::Memory) => Err(Unread::Memory),
+    out: &mut O,
+    faults: &mut F,
+) -> u8
+    requires { (O.state out.old).failures < 2 ^ 64 - 1 }
+    ensures status { result ≤ 2 }
+    ensures done { result < 2
+        → Collects (S.bytes source.old) names.items limit result (O.state out.old) (O.state out.new) }
+    ensures failed { result ≡ 2
+        → CollectsPart (S.bytes source.old) names.items limit (O.state out.old) (O.state out.new) }
+{
+    match inputs_of(alloc, names, source) {
+        Ok(inputs) => {
+            source.end();
+            let status = collect(rt, alloc, limit, &inputs, out, faults);
+            drop(inputs);
+            status
+        }
+        Err(Unread::Memory) => fail(alloc, MEMORY, faults),
+        Err(Unread::NotOpened(name)) => {
+            let status = fail_at(alloc, &name, faults);
+            drop(name);
+            status
+        }
     }
 }
 
@@ -112,7 +94,9 @@ fn collect<R: Threads + Wait + Sync, O: Sink, F: Write>(
     faults: &mut F,
 ) -> u8
     requires { (O.state out.old).failures < 2 ^ 64 - 1 }
-    ensures { result ≤ 2 }
+    ensures status { result ≤ 2 }
+    ensures done { result < 2 → EndsWith files.now limit result (O.state out.old) (O.state out.new) }
+    ensures failed { result ≡ 2 → LeavesPart files.now limit (O.state out.old) (O.state out.new) }
 {
     match run_to_ledger(rt, alloc, files, &[], limit, out) {
         Ok(collected) => {
@@ -128,7 +112,7 @@ fn collect<R: Threads + Wait + Sync, O: Sink, F: Write>(
 fn report_faults<F: Write>(alloc: Global, files: &[Input], end: &RunEnd, faults: &mut F) -> u8
     requires lines { length files.now ≡ length end.now.ends.items }
     requires status { end.now.status ≤ 2 }
-    ensures { result ≤ 2 }
+    ensures { (result ≡ end.now.status) ⊎ (result ≡ 2) }
 {
     match fault_lines(alloc, files, &end.ends) {
         Ok(lines) => {
@@ -141,7 +125,7 @@ fn report_faults<F: Write>(alloc: Global, files: &[Input], end: &RunEnd, faults:
 
 // Says that the program as a whole failed.
 fn fail<F: Write>(alloc: Global, code: u16, faults: &mut F) -> u8
-    ensures { result ≤ 2 }
+    ensures { result ≡ 2 }
 {
     if let Ok(fault) = numbered_text(alloc, code) {
         let _ = writeln!(faults, "tracebook: {fault}");
@@ -151,7 +135,7 @@ fn fail<F: Write>(alloc: Global, code: u16, faults: &mut F) -> u8
 
 // Says that a file could not be read.
 fn fail_at<F: Write>(alloc: Global, name: &Text, faults: &mut F) -> u8
-    ensures { result ≤ 2 }
+    ensures { result ≡ 2 }
 {
     match fault_line_of(alloc, name) {
         Ok(line) => {

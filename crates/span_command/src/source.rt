@@ -1,5 +1,6 @@
 //! Where the bytes of files come from.
-ghost use Rattle.std.specs.Prelude.{◌≤◌, vec_len, IfOk};
+ghost use Rattle.std.specs.Prelude.{◌≡◌, ◌≤◌, vec_len, IfOk};
+ghost use Rattle.span_command.specs.Source.{AreFirst, SourceBytes};
 
 use span_ledger::Text;
 
@@ -12,15 +13,20 @@ pub enum SourceFault {
     Memory,
 }
 
-/// Standard input and the files that a command line names.
+/// Standard input and the files that a command line names. Contracts see their bytes, where it tells them.
 pub trait Source {
+    ghost bytes: { Self → SourceBytes };
+
     /// The bytes of standard input, or the first `most` of them.
     fn standard(&mut self, most: u64) -> Result<Vec<u8>, SourceFault>
-        ensures { IfOk result (λ bytes. vec_len bytes ≤ most) };
+        ensures first { IfOk result (λ read. AreFirst most (bytes self.old).standard read.items) }
+        ensures within { IfOk result (λ read. vec_len read ≤ most) };
 
     /// The bytes of the file, or the first `most` of them.
     fn file(&mut self, name: &Text, most: u64) -> Result<Vec<u8>, SourceFault>
-        ensures { IfOk result (λ bytes. vec_len bytes ≤ most) };
+        ensures first { IfOk result (λ read. AreFirst most ((bytes self.old).file name.now) read.items) }
+        ensures within { IfOk result (λ read. vec_len read ≤ most) }
+        ensures same { bytes self.new ≡ bytes self.old };
 
     /// Called once, after the last file was read.
     fn end(&mut self) {}

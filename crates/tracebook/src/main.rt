@@ -3,9 +3,11 @@
 
 mod progress;
 
+ghost use Rattle.std.specs.Prelude.{None};
+
 use progress::{Cleared, Progress, Watched};
 use span_collect::{Text, Writer};
-use span_command::{Source, SourceFault, perform, read_up_to};
+use span_command::{Order, Source, SourceFault, order_of, perform, read_up_to};
 use std::fs::File;
 use std::io::{ErrorKind, IsTerminal};
 use std::process::ExitCode;
@@ -19,6 +21,9 @@ struct Host<'a> {
 }
 
 impl<'a> Source for Host<'a> {
+    // What files hold isn't known.
+    ghost bytes = { λ host. record { standard = None; file = λ name. None } };
+
     fn standard(&mut self, most: u64) -> Result<Vec<u8>, SourceFault> {
         self.progress.open(0);
         let mut reader = Watched {
@@ -49,18 +54,18 @@ impl<'a> Source for Host<'a> {
     }
 }
 
-// The words of the command line behind the program's name. Each of them must be text.
-fn words_of(rt: &HostRuntime) -> io::Result<Vec<Text>> {
+// What the words of the command line behind the program's name ask for. Each of them must be text.
+fn order(rt: &HostRuntime) -> io::Result<Order> {
     let alloc = rt.alloc();
     let mut words = Vec::new(alloc);
     for word in env::args(rt)?.skip(1) {
         words.push(Text::of(alloc, word.as_str())?)?;
     }
-    Ok(words)
+    Ok(order_of(alloc, &words)?)
 }
 
-// Says why there are no words. Nothing can be done where standard error fails.
-fn fail_without_words(rt: &HostRuntime, error: io::Error) -> ExitCode {
+// Says why there is no order. Nothing can be done where standard error fails.
+fn fail_without_order(rt: &HostRuntime, error: io::Error) -> ExitCode {
     let _ = match error.kind() {
         ErrorKind::OutOfMemory => eprintln!(rt; "tracebook: 31 Memory"),
         _ => eprintln!(rt; "tracebook: a word of the command line is not UTF-8 text"),
@@ -69,9 +74,9 @@ fn fail_without_words(rt: &HostRuntime, error: io::Error) -> ExitCode {
 }
 
 fn main(rt: HostRuntime) -> ExitCode {
-    let words = match words_of(&rt) {
-        Ok(words) => words,
-        Err(error) => return fail_without_words(&rt, error),
+    let order = match order(&rt) {
+        Ok(order) => order,
+        Err(error) => return fail_without_order(&rt, error),
     };
     let is_terminal = rt.stderr().is_terminal();
     let mut source = Host {
@@ -80,6 +85,6 @@ fn main(rt: HostRuntime) -> ExitCode {
     };
     let mut out = Writer::new(Cleared::new(&rt, rt.stdout(), is_terminal));
     let mut faults = Cleared::new(&rt, rt.stderr(), is_terminal);
-    let status = perform(&rt, rt.alloc(), &words, &mut source, &mut out, &mut faults);
+    let status = perform(&rt, rt.alloc(), order, &mut source, &mut out, &mut faults);
     ExitCode::from(status)
 }
