@@ -31,8 +31,8 @@ test:
 # Times the reading of traces beside that of other readers, the division of a thread's time, a report beside its reading, and
 # whole runs over many threads and over several files.
 bench: tracebook
-	cd crates/reading_time && rt run < stdin
-	cd crates/track_time && rt run < stdin
+	cd crates/bench_reading && rt run < stdin
+	cd crates/bench_tracking && rt run < stdin
 	bench/reading
 	bench/tracking
 	bench/threads

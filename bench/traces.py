@@ -4,7 +4,7 @@ import subprocess
 import time
 
 CRATES = os.path.join(os.path.dirname(os.path.abspath(__file__)), "..", "crates")
-READING_TIME = os.path.join(CRATES, "reading_time", "out", "reading_time")
+BENCH_READING = os.path.join(CRATES, "bench_reading", "out", "bench_reading")
 TRACEBOOK = os.path.join(CRATES, "..", "tracebook")
 END = '],"beginningOfTime":1}'
 TURNS = 3

@@ -5,7 +5,7 @@ use Rattle.std.proofs.lemmas.List.{map_push}
 use Rattle.std.proofs.lemmas.List.Sums.{fold-append}
 use Rattle.std.specs.declared.cmp.Ordering.{Ordering}
 use Rattle.std.specs.BTreeSet.{insert_key}
-use Rattle.span_keyed.specs.Keyed.{ascending}
+use Rattle.span_keyed_tracks.specs.Keyed.{ascending}
 
 -- one more key is passed
 pub ascending-passed : {K : Type 0} (R : K → K → Ordering) (passed : List (Bor K)) (k : Bor K) → ascending R (map (λ x. x.now) (passed ++ k ∷ [])) ≡ insert_key R (ascending R (map (λ x. x.now) passed)) k.now

@@ -5,10 +5,10 @@ use Rattle.std.specs.Option.{option_or}
 use Rattle.std.specs.List.{list_any}
 use Rattle.std.specs.Int.{int_min, int_max}
 use Rattle.span_event.specs.Time.{distance}
-use Rattle.span_time.specs.Spans.{Span, covers, outranks, is_outranked, is_covered, earliest, latest, count_from, self_time, busy_time}
-use Rattle.span_keyed.specs.Matching.{opens, closes, other}
+use Rattle.span_self_time.specs.Spans.{Span, covers, outranks, is_outranked, is_covered, earliest, latest, count_from, self_time, busy_time}
+use Rattle.span_keyed_tracks.specs.Matching.{opens, closes, other}
 use Rattle.span_track.specs.Nesting.{ThreadEvent, span_between, whole_span, opener, open_spans, closed_spans, last_time}
-use Rattle.span_keyed.proofs.Matching.Mapped.{opener-map_step, open_of-map_step, closed_of-map_step}
+use Rattle.span_keyed_tracks.proofs.Matching.Mapped.{opener-map_step, open_of-map_step, closed_of-map_step}
 use Rattle.span_ledger.specs.Numbered.{renamed_begin, renamed_span, renamed}
 
 list_any-map : {A B : Type 0} (p : B → Bool) (f : A → B) (xs : List A) → list_any p (map f xs) ≡ list_any (λ x. p (f x)) xs

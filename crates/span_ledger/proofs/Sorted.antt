@@ -8,7 +8,7 @@ use Rattle.std.specs.declared.cmp.Ordering.TheVariants.{Less, Equal, Greater}
 use Rattle.std.specs.Ordering.{match_ordering, ordering_reverse, ordering_then}
 use Rattle.std.specs.Cmp.{IsTotalOrder, tied_itself}
 use Rattle.std.specs.BTreeSet.{insert_key}
-use Rattle.span_keyed.specs.Keyed.{ascending, entry_of}
+use Rattle.span_keyed_tracks.specs.Keyed.{ascending, entry_of}
 
 -- what follows from a fact of each holds of each
 pub AllByRecursion-map : {A : Type 0} (P Q : A → Type 0) → ((x : A) → P x → Q x) → (xs : List A) → AllByRecursion P xs → AllByRecursion Q xs

@@ -6,11 +6,11 @@ use Rattle.std.specs.Bool.{one_answer}
 use Rattle.std.specs.Cmp.Lexicographic.{bytes_decides}
 use Rattle.std.proofs.lemmas.List.{length-map}
 use Rattle.std.proofs.lemmas.List.Sums.{sum_by-cons}
-use Rattle.span_time.specs.Spans.{Span, length_of, self_time, named, total_of, self_of}
+use Rattle.span_self_time.specs.Spans.{Span, length_of, self_time, named, total_of, self_of}
 use Rattle.span_track.specs.Nesting.{Begin, Ending, ThreadEvent, span_between, whole_span, closed_spans}
-use Rattle.span_keyed.proofs.Matching.Closed.{both_true, and_true, closed_of-passes}
-use Rattle.span_keyed.specs.Numbering.{number_in}
-use Rattle.span_keyed.proofs.Numbers.{slice_get-number_in}
+use Rattle.span_keyed_tracks.proofs.Matching.Closed.{both_true, and_true, closed_of-passes}
+use Rattle.span_keyed_tracks.specs.Numbering.{number_in}
+use Rattle.span_keyed_tracks.proofs.Numbers.{slice_get-number_in}
 use Rattle.span_ledger.specs.Told.{Words}
 use Rattle.span_ledger.specs.Numbered.{renamed_span}
 use Rattle.span_ledger.specs.Rows.{same_text}

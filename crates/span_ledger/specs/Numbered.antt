@@ -1,7 +1,7 @@
 -- The events of a thread with each name in place of another, as a number in place of a text.
 use Rattle.std.specs.Prelude.{List, map}
-use Rattle.span_time.specs.Spans.{Span}
-use Rattle.span_keyed.specs.Matching.{map_step}
+use Rattle.span_self_time.specs.Spans.{Span}
+use Rattle.span_keyed_tracks.specs.Matching.{map_step}
 use Rattle.span_track.specs.Nesting.{Begin, ThreadEvent}
 
 module _ {N M : Type 0} (rename : N → M) where

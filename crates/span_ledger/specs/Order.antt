@@ -2,13 +2,13 @@
 use Rattle.std.specs.declared.cmp.Ordering.{Ordering}
 use Rattle.std.specs.Ordering.{int_cmp, ordering_then}
 use Rattle.span_event.specs.Orders.{reach_cmp}
-use Rattle.span_keyed.specs.declared.async_track.AsyncRow.{AsyncRow}
-use Rattle.span_keyed.specs.declared.counter_track.SeriesRow.{SeriesRow}
-use Rattle.span_keyed.specs.declared.flow_track.FlowRow.{FlowRow}
-use Rattle.span_keyed.specs.declared.meta_track.instants.InstantRow.{InstantRow}
-use Rattle.span_keyed.specs.Async.{async_cmp}
-use Rattle.span_keyed.specs.Counters.{series_cmp}
-use Rattle.span_keyed.specs.Flow.{flow_cmp}
+use Rattle.span_keyed_tracks.specs.declared.async_track.AsyncRow.{AsyncRow}
+use Rattle.span_keyed_tracks.specs.declared.counter_track.SeriesRow.{SeriesRow}
+use Rattle.span_keyed_tracks.specs.declared.flow_track.FlowRow.{FlowRow}
+use Rattle.span_keyed_tracks.specs.declared.meta_track.instants.InstantRow.{InstantRow}
+use Rattle.span_keyed_tracks.specs.Async.{async_cmp}
+use Rattle.span_keyed_tracks.specs.Counters.{series_cmp}
+use Rattle.span_keyed_tracks.specs.Flow.{flow_cmp}
 use Rattle.span_ledger.specs.declared.thread.Thread.{Thread}
 use Rattle.span_ledger.specs.declared.rows.ProcessRow.{ProcessRow}
 use Rattle.span_ledger.specs.declared.rows.ThreadRow.{ThreadRow}

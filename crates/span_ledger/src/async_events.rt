@@ -1,8 +1,8 @@
 //! An asynchronous event, told to the track of asynchronous spans.
 ghost use Rattle.std.specs.Prelude.{◌≡◌};
 ghost use Rattle.span_event.specs.Event.{IsGood, IsTime};
-ghost use Rattle.span_keyed.specs.Async.{HasAsyncRoom};
-ghost use Rattle.span_keyed.specs.Matching.{opens, closes, other};
+ghost use Rattle.span_keyed_tracks.specs.Async.{HasAsyncRoom};
+ghost use Rattle.span_keyed_tracks.specs.Matching.{opens, closes, other};
 ghost use Rattle.span_ledger.specs.Told.{async_step, async_event, IsAsync};
 ghost use Rattle.span_ledger.specs.Tracked.{TellsAsync};
 

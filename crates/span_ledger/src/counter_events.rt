@@ -2,7 +2,7 @@
 ghost use Rattle.std.specs.Prelude.{◌≡◌};
 ghost use Rattle.span_event.specs.declared.event.Phase.TheVariants.{Counter};
 ghost use Rattle.span_event.specs.Event.{IsGood};
-ghost use Rattle.span_keyed.specs.Counters.{CounterStandsFor, HasCounterRoom};
+ghost use Rattle.span_keyed_tracks.specs.Counters.{CounterStandsFor, HasCounterRoom};
 ghost use Rattle.span_ledger.specs.Answers.{counter_answer};
 ghost use Rattle.span_ledger.specs.Tracked.{Tells};
 

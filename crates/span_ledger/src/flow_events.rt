@@ -1,7 +1,7 @@
 //! A flow event, told to the track of flow chains.
 ghost use Rattle.std.specs.Prelude.{◌≡◌};
 ghost use Rattle.span_event.specs.Event.{IsGood, IsTime};
-ghost use Rattle.span_keyed.specs.Flow.{HasFlowRoom, started, stepped, finished};
+ghost use Rattle.span_keyed_tracks.specs.Flow.{HasFlowRoom, started, stepped, finished};
 ghost use Rattle.span_ledger.specs.Told.{flow_point, flow_event, IsFlow};
 ghost use Rattle.span_ledger.specs.Tracked.{TellsFlow};
 

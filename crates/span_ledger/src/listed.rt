@@ -3,7 +3,7 @@ ghost use Rattle.std.specs.Prelude.{◌≡◌, ◌<◌, [], IfOk, OnOk};
 ghost use Rattle.std.specs.Ordering.{int_cmp};
 ghost use Rattle.std.specs.BTreeSet.{insert_key};
 ghost use Rattle.indexmap.specs.IndexSet.{spare};
-ghost use Rattle.span_keyed.specs.Keyed.{ascending};
+ghost use Rattle.span_keyed_tracks.specs.Keyed.{ascending};
 ghost use Rattle.span_ledger.specs.Rows.{thread_cmp};
 
 use crate::thread::Thread;

@@ -2,7 +2,7 @@
 ghost use Rattle.std.specs.Prelude.{◌≡◌};
 ghost use Rattle.span_event.specs.declared.event.Phase.TheVariants.{Meta, Instant};
 ghost use Rattle.span_event.specs.Event.{IsGood};
-ghost use Rattle.span_keyed.specs.Meta.{MetaStandsFor, HasMetaRoom};
+ghost use Rattle.span_keyed_tracks.specs.Meta.{MetaStandsFor, HasMetaRoom};
 ghost use Rattle.span_ledger.specs.Answers.{meta_answer};
 ghost use Rattle.span_ledger.specs.Tracked.{Tells};
 

@@ -1,8 +1,8 @@
 //! The replies to queries, from the tracks and the counts of a journal.
 ghost use Rattle.std.specs.Prelude.{◌≡◌, Some, None, IfOk};
 ghost use Rattle.span_event.specs.Given.{Gives};
-ghost use Rattle.span_keyed.specs.Meta.{MetaStandsFor, names_in};
-ghost use Rattle.span_keyed.specs.Numbering.{number_in};
+ghost use Rattle.span_keyed_tracks.specs.Meta.{MetaStandsFor, names_in};
+ghost use Rattle.span_keyed_tracks.specs.Numbering.{number_in};
 ghost use Rattle.span_ledger.specs.Replies.{reply_to, process_reply, thread_names_reply};
 ghost use Rattle.span_ledger.specs.Rows.{count_row};
 ghost use Rattle.span_ledger.specs.Tracked.{FollowsJournal, track_at, track_reply, number_reply};

@@ -1,7 +1,7 @@
 //! The rows of processes, of threads and of their names, from the tracks.
 ghost use Rattle.std.specs.Prelude.{◌≡◌, ◌++◌, IfOk, OnOk, map, flat_map, option_copied, option_and_then, slice_get};
 ghost use Rattle.std.specs.BTreeSet.{insert_key, IsOrdered as AreOrdered};
-ghost use Rattle.span_keyed.specs.Keyed.{ascending};
+ghost use Rattle.span_keyed_tracks.specs.Keyed.{ascending};
 ghost use Rattle.span_ledger.specs.Rows.{text_cmp, process_row, process_rows, thread_row, thread_rows};
 ghost use Rattle.span_ledger.specs.Tracked.{FollowsJournal, track_row, track_span_row, span_rows_of_track, track_span_rows, closed_names};
 

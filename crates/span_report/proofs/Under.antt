@@ -11,9 +11,9 @@ use Rattle.std.specs.Cmp.{int_cmp_total, signed_Decides}
 use Rattle.span_ledger.specs.declared.thread.Thread.{Thread}
 use Rattle.span_ledger.specs.declared.rows.ProcessRow.{ProcessRow}
 use Rattle.span_ledger.specs.declared.rows.ThreadRow.{ThreadRow}
-use Rattle.span_keyed.specs.declared.counter_track.SeriesRow.{SeriesRow}
+use Rattle.span_keyed_tracks.specs.declared.counter_track.SeriesRow.{SeriesRow}
 use Rattle.span_ledger.specs.declared.rows.SpanRow.{SpanRow}
-use Rattle.span_keyed.specs.declared.meta_track.instants.InstantRow.{InstantRow}
+use Rattle.span_keyed_tracks.specs.declared.meta_track.instants.InstantRow.{InstantRow}
 use Rattle.span_ledger.specs.Rows.{thread_cmp}
 use Rattle.span_ledger.proofs.Threads.{thread_cmp-total, same_thread-cmp}
 use Rattle.span_ledger.specs.Order.{thread_of_row, thread_of_span, thread_of_instant, thread_order}

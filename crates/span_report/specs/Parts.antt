@@ -6,11 +6,11 @@ use Rattle.std.specs.Ordering.{int_cmp, is_gt, eq_by_cmp}
 use Rattle.std.specs.List.{AllByRecursion}
 use Rattle.std.specs.List.Sorted.{IsStrictlySortedBy}
 use denote.Ref.{Bor}
-use Rattle.span_keyed.specs.declared.counter_track.SeriesRow.{SeriesRow}
+use Rattle.span_keyed_tracks.specs.declared.counter_track.SeriesRow.{SeriesRow}
 use Rattle.span_ledger.specs.declared.thread.Thread.{Thread}
 use Rattle.span_ledger.specs.declared.rows.ThreadRow.{ThreadRow}
 use Rattle.span_ledger.specs.declared.rows.SpanRow.{SpanRow}
-use Rattle.span_keyed.specs.declared.meta_track.instants.InstantRow.{InstantRow}
+use Rattle.span_keyed_tracks.specs.declared.meta_track.instants.InstantRow.{InstantRow}
 use Rattle.span_ledger.specs.Order.{process_order, thread_order, thread_of_span, thread_of_instant}
 use Rattle.span_ledger.specs.Rows.{thread_cmp}
 use Rattle.span_report.specs.Report.{PartRows, AllRows}

@@ -1,15 +1,15 @@
 -- The report of a journal.
 use Rattle.std.specs.Prelude.{ℕ, Bool, ◌&&◌, List, ◌++◌, filter, flat_map}
 use Rattle.std.specs.Ordering.{int_eq}
-use Rattle.span_keyed.specs.declared.async_track.AsyncRow.{AsyncRow}
-use Rattle.span_keyed.specs.declared.counter_track.SeriesRow.{SeriesRow}
-use Rattle.span_keyed.specs.declared.flow_track.FlowRow.{FlowRow}
+use Rattle.span_keyed_tracks.specs.declared.async_track.AsyncRow.{AsyncRow}
+use Rattle.span_keyed_tracks.specs.declared.counter_track.SeriesRow.{SeriesRow}
+use Rattle.span_keyed_tracks.specs.declared.flow_track.FlowRow.{FlowRow}
 use Rattle.span_ledger.specs.declared.entry.Entry.{Entry}
 use Rattle.span_ledger.specs.declared.rows.CountRow.{CountRow}
 use Rattle.span_ledger.specs.declared.rows.ProcessRow.{ProcessRow}
 use Rattle.span_ledger.specs.declared.rows.ThreadRow.{ThreadRow}
 use Rattle.span_ledger.specs.declared.rows.SpanRow.{SpanRow}
-use Rattle.span_keyed.specs.declared.meta_track.instants.InstantRow.{InstantRow}
+use Rattle.span_keyed_tracks.specs.declared.meta_track.instants.InstantRow.{InstantRow}
 use Rattle.span_ledger.specs.Rows.{count_row, process_rows, thread_rows, span_rows, instant_rows, series_rows, async_rows, flow_rows}
 use Rattle.span_report.specs.Lines.{first_line, count_line, process_line, thread_line, span_line, instant_line, counter_line, async_lines, flow_lines}
 

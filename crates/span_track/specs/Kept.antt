@@ -3,7 +3,7 @@ use Rattle.std.specs.Prelude.{ℕ, ◌+◌, ◌<◌, ◌≢◌, ◌^◌, ℤ, �
 use Rattle.span_track.specs.declared.thread.OpenSpan.{OpenSpan}
 use Rattle.span_track.specs.Nesting.{Begin}
 use Rattle.span_track.specs.Thread.{ThreadSpans}
-use Rattle.span_time.specs.Closed.{least_start}
+use Rattle.span_self_time.specs.Closed.{least_start}
 
 -- an open span of the program, as a begin
 abbrev pub begin_of : OpenSpan → Begin ℕ

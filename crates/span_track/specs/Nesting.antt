@@ -2,9 +2,9 @@
 use Rattle.std.specs.Prelude.{ℕ, ℤ, List, [], ◌∷◌, length, Option, Some, None}
 use Rattle.std.specs.Option.{option_map, option_or}
 use Rattle.span_event.specs.Args.{merged}
-use Rattle.span_time.specs.Spans.{Arguments, Span}
-use Rattle.span_keyed.specs.Matching
-use Rattle.span_keyed.specs.Matching.{Step, opens, closes, other}
+use Rattle.span_self_time.specs.Spans.{Arguments, Span}
+use Rattle.span_keyed_tracks.specs.Matching
+use Rattle.span_keyed_tracks.specs.Matching.{Step, opens, closes, other}
 
 -- a begin: `at` is its position in the journal
 pub record Begin (N : Type 0) : Type 0 where

@@ -1,9 +1,9 @@
 -- What the track of a thread keeps, and when it refuses an event.
 use Rattle.std.specs.Prelude.{◌≡◌, ℕ, ◌+◌, ◌<◌, ◌^◌, ◌-◌, Bool, false, if◌then◌else◌, ℤ, int_lt, List, [], ◌∷◌, ◌++◌, length, All, Option, Some, None, ◌==◌}
 use Rattle.span_event.specs.Args.{merged}
-use Rattle.span_time.specs.Spans.{Arguments, Span}
-use Rattle.span_keyed.specs.Last.{last_of}
-use Rattle.span_keyed.specs.Matching.{opens, closes, other}
+use Rattle.span_self_time.specs.Spans.{Arguments, Span}
+use Rattle.span_keyed_tracks.specs.Last.{last_of}
+use Rattle.span_keyed_tracks.specs.Matching.{opens, closes, other}
 use Rattle.span_track.specs.Nesting.{Begin, ThreadEvent, open_spans, closed_spans, last_time}
 
 -- the open spans, the closed spans, and the time of the last begin or end

@@ -1,10 +1,10 @@
 //! The definitions as plain programs, and the facts that hold of every list of spans.
 ghost use Rattle.std.specs.Prelude.{◌≡◌, nat_eq};
-ghost use Rattle.span_time.specs.Spans.{self_of, busy_time};
+ghost use Rattle.span_self_time.specs.Spans.{self_of, busy_time};
 
 use crate::thread::ThreadTrack;
-pub use span_time::laws::self_law;
-use span_time::walk;
+pub use span_self_time::laws::self_law;
+use span_self_time::walk;
 
 /// The self times of the spans of one name, in microseconds, found by walking through each of these spans.
 pub fn self_plain(track: &ThreadTrack, name: u32) -> u64

@@ -5,10 +5,10 @@
 pub mod laws;
 mod thread;
 
-pub use span_keyed::{
+pub use span_keyed_tracks::{
     AsyncKey, AsyncRow, AsyncTotals, AsyncTrack, CounterTrack, FlowClosed, FlowKey, FlowRow,
     FlowTotals, FlowTrack, InstantRow, MetaTrack, Names, ProcessNames, SeriesKey, SeriesRow,
     SeriesTotals, ThreadNames, TrackFault, names_thread,
 };
-pub use span_time::{ClosedSpan, NameTotal, Segment};
+pub use span_self_time::{ClosedSpan, NameTotal, Segment};
 pub use thread::ThreadTrack;

@@ -4,17 +4,17 @@ ghost use Rattle.std.specs.List.{count_by};
 ghost use Rattle.std.specs.Option.{option_map};
 ghost use Rattle.span_event.specs.Event.{IsTime, greatest_time};
 ghost use Rattle.span_event.specs.Given.{Gives};
-ghost use Rattle.span_keyed.specs.Fault.{Answers};
+ghost use Rattle.span_keyed_tracks.specs.Fault.{Answers};
 ghost use Rattle.span_track.specs.Nesting.{ThreadEvent, began, ended, completed, closed_by, opener, opener_args};
-ghost use Rattle.span_time.specs.Segments.{lasts, AreSegments, HasSegments, HasEnds};
-ghost use Rattle.span_time.specs.Spans.{Arguments, self_of, busy_time};
+ghost use Rattle.span_self_time.specs.Segments.{lasts, AreSegments, HasSegments, HasEnds};
+ghost use Rattle.span_self_time.specs.Spans.{Arguments, self_of, busy_time};
 ghost use Rattle.span_track.specs.Thread.{StandsFor, TakesEvent, HasRoom, IsNext, goes_back, begin_refusal, end_refusal, merged_args};
-ghost use Rattle.span_time.specs.Closed.{span_of, total_for, AreClosed};
+ghost use Rattle.span_self_time.specs.Closed.{span_of, total_for, AreClosed};
 
 use span_event::{Args, merge_args};
-use span_keyed::TrackFault;
-use span_keyed::refusal::{NO_OPEN_SPAN, TIME_GOES_BACK};
-use span_time::{ClosedSpan, ClosedSpans, NameTotal, Segment};
+use span_keyed_tracks::TrackFault;
+use span_keyed_tracks::refusal::{NO_OPEN_SPAN, TIME_GOES_BACK};
+use span_self_time::{ClosedSpan, ClosedSpans, NameTotal, Segment};
 use std::alloc::{AllocError, Global};
 use std::marker::Model;
 

@@ -7,7 +7,7 @@ ghost use Rattle.std.specs.Prelude.{None};
 
 use progress::{Cleared, Progress, Watched};
 use span_collect::{Text, Writer};
-use span_command::{Order, Source, SourceFault, order_of, perform, read_up_to};
+use span_command_line::{Order, Source, SourceFault, order_of, perform, read_up_to};
 use std::fs::File;
 use std::io::{ErrorKind, IsTerminal};
 use std::process::ExitCode;

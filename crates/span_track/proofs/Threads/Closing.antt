@@ -2,14 +2,14 @@
 use Rattle.std.proofs.Common.{◌≡◌, ℕ, ◌==◌, Bool, true, false, cond, ℤ, List, [], ◌∷◌, ◌++◌, length, Option, Some, None, map, refl, ap, ◌∙◌, subst, arith, ne_eqb}
 use Rattle.std.proofs.lemmas.List.{map_push, length_push}
 use Rattle.span_event.specs.Args.{merged}
-use Rattle.span_time.specs.Spans.{Arguments, Span}
+use Rattle.span_self_time.specs.Spans.{Arguments, Span}
 use Rattle.span_track.specs.declared.thread.OpenSpan.{OpenSpan}
 use Rattle.span_track.specs.Kept.{begin_of, IsSound}
-use Rattle.span_keyed.specs.Last.{last_of}
+use Rattle.span_keyed_tracks.specs.Last.{last_of}
 use Rattle.span_track.specs.Nesting.{Begin, ThreadEvent, opener, open_spans}
 use Rattle.span_track.specs.Thread.{ThreadSpans, goes_back, end_refusal, merged_args, merged_with}
-use Rattle.span_keyed.proofs.Lists.Last.{last_of-append}
-use Rattle.span_keyed.proofs.Matching.Open.{opener-open_of}
+use Rattle.span_keyed_tracks.proofs.Lists.Last.{last_of-append}
+use Rattle.span_keyed_tracks.proofs.Matching.Open.{opener-open_of}
 
 -- the track, of which the last open span is taken
 pub sound_with_last : (opened rest : List OpenSpan) (o : OpenSpan) (closed : List (Span ℕ)) (last : Option ℤ) → opened ≡ rest ++ o ∷ [] → IsSound (record { opened = map begin_of opened; closed = closed; last = last }) → IsSound (record { opened = map begin_of rest ++ begin_of o ∷ []; closed = closed; last = last })

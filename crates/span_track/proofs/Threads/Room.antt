@@ -1,13 +1,13 @@
 -- Where the events of a thread stand, what its track keeps stands too, and there are no more spans than events.
 use Rattle.std.proofs.Common.{◌≡◌, ℕ, ◌+◌, ◌<◌, ◌≤◌, ◌-◌, ◌^◌, ℤ, List, [], ◌∷◌, ◌++◌, length, Option, Some, None, refl, sym, subst, arith, All, append_assoc, append-nil, length-append}
 use Rattle.std.proofs.lemmas.List.Elements.{All-nil, All-cons, All-push, All-append, All-take}
-use Rattle.span_time.specs.Spans.{Span, Arguments}
-use Rattle.span_keyed.specs.Matching.{opens, closes, other}
+use Rattle.span_self_time.specs.Spans.{Span, Arguments}
+use Rattle.span_keyed_tracks.specs.Matching.{opens, closes, other}
 use Rattle.span_track.specs.Nesting.{Begin, ThreadEvent, Ending, matched_span, span_between, whole_span}
 use Rattle.span_track.specs.Thread.{ThreadSpans, thread_spans, HasRoom, IsNext, IsBefore, AreBefore}
-use Rattle.span_keyed.specs.Last.{last_of}
-use Rattle.span_keyed.proofs.Lists.Last.{take-without_last, All-last_of}
-use Rattle.span_keyed.proofs.Matching.Closed.{length-closed_with}
+use Rattle.span_keyed_tracks.specs.Last.{last_of}
+use Rattle.span_keyed_tracks.proofs.Lists.Last.{take-without_last, All-last_of}
+use Rattle.span_keyed_tracks.proofs.Matching.Closed.{length-closed_with}
 use Rattle.span_track.proofs.Threads.Spans.{with_end, thread_spans-began, thread_spans-ended, thread_spans-completed}
 
 module _ {N : Type 0} where

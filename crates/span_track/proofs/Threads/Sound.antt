@@ -2,7 +2,7 @@
 use Rattle.std.proofs.Common.{◌≡◌, ℕ, ◌+◌, ◌<◌, ◌^◌, ◌≢◌, ℤ, negsuc, ◌≤ℤ◌, List, [], ◌∷◌, ◌++◌, Option, Some, None, false, refl, arith, All, length-append, get_or, length}
 use Rattle.std.proofs.lemmas.Int.{ints}
 use Rattle.std.proofs.lemmas.List.Elements.{All-weaker, All-push, All-pop, All-head, All-tail, All-nil, All-cons}
-use Rattle.span_time.specs.Spans.{Span}
+use Rattle.span_self_time.specs.Spans.{Span}
 use Rattle.span_track.specs.Nesting.{Begin}
 use Rattle.span_track.specs.Thread.{ThreadSpans, HasRoom, IsNext, goes_back}
 use Rattle.span_track.specs.Kept.{IsSound, IsUpTo, AreRising}

@@ -1,13 +1,13 @@
 -- What the track of a thread keeps after one more event.
 use Rattle.std.proofs.Common.{ap, ◌∙◌, ◌≡◌, ℤ, List, [], ◌∷◌, ◌++◌, Option, Some, refl, sym, append-nil}
-use Rattle.span_time.specs.Spans.{Span, Arguments}
-use Rattle.span_keyed.specs.Matching.{opens, closes, other}
+use Rattle.span_self_time.specs.Spans.{Span, Arguments}
+use Rattle.span_keyed_tracks.specs.Matching.{opens, closes, other}
 use Rattle.span_track.specs.Nesting.{Begin, ThreadEvent, began, ended, completed, span_between, whole_span, matched_span, last_time}
 use Rattle.span_track.specs.Thread.{ThreadSpans, thread_spans}
-use Rattle.span_keyed.specs.Last.{last_of, without_last}
-use Rattle.span_keyed.proofs.Lists.Last.{last_of-append, without_last-append}
-use Rattle.span_keyed.proofs.Matching.Closed.{closed_of-append}
-use Rattle.span_keyed.proofs.Matching.Open.{opener-open_of, open_of-opens, open_of-closes, open_of-other}
+use Rattle.span_keyed_tracks.specs.Last.{last_of, without_last}
+use Rattle.span_keyed_tracks.proofs.Lists.Last.{last_of-append, without_last-append}
+use Rattle.span_keyed_tracks.proofs.Matching.Closed.{closed_of-append}
+use Rattle.span_keyed_tracks.proofs.Matching.Open.{opener-open_of, open_of-opens, open_of-closes, open_of-other}
 
 module _ {N : Type 0} where
   -- the last time after a begin is that of the begin

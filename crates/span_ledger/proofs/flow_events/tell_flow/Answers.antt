@@ -1,8 +1,8 @@
 use Rattle.std.proofs.Common.{◌≡◌, ℤ, rules, ap, subst, ◌∙◌, to_z, of_z, w64}
 use Rattle.span_event.specs.declared.event.Event.{Event}
 use Rattle.span_event.specs.declared.event.Phase.{Phase}
-use Rattle.span_keyed.specs.declared.keys.FlowKey.{FlowKey}
-use Rattle.span_keyed.specs.Flow.{FlowEvent, FlowStandsFor}
+use Rattle.span_keyed_tracks.specs.declared.keys.FlowKey.{FlowKey}
+use Rattle.span_keyed_tracks.specs.Flow.{FlowEvent, FlowStandsFor}
 use Rattle.span_ledger.specs.Answers.{flow_answer}
 use Rattle.span_ledger.specs.Told.{flow_point, flow_event}
 use Rattle.span_ledger.specs.Tracked.{Tells}

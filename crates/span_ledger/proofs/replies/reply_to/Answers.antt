@@ -1,8 +1,8 @@
 use Rattle.std.proofs.Common.{◌≡◌, to_z, of_z, w64, rules, refl, sym, ap, subst, ◌∙◌}
-use Rattle.span_keyed.specs.Async.{async_totals}
-use Rattle.span_keyed.specs.Flow.{flow_totals}
-use Rattle.span_keyed.proofs.Async.{async_spans_at-StandsFor}
-use Rattle.span_keyed.proofs.Flow.{flow_chains_at-StandsFor}
+use Rattle.span_keyed_tracks.specs.Async.{async_totals}
+use Rattle.span_keyed_tracks.specs.Flow.{flow_totals}
+use Rattle.span_keyed_tracks.proofs.Async.{async_spans_at-StandsFor}
+use Rattle.span_keyed_tracks.proofs.Flow.{flow_chains_at-StandsFor}
 use Rattle.span_ledger.specs.declared.reply.Reply.TheVariants.{Async, Flow, Series}
 use Rattle.span_ledger.specs.Tracked.{FollowsJournal}
 use Rattle.span_ledger.proofs.TrackReplies.{track_reply-is, number_reply-is}

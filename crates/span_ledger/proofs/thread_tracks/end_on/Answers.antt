@@ -1,7 +1,7 @@
 use Rattle.std.proofs.Common.{refl, rules}
 use Rattle.span_ledger.proofs.TrackMaps.{SameTracks-written}
 use Rattle.span_ledger.proofs.thread_tracks.end_on.Goals as goal
-use Rattle.span_keyed.proofs.Results.{on_err-map}
+use Rattle.span_keyed_tracks.proofs.Results.{on_err-map}
 
 pub returns-clause-err : goal.returns-clause-err
 returns-clause-err c =

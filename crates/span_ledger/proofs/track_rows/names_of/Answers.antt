@@ -2,7 +2,7 @@ use Rattle.std.proofs.Common.{◌≡◌, ℕ, suc, ◌+◌, ◌<◌, List, [], l
 use Rattle.std.specs.Prelude.{pos, fold, filter_map, slice_get, option_and_then}
 use Rattle.std.specs.List.{cons_option}
 use Rattle.std.specs.BTreeSet.{insert_key, keys}
-use Rattle.span_time.specs.Spans.{Span}
+use Rattle.span_self_time.specs.Spans.{Span}
 use Rattle.std.proofs.lemmas.Option.{slice_get-get_or}
 use Rattle.span_ledger.specs.Rows.{text_cmp}
 use Rattle.span_ledger.proofs.track_rows.names_of.Goals as goal

@@ -4,7 +4,7 @@ use Rattle.std.specs.BTreeSet.{insert_key, IsOrdered}
 use Rattle.span_ledger.specs.Rows.{text_cmp}
 use Rattle.span_ledger.specs.Tracked.{closed_names}
 use Rattle.span_ledger.proofs.track_rows.names_of.Given as goal
-use Rattle.span_keyed.specs.Keyed.{ascending}
+use Rattle.span_keyed_tracks.specs.Keyed.{ascending}
 
 -- the names so far, with those of the spans that are left, are all names
 abbrev pub invariant-loop-i : goal.invariant-loop-i

@@ -7,9 +7,9 @@ use Rattle.span_ledger.specs.Told.{same_thread}
 use Rattle.span_ledger.specs.Rows.{thread_cmp}
 use Rattle.span_ledger.proofs.Threads.{thread_cmp-total, thread_cmp-same, same_thread-cmp}
 use Rattle.span_ledger.proofs.listed.Listed.add.Goals as goal
-use Rattle.span_keyed.proofs.Ascending.{ascending-add_key}
-use Rattle.span_keyed.proofs.Results.{if_ok-there}
-use Rattle.span_keyed.specs.Keyed.{ascending}
+use Rattle.span_keyed_tracks.proofs.Ascending.{ascending-add_key}
+use Rattle.span_keyed_tracks.proofs.Results.{if_ok-there}
+use Rattle.span_keyed_tracks.specs.Keyed.{ascending}
 
 pub returns-clause-threads : goal.returns-clause-threads
 returns-clause-threads c =

@@ -3,9 +3,9 @@ use Rattle.std.specs.Ordering.{int_cmp, int_eq, is_eq}
 use Rattle.indexmap.specs.IndexSet.{insert_key as add_key}
 use Rattle.std.specs.Cmp.{int_cmp_total, signed_Decides}
 use Rattle.span_ledger.proofs.listed.Listed.add_process.Goals as goal
-use Rattle.span_keyed.proofs.Ascending.{ascending-add_key}
-use Rattle.span_keyed.proofs.Results.{if_ok-there}
-use Rattle.span_keyed.specs.Keyed.{ascending}
+use Rattle.span_keyed_tracks.proofs.Ascending.{ascending-add_key}
+use Rattle.span_keyed_tracks.proofs.Results.{if_ok-there}
+use Rattle.span_keyed_tracks.specs.Keyed.{ascending}
 
 pub returns-clause-processes : goal.returns-clause-processes
 returns-clause-processes c =

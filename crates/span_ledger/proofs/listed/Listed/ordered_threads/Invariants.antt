@@ -2,7 +2,7 @@ use Rattle.std.proofs.Common.{◌≡◌}
 use Rattle.std.specs.Prelude.{map}
 use Rattle.span_ledger.specs.Rows.{thread_cmp}
 use Rattle.span_ledger.proofs.listed.Listed.ordered_threads.Given as goal
-use Rattle.span_keyed.specs.Keyed.{ascending}
+use Rattle.span_keyed_tracks.specs.Keyed.{ascending}
 
 -- the threads that were passed
 abbrev pub invariant-loop-thread : goal.invariant-loop-thread

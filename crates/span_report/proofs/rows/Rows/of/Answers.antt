@@ -3,7 +3,7 @@ use Rattle.std.specs.Ordering.{nat_cmp, int_cmp, ordering_then}
 use Rattle.std.specs.Cmp.Lexicographic.{slice_cmp}
 use Rattle.std.specs.Option.{option_cmp}
 use Rattle.span_event.specs.Orders.{id_cmp}
-use Rattle.span_keyed.specs.declared.counter_track.SeriesRow.{SeriesRow}
+use Rattle.span_keyed_tracks.specs.declared.counter_track.SeriesRow.{SeriesRow}
 use Rattle.span_ledger.specs.declared.rows.SpanRow.{SpanRow}
 use Rattle.span_ledger.specs.Order.{thread_of_span, thread_of_instant, name_order}
 use Rattle.span_ledger.specs.Rows.{thread_cmp, text_cmp}

@@ -3,12 +3,12 @@ use Rattle.std.specs.Option.{option_map}
 use Rattle.std.proofs.lemmas.Int.{ints}
 use Rattle.std.proofs.lemmas.List.{map_push}
 use Rattle.span_event.specs.Args.{merged}
-use Rattle.span_time.specs.Spans.{Span}
+use Rattle.span_self_time.specs.Spans.{Span}
 use Rattle.span_track.specs.Nesting.{Begin}
 use Rattle.span_track.specs.Thread.{ThreadSpans, goes_back}
 use Rattle.span_track.specs.Kept.{begin_of}
-use Rattle.span_time.specs.Closed.{span_of}
-use Rattle.span_keyed.proofs.Lists.Last.{take-last}
+use Rattle.span_self_time.specs.Closed.{span_of}
+use Rattle.span_keyed_tracks.proofs.Lists.Last.{take-last}
 use Rattle.span_track.proofs.Threads.Sound.{IsSound-with_end, MayClose-sound}
 use Rattle.span_track.proofs.Threads.Closing.{sound_with_last, opener_of_last, goes_back-taken, merged_args-open}
 use Rattle.span_track.proofs.Threads.Spans.{thread_spans-closing}

@@ -1,6 +1,6 @@
 use Rattle.std.proofs.Common.{rules, ◌≡◌, ℕ, pos, ◌+ℤ◌, [], ◌∷◌, ◌++◌, map, refl, sym, ap, ◌∙◌, subst, w64, to_z, of_z, to_z-of_z, arith}
 use Rattle.std.proofs.lemmas.Int.{ints}
-use Rattle.span_time.specs.Spans.{Span}
+use Rattle.span_self_time.specs.Spans.{Span}
 use Rattle.span_track.specs.Thread.{ThreadSpans, thread_spans, HasRoom, IsNext}
 use Rattle.span_track.specs.Kept.{begin_of}
 use Rattle.span_track.proofs.Threads.Sound.{IsSound-with_whole}

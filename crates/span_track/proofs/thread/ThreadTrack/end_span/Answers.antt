@@ -4,7 +4,7 @@ use Rattle.span_event.specs.Args.{merged}
 use Rattle.span_track.specs.Nesting.{ended}
 use Rattle.span_track.specs.Thread.{ThreadSpans, StandsFor, goes_back, merged_args}
 use Rattle.span_track.specs.Kept.{begin_of}
-use Rattle.span_keyed.proofs.Lists.Last.{take-last}
+use Rattle.span_keyed_tracks.proofs.Lists.Last.{take-last}
 use Rattle.span_track.proofs.Threads.Closing.{opener_of_last, merged_args-open}
 use Rattle.span_track.proofs.thread.ThreadTrack.end_span.Goals as goal
 

@@ -2,8 +2,8 @@ use Rattle.std.proofs.Common.{rules, ◌≡◌, ◌-◌, ℕ, length, take, Some
 use Rattle.std.proofs.lemmas.List.{map_push}
 use Rattle.span_track.specs.Kept.{begin_of}
 use Rattle.span_track.specs.Thread.{ThreadSpans}
-use Rattle.span_keyed.proofs.Lists.Last.{take-last}
-use Rattle.span_keyed.proofs.Results.{if_ok-map}
+use Rattle.span_keyed_tracks.proofs.Lists.Last.{take-last}
+use Rattle.span_keyed_tracks.proofs.Results.{if_ok-map}
 use Rattle.span_track.proofs.Threads.Closing.{merged_args-open}
 use Rattle.span_track.proofs.thread.ThreadTrack.merged_args.Goals as goal
 

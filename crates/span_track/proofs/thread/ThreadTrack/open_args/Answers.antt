@@ -4,9 +4,9 @@ use Rattle.span_track.specs.declared.thread.OpenSpan.{OpenSpan}
 use Rattle.span_track.specs.Nesting.{Begin, ThreadEvent, opener}
 use Rattle.span_track.specs.Thread.{ThreadSpans, StandsFor}
 use Rattle.span_track.specs.Kept.{begin_of}
-use Rattle.span_keyed.specs.Last.{last_of}
-use Rattle.span_keyed.proofs.Lists.Last.{slice_get-last, last_of-map}
-use Rattle.span_keyed.proofs.Matching.Open.{opener-open_of}
+use Rattle.span_keyed_tracks.specs.Last.{last_of}
+use Rattle.span_keyed_tracks.proofs.Lists.Last.{slice_get-last, last_of-map}
+use Rattle.span_keyed_tracks.proofs.Matching.Open.{opener-open_of}
 use Rattle.span_track.proofs.thread.ThreadTrack.open_args.Goals as goal
 
 -- the arguments of the last open span

@@ -1,0 +1,19 @@
+use Rattle.std.proofs.Common.{sym, arith, inl, inr}
+use Rattle.span_collect.proofs.Meeting.{EachEndsAs-length}
+use Rattle.span_command_line.proofs.Parts.{LeavesPart-ended}
+use Rattle.span_command_line.proofs.program.collect.Goals as goal
+
+-- there is one end for each file
+pub report_faults-requires-clause-lines : goal.report_faults-requires-clause-lines
+report_faults-requires-clause-lines g c =
+    let run = c.in-Ok.ensures.run in
+    EachEndsAs-length run.journal c.args.limit c.args.files.now c.in-Ok.collected.end.ends.items run.account.each_file_once_in_order
+
+pub returns-in-Ok-clause-done : goal.returns-in-Ok-clause-done
+returns-in-Ok-clause-done g c = λ below. elim c.report_faults.ensures [
+  | inl same ↦ record { run = c.in-Ok.collected.end; is_run = c.in-Ok.ensures.run; ended = sym same }
+  | inr two ↦ absurd (omega (arith, two, below))
+]
+
+pub returns-in-Ok-clause-failed : goal.returns-in-Ok-clause-failed
+returns-in-Ok-clause-failed g c = λ two. LeavesPart-ended c.in-Ok.collected.end c.args.files.now c.args.limit _ _ c.in-Ok.ensures.run

@@ -1,8 +1,0 @@
-use Rattle.std.proofs.Common.{◌≡◌, ◌++◌, map}
-use Rattle.std.specs.Prelude.{flat_map}
-use Rattle.span_keyed.specs.Instants.{rows_of_name}
-use Rattle.span_keyed.proofs.meta_track.instants.ThreadInstants.push_rows.Given as goal
-
--- the rows of the names that were passed
-abbrev pub invariant-loop-name : goal.invariant-loop-name
-invariant-loop-name l = l.rows.items ≡ l.initial.rows.items ++ flat_map (rows_of_name l.thread) (map (λ e. (e.0.now, e.1.now)) l.yielded)

@@ -1,0 +1,28 @@
+use Rattle.std.proofs.Common.{None, ap, ◌∙◌, to_z-of_z}
+use Rattle.span_keyed_tracks.specs.Meta.{MetaKept, Names}
+use Rattle.span_keyed_tracks.proofs.Meta.{names_in-kept, names_in-none}
+use Rattle.span_keyed_tracks.proofs.meta_track.MetaTrack.process_of.Goals as goal
+
+pub returns-in-Some-clause-name : goal.returns-in-Some-clause-name
+returns-in-Some-clause-name c = λ es stands.
+    c.name.ensures ∙ ap (λ (n : Names). n.name) (names_in-kept _ c.self.inside.names.entries es (c.args.pid, None) _ (ap (λ (t : MetaKept). t.names) c.self.view_is) stands (ap (λ p. (p, None)) (to_z-of_z c.ranges.pid)) _ c.in-Some.ensures.value)
+
+pub returns-in-Some-clause-labels : goal.returns-in-Some-clause-labels
+returns-in-Some-clause-labels c = λ es stands.
+    c.labels.ensures ∙ ap (λ (n : Names). n.labels) (names_in-kept _ c.self.inside.names.entries es (c.args.pid, None) _ (ap (λ (t : MetaKept). t.names) c.self.view_is) stands (ap (λ p. (p, None)) (to_z-of_z c.ranges.pid)) _ c.in-Some.ensures.value)
+
+pub returns-in-Some-clause-sort_index : goal.returns-in-Some-clause-sort_index
+returns-in-Some-clause-sort_index c = λ es stands.
+    c.sort_index.ensures ∙ ap (λ (n : Names). n.sort_index) (names_in-kept _ c.self.inside.names.entries es (c.args.pid, None) _ (ap (λ (t : MetaKept). t.names) c.self.view_is) stands (ap (λ p. (p, None)) (to_z-of_z c.ranges.pid)) _ c.in-Some.ensures.value)
+
+pub returns-in-None-clause-name : goal.returns-in-None-clause-name
+returns-in-None-clause-name c = λ es stands.
+    ap (λ (n : Names). n.name) (names_in-none _ c.self.inside.names.entries es (c.args.pid, None) _ (ap (λ (t : MetaKept). t.names) c.self.view_is) stands (ap (λ p. (p, None)) (to_z-of_z c.ranges.pid)) c.in-None.ensures.value)
+
+pub returns-in-None-clause-labels : goal.returns-in-None-clause-labels
+returns-in-None-clause-labels c = λ es stands.
+    ap (λ (n : Names). n.labels) (names_in-none _ c.self.inside.names.entries es (c.args.pid, None) _ (ap (λ (t : MetaKept). t.names) c.self.view_is) stands (ap (λ p. (p, None)) (to_z-of_z c.ranges.pid)) c.in-None.ensures.value)
+
+pub returns-in-None-clause-sort_index : goal.returns-in-None-clause-sort_index
+returns-in-None-clause-sort_index c = λ es stands.
+    ap (λ (n : Names). n.sort_index) (names_in-none _ c.self.inside.names.entries es (c.args.pid, None) _ (ap (λ (t : MetaKept). t.names) c.self.view_is) stands (ap (λ p. (p, None)) (to_z-of_z c.ranges.pid)) c.in-None.ensures.value)

@@ -1,0 +1,158 @@
+//! The track of asynchronous spans.
+ghost use Rattle.std.specs.Prelude.{◌≡◌, [], ◌∷◌, List, map, None, IfOk, OnOk, OnErr};
+ghost use Rattle.std.specs.BTreeMap.{insert_entry};
+ghost use Rattle.span_event.specs.Event.{IsTime};
+ghost use Rattle.span_keyed_tracks.specs.Fault.{Answers};
+ghost use Rattle.span_keyed_tracks.specs.Matching.{opens, closes, other};
+ghost use Rattle.span_keyed_tracks.specs.Keyed.{steps_at};
+ghost use Rattle.span_keyed_tracks.specs.Async.{AsyncEvent, AsyncStandsFor, HasAsyncRoom, TakesAsync, async_cmp, async_end_refusal, async_row, async_spans_at, async_totals, length_closed_by};
+
+mod key_spans;
+
+use crate::fault::TrackFault;
+use crate::keys::AsyncKey;
+use crate::refusal::NO_ASYNC_BEGIN;
+use key_spans::KeySpans;
+use std::alloc::{AllocError, Global};
+use std::collections::BTreeMap;
+use std::marker::Model;
+
+/// The asynchronous spans of one key. Lengths are microseconds.
+#[derive(Clone, Copy, Debug, PartialEq, Eq)]
+pub struct AsyncTotals {
+    /// How many ends matched a begin.
+    pub closed: u32,
+    /// The lengths from these begins to their ends together.
+    pub total: u128,
+    /// How many begins no end has matched.
+    pub unclosed: u32,
+    /// How many points there are.
+    pub points: u32,
+}
+
+/// A key that has an event, and what its events give.
+#[derive(Debug, Drop, PartialEq, Eq)]
+pub struct AsyncRow {
+    pub key: AsyncKey,
+    pub totals: AsyncTotals,
+}
+
+/// The asynchronous spans of all keys. Times are microseconds.
+#[derive(Drop)]
+pub struct AsyncTrack {
+    alloc: Global,
+    keys: BTreeMap<AsyncKey, KeySpans>,
+}
+
+impl Model for AsyncTrack {
+    ghost use Rattle.span_keyed_tracks.specs.Async.{AsyncKept};
+
+    ghost Value = { AsyncKept };
+
+    ghost view = { λ t. t.keys.entries };
+}
+
+impl AsyncTrack {
+    /// The track of no events. Takes no memory.
+    pub fn new(alloc: Global) -> AsyncTrack
+        ensures { AsyncStandsFor result [] }
+    {
+        AsyncTrack {
+            alloc,
+            keys: BTreeMap::new(alloc),
+        }
+    }
+
+    /// A span of the key begins. Only want of memory refuses it.
+    pub fn begin_async(&mut self, key: &AsyncKey, ts: i64) -> Result<(), TrackFault>
+        requires room { HasAsyncRoom self.old key.now }
+        requires in_time { IsTime ts }
+        ensures refusal { Answers result None }
+        ensures stands { OnOk result (TakesAsync self.old self.new (record { key = key.now; step = opens ts })) }
+        ensures err { OnErr result (self.new ≡ self.old) }
+    {
+        if let Some(spans) = self.keys.get_mut(key) {
+            return spans.begin(ts);
+        }
+        let mut spans = KeySpans::new(self.alloc);
+        spans.begin(ts)?;
+        self.insert(key, spans)
+    }
+
+    /// The last unmatched begin of the key ends. Answers the length of the span in microseconds; or 23 where no begin of the key
+    /// is left that it matches, or 24 where `ts` is below the time of that begin. Takes no memory.
+    pub fn end_async(&mut self, key: &AsyncKey, ts: i64) -> Result<u64, TrackFault>
+        requires in_time { IsTime ts }
+        ensures refusal { (es : List AsyncEvent) → AsyncStandsFor self.old es
+            → Answers result (async_end_refusal (steps_at async_cmp key.now es) ts) }
+        ensures length { IfOk result (λ length. (es : List AsyncEvent) → AsyncStandsFor self.old es
+            → length_closed_by (steps_at async_cmp key.now es) (closes ts) ≡ length ∷ []) }
+        ensures stands { OnOk result (TakesAsync self.old self.new (record { key = key.now; step = closes ts })) }
+        ensures err { OnErr result (self.new ≡ self.old) }
+    {
+        let Some(spans) = self.keys.get_mut(key) else {
+            return Err(TrackFault::Refused(NO_ASYNC_BEGIN));
+        };
+        spans.end(ts)
+    }
+
+    /// A point of the key. Only want of memory refuses it.
+    pub fn point(&mut self, key: &AsyncKey) -> Result<(), TrackFault>
+        requires room { HasAsyncRoom self.old key.now }
+        ensures refusal { Answers result None }
+        ensures stands { OnOk result (TakesAsync self.old self.new (record { key = key.now; step = other tt })) }
+        ensures err { OnErr result (self.new ≡ self.old) }
+    {
+        if let Some(spans) = self.keys.get_mut(key) {
+            spans.point();
+            return Ok(());
+        }
+        let mut spans = KeySpans::new(self.alloc);
+        spans.point();
+        self.insert(key, spans)
+    }
+
+    // The first event of a key, whose texts are copied.
+    fn insert(&mut self, key: &AsyncKey, spans: KeySpans) -> Result<(), TrackFault>
+        ensures refusal { Answers result None }
+        ensures ok { OnOk result (self.new ≡ insert_entry async_cmp self.old key.now spans) }
+        ensures err { OnErr result (self.new ≡ self.old) }
+    {
+        let Ok(key) = key.try_clone(self.alloc) else {
+            return Err(TrackFault::Memory);
+        };
+        match self.keys.insert(key, spans) {
+            Ok(_) => Ok(()),
+            Err(_) => Err(TrackFault::Memory),
+        }
+    }
+
+    /// What the events of the key give; zeros for an unknown key. Takes no memory.
+    pub fn of(&self, key: &AsyncKey) -> AsyncTotals
+        ensures { result ≡ async_totals (async_spans_at self.now key.now) }
+    {
+        match self.keys.get(key) {
+            Some(spans) => spans.totals(),
+            None => AsyncTotals {
+                closed: 0,
+                total: 0,
+                unclosed: 0,
+                points: 0,
+            },
+        }
+    }
+
+    /// The row of each key that has an event, in ascending order of keys.
+    pub fn rows(&self, alloc: Global) -> Result<Vec<AsyncRow>, AllocError>
+        ensures { IfOk result (λ rows. rows.items ≡ map async_row self.now) }
+    {
+        let mut rows = Vec::new(alloc);
+        for (key, spans) in &self.keys {
+            rows.push(AsyncRow {
+                key: key.try_clone(alloc)?,
+                totals: spans.totals(),
+            })?;
+        }
+        Ok(rows)
+    }
+}

@@ -1,0 +1,96 @@
+//! The asynchronous spans of one key.
+ghost use Rattle.std.specs.Prelude.{◌≡◌, ◌+◌, ◌<◌, ◌^◌, ◌-◌, [], None, length, IfOk, OnOk, OnErr};
+ghost use Rattle.span_event.specs.Event.{IsTime};
+ghost use Rattle.span_keyed_tracks.specs.Fault.{Answers};
+ghost use Rattle.span_keyed_tracks.specs.Last.{last_of};
+ghost use Rattle.span_keyed_tracks.specs.Async.{async_spans, async_totals, refusal_after};
+ghost use Rattle.span_keyed_tracks.specs.AsyncKept.{EndsLast, with_begin, with_point};
+
+use super::AsyncTotals;
+use crate::fault::TrackFault;
+use crate::refusal::{ENDS_BEFORE_BEGIN, NO_ASYNC_BEGIN};
+use std::alloc::Global;
+use std::marker::Model;
+
+#[derive(Drop)]
+pub(crate) struct KeySpans {
+    opened: Vec<i64>,
+    closed: u32,
+    total: u128,
+    points: u32,
+}
+
+impl Model for KeySpans {
+    ghost use Rattle.span_keyed_tracks.specs.Async.{AsyncSpans};
+    ghost use Rattle.span_keyed_tracks.specs.AsyncKept.{AreBounded};
+
+    ghost Value = { AsyncSpans };
+
+    ghost view = { λ s. record { opened = s.opened.items; closed = s.closed; total = s.total; points = s.points } };
+
+    ghost invariant = { λ s. AreBounded
+        (record { opened = s.opened.items; closed = s.closed; total = s.total; points = s.points }) };
+}
+
+impl KeySpans {
+    pub(crate) fn new(alloc: Global) -> KeySpans
+        ensures { result ≡ async_spans [] }
+    {
+        KeySpans {
+            opened: Vec::new(alloc),
+            closed: 0,
+            total: 0,
+            points: 0,
+        }
+    }
+
+    pub(crate) fn begin(&mut self, ts: i64) -> Result<(), TrackFault>
+        requires room { length self.old.opened + self.old.closed + self.old.points < 2 ^ 32 - 1 }
+        requires in_time { IsTime ts }
+        ensures refusal { Answers result None }
+        ensures ok { OnOk result (self.new ≡ with_begin self.old ts) }
+        ensures err { OnErr result (self.new ≡ self.old) }
+    {
+        self.opened.reserve(1).map_err(|_| TrackFault::Memory)?;
+        self.opened.push_reserved(ts);
+        Ok(())
+    }
+
+    pub(crate) fn end(&mut self, ts: i64) -> Result<u64, TrackFault>
+        requires in_time { IsTime ts }
+        ensures refusal { Answers result (refusal_after (last_of self.old.opened) ts) }
+        ensures ends { IfOk result (λ length. EndsLast self.old ts length self.new) }
+        ensures err { OnErr result (self.new ≡ self.old) }
+    {
+        let Some(begin) = self.opened.last() else {
+            return Err(TrackFault::Refused(NO_ASYNC_BEGIN));
+        };
+        let begin = *begin;
+        if ts < begin {
+            return Err(TrackFault::Refused(ENDS_BEFORE_BEGIN));
+        }
+        let length = ts.abs_diff(begin);
+        self.opened.pop();
+        self.closed += 1;
+        self.total += u128::from(length);
+        Ok(length)
+    }
+
+    pub(crate) fn point(&mut self)
+        requires room { length self.old.opened + self.old.closed + self.old.points < 2 ^ 32 - 1 }
+        ensures { self.new ≡ with_point self.old }
+    {
+        self.points += 1;
+    }
+
+    pub(crate) fn totals(&self) -> AsyncTotals
+        ensures { result ≡ async_totals self.now }
+    {
+        AsyncTotals {
+            closed: self.closed,
+            total: self.total,
+            unclosed: self.opened.len() as u32,
+            points: self.points,
+        }
+    }
+}

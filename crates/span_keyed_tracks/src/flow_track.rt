@@ -1,0 +1,159 @@
+//! The track of flow chains.
+ghost use Rattle.std.specs.Prelude.{◌≡◌, [], map, Some, None, IfOk, OnOk, OnErr};
+ghost use Rattle.std.specs.BTreeMap.{insert_entry};
+ghost use Rattle.span_event.specs.Event.{IsTime};
+ghost use Rattle.span_keyed_tracks.specs.Fault.{Answers};
+ghost use Rattle.span_keyed_tracks.specs.Flow.{FlowStandsFor, HasFlowRoom, TakesFlow, started, stepped, finished};
+ghost use Rattle.span_keyed_tracks.specs.Flow.{flow_closed, flow_cmp, flow_point_refusal, flow_row, flow_chains_at, flow_start_refusal, flow_totals};
+
+mod key_chains;
+
+use crate::fault::TrackFault;
+use crate::keys::FlowKey;
+use crate::refusal::NO_CHAIN;
+use key_chains::KeyChains;
+use std::alloc::{AllocError, Global};
+use std::collections::BTreeMap;
+use std::marker::Model;
+
+/// The flow chains of one key. Lengths are microseconds.
+#[derive(Clone, Copy, Debug, PartialEq, Eq)]
+pub struct FlowTotals {
+    /// How many chains ended.
+    pub ended: u32,
+    /// Their lengths together.
+    pub total: u128,
+    /// How many points the unclosed chain has; 0 where there is none.
+    pub unclosed: u32,
+}
+
+/// A key that has a point, and what its points give.
+#[derive(Debug, Drop, PartialEq, Eq)]
+pub struct FlowRow {
+    pub key: FlowKey,
+    pub totals: FlowTotals,
+}
+
+/// A chain that ended.
+#[derive(Clone, Copy, Debug, PartialEq, Eq)]
+pub struct FlowClosed {
+    /// How many points it has, with its start and its finish.
+    pub points: u32,
+    /// The microseconds from its start to its finish.
+    pub length: u64,
+}
+
+/// The flow chains of all keys. Times are microseconds.
+#[derive(Drop)]
+pub struct FlowTrack {
+    alloc: Global,
+    keys: BTreeMap<FlowKey, KeyChains>,
+}
+
+impl Model for FlowTrack {
+    ghost use Rattle.span_keyed_tracks.specs.Flow.{FlowKept};
+
+    ghost Value = { FlowKept };
+
+    ghost view = { λ t. t.keys.entries };
+}
+
+impl FlowTrack {
+    /// The track of no events. Takes no memory.
+    pub fn new(alloc: Global) -> FlowTrack
+        ensures { FlowStandsFor result [] }
+    {
+        FlowTrack {
+            alloc,
+            keys: BTreeMap::new(alloc),
+        }
+    }
+
+    /// A chain of the key starts; 25 where one is unclosed.
+    pub fn start_flow(&mut self, key: &FlowKey, ts: i64) -> Result<(), TrackFault>
+        requires room { HasFlowRoom self.old key.now }
+        requires in_time { IsTime ts }
+        ensures refusal { Answers result (flow_start_refusal (flow_chains_at self.old key.now)) }
+        ensures stands { OnOk result (TakesFlow self.old self.new (record { key = key.now; step = started ts })) }
+        ensures err { OnErr result (self.new ≡ self.old) }
+    {
+        if let Some(chains) = self.keys.get_mut(key) {
+            return chains.start(ts);
+        }
+        self.insert(key, KeyChains::started(ts))
+    }
+
+    /// The unclosed chain of the key gets one more point; 26 where there is none, 22 where `ts` is below the time of its last point.
+    /// Takes no memory.
+    pub fn step_flow(&mut self, key: &FlowKey, ts: i64) -> Result<(), TrackFault>
+        requires room { HasFlowRoom self.old key.now }
+        requires in_time { IsTime ts }
+        ensures refusal { Answers result (flow_point_refusal (flow_chains_at self.old key.now) ts) }
+        ensures stands { OnOk result (TakesFlow self.old self.new (record { key = key.now; step = stepped ts })) }
+        ensures err { OnErr result (self.new ≡ self.old) }
+    {
+        let Some(chains) = self.keys.get_mut(key) else {
+            return Err(TrackFault::Refused(NO_CHAIN));
+        };
+        chains.step(ts)
+    }
+
+    /// The unclosed chain of the key gets its last point and ends. Answers how many points it has, and its length; or 26 where there
+    /// is none, or 22 where `ts` is below the time of its last point. Takes no memory.
+    pub fn end_flow(&mut self, key: &FlowKey, ts: i64) -> Result<FlowClosed, TrackFault>
+        requires room { HasFlowRoom self.old key.now }
+        requires in_time { IsTime ts }
+        ensures refusal { Answers result (flow_point_refusal (flow_chains_at self.old key.now) ts) }
+        ensures closed { IfOk result (λ closed. flow_closed (flow_chains_at self.old key.now) ts ≡ Some closed) }
+        ensures stands { OnOk result (TakesFlow self.old self.new (record { key = key.now; step = finished ts })) }
+        ensures err { OnErr result (self.new ≡ self.old) }
+    {
+        let Some(chains) = self.keys.get_mut(key) else {
+            return Err(TrackFault::Refused(NO_CHAIN));
+        };
+        chains.end(ts)
+    }
+
+    // The first point of a key, whose texts are copied.
+    fn insert(&mut self, key: &FlowKey, chains: KeyChains) -> Result<(), TrackFault>
+        ensures refusal { Answers result None }
+        ensures ok { OnOk result (self.new ≡ insert_entry flow_cmp self.old key.now chains) }
+        ensures err { OnErr result (self.new ≡ self.old) }
+    {
+        let Ok(key) = key.try_clone(self.alloc) else {
+            return Err(TrackFault::Memory);
+        };
+        match self.keys.insert(key, chains) {
+            Ok(_) => Ok(()),
+            Err(_) => Err(TrackFault::Memory),
+        }
+    }
+
+    /// What the points of the key give; zeros for an unknown key. Takes no memory.
+    pub fn of(&self, key: &FlowKey) -> FlowTotals
+        ensures { result ≡ flow_totals (flow_chains_at self.now key.now) }
+    {
+        match self.keys.get(key) {
+            Some(chains) => chains.totals(),
+            None => FlowTotals {
+                ended: 0,
+                total: 0,
+                unclosed: 0,
+            },
+        }
+    }
+
+    /// The row of each key that has a point, in ascending order of keys.
+    pub fn rows(&self, alloc: Global) -> Result<Vec<FlowRow>, AllocError>
+        ensures { IfOk result (λ rows. rows.items ≡ map flow_row self.now) }
+    {
+        let mut rows = Vec::new(alloc);
+        for (key, chains) in &self.keys {
+            rows.push(FlowRow {
+                key: key.try_clone(alloc)?,
+                totals: chains.totals(),
+            })?;
+        }
+        Ok(rows)
+    }
+}

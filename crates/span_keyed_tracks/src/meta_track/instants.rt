@@ -1,0 +1,149 @@
+//! The instants of all threads.
+ghost use Rattle.std.specs.Prelude.{◌≡◌, ◌++◌, [], IfOk, OnOk, OnErr};
+ghost use Rattle.span_keyed_tracks.specs.Instants.{HasInstantRoom, HasNameRoom, TakesInstant, TakesName, counts_of, name_cmp, names_counted, rows_of_instants, rows_of_thread, thread_cmp};
+ghost use Rattle.span_keyed_tracks.specs.InstantsKept.{count_at};
+ghost use Rattle.span_keyed_tracks.specs.Keyed.{kept_at};
+
+use super::reaches::Reaches;
+use span_event::{Reach, Text};
+use std::alloc::{AllocError, Global};
+use std::collections::BTreeMap;
+use std::marker::Model;
+
+/// How many instants there are of a thread, a name and a reach; one at least.
+#[derive(Debug, Drop, PartialEq, Eq)]
+pub struct InstantRow {
+    pub pid: i64,
+    pub tid: i64,
+    pub name: Text,
+    pub reach: Reach,
+    pub count: u32,
+}
+
+// The instants of one thread.
+#[derive(Drop)]
+pub(crate) struct ThreadInstants {
+    names: BTreeMap<Text, Reaches>,
+}
+
+impl Model for ThreadInstants {
+    ghost use Rattle.span_keyed_tracks.specs.Instants.{NamesCounted};
+
+    ghost Value = { NamesCounted };
+
+    ghost view = { λ t. t.names.entries };
+}
+
+impl ThreadInstants {
+    fn new(alloc: Global) -> ThreadInstants
+        ensures { result ≡ names_counted [] }
+    {
+        ThreadInstants {
+            names: BTreeMap::new(alloc),
+        }
+    }
+
+    fn add(&mut self, alloc: Global, name: &Text, reach: Reach) -> Result<(), AllocError>
+        requires { HasNameRoom self.old }
+        ensures takes { OnOk result (TakesName self.old self.new (record { key = name.now; step = reach })) }
+        ensures err { OnErr result (self.new ≡ self.old) }
+    {
+        if let Some(reaches) = self.names.get_mut(name) {
+            reaches.add(reach);
+            return Ok(());
+        }
+        let mut reaches = Reaches::new();
+        reaches.add(reach);
+        let name = name.try_clone(alloc)?;
+        self.names.insert(name, reaches)?;
+        Ok(())
+    }
+
+    fn of(&self, name: &Text, reach: Reach) -> u32
+        ensures { result
+            ≡ count_at reach (kept_at name_cmp (counts_of []) self.now name.now) }
+    {
+        match self.names.get(name) {
+            Some(reaches) => reaches.of(reach),
+            None => 0,
+        }
+    }
+
+    fn push_rows(
+        &self,
+        alloc: Global,
+        rows: &mut Vec<InstantRow>,
+        thread: (i64, i64),
+    ) -> Result<(), AllocError>
+        ensures { OnOk result (rows.new.items ≡ rows.old.items ++ rows_of_thread (thread, self.now)) }
+    {
+        for (name, reaches) in &self.names {
+            reaches.push_rows(alloc, rows, thread, name)?;
+        }
+        Ok(())
+    }
+}
+
+#[derive(Drop)]
+pub(crate) struct Instants {
+    threads: BTreeMap<(i64, i64), ThreadInstants>,
+}
+
+impl Model for Instants {
+    ghost use Rattle.span_keyed_tracks.specs.Instants.{InstantsKept};
+
+    ghost Value = { InstantsKept };
+
+    ghost view = { λ i. i.threads.entries };
+}
+
+impl Instants {
+    pub(crate) fn new(alloc: Global) -> Instants
+        ensures { result ≡ [] }
+    {
+        Instants {
+            threads: BTreeMap::new(alloc),
+        }
+    }
+
+    pub(crate) fn add(
+        &mut self,
+        alloc: Global,
+        thread: (i64, i64),
+        name: &Text,
+        reach: Reach,
+    ) -> Result<(), AllocError>
+        requires { HasInstantRoom self.old }
+        ensures takes { OnOk result (TakesInstant self.old self.new
+            (record { key = thread; step = record { key = name.now; step = reach } })) }
+        ensures err { OnErr result (self.new ≡ self.old) }
+    {
+        if let Some(instants) = self.threads.get_mut(&thread) {
+            return instants.add(alloc, name, reach);
+        }
+        let mut instants = ThreadInstants::new(alloc);
+        instants.add(alloc, name, reach)?;
+        self.threads.insert(thread, instants)?;
+        Ok(())
+    }
+
+    pub(crate) fn of(&self, thread: (i64, i64), name: &Text, reach: Reach) -> u32
+        ensures { result
+            ≡ count_at reach (kept_at name_cmp (counts_of []) (kept_at thread_cmp [] self.now thread) name.now) }
+    {
+        match self.threads.get(&thread) {
+            Some(instants) => instants.of(name, reach),
+            None => 0,
+        }
+    }
+
+    pub(crate) fn rows(&self, alloc: Global) -> Result<Vec<InstantRow>, AllocError>
+        ensures { IfOk result (λ rows. rows.items ≡ rows_of_instants self.now) }
+    {
+        let mut rows = Vec::new(alloc);
+        for (thread, instants) in &self.threads {
+            instants.push_rows(alloc, &mut rows, *thread)?;
+        }
+        Ok(rows)
+    }
+}

@@ -1,0 +1,82 @@
+//! The numbers of texts.
+ghost use Rattle.std.specs.Prelude.{◌≡◌, List, ℕ, [], Some, length, slice_get, take, option_copied, IfOk, OnOk, OnErr};
+ghost use Rattle.span_keyed_tracks.specs.Numbering.{KeepsNumbers, number_in, text_at, with_name};
+
+use indexmap::IndexSet;
+use span_event::Text;
+use std::alloc::{AllocError, Global};
+use std::marker::Model;
+
+// Distinct texts, as many as memory holds, numbered from 0 in the order of their first use.
+#[derive(Drop)]
+pub(crate) struct Texts {
+    texts: IndexSet<Text>,
+}
+
+impl Model for Texts {
+    ghost use Rattle.std.specs.Prelude.{List, ℕ};
+
+    ghost Value = { List (List ℕ) };
+
+    ghost view = { λ t. t.texts.keys };
+}
+
+impl Texts {
+    pub(crate) fn new(alloc: Global) -> Texts
+        ensures { result ≡ [] }
+    {
+        Texts {
+            texts: IndexSet::new(alloc),
+        }
+    }
+
+    pub(crate) fn count(&self) -> usize
+        ensures { result ≡ length self.now }
+    {
+        self.texts.len()
+    }
+
+    // The number of `text`, which gets the next one where it has none. Only a new text takes memory.
+    pub(crate) fn number_of(&mut self, text: &Text) -> Result<usize, AllocError>
+        ensures number { IfOk result (λ number. number_in self.new text.now ≡ Some number) }
+        ensures names { OnOk result (self.new ≡ with_name self.old text.now) }
+        ensures keeps { KeepsNumbers self.old self.new }
+        ensures err { OnErr result (self.new ≡ self.old) }
+    {
+        if let Some(number) = self.find(text) {
+            return Ok(number);
+        }
+        let copy = text.try_clone(*self.texts.allocator())?;
+        let (index, _) = self.texts.insert_full(copy)?;
+        Ok(index)
+    }
+
+    pub(crate) fn find(&self, text: &Text) -> Option<usize>
+        ensures { result ≡ number_in self.now text.now }
+    {
+        self.texts.get_index_of(text)
+    }
+
+    pub(crate) fn text_of(&self, number: usize) -> Option<&Text>
+        ensures { option_copied result ≡ slice_get self.now number }
+    {
+        self.texts.get_index(number)
+    }
+
+    // A copy of the text that has this number; an empty one where none has it.
+    pub(crate) fn copy_of(&self, alloc: Global, number: usize) -> Result<Text, AllocError>
+        ensures { IfOk result (λ text. text ≡ text_at self.now number) }
+    {
+        match self.text_of(number) {
+            Some(text) => text.try_clone(alloc),
+            None => Ok(Text::empty(alloc)),
+        }
+    }
+
+    // Keeps the first `count` texts.
+    pub(crate) fn truncate(&mut self, count: usize)
+        ensures { self.new ≡ take count self.old }
+    {
+        self.texts.truncate(count);
+    }
+}

@@ -1,0 +1,96 @@
+ghost use Rattle.std.specs.Prelude.{◌+◌, ◌<◌, All};
+ghost use Rattle.span_event.specs.Item.{IsGoodItem};
+ghost use Rattle.span_keyed_tracks.specs.Counters.{CountersOf};
+
+use span_keyed_tracks::{CounterTrack, SeriesKey, SeriesTotals};
+use span_read::{Item, Items, Phase, Text, read_items};
+use std::alloc::{AllocError, Global};
+use std::process::Abort;
+use std::test::Fail;
+
+fn new_track(alloc: Global) -> CounterTrack
+    ensures { CountersOf 0 result }
+{
+    CounterTrack::new(alloc)
+}
+
+fn key(alloc: Global) -> Result<SeriesKey, AllocError> {
+    let name = Text::of(alloc, "m")?;
+    let series = Text::of(alloc, "k")?;
+    Ok(SeriesKey {
+        pid: 1,
+        name,
+        id: None,
+        series,
+    })
+}
+
+// Takes the counter event at a place of a file, where as many were taken before.
+fn take(rt: &impl Abort, track: &mut CounterTrack, items: &Items, taken: u32)
+    requires good { All IsGoodItem items.now }
+    requires few { taken < 1000 }
+    requires taken { CountersOf taken track.old }
+    ensures { CountersOf (taken + 1) track.new }
+{
+    let Some(Item::Good(event)) = items.get(taken as usize) else {
+        panic!(rt; "a good event");
+    };
+    let Phase::Counter = event.phase else {
+        panic!(rt; "a counter event");
+    };
+    let Ok(()) = track.sample(event) else {
+        panic!(rt; "no memory");
+    };
+}
+
+fn expect(rt: &impl Abort, track: &CounterTrack, key: &SeriesKey, totals: SeriesTotals) {
+    assert!(rt; track.of(key) == Some(totals));
+}
+
+fn expect_one_row(rt: &impl Abort, alloc: Global, track: &CounterTrack, totals: SeriesTotals) {
+    let Ok(rows) = track.rows(alloc) else {
+        panic!(rt; "no memory");
+    };
+    assert!(rt; rows.len() == 1);
+    assert!(rt; rows[0].totals == totals);
+}
+
+// The values of a series of which one comes late.
+fn follow(rt: &impl Abort, alloc: Global, track: &mut CounterTrack, items: &Items, key: &SeriesKey)
+    requires good { All IsGoodItem items.now }
+    requires taken { CountersOf 0 track.old }
+{
+    take(rt, track, items, 0);
+    take(rt, track, items, 1);
+    let after_two = SeriesTotals {
+        samples: 2,
+        least: 7,
+        greatest: 9,
+        last: 7,
+    };
+    expect(rt, track, key, after_two);
+    take(rt, track, items, 2);
+    let after_three = SeriesTotals {
+        samples: 3,
+        least: 1,
+        greatest: 9,
+        last: 1,
+    };
+    expect(rt, track, key, after_three);
+    expect_one_row(rt, alloc, track, after_three);
+}
+
+#[test]
+fn the_last_value_is_that_at_the_greatest_time(rt: HostRuntime) -> Result<(), Fail> {
+    let key = key(rt.alloc())?;
+    let items = read_items(
+        rt.alloc(),
+        br#"[{"ph":"C","pid":1,"name":"m","ts":5,"args":{"k":7}},{"ph":"C","pid":1,"name":"m","ts":3,"args":{"k":9}},{"ph":"C","pid":1,"name":"m","ts":5,"args":{"k":1}}]"#,
+    )?;
+    let mut track = new_track(rt.alloc());
+    follow(&rt, rt.alloc(), &mut track, &items, &key);
+    drop(track);
+    drop(items);
+    drop(key);
+    Ok(())
+}

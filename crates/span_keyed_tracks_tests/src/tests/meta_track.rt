@@ -1,0 +1,107 @@
+ghost use Rattle.std.specs.Prelude.{◌+◌, ◌<◌, All};
+ghost use Rattle.span_event.specs.Item.{IsGoodItem};
+ghost use Rattle.span_keyed_tracks.specs.Meta.{MetaOf};
+
+use span_keyed_tracks::{MetaTrack, names_thread};
+use span_read::{Item, Items, Phase, Reach, Text, read_items};
+use std::alloc::Global;
+use std::process::Abort;
+use std::test::Fail;
+
+fn new_track(alloc: Global) -> MetaTrack
+    ensures { MetaOf 0 result }
+{
+    MetaTrack::new(alloc)
+}
+
+// Takes the metadata event at a place of a file, where as many were taken before, and tells whether it names its thread.
+fn name(rt: &impl Abort, track: &mut MetaTrack, items: &Items, taken: u32) -> bool
+    requires good { All IsGoodItem items.now }
+    requires few { taken < 1000 }
+    requires taken { MetaOf taken track.old }
+    ensures { MetaOf (taken + 1) track.new }
+{
+    let Some(Item::Good(event)) = items.get(taken as usize) else {
+        panic!(rt; "a good event");
+    };
+    let Phase::Meta = event.phase else {
+        panic!(rt; "a metadata event");
+    };
+    let Ok(()) = track.name_event(event) else {
+        panic!(rt; "no memory");
+    };
+    names_thread(event)
+}
+
+// Takes the instant at a place of a file, where as many were taken before.
+fn mark(rt: &impl Abort, track: &mut MetaTrack, items: &Items, taken: u32)
+    requires good { All IsGoodItem items.now }
+    requires few { taken < 1000 }
+    requires taken { MetaOf taken track.old }
+{
+    let Some(Item::Good(event)) = items.get(taken as usize) else {
+        panic!(rt; "a good event");
+    };
+    let Phase::Instant = event.phase else {
+        panic!(rt; "an instant");
+    };
+    let Ok(()) = track.instant(event) else {
+        panic!(rt; "no memory");
+    };
+}
+
+fn expect_names(rt: &impl Abort, track: &MetaTrack) {
+    let process = track.process_of(1);
+    assert!(rt; process.name.map(Text::as_str) == Some("Renderer"));
+    assert!(rt; process.labels.map(Text::as_str) == Some("tab"));
+    assert!(rt; process.sort_index == Some(-6));
+    let thread = track.thread_of(1, 2);
+    assert!(rt; thread.name.map(Text::as_str) == Some("Main"));
+    assert!(rt; thread.sort_index.is_none());
+    assert!(rt; track.thread_of(1, 3).name.is_none());
+}
+
+fn expect_instant(rt: &impl Abort, alloc: Global, track: &MetaTrack, name: &Text) {
+    assert!(rt; track.instants_of(1, 2, name, Reach::Process) == 1);
+    assert!(rt; track.instants_of(1, 2, name, Reach::Thread) == 0);
+    assert!(rt; track.instants_of(1, 3, name, Reach::Process) == 0);
+    let Ok(rows) = track.instant_rows(alloc) else {
+        panic!(rt; "no memory");
+    };
+    assert!(rt; rows.len() == 1);
+    let row = &rows[0];
+    assert!(rt; row.pid == 1 && row.tid == 2);
+    assert!(rt; row.name == *name && row.reach == Reach::Process);
+    assert!(rt; row.count == 1);
+}
+
+// The names of a browser's process, which is renamed, and of its thread, whose last name is no text; then an instant.
+fn follow(rt: &impl Abort, track: &mut MetaTrack, items: &Items)
+    requires good { All IsGoodItem items.now }
+    requires taken { MetaOf 0 track.old }
+{
+    assert!(rt; !name(rt, track, items, 0));
+    assert!(rt; name(rt, track, items, 1));
+    assert!(rt; !name(rt, track, items, 2));
+    assert!(rt; !name(rt, track, items, 3));
+    assert!(rt; !name(rt, track, items, 4));
+    assert!(rt; !name(rt, track, items, 5));
+    mark(rt, track, items, 6);
+}
+
+#[test]
+fn the_last_name_holds(rt: HostRuntime) -> Result<(), Fail> {
+    let name = Text::of(rt.alloc(), "gc")?;
+    let items = read_items(
+        rt.alloc(),
+        br#"[{"ph":"M","pid":1,"tid":2,"name":"process_name","args":{"name":"Browser"}},{"ph":"M","pid":1,"tid":2,"name":"thread_name","args":{"name":"Main"}},{"ph":"M","pid":1,"tid":2,"name":"process_name","args":{"name":"Renderer"}},{"ph":"M","pid":1,"tid":2,"name":"process_labels","args":{"labels":"tab"}},{"ph":"M","pid":1,"tid":2,"name":"process_sort_index","args":{"sort_index":-6}},{"ph":"M","pid":1,"tid":2,"name":"thread_name","args":{"name":5}},{"ph":"i","pid":1,"tid":2,"name":"gc","ts":3,"s":"p"}]"#,
+    )?;
+    let mut track = new_track(rt.alloc());
+    follow(&rt, &mut track, &items);
+    expect_names(&rt, &track);
+    expect_instant(&rt, rt.alloc(), &track, &name);
+    drop(track);
+    drop(items);
+    drop(name);
+    Ok(())
+}

@@ -1,0 +1,65 @@
+-- The self times of one name, span by span.
+use Rattle.std.proofs.Common.{◌≡◌, ℕ, ◌+◌, ◌<◌, ◌≤◌, ◌^◌, ◌≤ℤ◌, Bool, true, false, cond, List, [], ◌∷◌, ◌++◌, length, take, map, get_or, nat_eq, refl, sym, ap, ◌∙◌, subst, arith, All}
+use Rattle.std.specs.List.{sum_by}
+use Rattle.std.proofs.lemmas.List.{take_more, take-map, map_push, get_or-map, length-map}
+use Rattle.std.proofs.lemmas.List.Elements.{All-nil, All-cons}
+use Rattle.std.proofs.lemmas.List.Sums.{sum_by-cons, sum_by_push, sum_by_more_le_part}
+use Rattle.span_self_time.specs.declared.span.ClosedSpan.{ClosedSpan}
+use Rattle.span_self_time.specs.Spans.{Span, named, self_time}
+use Rattle.span_self_time.specs.Laws.{AreSpans}
+use Rattle.span_self_time.specs.Closed.{span_of, IsInTime, AreClosed}
+use Rattle.span_self_time.proofs.SelfTimes.{sum_by-self_time}
+use Rattle.span_self_time.proofs.Unbroken.{busy_time-le}
+
+-- the self times of those of some spans that have the name
+unfoldable pub self_sum : List (Span ℕ) → ℕ → List (Span ℕ) → ℕ
+self_sum all name spans = sum_by (λ s. cond (nat_eq s.name name) (self_time all s) 0) spans
+
+pub self_sum-self_of : (all : List (Span ℕ)) (name : ℕ) (spans : List (Span ℕ)) → self_sum all name spans ≡ sum_by (λ s. self_time all s) (named nat_eq name spans)
+unfolding self_sum
+self_sum-self_of all name [] = refl
+self_sum-self_of all name (s ∷ spans) =
+    sum_by-cons (λ s. cond (nat_eq s.name name) (self_time all s) 0) s spans ∙ by_test (nat_eq s.name name) (self_sum-self_of all name spans)
+  where
+    by_test : (b : Bool) → self_sum all name spans ≡ sum_by (λ s. self_time all s) (named nat_eq name spans) → cond b (self_time all s) 0 + self_sum all name spans ≡ sum_by (λ s. self_time all s) (cond b (s ∷ named nat_eq name spans) (named nat_eq name spans))
+    by_test true rest = ap (λ n. self_time all s + n) rest ∙ sym (sum_by-cons (λ s. self_time all s) s (named nat_eq name spans))
+    by_test false rest = omega (arith, rest)
+
+pub self_sum-more : (all : List (Span ℕ)) (name : ℕ) (spans : List ClosedSpan) (i : ℕ) (s : ClosedSpan) → i < length spans → s ≡ get_or spans i s → self_sum all name (map span_of (take (i + 1) spans)) ≡ self_sum all name (map span_of (take i spans)) + cond (nat_eq s.name name) (self_time all (span_of s)) 0
+unfolding self_sum
+self_sum-more all name spans i s within read =
+    let longer : take (i + 1) spans ≡ take i spans ++ s ∷ [] = take_more spans i s within ∙ ap (λ x. take i spans ++ x ∷ []) (sym read) in
+    ap (λ l. sum_by (λ s. cond (nat_eq s.name name) (self_time all s) 0) (map span_of l)) longer
+    ∙ ap (λ l. sum_by (λ s. cond (nat_eq s.name name) (self_time all s) 0) l) (map_push span_of (take i spans) s)
+    ∙ sum_by_push (λ s. cond (nat_eq s.name name) (self_time all s) 0) (map span_of (take i spans)) (span_of s)
+
+pub cond-le : (b : Bool) (n : ℕ) → cond b n 0 ≤ n
+cond-le true n = omega arith
+cond-le false n = omega arith
+
+-- so far and the next of them stay within the busy time
+pub self_sum-le : (name : ℕ) (spans : List ClosedSpan) (i : ℕ) (s : ClosedSpan) → AreClosed (map span_of spans) → i < length spans → s ≡ get_or spans i s → self_sum (map span_of spans) name (map span_of (take i spans)) + self_time (map span_of spans) (span_of s) ≤ 2 ^ 55
+unfolding self_sum
+self_sum-le name spans i s closed within read =
+    let all = map span_of spans in
+    let there : i < length all = omega (arith, length-map spans span_of) in
+    let parts = sum_by_more_le_part (λ s. cond (nat_eq s.name name) (self_time all s) 0) (λ s. self_time all s) all i (span_of s) there (λ s. cond-le (nat_eq s.name name) (self_time all s)) in
+    let here : get_or all i (span_of s) ≡ span_of s = get_or-map span_of spans i s (span_of s) within ∙ ap span_of (sym read) in
+    let front : take i all ≡ map span_of (take i spans) = take-map span_of i spans in
+    omega (arith, rw (here, front) at parts, sum_by-self_time all closed.are, busy_time-le all closed.in_time)
+
+All-lasts : (spans : List (Span ℕ)) → AreSpans spans → All (λ s. s.start ≤ℤ s.until) spans
+All-lasts [] are = All-nil (λ (s : Span ℕ). s.start ≤ℤ s.until)
+All-lasts (s ∷ spans) are = All-cons (λ (s : Span ℕ). s.start ≤ℤ s.until) s spans are.0 (All-lasts spans are.2)
+
+-- what holds of all spans, at one of them
+All-read : (P : Span ℕ → Type 0) (spans : List ClosedSpan) (i : ℕ) (s : ClosedSpan) → All P (map span_of spans) → i < length spans → s ≡ get_or spans i s → P (span_of s)
+All-read P spans i s all within read =
+    let here : get_or (map span_of spans) i (span_of s) ≡ span_of s = get_or-map span_of spans i s (span_of s) within ∙ ap span_of (sym read) in
+    subst P here (all i (span_of s) (omega (arith, length-map spans span_of)))
+
+pub lasts-read : (spans : List ClosedSpan) (i : ℕ) (s : ClosedSpan) → AreClosed (map span_of spans) → i < length spans → s ≡ get_or spans i s → s.start ≤ℤ s.until
+lasts-read spans i s closed = All-read (λ (s : Span ℕ). s.start ≤ℤ s.until) spans i s (All-lasts (map span_of spans) closed.are)
+
+pub IsInTime-read : (spans : List ClosedSpan) (i : ℕ) (s : ClosedSpan) → AreClosed (map span_of spans) → i < length spans → s ≡ get_or spans i s → IsInTime (span_of s)
+IsInTime-read spans i s closed = All-read IsInTime spans i s closed.in_time

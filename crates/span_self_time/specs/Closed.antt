@@ -1,0 +1,44 @@
+-- The closed spans that a track keeps, and their totals.
+use Rattle.std.specs.Prelude.{◌≡◌, ℕ, ◌<◌, ◌^◌, ℤ, pos, negsuc, ◌≤ℤ◌, List, length, All, nat_eq, unwrap_or}
+use Rattle.indexmap.specs.IndexMap.{IndexMap, get}
+use Rattle.std.specs.declared.hash.FoldHasher.{FoldHasher}
+use Rattle.std.specs.declared.hash.BuildHasherDefault.{BuildHasherDefault}
+use Rattle.span_self_time.specs.declared.span.ClosedSpan.{ClosedSpan}
+use Rattle.span_self_time.specs.declared.span.NameTotal.{NameTotal}
+use Rattle.span_self_time.specs.Spans.{Span, named, total_of}
+use Rattle.span_self_time.specs.Laws.{AreSpans}
+
+-- a closed span of the program, as a span
+abbrev pub span_of : ClosedSpan → Span ℕ
+span_of s = record { name = s.name; start = s.start; until = s.until; at = s.at; args = s.args }
+
+-- the least time of an event, and the greatest time and the greatest length together
+abbrev pub least_start : ℤ
+least_start = negsuc 9007199254740990
+
+abbrev pub greatest_until : ℤ
+greatest_until = pos 18014398509481982
+
+abbrev pub IsInTime : Span ℕ → Type 0
+IsInTime s = (least_start ≤ℤ s.start) × (s.until ≤ℤ greatest_until)
+
+-- what holds of the closed spans of a track
+pub record AreClosed (spans : List (Span ℕ)) : Type 0 where
+  pub are : AreSpans spans
+  pub in_time : All IsInTime spans
+  pub few : length spans < 2 ^ 32
+
+-- the totals that a track keeps of the names of its closed spans
+abbrev pub Totals : Type 0
+Totals = IndexMap ℕ NameTotal (BuildHasherDefault FoldHasher)
+
+abbrev pub total_in : Totals → ℕ → NameTotal
+total_in totals name = unwrap_or (get nat_eq totals name) (record { count = 0; total = 0 })
+
+-- how many spans have the name, and how long they are together
+abbrev pub total_for : List (Span ℕ) → ℕ → NameTotal
+total_for spans name = record { count = length (named nat_eq name spans); total = total_of nat_eq name spans }
+
+-- each name's total is kept
+abbrev pub AreTotals : Totals → List (Span ℕ) → Type 0
+AreTotals totals spans = (name : ℕ) → total_in totals name ≡ total_for spans name

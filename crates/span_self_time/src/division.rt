@@ -1,0 +1,142 @@
+//! The division of a thread's time, kept in the way that suits the order in which its spans come.
+ghost use Rattle.std.specs.Prelude.{◌≡◌, ◌≤◌, ℕ, ◌≤ℤ◌, nat_eq, List, [], length, map, slice_get, option_copied, OnOk, OnErr, IfOk};
+ghost use Rattle.span_self_time.specs.Spans.{Span, self_of, busy_time};
+ghost use Rattle.span_self_time.specs.Closed.{least_start, greatest_until, span_of, AreClosed};
+ghost use Rattle.span_self_time.specs.Division.{Owners, owner_of, owners_of, taken, IsNew, ForSome};
+ghost use Rattle.span_self_time.specs.Shares.{HasParts, AreSettled, IsShared};
+ghost use Rattle.span_self_time.specs.Kept.{IsDivision};
+
+use crate::segment::{Part, Segment};
+use crate::shares::Shares;
+use crate::span::ClosedSpan;
+use crate::timeline::Timeline;
+use std::alloc::{AllocError, Global};
+
+// Where stacks have to move more parts than these for each span, a search is the quicker.
+const MOVES_FOR_A_SPAN: u64 = 128;
+
+/// Stacks are the quicker where each span comes near the last one, and slow down with the parts in between; a search doesn't.
+#[derive(Drop)]
+pub(crate) enum Division {
+    Stacked(Timeline),
+    Searched(Shares),
+}
+
+impl Division {
+    pub(crate) fn new(alloc: Global) -> Division
+        ensures { IsDivision (owners_of []) result }
+    {
+        Division::Stacked(Timeline::new(alloc))
+    }
+
+    pub(crate) fn self_of(&self, name: u32) -> u64
+        ensures { (spans : List (Span ℕ)) → AreClosed spans → IsDivision (owners_of spans) self.now
+            → result ≡ self_of nat_eq name spans }
+    {
+        match self {
+            Division::Stacked(timeline) => timeline.self_of(name),
+            Division::Searched(shares) => shares.self_of(name),
+        }
+    }
+
+    pub(crate) fn busy(&self) -> u64
+        ensures { (spans : List (Span ℕ)) → AreClosed spans → IsDivision (owners_of spans) self.now
+            → result ≡ busy_time spans }
+    {
+        match self {
+            Division::Stacked(timeline) => timeline.busy(),
+            Division::Searched(shares) => shares.busy(),
+        }
+    }
+
+    pub(crate) fn segment_count(&self) -> u64
+        ensures { (owners : Owners) → IsDivision owners self.now
+            → HasParts owners (λ parts. result ≡ length parts) }
+    {
+        match self {
+            Division::Stacked(timeline) => timeline.segment_count(),
+            Division::Searched(shares) => shares.segment_count(),
+        }
+    }
+
+    pub(crate) fn segment(&self, i: u64) -> Option<&Segment>
+        ensures { (owners : Owners) → IsDivision owners self.now
+            → HasParts owners (λ parts. option_copied result ≡ slice_get (map (λ part. part.segment) parts) i) }
+    {
+        match self {
+            Division::Stacked(timeline) => timeline.segment(i),
+            Division::Searched(shares) => shares.segment(i),
+        }
+    }
+
+    /// The span takes the microseconds that it covers from no one and from the spans that it outranks. Where memory is refused,
+    /// no reader sees a change.
+    pub(crate) fn add(&mut self, span: &Part) -> Result<(), AllocError>
+        requires is { ForSome (λ owners. IsDivision owners self.old
+            × IsNew (owner_of span.now) owners × AreSettled owners) }
+        requires forward { span.now.span_start ≤ℤ span.now.span_until }
+        requires from_in_time { least_start ≤ℤ span.now.span_start }
+        requires to_in_time { span.now.span_until ≤ℤ greatest_until }
+        ensures ok { OnOk result ((owners : Owners) → IsDivision owners self.old
+            → IsNew (owner_of span.now) owners → AreSettled owners
+            → IsDivision (taken (owner_of span.now) owners) self.new) }
+        ensures err { OnErr result ((owners : Owners) → IsDivision owners self.old → IsDivision owners self.new) }
+    {
+        match self {
+            Division::Stacked(timeline) => timeline.add(span),
+            Division::Searched(shares) => shares.add(span),
+        }
+    }
+
+    /// Turns to a search where stacks had to move too many parts for the spans so far. Returns how many they had to move, with
+    /// those for this span. Where memory is refused, nothing changes.
+    pub(crate) fn suit(
+        &mut self,
+        span: &Part,
+        moves: u64,
+        spans: &[ClosedSpan],
+        alloc: Global,
+    ) -> Result<u64, AllocError>
+        requires { AreClosed (map span_of spans.now) }
+        ensures { IsDivision (owners_of (map span_of spans.now)) self.old
+            → IsDivision (owners_of (map span_of spans.now)) self.new }
+    {
+        let moves = moves.saturating_add(self.moves_for(span));
+        if moves / MOVES_FOR_A_SPAN > spans.len() as u64 {
+            self.search(spans, alloc)?;
+        }
+        Ok(moves)
+    }
+
+    // About how many parts stacks would have to move for this span, where these are many.
+    fn moves_for(&self, span: &Part) -> u64 {
+        match self {
+            Division::Stacked(timeline) => timeline.moves_for(span),
+            Division::Searched(_) => 0,
+        }
+    }
+
+    // From now on searches among what these spans, which are all that were added, make of the time. Where memory is refused,
+    // nothing changes.
+    fn search(&mut self, spans: &[ClosedSpan], alloc: Global) -> Result<(), AllocError>
+        requires { AreClosed (map span_of spans.now) }
+        ensures { IsDivision (owners_of (map span_of spans.now)) self.old
+            → IsDivision (owners_of (map span_of spans.now)) self.new }
+    {
+        if let Division::Stacked(_) = self {
+            *self = Division::Searched(shares_of(spans, alloc)?);
+        }
+        Ok(())
+    }
+}
+
+fn shares_of(spans: &[ClosedSpan], alloc: Global) -> Result<Shares, AllocError>
+    requires { AreClosed (map span_of spans.now) }
+    ensures { IfOk result (IsShared (owners_of (map span_of spans.now))) }
+{
+    let mut shares = Shares::new(alloc);
+    for span in spans {
+        shares.add(&Part::whole(span))?;
+    }
+    Ok(shares)
+}

@@ -1,0 +1,86 @@
+//! Segments of time with an owner.
+ghost use Rattle.std.specs.Prelude.{◌≡◌, ◌≢◌};
+ghost use Rattle.std.specs.Bool.{OnTrue, OnFalse};
+ghost use Rattle.std.specs.Option.{option_map};
+ghost use Rattle.span_self_time.specs.Spans.{outranks};
+ghost use Rattle.span_self_time.specs.Division.{owner_of, claims, between, whole};
+
+use crate::span::ClosedSpan;
+
+/// A stretch of time that belongs to one closed span: no span that covers it ranks above. It holds the microseconds from `start`
+/// to before `until`. `name` is the number of the span's name, and `at` the position in the journal of the event that opened it.
+#[derive(Clone, Copy, Debug, PartialEq, Eq)]
+pub struct Segment {
+    pub start: i64,
+    pub until: i64,
+    pub name: u32,
+    pub at: u32,
+}
+
+/// A segment with the start and the end of its span, which say how the span ranks.
+#[derive(Clone, Copy, Debug)]
+pub(crate) struct Part {
+    pub segment: Segment,
+    pub span_start: i64,
+    pub span_until: i64,
+}
+
+impl Part {
+    pub(crate) fn whole(span: &ClosedSpan) -> Part
+        ensures { result ≡ whole span.now }
+    {
+        Part {
+            segment: Segment {
+                start: span.start,
+                until: span.until,
+                name: span.name,
+                at: span.at,
+            },
+            span_start: span.start,
+            span_until: span.until,
+        }
+    }
+
+    /// Another part of the same span.
+    pub(crate) fn between(&self, start: i64, until: i64) -> Part
+        ensures { result ≡ between self.now start until }
+    {
+        Part {
+            segment: Segment {
+                start,
+                until,
+                ..self.segment
+            },
+            ..*self
+        }
+    }
+
+    pub(crate) fn outranks(&self, other: &Part) -> bool
+        ensures { result ≡ outranks (owner_of self.now) (owner_of other.now) }
+    {
+        other.span_start < self.span_start
+            || (self.span_start == other.span_start
+                && (self.span_until < other.span_until
+                    || (self.span_until == other.span_until && other.segment.at < self.segment.at)))
+    }
+
+    /// Whether the span takes time from the owner, or from no one.
+    pub(crate) fn claims(&self, owner: &Option<Part>) -> bool
+        ensures { result ≡ claims (owner_of self.now) (option_map owner_of owner.now) }
+    {
+        match owner {
+            Some(part) => self.outranks(part),
+            None => true,
+        }
+    }
+
+    pub(crate) fn is_of_span_of(&self, other: &Part) -> bool
+        ensures same { OnTrue result (owner_of self.now ≡ owner_of other.now) }
+        ensures differs { OnFalse result (owner_of self.now ≢ owner_of other.now) }
+    {
+        self.segment.at == other.segment.at
+            && self.segment.name == other.segment.name
+            && self.span_start == other.span_start
+            && self.span_until == other.span_until
+    }
+}

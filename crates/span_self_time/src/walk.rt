@@ -1,0 +1,152 @@
+//! Self and busy times of a list of spans, found by walking from each start or end to the next. Takes no memory.
+ghost use Rattle.std.specs.Prelude.{◌≡◌, ◌⊎◌, ◌≤◌, ◌^◌, ℤ, ◌≤ℤ◌, ◌<ℤ◌, nat_eq, map, All};
+ghost use Rattle.span_event.specs.Time.{distance};
+ghost use Rattle.span_self_time.specs.Spans.{covers, outranks, is_outranked, is_covered, earliest, latest, self_time, busy_time, self_of};
+ghost use Rattle.span_self_time.specs.Closed.{span_of, least_start, greatest_until, IsInTime, AreClosed};
+ghost use Rattle.span_self_time.specs.Walk.{IsUnbroken};
+
+use crate::span::ClosedSpan;
+
+fn covers(span: &ClosedSpan, u: i64) -> bool
+    ensures { result ≡ covers (span_of span.now) u }
+{
+    span.start <= u && u < span.until
+}
+
+fn outranks(a: &ClosedSpan, b: &ClosedSpan) -> bool
+    ensures { result ≡ outranks (span_of a.now) (span_of b.now) }
+{
+    b.start < a.start
+        || (a.start == b.start && (a.until < b.until || (a.until == b.until && b.at < a.at)))
+}
+
+fn is_outranked(spans: &[ClosedSpan], span: &ClosedSpan, u: i64) -> bool
+    ensures { result ≡ is_outranked (map span_of spans.now) (span_of span.now) u }
+{
+    for other in spans {
+        if covers(other, u) && outranks(other, span) {
+            return true;
+        }
+    }
+    false
+}
+
+fn is_covered(spans: &[ClosedSpan], u: i64) -> bool
+    ensures { result ≡ is_covered (map span_of spans.now) u }
+{
+    for span in spans {
+        if covers(span, u) {
+            return true;
+        }
+    }
+    false
+}
+
+// `at`, where it lies between u and next; else next.
+fn nearer(u: i64, at: i64, next: i64) -> i64
+    requires { u <ℤ next }
+    ensures after { u <ℤ result }
+    ensures within { result ≤ℤ next }
+    ensures away { (at ≤ℤ u) ⊎ (result ≤ℤ at) }
+{
+    if u < at && at < next { at } else { next }
+}
+
+// The first start or end of a span after u, or `end` where it comes first.
+fn next_boundary(spans: &[ClosedSpan], u: i64, end: i64) -> i64
+    requires { u <ℤ end }
+    ensures after { u <ℤ result }
+    ensures within { result ≤ℤ end }
+    ensures unbroken { All (λ span. IsUnbroken (span_of span) u result) spans.now }
+{
+    let mut next = end;
+    for span in spans {
+        next = nearer(u, span.until, nearer(u, span.start, next));
+    }
+    next
+}
+
+// How many microseconds there are from one time to another.
+pub(crate) fn distance(from: i64, to: i64) -> u64
+    requires forward { from ≤ℤ to }
+    requires from_in_time { least_start ≤ℤ from }
+    requires to_in_time { to ≤ℤ greatest_until }
+    ensures value { result ≡ distance from to }
+    ensures small { result ≤ 2 ^ 55 }
+{
+    (to - from) as u64
+}
+
+// The microseconds of the span that no span above it covers.
+fn self_time(spans: &[ClosedSpan], span: &ClosedSpan) -> u64
+    requires lasts { span.now.start ≤ℤ span.now.until }
+    requires in_time { IsInTime (span_of span.now) }
+    ensures { result ≡ self_time (map span_of spans.now) (span_of span.now) }
+{
+    let mut own = 0;
+    let mut u = span.start;
+    while u < span.until {
+        let next = next_boundary(spans, u, span.until);
+        if !is_outranked(spans, span, u) {
+            own += distance(u, next);
+        }
+        u = next;
+    }
+    own
+}
+
+// The time from which on all spans lie, or 0 where they start later.
+fn earliest(spans: &[ClosedSpan]) -> i64
+    ensures { result ≡ earliest (map span_of spans.now) }
+{
+    let mut earliest = 0;
+    for span in spans {
+        earliest = earliest.min(span.start);
+    }
+    earliest
+}
+
+// The time before which all spans end, or 0 where they end sooner.
+fn latest(spans: &[ClosedSpan]) -> i64
+    ensures { result ≡ latest (map span_of spans.now) }
+{
+    let mut latest = 0;
+    for span in spans {
+        latest = latest.max(span.until);
+    }
+    latest
+}
+
+/// The microseconds that at least one span covers.
+/// The busy time, in microseconds, found by walking through the time from the first span to the last.
+pub fn busy_time(spans: &[ClosedSpan]) -> u64
+    requires { AreClosed (map span_of spans.now) }
+    ensures { result ≡ busy_time (map span_of spans.now) }
+{
+    let end = latest(spans);
+    let mut busy = 0;
+    let mut u = earliest(spans);
+    while u < end {
+        let next = next_boundary(spans, u, end);
+        if is_covered(spans, u) {
+            busy += distance(u, next);
+        }
+        u = next;
+    }
+    busy
+}
+
+/// The self times of the spans of one name, together.
+/// The self times of the spans of one name, in microseconds, found by walking through each of these spans.
+pub fn self_of(spans: &[ClosedSpan], name: u32) -> u64
+    requires { AreClosed (map span_of spans.now) }
+    ensures { result ≡ self_of nat_eq name (map span_of spans.now) }
+{
+    let mut own = 0;
+    for span in spans {
+        if span.name == name {
+            own += self_time(spans, span);
+        }
+    }
+    own
+}
