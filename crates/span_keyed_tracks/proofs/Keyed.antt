@@ -157,12 +157,12 @@ module _ {K : Type 0} {cmp : K → K → Ordering} (o : IsTotalOrder cmp) (same 
 
   -- entries of two functions that agree but at one key
   module _ {X : Type 0} (f g : K → X) (key : K) (agree : (k : K) → is_eq (cmp key k) ≡ false → f k ≡ g k) where
-    made-agree : (ks : List K) → AllByRecursion (λ k. is_eq (cmp key k) ≡ false) ks → map (entry_of f) ks ≡ map (entry_of g) ks
+    pub made-agree : (ks : List K) → AllByRecursion (λ k. is_eq (cmp key k) ≡ false) ks → map (entry_of f) ks ≡ map (entry_of g) ks
     made-agree [] none = refl
     made-agree (k ∷ ks) none = ap₂ (λ x l. (k, x) ∷ l) (agree k none.0) (made-agree ks none.1)
 
     -- a value written at the key
-    made-set_value : (ks : List K) → IsStrictlySortedBy cmp ks → set_value (is_at (cmp key)) (map (entry_of f) ks) (g key) ≡ map (entry_of g) ks
+    pub made-set_value : (ks : List K) → IsStrictlySortedBy cmp ks → set_value (is_at (cmp key)) (map (entry_of f) ks) (g key) ≡ map (entry_of g) ks
     unfolding IsStrictlySortedBy
     made-set_value [] sorted = refl
     made-set_value (k ∷ ks) sorted = by (cmp key k) refl (made-set_value ks sorted.1)
@@ -173,7 +173,7 @@ module _ {K : Type 0} {cmp : K → K → Ordering} (o : IsTotalOrder cmp) (same 
         by Greater e rest = ap₂ (λ x l. (k, x) ∷ l) (agree k (ap is_eq e)) rest
 
     -- an entry inserted at the key
-    made-insert_entry : (ks : List K) → IsStrictlySortedBy cmp ks → insert_entry cmp (map (entry_of f) ks) key (g key) ≡ map (entry_of g) (insert_key cmp ks key)
+    pub made-insert_entry : (ks : List K) → IsStrictlySortedBy cmp ks → insert_entry cmp (map (entry_of f) ks) key (g key) ≡ map (entry_of g) (insert_key cmp ks key)
     unfolding IsStrictlySortedBy
     made-insert_entry [] sorted = refl
     made-insert_entry (k ∷ ks) sorted = by (cmp key k) refl (made-insert_entry ks sorted.1)

@@ -113,3 +113,7 @@ series_row (key, Some s) = Some (record { key = key; totals = s.totals })
 -- the row of each series that has a sample, in ascending order of keys
 abbrev pub series_rows : List Event → List SeriesRow
 series_rows es = filter_map series_row (ascending_uses series_cmp series_keys series_from es)
+
+-- the same of one process
+abbrev pub series_rows_of : ℤ → List Event → List SeriesRow
+series_rows_of pid es = series_rows (filter (λ e. int_eq e.pid pid) es)

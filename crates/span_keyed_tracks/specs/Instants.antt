@@ -122,3 +122,7 @@ rows_of_instants kept = flat_map rows_of_thread kept
 -- the rows of all instants, by process, thread, name and reach
 abbrev pub instant_rows : List Event → List InstantRow
 instant_rows es = rows_of_instants (instants_counted (instants_in es))
+
+-- the rows of the instants of one thread, by name and reach
+abbrev pub instant_rows_of : ThreadKey → List Event → List InstantRow
+instant_rows_of thread es = rows_of_thread (thread, names_counted (steps_at thread_cmp thread (instants_in es)))

@@ -5,7 +5,7 @@ ghost use Rattle.span_event.specs.declared.event.Phase.TheVariants.{Instant, Met
 ghost use Rattle.span_event.specs.Event.{IsGood};
 ghost use Rattle.span_event.specs.Given.{Gives};
 ghost use Rattle.span_keyed_tracks.specs.Fault.{Answers};
-ghost use Rattle.span_keyed_tracks.specs.Instants.{instant_rows, instants_of};
+ghost use Rattle.span_keyed_tracks.specs.Instants.{instant_rows, instant_rows_of, instants_of};
 ghost use Rattle.span_keyed_tracks.specs.Meta.{HasLabels, HasMetaRoom, HasName, HasSortIndex, MetaStandsFor, TakesMeta, TakesSetting};
 ghost use Rattle.span_keyed_tracks.specs.MetaKept.{keyed_setting};
 
@@ -153,6 +153,19 @@ impl MetaTrack {
         ensures { IfOk result (λ rows. Gives MetaStandsFor self.now instant_rows rows.items) }
     {
         self.instants.rows(alloc)
+    }
+
+    /// The rows of one thread: of each name and reach that has an instant on it, in ascending order, the wider reach first.
+    pub fn instant_rows_of(
+        &self,
+        alloc: Global,
+        pid: i64,
+        tid: i64,
+    ) -> Result<Vec<InstantRow>, AllocError>
+        ensures { IfOk result
+            (λ rows. Gives MetaStandsFor self.now (instant_rows_of (pid, tid)) rows.items) }
+    {
+        self.instants.rows_of(alloc, (pid, tid))
     }
 
     fn set(&mut self, holder: Holder, setting: Setting) -> Result<(), TrackFault>

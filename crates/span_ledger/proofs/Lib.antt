@@ -3,11 +3,15 @@ pub mod Ascending
 pub mod Counting
 pub mod FlowAnswers
 pub mod Following
+pub mod Grouping
 pub mod KeyedEvents
 pub mod Later
 pub mod LegalJournals
+pub mod PartRows
 pub mod Renaming
 pub mod RowOrder
+pub mod Selected
+pub mod SeriesParts
 pub mod Sorted
 pub mod Taking
 pub mod Threads

@@ -25,7 +25,8 @@ pub AllByRecursion-flat_map : {A B : Type 0} (P : B → Type 0) (f : A → List 
 AllByRecursion-flat_map P f each [] = tt
 AllByRecursion-flat_map P f each (x ∷ xs) = AllByRecursion-append P (f x) (flat_map f xs) (each x) (AllByRecursion-flat_map P f each xs)
 
-map-map : {A B C : Type 0} (f : B → C) (g : A → B) (xs : List A) → map f (map g xs) ≡ map (λ x. f (g x)) xs
+-- a function of what another gives for each
+pub map-map : {A B C : Type 0} (f : B → C) (g : A → B) (xs : List A) → map f (map g xs) ≡ map (λ x. f (g x)) xs
 map-map f g [] = refl
 map-map f g (x ∷ xs) = ap (λ ys. f (g x) ∷ ys) (map-map f g xs)
 
@@ -39,7 +40,7 @@ module _ {K : Type 0} {R : K → K → Ordering} (o : IsTotalOrder R) where
       by Equal more = rest
       by Greater more = (rest.0, more)
 
-  insert_key-sorted : (k : K) (ks : List K) → IsStrictlySortedBy R ks → IsStrictlySortedBy R (insert_key R ks k)
+  pub insert_key-sorted : (k : K) (ks : List K) → IsStrictlySortedBy R ks → IsStrictlySortedBy R (insert_key R ks k)
   unfolding IsStrictlySortedBy
   insert_key-sorted k [] sorted = (tt, tt)
   insert_key-sorted k (x ∷ xs) sorted = by (R k x) refl (insert_key-sorted k xs sorted.1)

@@ -1,10 +1,12 @@
 pub mod Answers
+pub mod Grouped
 pub mod Journal
 pub mod Keys
 pub mod Kind
 pub mod Legal
 pub mod Numbered
 pub mod Order
+pub mod Parts
 pub mod Refusal
 pub mod Replies
 pub mod Rows

@@ -2,7 +2,7 @@
 ghost use Rattle.std.specs.Prelude.{◌≡◌, ◌++◌, IfOk, OnOk, map, flat_map, option_copied, option_and_then, slice_get};
 ghost use Rattle.std.specs.BTreeSet.{insert_key, IsOrdered as AreOrdered};
 ghost use Rattle.span_keyed_tracks.specs.Keyed.{ascending};
-ghost use Rattle.span_ledger.specs.Rows.{text_cmp, process_row, process_rows, thread_row, thread_rows};
+ghost use Rattle.span_ledger.specs.Rows.{text_cmp, process_row, process_rows, thread_row, thread_rows, thread_span_rows};
 ghost use Rattle.span_ledger.specs.Tracked.{FollowsJournal, track_row, track_span_row, span_rows_of_track, track_span_rows, closed_names};
 
 use crate::entry::Entry;
@@ -31,7 +31,7 @@ pub(crate) fn process_rows(
     Ok(rows)
 }
 
-fn process_row(
+pub(crate) fn process_row(
     alloc: Global,
     journal: &[Entry],
     tracks: &Tracks,
@@ -60,7 +60,7 @@ pub(crate) fn thread_rows(
     Ok(rows)
 }
 
-fn thread_row(
+pub(crate) fn thread_row(
     alloc: Global,
     journal: &[Entry],
     tracks: &Tracks,
@@ -101,22 +101,51 @@ pub(crate) fn span_rows(alloc: Global, tracks: &Tracks) -> Result<Vec<SpanRow>, 
 {
     let mut rows = Vec::new(alloc);
     for thread in &tracks.listed.ordered_threads(alloc)? {
-        if let Some(track) = tracks.threads.get(thread) {
-            add_span_rows(alloc, &tracks.names, thread, track, &mut rows)?;
-        }
+        add_span_rows(alloc, tracks, thread, &mut rows)?;
     }
     Ok(rows)
 }
 
-// Adds the rows of the names of one thread.
+// The rows of the names of one thread.
+pub(crate) fn thread_span_rows(
+    alloc: Global,
+    journal: &[Entry],
+    tracks: &Tracks,
+    thread: &Thread,
+) -> Result<Vec<SpanRow>, AllocError>
+    requires { FollowsJournal journal.now tracks.now }
+    ensures { IfOk result (λ rows. rows.items ≡ thread_span_rows journal.now thread.now) }
+{
+    let mut rows = Vec::new(alloc);
+    add_span_rows(alloc, tracks, thread, &mut rows)?;
+    Ok(rows)
+}
+
+// Adds the rows of the names of one thread, if it has a track.
 fn add_span_rows(
+    alloc: Global,
+    tracks: &Tracks,
+    thread: &Thread,
+    rows: &mut Vec<SpanRow>,
+) -> Result<(), AllocError>
+    ensures { OnOk result (rows.new.items
+        ≡ rows.old.items ++ track_span_rows tracks.now.names tracks.now.threads thread.now) }
+{
+    match tracks.threads.get(thread) {
+        Some(track) => add_rows_of_track(alloc, &tracks.names, thread, track, rows),
+        None => Ok(()),
+    }
+}
+
+fn add_rows_of_track(
     alloc: Global,
     names: &Names,
     thread: &Thread,
     track: &ThreadTrack,
     rows: &mut Vec<SpanRow>,
 ) -> Result<(), AllocError>
-    ensures { OnOk result (rows.new.items ≡ rows.old.items ++ span_rows_of_track names.now thread.now track.now) }
+    ensures { OnOk result (rows.new.items
+        ≡ rows.old.items ++ span_rows_of_track names.now thread.now track.now) }
 {
     for name in &names_of(alloc, names, track)? {
         rows.push(span_row(alloc, names, thread, track, name)?)?;

@@ -1,4 +1,2 @@
 pub mod Padding
 pub mod Taking
-pub mod Under
-pub mod Walks

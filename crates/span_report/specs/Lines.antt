@@ -1,5 +1,5 @@
 -- The lines of a report.
-use Rattle.std.specs.Prelude.{ℕ, ◌-◌, ℤ, List, [], ◌∷◌, ◌++◌, length, replicate, flat_map, Option, Some, None, codes, decimal}
+use Rattle.std.specs.Prelude.{ℕ, ◌-◌, ℤ, List, [], ◌∷◌, ◌++◌, length, replicate, Option, Some, None, codes, decimal}
 use Rattle.std.specs.Fmt.{signed_decimal}
 use Rattle.json.specs.Print.{quoted}
 use Rattle.span_event.specs.declared.event.IdKey.{IdKey}
@@ -80,11 +80,5 @@ counter_line row = line_of (codes "counter" ∷ signed_decimal row.key.pid ∷ j
 unfoldable pub async_line : AsyncRow → List ℕ
 async_line row = line_of (codes "async" ∷ json_text_of row.key.cat ∷ json_text_of row.key.scope ∷ id_text row.key.id ∷ json_text_of row.key.name ∷ codes "closed" ∷ decimal row.totals.closed ∷ codes "total" ∷ decimal row.totals.total ∷ codes "open" ∷ decimal row.totals.unclosed ∷ codes "points" ∷ decimal row.totals.points ∷ [])
 
-abbrev pub async_lines : List AsyncRow → List ℕ
-async_lines rows = flat_map async_line rows
-
 unfoldable pub flow_line : FlowRow → List ℕ
 flow_line row = line_of (codes "flow" ∷ json_text_of row.key.cat ∷ json_text_of row.key.name ∷ id_text row.key.id ∷ codes "ended" ∷ decimal row.totals.ended ∷ codes "total" ∷ decimal row.totals.total ∷ codes "open" ∷ decimal row.totals.unclosed ∷ [])
-
-abbrev pub flow_lines : List FlowRow → List ℕ
-flow_lines rows = flat_map flow_line rows

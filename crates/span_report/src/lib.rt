@@ -1,10 +1,8 @@
-//! The report of a ledger: its rows, the lines that they make, and the output that takes them.
+//! The report of a ledger: the lines that its rows make, and the output that takes them.
 #![tactic(auto)]
 
 mod lines;
 mod output;
-mod parts;
-mod rows;
 mod sink;
 mod text;
 mod writer;

@@ -1,5 +1,5 @@
-//! The lines of a report, each appended to a text.
-ghost use Rattle.std.specs.Prelude.{◌≡◌, ◌++◌, string_bytes, OnOk, IfOk};
+//! The lines of a report: one for each row, appended to a text.
+ghost use Rattle.std.specs.Prelude.{◌≡◌, ◌++◌, ℕ, List, string_bytes, OnOk, IfOk};
 ghost use Rattle.span_report.specs.Lines.{first_line, count_line, process_line, thread_line, span_line, name_text, json_text_of, reach_text, instant_line, id_text, any_id_text, counter_line, samples_text, async_line, flow_line};
 
 use serde_json::Value;
@@ -8,6 +8,15 @@ use span_ledger::{
     SpanRow, Text, ThreadRow,
 };
 use std::alloc::{AllocError, Global};
+
+/// What a report prints as lines.
+pub(crate) trait Printed {
+    ghost lines: { Self → List ℕ };
+
+    /// Appends its lines.
+    fn put(&self, alloc: Global, out: &mut String) -> Result<(), AllocError>
+        ensures { OnOk result (string_bytes out.new ≡ string_bytes out.old ++ lines self.now) };
+}
 
 /// The text as JSON text, which stands for it in a report and in a fault's line.
 #[tactic(auto, unfolding(crate::specs::Lines::json_text_of))]
@@ -49,35 +58,37 @@ pub(crate) fn put_counts(out: &mut String, row: CountRow) -> Result<(), AllocErr
     )
 }
 
-#[tactic(auto, unfolding(crate::specs::Lines::process_line))]
-pub(crate) fn put_process(
-    alloc: Global,
-    out: &mut String,
-    row: &ProcessRow,
-) -> Result<(), AllocError>
-    ensures { OnOk result (string_bytes out.new ≡ string_bytes out.old ++ process_line row.now) }
-{
-    let name = shown_name(alloc, &row.name)?;
-    let pid = row.pid;
-    writeln!(out, "process {pid} {name}")
+impl Printed for ProcessRow {
+    ghost lines = { process_line };
+
+    #[tactic(auto, unfolding(crate::specs::Lines::process_line))]
+    fn put(&self, alloc: Global, out: &mut String) -> Result<(), AllocError> {
+        let name = shown_name(alloc, &self.name)?;
+        let pid = self.pid;
+        writeln!(out, "process {pid} {name}")
+    }
 }
 
-#[tactic(auto, unfolding(crate::specs::Lines::thread_line))]
-pub(crate) fn put_thread(alloc: Global, out: &mut String, row: &ThreadRow) -> Result<(), AllocError>
-    ensures { OnOk result (string_bytes out.new ≡ string_bytes out.old ++ thread_line row.now) }
-{
-    let name = shown_name(alloc, &row.name)?;
-    let (pid, tid, unclosed, busy) = (row.pid, row.tid, row.unclosed, row.busy);
-    writeln!(out, "thread {pid} {tid} {name} open {unclosed} busy {busy}")
+impl Printed for ThreadRow {
+    ghost lines = { thread_line };
+
+    #[tactic(auto, unfolding(crate::specs::Lines::thread_line))]
+    fn put(&self, alloc: Global, out: &mut String) -> Result<(), AllocError> {
+        let name = shown_name(alloc, &self.name)?;
+        let (pid, tid, unclosed, busy) = (self.pid, self.tid, self.unclosed, self.busy);
+        writeln!(out, "thread {pid} {tid} {name} open {unclosed} busy {busy}")
+    }
 }
 
-#[tactic(auto, using(crate::proofs::Padding::padded_integral_right), unfolding(crate::specs::Lines::span_line))]
-pub(crate) fn put_span(alloc: Global, out: &mut String, row: &SpanRow) -> Result<(), AllocError>
-    ensures { OnOk result (string_bytes out.new ≡ string_bytes out.old ++ span_line row.now) }
-{
-    let name = json_text(alloc, &row.name)?;
-    let (count, total, self_time) = (row.count, row.total, row.self_time);
-    writeln!(out, "span {count:>8} {total:>16} {self_time:>16} {name}")
+impl Printed for SpanRow {
+    ghost lines = { span_line };
+
+    #[tactic(auto, using(crate::proofs::Padding::padded_integral_right), unfolding(crate::specs::Lines::span_line))]
+    fn put(&self, alloc: Global, out: &mut String) -> Result<(), AllocError> {
+        let name = json_text(alloc, &self.name)?;
+        let (count, total, self_time) = (self.count, self.total, self.self_time);
+        writeln!(out, "span {count:>8} {total:>16} {self_time:>16} {name}")
+    }
 }
 
 fn letter_of(reach: Reach) -> &'static str
@@ -90,17 +101,15 @@ fn letter_of(reach: Reach) -> &'static str
     }
 }
 
-#[tactic(auto, using(crate::proofs::Padding::padded_integral_right), unfolding(crate::specs::Lines::instant_line))]
-pub(crate) fn put_instant(
-    alloc: Global,
-    out: &mut String,
-    row: &InstantRow,
-) -> Result<(), AllocError>
-    ensures { OnOk result (string_bytes out.new ≡ string_bytes out.old ++ instant_line row.now) }
-{
-    let name = json_text(alloc, &row.name)?;
-    let (reach, count) = (letter_of(row.reach), row.count);
-    writeln!(out, "instant {reach} {count:>8} {name}")
+impl Printed for InstantRow {
+    ghost lines = { instant_line };
+
+    #[tactic(auto, using(crate::proofs::Padding::padded_integral_right), unfolding(crate::specs::Lines::instant_line))]
+    fn put(&self, alloc: Global, out: &mut String) -> Result<(), AllocError> {
+        let name = json_text(alloc, &self.name)?;
+        let (reach, count) = (letter_of(self.reach), self.count);
+        writeln!(out, "instant {reach} {count:>8} {name}")
+    }
 }
 
 #[tactic(auto, unfolding(crate::specs::Lines::id_text))]
@@ -123,20 +132,18 @@ fn shown_any_id(alloc: Global, key: &Option<IdKey>) -> Result<String, AllocError
     }
 }
 
-#[tactic(auto, unfolding(crate::specs::Lines::counter_line))]
-pub(crate) fn put_counter(
-    alloc: Global,
-    out: &mut String,
-    row: &SeriesRow,
-) -> Result<(), AllocError>
-    ensures { OnOk result (string_bytes out.new ≡ string_bytes out.old ++ counter_line row.now) }
-{
-    let name = json_text(alloc, &row.key.name)?;
-    let id = shown_any_id(alloc, &row.key.id)?;
-    let series = json_text(alloc, &row.key.series)?;
-    let samples = shown_samples(alloc, row.totals)?;
-    let pid = row.key.pid;
-    writeln!(out, "counter {pid} {name} {id} {series} {samples}")
+impl Printed for SeriesRow {
+    ghost lines = { counter_line };
+
+    #[tactic(auto, unfolding(crate::specs::Lines::counter_line))]
+    fn put(&self, alloc: Global, out: &mut String) -> Result<(), AllocError> {
+        let name = json_text(alloc, &self.key.name)?;
+        let id = shown_any_id(alloc, &self.key.id)?;
+        let series = json_text(alloc, &self.key.series)?;
+        let samples = shown_samples(alloc, self.totals)?;
+        let pid = self.key.pid;
+        writeln!(out, "counter {pid} {name} {id} {series} {samples}")
+    }
 }
 
 #[tactic(auto, unfolding(crate::specs::Lines::samples_text))]
@@ -152,32 +159,36 @@ fn shown_samples(alloc: Global, totals: SeriesTotals) -> Result<String, AllocErr
     format!(in alloc; "samples {samples} least {least} greatest {greatest} last {last}")
 }
 
-#[tactic(auto, unfolding(crate::specs::Lines::async_line))]
-pub(crate) fn put_async(alloc: Global, out: &mut String, row: &AsyncRow) -> Result<(), AllocError>
-    ensures { OnOk result (string_bytes out.new ≡ string_bytes out.old ++ async_line row.now) }
-{
-    let cat = json_text(alloc, &row.key.cat)?;
-    let scope = json_text(alloc, &row.key.scope)?;
-    let id = shown_id(alloc, &row.key.id)?;
-    let name = json_text(alloc, &row.key.name)?;
-    let (closed, total) = (row.totals.closed, row.totals.total);
-    let (unclosed, points) = (row.totals.unclosed, row.totals.points);
-    writeln!(
-        out,
-        "async {cat} {scope} {id} {name} closed {closed} total {total} open {unclosed} points {points}"
-    )
+impl Printed for AsyncRow {
+    ghost lines = { async_line };
+
+    #[tactic(auto, unfolding(crate::specs::Lines::async_line))]
+    fn put(&self, alloc: Global, out: &mut String) -> Result<(), AllocError> {
+        let cat = json_text(alloc, &self.key.cat)?;
+        let scope = json_text(alloc, &self.key.scope)?;
+        let id = shown_id(alloc, &self.key.id)?;
+        let name = json_text(alloc, &self.key.name)?;
+        let (closed, total) = (self.totals.closed, self.totals.total);
+        let (unclosed, points) = (self.totals.unclosed, self.totals.points);
+        writeln!(
+            out,
+            "async {cat} {scope} {id} {name} closed {closed} total {total} open {unclosed} points {points}"
+        )
+    }
 }
 
-#[tactic(auto, unfolding(crate::specs::Lines::flow_line))]
-pub(crate) fn put_flow(alloc: Global, out: &mut String, row: &FlowRow) -> Result<(), AllocError>
-    ensures { OnOk result (string_bytes out.new ≡ string_bytes out.old ++ flow_line row.now) }
-{
-    let cat = json_text(alloc, &row.key.cat)?;
-    let name = json_text(alloc, &row.key.name)?;
-    let id = shown_id(alloc, &row.key.id)?;
-    let (ended, total, unclosed) = (row.totals.ended, row.totals.total, row.totals.unclosed);
-    writeln!(
-        out,
-        "flow {cat} {name} {id} ended {ended} total {total} open {unclosed}"
-    )
+impl Printed for FlowRow {
+    ghost lines = { flow_line };
+
+    #[tactic(auto, unfolding(crate::specs::Lines::flow_line))]
+    fn put(&self, alloc: Global, out: &mut String) -> Result<(), AllocError> {
+        let cat = json_text(alloc, &self.key.cat)?;
+        let name = json_text(alloc, &self.key.name)?;
+        let id = shown_id(alloc, &self.key.id)?;
+        let (ended, total, unclosed) = (self.totals.ended, self.totals.total, self.totals.unclosed);
+        writeln!(
+            out,
+            "flow {cat} {name} {id} ended {ended} total {total} open {unclosed}"
+        )
+    }
 }

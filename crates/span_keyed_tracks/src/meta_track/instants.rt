@@ -137,6 +137,22 @@ impl Instants {
         }
     }
 
+    // The rows of one thread.
+    pub(crate) fn rows_of(
+        &self,
+        alloc: Global,
+        thread: (i64, i64),
+    ) -> Result<Vec<InstantRow>, AllocError>
+        ensures { IfOk result
+            (λ rows. rows.items ≡ rows_of_thread (thread, kept_at thread_cmp [] self.now thread)) }
+    {
+        let mut rows = Vec::new(alloc);
+        if let Some(instants) = self.threads.get(&thread) {
+            instants.push_rows(alloc, &mut rows, thread)?;
+        }
+        Ok(rows)
+    }
+
     pub(crate) fn rows(&self, alloc: Global) -> Result<Vec<InstantRow>, AllocError>
         ensures { IfOk result (λ rows. rows.items ≡ rows_of_instants self.now) }
     {

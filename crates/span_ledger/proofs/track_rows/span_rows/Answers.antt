@@ -1,10 +1,9 @@
 use Rattle.std.proofs.Common.{◌≡◌, List, [], ◌∷◌, ◌++◌, map, Bor, sym, ap, ap₂, ◌∙◌, append_assoc, append-nil}
 use Rattle.std.proofs.lemmas.List.{map_push}
-use Rattle.std.specs.Prelude.{flat_map, unwrap_or}
-use Rattle.span_track.specs.Thread.{thread_spans}
+use Rattle.std.specs.Prelude.{flat_map}
 use Rattle.span_ledger.specs.declared.thread.Thread.{Thread}
 use Rattle.span_ledger.specs.declared.rows.SpanRow.{SpanRow}
-use Rattle.span_ledger.specs.Tracked.{TracksKept, track_span_rows, span_rows_of_track}
+use Rattle.span_ledger.specs.Tracked.{track_span_rows}
 use Rattle.span_ledger.proofs.track_rows.span_rows.Goals as goal
 
 flat_map-push : {A B : Type 0} (f : A → List B) (xs : List A) (x : A) → flat_map f (xs ++ x ∷ []) ≡ flat_map f xs ++ f x
@@ -15,15 +14,7 @@ flat_map-push f (y ∷ xs) x = ap (λ ys. f y ++ ys) (flat_map-push f xs x) ∙ 
 flat_map-passed : (f : Thread → List SpanRow) (passed : List (Bor Thread)) (thread : Bor Thread) → flat_map f (map (λ x. x.now) (passed ++ thread ∷ [])) ≡ flat_map f (map (λ x. x.now) passed) ++ f thread.now
 flat_map-passed f passed thread = ap (flat_map f) (map_push (λ x. x.now) passed thread) ∙ flat_map-push f (map (λ x. x.now) passed) thread.now
 
-pub loop-thread-preserved-in_ok-add_span_rows : goal.loop-thread-preserved-in_ok-add_span_rows
-loop-thread-preserved-in_ok-add_span_rows c =
-    let rows = track_span_rows c.args.tracks.now.names c.args.tracks.now.threads in
-    c.in_ok-add_span_rows.ensures ∙ ap₂ (λ xs ys. xs ++ ys) c.loop-thread.invariant (ap (λ o. span_rows_of_track c.tracks.inside.names c.in-Some.thread.now (unwrap_or o (thread_spans []))) c.in-Some-get.ensures.value
-    ∙ ap (λ (t : TracksKept). track_span_rows t.names t.threads c.in-Some.thread.now) c.tracks.view_is) ∙ sym (flat_map-passed rows c.loop-thread.yielded c.in-Some.thread)
-
 pub loop-thread-preserved : goal.loop-thread-preserved
 loop-thread-preserved c =
     let rows = track_span_rows c.args.tracks.now.names c.args.tracks.now.threads in
-    c.loop-thread.invariant ∙ sym (append-nil (flat_map rows (map (λ x. x.now) c.loop-thread.yielded))) ∙ ap (λ ys. flat_map rows (map (λ x. x.now) c.loop-thread.yielded) ++ ys)
-    (ap (λ o. span_rows_of_track c.tracks.inside.names c.in-Some.thread.now (unwrap_or o (thread_spans []))) c.in_default.ensures.value
-    ∙ ap (λ (t : TracksKept). track_span_rows t.names t.threads c.in-Some.thread.now) c.tracks.view_is) ∙ sym (flat_map-passed rows c.loop-thread.yielded c.in-Some.thread)
+    c.in_ok-add_span_rows.ensures ∙ ap (λ xs. xs ++ rows c.in-Some.thread.now) c.loop-thread.invariant ∙ sym (flat_map-passed rows c.loop-thread.yielded c.in-Some.thread)

@@ -1,8 +1,0 @@
-use Rattle.std.proofs.Common.{◌≡◌, ◌++◌}
-use Rattle.std.specs.Prelude.{map}
-use Rattle.span_ledger.specs.Tracked.{track_span_row}
-use Rattle.span_ledger.proofs.track_rows.add_span_rows.Given as goal
-
--- the rows of the names that were passed
-abbrev pub invariant-loop-name : goal.invariant-loop-name
-invariant-loop-name l = l.rows.items ≡ l.initial.rows.items ++ map (track_span_row l.names l.thread l.track) (map (λ name. name.now) l.yielded)

@@ -1,0 +1,45 @@
+-- The threads and series that are grouped by process.
+use Rattle.std.specs.Prelude.{◌≡◌, if◌then◌else◌, ℤ, List, [], ◌∷◌, ◌++◌, map, filter}
+use Rattle.std.specs.List.Sorted.{IsStrictlySortedBy}
+use Rattle.std.specs.Ordering.{int_cmp, int_eq}
+use Rattle.span_keyed_tracks.specs.declared.counter_track.SeriesRow.{SeriesRow}
+use Rattle.span_keyed_tracks.specs.Keyed.{entry_of}
+use Rattle.span_ledger.specs.declared.entry.Entry.{Entry}
+use Rattle.span_ledger.specs.declared.thread.Thread.{Thread}
+use Rattle.span_ledger.specs.Parts.{ProcessRows, thread_part}
+use Rattle.span_ledger.specs.Rows.{process_row}
+
+-- threads and series of one process
+pub record Grouped : Type 0 where
+  pub threads : List Thread
+  pub series : List SeriesRow
+
+abbrev pub with_thread : Thread → Grouped → Grouped
+with_thread thread group = record { threads = group.threads ++ thread ∷ []; series = group.series }
+
+abbrev pub with_series : SeriesRow → Grouped → Grouped
+with_series row group = record { threads = group.threads; series = group.series ++ row ∷ [] }
+
+-- those of a process, of these threads and series
+abbrev pub group_of : List Thread → List SeriesRow → ℤ → Grouped
+group_of threads rows pid = record {
+  threads = filter (λ thread. int_eq thread.pid pid) threads;
+  series = filter (λ row. int_eq row.key.pid pid) rows;
+}
+
+-- each of these processes with its own
+abbrev pub groups_of : List ℤ → List Thread → List SeriesRow → List (ℤ × Grouped)
+groups_of pids threads rows = map (entry_of (group_of threads rows)) pids
+
+-- what is grouped under this process changes so, and nothing else
+abbrev pub GroupsGrow : ℤ → (Grouped → Grouped) → List (ℤ × Grouped) → List (ℤ × Grouped) → Type 0
+GroupsGrow pid grow old new = (f : ℤ → Grouped) (pids : List ℤ) → IsStrictlySortedBy int_cmp pids → old ≡ map (entry_of f) pids →
+    new ≡ map (entry_of (λ q. if int_eq pid q then grow (f q) else f q)) pids
+
+-- the part of a process with what is grouped under it
+abbrev pub grouped_part : List Entry → ℤ × Grouped → ProcessRows
+grouped_part journal (pid, group) = record {
+  row = process_row journal pid;
+  threads = map (thread_part journal) group.threads;
+  series = group.series;
+}

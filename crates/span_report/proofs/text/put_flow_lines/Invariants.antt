@@ -1,7 +1,0 @@
-use Rattle.std.proofs.Common.{◌≡◌, ◌++◌, string_bytes, take}
-use Rattle.span_report.specs.Lines.{flow_lines}
-use Rattle.span_report.proofs.text.put_flow_lines.Given as goal
-
--- the lines of the rows so far
-abbrev pub invariant-loop-row : goal.invariant-loop-row
-invariant-loop-row l = string_bytes l.out ≡ string_bytes l.fn.out ++ flow_lines (take l.row-index l.rows)
