@@ -1,4 +1,4 @@
-// What readers tell where a growth of the ledger is refused.
+//! What readers tell where a growth of the ledger is refused.
 ghost use Rattle.std.specs.Prelude.{IfErr};
 ghost use Rattle.span_event.specs.Item.{IsGoodItem};
 ghost use Rattle.span_ledger.specs.Legal.{IsGoodOp};
@@ -10,28 +10,11 @@ use std::alloc::{AllocError, Global};
 use std::process::Abort;
 use std::test::Fail;
 
-// The counts, and the rows of spans, threads and processes, in lines.
-fn seen(alloc: Global, ledger: &Ledger) -> Result<String, AllocError> {
-    let mut lines = rows(alloc, ledger)?;
-    for row in &ledger.processes(alloc)? {
-        let pid = row.pid;
-        writeln!(lines, "process {pid}")?;
-    }
-    let counts = ledger.counts();
-    let (accepted, refused, skipped) = (counts.accepted, counts.refused, counts.skipped);
-    let length = ledger.len();
-    writeln!(
-        lines,
-        "entries {length} accepted {accepted} refused {refused} skipped {skipped}"
-    )?;
-    Ok(lines)
-}
-
-// The same, where one growth may be refused.
+// What the readers tell, where one growth may be refused.
 fn seen_at_last(alloc: Global, ledger: &Ledger) -> Result<String, AllocError> {
-    match seen(alloc, ledger) {
+    match rows(alloc, ledger) {
         Ok(lines) => Ok(lines),
-        Err(_) => seen(alloc, ledger),
+        Err(_) => rows(alloc, ledger),
     }
 }
 
@@ -105,7 +88,9 @@ fn a_refused_growth_changes_nothing_in(
 ) -> Result<(), Fail> {
     let alloc = rt.alloc();
     let events =
-        "[{\"ph\":\"B\",\"name\":\"a\",\"ts\":0,\"args\":{\"x\":1,\"y\":2}},{\"ph\":\"B\",\"name\":\"b\",\"ts\":2},{\"ph\":\"E\",\"ts\":1},{\"ph\":\"E\",\"ts\":5,\"args\":{\"z\":true}},{\"ph\":\"E\",\"ts\":10,\"args\":{\"y\":3,\"z\":true}},{\"ph\":\"E\",\"ts\":11},{\"ph\":\"X\",\"name\":\"c\",\"ts\":3,\"dur\":4,\"tid\":7}]";
+        r#"[{"ph":"B","name":"a","ts":0,"args":{"x":1,"y":2}},{"ph":"B","name":"b","ts":2},{"ph":"E","ts":1},
+        {"ph":"E","ts":5,"args":{"z":true}},{"ph":"E","ts":10,"args":{"y":3,"z":true}},{"ph":"E","ts":11},
+        {"ph":"X","name":"c","ts":3,"dur":4,"tid":7}]"#;
     let items = match read_items(alloc, events.as_bytes()) {
         Ok(items) => items,
         Err(_) => read_items(alloc, events.as_bytes())?,
@@ -116,7 +101,14 @@ fn a_refused_growth_changes_nothing_in(
     let last = seen_at_last(alloc, ledger)?;
     assert_eq!(rt;
         last.as_str(),
-        "a 1 10 7\nb 1 3 3\nc 1 4 4\nopen 0 busy 10\nopen 0 busy 4\nprocess 0\nentries 7 accepted 5 refused 2 skipped 0\n"
+        r#"ProcessRow { pid: 0, name: None }
+ThreadRow { pid: 0, tid: 0, name: None, unclosed: 0, busy: 10 }
+ThreadRow { pid: 0, tid: 7, name: None, unclosed: 0, busy: 4 }
+SpanRow { pid: 0, tid: 0, name: "a", count: 1, total: 10, self_time: 7 }
+SpanRow { pid: 0, tid: 0, name: "b", count: 1, total: 3, self_time: 3 }
+SpanRow { pid: 0, tid: 7, name: "c", count: 1, total: 4, self_time: 4 }
+CountRow { accepted: 5, refused: 2, skipped: 0, queries: 0 }
+"#
     );
     Ok(())
 }
