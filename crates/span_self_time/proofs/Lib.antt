@@ -9,6 +9,7 @@ pub mod Ends
 pub mod Gaining
 pub mod Joining
 pub mod Listing
+pub mod Names
 pub mod OwnTimes
 pub mod Owners
 pub mod PartLengths

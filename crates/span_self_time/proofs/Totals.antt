@@ -9,6 +9,9 @@ use Rattle.span_self_time.specs.declared.span.NameTotal.{NameTotal}
 use Rattle.span_self_time.specs.Spans.{Span, length_of, named}
 use Rattle.span_self_time.specs.Laws.{AreSpans}
 use Rattle.span_self_time.specs.Closed.{IsInTime, Totals, AreTotals, total_in, total_for}
+use Rattle.indexmap.specs.IndexMap.{keys}
+use Rattle.indexmap.specs.IndexSet.{insert_key}
+use Rattle.span_self_time.proofs.Names.{names_of-append}
 use Rattle.span_self_time.proofs.Counts.{add-distance}
 
 abbrev sums_of : List (Span ℕ) → NameTotal
@@ -42,14 +45,17 @@ total-le (s ∷ spans) name are in_time =
 
 -- room for one more name leaves the totals
 pub AreTotals-same : (old new : Totals) (spans : List (Span ℕ)) → new.entries ≡ old.entries → AreTotals old spans → AreTotals new spans
-AreTotals-same old new spans same are = λ name. rw same (are name)
+AreTotals-same old new spans same are = record { names = rw same are.names; each = λ name. rw same (are.each name) }
 
-pub AreTotals-append : (before after : Totals) (spans : List (Span ℕ)) (s : Span ℕ) (more : ℕ) → AreTotals before spans → more ≡ length_of s → ((other : ℕ) → total_in after other ≡ cond (s.name == other) (record { count = (total_in before s.name).count + 1; total = (total_in before s.name).total + more }) (total_in before other)) → AreTotals after (spans ++ s ∷ [])
-AreTotals-append before after spans s more held length added = λ other.
-    added other ∙ by_test other (s.name == other) refl ∙ sym (total_for-append spans s other)
+-- one more span adds its length to the total of its name, and its name at the end where it is new
+pub AreTotals-append : (before after : Totals) (spans : List (Span ℕ)) (s : Span ℕ) (more : ℕ) → AreTotals before spans → more ≡ length_of s → keys after ≡ insert_key nat_eq (keys before) s.name → ((other : ℕ) → total_in after other ≡ cond (s.name == other) (record { count = (total_in before s.name).count + 1; total = (total_in before s.name).total + more }) (total_in before other)) → AreTotals after (spans ++ s ∷ [])
+AreTotals-append before after spans s more held length named added = record {
+  names = named ∙ ap (λ names. insert_key nat_eq names s.name) held.names ∙ sym (names_of-append spans s);
+  each = λ other. added other ∙ by_test other (s.name == other) refl ∙ sym (total_for-append spans s other);
+}
   where
     by_test : (other : ℕ) (b : Bool) → (s.name == other) ≡ b → cond b (record { count = (total_in before s.name).count + 1; total = (total_in before s.name).total + more }) (total_in before other) ≡ cond b (record { count = (total_for spans other).count + 1; total = (total_for spans other).total + length_of s }) (total_for spans other)
     by_test other true same =
-        let at_name : total_in before s.name ≡ total_for spans other = held s.name ∙ ap (total_for spans) (eqb-true s.name other same) in
+        let at_name : total_in before s.name ≡ total_for spans other = held.each s.name ∙ ap (total_for spans) (eqb-true s.name other same) in
         λ i. record { count = (at_name i).count + 1; total = (at_name i).total + length i }
-    by_test other false differs = held other
+    by_test other false differs = held.each other

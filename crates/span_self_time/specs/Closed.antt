@@ -1,11 +1,11 @@
 -- The closed spans that a track keeps, and their totals.
 use Rattle.std.specs.Prelude.{◌≡◌, ℕ, ◌<◌, ◌^◌, ℤ, pos, negsuc, ◌≤ℤ◌, List, length, All, nat_eq, unwrap_or}
-use Rattle.indexmap.specs.IndexMap.{IndexMap, get}
+use Rattle.indexmap.specs.IndexMap.{IndexMap, get, keys}
 use Rattle.std.specs.declared.hash.FoldHasher.{FoldHasher}
 use Rattle.std.specs.declared.hash.BuildHasherDefault.{BuildHasherDefault}
 use Rattle.span_self_time.specs.declared.span.ClosedSpan.{ClosedSpan}
 use Rattle.span_self_time.specs.declared.span.NameTotal.{NameTotal}
-use Rattle.span_self_time.specs.Spans.{Span, named, total_of}
+use Rattle.span_self_time.specs.Spans.{Span, named, names_of, total_of}
 use Rattle.span_self_time.specs.Laws.{AreSpans}
 
 -- a closed span of the program, as a span
@@ -39,6 +39,7 @@ total_in totals name = unwrap_or (get nat_eq totals name) (record { count = 0; t
 abbrev pub total_for : List (Span ℕ) → ℕ → NameTotal
 total_for spans name = record { count = length (named nat_eq name spans); total = total_of nat_eq name spans }
 
--- each name's total is kept
-abbrev pub AreTotals : Totals → List (Span ℕ) → Type 0
-AreTotals totals spans = (name : ℕ) → total_in totals name ≡ total_for spans name
+-- the totals are those of the spans' names, one for each
+pub record AreTotals (totals : Totals) (spans : List (Span ℕ)) : Type 0 where
+  pub names : keys totals ≡ names_of nat_eq spans
+  pub each : (name : ℕ) → total_in totals name ≡ total_for spans name

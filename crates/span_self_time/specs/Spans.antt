@@ -1,6 +1,7 @@
 -- Closed spans of one thread, and how its microseconds are shared among them. A name is of a type N: a text, or its number.
-use Rattle.std.specs.Prelude.{ℕ, zero, suc, ◌+◌, nat_lt, Bool, not, ◌&&◌, ◌||◌, if◌then◌else◌, ℤ, pos, ◌+ℤ◌, int_lt, int_le, List, [], ◌∷◌, filter, sum_by}
+use Rattle.std.specs.Prelude.{ℕ, zero, suc, ◌+◌, nat_lt, Bool, not, ◌&&◌, ◌||◌, if◌then◌else◌, ℤ, pos, ◌+ℤ◌, int_lt, int_le, List, [], ◌∷◌, filter, fold, sum_by}
 use Rattle.std.specs.List.{list_any}
+use Rattle.indexmap.specs.IndexSet.{insert_key}
 use Rattle.std.specs.Ordering.{int_eq}
 use Rattle.std.specs.Int.{int_min, int_max}
 use Rattle.span_event.specs.Time.{distance}
@@ -59,6 +60,10 @@ module _ {N : Type 0} where
   -- the microseconds that at least one span covers
   abbrev pub busy_time : List (Span N) → ℕ
   busy_time spans = count_from (earliest spans) (distance (earliest spans) (latest spans)) (λ u. is_covered spans u)
+
+  -- the names of the spans, each once, in the order of their first
+  abbrev pub names_of : (N → N → Bool) → List (Span N) → List N
+  names_of same spans = fold (λ names s. insert_key same names s.name) [] spans
 
   -- the spans of one name, how long they are together, and their self times together
   abbrev pub named : (N → N → Bool) → N → List (Span N) → List (Span N)

@@ -1,9 +1,10 @@
 //! The closed spans of a thread, with the totals of their names and the division of time among them.
 ghost use Rattle.std.specs.Prelude.{◌≡◌, ◌≢◌, ◌+◌, ◌<◌, ◌≤◌, ◌*◌, ◌-◌, ◌^◌, ◌==◌, ℕ, [], ◌∷◌, ◌++◌, ◌≤ℤ◌, if◌then◌else◌, List, length, map, nat_eq, slice_get, option_copied, All, IfSome, OnOk, OnErr};
 ghost use Rattle.std.specs.List.{count_by};
-ghost use Rattle.indexmap.specs.IndexMap.{spare};
+ghost use Rattle.indexmap.specs.IndexMap.{spare, keys};
+ghost use Rattle.indexmap.specs.IndexSet.{insert_key};
 ghost use Rattle.span_event.specs.Given.{Gives};
-ghost use Rattle.span_self_time.specs.Spans.{self_of, busy_time};
+ghost use Rattle.span_self_time.specs.Spans.{self_of, busy_time, names_of};
 ghost use Rattle.span_self_time.specs.Closed.{total_in, total_for, span_of, IsInTime, AreClosed};
 ghost use Rattle.span_self_time.specs.Segments.{lasts, AreSegments, HasSegments, HasEnds};
 
@@ -85,6 +86,23 @@ impl ClosedSpans {
         Ok(())
     }
 
+    /// How many names the spans have.
+    pub fn name_count(&self) -> u32
+        ensures { result ≡ length (names_of nat_eq self.now) }
+    {
+        self.totals.len() as u32
+    }
+
+    /// A name of the spans, in the order in which each was first added, counted from 0; None from the number of names on.
+    pub fn name(&self, i: u32) -> Option<u32>
+        ensures { result ≡ slice_get (names_of nat_eq self.now) i }
+    {
+        match self.totals.get_index(i as usize) {
+            Some((name, _)) => Some(*name),
+            None => None,
+        }
+    }
+
     /// The number and the lengths of the spans of one name.
     pub fn total_of(&self, name: u32) -> NameTotal
         ensures { result ≡ total_for self.now name }
@@ -138,7 +156,8 @@ fn add_to_total(totals: &mut IndexMap<u32, NameTotal>, name: u32, length: u64)
     requires room { 0 < spare totals.old }
     requires count { (total_in totals.old name).count + 1 < 2 ^ 32 }
     requires total { (total_in totals.old name).total + length < 2 ^ 128 }
-    ensures { (other : ℕ) → total_in totals.new other ≡ (if name == other
+    ensures names { keys totals.new ≡ insert_key nat_eq (keys totals.old) name }
+    ensures each { (other : ℕ) → total_in totals.new other ≡ (if name == other
         then record { count = (total_in totals.old name).count + 1; total = (total_in totals.old name).total + length }
         else total_in totals.old other) }
 {

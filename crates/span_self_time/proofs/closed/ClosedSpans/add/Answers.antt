@@ -38,7 +38,7 @@ add_to_total-requires-clause-count c =
     let spans = map span_of c.self.inside.list.items in
     let few : length spans + 1 < 2 ^ 32 = subst (λ (v : List (Span ℕ)). length v + 1 < 2 ^ 32) (sym c.self.view_is) c.requires.few in
     let are = AreTotals-same c.self.inside.totals c.reserve-2.new.self spans c.in_ok-reserve-2.ensures.entries c.self.invariant.1 in
-    let held = ap (λ (t : NameTotal). t.count) (are c.args.span.name) in
+    let held = ap (λ (t : NameTotal). t.count) (are.each c.args.span.name) in
     let most = count-le-length spans c.args.span.name in
     omega (arith, few, held, most)
 
@@ -47,7 +47,7 @@ add_to_total-requires-clause-total c =
     let spans = map span_of c.self.inside.list.items in
     let few : length spans + 1 < 2 ^ 32 = subst (λ (v : List (Span ℕ)). length v + 1 < 2 ^ 32) (sym c.self.view_is) c.requires.few in
     let are = AreTotals-same c.self.inside.totals c.reserve-2.new.self spans c.in_ok-reserve-2.ensures.entries c.self.invariant.1 in
-    let held = ap (λ (t : NameTotal). t.total) (are c.args.span.name) in
+    let held = ap (λ (t : NameTotal). t.total) (are.each c.args.span.name) in
     let most = total-le spans c.args.span.name c.self.invariant.0.are c.self.invariant.0.in_time in
     let more = length_of-le (span_of c.args.span) c.requires.forward c.requires.in_time in
     let start : to_z w64 (of_z w64 c.args.span.start) ≡ c.args.span.start = search rules in
@@ -68,7 +68,7 @@ invariant_of-self-2 c =
     let until : to_z w64 (of_z w64 c.args.span.until) ≡ c.args.span.until = search rules in
     let length_is : c.distance-length.result ≡ length_of (span_of c.args.span) = rw (start, until) at c.distance-length.ensures.value in
     let are = AreTotals-same c.self.inside.totals c.reserve-2.new.self spans c.in_ok-reserve-2.ensures.entries c.self.invariant.1 in
-    let totals = AreTotals-append c.reserve-2.new.self c.add_to_total.new.totals spans span c.distance-length.result are length_is c.add_to_total.ensures in
+    let totals = AreTotals-append c.reserve-2.new.self c.add_to_total.new.totals spans span c.distance-length.result are length_is c.add_to_total.ensures.names c.add_to_total.ensures.each in
     let own = owner_of-whole c.whole-part.result c.args.span c.whole-part.ensures in
     let new = subst (λ (s : Span ℕ). IsNew s (owners_of spans)) (sym own) (IsNew-apart spans span apart) in
     let listed : c.deref.result.now ≡ c.self.inside.list.items = c.deref.ensures.value ∙ c.in_ok-reserve.ensures.items in
