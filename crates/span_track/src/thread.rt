@@ -7,7 +7,7 @@ ghost use Rattle.span_event.specs.Given.{Gives};
 ghost use Rattle.span_keyed_tracks.specs.Fault.{Answers};
 ghost use Rattle.span_track.specs.Nesting.{ThreadEvent, began, ended, completed, closed_by, opener, opener_args};
 ghost use Rattle.span_self_time.specs.Segments.{lasts, AreSegments, HasSegments, HasEnds};
-ghost use Rattle.span_self_time.specs.Spans.{Arguments, self_of, busy_time};
+ghost use Rattle.span_self_time.specs.Spans.{Arguments, names_of, self_of, busy_time};
 ghost use Rattle.span_track.specs.Thread.{StandsFor, TakesEvent, HasRoom, IsNext, goes_back, begin_refusal, end_refusal, merged_args};
 ghost use Rattle.span_self_time.specs.Closed.{span_of, total_for, AreClosed};
 
@@ -253,6 +253,20 @@ impl ThreadTrack {
         ensures { option_map (λ span. span_of span.now) result ≡ slice_get self.now.closed i }
     {
         self.closed.as_slice().get(i as usize)
+    }
+
+    /// How many names the closed spans have.
+    pub fn name_count(&self) -> u32
+        ensures { result ≡ length (names_of nat_eq self.now.closed) }
+    {
+        self.closed.name_count()
+    }
+
+    /// A name of the closed spans, in the order in which each first closed, counted from 0.
+    pub fn name(&self, i: u32) -> Option<u32>
+        ensures { result ≡ slice_get (names_of nat_eq self.now.closed) i }
+    {
+        self.closed.name(i)
     }
 
     /// The number and the lengths of the closed spans of one name.
