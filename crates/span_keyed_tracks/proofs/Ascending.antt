@@ -11,6 +11,39 @@ use Rattle.std.specs.BTreeSet.{insert_key}
 use Rattle.indexmap.specs.IndexSet.{insert_key as add_key}
 use Rattle.span_keyed_tracks.specs.Keyed.{ascending}
 
+-- steps that change nothing when they are repeated, and whose order is all one
+module _ {K B : Type 0} (step : B → K → B) (twice : (b : B) (k : K) → step (step b k) k ≡ step b k) (swap : (b : B) (j k : K) → step (step b j) k ≡ step (step b k) j) where
+  fold-step : (ks : List K) (b : B) (k : K) → fold step (step b k) ks ≡ step (fold step b ks) k
+  fold-step [] b k = refl
+  fold-step (x ∷ xs) b k = ap (λ c. fold step c xs) (swap b k x) ∙ fold-step xs (step b x) k
+
+  module _ (eq : K → K → Bool) (tied : (a b : K) → eq a b ≡ true → a ≡ b) where
+    -- a step that was taken changes nothing
+    fold-known : (ks : List K) (b : B) (k : K) → list_any (eq k) ks ≡ true → step (fold step b ks) k ≡ fold step b ks
+    fold-known [] b k has = cc
+    fold-known (x ∷ xs) b k has = by (eq k x) refl has (λ (h : list_any (eq k) xs ≡ true). fold-known xs (step b x) k h)
+      where
+        by : (known : Bool) → eq k x ≡ known → (known || list_any (eq k) xs) ≡ true →
+            (list_any (eq k) xs ≡ true → step (fold step (step b x) xs) k ≡ fold step (step b x) xs) → step (fold step (step b x) xs) k ≡ fold step (step b x) xs
+        by true e h rest =
+            sym (fold-step xs (step b x) k)
+            ∙ ap (λ y. fold step (step (step b x) y) xs) (tied k x e)
+            ∙ ap (λ c. fold step c xs) (twice b x)
+        by false e h rest = rest h
+
+    -- the steps of a set, with one more
+    pub fold-add_key : (b : B) (ks : List K) (k : K) → fold step b (add_key eq ks k) ≡ step (fold step b ks) k
+    fold-add_key b ks k = by (list_any (eq k) ks) refl
+      where
+        by : (known : Bool) → list_any (eq k) ks ≡ known → fold step b (cond known ks (ks ++ k ∷ [])) ≡ step (fold step b ks) k
+        by true e = sym (fold-known ks b k e)
+        by false e = fold-append step b ks (k ∷ [])
+
+    -- each step once gives what all steps give
+    pub fold-once : (b : B) (done ks : List K) → fold step b (fold (add_key eq) done ks) ≡ fold step (fold step b done) ks
+    fold-once b done [] = refl
+    fold-once b done (k ∷ ks) = fold-once b (add_key eq done k) ks ∙ ap (λ c. fold step c ks) (fold-add_key b done k)
+
 module _ {K : Type 0} {R : K → K → Ordering} (o : IsTotalOrder R) (same : (a b : K) → R a b ≡ Equal → a ≡ b) where
   insert_key-at : (k x : K) (xs : List K) (r : Ordering) → R k x ≡ r → insert_key R (x ∷ xs) k ≡ match_ordering r (k ∷ x ∷ xs) (x ∷ xs) (x ∷ insert_key R xs k)
   insert_key-at k x xs r e = ap (λ s. match_ordering s (k ∷ x ∷ xs) (x ∷ xs) (x ∷ insert_key R xs k)) e
@@ -70,35 +103,11 @@ module _ {K : Type 0} {R : K → K → Ordering} (o : IsTotalOrder R) (same : (a
   insert_key-swap a b [] = at_front (R a b) a b [] refl refl refl
   insert_key-swap a b (x ∷ xs) = swap-by (R a x) (R b x) a b x xs refl refl (insert_key-swap a b xs)
 
-  fold-insert_key : (ys ks : List K) (k : K) → fold (insert_key R) (insert_key R ks k) ys ≡ insert_key R (fold (insert_key R) ks ys) k
-  fold-insert_key [] ks k = refl
-  fold-insert_key (y ∷ ys) ks k = ap (λ l. fold (insert_key R) l ys) (insert_key-swap k y ks) ∙ fold-insert_key ys (insert_key R ks y) k
-
+  -- the distinct keys of a set in the order of their first use, with one more, in ascending order
   module _ (eq : K → K → Bool) (tied : (a b : K) → eq a b ≡ true → a ≡ b) where
-    -- a key that is there changes nothing
-    fold-insert_key-known : (ks done : List K) (k : K) → list_any (eq k) ks ≡ true → insert_key R (fold (insert_key R) done ks) k ≡ fold (insert_key R) done ks
-    fold-insert_key-known [] done k has = cc
-    fold-insert_key-known (x ∷ xs) done k has =
-        by (eq k x) refl has (λ (h : list_any (eq k) xs ≡ true). fold-insert_key-known xs (insert_key R done x) k h)
-      where
-        by : (b : Bool) → eq k x ≡ b → (b || list_any (eq k) xs) ≡ true →
-            (list_any (eq k) xs ≡ true → insert_key R (fold (insert_key R) (insert_key R done x) xs) k ≡ fold (insert_key R) (insert_key R done x) xs) →
-            insert_key R (fold (insert_key R) (insert_key R done x) xs) k ≡ fold (insert_key R) (insert_key R done x) xs
-        by true e h rest =
-            sym (fold-insert_key xs (insert_key R done x) k)
-            ∙ ap (λ y. fold (insert_key R) (insert_key R (insert_key R done x) y) xs) (tied k x e)
-            ∙ ap (λ l. fold (insert_key R) l xs) (insert_key-twice x done)
-        by false e h rest = rest h
-
-    -- the keys of a set in the order of their first use, with one more
     pub ascending-add_key : (ks : List K) (k : K) → ascending R (add_key eq ks k) ≡ insert_key R (ascending R ks) k
-    ascending-add_key ks k = by (list_any (eq k) ks) refl
-      where
-        by : (b : Bool) → list_any (eq k) ks ≡ b → ascending R (cond b ks (ks ++ k ∷ [])) ≡ insert_key R (ascending R ks) k
-        by true e = sym (fold-insert_key-known ks [] k e)
-        by false e = fold-append (insert_key R) [] ks (k ∷ [])
+    ascending-add_key ks k = fold-add_key (insert_key R) (λ l k. insert_key-twice k l) (λ l a b. insert_key-swap a b l) eq tied [] ks k
 
     -- the order in which keys come, and how often, is all one
     pub ascending-fold : (done ks : List K) → ascending R (fold (add_key eq) done ks) ≡ fold (insert_key R) (ascending R done) ks
-    ascending-fold done [] = refl
-    ascending-fold done (k ∷ ks) = ascending-fold (add_key eq done k) ks ∙ ap (λ l. fold (insert_key R) l ks) (ascending-add_key done k)
+    ascending-fold done ks = fold-once (insert_key R) (λ l k. insert_key-twice k l) (λ l a b. insert_key-swap a b l) eq tied [] done ks

@@ -1,7 +1,8 @@
 //! The rows of processes, of threads and of their names, from the tracks.
-ghost use Rattle.std.specs.Prelude.{◌≡◌, ◌++◌, IfOk, OnOk, map, flat_map, option_copied, option_and_then, slice_get};
+ghost use Rattle.std.specs.Prelude.{◌≡◌, ◌++◌, IfOk, OnOk, map, flat_map, nat_eq, option_copied, option_and_then, slice_get};
 ghost use Rattle.std.specs.BTreeSet.{insert_key, IsOrdered as AreOrdered};
 ghost use Rattle.span_keyed_tracks.specs.Keyed.{ascending};
+ghost use Rattle.span_self_time.specs.Spans.{names_of};
 ghost use Rattle.span_ledger.specs.Rows.{text_cmp, process_row, process_rows, thread_row, thread_rows, thread_span_rows};
 ghost use Rattle.span_ledger.specs.Tracked.{FollowsJournal, track_row, track_span_row, span_rows_of_track, track_span_rows, closed_names};
 
@@ -158,7 +159,7 @@ fn names_of(alloc: Global, names: &Names, track: &ThreadTrack) -> Result<BTreeSe
     ensures { IfOk result (λ found. found.keys ≡ ascending text_cmp (closed_names names.now track.now)) }
 {
     let mut found = BTreeSet::new(alloc);
-    for i in 0..track.closed_count() {
+    for i in 0..track.name_count() {
         if let Some(name) = closed_name(names, track, i) {
             add_name(alloc, &mut found, name)?;
         }
@@ -166,13 +167,13 @@ fn names_of(alloc: Global, names: &Names, track: &ThreadTrack) -> Result<BTreeSe
     Ok(found)
 }
 
-// The name of the closed span at a place.
+// A name of the closed spans, in the order in which each first closed.
 fn closed_name<'a>(names: &'a Names, track: &ThreadTrack, i: u32) -> Option<&'a Text>
     ensures { option_copied result
-        ≡ option_and_then (λ s. slice_get names.now s.name) (slice_get track.now.closed i) }
+        ≡ option_and_then (slice_get names.now) (slice_get (names_of nat_eq track.now.closed) i) }
 {
-    let span = track.closed(i)?;
-    names.text_of(span.name)
+    let number = track.name(i)?;
+    names.text_of(number)
 }
 
 // Adds a name, which is copied where it is new.

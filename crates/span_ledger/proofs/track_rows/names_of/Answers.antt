@@ -1,8 +1,8 @@
 use Rattle.std.proofs.Common.{◌≡◌, ℕ, suc, ◌+◌, ◌<◌, List, [], length, get_or, drop, drop-cons, Option, Some, None, refl, sym, ap, ◌∙◌, arith}
-use Rattle.std.specs.Prelude.{pos, fold, filter_map, slice_get, option_and_then}
+use Rattle.std.specs.Prelude.{fold, filter_map, nat_eq, slice_get, option_and_then}
 use Rattle.std.specs.List.{cons_option}
 use Rattle.std.specs.BTreeSet.{insert_key, keys}
-use Rattle.span_self_time.specs.Spans.{Span}
+use Rattle.span_self_time.specs.Spans.{names_of}
 use Rattle.std.proofs.lemmas.Option.{slice_get-get_or}
 use Rattle.span_ledger.specs.Rows.{text_cmp}
 use Rattle.span_ledger.proofs.track_rows.names_of.Goals as goal
@@ -20,27 +20,23 @@ filter_map-step h xs i x within =
     ∙ ap (λ k. cons_option (h (get_or xs i x)) (filter_map h (drop k xs))) next
     ∙ ap (λ o. cons_option (option_and_then h o) (filter_map h (drop (i + 1) xs))) (sym (slice_get-get_or xs i x within))
 
--- any span, for a default
-blank : Span ℕ
-blank = record { name = 0; start = pos 0; until = pos 0; at = 0; args = [] }
-
--- the names after one more span, of which this one is the name
-more_names : (names : List (List ℕ)) (closed : List (Span ℕ)) (i : ℕ) (o : Option (List ℕ)) (before after all : List (List ℕ)) → i < length closed → o ≡ option_and_then (λ s. slice_get names s.name) (slice_get closed i) →
+-- the names after one more number, of which this one is the name
+more_names : (names : List (List ℕ)) (numbers : List ℕ) (i : ℕ) (o : Option (List ℕ)) (before after all : List (List ℕ)) → i < length numbers → o ≡ option_and_then (slice_get names) (slice_get numbers i) →
     ((x : List ℕ) → o ≡ Some x → insert_key text_cmp before x ≡ after) → (o ≡ None → before ≡ after) →
-    fold (insert_key text_cmp) before (filter_map (λ s. slice_get names s.name) (drop i closed)) ≡ all → fold (insert_key text_cmp) after (filter_map (λ s. slice_get names s.name) (drop (i + 1) closed)) ≡ all
-more_names names closed i o before after all within is some none whole =
-    sym (fold-cons_option (insert_key text_cmp) before o (filter_map (λ s. slice_get names s.name) (drop (i + 1) closed)) after some none)
-    ∙ ap (λ p. fold (insert_key text_cmp) before (cons_option p (filter_map (λ s. slice_get names s.name) (drop (i + 1) closed)))) is
-    ∙ ap (fold (insert_key text_cmp) before) (sym (filter_map-step (λ s. slice_get names s.name) closed i blank within))
+    fold (insert_key text_cmp) before (filter_map (slice_get names) (drop i numbers)) ≡ all → fold (insert_key text_cmp) after (filter_map (slice_get names) (drop (i + 1) numbers)) ≡ all
+more_names names numbers i o before after all within is some none whole =
+    sym (fold-cons_option (insert_key text_cmp) before o (filter_map (slice_get names) (drop (i + 1) numbers)) after some none)
+    ∙ ap (λ p. fold (insert_key text_cmp) before (cons_option p (filter_map (slice_get names) (drop (i + 1) numbers)))) is
+    ∙ ap (fold (insert_key text_cmp) before) (sym (filter_map-step (slice_get names) numbers i 0 within))
     ∙ whole
 
 pub loop-i-preserved : goal.loop-i-preserved
 loop-i-preserved c =
-    let within : c.loop-i.i < length c.args.track.now.closed = omega (arith, c.loop-i-test.true, c.closed_count-i-end.ensures) in
+    let within : c.loop-i.i < length (names_of nat_eq c.args.track.now.closed) = omega (arith, c.loop-i-test.true, c.name_count-i-end.ensures) in
     elim c.match-closed_name.branch [
       | in-Some+in_ok-add_name w ↦ record {
         ordered = rw w.found-is w.add_name.ensures.ordered;
-        all = more_names c.args.names.now c.args.track.now.closed c.loop-i.i (Some w.in-Some.name.now) c.loop-i.found.keys c.match-closed_name.found.keys _ within w.in-Some.ensures
+        all = more_names c.args.names.now (names_of nat_eq c.args.track.now.closed) c.loop-i.i (Some w.in-Some.name.now) c.loop-i.found.keys c.match-closed_name.found.keys _ within w.in-Some.ensures
             (λ (x : List ℕ) (e : Some w.in-Some.name.now ≡ Some x). let same : w.in-Some.name.now ≡ x = cc in
             ap (insert_key text_cmp c.loop-i.found.keys) (sym same) ∙ sym w.in_ok-add_name.ensures.added ∙ ap keys (sym w.found-is))
             (λ (e : ◌≡◌ {A = Option (List ℕ)} (Some w.in-Some.name.now) None). cc)
@@ -48,7 +44,7 @@ loop-i-preserved c =
       }
       | in_default w ↦ record {
         ordered = rw w.found-is c.loop-i.invariant.ordered;
-        all = more_names c.args.names.now c.args.track.now.closed c.loop-i.i None c.loop-i.found.keys c.match-closed_name.found.keys _ within w.in_default.ensures
+        all = more_names c.args.names.now (names_of nat_eq c.args.track.now.closed) c.loop-i.i None c.loop-i.found.keys c.match-closed_name.found.keys _ within w.in_default.ensures
             (λ (x : List ℕ) (e : ◌≡◌ {A = Option (List ℕ)} None (Some x)). cc)
             (λ (e : ◌≡◌ {A = Option (List ℕ)} None None). ap keys (sym w.found-is))
             c.loop-i.invariant.all;
