@@ -4,18 +4,25 @@ use Rattle.span_event.specs.declared.item.Item.{Item}
 use Rattle.span_event.specs.declared.item.Item.TheVariants.{Good, Bad, Other}
 use Rattle.span_event.specs.declared.item.ItemFault.{ItemFault}
 use Rattle.span_event.specs.declared.item.ItemFault.TheVariants.{NotObject, NoPhase, NoTime, NotWhole, NoDuration, BadField, NoId, BadReach, BadSeries}
+use Rattle.span_event.specs.declared.fault.Fault.{Fault}
+use Rattle.span_event.specs.declared.fault.Fault.TheVariants as table
 use Rattle.span_event.specs.Event.{IsGood}
+use Rattle.span_event.specs.Fault.{number_of}
+
+-- the fault of the table
+abbrev pub as_fault : ItemFault → Fault
+as_fault NotObject = table.NotObject
+as_fault NoPhase = table.NoPhase
+as_fault NoTime = table.NoTime
+as_fault NotWhole = table.NotWhole
+as_fault NoDuration = table.NoDuration
+as_fault (BadField field) = table.BadField
+as_fault NoId = table.NoId
+as_fault BadReach = table.BadReach
+as_fault BadSeries = table.BadSeries
 
 abbrev pub code_of : ItemFault → ℕ
-code_of NotObject = 11
-code_of NoPhase = 12
-code_of NoTime = 13
-code_of NotWhole = 14
-code_of NoDuration = 15
-code_of (BadField f) = 16
-code_of NoId = 17
-code_of BadReach = 18
-code_of BadSeries = 19
+code_of fault = number_of (as_fault fault)
 
 -- the event of an item, if it has one, is good
 abbrev pub IsGoodItem : Item → Type 0

@@ -1,5 +1,6 @@
 pub mod Args
 pub mod Event
+pub mod Fault
 pub mod Given
 pub mod Item
 pub mod Orders

@@ -1,7 +1,8 @@
 ghost use Rattle.std.specs.Prelude.{◌≡◌};
-ghost use Rattle.span_event.specs.Item.{code_of};
+ghost use Rattle.span_event.specs.Item.{as_fault, code_of};
 
 use crate::event::Event;
+use crate::fault::Fault;
 
 /// A field of an event whose value can be of a wrong kind.
 #[derive(Clone, Copy, Debug, PartialEq, Eq)]
@@ -38,21 +39,28 @@ pub enum ItemFault {
 }
 
 impl ItemFault {
+    /// The fault that it is in the table of all faults.
+    pub fn fault(&self) -> Fault
+        ensures { result ≡ as_fault self.now }
+    {
+        match self {
+            ItemFault::NotObject => Fault::NotObject,
+            ItemFault::NoPhase => Fault::NoPhase,
+            ItemFault::NoTime => Fault::NoTime,
+            ItemFault::NotWhole => Fault::NotWhole,
+            ItemFault::NoDuration => Fault::NoDuration,
+            ItemFault::BadField(_) => Fault::BadField,
+            ItemFault::NoId => Fault::NoId,
+            ItemFault::BadReach => Fault::BadReach,
+            ItemFault::BadSeries => Fault::BadSeries,
+        }
+    }
+
     /// The number of the fault, from 11 to 19, as each variant has it.
     pub fn code(&self) -> u16
         ensures { result ≡ code_of self.now }
     {
-        match self {
-            ItemFault::NotObject => 11,
-            ItemFault::NoPhase => 12,
-            ItemFault::NoTime => 13,
-            ItemFault::NotWhole => 14,
-            ItemFault::NoDuration => 15,
-            ItemFault::BadField(_) => 16,
-            ItemFault::NoId => 17,
-            ItemFault::BadReach => 18,
-            ItemFault::BadSeries => 19,
-        }
+        self.fault().code()
     }
 }
 

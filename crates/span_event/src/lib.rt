@@ -4,12 +4,14 @@
 
 mod args;
 mod event;
+mod fault;
 mod item;
 mod items;
 mod text;
 
 pub use args::{ArgValue, Args, merge_args};
 pub use event::{Event, IdKey, Phase, Reach};
+pub use fault::Fault;
 pub use item::{Field, Item, ItemFault};
 pub use items::Items;
 pub use text::Text;
