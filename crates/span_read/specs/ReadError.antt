@@ -2,10 +2,17 @@
 use Rattle.std.specs.Prelude.{ℕ}
 use Rattle.span_read.specs.declared.error.ReadError.{ReadError}
 use Rattle.span_read.specs.declared.error.ReadError.TheVariants.{TooLarge, NotJson, NotTrace, TooMany, Memory}
+use Rattle.span_event.specs.declared.fault.Fault.{Fault}
+use Rattle.span_event.specs.declared.fault.Fault.TheVariants as table
+use Rattle.span_event.specs.Fault.{number_of}
+
+-- the fault of the table
+abbrev pub as_fault : ReadError → Fault
+as_fault NotJson = table.NotJson
+as_fault NotTrace = table.NotTrace
+as_fault TooLarge = table.TooLarge
+as_fault TooMany = table.TooMany
+as_fault Memory = table.Memory
 
 abbrev pub code_of : ReadError → ℕ
-code_of NotJson = 1
-code_of NotTrace = 2
-code_of TooLarge = 3
-code_of TooMany = 4
-code_of Memory = 31
+code_of error = number_of (as_fault error)

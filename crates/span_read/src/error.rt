@@ -1,6 +1,7 @@
 // Why a file is refused as a whole.
 ghost use Rattle.std.specs.Prelude.{◌≡◌};
 
+use span_event::Fault;
 use thiserror::Error;
 
 /// Why a file is refused, each with its number.
@@ -24,17 +25,25 @@ pub enum ReadError {
 }
 
 impl ReadError {
-    ghost use Rattle.span_read.specs.ReadError.{code_of};
+    ghost use Rattle.span_read.specs.ReadError.{as_fault, code_of};
 
+    /// The fault that it is in the table of all faults.
+    pub fn fault(&self) -> Fault
+        ensures { result ≡ as_fault self.now }
+    {
+        match self {
+            ReadError::TooLarge => Fault::TooLarge,
+            ReadError::NotJson => Fault::NotJson,
+            ReadError::NotTrace => Fault::NotTrace,
+            ReadError::TooMany => Fault::TooMany,
+            ReadError::Memory => Fault::Memory,
+        }
+    }
+
+    /// The number of the fault, as each variant has it.
     pub fn code(&self) -> u16
         ensures { result ≡ code_of self.now }
     {
-        match self {
-            ReadError::TooLarge => 3,
-            ReadError::NotJson => 1,
-            ReadError::NotTrace => 2,
-            ReadError::TooMany => 4,
-            ReadError::Memory => 31,
-        }
+        self.fault().code()
     }
 }
