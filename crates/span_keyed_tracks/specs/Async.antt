@@ -3,6 +3,8 @@ use Rattle.std.specs.Prelude.{◌≡◌, ℕ, ◌+◌, ◌<◌, ◌^◌, ◌-◌
 use Rattle.std.specs.declared.cmp.Ordering.{Ordering}
 use Rattle.std.specs.Ordering.{nat_cmp, ordering_then}
 use Rattle.std.specs.Cmp.Lexicographic.{slice_cmp}
+use Rattle.span_event.specs.declared.fault.Fault.TheVariants.{NoOpenAsync, EndBeforeBegin}
+use Rattle.span_event.specs.Fault.{number_of}
 use Rattle.span_event.specs.Orders.{id_cmp}
 use Rattle.span_event.specs.Time.{distance}
 use Rattle.span_keyed_tracks.specs.declared.keys.AsyncKey.{AsyncKey}
@@ -62,12 +64,12 @@ async_spans steps = record {
   points = count_by is_point steps;
 }
 
--- an end that matches this begin: 24 where its time is below that of the begin
+-- an end that matches this begin, if there is one, and may not be before it
 abbrev pub refusal_after : Option ℤ → ℤ → Option ℕ
-refusal_after None ts = Some 23
-refusal_after (Some begin) ts = if int_lt ts begin then Some 24 else None
+refusal_after None ts = Some (number_of NoOpenAsync)
+refusal_after (Some begin) ts = if int_lt ts begin then Some (number_of EndBeforeBegin) else None
 
--- an end: 23 where no begin is left that it matches, then 24 where its time is below that of the begin that it matches
+-- an end: there is a begin left that it matches, and its time is not below that of this begin
 abbrev pub async_end_refusal : List AsyncStep → ℤ → Option ℕ
 async_end_refusal steps ts = refusal_after (opener steps) ts
 

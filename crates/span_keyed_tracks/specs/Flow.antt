@@ -4,6 +4,8 @@ use Rattle.std.specs.List.{list_any}
 use Rattle.std.specs.declared.cmp.Ordering.{Ordering}
 use Rattle.std.specs.Ordering.{nat_cmp, ordering_then}
 use Rattle.std.specs.Cmp.Lexicographic.{slice_cmp}
+use Rattle.span_event.specs.declared.fault.Fault.TheVariants.{FlowOpen, NoFlow, TimeGoesBack}
+use Rattle.span_event.specs.Fault.{number_of}
 use Rattle.span_event.specs.Orders.{id_cmp}
 use Rattle.span_event.specs.Time.{distance}
 use Rattle.span_keyed_tracks.specs.declared.keys.FlowKey.{FlowKey}
@@ -110,21 +112,21 @@ pub record FlowChains : Type 0 where
 abbrev pub flow_chains : List FlowPoint → FlowChains
 flow_chains points = record { ended = count_by is_finish points; total = sum (ended_lengths points); unclosed = summary (chain_of points) }
 
--- 25 where there is a chain
+-- a start, beside the unclosed chain
 abbrev pub refusal_at_start : Option OpenChain → Option ℕ
 refusal_at_start None = None
-refusal_at_start (Some chain) = Some 25
+refusal_at_start (Some chain) = Some (number_of FlowOpen)
 
--- a start: 25 where a chain is unclosed
+-- a start: no chain may be unclosed
 abbrev pub flow_start_refusal : FlowChains → Option ℕ
 flow_start_refusal chains = refusal_at_start chains.unclosed
 
--- 26 where there is no chain, 22 where the time is below that of its last point
+-- a step or a finish of the unclosed chain, if there is one, and may not be before its last point
 abbrev pub refusal_at_point : Option OpenChain → ℤ → Option ℕ
-refusal_at_point None ts = Some 26
-refusal_at_point (Some chain) ts = if int_lt ts chain.last then Some 22 else None
+refusal_at_point None ts = Some (number_of NoFlow)
+refusal_at_point (Some chain) ts = if int_lt ts chain.last then Some (number_of TimeGoesBack) else None
 
--- a step or a finish: 26 where no chain is unclosed, then 22 where its time is below that of the chain's last point
+-- a step or a finish: a chain is unclosed, and the time is not below that of its last point
 abbrev pub flow_point_refusal : FlowChains → ℤ → Option ℕ
 flow_point_refusal chains ts = refusal_at_point chains.unclosed ts
 

@@ -11,8 +11,8 @@ mod key_spans;
 
 use crate::fault::TrackFault;
 use crate::keys::AsyncKey;
-use crate::refusal::NO_ASYNC_BEGIN;
 use key_spans::KeySpans;
+use span_event::Fault;
 use std::alloc::{AllocError, Global};
 use std::collections::BTreeMap;
 use std::marker::Model;
@@ -79,8 +79,8 @@ impl AsyncTrack {
         self.insert(key, spans)
     }
 
-    /// The last unmatched begin of the key ends. Answers the length of the span in microseconds; or 23 where no begin of the key
-    /// is left that it matches, or 24 where `ts` is below the time of that begin. Takes no memory.
+    /// The last unmatched begin of the key ends. Answers the length of the span in microseconds; or `NoOpenAsync` where no
+    /// begin of the key is left that it matches, or `EndBeforeBegin` where `ts` is below the time of that begin. Takes no memory.
     pub fn end_async(&mut self, key: &AsyncKey, ts: i64) -> Result<u64, TrackFault>
         requires in_time { IsTime ts }
         ensures refusal { (es : List AsyncEvent) → AsyncStandsFor self.old es
@@ -91,7 +91,7 @@ impl AsyncTrack {
         ensures err { OnErr result (self.new ≡ self.old) }
     {
         let Some(spans) = self.keys.get_mut(key) else {
-            return Err(TrackFault::Refused(NO_ASYNC_BEGIN));
+            return Err(TrackFault::Refused(Fault::NoOpenAsync.code()));
         };
         spans.end(ts)
     }

@@ -10,8 +10,8 @@ mod key_chains;
 
 use crate::fault::TrackFault;
 use crate::keys::FlowKey;
-use crate::refusal::NO_CHAIN;
 use key_chains::KeyChains;
+use span_event::Fault;
 use std::alloc::{AllocError, Global};
 use std::collections::BTreeMap;
 use std::marker::Model;
@@ -69,7 +69,7 @@ impl FlowTrack {
         }
     }
 
-    /// A chain of the key starts; 25 where one is unclosed.
+    /// A chain of the key starts; `FlowOpen` where one is unclosed.
     pub fn start_flow(&mut self, key: &FlowKey, ts: i64) -> Result<(), TrackFault>
         requires room { HasFlowRoom self.old key.now }
         requires in_time { IsTime ts }
@@ -83,8 +83,8 @@ impl FlowTrack {
         self.insert(key, KeyChains::started(ts))
     }
 
-    /// The unclosed chain of the key gets one more point; 26 where there is none, 22 where `ts` is below the time of its last point.
-    /// Takes no memory.
+    /// The unclosed chain of the key gets one more point; `NoFlow` where there is none, `TimeGoesBack` where `ts` is below the
+    /// time of its last point. Takes no memory.
     pub fn step_flow(&mut self, key: &FlowKey, ts: i64) -> Result<(), TrackFault>
         requires room { HasFlowRoom self.old key.now }
         requires in_time { IsTime ts }
@@ -93,13 +93,13 @@ impl FlowTrack {
         ensures err { OnErr result (self.new ≡ self.old) }
     {
         let Some(chains) = self.keys.get_mut(key) else {
-            return Err(TrackFault::Refused(NO_CHAIN));
+            return Err(TrackFault::Refused(Fault::NoFlow.code()));
         };
         chains.step(ts)
     }
 
-    /// The unclosed chain of the key gets its last point and ends. Answers how many points it has, and its length; or 26 where there
-    /// is none, or 22 where `ts` is below the time of its last point. Takes no memory.
+    /// The unclosed chain of the key gets its last point and ends. Answers how many points it has, and its length; or
+    /// `NoFlow` where there is none, or `TimeGoesBack` where `ts` is below the time of its last point. Takes no memory.
     pub fn end_flow(&mut self, key: &FlowKey, ts: i64) -> Result<FlowClosed, TrackFault>
         requires room { HasFlowRoom self.old key.now }
         requires in_time { IsTime ts }
@@ -109,7 +109,7 @@ impl FlowTrack {
         ensures err { OnErr result (self.new ≡ self.old) }
     {
         let Some(chains) = self.keys.get_mut(key) else {
-            return Err(TrackFault::Refused(NO_CHAIN));
+            return Err(TrackFault::Refused(Fault::NoFlow.code()));
         };
         chains.end(ts)
     }

@@ -8,7 +8,7 @@ ghost use Rattle.span_keyed_tracks.specs.AsyncKept.{EndsLast, with_begin, with_p
 
 use super::AsyncTotals;
 use crate::fault::TrackFault;
-use crate::refusal::{ENDS_BEFORE_BEGIN, NO_ASYNC_BEGIN};
+use span_event::Fault;
 use std::alloc::Global;
 use std::marker::Model;
 
@@ -63,11 +63,11 @@ impl KeySpans {
         ensures err { OnErr result (self.new ≡ self.old) }
     {
         let Some(begin) = self.opened.last() else {
-            return Err(TrackFault::Refused(NO_ASYNC_BEGIN));
+            return Err(TrackFault::Refused(Fault::NoOpenAsync.code()));
         };
         let begin = *begin;
         if ts < begin {
-            return Err(TrackFault::Refused(ENDS_BEFORE_BEGIN));
+            return Err(TrackFault::Refused(Fault::EndBeforeBegin.code()));
         }
         let length = ts.abs_diff(begin);
         self.opened.pop();

@@ -7,7 +7,7 @@ ghost use Rattle.span_keyed_tracks.specs.FlowKept.{with_finish, with_start, with
 
 use super::{FlowClosed, FlowTotals};
 use crate::fault::TrackFault;
-use crate::refusal::{NO_CHAIN, TIME_GOES_BACK, UNCLOSED_CHAIN};
+use span_event::Fault;
 use std::marker::Model;
 
 // A chain that no finish has ended.
@@ -71,7 +71,7 @@ impl KeyChains {
         ensures err { OnErr result (self.new ≡ self.old) }
     {
         if self.unclosed.is_some() {
-            return Err(TrackFault::Refused(UNCLOSED_CHAIN));
+            return Err(TrackFault::Refused(Fault::FlowOpen.code()));
         }
         self.unclosed = Some(Chain {
             start: ts,
@@ -89,10 +89,10 @@ impl KeyChains {
         ensures later { IfOk result (λ chain. chain.last ≤ℤ ts) }
     {
         let Some(chain) = self.unclosed else {
-            return Err(TrackFault::Refused(NO_CHAIN));
+            return Err(TrackFault::Refused(Fault::NoFlow.code()));
         };
         if ts < chain.last {
-            return Err(TrackFault::Refused(TIME_GOES_BACK));
+            return Err(TrackFault::Refused(Fault::TimeGoesBack.code()));
         }
         Ok(chain)
     }

@@ -19,7 +19,7 @@ pub returns-in_default-clause-refusal : goal.returns-in_default-clause-refusal
 returns-in_default-clause-refusal c = λ es stands.
     let none = steps_at-absent async_cmp-total async_cmp-same async_spans es c.args.key.now
     (ap (lookup (is_at (async_cmp c.args.key.now))) (sym (c.self.view_is ∙ stands)) ∙ sym c.in_default.ensures.value) in
-    rw none refl
+    rw (none, c.code.ensures) refl
 
 pub returns-clause-refusal : goal.returns-clause-refusal
 returns-clause-refusal c = λ es stands.

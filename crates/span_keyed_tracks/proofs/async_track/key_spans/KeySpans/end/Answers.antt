@@ -23,7 +23,7 @@ returns-then-ts-begin-clause-refusal c =
     let ts = same_time c.args.ts c.requires.in_time in
     let begin = same_time c.in-Some.begin.now (All-last_of IsTime c.self.inside.opened.items c.self.invariant.in_time c.in-Some.begin.now found) in
     let earlier : int_lt c.args.ts c.in-Some.begin.now ≡ true = sym (ap₂ int_lt ts begin) ∙ c.if-ts-begin.true in
-    rw (← c.self.view_is, found, earlier) refl
+    rw (← c.self.view_is, found, earlier, c.code-then-ts-begin.ensures) refl
 
 pub invariant_of-self : goal.invariant_of-self
 invariant_of-self c =
