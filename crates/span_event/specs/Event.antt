@@ -1,31 +1,25 @@
 -- When an event is one that the format's fields give.
-use Rattle.std.specs.Prelude.{◌≡◌, ℕ, List, [], ◌∷◌, ℤ, pos, negsuc, ◌≤ℤ◌, ◌≤◌, ◌⊎◌, IsSome, IfSome, Some, None}
+use Rattle.std.specs.Prelude.{◌≡◌, ℕ, [], ℤ, pos, negsuc, ◌≤ℤ◌, ◌≤◌, ◌⊎◌, IsSome, IfSome, Some, None}
 use Rattle.span_event.specs.declared.event.Event.{Event}
 use Rattle.span_event.specs.declared.event.IdKey.{IdKey}
 use Rattle.span_event.specs.declared.event.Phase.{Phase}
 use Rattle.span_event.specs.declared.event.Phase.TheVariants.{SpanBegin, SpanEnd, Complete, AsyncBegin, AsyncPoint, AsyncEnd, FlowStart, FlowStep, FlowEnd, Counter, Instant, Meta}
-use Rattle.span_event.specs.declared.args.ArgValue.{ArgValue}
-use Rattle.span_event.specs.declared.args.ArgValue.TheVariants.{Whole, Words, Flag, Nil, Other}
+use Rattle.span_event.specs.Args.{AllWhole}
 
 -- the greatest time and length, in microseconds: 2^53 - 1
 abbrev pub greatest_time : ℕ
 greatest_time = 9007199254740991
 
+-- the least time: -(2^53 - 1)
+abbrev pub least_time : ℤ
+least_time = negsuc 9007199254740990
+
 abbrev pub IsTime : ℤ → Type 0
-IsTime t = (negsuc 9007199254740990 ≤ℤ t) × (t ≤ℤ pos greatest_time)
+IsTime t = (least_time ≤ℤ t) × (t ≤ℤ pos greatest_time)
 
 -- an id is known everywhere, or in the event's process alone
 abbrev pub IsKnownAt : ℤ → IdKey → Type 0
 IsKnownAt pid key = (key.home ≡ None) ⊎ (key.home ≡ Some pid)
-
--- each value is a whole number
-abbrev pub AllWhole : List (List ℕ × ArgValue) → Type 0
-AllWhole [] = Unit {0}
-AllWhole ((name, Whole n) ∷ ps) = AllWhole ps
-AllWhole ((name, Words w) ∷ ps) = ⊥
-AllWhole ((name, Flag b) ∷ ps) = ⊥
-AllWhole ((name, Nil) ∷ ps) = ⊥
-AllWhole ((name, Other) ∷ ps) = ⊥
 
 -- the fields that only some phases read
 abbrev pub IsGoodAt : Phase → Event → Type 0

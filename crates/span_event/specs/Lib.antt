@@ -5,4 +5,5 @@ pub mod Given
 pub mod Item
 pub mod Orders
 pub mod Text
+pub mod Thread
 pub mod Time

@@ -1,22 +1,27 @@
--- The orders of ids and of reaches.
+-- The orders of ids, of reaches and of threads.
 use Rattle.std.specs.Prelude.{ℕ}
 use Rattle.std.specs.Option.{option_cmp}
-use Rattle.std.specs.Ordering.{nat_cmp, int_cmp, on, then_cmp}
+use Rattle.std.specs.Ordering.{nat_cmp, int_cmp, on, ordering_then, then_cmp}
 use Rattle.std.specs.declared.cmp.Ordering.{Ordering}
-use Rattle.std.specs.Cmp.Lexicographic.{slice_cmp}
 use Rattle.span_event.specs.declared.event.IdKey.{IdKey}
 use Rattle.span_event.specs.declared.event.Reach.{Reach}
-use Rattle.span_event.specs.declared.event.Reach.TheVariants.{Global, Process, Thread}
+use Rattle.span_event.specs.declared.event.Reach.TheVariants.{Global, Process, Thread as OneThread}
+use Rattle.span_event.specs.declared.thread.Thread.{Thread}
+use Rattle.span_event.specs.Text.{text_cmp}
 
 -- by home, none before any and then by number; and then by the bytes of the id
 abbrev pub id_cmp : IdKey → IdKey → Ordering
-id_cmp = then_cmp (on (λ k. k.home) (option_cmp int_cmp)) (on (λ k. k.id) (slice_cmp nat_cmp))
+id_cmp = then_cmp (on (λ k. k.home) (option_cmp int_cmp)) (on (λ k. k.id) text_cmp)
 
 abbrev pub place_of : Reach → ℕ
 place_of Global = 0
 place_of Process = 1
-place_of Thread = 2
+place_of OneThread = 2
 
 -- the wider reach first
 abbrev pub reach_cmp : Reach → Reach → Ordering
 reach_cmp = on place_of nat_cmp
+
+-- by process, and then by the number of the thread
+abbrev pub thread_cmp : Thread → Thread → Ordering
+thread_cmp a b = ordering_then (int_cmp a.pid b.pid) (int_cmp a.tid b.tid)

@@ -1,8 +1,22 @@
--- The bytes of a text, however it is held.
-use Rattle.std.specs.Prelude.{ℕ, List, string_bytes}
+-- Texts as their bytes, and the bytes of a text, however it is held.
+use Rattle.std.specs.Prelude.{ℕ, List, Bool, nat_eq, string_bytes}
+use Rattle.std.specs.declared.cmp.Ordering.{Ordering}
+use Rattle.std.specs.Ordering.{nat_cmp}
+use Rattle.std.specs.Cmp.Lexicographic.{pointwise, slice_cmp}
 use Rattle.span_event.specs.declared.text.Held.{Held}
 use Rattle.span_event.specs.declared.text.Held.TheVariants.{Short, Long}
 
-abbrev pub held_bytes : Held → List ℕ
+-- a text, as its bytes
+abbrev pub Bytes : Type 0
+Bytes = List ℕ
+
+-- by bytes
+abbrev pub text_cmp : Bytes → Bytes → Ordering
+text_cmp = slice_cmp nat_cmp
+
+abbrev pub same_text : Bytes → Bytes → Bool
+same_text = pointwise nat_eq
+
+abbrev pub held_bytes : Held → Bytes
 held_bytes (Short text) = text.bytes
 held_bytes (Long text) = string_bytes text

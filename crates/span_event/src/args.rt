@@ -1,8 +1,7 @@
-ghost use Rattle.std.specs.Prelude.{◌≡◌, List, ℕ, [], ◌∷◌, option_copied, IfOk, IfSome, IfNone};
+ghost use Rattle.std.specs.Prelude.{◌≡◌, [], ◌∷◌, option_copied, IfOk, IfSome, IfNone};
 ghost use Rattle.std.specs.Option.{option_map_or};
 ghost use Rattle.std.specs.Arc.{arc_slice_items};
-ghost use Rattle.span_event.specs.declared.args.ArgValue.{ArgValue};
-ghost use Rattle.span_event.specs.Args.{IsInNameOrder, value_of, merged};
+ghost use Rattle.span_event.specs.Args.{Arguments, IsInNameOrder, value_of, merged};
 
 use crate::text::Text;
 use std::alloc::{AllocError, Global};
@@ -42,7 +41,7 @@ pub struct Args {
 }
 
 impl Model for Args {
-    ghost Value = { List (List ℕ × ArgValue) };
+    ghost Value = { Arguments };
 
     ghost view = { λ a. option_map_or arc_slice_items a.pairs [] };
 

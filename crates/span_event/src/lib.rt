@@ -8,6 +8,7 @@ mod fault;
 mod item;
 mod items;
 mod text;
+mod thread;
 
 pub use args::{ArgValue, Args, merge_args};
 pub use event::{Event, IdKey, Phase, Reach};
@@ -15,3 +16,4 @@ pub use fault::Fault;
 pub use item::{Field, Item, ItemFault};
 pub use items::Items;
 pub use text::Text;
+pub use thread::Thread;

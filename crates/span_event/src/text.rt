@@ -1,11 +1,10 @@
-ghost use Rattle.std.specs.Prelude.{◌≡◌, List, ℕ, [], string_bytes, nat_eq, IfOk, Some, refl};
-ghost use Rattle.std.specs.Ordering.{nat_cmp};
+ghost use Rattle.std.specs.Prelude.{◌≡◌, [], string_bytes, IfOk, Some, refl};
 ghost use Rattle.std.specs.Hash as fed;
-ghost use Rattle.std.specs.Cmp.Lexicographic.{pointwise, slice_cmp, nat_list_eq_equiv, nat_list_cmp_total, texts_ties, texts_po};
+ghost use Rattle.std.specs.Cmp.Lexicographic.{nat_list_eq_equiv, nat_list_cmp_total, texts_ties, texts_po};
 ghost use Rattle.std.specs.Cmp.{partial_equiv_from_equiv};
 ghost use Rattle.std.specs.Cmp.Rules.{hashing};
 ghost use Rattle.std.proofs.Common.{rules};
-ghost use Rattle.span_event.specs.Text.{held_bytes};
+ghost use Rattle.span_event.specs.Text.{Bytes, held_bytes, same_text, text_cmp};
 
 use arrayvec::ArrayString;
 use std::alloc::{AllocError, Global};
@@ -28,7 +27,7 @@ pub struct Text {
 }
 
 impl Model for Text {
-    ghost Value = { List ℕ };
+    ghost Value = { Bytes };
 
     ghost view = { λ t. held_bytes t.held };
 }
@@ -99,7 +98,7 @@ impl From<String> for Text {
 }
 
 impl PartialEq for Text {
-    ghost eq = { pointwise nat_eq };
+    ghost eq = { same_text };
 
     ghost laws = { partial_equiv_from_equiv nat_list_eq_equiv };
 
@@ -113,7 +112,7 @@ impl Eq for Text {
 }
 
 impl PartialOrd for Text {
-    ghost partial_cmp = { λ x y. Some (slice_cmp nat_cmp x y) };
+    ghost partial_cmp = { λ x y. Some (text_cmp x y) };
 
     ghost laws = { texts_po };
 
@@ -123,7 +122,7 @@ impl PartialOrd for Text {
 }
 
 impl Ord for Text {
-    ghost cmp = { slice_cmp nat_cmp };
+    ghost cmp = { text_cmp };
 
     ghost total = { nat_list_cmp_total };
 
