@@ -16,13 +16,14 @@ use Rattle.span_event.specs.declared.item.Field.TheVariants.{Id}
 use Rattle.span_event.specs.declared.item.Item.{Item}
 use Rattle.span_event.specs.declared.item.ItemFault.{ItemFault}
 use Rattle.span_event.specs.declared.item.ItemFault.TheVariants.{NotWhole, BadField, NoId, BadReach, BadSeries}
-use Rattle.span_event.specs.Event.{IsTime, IsKnownAt, IsGood, IsGoodAt, AllWhole, greatest_time}
+use Rattle.span_event.specs.Event.{IsTime, IsKnownAt, IsGood, IsGoodAt, greatest_time}
 use Rattle.span_event.specs.Item.{IsGoodItem}
 use Rattle.span_read.specs.Phase.{reads_time, reads_duration, reads_id, needs_id, reads_reach, wants_whole_args, phase_of}
-use Rattle.span_read.specs.Fields.{FieldData, fields_of, whole, words, pairs, is_time, is_duration, whole_or_zero, natural, duration_or_zero, id_text, parts_key, key_of, reach_of, args_of, all_whole}
-use Rattle.span_event.specs.Args.{value_of}
+use Rattle.span_read.specs.Fields.{FieldData, fields_of, whole, words, pairs, is_time, is_duration, whole_or_zero, duration_or_zero, id_text, parts_key, key_of, reach_of, args_of}
+use Rattle.span_event.specs.Args.{value_of, AllWhole, all_whole}
 use Rattle.span_read.specs.Element.{unless, where_read, time_fault, duration_fault, id_fault, first_fault, faults, fault_of, event_of, item_at, item_of_phase, item_of_letter, item_of_fields, item_of_data}
 use Rattle.span_read.specs.Document.{items_of}
+use Rattle.span_event.specs.Time.{natural}
 
 -- ---- no fault in a list is no fault in each
 
@@ -115,7 +116,7 @@ home_at false pid id id2 = tt
 
 AllWhole-from_test : (ps : List (List ℕ × ArgValue)) → all_whole ps ≡ true → AllWhole ps
 AllWhole-from_test [] right = tt
-AllWhole-from_test ((name, Whole n) ∷ ps) right = AllWhole-from_test ps right
+AllWhole-from_test ((name, Whole n) ∷ ps) right = (refl, AllWhole-from_test ps right)
 AllWhole-from_test ((name, Words w) ∷ ps) right = cc
 AllWhole-from_test ((name, Flag b) ∷ ps) right = cc
 AllWhole-from_test ((name, Nil) ∷ ps) right = cc

@@ -1,18 +1,18 @@
 -- How the places of the fields fill up as members are put into an object.
-use Rattle.std.proofs.Common.{◌≡◌, ℕ, List, [], ◌∷◌, Bool, true, false, Option, Some, None, nat_eq, get_or, true≢false, map, option_map, refl, sym, ap, ap₂, ◌∙◌, if◌then◌else◌}
-use Rattle.std.specs.Cmp.Lexicographic.{pointwise}
+use Rattle.std.proofs.Common.{◌≡◌, ℕ, List, [], ◌∷◌, Bool, true, false, Option, Some, None, get_or, true≢false, map, option_map, refl, sym, ap, ap₂, ◌∙◌, if◌then◌else◌}
 use Rattle.std.proofs.lemmas.Slice.Eq.{bytes_eq-Decides}
 use Rattle.serde_json.specs.Data.{Data, Members, put}
 use Rattle.serde_json.proofs.Views.{get_member-put, get_member-put_other}
 use Rattle.span_read.specs.declared.fields.FieldValue.{FieldValue}
 use Rattle.span_read.specs.Fields.{FieldData, field_value, field_at}
 use Rattle.span_read.specs.Slots.{slots, put_at}
+use Rattle.span_event.specs.Text.{same_text}
 
 -- what the members have in each place
 abbrev pub places : List (List ℕ) → Members → List (Option FieldValue)
 places ns ms = map (λ n. field_at n ms) ns
 
-put_one : (b : Bool) (name n : List ℕ) (d : Data) (ms : Members) → pointwise nat_eq name n ≡ b → (if b then Some (field_value d) else field_at n ms) ≡ field_at n (put name d ms)
+put_one : (b : Bool) (name n : List ℕ) (d : Data) (ms : Members) → same_text name n ≡ b → (if b then Some (field_value d) else field_at n ms) ≡ field_at n (put name d ms)
 put_one true name n d ms is =
     let same : name ≡ n = (bytes_eq-Decides name n).0 is in
     ap (option_map field_value) (sym (get_member-put name d ms)) ∙ ap (λ m. field_at m (put name d ms)) same

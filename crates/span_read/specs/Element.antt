@@ -12,7 +12,8 @@ use Rattle.span_event.specs.declared.item.Item.TheVariants.{Good, Bad, Other}
 use Rattle.span_event.specs.declared.item.ItemFault.{ItemFault}
 use Rattle.span_event.specs.declared.item.ItemFault.TheVariants.{NotObject, NoPhase, NoTime, NotWhole, NoDuration, BadField, NoId, BadReach, BadSeries}
 use Rattle.span_read.specs.Phase.{phase_of, reads_time, reads_duration, needs_id, reads_id, reads_scope, reads_reach, wants_whole_args}
-use Rattle.span_read.specs.Fields.{FieldData, fields_of, whole, words, is_time, is_duration, whole_or_zero, text_or_empty, duration_or_zero, key_of, reach_of, args_of, all_whole}
+use Rattle.span_read.specs.Fields.{FieldData, fields_of, whole, words, is_time, is_duration, whole_or_zero, text_or_empty, duration_or_zero, key_of, reach_of, args_of}
+use Rattle.span_event.specs.Args.{all_whole}
 
 -- the fault where the test fails
 abbrev pub unless : Bool → ItemFault → Option ItemFault

@@ -1,11 +1,9 @@
 -- The fields of an event, each as a member of the element's object gives it. A member that is null is there.
-use Rattle.std.specs.Prelude.{ℕ, ℤ, pos, negsuc, ◌&&◌, List, [], ◌∷◌, Bool, true, false, Option, Some, None, option_map, option_and_then, unwrap_or, nat_eq, codes}
+use Rattle.std.specs.Prelude.{ℕ, ℤ, pos, ◌&&◌, List, [], ◌∷◌, Bool, false, Option, Some, None, option_map, option_and_then, unwrap_or, codes}
 use Rattle.std.specs.Option.{option_or}
 use Rattle.std.specs.Int.RustNames.{int_le}
 use Rattle.std.specs.Fmt.{signed_decimal}
-use Rattle.std.specs.List.{list_all}
 use Rattle.std.specs.Map.{lookup}
-use Rattle.std.specs.Cmp.Lexicographic.{pointwise}
 use Rattle.serde_json.specs.Data.{Data, null, boolean, number, string, array, object, Members, no_members, member}
 use Rattle.serde_json.specs.Find.{get_member, as_i64}
 use Rattle.span_event.specs.declared.args.ArgValue.{ArgValue}
@@ -15,8 +13,10 @@ use Rattle.span_event.specs.declared.event.Reach.{Reach}
 use Rattle.span_event.specs.declared.event.Reach.TheVariants.{Global, Process, Thread}
 use Rattle.span_read.specs.declared.fields.FieldValue.{FieldValue}
 use Rattle.span_read.specs.declared.fields.FieldValue.TheVariants.{Plain, Pairs}
-use Rattle.span_event.specs.Args.{value_of}
-use Rattle.span_event.specs.Event.{greatest_time}
+use Rattle.span_event.specs.Args.{Arguments, as_text, as_whole, value_of}
+use Rattle.span_event.specs.Event.{least_time, greatest_time}
+use Rattle.span_event.specs.Text.{Bytes, same_text}
+use Rattle.span_event.specs.Time.{natural}
 
 -- a value by its kind; a number is whole if it fits 64 bits with its sign, and `1.0`, `1e3` and `-0` are not whole
 abbrev pub arg_value : Data → ArgValue
@@ -27,7 +27,7 @@ arg_value (string s) = Words s
 arg_value (array ds) = Other
 arg_value (object ms) = Other
 
-abbrev pub pairs_of : Members → List (List ℕ × ArgValue)
+abbrev pub pairs_of : Members → Arguments
 pairs_of no_members = []
 pairs_of (member name d ms) = (name, arg_value d) ∷ pairs_of ms
 
@@ -55,7 +55,7 @@ pub record FieldData : Type 0 where
   pub s : Option FieldValue
   pub args : Option FieldValue
 
-abbrev pub field_at : List ℕ → Members → Option FieldValue
+abbrev pub field_at : Bytes → Members → Option FieldValue
 field_at name ms = option_map field_value (get_member name ms)
 
 abbrev pub fields_of : Members → FieldData
@@ -74,52 +74,34 @@ fields_of ms = record {
   args = field_at (codes "args") ms;
 }
 
-abbrev pub whole_of : ArgValue → Option ℤ
-whole_of (Whole n) = Some n
-whole_of (Words w) = None
-whole_of (Flag b) = None
-whole_of Nil = None
-whole_of Other = None
-
-abbrev pub words_of : ArgValue → Option (List ℕ)
-words_of (Whole n) = None
-words_of (Words w) = Some w
-words_of (Flag b) = None
-words_of Nil = None
-words_of Other = None
-
 -- the number or the text that a field is
 abbrev pub whole : FieldValue → Option ℤ
-whole (Plain v) = whole_of v
+whole (Plain v) = as_whole v
 whole (Pairs ps) = None
 
-abbrev pub words : FieldValue → Option (List ℕ)
-words (Plain v) = words_of v
+abbrev pub words : FieldValue → Option Bytes
+words (Plain v) = as_text v
 words (Pairs ps) = None
 
 -- what is no object has no members
-abbrev pub pairs : FieldValue → List (List ℕ × ArgValue)
+abbrev pub pairs : FieldValue → Arguments
 pairs (Plain v) = []
 pairs (Pairs ps) = ps
 
 abbrev pub whole_or_zero : Option FieldValue → ℤ
 whole_or_zero f = unwrap_or (option_and_then whole f) (pos 0)
 
-abbrev pub text_or_empty : Option FieldValue → List ℕ
+abbrev pub text_or_empty : Option FieldValue → Bytes
 text_or_empty f = unwrap_or (option_and_then words f) []
 
 -- a duration is never negative
-abbrev pub natural : ℤ → ℕ
-natural (pos n) = n
-natural (negsuc n) = 0
-
 abbrev pub duration_or_zero : Option FieldValue → ℕ
 duration_or_zero f = natural (whole_or_zero f)
 
 -- a whole number within the range of times
 abbrev pub is_time : Option ℤ → Bool
 is_time None = false
-is_time (Some z) = int_le (negsuc 9007199254740990) z && int_le z (pos greatest_time)
+is_time (Some z) = int_le least_time z && int_le z (pos greatest_time)
 
 -- a whole number within the range of durations
 abbrev pub is_duration : Option ℤ → Bool
@@ -127,8 +109,8 @@ is_duration None = false
 is_duration (Some z) = int_le (pos 0) z && int_le z (pos greatest_time)
 
 -- an id is a text, or a whole number, which is read as its decimal text
-abbrev pub id_text : ArgValue → Option (List ℕ)
-id_text v = option_or (words_of v) (option_map signed_decimal (whole_of v))
+abbrev pub id_text : ArgValue → Option Bytes
+id_text v = option_or (as_text v) (option_map signed_decimal (as_whole v))
 
 -- an id that is known everywhere, or in one process alone
 abbrev pub key_with : Option ℤ → ArgValue → Option IdKey
@@ -152,24 +134,14 @@ key_of pid None (Some id2) = parts_key pid (value_of (codes "global") (pairs id2
 key_of pid None None = None
 
 -- each word of `s` with what it says
-abbrev pub reaches : List (List ℕ × Reach)
+abbrev pub reaches : List (Bytes × Reach)
 reaches = (codes "g", Global) ∷ (codes "p", Process) ∷ (codes "t", Thread) ∷ []
 
 -- an instant without `s` reaches its thread
 abbrev pub reach_of : Option FieldValue → Option Reach
 reach_of None = Some Thread
-reach_of (Some f) = option_and_then (λ word. lookup (pointwise nat_eq word) reaches) (words f)
+reach_of (Some f) = option_and_then (λ word. lookup (same_text word) reaches) (words f)
 
 -- `args` that is no object is read as empty
-abbrev pub args_of : Option FieldValue → List (List ℕ × ArgValue)
+abbrev pub args_of : Option FieldValue → Arguments
 args_of f = unwrap_or (option_map pairs f) []
-
-abbrev pub is_whole : ArgValue → Bool
-is_whole (Whole n) = true
-is_whole (Words w) = false
-is_whole (Flag b) = false
-is_whole Nil = false
-is_whole Other = false
-
-abbrev pub all_whole : List (List ℕ × ArgValue) → Bool
-all_whole ps = list_all (λ p. is_whole p.1) ps

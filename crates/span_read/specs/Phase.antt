@@ -1,18 +1,18 @@
 -- The letters of the phases, and which phases read which field.
-use Rattle.std.specs.Prelude.{ℕ, List, [], ◌∷◌, Bool, true, false, Option, codes, nat_eq}
-use Rattle.std.specs.Cmp.Lexicographic.{pointwise}
+use Rattle.std.specs.Prelude.{List, [], ◌∷◌, Bool, true, false, Option, codes}
 use Rattle.std.specs.Map.{lookup}
 use Rattle.span_event.specs.declared.event.Phase.{Phase}
 use Rattle.span_event.specs.declared.event.Phase.TheVariants.{SpanBegin, SpanEnd, Complete, AsyncBegin, AsyncPoint, AsyncEnd, FlowStart, FlowStep, FlowEnd, Counter, Instant, Meta}
+use Rattle.span_event.specs.Text.{Bytes, same_text}
 
 -- each letter with its phase
-abbrev pub letters : List (List ℕ × Phase)
+abbrev pub letters : List (Bytes × Phase)
 letters = (codes "B", SpanBegin) ∷ (codes "E", SpanEnd) ∷ (codes "X", Complete) ∷ (codes "b", AsyncBegin) ∷ (codes "n", AsyncPoint) ∷ (codes "e", AsyncEnd) ∷ (codes "s", FlowStart) ∷ (codes "t", FlowStep)
     ∷ (codes "f", FlowEnd) ∷ (codes "C", Counter) ∷ (codes "i", Instant) ∷ (codes "I", Instant) ∷ (codes "M", Meta) ∷ []
 
 -- the phase of a `ph`, if it is one of the letters
-abbrev pub phase_of : List ℕ → Option Phase
-phase_of letter = lookup (pointwise nat_eq letter) letters
+abbrev pub phase_of : Bytes → Option Phase
+phase_of letter = lookup (same_text letter) letters
 
 -- `ts` is read at all phases but metadata
 abbrev pub reads_time : Phase → Bool

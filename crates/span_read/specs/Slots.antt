@@ -1,9 +1,9 @@
 -- The fields as a list with a place for each name; for private clauses.
-use Rattle.std.specs.Prelude.{ℕ, List, [], ◌∷◌, Option, Some, None, map, nat_eq, codes, if◌then◌else◌}
-use Rattle.std.specs.Cmp.Lexicographic.{pointwise}
+use Rattle.std.specs.Prelude.{List, [], ◌∷◌, Option, Some, None, map, codes, if◌then◌else◌}
 use Rattle.span_read.specs.declared.fields.Fields.{Fields}
 use Rattle.span_read.specs.declared.fields.FieldValue.{FieldValue}
 use Rattle.span_read.specs.Fields.{FieldData}
+use Rattle.span_event.specs.Text.{Bytes, same_text}
 
 abbrev pub data_of : Fields → FieldData
 data_of f = record {
@@ -22,7 +22,7 @@ data_of f = record {
 }
 
 -- the names of the fields, and the fields in their order
-abbrev pub names : List (List ℕ)
+abbrev pub names : List Bytes
 names = codes "ph" ∷ codes "ts" ∷ codes "dur" ∷ codes "pid" ∷ codes "tid" ∷ codes "name" ∷ codes "cat" ∷ codes "id" ∷ codes "id2" ∷ codes "scope" ∷ codes "s" ∷ codes "args" ∷ []
 
 abbrev pub slots : FieldData → List (Option FieldValue)
@@ -33,7 +33,7 @@ abbrev pub nothing : List (Option FieldValue)
 nothing = map (λ name. None) names
 
 -- the places, with v in the one of that name, if there is one
-abbrev pub put_at : List ℕ → FieldValue → List (List ℕ) → List (Option FieldValue) → List (Option FieldValue)
+abbrev pub put_at : Bytes → FieldValue → List Bytes → List (Option FieldValue) → List (Option FieldValue)
 put_at name v [] os = []
 put_at name v (n ∷ ns) [] = []
-put_at name v (n ∷ ns) (o ∷ os) = (if pointwise nat_eq name n then Some v else o) ∷ put_at name v ns os
+put_at name v (n ∷ ns) (o ∷ os) = (if same_text name n then Some v else o) ∷ put_at name v ns os

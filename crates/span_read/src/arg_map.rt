@@ -1,12 +1,11 @@
 // The arguments of one object while its members are read.
-ghost use Rattle.std.specs.Prelude.{◌≡◌, ◌<◌, ◌≤◌, ℕ, List, [], length, set, IfOk, IfErr};
+ghost use Rattle.std.specs.Prelude.{◌≡◌, ◌<◌, ◌≤◌, [], length, set, IfOk, IfErr};
 ghost use Rattle.std.specs.List.{insert};
-ghost use Rattle.std.specs.Ordering.{nat_cmp};
-ghost use Rattle.std.specs.Cmp.Lexicographic.{slice_cmp};
 ghost use Rattle.std.specs.BTreeMap.{insert_entry};
 ghost use Rattle.span_event.specs.declared.args.ArgValue.{ArgValue};
-ghost use Rattle.span_event.specs.Args.{IsInNameOrder};
+ghost use Rattle.span_event.specs.Args.{IsInNameOrder, Arguments};
 ghost use Rattle.span_read.specs.ArgMap.{pairs_in};
+ghost use Rattle.span_event.specs.Text.{text_cmp};
 
 use span_event::{ArgValue, Args, Text};
 use std::alloc::{AllocError, Global};
@@ -33,7 +32,7 @@ pub(crate) struct ArgMap {
 }
 
 impl Model for ArgMap {
-    ghost Value = { List (List ℕ × ArgValue) };
+    ghost Value = { Arguments };
 
     ghost view = { λ m. pairs_in m.kept };
 
@@ -57,7 +56,7 @@ impl ArgMap {
         name: Text,
         value: ArgValue,
     ) -> Result<ArgMap, AllocError>
-        ensures { IfOk result (λ map. map ≡ insert_entry (slice_cmp nat_cmp) self name value) }
+        ensures { IfOk result (λ map. map ≡ insert_entry text_cmp self name value) }
     {
         let mut map = match self.kept {
             Kept::Few(pairs) => {
@@ -92,7 +91,7 @@ impl ArgMap {
 }
 
 fn put(pairs: Vec<Pair>, name: Text, value: ArgValue) -> Result<Vec<Pair>, AllocError>
-    ensures { IfOk result (λ put. put.items ≡ insert_entry (slice_cmp nat_cmp) pairs.items name value) }
+    ensures { IfOk result (λ put. put.items ≡ insert_entry text_cmp pairs.items name value) }
 {
     let mut pairs = pairs;
     match place_of(&pairs, &name) {
@@ -106,10 +105,10 @@ fn put(pairs: Vec<Pair>, name: Text, value: ArgValue) -> Result<Vec<Pair>, Alloc
 fn place_of(pairs: &[Pair], name: &Text) -> Result<usize, usize>
     ensures within { IfOk result (λ place. place < length pairs.now) }
     ensures held { IfOk result (λ place. (value : ArgValue)
-        → insert_entry (slice_cmp nat_cmp) pairs.now name.now value ≡ set pairs.now place (name.now, value)) }
+        → insert_entry text_cmp pairs.now name.now value ≡ set pairs.now place (name.now, value)) }
     ensures among { IfErr result (λ place. place ≤ length pairs.now) }
     ensures free { IfErr result (λ place. (value : ArgValue)
-        → insert_entry (slice_cmp nat_cmp) pairs.now name.now value ≡ insert pairs.now place (name.now, value)) }
+        → insert_entry text_cmp pairs.now name.now value ≡ insert pairs.now place (name.now, value)) }
 {
     let mut place = 0;
     let mut rest = pairs;

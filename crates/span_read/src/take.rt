@@ -3,9 +3,10 @@ ghost use Rattle.std.specs.Prelude.{◌≡◌, is_some, pos, [], None, IfOk, if�
 ghost use Rattle.std.specs.Result.{result_err};
 ghost use Rattle.span_read.specs.Phase.{reads_time, reads_duration, reads_scope, reads_reach, wants_whole_args};
 ghost use Rattle.span_read.specs.Element.{where_read, time_fault, duration_fault, whole_fault, text_fault, unless};
-ghost use Rattle.span_read.specs.Fields.{whole_or_zero, text_or_empty, duration_or_zero, reach_of, args_of, all_whole};
+ghost use Rattle.span_read.specs.Fields.{whole_or_zero, text_or_empty, duration_or_zero, reach_of, args_of};
 ghost use Rattle.span_event.specs.declared.item.Field.TheVariants.{Scope};
 ghost use Rattle.span_event.specs.declared.item.ItemFault.TheVariants.{BadReach, BadSeries};
+ghost use Rattle.span_event.specs.Args.{all_whole};
 
 use crate::fields::FieldValue;
 use crate::phase::reads_scope;

@@ -1,12 +1,12 @@
-use Rattle.std.proofs.Common.{◌≡◌, ℕ, ◌-◌, List, Some, nat_cmp, sym, ap, ap₂, ◌∙◌, arith}
+use Rattle.std.proofs.Common.{◌≡◌, ℕ, ◌-◌, List, Some, sym, ap, ap₂, ◌∙◌, arith}
 use Rattle.std.specs.BTreeMap.{insert_entry}
-use Rattle.std.specs.Cmp.Lexicographic.{slice_cmp}
 use Rattle.json.specs.Json.{read_key}
 use Rattle.serde_json.specs.Data.{put}
 use Rattle.span_read.specs.Fields.{arg_value, pairs_of}
 use Rattle.span_read.proofs.Grammar.{data_at-too_deep_object}
 use Rattle.span_read.proofs.NameOrder.{pairs_of-put}
 use Rattle.span_read.proofs.Turns.{members_start, members_turn, members_key_refused, members_value_refused, members_finish, takes_object}
+use Rattle.span_event.specs.Text.{text_cmp}
 use Rattle.span_read.proofs.reading.read_pairs.Goals as goal
 
 pub returns-then-depth-eq0-clause-refused : goal.returns-then-depth-eq0-clause-refused
@@ -39,8 +39,8 @@ members-preserved c =
     let before = l.invariant.before in
     let copied : c.in_ok-name.name ≡ k = c.in_ok-name.ensures in
     let inserted : c.in_ok-found.found ≡ pairs_of (put k taken.0 before) =
-    c.in_ok-found.ensures ∙ ap₂ (λ (name : List ℕ) v. insert_entry (slice_cmp nat_cmp) l.found name v) copied (sym taken.2)
-    ∙ ap (λ ps. insert_entry (slice_cmp nat_cmp) ps k (arg_value taken.0)) l.invariant.holds ∙ sym (pairs_of-put k taken.0 before) in
+    c.in_ok-found.ensures ∙ ap₂ (λ (name : List ℕ) v. insert_entry text_cmp l.found name v) copied (sym taken.2)
+    ∙ ap (λ ps. insert_entry text_cmp ps k (arg_value taken.0)) l.invariant.holds ∙ sym (pairs_of-put k taken.0 before) in
     members_turn c.args.depth (omega arith) (λ ms. l.found ≡ pairs_of ms) c.args.reader.now l.reader l.invariant (λ ms. c.in_ok-found.found ≡ pairs_of ms) k taken.0 s c.read_arg.new.reader named taken.1 done.shorter inserted
 
 pub returns-clause-pairs : goal.returns-clause-pairs

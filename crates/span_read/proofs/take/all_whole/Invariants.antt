@@ -1,5 +1,5 @@
 use Rattle.std.proofs.Common.{◌≡◌, drop}
-use Rattle.span_read.specs.Fields.{all_whole}
+use Rattle.span_event.specs.Args.{all_whole}
 use Rattle.span_read.proofs.take.all_whole.Given as goal
 
 -- the values passed so far are whole
