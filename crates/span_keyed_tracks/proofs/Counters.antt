@@ -1,12 +1,12 @@
 -- What is kept of series, from one value of a counter event to the next.
-use Rattle.std.proofs.Common.{◌≡◌, ℕ, suc, ◌+◌, ◌≤◌, ℤ, pos, List, [], ◌∷◌, ◌++◌, length, Bool, true, false, ◌||◌, cond, nat_eq, Option, Some, None, refl, sym, ap, ap₂, ◌∙◌, arith, map, append-nil, append_assoc, length-append}
+use Rattle.std.proofs.Common.{◌≡◌, ℕ, suc, ◌+◌, ◌≤◌, ℤ, pos, List, [], ◌∷◌, ◌++◌, length, Bool, true, false, ◌||◌, cond, Option, Some, None, refl, sym, ap, ap₂, ◌∙◌, arith, map, append-nil, append_assoc, length-append}
 use Rattle.std.specs.Prelude.{filter, flat_map, fold, int_lt, unwrap_or, option_and_then}
 use Rattle.std.specs.List.{cons_option}
 use Rattle.std.specs.Int.{int_min, int_max}
-use Rattle.std.specs.Ordering.{is_eq, int_eq, nat_cmp, eq_by_cmp}
+use Rattle.std.specs.Ordering.{is_eq, int_eq, eq_by_cmp}
 use Rattle.std.specs.declared.cmp.Ordering.TheVariants.{Less, Equal}
 use Rattle.std.specs.Cmp.{tied_itself}
-use Rattle.std.specs.Cmp.Lexicographic.{slice_cmp, pointwise, bytes_decides, nat_list_eq_equiv}
+use Rattle.std.specs.Cmp.Lexicographic.{bytes_decides, nat_list_eq_equiv}
 use Rattle.std.specs.Map.{lookup}
 use Rattle.std.specs.BTreeMap.{is_at}
 use Rattle.indexmap.specs.IndexMap.{insert_entry as put_entry}
@@ -29,6 +29,7 @@ use Rattle.span_keyed_tracks.proofs.Keyed.{has_key, neither, lookup-made}
 use Rattle.span_keyed_tracks.proofs.Lists.Last.{last_of-append}
 use Rattle.span_keyed_tracks.proofs.Orders.{series_cmp-total, series_cmp-same}
 use Rattle.span_keyed_tracks.proofs.Uses.{first_uses-after, has_key-absent, is_eq-turned}
+use Rattle.span_event.specs.Text.{text_cmp, same_text}
 
 latest_time-push : (first : Sample) (later : List Sample) (s : Sample) → latest_time first (later ++ s ∷ []) ≡ int_max (latest_time first later) s.ts
 latest_time-push first later s = ap (fold int_max first.ts) (map-append (λ (x : Sample). x.ts) later (s ∷ [])) ∙ fold-append int_max first.ts (map (λ (x : Sample). x.ts) later) (s.ts ∷ [])
@@ -84,29 +85,29 @@ pub samples_before-series_of : (samples : List Sample) → samples_before (serie
 samples_before-series_of [] = refl
 samples_before-series_of (first ∷ later) = refl
 
-value_of-push : (name : List ℕ) (ms : List (List ℕ × ArgValue)) (m : List ℕ × ArgValue) → pointwise nat_eq m.0 name ≡ false → value_of name (ms ++ m ∷ []) ≡ value_of name ms
+value_of-push : (name : List ℕ) (ms : List (List ℕ × ArgValue)) (m : List ℕ × ArgValue) → same_text m.0 name ≡ false → value_of name (ms ++ m ∷ []) ≡ value_of name ms
 value_of-push name [] m apart = ap (λ b. cond b (Some m.1) None) apart
-value_of-push name (x ∷ xs) m apart = ap (λ o. cond (pointwise nat_eq x.0 name) (Some x.1) o) (value_of-push name xs m apart)
+value_of-push name (x ∷ xs) m apart = ap (λ o. cond (same_text x.0 name) (Some x.1) o) (value_of-push name xs m apart)
 
 value_of-new : (ms : List (List ℕ × ArgValue)) (m : List ℕ × ArgValue) → value_of m.0 ms ≡ None → value_of m.0 (ms ++ m ∷ []) ≡ Some m.1
 value_of-new [] m none = ap (λ b. cond b (Some m.1) None) (nat_list_eq_equiv.refl m.0)
-value_of-new (x ∷ xs) m none = by (pointwise nat_eq x.0 m.0) none (value_of-new xs m)
+value_of-new (x ∷ xs) m none = by (same_text x.0 m.0) none (value_of-new xs m)
   where
     by : (b : Bool) → cond b (Some x.1) (value_of m.0 xs) ≡ None → (value_of m.0 xs ≡ None → value_of m.0 (xs ++ m ∷ []) ≡ Some m.1) → cond b (Some x.1) (value_of m.0 (xs ++ m ∷ [])) ≡ Some m.1
     by true none rest = cc
     by false none rest = rest none
 
-texts_apart : (a b : List ℕ) → (a ≡ b → ⊥) → pointwise nat_eq a b ≡ false
-texts_apart a b apart = by (pointwise nat_eq a b) refl
+texts_apart : (a b : List ℕ) → (a ≡ b → ⊥) → same_text a b ≡ false
+texts_apart a b apart = by (same_text a b) refl
   where
-    by : (r : Bool) → pointwise nat_eq a b ≡ r → r ≡ false
+    by : (r : Bool) → same_text a b ≡ r → r ≡ false
     by true h = absurd (apart ((bytes_decides a b).0 h))
     by false h = refl
 
-below_apart : (a b : List ℕ) → slice_cmp nat_cmp a b ≡ Less → pointwise nat_eq a b ≡ false
-below_apart a b less = texts_apart a b (λ e. let clash : Less ≡ Equal = sym less ∙ ap (λ x. slice_cmp nat_cmp x b) e ∙ tied_itself nat_list_cmp_total b in cc)
+below_apart : (a b : List ℕ) → text_cmp a b ≡ Less → same_text a b ≡ false
+below_apart a b less = texts_apart a b (λ e. let clash : Less ≡ Equal = sym less ∙ ap (λ x. text_cmp x b) e ∙ tied_itself nat_list_cmp_total b in cc)
 
-IsBelowAll-at : (name : List ℕ) (ms : List (List ℕ × ArgValue)) (m : List ℕ × ArgValue) (rest : List (List ℕ × ArgValue)) → IsBelowAll name (ms ++ m ∷ rest) → slice_cmp nat_cmp name m.0 ≡ Less
+IsBelowAll-at : (name : List ℕ) (ms : List (List ℕ × ArgValue)) (m : List ℕ × ArgValue) (rest : List (List ℕ × ArgValue)) → IsBelowAll name (ms ++ m ∷ rest) → text_cmp name m.0 ≡ Less
 IsBelowAll-at name [] m rest below = below.0
 IsBelowAll-at name (x ∷ xs) m rest below = IsBelowAll-at name xs m rest below.1
 

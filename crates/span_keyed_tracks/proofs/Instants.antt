@@ -1,36 +1,25 @@
 -- What is kept of instants, from one instant to the next.
-use Rattle.std.proofs.Common.{◌≡◌, ℕ, ◌+◌, ◌≤◌, ◌<◌, ◌^◌, ◌-◌, List, [], ◌∷◌, ◌++◌, length, cond, Option, Some, None, Equal, refl, sym, ap, ◌∙◌, arith, append-nil, append_assoc}
+use Rattle.std.proofs.Common.{◌≡◌, ◌+◌, ◌≤◌, ◌<◌, ◌^◌, ◌-◌, List, [], ◌∷◌, ◌++◌, length, cond, Option, Some, None, refl, sym, ap, ◌∙◌, arith, append-nil, append_assoc}
 use Rattle.std.specs.Prelude.{flat_map}
 use Rattle.std.specs.List.{cons_option}
-use Rattle.std.specs.Ordering.{int_cmp, is_eq}
-use Rattle.std.specs.Cmp.{IsTotalOrder}
-use Rattle.std.specs.FinMap.{int_cmp-IsAntisymmetric}
-use Rattle.std.proofs.lemmas.Cmp.{then_total, on_total, int_cmp_total, nat_list_cmp_total}
+use Rattle.std.specs.Ordering.{is_eq}
+use Rattle.std.proofs.lemmas.Cmp.{nat_list_cmp_total}
 use Rattle.std.proofs.lemmas.List.Elements.{filter_map-append}
 use Rattle.std.proofs.lemmas.Grind.{flat_map-append}
 use Rattle.std.proofs.lemmas.List.Sums.{sum_by-append, count_by-le-length}
 use Rattle.span_event.specs.declared.event.Event.{Event}
 use Rattle.span_event.specs.declared.event.Phase.TheVariants.{Instant, Meta}
 use Rattle.span_event.specs.declared.event.Reach.{Reach}
-use Rattle.span_event.specs.declared.event.Reach.TheVariants.{Global, Process, Thread}
-use Rattle.span_event.specs.Orders.{reach_cmp}
+use Rattle.span_event.specs.declared.event.Reach.TheVariants.{Global, Process, Thread as OneThread}
+use Rattle.span_event.specs.declared.thread.Thread.{Thread}
+use Rattle.span_event.specs.Orders.{reach_cmp, thread_cmp}
+use Rattle.span_event.specs.Text.{Bytes, text_cmp}
+use Rattle.span_event.proofs.Orders.{text_same, thread_cmp-same}
+pub use Rattle.span_event.proofs.Orders.{thread_cmp-total}
 use Rattle.span_keyed_tracks.specs.Keyed.{kept_at, steps_at}
-use Rattle.span_keyed_tracks.specs.Instants.{ThreadKey, thread_cmp, name_cmp, InstantStep, NamesCounted, InstantsKept, HasNameRoom, HasInstantRoom, names_counted, instants_counted, instant_of, instants_in, is_instant, instants_of, count_of, counts_of}
+use Rattle.span_keyed_tracks.specs.Instants.{InstantStep, NamesCounted, InstantsKept, HasNameRoom, HasInstantRoom, names_counted, instants_counted, instant_of, instants_in, is_instant, instants_of, count_of, counts_of}
 use Rattle.span_keyed_tracks.specs.InstantsKept.{count_at, with_reach}
 use Rattle.span_keyed_tracks.proofs.Keyed.{kept_at-entries_in, length-steps_at}
-use Rattle.span_keyed_tracks.proofs.Orders.{both_equal, text_same}
-
--- the order of threads is total
-pub thread_cmp-total : IsTotalOrder thread_cmp
-thread_cmp-total = then_total (on_total (λ t. t.0) int_cmp_total) (on_total (λ t. t.1) int_cmp_total)
-
--- those that it does not tell apart are the same
-pub thread_cmp-same : (a b : ThreadKey) → thread_cmp a b ≡ Equal → a ≡ b
-thread_cmp-same a b e =
-    let parts = both_equal (int_cmp a.0 b.0) (int_cmp a.1 b.1) e in
-    let pid = int_cmp-IsAntisymmetric a.0 b.0 parts.0 in
-    let tid = int_cmp-IsAntisymmetric a.1 b.1 parts.1 in
-    λ i. (pid i, tid i)
 
 count_of-push : (reach : Reach) (rs : List Reach) (r : Reach) → count_of reach (rs ++ r ∷ []) ≡ count_of reach rs + cond (is_eq (reach_cmp r reach)) 1 0
 count_of-push reach rs r = omega (arith, sum_by-append (λ (x : Reach). cond (is_eq (reach_cmp x reach)) 1 0) rs (r ∷ []))
@@ -40,36 +29,36 @@ pub counts_of-push : (rs : List Reach) (r : Reach) → counts_of (rs ++ r ∷ []
 counts_of-push rs Global =
     let global : count_of Global (rs ++ Global ∷ []) ≡ count_of Global rs + 1 = count_of-push Global rs Global in
     let process : count_of Process (rs ++ Global ∷ []) ≡ count_of Process rs = omega (arith, count_of-push Process rs Global) in
-    let thread : count_of Thread (rs ++ Global ∷ []) ≡ count_of Thread rs = omega (arith, count_of-push Thread rs Global) in
+    let thread : count_of OneThread (rs ++ Global ∷ []) ≡ count_of OneThread rs = omega (arith, count_of-push OneThread rs Global) in
     λ i. record { global = global i; process = process i; thread = thread i }
 counts_of-push rs Process =
     let global : count_of Global (rs ++ Process ∷ []) ≡ count_of Global rs = omega (arith, count_of-push Global rs Process) in
     let process : count_of Process (rs ++ Process ∷ []) ≡ count_of Process rs + 1 = count_of-push Process rs Process in
-    let thread : count_of Thread (rs ++ Process ∷ []) ≡ count_of Thread rs = omega (arith, count_of-push Thread rs Process) in
+    let thread : count_of OneThread (rs ++ Process ∷ []) ≡ count_of OneThread rs = omega (arith, count_of-push OneThread rs Process) in
     λ i. record { global = global i; process = process i; thread = thread i }
-counts_of-push rs Thread =
-    let global : count_of Global (rs ++ Thread ∷ []) ≡ count_of Global rs = omega (arith, count_of-push Global rs Thread) in
-    let process : count_of Process (rs ++ Thread ∷ []) ≡ count_of Process rs = omega (arith, count_of-push Process rs Thread) in
-    let thread : count_of Thread (rs ++ Thread ∷ []) ≡ count_of Thread rs + 1 = count_of-push Thread rs Thread in
+counts_of-push rs OneThread =
+    let global : count_of Global (rs ++ OneThread ∷ []) ≡ count_of Global rs = omega (arith, count_of-push Global rs OneThread) in
+    let process : count_of Process (rs ++ OneThread ∷ []) ≡ count_of Process rs = omega (arith, count_of-push Process rs OneThread) in
+    let thread : count_of OneThread (rs ++ OneThread ∷ []) ≡ count_of OneThread rs + 1 = count_of-push OneThread rs OneThread in
     λ i. record { global = global i; process = process i; thread = thread i }
 
 pub count_at-counts_of : (reach : Reach) (rs : List Reach) → count_at reach (counts_of rs) ≡ count_of reach rs
 count_at-counts_of Global rs = refl
 count_at-counts_of Process rs = refl
-count_at-counts_of Thread rs = refl
+count_at-counts_of OneThread rs = refl
 
 -- there is room for the number of one more instant of each reach
-pub few_reaches : (kept : NamesCounted) (name : List ℕ) (reach : Reach) → HasNameRoom kept → count_at reach (kept_at name_cmp (counts_of []) kept name) < 2 ^ 32 - 1
+pub few_reaches : (kept : NamesCounted) (name : Bytes) (reach : Reach) → HasNameRoom kept → count_at reach (kept_at text_cmp (counts_of []) kept name) < 2 ^ 32 - 1
 few_reaches kept name reach room =
-    let rs = steps_at name_cmp name room.steps in
-    let found : count_at reach (kept_at name_cmp (counts_of []) kept name) ≡ count_of reach rs =
-    ap (λ k. count_at reach (kept_at name_cmp (counts_of []) k name)) room.stands
+    let rs = steps_at text_cmp name room.steps in
+    let found : count_at reach (kept_at text_cmp (counts_of []) kept name) ≡ count_of reach rs =
+    ap (λ k. count_at reach (kept_at text_cmp (counts_of []) k name)) room.stands
     ∙ ap (count_at reach) (kept_at-entries_in nat_list_cmp_total text_same counts_of room.steps name)
     ∙ count_at-counts_of reach rs in
-    omega (arith, found, count_by-le-length (λ r. is_eq (reach_cmp r reach)) rs, length-steps_at name_cmp name room.steps, room.few)
+    omega (arith, found, count_by-le-length (λ r. is_eq (reach_cmp r reach)) rs, length-steps_at text_cmp name room.steps, room.few)
 
 -- a thread has room where all have
-pub few_names : (kept : InstantsKept) (thread : ThreadKey) → HasInstantRoom kept → HasNameRoom (kept_at thread_cmp [] kept thread)
+pub few_names : (kept : InstantsKept) (thread : Thread) → HasInstantRoom kept → HasNameRoom (kept_at thread_cmp [] kept thread)
 few_names kept thread room = record {
   steps = steps_at thread_cmp thread room.steps;
   stands = ap (λ k. kept_at thread_cmp [] k thread) room.stands ∙ kept_at-entries_in thread_cmp-total thread_cmp-same names_counted room.steps thread;
@@ -89,13 +78,13 @@ pub few_instants : (kept : InstantsKept) (es : List Event) → kept ≡ instants
 few_instants kept es stands few = record { steps = instants_in es; stands = stands; few = omega (arith, length-instants_in es, few) }
 
 -- the count at a thread, a name and a reach is that of the instants
-pub count_at-instants_of : (kept : InstantsKept) (es : List Event) (thread : ThreadKey) (name : List ℕ) (reach : Reach) → kept ≡ instants_counted (instants_in es) →
-    count_at reach (kept_at name_cmp (counts_of []) (kept_at thread_cmp [] kept thread) name) ≡ instants_of es thread name reach
+pub count_at-instants_of : (kept : InstantsKept) (es : List Event) (thread : Thread) (name : Bytes) (reach : Reach) → kept ≡ instants_counted (instants_in es) →
+    count_at reach (kept_at text_cmp (counts_of []) (kept_at thread_cmp [] kept thread) name) ≡ instants_of es thread name reach
 count_at-instants_of kept es thread name reach stands =
-    ap (λ k. count_at reach (kept_at name_cmp (counts_of []) k name))
+    ap (λ k. count_at reach (kept_at text_cmp (counts_of []) k name))
     (ap (λ k. kept_at thread_cmp [] k thread) stands ∙ kept_at-entries_in thread_cmp-total thread_cmp-same names_counted (instants_in es) thread)
     ∙ ap (count_at reach) (kept_at-entries_in nat_list_cmp_total text_same counts_of (steps_at thread_cmp thread (instants_in es)) name)
-    ∙ count_at-counts_of reach (steps_at name_cmp name (steps_at thread_cmp thread (instants_in es)))
+    ∙ count_at-counts_of reach (steps_at text_cmp name (steps_at thread_cmp thread (instants_in es)))
 
 -- the instants, once there is one more event
 pub instants_in-push : (es : List Event) (event : Event) → instants_in (es ++ event ∷ []) ≡ instants_in es ++ cons_option (cond (is_instant event.phase) (instant_of event) None) []

@@ -1,5 +1,5 @@
 -- What is kept of the names of a process or thread: from one setting to the next, and after all.
-use Rattle.std.proofs.Common.{◌≡◌, ℤ, List, [], ◌∷◌, ◌++◌, Bool, true, false, cond, is_some, codes, nat_eq, Option, Some, None, option_and_then, Equal, refl, sym, ap, ◌∙◌, append-nil}
+use Rattle.std.proofs.Common.{◌≡◌, ℤ, List, [], ◌∷◌, ◌++◌, Bool, true, false, cond, is_some, codes, Option, Some, None, option_and_then, Equal, refl, sym, ap, ◌∙◌, append-nil}
 use Rattle.std.specs.Prelude.{filter_map}
 use Rattle.std.specs.List.{cons_option}
 use Rattle.std.specs.Map.{lookup}
@@ -7,7 +7,7 @@ use Rattle.std.specs.BTreeMap.{is_at}
 use Rattle.std.specs.Option.{option_cmp, option_map}
 use Rattle.std.specs.Ordering.{int_cmp}
 use Rattle.std.specs.Cmp.{IsTotalOrder}
-use Rattle.std.specs.Cmp.Lexicographic.{options_total, pointwise}
+use Rattle.std.specs.Cmp.Lexicographic.{options_total}
 use Rattle.std.specs.FinMap.{int_cmp-IsAntisymmetric}
 use Rattle.std.proofs.lemmas.Cmp.{then_total, on_total, int_cmp_total}
 use Rattle.std.proofs.lemmas.List.Elements.{filter_map-append}
@@ -15,11 +15,12 @@ use Rattle.span_event.specs.declared.event.Event.{Event}
 use Rattle.span_event.specs.declared.event.Phase.TheVariants.{Instant, Meta}
 use Rattle.span_keyed_tracks.specs.Keyed.{Keyed, entries_in}
 use Rattle.span_keyed_tracks.specs.Last.{last_of}
-use Rattle.span_keyed_tracks.specs.Meta.{Holder, holder_cmp, MetaKept, MetaStandsFor, Names, NamesKept, Setting, set_name, set_labels, set_sort_index, names_in, names_of, as_name, as_labels, as_sort_index, words_of, whole_of, name_setting, labels_setting, sort_setting, setting_of, settings_in, is_meta}
+use Rattle.span_keyed_tracks.specs.Meta.{Holder, holder_cmp, MetaKept, MetaStandsFor, Names, NamesKept, Setting, set_name, set_labels, set_sort_index, names_in, names_of, as_name, as_labels, as_sort_index, text_at, whole_at, name_setting, labels_setting, sort_setting, setting_of, settings_in, is_meta}
 use Rattle.span_keyed_tracks.specs.MetaKept.{with_setting}
 use Rattle.span_keyed_tracks.proofs.Keyed.{lookup-entries_in, steps_at-absent}
 use Rattle.span_keyed_tracks.proofs.Lists.Last.{last_of-append}
-use Rattle.span_keyed_tracks.proofs.Orders.{both_equal, option_same}
+use Rattle.span_event.proofs.Orders.{both_equal, option_same}
+use Rattle.span_event.specs.Text.{same_text}
 
 -- the order of processes and threads is total
 pub holder_cmp-total : IsTotalOrder holder_cmp
@@ -73,17 +74,17 @@ of_process pid f (Some w) = refl
 -- what a metadata event sets of its process, if it has an effect
 abbrev process_part : Event → Option (Keyed Holder Setting)
 process_part event =
-    cond (pointwise nat_eq event.name (codes "process_name")) (name_setting event None)
-    (cond (pointwise nat_eq event.name (codes "process_labels")) (labels_setting event None) (cond (pointwise nat_eq event.name (codes "process_sort_index")) (sort_setting event None) None))
+    cond (same_text event.name (codes "process_name")) (name_setting event None)
+    (cond (same_text event.name (codes "process_labels")) (labels_setting event None) (cond (same_text event.name (codes "process_sort_index")) (sort_setting event None) None))
 
 -- an event that names no thread by its own name sets nothing of one
-pub is_of_thread-other : (event : Event) → pointwise nat_eq event.name (codes "thread_name") ≡ false → pointwise nat_eq event.name (codes "thread_sort_index") ≡ false → is_of_thread (setting_of event) ≡ false
+pub is_of_thread-other : (event : Event) → same_text event.name (codes "thread_name") ≡ false → same_text event.name (codes "thread_sort_index") ≡ false → is_of_thread (setting_of event) ≡ false
 is_of_thread-other event name sort =
-    ap (λ b. is_of_thread (cond b (name_setting event (Some event.tid)) (cond (pointwise nat_eq event.name (codes "thread_sort_index")) (sort_setting event (Some event.tid)) (process_part event)))) name
+    ap (λ b. is_of_thread (cond b (name_setting event (Some event.tid)) (cond (same_text event.name (codes "thread_sort_index")) (sort_setting event (Some event.tid)) (process_part event)))) name
     ∙ ap (λ b. is_of_thread (cond b (sort_setting event (Some event.tid)) (process_part event))) sort
-    ∙ pick (pointwise nat_eq event.name (codes "process_name")) (name_setting event None) _ (of_process event.pid set_name (words_of (codes "name") event))
-    (pick (pointwise nat_eq event.name (codes "process_labels")) (labels_setting event None) _ (of_process event.pid set_labels (words_of (codes "labels") event))
-    (pick (pointwise nat_eq event.name (codes "process_sort_index")) (sort_setting event None) None (of_process event.pid set_sort_index (whole_of (codes "sort_index") event)) refl))
+    ∙ pick (same_text event.name (codes "process_name")) (name_setting event None) _ (of_process event.pid set_name (text_at (codes "name") event))
+    (pick (same_text event.name (codes "process_labels")) (labels_setting event None) _ (of_process event.pid set_labels (text_at (codes "labels") event))
+    (pick (same_text event.name (codes "process_sort_index")) (sort_setting event None) None (of_process event.pid set_sort_index (whole_at (codes "sort_index") event)) refl))
 
 -- what the events set, once there is one more metadata event
 pub settings_in-push : (es : List Event) (event : Event) → event.phase ≡ Meta → settings_in (es ++ event ∷ []) ≡ settings_in es ++ cons_option (setting_of event) []

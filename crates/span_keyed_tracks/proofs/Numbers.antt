@@ -1,15 +1,16 @@
 -- What a name's number says, and that it stays.
-use Rattle.std.proofs.Common.{◌≡◌, ℕ, Bool, true, false, cond, List, [], ◌∷◌, ◌++◌, get_or, Some, is_some, nat_eq, slice_get, ap, ◌∙◌}
-use Rattle.std.specs.Cmp.Lexicographic.{pointwise, bytes_decides}
+use Rattle.std.proofs.Common.{◌≡◌, ℕ, Bool, true, false, cond, List, [], ◌∷◌, ◌++◌, get_or, Some, is_some, slice_get, ap, ◌∙◌}
+use Rattle.std.specs.Cmp.Lexicographic.{bytes_decides}
 use Rattle.std.proofs.lemmas.List.Quantifiers.{position-Some}
 use Rattle.std.proofs.lemmas.Option.{slice_get-get_or}
 use Rattle.span_keyed_tracks.specs.Numbering.{number_in, with_name}
 use Rattle.span_keyed_tracks.proofs.Lists.Places.{position-front}
+use Rattle.span_event.specs.Text.{same_text}
 
 -- the text at its number
 pub slice_get-number_in : (names : List (List ℕ)) (text : List ℕ) (n : ℕ) → number_in names text ≡ Some n → slice_get names n ≡ Some text
 slice_get-number_in names text n found =
-    let at = position-Some (λ name. pointwise nat_eq name text) names n text found in
+    let at = position-Some (λ name. same_text name text) names n text found in
     slice_get-get_or names n text at.0 ∙ ap Some ((bytes_decides (get_or names n text) text).0 at.1)
 
 -- a number stays when a name is added
@@ -18,4 +19,4 @@ number_in-with_name names text other n found = by_test (is_some (number_in names
   where
     by_test : (b : Bool) → number_in (cond b names (names ++ other ∷ [])) text ≡ Some n
     by_test true = found
-    by_test false = position-front (λ name. pointwise nat_eq name text) names (other ∷ []) n found
+    by_test false = position-front (λ name. same_text name text) names (other ∷ []) n found

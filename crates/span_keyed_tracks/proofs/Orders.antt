@@ -1,27 +1,20 @@
 -- The orders of keys are total, and equal keys are the same.
-use Rattle.std.proofs.Common.{◌≡◌, ℕ, Ordering, Less, Equal, Greater, List, Option, Some, None, nat_cmp, ap, refl}
+use Rattle.std.proofs.Common.{◌≡◌, Equal}
 use Rattle.std.specs.Option.{option_cmp}
 use Rattle.std.specs.Ordering.{int_cmp, ordering_then}
 use Rattle.std.specs.Cmp.{IsTotalOrder}
-use Rattle.std.specs.Cmp.Lexicographic.{slice_cmp, options_total}
-use Rattle.std.specs.FinMap.{int_cmp-IsAntisymmetric, slice_cmp-IsAntisymmetric, nat_cmp-IsAntisymmetric}
+use Rattle.std.specs.Cmp.Lexicographic.{options_total}
+use Rattle.std.specs.FinMap.{int_cmp-IsAntisymmetric}
 use Rattle.std.proofs.lemmas.Cmp.{then_total, on_total, int_cmp_total, nat_list_cmp_total}
 use Rattle.span_event.specs.Orders.{id_cmp}
-use Rattle.span_event.proofs.Orders.{id_cmp-total, id_cmp-same}
+use Rattle.span_event.proofs.Orders.{both_equal, id_cmp-total, id_cmp-same, option_same, text_same}
 use Rattle.span_keyed_tracks.specs.declared.keys.AsyncKey.{AsyncKey}
 use Rattle.span_keyed_tracks.specs.declared.keys.FlowKey.{FlowKey}
 use Rattle.span_keyed_tracks.specs.Async.{async_cmp}
 use Rattle.span_keyed_tracks.specs.declared.keys.SeriesKey.{SeriesKey}
 use Rattle.span_keyed_tracks.specs.Flow.{flow_cmp}
 use Rattle.span_keyed_tracks.specs.Counters.{series_cmp}
-
-pub both_equal : (r s : Ordering) → ordering_then r s ≡ Equal → (r ≡ Equal) × (s ≡ Equal)
-both_equal Less s e = cc
-both_equal Equal s e = (refl, e)
-both_equal Greater s e = cc
-
-pub text_same : (a b : List ℕ) → slice_cmp nat_cmp a b ≡ Equal → a ≡ b
-text_same a b e = slice_cmp-IsAntisymmetric nat_cmp-IsAntisymmetric a b e
+use Rattle.span_event.specs.Text.{text_cmp}
 
 -- the order of asynchronous keys is total
 pub async_cmp-total : IsTotalOrder async_cmp
@@ -32,9 +25,9 @@ async_cmp-total =
 -- asynchronous keys that it does not tell apart are the same
 pub async_cmp-same : (a b : AsyncKey) → async_cmp a b ≡ Equal → a ≡ b
 async_cmp-same a b e =
-    let first = both_equal (slice_cmp nat_cmp a.cat b.cat) (ordering_then (slice_cmp nat_cmp a.scope b.scope) (ordering_then (id_cmp a.id b.id) (slice_cmp nat_cmp a.name b.name))) e in
-    let second = both_equal (slice_cmp nat_cmp a.scope b.scope) (ordering_then (id_cmp a.id b.id) (slice_cmp nat_cmp a.name b.name)) first.1 in
-    let third = both_equal (id_cmp a.id b.id) (slice_cmp nat_cmp a.name b.name) second.1 in
+    let first = both_equal (text_cmp a.cat b.cat) (ordering_then (text_cmp a.scope b.scope) (ordering_then (id_cmp a.id b.id) (text_cmp a.name b.name))) e in
+    let second = both_equal (text_cmp a.scope b.scope) (ordering_then (id_cmp a.id b.id) (text_cmp a.name b.name)) first.1 in
+    let third = both_equal (id_cmp a.id b.id) (text_cmp a.name b.name) second.1 in
     let cat = text_same a.cat b.cat first.0 in
     let scope = text_same a.scope b.scope second.0 in
     let id = id_cmp-same a.id b.id third.0 in
@@ -48,18 +41,12 @@ flow_cmp-total = then_total (on_total (λ k. k.cat) nat_list_cmp_total) (then_to
 -- flow keys that it does not tell apart are the same
 pub flow_cmp-same : (a b : FlowKey) → flow_cmp a b ≡ Equal → a ≡ b
 flow_cmp-same a b e =
-    let first = both_equal (slice_cmp nat_cmp a.cat b.cat) (ordering_then (slice_cmp nat_cmp a.name b.name) (id_cmp a.id b.id)) e in
-    let second = both_equal (slice_cmp nat_cmp a.name b.name) (id_cmp a.id b.id) first.1 in
+    let first = both_equal (text_cmp a.cat b.cat) (ordering_then (text_cmp a.name b.name) (id_cmp a.id b.id)) e in
+    let second = both_equal (text_cmp a.name b.name) (id_cmp a.id b.id) first.1 in
     let cat = text_same a.cat b.cat first.0 in
     let name = text_same a.name b.name second.0 in
     let id = id_cmp-same a.id b.id second.1 in
     λ i. record { cat = cat i; name = name i; id = id i }
-
-pub option_same : {A : Type 0} {cmp : A → A → Ordering} → ((a b : A) → cmp a b ≡ Equal → a ≡ b) → (a b : Option A) → option_cmp cmp a b ≡ Equal → a ≡ b
-option_same same None None e = refl
-option_same same None (Some y) e = cc
-option_same same (Some x) None e = cc
-option_same same (Some x) (Some y) e = ap Some (same x y e)
 
 -- the order of series is total
 pub series_cmp-total : IsTotalOrder series_cmp
@@ -70,9 +57,9 @@ series_cmp-total =
 -- series that it does not tell apart are the same
 pub series_cmp-same : (a b : SeriesKey) → series_cmp a b ≡ Equal → a ≡ b
 series_cmp-same a b e =
-    let first = both_equal (int_cmp a.pid b.pid) (ordering_then (slice_cmp nat_cmp a.name b.name) (ordering_then (option_cmp id_cmp a.id b.id) (slice_cmp nat_cmp a.series b.series))) e in
-    let second = both_equal (slice_cmp nat_cmp a.name b.name) (ordering_then (option_cmp id_cmp a.id b.id) (slice_cmp nat_cmp a.series b.series)) first.1 in
-    let third = both_equal (option_cmp id_cmp a.id b.id) (slice_cmp nat_cmp a.series b.series) second.1 in
+    let first = both_equal (int_cmp a.pid b.pid) (ordering_then (text_cmp a.name b.name) (ordering_then (option_cmp id_cmp a.id b.id) (text_cmp a.series b.series))) e in
+    let second = both_equal (text_cmp a.name b.name) (ordering_then (option_cmp id_cmp a.id b.id) (text_cmp a.series b.series)) first.1 in
+    let third = both_equal (option_cmp id_cmp a.id b.id) (text_cmp a.series b.series) second.1 in
     let pid = int_cmp-IsAntisymmetric a.pid b.pid first.0 in
     let name = text_same a.name b.name second.0 in
     let id = option_same id_cmp-same a.id b.id third.0 in

@@ -1,11 +1,11 @@
 -- Asynchronous spans: begins, ends and points of a key, which no thread holds together.
 use Rattle.std.specs.Prelude.{◌≡◌, ℕ, ◌+◌, ◌<◌, ◌^◌, ◌-◌, Bool, true, false, if◌then◌else◌, ℤ, int_lt, List, [], ◌∷◌, ◌++◌, length, map, sum, count_by, Option, Some, None}
 use Rattle.std.specs.declared.cmp.Ordering.{Ordering}
-use Rattle.std.specs.Ordering.{nat_cmp, ordering_then}
-use Rattle.std.specs.Cmp.Lexicographic.{slice_cmp}
+use Rattle.std.specs.Ordering.{ordering_then}
 use Rattle.span_event.specs.declared.fault.Fault.TheVariants.{NoOpenAsync, EndBeforeBegin}
 use Rattle.span_event.specs.Fault.{number_of}
 use Rattle.span_event.specs.Orders.{id_cmp}
+use Rattle.span_event.specs.Text.{text_cmp}
 use Rattle.span_event.specs.Time.{distance}
 use Rattle.span_keyed_tracks.specs.declared.keys.AsyncKey.{AsyncKey}
 use Rattle.span_keyed_tracks.specs.declared.async_track.AsyncRow.{AsyncRow}
@@ -16,7 +16,7 @@ use Rattle.span_keyed_tracks.specs.Keyed.{Keyed, entries_in, kept_at}
 -- by category, scope, id and name; texts by their bytes
 abbrev pub async_cmp : AsyncKey → AsyncKey → Ordering
 async_cmp a b =
-    ordering_then (slice_cmp nat_cmp a.cat b.cat) (ordering_then (slice_cmp nat_cmp a.scope b.scope) (ordering_then (id_cmp a.id b.id) (slice_cmp nat_cmp a.name b.name)))
+    ordering_then (text_cmp a.cat b.cat) (ordering_then (text_cmp a.scope b.scope) (ordering_then (id_cmp a.id b.id) (text_cmp a.name b.name)))
 
 -- a begin or an end, at a time, or a point
 abbrev pub AsyncStep : Type 0

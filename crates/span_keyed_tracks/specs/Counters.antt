@@ -3,13 +3,12 @@ use Rattle.std.specs.Prelude.{◌≡◌, ℕ, ◌≤◌, ◌^◌, ◌-◌, ℤ, 
 use Rattle.std.specs.Option.{option_map, option_cmp}
 use Rattle.std.specs.Int.{int_min, int_max}
 use Rattle.std.specs.declared.cmp.Ordering.{Ordering}
-use Rattle.std.specs.Ordering.{nat_cmp, int_cmp, int_eq, is_eq, ordering_then}
-use Rattle.std.specs.Cmp.Lexicographic.{slice_cmp}
+use Rattle.std.specs.Ordering.{int_cmp, int_eq, is_eq, ordering_then}
 use Rattle.span_event.specs.declared.event.Event.{Event}
 use Rattle.span_event.specs.declared.args.ArgValue.{ArgValue}
-use Rattle.span_event.specs.declared.args.ArgValue.TheVariants.{Whole, Words, Flag, Nil, Other}
-use Rattle.span_event.specs.Args.{value_of}
+use Rattle.span_event.specs.Args.{as_whole, value_of}
 use Rattle.span_event.specs.Orders.{id_cmp}
+use Rattle.span_event.specs.Text.{Bytes, text_cmp}
 use Rattle.span_keyed_tracks.specs.declared.keys.SeriesKey.{SeriesKey}
 use Rattle.span_keyed_tracks.specs.declared.counter_track.SeriesRow.{SeriesRow}
 use Rattle.span_keyed_tracks.specs.declared.counter_track.SeriesTotals.{SeriesTotals}
@@ -18,7 +17,7 @@ use Rattle.span_keyed_tracks.specs.Uses.{uses_in, ascending_uses}
 
 -- by process, name, id, no id before any, and series; texts by their bytes
 abbrev pub series_cmp : SeriesKey → SeriesKey → Ordering
-series_cmp a b = ordering_then (int_cmp a.pid b.pid) (ordering_then (slice_cmp nat_cmp a.name b.name) (ordering_then (option_cmp id_cmp a.id b.id) (slice_cmp nat_cmp a.series b.series)))
+series_cmp a b = ordering_then (int_cmp a.pid b.pid) (ordering_then (text_cmp a.name b.name) (ordering_then (option_cmp id_cmp a.id b.id) (text_cmp a.series b.series)))
 
 -- a value of a series, at a time
 pub record Sample : Type 0 where
@@ -26,7 +25,7 @@ pub record Sample : Type 0 where
   pub value : ℤ
 
 -- a series of the counter of an event
-abbrev pub series_key : Event → List ℕ → SeriesKey
+abbrev pub series_key : Event → Bytes → SeriesKey
 series_key event series = record { pid = event.pid; name = event.name; id = event.key; series = series }
 
 -- the series that a counter event has a value of
@@ -35,11 +34,7 @@ series_keys event = map (λ p. series_key event p.0) event.args
 
 -- a whole number is a sample
 abbrev pub as_sample : ℤ → ArgValue → Option Sample
-as_sample ts (Whole n) = Some (record { ts = ts; value = n })
-as_sample ts (Words w) = None
-as_sample ts (Flag b) = None
-as_sample ts Nil = None
-as_sample ts Other = None
+as_sample ts value = option_map (λ n. record { ts = ts; value = n }) (as_whole value)
 
 -- the sample of a series that a counter event has
 abbrev pub sample_of : SeriesKey → Event → Option Sample

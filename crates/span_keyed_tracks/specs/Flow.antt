@@ -2,11 +2,11 @@
 use Rattle.std.specs.Prelude.{◌≡◌, ℕ, ◌+◌, ◌<◌, ◌^◌, ◌-◌, Bool, true, false, if◌then◌else◌, ℤ, int_lt, List, [], ◌∷◌, ◌++◌, length, map, sum, count_by, Option, Some, None}
 use Rattle.std.specs.List.{list_any}
 use Rattle.std.specs.declared.cmp.Ordering.{Ordering}
-use Rattle.std.specs.Ordering.{nat_cmp, ordering_then}
-use Rattle.std.specs.Cmp.Lexicographic.{slice_cmp}
+use Rattle.std.specs.Ordering.{ordering_then}
 use Rattle.span_event.specs.declared.fault.Fault.TheVariants.{FlowOpen, NoFlow, TimeGoesBack}
 use Rattle.span_event.specs.Fault.{number_of}
 use Rattle.span_event.specs.Orders.{id_cmp}
+use Rattle.span_event.specs.Text.{text_cmp}
 use Rattle.span_event.specs.Time.{distance}
 use Rattle.span_keyed_tracks.specs.declared.keys.FlowKey.{FlowKey}
 use Rattle.span_keyed_tracks.specs.declared.flow_track.FlowRow.{FlowRow}
@@ -16,7 +16,7 @@ use Rattle.span_keyed_tracks.specs.Keyed.{Keyed, entries_in, kept_at}
 
 -- by category, name and id; texts by their bytes
 abbrev pub flow_cmp : FlowKey → FlowKey → Ordering
-flow_cmp a b = ordering_then (slice_cmp nat_cmp a.cat b.cat) (ordering_then (slice_cmp nat_cmp a.name b.name) (id_cmp a.id b.id))
+flow_cmp a b = ordering_then (text_cmp a.cat b.cat) (ordering_then (text_cmp a.name b.name) (id_cmp a.id b.id))
 
 -- a point of a chain, at a time: the first, one between, or the last
 pub data FlowPoint : Type 0 where

@@ -1,35 +1,28 @@
 -- Instants: how many there are of each thread, name and reach.
-use Rattle.std.specs.Prelude.{◌≡◌, ℕ, ◌≤◌, ◌^◌, ◌-◌, ℤ, Bool, true, false, nat_eq, List, [], ◌∷◌, ◌++◌, length, filter_map, flat_map, count_by, Option, None, if◌then◌else◌}
+use Rattle.std.specs.Prelude.{◌≡◌, ℕ, ◌≤◌, ◌^◌, ◌-◌, Bool, true, false, nat_eq, List, [], ◌∷◌, ◌++◌, length, filter_map, flat_map, count_by, Option, None, if◌then◌else◌}
 use Rattle.std.specs.Option.{option_map}
-use Rattle.std.specs.declared.cmp.Ordering.{Ordering}
-use Rattle.std.specs.Ordering.{nat_cmp, int_cmp, is_eq, ordering_then}
-use Rattle.std.specs.Cmp.Lexicographic.{slice_cmp}
+use Rattle.std.specs.Ordering.{is_eq}
 use Rattle.span_event.specs.declared.event.Event.{Event}
 use Rattle.span_event.specs.declared.event.Phase.{Phase}
 use Rattle.span_event.specs.declared.event.Phase.TheVariants.{SpanBegin, SpanEnd, Complete, AsyncBegin, AsyncPoint, AsyncEnd, FlowStart, FlowStep, FlowEnd, Counter, Instant, Meta}
 use Rattle.span_event.specs.declared.event.Reach.{Reach}
-use Rattle.span_event.specs.declared.event.Reach.TheVariants.{Global, Process, Thread}
+use Rattle.span_event.specs.declared.event.Reach.TheVariants.{Global, Process, Thread as OneThread}
+use Rattle.span_event.specs.declared.thread.Thread.{Thread}
 use Rattle.span_event.specs.Orders.{reach_cmp}
+pub use Rattle.span_event.specs.declared.thread.Thread.{Thread as ThreadKey}
+pub use Rattle.span_event.specs.Orders.{thread_cmp}
+pub use Rattle.span_event.specs.Text.{text_cmp as name_cmp}
+use Rattle.span_event.specs.Text.{Bytes, text_cmp}
+use Rattle.span_event.specs.Thread.{thread_of}
 use Rattle.span_keyed_tracks.specs.declared.meta_track.instants.InstantRow.{InstantRow}
 use Rattle.span_keyed_tracks.specs.Keyed.{Keyed, steps_at, entries_in}
 
--- a thread by its process and its number
-abbrev pub ThreadKey : Type 0
-ThreadKey = ℤ × ℤ
-
-abbrev pub thread_cmp : ThreadKey → ThreadKey → Ordering
-thread_cmp a b = ordering_then (int_cmp a.0 b.0) (int_cmp a.1 b.1)
-
--- names by their bytes
-abbrev pub name_cmp : List ℕ → List ℕ → Ordering
-name_cmp = slice_cmp nat_cmp
-
 -- the reach of an instant of a name; and the same of a thread
 abbrev pub NamedReach : Type 0
-NamedReach = Keyed (List ℕ) Reach
+NamedReach = Keyed Bytes Reach
 
 abbrev pub InstantStep : Type 0
-InstantStep = Keyed ThreadKey NamedReach
+InstantStep = Keyed Thread NamedReach
 
 -- the event is an instant
 abbrev pub is_instant : Phase → Bool
@@ -48,7 +41,7 @@ is_instant Meta = false
 
 -- the thread, name and reach of an instant, which has a reach
 abbrev pub instant_of : Event → Option InstantStep
-instant_of e = option_map (λ r. record { key = (e.pid, e.tid); step = record { key = e.name; step = r } }) e.reach
+instant_of e = option_map (λ r. record { key = thread_of e; step = record { key = e.name; step = r } }) e.reach
 
 -- the instants among these events, in their order
 abbrev pub instants_in : List Event → List InstantStep
@@ -65,22 +58,22 @@ pub record ReachCounts : Type 0 where
   pub thread : ℕ
 
 abbrev pub counts_of : List Reach → ReachCounts
-counts_of rs = record { global = count_of Global rs; process = count_of Process rs; thread = count_of Thread rs }
+counts_of rs = record { global = count_of Global rs; process = count_of Process rs; thread = count_of OneThread rs }
 
 -- how many instants of this thread, name and reach are among these events
-abbrev pub instants_of : List Event → ThreadKey → List ℕ → Reach → ℕ
-instants_of es thread name reach = count_of reach (steps_at name_cmp name (steps_at thread_cmp thread (instants_in es)))
+abbrev pub instants_of : List Event → Thread → Bytes → Reach → ℕ
+instants_of es thread name reach = count_of reach (steps_at text_cmp name (steps_at thread_cmp thread (instants_in es)))
 
 -- each name of the instants of a thread, in ascending order, with its counts
 abbrev pub NamesCounted : Type 0
-NamesCounted = List (List ℕ × ReachCounts)
+NamesCounted = List (Bytes × ReachCounts)
 
 abbrev pub names_counted : List NamedReach → NamesCounted
-names_counted steps = entries_in name_cmp counts_of steps
+names_counted steps = entries_in text_cmp counts_of steps
 
 -- each thread that has an instant, in ascending order, with the names of its instants
 abbrev pub InstantsKept : Type 0
-InstantsKept = List (ThreadKey × NamesCounted)
+InstantsKept = List (Thread × NamesCounted)
 
 abbrev pub instants_counted : List InstantStep → InstantsKept
 instants_counted steps = entries_in thread_cmp names_counted steps
@@ -106,14 +99,14 @@ abbrev pub HasInstantRoom : InstantsKept → Type 0
 HasInstantRoom kept = StepsOf instants_counted (2 ^ 32 - 2) kept
 
 -- the row of a thread, name and reach, where there is an instant
-abbrev pub instant_row : ThreadKey → List ℕ → Reach → ℕ → List InstantRow
-instant_row thread name reach count = if nat_eq count 0 then [] else record { pid = thread.0; tid = thread.1; name = name; reach = reach; count = count } ∷ []
+abbrev pub instant_row : Thread → Bytes → Reach → ℕ → List InstantRow
+instant_row thread name reach count = if nat_eq count 0 then [] else record { pid = thread.pid; tid = thread.tid; name = name; reach = reach; count = count } ∷ []
 
 -- the rows of a name, the wider reach first
-abbrev pub rows_of_name : ThreadKey → List ℕ × ReachCounts → List InstantRow
-rows_of_name thread (name, counts) = instant_row thread name Global counts.global ++ (instant_row thread name Process counts.process ++ instant_row thread name Thread counts.thread)
+abbrev pub rows_of_name : Thread → Bytes × ReachCounts → List InstantRow
+rows_of_name thread (name, counts) = instant_row thread name Global counts.global ++ (instant_row thread name Process counts.process ++ instant_row thread name OneThread counts.thread)
 
-abbrev pub rows_of_thread : ThreadKey × NamesCounted → List InstantRow
+abbrev pub rows_of_thread : Thread × NamesCounted → List InstantRow
 rows_of_thread (thread, names) = flat_map (rows_of_name thread) names
 
 abbrev pub rows_of_instants : InstantsKept → List InstantRow

@@ -1,16 +1,14 @@
 -- Names, labels and sort indices of processes and threads, and instants: what metadata events and instants tell.
-use Rattle.std.specs.Prelude.{◌≡◌, ℕ, ◌≤◌, ◌^◌, ◌-◌, ℤ, Bool, true, false, codes, nat_eq, is_some, List, [], ◌∷◌, ◌++◌, length, filter_map, Option, Some, None, option_and_then, if◌then◌else◌}
+use Rattle.std.specs.Prelude.{◌≡◌, ℕ, ◌≤◌, ◌^◌, ◌-◌, ℤ, Bool, true, false, codes, is_some, List, [], ◌∷◌, ◌++◌, length, filter_map, Option, Some, None, option_and_then, if◌then◌else◌}
 use Rattle.std.specs.Option.{option_map, option_cmp}
 use Rattle.std.specs.declared.cmp.Ordering.{Ordering}
 use Rattle.std.specs.Ordering.{int_cmp, ordering_then}
-use Rattle.std.specs.Cmp.Lexicographic.{pointwise}
 use Rattle.span_event.specs.declared.event.Event.{Event}
 use Rattle.span_event.specs.declared.event.Phase.{Phase}
 use Rattle.span_event.specs.declared.event.Phase.TheVariants.{SpanBegin, SpanEnd, Complete, AsyncBegin, AsyncPoint, AsyncEnd, FlowStart, FlowStep, FlowEnd, Counter, Instant, Meta}
-use Rattle.span_event.specs.declared.args.ArgValue.{ArgValue}
-use Rattle.span_event.specs.declared.args.ArgValue.TheVariants.{Whole, Words, Flag, Nil, Other}
-use Rattle.span_event.specs.Args.{value_of}
+use Rattle.span_event.specs.Args.{as_text, as_whole, value_of}
 use Rattle.span_event.specs.Given.{Gives}
+use Rattle.span_event.specs.Text.{Bytes, same_text}
 use Rattle.span_keyed_tracks.specs.Last.{last_of}
 use Rattle.span_keyed_tracks.specs.Keyed.{Keyed, steps_at, entries_in}
 use Rattle.span_keyed_tracks.specs.Instants.{InstantsKept, instants_counted, instants_in}
@@ -25,50 +23,35 @@ holder_cmp a b = ordering_then (int_cmp a.0 b.0) (option_cmp int_cmp a.1 b.1)
 
 -- a name, labels or a sort index for a process or thread
 pub data Setting : Type 0 where
-  set_name : List ℕ → Setting
-  set_labels : List ℕ → Setting
+  set_name : Bytes → Setting
+  set_labels : Bytes → Setting
   set_sort_index : ℤ → Setting
 
--- a text among arguments
-abbrev pub words : ArgValue → Option (List ℕ)
-words (Whole n) = None
-words (Words w) = Some w
-words (Flag b) = None
-words Nil = None
-words Other = None
+-- the text or the number that a member of an event's arguments is
+abbrev pub text_at : Bytes → Event → Option Bytes
+text_at member event = option_and_then as_text (value_of member event.args)
 
--- a whole number among arguments
-abbrev pub whole : ArgValue → Option ℤ
-whole (Whole n) = Some n
-whole (Words w) = None
-whole (Flag b) = None
-whole Nil = None
-whole Other = None
-
-abbrev pub words_of : List ℕ → Event → Option (List ℕ)
-words_of member event = option_and_then words (value_of member event.args)
-
-abbrev pub whole_of : List ℕ → Event → Option ℤ
-whole_of member event = option_and_then whole (value_of member event.args)
+abbrev pub whole_at : Bytes → Event → Option ℤ
+whole_at member event = option_and_then as_whole (value_of member event.args)
 
 -- a name, labels or a sort index for the event's process, or for a thread of it
 abbrev pub name_setting : Event → Option ℤ → Option (Keyed Holder Setting)
-name_setting event tid = option_map (λ w. record { key = (event.pid, tid); step = set_name w }) (words_of (codes "name") event)
+name_setting event tid = option_map (λ w. record { key = (event.pid, tid); step = set_name w }) (text_at (codes "name") event)
 
 abbrev pub labels_setting : Event → Option ℤ → Option (Keyed Holder Setting)
-labels_setting event tid = option_map (λ w. record { key = (event.pid, tid); step = set_labels w }) (words_of (codes "labels") event)
+labels_setting event tid = option_map (λ w. record { key = (event.pid, tid); step = set_labels w }) (text_at (codes "labels") event)
 
 abbrev pub sort_setting : Event → Option ℤ → Option (Keyed Holder Setting)
-sort_setting event tid = option_map (λ n. record { key = (event.pid, tid); step = set_sort_index n }) (whole_of (codes "sort_index") event)
+sort_setting event tid = option_map (λ n. record { key = (event.pid, tid); step = set_sort_index n }) (whole_at (codes "sort_index") event)
 
 -- what a metadata event sets of its thread or of its process, if it has an effect
 abbrev pub setting_of : Event → Option (Keyed Holder Setting)
 setting_of event =
-    if pointwise nat_eq event.name (codes "thread_name") then name_setting event (Some event.tid) else
-    if pointwise nat_eq event.name (codes "thread_sort_index") then sort_setting event (Some event.tid) else
-    if pointwise nat_eq event.name (codes "process_name") then name_setting event None else
-    if pointwise nat_eq event.name (codes "process_labels") then labels_setting event None else
-    if pointwise nat_eq event.name (codes "process_sort_index") then sort_setting event None else None
+    if same_text event.name (codes "thread_name") then name_setting event (Some event.tid) else
+    if same_text event.name (codes "thread_sort_index") then sort_setting event (Some event.tid) else
+    if same_text event.name (codes "process_name") then name_setting event None else
+    if same_text event.name (codes "process_labels") then labels_setting event None else
+    if same_text event.name (codes "process_sort_index") then sort_setting event None else None
 
 -- the event is a metadata event
 abbrev pub is_meta : Phase → Bool
@@ -91,16 +74,16 @@ settings_in es = filter_map (λ e. if is_meta e.phase then setting_of e else Non
 
 -- the names of a process or thread
 pub record Names : Type 0 where
-  pub name : Option (List ℕ)
-  pub labels : Option (List ℕ)
+  pub name : Option Bytes
+  pub labels : Option Bytes
   pub sort_index : Option ℤ
 
-abbrev pub as_name : Setting → Option (List ℕ)
+abbrev pub as_name : Setting → Option Bytes
 as_name (set_name w) = Some w
 as_name (set_labels w) = None
 as_name (set_sort_index n) = None
 
-abbrev pub as_labels : Setting → Option (List ℕ)
+abbrev pub as_labels : Setting → Option Bytes
 as_labels (set_name w) = None
 as_labels (set_labels w) = Some w
 as_labels (set_sort_index n) = None
@@ -158,10 +141,10 @@ abbrev pub HasMetaRoom : MetaKept → Type 0
 HasMetaRoom track = MetaOf (2 ^ 32 - 2) track
 
 -- the name, the labels and the sort index that the track's events give this process or thread
-abbrev pub HasName : MetaKept → Holder → Option (List ℕ) → Type 0
+abbrev pub HasName : MetaKept → Holder → Option Bytes → Type 0
 HasName track holder = Gives MetaStandsFor track (λ es. (names_in es holder).name)
 
-abbrev pub HasLabels : MetaKept → Holder → Option (List ℕ) → Type 0
+abbrev pub HasLabels : MetaKept → Holder → Option Bytes → Type 0
 HasLabels track holder = Gives MetaStandsFor track (λ es. (names_in es holder).labels)
 
 abbrev pub HasSortIndex : MetaKept → Holder → Option ℤ → Type 0

@@ -1,5 +1,5 @@
 -- Keys of series, and the codes that have the numbers of texts in the place of the texts.
-use Rattle.std.specs.Prelude.{◌≡◌, ◌&&◌, ℕ, ℤ, Bool, nat_eq, List, [], map, fold, Option, Some, None}
+use Rattle.std.specs.Prelude.{◌≡◌, ◌&&◌, ℤ, Bool, nat_eq, List, [], map, fold, Option, Some, None}
 use Rattle.std.specs.List.{AllByRecursion}
 use Rattle.std.specs.Option.{option_map, option_eq}
 use Rattle.std.specs.Ordering.{int_eq}
@@ -15,9 +15,10 @@ use Rattle.std.specs.BTreeMap.{insert_entry}
 use Rattle.span_keyed_tracks.specs.declared.counter_track.SeriesTotals.{SeriesTotals}
 use Rattle.span_keyed_tracks.specs.Numbering.{number_in, text_at}
 use Rattle.span_keyed_tracks.specs.Counters.{Series, CountersKept, series_cmp, series_key}
+use Rattle.span_event.specs.Text.{Bytes}
 
 abbrev pub Texts : Type 0
-Texts = List (List ℕ)
+Texts = List Bytes
 
 -- the same numbers
 abbrev pub id_code_eq : IdCode → IdCode → Bool
@@ -66,7 +67,7 @@ abbrev pub decoded : Texts → List (SeriesCode × Series) → CountersKept
 decoded texts entries = map (λ e. (series_at texts e.0, Some e.1)) entries
 
 -- the member of an event's arguments that is a value of the series of a code
-abbrev pub member_at : Texts → SeriesCode × ℤ → List ℕ × ArgValue
+abbrev pub member_at : Texts → SeriesCode × ℤ → Bytes × ArgValue
 member_at texts sample = (text_at texts sample.0.series, Whole sample.1)
 
 -- the codes are those of series of the counter of an event

@@ -20,7 +20,7 @@ use instants::Instants;
 use named::Named;
 pub use setting::names_thread;
 use setting::{Holder, Setting, setting_of};
-use span_event::{Event, Reach, Text};
+use span_event::{Event, Reach, Text, Thread};
 use std::alloc::{AllocError, Global};
 use std::collections::BTreeMap;
 use std::marker::Model;
@@ -97,7 +97,7 @@ impl MetaTrack {
         let Some(reach) = event.reach else {
             unreachable!();
         };
-        let thread = (event.pid, event.tid);
+        let thread = Thread::of(event);
         let Ok(()) = self.instants.add(self.alloc, thread, &event.name, reach) else {
             return Err(TrackFault::Memory);
         };
@@ -143,9 +143,9 @@ impl MetaTrack {
 
     /// How many instants there are of the thread, the name and the reach. Takes no memory.
     pub fn instants_of(&self, pid: i64, tid: i64, name: &Text, reach: Reach) -> u32
-        ensures { Gives MetaStandsFor self.now (λ es. instants_of es (pid, tid) name.now reach) result }
+        ensures { Gives MetaStandsFor self.now (λ es. instants_of es (record { pid = pid; tid = tid }) name.now reach) result }
     {
-        self.instants.of((pid, tid), name, reach)
+        self.instants.of(Thread { pid, tid }, name, reach)
     }
 
     /// The row of each thread, name and reach that has an instant, in ascending order, the wider reach first.

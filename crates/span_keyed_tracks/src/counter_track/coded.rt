@@ -6,7 +6,7 @@ ghost use Rattle.span_keyed_tracks.specs.Keyed.{kept_at};
 ghost use Rattle.span_keyed_tracks.specs.declared.counter_track.codes.IdCode.{IdCode};
 ghost use Rattle.span_keyed_tracks.specs.declared.counter_track.codes.SeriesCode.{SeriesCode};
 ghost use Rattle.indexmap.specs.IndexMap.{insert_entry, spare};
-ghost use Rattle.span_event.specs.Event.{AllWhole};
+ghost use Rattle.span_event.specs.Args.{AllWhole};
 ghost use Rattle.span_event.specs.Args.{IsInNameOrder};
 ghost use Rattle.span_keyed_tracks.specs.Counters.{HasCounterRoom, Series, TakesCounter, series_cmp};
 ghost use Rattle.span_keyed_tracks.specs.CountersKept.{samples_before, with_sample};

@@ -1,11 +1,13 @@
 //! The instants of all threads.
 ghost use Rattle.std.specs.Prelude.{◌≡◌, ◌++◌, [], IfOk, OnOk, OnErr};
-ghost use Rattle.span_keyed_tracks.specs.Instants.{HasInstantRoom, HasNameRoom, TakesInstant, TakesName, counts_of, name_cmp, names_counted, rows_of_instants, rows_of_thread, thread_cmp};
+ghost use Rattle.span_keyed_tracks.specs.Instants.{HasInstantRoom, HasNameRoom, TakesInstant, TakesName, counts_of, names_counted, rows_of_instants, rows_of_thread};
 ghost use Rattle.span_keyed_tracks.specs.InstantsKept.{count_at};
 ghost use Rattle.span_keyed_tracks.specs.Keyed.{kept_at};
+ghost use Rattle.span_event.specs.Orders.{thread_cmp};
+ghost use Rattle.span_event.specs.Text.{text_cmp};
 
 use super::reaches::Reaches;
-use span_event::{Reach, Text};
+use span_event::{Reach, Text, Thread};
 use std::alloc::{AllocError, Global};
 use std::collections::BTreeMap;
 use std::marker::Model;
@@ -61,7 +63,7 @@ impl ThreadInstants {
 
     fn of(&self, name: &Text, reach: Reach) -> u32
         ensures { result
-            ≡ count_at reach (kept_at name_cmp (counts_of []) self.now name.now) }
+            ≡ count_at reach (kept_at text_cmp (counts_of []) self.now name.now) }
     {
         match self.names.get(name) {
             Some(reaches) => reaches.of(reach),
@@ -73,7 +75,7 @@ impl ThreadInstants {
         &self,
         alloc: Global,
         rows: &mut Vec<InstantRow>,
-        thread: (i64, i64),
+        thread: Thread,
     ) -> Result<(), AllocError>
         ensures { OnOk result (rows.new.items ≡ rows.old.items ++ rows_of_thread (thread, self.now)) }
     {
@@ -86,7 +88,7 @@ impl ThreadInstants {
 
 #[derive(Drop)]
 pub(crate) struct Instants {
-    threads: BTreeMap<(i64, i64), ThreadInstants>,
+    threads: BTreeMap<Thread, ThreadInstants>,
 }
 
 impl Model for Instants {
@@ -109,7 +111,7 @@ impl Instants {
     pub(crate) fn add(
         &mut self,
         alloc: Global,
-        thread: (i64, i64),
+        thread: Thread,
         name: &Text,
         reach: Reach,
     ) -> Result<(), AllocError>
@@ -127,9 +129,9 @@ impl Instants {
         Ok(())
     }
 
-    pub(crate) fn of(&self, thread: (i64, i64), name: &Text, reach: Reach) -> u32
+    pub(crate) fn of(&self, thread: Thread, name: &Text, reach: Reach) -> u32
         ensures { result
-            ≡ count_at reach (kept_at name_cmp (counts_of []) (kept_at thread_cmp [] self.now thread) name.now) }
+            ≡ count_at reach (kept_at text_cmp (counts_of []) (kept_at thread_cmp [] self.now thread) name.now) }
     {
         match self.threads.get(&thread) {
             Some(instants) => instants.of(name, reach),

@@ -4,7 +4,7 @@ ghost use Rattle.span_keyed_tracks.specs.Instants.{counts_of, instant_row, rows_
 ghost use Rattle.span_keyed_tracks.specs.InstantsKept.{count_at, with_reach};
 
 use super::instants::InstantRow;
-use span_event::{Reach, Text};
+use span_event::{Reach, Text, Thread};
 use std::alloc::{AllocError, Global};
 use std::marker::Model;
 
@@ -59,7 +59,7 @@ impl Reaches {
         &self,
         alloc: Global,
         rows: &mut Vec<InstantRow>,
-        thread: (i64, i64),
+        thread: Thread,
         name: &Text,
     ) -> Result<(), AllocError>
         ensures { OnOk result (rows.new.items ≡ rows.old.items ++ rows_of_name thread (name.now, self.now)) }
@@ -74,7 +74,7 @@ impl Reaches {
 fn push_row(
     alloc: Global,
     rows: &mut Vec<InstantRow>,
-    thread: (i64, i64),
+    thread: Thread,
     name: &Text,
     reach: Reach,
     count: u32,
@@ -86,8 +86,8 @@ fn push_row(
     }
     let name = name.try_clone(alloc)?;
     rows.push(InstantRow {
-        pid: thread.0,
-        tid: thread.1,
+        pid: thread.pid,
+        tid: thread.tid,
         name,
         reach,
         count,

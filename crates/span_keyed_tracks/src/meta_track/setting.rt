@@ -1,6 +1,6 @@
 //! What a metadata event sets.
 ghost use Rattle.std.specs.Prelude.{◌≡◌, option_map, IfOk};
-ghost use Rattle.span_keyed_tracks.specs.Meta.{labels_setting, name_setting, names_thread, setting_of, sort_setting, whole_of, words_of};
+ghost use Rattle.span_keyed_tracks.specs.Meta.{labels_setting, name_setting, names_thread, setting_of, sort_setting, whole_at, text_at};
 ghost use Rattle.span_keyed_tracks.specs.MetaKept.{keyed_setting};
 
 use span_event::{ArgValue, Event, Phase, Text};
@@ -27,7 +27,7 @@ pub fn names_thread(event: &Event) -> bool
         return matches!(event.args.get("name"), Some(ArgValue::Words(_)));
     }
     if event.name.as_str() == "thread_sort_index" {
-        return whole_of(event, "sort_index").is_some();
+        return whole_at(event, "sort_index").is_some();
     }
     false
 }
@@ -65,7 +65,7 @@ fn name_setting(
 ) -> Result<Option<(Holder, Setting)>, AllocError>
     ensures { IfOk result (λ s. option_map keyed_setting s ≡ name_setting event.now tid) }
 {
-    match words_of(alloc, event, "name")? {
+    match text_at(alloc, event, "name")? {
         Some(name) => Ok(Some(((event.pid, tid), Setting::Name(name)))),
         None => Ok(None),
     }
@@ -78,7 +78,7 @@ fn labels_setting(
 ) -> Result<Option<(Holder, Setting)>, AllocError>
     ensures { IfOk result (λ s. option_map keyed_setting s ≡ labels_setting event.now tid) }
 {
-    match words_of(alloc, event, "labels")? {
+    match text_at(alloc, event, "labels")? {
         Some(labels) => Ok(Some(((event.pid, tid), Setting::Labels(labels)))),
         None => Ok(None),
     }
@@ -87,12 +87,12 @@ fn labels_setting(
 fn sort_setting(event: &Event, tid: Option<i64>) -> Option<(Holder, Setting)>
     ensures { option_map keyed_setting result ≡ sort_setting event.now tid }
 {
-    let index = whole_of(event, "sort_index")?;
+    let index = whole_at(event, "sort_index")?;
     Some(((event.pid, tid), Setting::SortIndex(index)))
 }
 
-fn words_of(alloc: Global, event: &Event, member: &str) -> Result<Option<Text>, AllocError>
-    ensures { IfOk result (λ words. words ≡ words_of member.now event.now) }
+fn text_at(alloc: Global, event: &Event, member: &str) -> Result<Option<Text>, AllocError>
+    ensures { IfOk result (λ words. words ≡ text_at member.now event.now) }
 {
     match event.args.get(member) {
         Some(ArgValue::Words(words)) => Ok(Some(words.try_clone(alloc)?)),
@@ -100,8 +100,8 @@ fn words_of(alloc: Global, event: &Event, member: &str) -> Result<Option<Text>, 
     }
 }
 
-fn whole_of(event: &Event, member: &str) -> Option<i64>
-    ensures { result ≡ whole_of member.now event.now }
+fn whole_at(event: &Event, member: &str) -> Option<i64>
+    ensures { result ≡ whole_at member.now event.now }
 {
     match event.args.get(member) {
         Some(ArgValue::Whole(number)) => Some(*number),

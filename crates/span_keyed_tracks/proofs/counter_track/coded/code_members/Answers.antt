@@ -1,22 +1,14 @@
-use Rattle.std.proofs.Common.{rules, ◌≡◌, ℕ, zero, suc, ◌+◌, ◌<◌, List, ◌∷◌, [], ◌++◌, map, drop, length, sym, ap, ap₂, subst, ◌∙◌, arith}
+use Rattle.std.proofs.Common.{rules, ◌≡◌, ℕ, zero, suc, ◌+◌, ◌<◌, ◌∷◌, [], ◌++◌, map, drop, length, sym, ap, ap₂, subst, ◌∙◌, arith}
 use Rattle.std.proofs.lemmas.Grind.{take_at_read}
-use Rattle.span_event.specs.Event.{AllWhole}
-use Rattle.span_event.specs.declared.args.ArgValue.{ArgValue}
-use Rattle.span_event.specs.declared.args.ArgValue.TheVariants.{Whole, Words, Flag, Nil, Other}
+use Rattle.span_event.specs.Args.{AllWhole, Arguments}
+use Rattle.span_event.specs.declared.args.ArgValue.TheVariants.{Whole}
 use Rattle.span_keyed_tracks.specs.SeriesCodes.{member_at, AreSamples}
 use Rattle.span_keyed_tracks.proofs.SeriesCodes.{AreSamples-coded, IsCounterCode-keeps}
 use Rattle.span_keyed_tracks.proofs.counter_track.coded.code_members.Goals as goal
 
-AllWhole-tail : (m : List ℕ × ArgValue) (ms : List (List ℕ × ArgValue)) → AllWhole (m ∷ ms) → AllWhole ms
-AllWhole-tail (name, Whole n) ms all = all
-AllWhole-tail (name, Words w) ms all = absurd all
-AllWhole-tail (name, Flag b) ms all = absurd all
-AllWhole-tail (name, Nil) ms all = absurd all
-AllWhole-tail (name, Other) ms all = absurd all
-
-AllWhole-later : (n : ℕ) (ms : List (List ℕ × ArgValue)) → AllWhole (drop n ms) → AllWhole (drop (suc n) ms)
+AllWhole-later : (n : ℕ) (ms : Arguments) → AllWhole (drop n ms) → AllWhole (drop (suc n) ms)
 AllWhole-later n [] all = tt
-AllWhole-later zero (m ∷ ms) all = AllWhole-tail m ms all
+AllWhole-later zero (m ∷ ms) all = all.1
 AllWhole-later (suc n) (m ∷ ms) all = AllWhole-later n ms all
 
 pub loop-series-preserved : goal.loop-series-preserved

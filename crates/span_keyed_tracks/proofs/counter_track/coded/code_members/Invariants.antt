@@ -1,5 +1,5 @@
 use Rattle.std.proofs.Common.{◌≡◌, map, take, drop}
-use Rattle.span_event.specs.Event.{AllWhole}
+use Rattle.span_event.specs.Args.{AllWhole}
 use Rattle.span_keyed_tracks.specs.Numbering.{KeepsNumbers}
 use Rattle.span_keyed_tracks.specs.SeriesCodes.{AreSamples, IsCounterCode, member_at}
 use Rattle.span_keyed_tracks.proofs.counter_track.coded.code_members.Given as goal

@@ -2,11 +2,14 @@ use Rattle.std.proofs.Common.{◌≡◌, [], sym, ap, subst, ◌∙◌}
 use Rattle.std.specs.Prelude.{unwrap_or}
 use Rattle.std.specs.Map.{lookup}
 use Rattle.std.specs.BTreeMap.{BTreeMap, insert_entry, is_at}
-use Rattle.span_keyed_tracks.specs.Instants.{HasNameRoom, NamesCounted, TakesName, ThreadKey, names_counted, thread_cmp}
+use Rattle.span_keyed_tracks.specs.Instants.{HasNameRoom, NamesCounted, TakesName, names_counted}
 use Rattle.span_keyed_tracks.specs.Keyed.{kept_at, steps_at}
-use Rattle.span_keyed_tracks.proofs.Instants.{few_names, thread_cmp-same, thread_cmp-total}
+use Rattle.span_keyed_tracks.proofs.Instants.{few_names}
 use Rattle.span_keyed_tracks.proofs.Keyed.{entries_in-first, entries_in-written, lookup-entries_in, set_value-stays}
 use Rattle.span_keyed_tracks.proofs.Results.{on_err-map, on_ok-map}
+use Rattle.span_event.specs.declared.thread.Thread.{Thread}
+use Rattle.span_event.specs.Orders.{thread_cmp}
+use Rattle.span_event.proofs.Orders.{thread_cmp-same, thread_cmp-total}
 use Rattle.span_keyed_tracks.proofs.meta_track.instants.Instants.add.Goals as goal
 
 pub add-requires : goal.add-requires
@@ -36,4 +39,4 @@ pub returns-clause-takes : goal.returns-clause-takes
 returns-clause-takes c = λ ss stands.
     entries_in-first thread_cmp-total thread_cmp-same names_counted ss c.args.thread (record { key = c.args.name.now; step = c.args.reach }) c.self.inside.threads.entries c.insert.new.self.entries c.add-2.new.self
     (c.self.view_is ∙ stands) c.in_default.ensures.ordered (sym c.in_default.ensures.value) (c.in_ok-add.ensures.takes [] c.new-instants.ensures)
-    (c.in_ok-insert.ensures.entries ∙ ap (λ (m : BTreeMap ThreadKey NamesCounted). insert_entry thread_cmp m.entries c.args.thread c.add-2.new.self) c.get_mut.follows.holds-at-none)
+    (c.in_ok-insert.ensures.entries ∙ ap (λ (m : BTreeMap Thread NamesCounted). insert_entry thread_cmp m.entries c.args.thread c.add-2.new.self) c.get_mut.follows.holds-at-none)
