@@ -1,3 +1,4 @@
+//! An element of a trace, as it is read.
 ghost use Rattle.std.specs.Prelude.{◌≡◌};
 ghost use Rattle.span_event.specs.Item.{as_fault, code_of};
 

@@ -1,3 +1,4 @@
+//! The items of a file.
 ghost use Rattle.std.specs.Prelude.{◌≡◌, ◌↔◌, List, [], length, slice_get, option_copied, IsTrue};
 ghost use Rattle.span_event.specs.declared.item.Item.{Item};
 

@@ -1,3 +1,4 @@
+//! A text of a trace.
 ghost use Rattle.std.specs.Prelude.{◌≡◌, [], string_bytes, IfOk, Some, refl};
 ghost use Rattle.std.specs.Hash as fed;
 ghost use Rattle.std.specs.Cmp.Lexicographic.{nat_list_eq_equiv, nat_list_cmp_total, texts_ties, texts_po};

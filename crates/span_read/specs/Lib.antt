@@ -1,3 +1,4 @@
+pub use Rattle.span_event.specs.Item
 pub mod ArgMap
 pub mod Document
 pub mod Element

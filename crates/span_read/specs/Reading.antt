@@ -6,10 +6,10 @@ use Rattle.serde_json.specs.Data.{Data, null, boolean, number, string, array, ob
 use Rattle.serde_json.specs.Read.{of_json, of_items, of_members, converted}
 use Rattle.span_event.specs.declared.args.ArgValue.{ArgValue}
 use Rattle.span_event.specs.declared.args.ArgValue.TheVariants as arg
-use Rattle.span_read.specs.declared.head.Head.{Head}
-use Rattle.span_read.specs.declared.head.Head.TheVariants.{Object, Array, Words, Plain}
-use Rattle.span_read.specs.declared.stop.Stop.{Stop}
-use Rattle.span_read.specs.declared.stop.Stop.TheVariants.{NotJson}
+use Rattle.span_read.specs.declared.tokens.head.Head.{Head}
+use Rattle.span_read.specs.declared.tokens.head.Head.TheVariants.{Object, Array, Words, Plain}
+use Rattle.span_read.specs.declared.error.stop.Stop.{Stop}
+use Rattle.span_read.specs.declared.error.stop.Stop.TheVariants.{NotJson}
 use Rattle.span_read.specs.Fields.{arg_value}
 
 -- the data of the value that the tokens begin with, and the tokens after it

@@ -1,4 +1,4 @@
-// The arguments of one object while its members are read.
+//! The arguments of one object while its members are read.
 ghost use Rattle.std.specs.Prelude.{◌≡◌, ◌<◌, ◌≤◌, [], length, set, IfOk, IfErr};
 ghost use Rattle.std.specs.List.{insert};
 ghost use Rattle.std.specs.BTreeMap.{insert_entry};
@@ -20,7 +20,7 @@ type Pair = (Text, ArgValue);
 
 // Most objects have few, for which a list costs less than a map.
 #[derive(Drop)]
-enum Kept {
+enum ArgPairs {
     Few(Vec<Pair>),
     Many(BTreeMap<Text, ArgValue>),
 }
@@ -28,7 +28,7 @@ enum Kept {
 /// Pairs in byte order of their names.
 #[derive(Drop)]
 pub(crate) struct ArgMap {
-    kept: Kept,
+    kept: ArgPairs,
 }
 
 impl Model for ArgMap {
@@ -45,7 +45,7 @@ impl ArgMap {
         ensures { result ≡ [] }
     {
         ArgMap {
-            kept: Kept::Few(Vec::new(alloc)),
+            kept: ArgPairs::Few(Vec::new(alloc)),
         }
     }
 
@@ -59,20 +59,20 @@ impl ArgMap {
         ensures { IfOk result (λ map. map ≡ insert_entry text_cmp self name value) }
     {
         let mut map = match self.kept {
-            Kept::Few(pairs) => {
+            ArgPairs::Few(pairs) => {
                 if pairs.len() < FEW {
                     let pairs = put(pairs, name, value)?;
                     return Ok(ArgMap {
-                        kept: Kept::Few(pairs),
+                        kept: ArgPairs::Few(pairs),
                     });
                 }
                 map_of(alloc, pairs)?
             }
-            Kept::Many(map) => map,
+            ArgPairs::Many(map) => map,
         };
         drop(map.insert(name, value)?);
         Ok(ArgMap {
-            kept: Kept::Many(map),
+            kept: ArgPairs::Many(map),
         })
     }
 
@@ -80,12 +80,12 @@ impl ArgMap {
         ensures { IfOk result (λ args. args ≡ self) }
     {
         match self.kept {
-            Kept::Few(pairs) => {
+            ArgPairs::Few(pairs) => {
                 let mut pairs = pairs;
                 pairs.shrink_to_fit();
                 Args::of_pairs(pairs)
             }
-            Kept::Many(map) => args_of_map(alloc, map),
+            ArgPairs::Many(map) => args_of_map(alloc, map),
         }
     }
 }

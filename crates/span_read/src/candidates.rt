@@ -1,4 +1,4 @@
-// The texts that are tried in turn: the text itself, and of an array also the text cut at its end, and closed.
+//! The texts that are tried in turn: the text itself, and of an array also the text cut at its end, and closed.
 ghost use Rattle.std.specs.Prelude.{◌≡◌, ◌≢◌, ◌∷◌, ◌++◌, [], Err, IfOk};
 ghost use Rattle.std.specs.String.{string_bytes};
 ghost use Rattle.serde_json.specs.Read.{read};
@@ -7,7 +7,7 @@ ghost use Rattle.span_read.specs.declared.error.ReadError.TheVariants.{Memory};
 ghost use Rattle.span_read.specs.Ending.{closes_array};
 
 use crate::error::ReadError;
-use crate::stop::Stop;
+use crate::error::stop::Stop;
 use crate::trace::read_document;
 use json::{Reader, Scratch};
 use span_event::Items;

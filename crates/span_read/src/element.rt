@@ -1,14 +1,18 @@
-// The item of one element of a trace.
+//! The item of one element of a trace.
 ghost use Rattle.std.specs.Prelude.{◌≡◌, IfOk};
 ghost use Rattle.serde_json.specs.View.{view};
 ghost use Rattle.span_event.specs.Item.{IsGoodItem};
 ghost use Rattle.span_read.specs.Element.{item_of_data, item_of_fields};
 ghost use Rattle.span_read.specs.Slots.{data_of};
 
-use crate::build::event_of;
+mod event;
+mod id;
+mod members;
+
+use crate::element::event::event_of;
+use crate::error::refusal::Refusal;
 use crate::fields::Fields;
 use crate::phase::phase_of;
-use crate::refusal::Refusal;
 use crate::values::fields_of_members;
 use serde_json::Value;
 use span_event::{Item, ItemFault};

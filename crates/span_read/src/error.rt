@@ -1,5 +1,8 @@
-// Why a file is refused as a whole.
+//! Why a file is refused as a whole.
 ghost use Rattle.std.specs.Prelude.{◌≡◌};
+
+pub(crate) mod refusal;
+pub(crate) mod stop;
 
 use span_event::Fault;
 use thiserror::Error;

@@ -2,21 +2,14 @@
 #![tactic(auto)]
 
 mod arg_map;
-mod build;
 mod candidates;
 mod element;
 mod error;
 mod fields;
-mod head;
-mod key;
-mod number;
-mod pass;
 mod phase;
 mod read;
 mod reading;
-mod refusal;
-mod stop;
-mod take;
+mod tokens;
 mod trace;
 mod values;
 

@@ -1,4 +1,4 @@
-// The items of a file.
+//! The items of a file.
 ghost use Rattle.std.specs.Prelude.{◌≡◌, ◌≢◌, ◌<◌, ◌↔◌, length, IfOk, IfErr, Ok, Err, All};
 ghost use Rattle.span_read.specs.Document.{doc, most_bytes};
 ghost use Rattle.span_event.specs.Item.{IsGoodItem};

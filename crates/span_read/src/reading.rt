@@ -1,4 +1,4 @@
-// The fields of an event, as the tokens of its object give them.
+//! The fields of an event, as the tokens of its object give them.
 ghost use Rattle.std.specs.Prelude.{◌≡◌, ◌<◌, ◌∷◌, length, None, IfOk, OnOk};
 ghost use Rattle.json.specs.Token.{Token};
 ghost use Rattle.span_read.specs.Fields.{arg_value, field_value, pairs_of, fields_of};
@@ -6,10 +6,10 @@ ghost use Rattle.span_read.specs.Reading.{data_at, TakesValue, TakesObject, IsNo
 ghost use Rattle.span_read.specs.Slots.{data_of};
 
 use crate::arg_map::ArgMap;
+use crate::error::stop::Stop;
 use crate::fields::{FieldValue, Fields};
-use crate::head::{Head, next_head};
-use crate::pass::{pass_array, pass_object};
-use crate::stop::Stop;
+use crate::tokens::head::{Head, next_head};
+use crate::tokens::pass::{pass_array, pass_object};
 use json::Reader;
 use span_event::{ArgValue, Args, Text};
 use std::alloc::Global;

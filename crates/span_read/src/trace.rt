@@ -1,4 +1,4 @@
-// The items of a trace, as the tokens of its text give them, one element after another.
+//! The items of a trace, as the tokens of its text give them, one element after another.
 ghost use Rattle.std.specs.Prelude.{◌≡◌, ◌<◌, ◌∷◌, length, Some, None, IfOk, OnOk};
 ghost use Rattle.json.specs.Token.{Token};
 ghost use Rattle.serde_json.specs.Data.{object};
@@ -9,10 +9,10 @@ ghost use Rattle.span_read.specs.Reading.{data_at, TakesValue, TakesArray, Takes
 
 use crate::element::item_of_fields;
 use crate::error::ReadError;
-use crate::head::{Head, next_head};
-use crate::pass::{pass_array, pass_items, pass_object, pass_value};
+use crate::error::stop::Stop;
 use crate::reading::read_fields;
-use crate::stop::Stop;
+use crate::tokens::head::{Head, next_head};
+use crate::tokens::pass::{pass_array, pass_items, pass_object, pass_value};
 use json::Reader;
 use span_event::{Item, ItemFault, Items};
 use std::alloc::Global;

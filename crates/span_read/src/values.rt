@@ -1,4 +1,4 @@
-// The fields of an event, as the members of a `serde_json` object give them.
+//! The fields of an event, as the members of a `serde_json` object give them.
 ghost use Rattle.std.specs.Prelude.{◌≡◌, IfOk};
 ghost use Rattle.serde_json.specs.View.{view, members_view};
 ghost use Rattle.span_read.specs.Fields.{arg_value, pairs_of, field_value, field_at, fields_of};

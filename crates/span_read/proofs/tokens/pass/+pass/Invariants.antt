@@ -1,7 +1,7 @@
 use Rattle.std.proofs.Common.{ℕ, ◌+◌, ◌*◌, ◌-◌, ◌≤◌, length}
 use Rattle.std.specs.Prelude.{⊤}
 use Rattle.span_read.specs.Reading.{ItemsSoFar, MembersSoFar}
-use Rattle.span_read.proofs.pass.+pass.Given as goal
+use Rattle.span_read.proofs.tokens.pass.+pass.Given as goal
 
 abbrev pub decreases-pass_value : goal.decreases-pass_value
 decreases-pass_value l = 3 * l.depth + 2

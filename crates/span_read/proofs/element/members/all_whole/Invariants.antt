@@ -1,6 +1,6 @@
 use Rattle.std.proofs.Common.{◌≡◌, drop}
 use Rattle.span_event.specs.Args.{all_whole}
-use Rattle.span_read.proofs.take.all_whole.Given as goal
+use Rattle.span_read.proofs.element.members.all_whole.Given as goal
 
 -- the values passed so far are whole
 abbrev pub invariant-loop-value : goal.invariant-loop-value

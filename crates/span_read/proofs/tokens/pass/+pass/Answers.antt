@@ -8,7 +8,7 @@ use Rattle.serde_json.specs.Data.{no_items, array, object}
 use Rattle.span_read.proofs.Grammar.{data_at-too_deep_array, data_at-too_deep_object}
 use Rattle.span_read.proofs.Leaves.{on_err}
 use Rattle.span_read.proofs.Turns.{items_start, items_turn, items_refused, items_finish, array_taken, array_refused, members_start, members_turn, members_key_refused, members_value_refused, members_finish}
-use Rattle.span_read.proofs.pass.+pass.Goals as goal
+use Rattle.span_read.proofs.tokens.pass.+pass.Goals as goal
 
 pub pass_array-returns-then-depth-eq0-clause-refused : goal.pass_array-returns-then-depth-eq0-clause-refused
 pass_array-returns-then-depth-eq0-clause-refused t c = data_at-too_deep_array c.args.depth c.args.reader.now c.if-depth-eq0.true

@@ -1,4 +1,4 @@
-// What a number in a text is read as.
+//! What a number in a text is read as.
 ghost use Rattle.std.specs.Prelude.{◌≡◌, ◌==◌, ◌<◌, IsTrue, length, slice_index, true, false, option_map, Some, None};
 ghost use Rattle.serde_json.specs.Data.{number};
 ghost use Rattle.serde_json.specs.Read.{number_of, number_from, float_of};

@@ -7,7 +7,7 @@ use Rattle.serde_json.specs.Data.{string, boolean, null}
 use Rattle.serde_json.specs.Read.{of_json, number_of, converted}
 use Rattle.span_read.specs.Reading.{data_at}
 use Rattle.span_read.proofs.Leaves.{on_err, number_taken, number_refused}
-use Rattle.span_read.proofs.head.next_head.Goals as goal
+use Rattle.span_read.proofs.tokens.head.next_head.Goals as goal
 
 pub returns-in_err-token-clause-refused : goal.returns-in_err-token-clause-refused
 returns-in_err-token-clause-refused c =

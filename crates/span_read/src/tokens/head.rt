@@ -1,8 +1,8 @@
-// The beginning of a value.
+//! The beginning of a value.
 ghost use Rattle.std.specs.Prelude.{◌≡◌, ◌<◌, ℕ, length, None, IfOk, OnOk, OnErr};
 ghost use Rattle.span_read.specs.Reading.{data_at, TakesHead};
 
-use crate::number::number_value;
+use crate::tokens::number::number_value;
 use json::{Invalid, Reader, Token};
 use span_event::ArgValue;
 

@@ -1,4 +1,4 @@
-// The id of an event, checked and taken at once.
+//! The id of an event, checked and taken at once.
 ghost use Rattle.std.specs.Prelude.{◌≡◌, ◌||◌, None, IfOk, IfErr, if◌then◌else◌};
 ghost use Rattle.std.specs.Fmt.{signed_decimal};
 ghost use Rattle.span_read.specs.Phase.{reads_id};
@@ -6,9 +6,9 @@ ghost use Rattle.span_read.specs.Element.{where_read, id_fault};
 ghost use Rattle.span_read.specs.Fields.{key_of, key_with};
 ghost use Rattle.span_read.specs.Refusal.{IsForFault};
 
+use crate::error::refusal::Refusal;
 use crate::fields::FieldValue;
 use crate::phase::reads_id;
-use crate::refusal::Refusal;
 use span_event::{ArgValue, Field, IdKey, ItemFault, Phase, Text};
 use std::alloc::{AllocError, Global};
 

@@ -1,4 +1,4 @@
-// Why the reading of a text stops.
+//! Why the reading of a text stops.
 use json::Invalid;
 use std::alloc::{AllocError, AllocFailed};
 
@@ -10,7 +10,7 @@ pub(crate) enum Stop {
 
 impl From<Invalid> for Stop {
     ghost use Rattle.std.specs.Prelude.{◌≡◌};
-    ghost use Rattle.span_read.specs.declared.stop.Stop.TheVariants.{NotJson};
+    ghost use Rattle.span_read.specs.declared.error.stop.Stop.TheVariants.{NotJson};
 
     ghost from_gives = { λ invalid stop. stop ≡ NotJson };
 
@@ -21,7 +21,7 @@ impl From<Invalid> for Stop {
 
 impl From<AllocError> for Stop {
     ghost use Rattle.std.specs.Prelude.{◌≡◌};
-    ghost use Rattle.span_read.specs.declared.stop.Stop.TheVariants.{Memory};
+    ghost use Rattle.span_read.specs.declared.error.stop.Stop.TheVariants.{Memory};
 
     ghost from_gives = { λ error stop. stop ≡ Memory };
 
@@ -32,7 +32,7 @@ impl From<AllocError> for Stop {
 
 impl<T: Drop> From<AllocFailed<T>> for Stop {
     ghost use Rattle.std.specs.Prelude.{◌≡◌};
-    ghost use Rattle.span_read.specs.declared.stop.Stop.TheVariants.{Memory};
+    ghost use Rattle.span_read.specs.declared.error.stop.Stop.TheVariants.{Memory};
 
     ghost from_gives = { λ failed stop. stop ≡ Memory };
 

@@ -3,7 +3,7 @@ use Rattle.fast_float.specs.Text.{scan}
 use Rattle.serde_json.specs.Data.{Num, number}
 use Rattle.serde_json.specs.Read.{number_of, number_from}
 use Rattle.span_read.specs.Fields.{arg_value}
-use Rattle.span_read.proofs.number.number_value.Goals as goal
+use Rattle.span_read.proofs.tokens.number.number_value.Goals as goal
 
 pub returns-then-has_minus : goal.returns-then-has_minus
 unfolding number_of

@@ -1,17 +1,17 @@
-// The event that fields give. Each field is checked and taken at once, in the order of the faults; texts are moved.
+//! The event that fields give. Each field is checked and taken at once, in the order of the faults; texts are moved.
 ghost use Rattle.std.specs.Prelude.{◌≡◌, None, IfOk, IfErr};
 ghost use Rattle.span_read.specs.Phase.{needs_id};
 ghost use Rattle.span_read.specs.Element.{fault_of, event_of};
 ghost use Rattle.span_read.specs.Slots.{data_of};
 ghost use Rattle.span_read.specs.Refusal.{IsForFault};
 
-use crate::fields::Fields;
-use crate::key::take_key;
-use crate::phase::needs_id;
-use crate::refusal::Refusal;
-use crate::take::{
+use crate::element::id::take_key;
+use crate::element::members::{
     take_args, take_duration, take_reach, take_scope, take_text, take_time, take_whole,
 };
+use crate::error::refusal::Refusal;
+use crate::fields::Fields;
+use crate::phase::needs_id;
 use span_event::{Event, Field, ItemFault, Phase};
 use std::alloc::Global;
 

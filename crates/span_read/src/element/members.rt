@@ -1,4 +1,4 @@
-// Each field of an event, checked and taken at once.
+//! Each field of an event, checked and taken at once.
 ghost use Rattle.std.specs.Prelude.{◌≡◌, is_some, pos, [], None, IfOk, if◌then◌else◌};
 ghost use Rattle.std.specs.Result.{result_err};
 ghost use Rattle.span_read.specs.Phase.{reads_time, reads_duration, reads_scope, reads_reach, wants_whole_args};

@@ -1,4 +1,4 @@
-// Why an element's event isn't made.
+//! Why an element's event isn't made.
 ghost use Rattle.std.specs.Prelude.{◌≡◌};
 
 use span_event::ItemFault;
@@ -11,7 +11,7 @@ pub(crate) enum Refusal {
 }
 
 impl From<ItemFault> for Refusal {
-    ghost use Rattle.span_read.specs.declared.refusal.Refusal.TheVariants.{Fault};
+    ghost use Rattle.span_read.specs.declared.error.refusal.Refusal.TheVariants.{Fault};
 
     ghost from_gives = { λ fault refusal. refusal ≡ Fault fault };
 
@@ -21,7 +21,7 @@ impl From<ItemFault> for Refusal {
 }
 
 impl From<AllocError> for Refusal {
-    ghost use Rattle.span_read.specs.declared.refusal.Refusal.TheVariants.{Memory};
+    ghost use Rattle.span_read.specs.declared.error.refusal.Refusal.TheVariants.{Memory};
 
     ghost from_gives = { λ error refusal. refusal ≡ Memory };
 

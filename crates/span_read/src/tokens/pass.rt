@@ -1,4 +1,4 @@
-// Values that are passed over. They are checked all the same.
+//! Values that are passed over. They are checked all the same.
 ghost use Rattle.std.specs.Prelude.{◌≡◌, ◌<◌, ◌≤◌, ℕ, ◌∷◌, length, Some, None, OnOk, OnErr, ⊤};
 ghost use Rattle.json.specs.Token.{Token};
 ghost use Rattle.json.specs.Json.{items, value};
@@ -6,7 +6,7 @@ ghost use Rattle.serde_json.specs.Data.{Items};
 ghost use Rattle.serde_json.specs.Read.{of_items, converted};
 ghost use Rattle.span_read.specs.Reading.{data_at, TakesValue, TakesArray, TakesObject};
 
-use crate::head::{Head, next_head};
+use crate::tokens::head::{Head, next_head};
 use json::{Invalid, Reader};
 
 #[cycle(pass)]
