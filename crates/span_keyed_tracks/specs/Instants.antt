@@ -117,5 +117,5 @@ abbrev pub instant_rows : List Event → List InstantRow
 instant_rows es = rows_of_instants (instants_counted (instants_in es))
 
 -- the rows of the instants of one thread, by name and reach
-abbrev pub instant_rows_of : ThreadKey → List Event → List InstantRow
+abbrev pub instant_rows_of : Thread → List Event → List InstantRow
 instant_rows_of thread es = rows_of_thread (thread, names_counted (steps_at thread_cmp thread (instants_in es)))

@@ -159,13 +159,11 @@ impl MetaTrack {
     pub fn instant_rows_of(
         &self,
         alloc: Global,
-        pid: i64,
-        tid: i64,
+        thread: Thread,
     ) -> Result<Vec<InstantRow>, AllocError>
-        ensures { IfOk result
-            (λ rows. Gives MetaStandsFor self.now (instant_rows_of (pid, tid)) rows.items) }
+        ensures { IfOk result (λ rows. Gives MetaStandsFor self.now (instant_rows_of thread) rows.items) }
     {
-        self.instants.rows_of(alloc, (pid, tid))
+        self.instants.rows_of(alloc, thread)
     }
 
     fn set(&mut self, holder: Holder, setting: Setting) -> Result<(), TrackFault>

@@ -13,7 +13,7 @@ use Rattle.std.proofs.lemmas.List.Elements.{filter-append}
 use Rattle.span_keyed_tracks.specs.declared.counter_track.SeriesRow.{SeriesRow}
 use Rattle.span_keyed_tracks.specs.Keyed.{entry_of}
 use Rattle.span_keyed_tracks.proofs.Keyed.{lookup-made, made-agree, made-insert_entry, made-set_value}
-use Rattle.span_ledger.specs.declared.thread.Thread.{Thread}
+use Rattle.span_event.specs.declared.thread.Thread.{Thread}
 use Rattle.span_ledger.specs.Grouped.{Grouped, GroupsGrow, group_of, groups_of, with_series, with_thread}
 use Rattle.span_ledger.proofs.TrackRows.{map-same}
 

@@ -1,4 +1,5 @@
 -- The totals of a name are those of its number.
+use Rattle.span_event.specs.Text.{Bytes, same_text}
 use Rattle.std.proofs.Common.{◌≡◌, ℕ, ◌+◌, List, [], ◌∷◌, length, map, Bool, true, false, cond, Option, Some, None, refl, sym, ap, ap₂, ◌∙◌, nat_eq, eq-eqb, eqb-true}
 use Rattle.std.specs.Prelude.{is_some, unwrap_or, sum_by, slice_get}
 use Rattle.std.specs.List.{list_all}
@@ -11,26 +12,24 @@ use Rattle.span_track.specs.Nesting.{Begin, Ending, ThreadEvent, span_between, w
 use Rattle.span_keyed_tracks.proofs.Matching.Closed.{both_true, and_true, closed_of-passes}
 use Rattle.span_keyed_tracks.specs.Numbering.{number_in}
 use Rattle.span_keyed_tracks.proofs.Numbers.{slice_get-number_in}
-use Rattle.span_ledger.specs.Told.{Words}
 use Rattle.span_ledger.specs.Numbered.{renamed_span}
-use Rattle.span_ledger.specs.Rows.{same_text}
 use Rattle.span_ledger.specs.Tracked.{number_for, is_numbered}
 use Rattle.span_ledger.proofs.Renaming.{self_time-renamed}
 
 -- the name of the span has a number
-abbrev pub is_numbered_span : List Words → Span Words → Bool
+abbrev pub is_numbered_span : List Bytes → Span Bytes → Bool
 is_numbered_span names s = is_some (number_in names s.name)
 
-module _ (names : List Words) where
+module _ (names : List Bytes) where
   -- the names of closed spans have numbers where those of the events do
-  pub closed_spans-numbered : (es : List (ThreadEvent Words)) → list_all (is_numbered names) es ≡ true → list_all (is_numbered_span names) (closed_spans es) ≡ true
+  pub closed_spans-numbered : (es : List (ThreadEvent Bytes)) → list_all (is_numbered names) es ≡ true → list_all (is_numbered_span names) (closed_spans es) ≡ true
   closed_spans-numbered es known =
       closed_of-passes span_between whole_span (λ b. is_some (number_in names b.name)) (is_numbered_span names) (is_numbered_span names)
-      (λ (b : Begin Words) (e : Ending) (h : is_some (number_in names b.name) ≡ true). and_true (is_some (number_in names b.name)) true h refl)
-      (λ (s : Span Words) (h : is_numbered_span names s ≡ true). and_true (is_numbered_span names s) true h refl) es known
+      (λ (b : Begin Bytes) (e : Ending) (h : is_some (number_in names b.name) ≡ true). and_true (is_some (number_in names b.name)) true h refl)
+      (λ (s : Span Bytes) (h : is_numbered_span names s ≡ true). and_true (is_numbered_span names s) true h refl) es known
 
   -- two texts are the same just where their numbers are
-  nat_eq-number_in : (a b : Words) (i n : ℕ) → number_in names a ≡ Some i → number_in names b ≡ Some n → nat_eq i n ≡ same_text a b
+  nat_eq-number_in : (a b : Bytes) (i n : ℕ) → number_in names a ≡ Some i → number_in names b ≡ Some n → nat_eq i n ≡ same_text a b
   nat_eq-number_in a b i n p q =
       one_answer {P = a ≡ b} (nat_eq i n) (same_text a b) (
         (λ (e : nat_eq i n ≡ true). let same : i ≡ n = eqb-true i n e in
@@ -39,14 +38,14 @@ module _ (names : List Words) where
       )
       (bytes_decides a b)
 
-  pub number_for-is : (text : Words) → is_some (number_in names text) ≡ true → number_in names text ≡ Some (number_for names text)
+  pub number_for-is : (text : Bytes) → is_some (number_in names text) ≡ true → number_in names text ≡ Some (number_for names text)
   number_for-is text h = by (number_in names text) refl h
     where
       by : (o : Option ℕ) → number_in names text ≡ o → is_some o ≡ true → number_in names text ≡ Some (unwrap_or o 0)
       by None e k = cc
       by (Some n) e k = e
 
-  named-renamed : (text : Words) (n : ℕ) (spans : List (Span Words)) → number_in names text ≡ Some n → list_all (is_numbered_span names) spans ≡ true →
+  named-renamed : (text : Bytes) (n : ℕ) (spans : List (Span Bytes)) → number_in names text ≡ Some n → list_all (is_numbered_span names) spans ≡ true →
       named nat_eq n (map (renamed_span (number_for names)) spans) ≡ map (renamed_span (number_for names)) (named same_text text spans)
   named-renamed text n [] at known = refl
   named-renamed text n (s ∷ spans) at known =
@@ -63,17 +62,17 @@ module _ (names : List Words) where
   sum_by-map f g h same [] = refl
   sum_by-map f g h same (x ∷ xs) = sum_by-cons f (g x) (map g xs) ∙ ap₂ (λ a b. a + b) (same x) (sum_by-map f g h same xs) ∙ sym (sum_by-cons h x xs)
 
-  pub count-renamed : (text : Words) (n : ℕ) (spans : List (Span Words)) → number_in names text ≡ Some n → list_all (is_numbered_span names) spans ≡ true →
+  pub count-renamed : (text : Bytes) (n : ℕ) (spans : List (Span Bytes)) → number_in names text ≡ Some n → list_all (is_numbered_span names) spans ≡ true →
       length (named nat_eq n (map (renamed_span (number_for names)) spans)) ≡ length (named same_text text spans)
   count-renamed text n spans at known = ap length (named-renamed text n spans at known) ∙ length-map (named same_text text spans) (renamed_span (number_for names))
 
-  pub total_of-renamed : (text : Words) (n : ℕ) (spans : List (Span Words)) → number_in names text ≡ Some n → list_all (is_numbered_span names) spans ≡ true →
+  pub total_of-renamed : (text : Bytes) (n : ℕ) (spans : List (Span Bytes)) → number_in names text ≡ Some n → list_all (is_numbered_span names) spans ≡ true →
       total_of nat_eq n (map (renamed_span (number_for names)) spans) ≡ total_of same_text text spans
   total_of-renamed text n spans at known =
       ap (λ xs. sum_by (λ s. length_of s) xs) (named-renamed text n spans at known)
       ∙ sum_by-map (λ s. length_of s) (renamed_span (number_for names)) (λ s. length_of s) (λ s. refl) (named same_text text spans)
 
-  pub self_of-renamed : (text : Words) (n : ℕ) (spans : List (Span Words)) → number_in names text ≡ Some n → list_all (is_numbered_span names) spans ≡ true →
+  pub self_of-renamed : (text : Bytes) (n : ℕ) (spans : List (Span Bytes)) → number_in names text ≡ Some n → list_all (is_numbered_span names) spans ≡ true →
       self_of nat_eq n (map (renamed_span (number_for names)) spans) ≡ self_of same_text text spans
   self_of-renamed text n spans at known =
       ap (λ xs. sum_by (λ s. self_time (map (renamed_span (number_for names)) spans) s) xs) (named-renamed text n spans at known)

@@ -5,7 +5,7 @@ use Rattle.std.specs.Ordering.{int_cmp, int_eq}
 use Rattle.span_keyed_tracks.specs.declared.counter_track.SeriesRow.{SeriesRow}
 use Rattle.span_keyed_tracks.specs.Keyed.{entry_of}
 use Rattle.span_ledger.specs.declared.entry.Entry.{Entry}
-use Rattle.span_ledger.specs.declared.thread.Thread.{Thread}
+use Rattle.span_event.specs.declared.thread.Thread.{Thread}
 use Rattle.span_ledger.specs.Parts.{ProcessRows, thread_part}
 use Rattle.span_ledger.specs.Rows.{process_row}
 

@@ -1,7 +1,8 @@
 -- The order of rows.
+use Rattle.span_event.specs.Text.{text_cmp}
 use Rattle.std.specs.declared.cmp.Ordering.{Ordering}
 use Rattle.std.specs.Ordering.{int_cmp, ordering_then}
-use Rattle.span_event.specs.Orders.{reach_cmp}
+use Rattle.span_event.specs.Orders.{reach_cmp, thread_cmp}
 use Rattle.span_keyed_tracks.specs.declared.async_track.AsyncRow.{AsyncRow}
 use Rattle.span_keyed_tracks.specs.declared.counter_track.SeriesRow.{SeriesRow}
 use Rattle.span_keyed_tracks.specs.declared.flow_track.FlowRow.{FlowRow}
@@ -9,11 +10,10 @@ use Rattle.span_keyed_tracks.specs.declared.meta_track.instants.InstantRow.{Inst
 use Rattle.span_keyed_tracks.specs.Async.{async_cmp}
 use Rattle.span_keyed_tracks.specs.Counters.{series_cmp}
 use Rattle.span_keyed_tracks.specs.Flow.{flow_cmp}
-use Rattle.span_ledger.specs.declared.thread.Thread.{Thread}
+use Rattle.span_event.specs.declared.thread.Thread.{Thread}
 use Rattle.span_ledger.specs.declared.rows.ProcessRow.{ProcessRow}
 use Rattle.span_ledger.specs.declared.rows.ThreadRow.{ThreadRow}
 use Rattle.span_ledger.specs.declared.rows.SpanRow.{SpanRow}
-use Rattle.span_ledger.specs.Rows.{thread_cmp, text_cmp}
 
 -- by process
 abbrev pub process_order : ProcessRow → ProcessRow → Ordering

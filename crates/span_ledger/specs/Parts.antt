@@ -1,4 +1,5 @@
 -- What a journal has of each process, and of each of its threads: a report says this, part by part.
+use Rattle.span_event.specs.Orders.{thread_cmp}
 use Rattle.std.specs.Prelude.{ℤ, List, map, filter, filter_map}
 use Rattle.std.specs.Ordering.{int_eq}
 use Rattle.span_keyed_tracks.specs.declared.counter_track.SeriesRow.{SeriesRow}
@@ -10,9 +11,9 @@ use Rattle.span_ledger.specs.declared.entry.Entry.{Entry}
 use Rattle.span_ledger.specs.declared.rows.ProcessRow.{ProcessRow}
 use Rattle.span_ledger.specs.declared.rows.SpanRow.{SpanRow}
 use Rattle.span_ledger.specs.declared.rows.ThreadRow.{ThreadRow}
-use Rattle.span_ledger.specs.declared.thread.Thread.{Thread}
+use Rattle.span_event.specs.declared.thread.Thread.{Thread}
 use Rattle.span_ledger.specs.Journal.{Accepted, accepted}
-use Rattle.span_ledger.specs.Rows.{thread_cmp, process_keys, process_row, thread_row, thread_span_rows}
+use Rattle.span_ledger.specs.Rows.{process_keys, process_row, thread_row, thread_span_rows}
 use Rattle.span_ledger.specs.Told.{told, listed_by, counter_events, meta_events}
 
 -- the rows of a thread: its own, one for each name of its closed spans, and one for each name and reach of its instants
@@ -35,7 +36,7 @@ abbrev pub thread_part : List Entry → Thread → ThreadRows
 thread_part journal thread = record {
   row = thread_row journal thread;
   spans = thread_span_rows journal thread;
-  instants = instant_rows_of (thread.pid, thread.tid) (meta_events (accepted journal));
+  instants = instant_rows_of thread (meta_events (accepted journal));
 }
 
 abbrev pub process_part : List Entry → ℤ → ProcessRows

@@ -18,7 +18,6 @@ mod refusal;
 mod replies;
 mod reply;
 mod rows;
-mod thread;
 mod thread_tracks;
 mod track_rows;
 mod tracks;

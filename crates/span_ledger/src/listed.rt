@@ -1,13 +1,13 @@
 //! The processes and threads that a journal lists.
+ghost use Rattle.span_event.specs.Orders.{thread_cmp};
 ghost use Rattle.std.specs.Prelude.{◌≡◌, ◌<◌, [], IfOk, OnOk};
 ghost use Rattle.std.specs.Ordering.{int_cmp};
 ghost use Rattle.std.specs.BTreeSet.{insert_key};
 ghost use Rattle.indexmap.specs.IndexSet.{spare};
 ghost use Rattle.span_keyed_tracks.specs.Keyed.{ascending};
-ghost use Rattle.span_ledger.specs.Rows.{thread_cmp};
 
-use crate::thread::Thread;
 use indexmap::IndexSet;
+use span_event::Thread;
 use std::alloc::{AllocError, Global};
 use std::collections::BTreeSet;
 

@@ -12,10 +12,10 @@ ghost use Rattle.span_ledger.specs.Tracked.{FollowsJournal};
 use crate::entry::Entry;
 use crate::listed::Listed;
 use crate::rows::{ProcessRow, SpanRow, ThreadRow};
-use crate::thread::Thread;
 use crate::track_rows::{process_row, thread_row, thread_span_rows};
 use crate::tracks::Tracks;
 use span_track::{InstantRow, SeriesRow};
+use span_event::Thread;
 use std::alloc::{AllocError, Global};
 use std::collections::{BTreeMap, BTreeSet};
 use std::marker::Model;
@@ -172,7 +172,7 @@ fn thread_part(
 {
     let row = thread_row(alloc, journal, tracks, thread)?;
     let spans = thread_span_rows(alloc, journal, tracks, thread)?;
-    let instants = tracks.keyed.instant_rows_of(alloc, thread.pid, thread.tid)?;
+    let instants = tracks.keyed.instant_rows_of(alloc, *thread)?;
     Ok(ThreadPart {
         row,
         spans,

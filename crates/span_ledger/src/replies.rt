@@ -12,9 +12,8 @@ use crate::keyed_tracks::KeyedTracks;
 use crate::query::Query;
 use crate::reply::{Reply, copy_of};
 use crate::rows::CountRow;
-use crate::thread::Thread;
 use crate::tracks::Tracks;
-use span_event::Text;
+use span_event::{Text, Thread};
 use std::alloc::{AllocError, Global};
 
 // The reply to a query that comes after the entries of `journal`.

@@ -1,17 +1,17 @@
 //! The rows of processes, of threads and of their names, from the tracks.
+ghost use Rattle.span_event.specs.Text.{text_cmp};
 ghost use Rattle.std.specs.Prelude.{◌≡◌, ◌++◌, IfOk, OnOk, map, flat_map, nat_eq, option_copied, option_and_then, slice_get};
 ghost use Rattle.std.specs.BTreeSet.{insert_key, IsOrdered as AreOrdered};
 ghost use Rattle.span_keyed_tracks.specs.Keyed.{ascending};
 ghost use Rattle.span_self_time.specs.Spans.{names_of};
-ghost use Rattle.span_ledger.specs.Rows.{text_cmp, process_row, process_rows, thread_row, thread_rows, thread_span_rows};
+ghost use Rattle.span_ledger.specs.Rows.{process_row, process_rows, thread_row, thread_rows, thread_span_rows};
 ghost use Rattle.span_ledger.specs.Tracked.{FollowsJournal, track_row, track_span_row, span_rows_of_track, track_span_rows, closed_names};
 
 use crate::entry::Entry;
 use crate::reply::copy_of;
 use crate::rows::{ProcessRow, SpanRow, ThreadRow};
-use crate::thread::Thread;
 use crate::tracks::Tracks;
-use span_event::Text;
+use span_event::{Text, Thread};
 use span_track::{Names, ThreadTrack};
 use std::alloc::{AllocError, Global};
 use std::collections::{BTreeMap, BTreeSet};

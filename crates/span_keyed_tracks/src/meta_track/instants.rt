@@ -143,7 +143,7 @@ impl Instants {
     pub(crate) fn rows_of(
         &self,
         alloc: Global,
-        thread: (i64, i64),
+        thread: Thread,
     ) -> Result<Vec<InstantRow>, AllocError>
         ensures { IfOk result
             (λ rows. rows.items ≡ rows_of_thread (thread, kept_at thread_cmp [] self.now thread)) }

@@ -1,10 +1,10 @@
+use Rattle.span_event.specs.Orders.{thread_cmp}
 use Rattle.std.proofs.Common.{ap, ap₂, ◌∙◌}
 use Rattle.std.specs.Ordering.{int_cmp}
 use Rattle.std.specs.Cmp.{int_cmp_total}
 use Rattle.span_keyed_tracks.specs.Counters.{series_rows}
 use Rattle.span_keyed_tracks.specs.Keyed.{ascending}
 use Rattle.span_ledger.specs.Grouped.{groups_of}
-use Rattle.span_ledger.specs.Rows.{thread_cmp}
 use Rattle.span_ledger.specs.Tracked.{TracksKept}
 use Rattle.span_ledger.proofs.Sorted.{ascending-sorted}
 use Rattle.span_ledger.proofs.parts.grouped.Goals as goal

@@ -1,9 +1,9 @@
+use Rattle.span_event.specs.Orders.{thread_cmp}
 use Rattle.std.proofs.Common.{◌≡◌, false, cond, Option, Some, None, refl, ap, ◌∙◌}
 use Rattle.std.specs.Prelude.{is_some}
 use Rattle.std.specs.Ordering.{is_eq}
 use Rattle.std.specs.BTreeMap.{get}
-use Rattle.span_ledger.specs.declared.thread.Thread.{Thread}
-use Rattle.span_ledger.specs.Rows.{thread_cmp}
+use Rattle.span_event.specs.declared.thread.Thread.{Thread}
 use Rattle.span_ledger.proofs.TrackMaps.{SameTracks-made}
 use Rattle.span_ledger.proofs.thread_tracks.make_track.Goals as goal
 

@@ -1,10 +1,10 @@
+use Rattle.span_event.specs.Text.{text_cmp}
 use Rattle.std.proofs.Common.{◌≡◌, ℕ, suc, ◌+◌, ◌<◌, List, [], length, get_or, drop, drop-cons, Option, Some, None, refl, sym, ap, ◌∙◌, arith}
 use Rattle.std.specs.Prelude.{fold, filter_map, nat_eq, slice_get, option_and_then}
 use Rattle.std.specs.List.{cons_option}
 use Rattle.std.specs.BTreeSet.{insert_key, keys}
 use Rattle.span_self_time.specs.Spans.{names_of}
 use Rattle.std.proofs.lemmas.Option.{slice_get-get_or}
-use Rattle.span_ledger.specs.Rows.{text_cmp}
 use Rattle.span_ledger.proofs.track_rows.names_of.Goals as goal
 use Rattle.span_ledger.proofs.track_rows.names_of.Goals.{in-Some+in_ok-add_name, in_default}
 

@@ -1,8 +1,8 @@
+use Rattle.span_event.specs.Text.{text_cmp}
 use Rattle.std.proofs.Common.{◌≡◌, drop}
 use Rattle.std.specs.Prelude.{fold, filter_map, nat_eq, slice_get}
 use Rattle.std.specs.BTreeSet.{insert_key, IsOrdered}
 use Rattle.span_self_time.specs.Spans.{names_of}
-use Rattle.span_ledger.specs.Rows.{text_cmp}
 use Rattle.span_ledger.specs.Tracked.{closed_names}
 use Rattle.span_ledger.proofs.track_rows.names_of.Given as goal
 use Rattle.span_keyed_tracks.specs.Keyed.{ascending}

@@ -1,7 +1,7 @@
 use Rattle.std.proofs.Common.{◌≡◌, List, [], ◌∷◌, ◌++◌, map, Bor, sym, ap, ap₂, ◌∙◌, append_assoc, append-nil}
 use Rattle.std.proofs.lemmas.List.{map_push}
 use Rattle.std.specs.Prelude.{flat_map}
-use Rattle.span_ledger.specs.declared.thread.Thread.{Thread}
+use Rattle.span_event.specs.declared.thread.Thread.{Thread}
 use Rattle.span_ledger.specs.declared.rows.SpanRow.{SpanRow}
 use Rattle.span_ledger.specs.Tracked.{track_span_rows}
 use Rattle.span_ledger.proofs.track_rows.span_rows.Goals as goal

@@ -1,6 +1,6 @@
+use Rattle.span_event.specs.Orders.{thread_cmp}
 use Rattle.std.proofs.Common.{◌≡◌}
 use Rattle.std.specs.Prelude.{map}
-use Rattle.span_ledger.specs.Rows.{thread_cmp}
 use Rattle.span_ledger.proofs.listed.Listed.ordered_threads.Given as goal
 use Rattle.span_keyed_tracks.specs.Keyed.{ascending}
 
