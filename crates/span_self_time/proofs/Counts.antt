@@ -1,8 +1,8 @@
 -- How many microseconds of a stretch of time pass a test.
-use Rattle.std.proofs.Common.{◌≡◌, cond, ◌≤◌, ℕ, zero, suc, ◌+◌, Bool, true, false, ◌&&◌, ℤ, pos, negsuc, ◌+ℤ◌, ◌-ℤ◌, ◌≤ℤ◌, ◌<ℤ◌, int_lt, int_le, refl, sym, ap, ap₂, ◌∙◌, arith, zero-add, List, [], ◌∷◌}
+use Rattle.std.proofs.Common.{◌≡◌, cond, ◌≤◌, ◌<◌, ℕ, zero, suc, ◌+◌, Bool, true, false, ◌&&◌, ℤ, pos, negsuc, ◌+ℤ◌, ◌-ℤ◌, ◌≤ℤ◌, ◌<ℤ◌, int_lt, int_le, refl, sym, ap, ap₂, ◌∙◌, arith, zero-add, List, [], ◌∷◌}
 use Rattle.std.specs.List.{sum_by}
 use Rattle.std.proofs.lemmas.Bool.{and_left, and_right, and_from}
-use Rattle.std.proofs.lemmas.Int.{ints}
+use Rattle.std.proofs.lemmas.Int.{ints, by_lt_z}
 use Rattle.std.proofs.lemmas.List.Sums.{sum_by-cons}
 use Rattle.span_event.specs.Time.{distance, natural}
 use Rattle.span_self_time.specs.Spans.{Span, count_from, covers, length_of}
@@ -128,3 +128,16 @@ count_from-unbroken p b u v w first then same =
     by_test : (c : Bool) → ((x : ℤ) → u ≤ℤ x → x <ℤ v → p x ≡ c) → count_from u (distance u v) p ≡ cond c (distance u v) 0
     by_test true h = count_from-all p u (distance u v) (λ x from before. let here = add-distance u v first in h x from (omega (arith, ints, here)))
     by_test false h = count_from-none p u (distance u v) (λ x from before. let here = add-distance u v first in h x from (omega (arith, ints, here)))
+
+-- no distance goes back
+pub natural-none : (z : ℤ) → z ≤ℤ pos 0 → natural z ≡ 0
+natural-none (pos n) h = omega (arith, ints)
+natural-none (negsuc n) h = refl
+
+-- the later time is nearer to the end
+pub distance-later : (t later until : ℤ) → t <ℤ later → t <ℤ until → distance later until < distance t until
+distance-later t later until h before =
+    let whole = add-distance t until (omega (arith, ints)) in
+    by_lt_z later until
+    (λ k. let rest = add-distance later until (omega (arith, ints)) in omega (arith, ints, whole, rest))
+    (λ k. let none = natural-none (until -ℤ later) (omega (arith, ints)) in omega (arith, ints, whole, none))

@@ -1,5 +1,5 @@
 -- To whom the spans leave a microsecond: to the one of those that cover it above which none of them ranks.
-use Rattle.std.proofs.Common.{◌≡◌, ◌≢◌, ℕ, Bool, true, false, not, ◌&&◌, cond, nat_eq, ℤ, List, [], ◌∷◌, ◌++◌, Option, Some, None, ◌⊎◌, inl, inr, refl, sym, ap, ◌∙◌, true≢false, All, get_or}
+use Rattle.std.proofs.Common.{◌≡◌, ◌≢◌, ℕ, Bool, true, false, not, ◌&&◌, cond, nat_eq, ℤ, ◌≤ℤ◌, ◌<ℤ◌, List, [], ◌∷◌, ◌++◌, Option, Some, None, ◌⊎◌, inl, inr, refl, sym, ap, ◌∙◌, true≢false, All, get_or}
 use Rattle.std.specs.List.{fold, list_any}
 use Rattle.std.proofs.lemmas.Option.{same_Some}
 use Rattle.std.proofs.lemmas.Bool.{or_from, or_cases, and_from, and_parts, and_left, and_right, not_from_false, not-true, false_from_ne_true, cases_eq}
@@ -8,7 +8,8 @@ use Rattle.std.proofs.lemmas.List.Folds.{list_any_none, list_any_at}
 use Rattle.std.proofs.lemmas.List.Sums.{fold_push}
 use Rattle.span_self_time.specs.Spans.{Span, covers, outranks, is_outranked}
 use Rattle.span_self_time.specs.Segments.{is_on_top}
-use Rattle.span_self_time.specs.Division.{bare, claims, taken, owners_of}
+use Rattle.span_self_time.specs.Division.{Owners, bare, claims, taken, owners_of}
+use Rattle.span_self_time.proofs.Counts.{covers-before, covers-after, covers-between}
 use Rattle.span_self_time.proofs.Ranks.{outranks-itself, outranks-trans, outranks-either}
 
 -- the owner of u once the span has taken its own
@@ -137,3 +138,25 @@ pub owners_of-apart : (spans : List (Span ℕ)) (at : ℕ) → All (λ s. s.at �
 owners_of-apart spans at apart u o found =
     let owner = owners_of-All (λ s. s.at ≢ at) spans apart u o found in
     λ same. owner.holds (ap (λ (s : Span ℕ). s.at) owner.is ∙ same)
+
+-- a span leaves the time before it and behind it to its owners
+pub taken-before : (s : Span ℕ) (owners : Owners) (u : ℤ) → u <ℤ s.start → taken s owners u ≡ owners u
+taken-before s owners u h = ap (λ b. cond (b && claims s (owners u)) (Some s) (owners u)) (covers-before s u h)
+
+pub taken-after : (s : Span ℕ) (owners : Owners) (u : ℤ) → s.until ≤ℤ u → taken s owners u ≡ owners u
+taken-after s owners u h = ap (λ b. cond (b && claims s (owners u)) (Some s) (owners u)) (covers-after s u h)
+
+-- within the span the claim decides
+pub taken-within : (s : Span ℕ) (owners : Owners) (u : ℤ) (owner : Option (Span ℕ)) (b : Bool) → s.start ≤ℤ u → u <ℤ s.until → owners u ≡ owner → claims s owner ≡ b → taken s owners u ≡ cond b (Some s) owner
+taken-within s owners u owner b from before is claim =
+    ap (λ t. cond (t && claims s (owners u)) (Some s) (owners u)) (covers-between s u from before)
+    ∙ ap (λ o. cond (claims s o) (Some s) o) is ∙ ap (λ t. cond t (Some s) owner) claim
+
+-- where the span has no claim on an owner, he stays
+pub taken-kept : (s : Span ℕ) (owners : Owners) (u : ℤ) (owner : Span ℕ) → owners u ≡ Some owner → outranks s owner ≡ false → taken s owners u ≡ Some owner
+taken-kept s owners u owner is below =
+    by_test (covers s u) ∙ is
+  where
+    by_test : (b : Bool) → cond (b && claims s (owners u)) (Some s) (owners u) ≡ owners u
+    by_test true = ap (λ t. cond t (Some s) (owners u)) (ap (claims s) is ∙ below)
+    by_test false = refl

@@ -10,8 +10,8 @@ use Rattle.span_self_time.specs.Spans.{Span, covers, count_from, self_of, busy_t
 use Rattle.span_self_time.specs.Closed.{least_start, greatest_until, span_of, AreClosed}
 use Rattle.span_self_time.specs.Laws.{AreSpans}
 use Rattle.span_self_time.specs.declared.span.ClosedSpan.{ClosedSpan}
-use Rattle.span_self_time.specs.Division.{bare, claims, taken, owners_of, IsNew}
-use Rattle.span_self_time.specs.Shares.{has_name, time_of, AreSettled}
+use Rattle.span_self_time.specs.Division.{bare, claims, taken, owners_of, IsNew, AreSettled}
+use Rattle.span_self_time.specs.Division.TimeMap.{has_name, time_of}
 use Rattle.span_self_time.proofs.OwnTimes.{sum_by-self_times, All-apart}
 use Rattle.span_self_time.proofs.Owners.{list_any-owners_of, owners_of-All, owners_of-append, owners_of-apart}
 use Rattle.span_self_time.proofs.SelfSums.{self_sum, self_sum-self_of}

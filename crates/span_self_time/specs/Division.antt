@@ -1,5 +1,8 @@
--- What a track keeps of the division of time, and what it must hold of its spans.
-use Rattle.std.specs.Prelude.{◌≡◌, ◌≢◌, ℕ, nat_eq, ◌&&◌, Bool, true, if◌then◌else◌, ℤ, pos, ◌-ℤ◌, ◌≤ℤ◌, ◌<ℤ◌, int_lt, List, reverse, [], ◌∷◌, ◌++◌, Option, Some, None, fold, sum_by, unwrap_or}
+-- To which span each microsecond belongs, and the parts of time that are of one span, whichever way they are kept.
+pub mod Stacks
+pub mod TimeMap
+pub mod Ways
+use Rattle.std.specs.Prelude.{◌≡◌, ◌≢◌, ℕ, nat_eq, ◌&&◌, Bool, true, false, if◌then◌else◌, ℤ, pos, ◌-ℤ◌, ◌≤ℤ◌, ◌<ℤ◌, int_lt, List, [], ◌∷◌, ◌++◌, Option, Some, None, fold, sum_by, unwrap_or}
 use Rattle.indexmap.specs.IndexMap.{IndexMap, get}
 use Rattle.std.specs.declared.hash.FoldHasher.{FoldHasher}
 use Rattle.std.specs.declared.hash.BuildHasherDefault.{BuildHasherDefault}
@@ -40,14 +43,6 @@ owner_of p = record { name = p.segment.name; start = p.span_start; until = p.spa
 abbrev pub Belong : Owners → ℤ → ℤ → Option (Span ℕ) → Type 0
 Belong owners a b owner = (u : ℤ) → a ≤ℤ u → u <ℤ b → owners u ≡ owner
 
--- the parts, the last first, are the time before t: each is as long as can be to its start
-abbrev pub ArePast : Owners → ℤ → List Part → Type 0
-ArePast owners t [] = (least_start ≤ℤ t) × ((u : ℤ) → u <ℤ t → owners u ≡ None)
-ArePast owners t (p ∷ ps) =
-    (p.segment.until ≤ℤ t) × Belong owners p.segment.until t None
-    × (p.segment.start <ℤ p.segment.until) × Belong owners p.segment.start p.segment.until (Some (owner_of p))
-    × (owners (p.segment.start -ℤ pos 1) ≢ Some (owner_of p)) × ArePast owners p.segment.start ps
-
 -- the parts, the first first, are the time from t on: each is as long as can be to its end
 abbrev pub AreFuture : Owners → ℤ → List Part → Type 0
 AreFuture owners t [] = (t ≤ℤ greatest_until) × ((u : ℤ) → t ≤ℤ u → owners u ≡ None)
@@ -61,15 +56,11 @@ pub record AreParts (owners : Owners) (parts : List Part) : Type 0 where
   pub nothing : (u : ℤ) → u <ℤ least_start → owners u ≡ None
   pub each : AreFuture owners least_start parts
 
--- how long the parts of a name are together
-abbrev pub part_length : Part → ℕ
-part_length p = distance p.segment.start p.segment.until
-
-abbrev pub named_length : ℕ → List Part → ℕ
-named_length name parts = sum_by (λ p. if nat_eq p.segment.name name then part_length p else 0) parts
-
-abbrev pub whole_length : List Part → ℕ
-whole_length parts = sum_by (λ p. part_length p) parts
+-- there are parts of these owners of which P holds
+pub record HasParts (owners : Owners) (P : List Part → Type 0) : Type 0 where
+  pub parts : List Part
+  pub are : AreParts owners parts
+  pub holds : P parts
 
 -- the running self times of the names
 abbrev pub SelfTimes : Type 0
@@ -78,36 +69,20 @@ SelfTimes = IndexMap ℕ ℕ (BuildHasherDefault FoldHasher)
 abbrev pub own_in : SelfTimes → ℕ → ℕ
 own_in own name = unwrap_or (get nat_eq own name) 0
 
--- the running times are those of the parts
-pub record AreSums (own : SelfTimes) (busy : ℕ) (parts : List Part) : Type 0 where
-  pub of_names : (name : ℕ) → own_in own name ≡ named_length name parts
-  pub of_all : busy ≡ whole_length parts
-
--- only this span has its position
-abbrev pub IsOnly : Span ℕ → Owners → Type 0
-IsOnly s owners = (u : ℤ) (owner : Span ℕ) → owners u ≡ Some owner → owner.at ≡ s.at → owner ≡ s
-
 -- no owner has the span's position
 abbrev pub IsNew : Span ℕ → Owners → Type 0
 IsNew s owners = (u : ℤ) (owner : Span ℕ) → owners u ≡ Some owner → owner.at ≢ s.at
 
--- the owner before t, if there is one, is not the owner at t
-abbrev pub IsChange : Owners → Owners → ℤ → Type 0
-IsChange before from t = (owner : Span ℕ) → before (t -ℤ pos 1) ≡ Some owner → from t ≢ Some owner
+-- an owner covers what he owns, and takes nothing more
+pub record AreSettled (owners : Owners) : Type 0 where
+  pub own : (u : ℤ) (o : Span ℕ) → owners u ≡ Some o → covers o u ≡ true
+  pub no_claim : (u v : ℤ) (o : Span ℕ) → owners u ≡ Some o → covers o v ≡ true → claims o (owners v) ≡ false
 
 -- some owners are such
 pub record ForSome (P : Owners → Type 0) : Type 0 where
   pub owners : Owners
   pub holds : P owners
 
--- the parts of a timeline in order: those before the cursor, and those behind it, of which the last comes first
-abbrev pub parts_of : List Part → List Part → List Part
-parts_of past future = past ++ reverse future
-
 -- the same span's part from a to before b
 abbrev pub between : Part → ℤ → ℤ → Part
 between p a b = record { segment = record { start = a; until = b; name = p.segment.name; at = p.segment.at }; span_start = p.span_start; span_until = p.span_until }
-
--- what lies of a part from a to before b, if anything
-abbrev pub piece : Part → ℤ → ℤ → List Part
-piece p a b = if int_lt a b then between p a b ∷ [] else []

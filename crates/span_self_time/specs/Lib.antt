@@ -1,11 +1,6 @@
 pub mod Closed
-pub mod Cursor
 pub mod Division
-pub mod Kept
 pub mod Laws
 pub mod Segments
-pub mod Shares
 pub mod Spans
-pub mod Stretches
-pub mod Ties
 pub mod Walk

@@ -32,7 +32,7 @@ impl Model for ClosedSpans {
     ghost use Rattle.span_self_time.specs.Spans.{Span};
     ghost use Rattle.span_self_time.specs.Closed.{span_of, AreClosed, AreTotals};
     ghost use Rattle.span_self_time.specs.Division.{owners_of};
-    ghost use Rattle.span_self_time.specs.Kept.{IsDivision};
+    ghost use Rattle.span_self_time.specs.Division.Ways.{IsDivision};
 
     ghost Value = { List (Span ℕ) };
 

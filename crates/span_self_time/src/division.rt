@@ -2,31 +2,36 @@
 ghost use Rattle.std.specs.Prelude.{◌≡◌, ◌≤◌, ℕ, ◌≤ℤ◌, nat_eq, List, [], length, map, slice_get, option_copied, OnOk, OnErr, IfOk};
 ghost use Rattle.span_self_time.specs.Spans.{Span, self_of, busy_time};
 ghost use Rattle.span_self_time.specs.Closed.{least_start, greatest_until, span_of, AreClosed};
-ghost use Rattle.span_self_time.specs.Division.{Owners, owner_of, owners_of, taken, IsNew, ForSome};
-ghost use Rattle.span_self_time.specs.Shares.{HasParts, AreSettled, IsShared};
-ghost use Rattle.span_self_time.specs.Kept.{IsDivision};
+ghost use Rattle.span_self_time.specs.Division.{Owners, owner_of, owners_of, taken, IsNew, ForSome, HasParts, AreSettled};
+ghost use Rattle.span_self_time.specs.Division.TimeMap.{IsTimeMap};
+ghost use Rattle.span_self_time.specs.Division.Ways.{IsDivision};
+
+mod own_times;
+mod stacks;
+mod time_map;
 
 use crate::segment::{Part, Segment};
-use crate::shares::Shares;
 use crate::span::ClosedSpan;
-use crate::timeline::Timeline;
+use stacks::Stacks;
 use std::alloc::{AllocError, Global};
+use time_map::TimeMap;
 
 // Where stacks have to move more parts than these for each span, a search is the quicker.
 const MOVES_FOR_A_SPAN: u64 = 128;
 
-/// Stacks are the quicker where each span comes near the last one, and slow down with the parts in between; a search doesn't.
+/// Stacks are the quicker where each span comes near the last one, and slow down with the parts in between; a map, in which each
+/// span's place is searched for, doesn't.
 #[derive(Drop)]
 pub(crate) enum Division {
-    Stacked(Timeline),
-    Searched(Shares),
+    Stacked(Stacks),
+    Searched(TimeMap),
 }
 
 impl Division {
     pub(crate) fn new(alloc: Global) -> Division
         ensures { IsDivision (owners_of []) result }
     {
-        Division::Stacked(Timeline::new(alloc))
+        Division::Stacked(Stacks::new(alloc))
     }
 
     pub(crate) fn self_of(&self, name: u32) -> u64
@@ -34,8 +39,8 @@ impl Division {
             → result ≡ self_of nat_eq name spans }
     {
         match self {
-            Division::Stacked(timeline) => timeline.self_of(name),
-            Division::Searched(shares) => shares.self_of(name),
+            Division::Stacked(stacks) => stacks.self_of(name),
+            Division::Searched(time_map) => time_map.self_of(name),
         }
     }
 
@@ -44,8 +49,8 @@ impl Division {
             → result ≡ busy_time spans }
     {
         match self {
-            Division::Stacked(timeline) => timeline.busy(),
-            Division::Searched(shares) => shares.busy(),
+            Division::Stacked(stacks) => stacks.busy(),
+            Division::Searched(time_map) => time_map.busy(),
         }
     }
 
@@ -54,8 +59,8 @@ impl Division {
             → HasParts owners (λ parts. result ≡ length parts) }
     {
         match self {
-            Division::Stacked(timeline) => timeline.segment_count(),
-            Division::Searched(shares) => shares.segment_count(),
+            Division::Stacked(stacks) => stacks.segment_count(),
+            Division::Searched(time_map) => time_map.segment_count(),
         }
     }
 
@@ -64,8 +69,8 @@ impl Division {
             → HasParts owners (λ parts. option_copied result ≡ slice_get (map (λ part. part.segment) parts) i) }
     {
         match self {
-            Division::Stacked(timeline) => timeline.segment(i),
-            Division::Searched(shares) => shares.segment(i),
+            Division::Stacked(stacks) => stacks.segment(i),
+            Division::Searched(time_map) => time_map.segment(i),
         }
     }
 
@@ -83,8 +88,8 @@ impl Division {
         ensures err { OnErr result ((owners : Owners) → IsDivision owners self.old → IsDivision owners self.new) }
     {
         match self {
-            Division::Stacked(timeline) => timeline.add(span),
-            Division::Searched(shares) => shares.add(span),
+            Division::Stacked(stacks) => stacks.add(span),
+            Division::Searched(time_map) => time_map.add(span),
         }
     }
 
@@ -111,7 +116,7 @@ impl Division {
     // About how many parts stacks would have to move for this span, where these are many.
     fn moves_for(&self, span: &Part) -> u64 {
         match self {
-            Division::Stacked(timeline) => timeline.moves_for(span),
+            Division::Stacked(stacks) => stacks.moves_for(span),
             Division::Searched(_) => 0,
         }
     }
@@ -124,19 +129,19 @@ impl Division {
             → IsDivision (owners_of (map span_of spans.now)) self.new }
     {
         if let Division::Stacked(_) = self {
-            *self = Division::Searched(shares_of(spans, alloc)?);
+            *self = Division::Searched(time_map_of(spans, alloc)?);
         }
         Ok(())
     }
 }
 
-fn shares_of(spans: &[ClosedSpan], alloc: Global) -> Result<Shares, AllocError>
+fn time_map_of(spans: &[ClosedSpan], alloc: Global) -> Result<TimeMap, AllocError>
     requires { AreClosed (map span_of spans.now) }
-    ensures { IfOk result (IsShared (owners_of (map span_of spans.now))) }
+    ensures { IfOk result (IsTimeMap (owners_of (map span_of spans.now))) }
 {
-    let mut shares = Shares::new(alloc);
+    let mut time_map = TimeMap::new(alloc);
     for span in spans {
-        shares.add(&Part::whole(span))?;
+        time_map.add(&Part::whole(span))?;
     }
-    Ok(shares)
+    Ok(time_map)
 }

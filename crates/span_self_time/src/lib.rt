@@ -4,13 +4,8 @@
 mod closed;
 mod division;
 pub mod laws;
-mod own;
 mod segment;
-mod shares;
 mod span;
-mod stretches;
-mod ties;
-mod timeline;
 pub mod walk;
 
 pub use closed::ClosedSpans;

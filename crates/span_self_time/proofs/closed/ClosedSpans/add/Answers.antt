@@ -6,7 +6,7 @@ use Rattle.span_self_time.specs.declared.span.NameTotal.{NameTotal}
 use Rattle.span_self_time.specs.declared.division.Division.{Division}
 use Rattle.span_self_time.specs.Spans.{Span, length_of}
 use Rattle.span_self_time.specs.Closed.{span_of}
-use Rattle.span_self_time.specs.Kept.{IsDivision}
+use Rattle.span_self_time.specs.Division.Ways.{IsDivision}
 use Rattle.span_self_time.specs.Division.{Owners, bare, owner_of, taken, owners_of, whole, IsNew}
 use Rattle.span_self_time.proofs.Apart.{AreClosed-append}
 use Rattle.span_self_time.proofs.Owners.{owners_of-append, owners_of-apart}

@@ -1,7 +1,7 @@
 use Rattle.std.proofs.Common.{◌∙◌, subst}
 use Rattle.span_self_time.specs.Division.{owners_of}
-use Rattle.span_self_time.specs.Kept.{IsDivision}
-use Rattle.span_self_time.proofs.PartLengths.{whole_length-busy_time}
+use Rattle.span_self_time.specs.Division.Ways.{IsDivision}
+use Rattle.span_self_time.proofs.Stacks.PartLengths.{whole_length-busy_time}
 use Rattle.span_self_time.proofs.division.Division.busy.Goals as goal
 
 pub returns-in-Stacked : goal.returns-in-Stacked

@@ -1,7 +1,7 @@
 use Rattle.std.proofs.Common.{◌∙◌, subst}
 use Rattle.span_self_time.specs.Division.{owners_of}
-use Rattle.span_self_time.specs.Kept.{IsDivision}
-use Rattle.span_self_time.proofs.PartLengths.{named_length-self_of}
+use Rattle.span_self_time.specs.Division.Ways.{IsDivision}
+use Rattle.span_self_time.proofs.Stacks.PartLengths.{named_length-self_of}
 use Rattle.span_self_time.proofs.division.Division.self_of.Goals as goal
 
 pub returns-in-Stacked : goal.returns-in-Stacked

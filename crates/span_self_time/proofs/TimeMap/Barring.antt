@@ -1,0 +1,74 @@
+-- What spans that start together keep from others.
+use Rattle.std.proofs.Common.{◌≡◌, ◌⊎◌, inl, inr, ℕ, Bool, true, false, ◌&&◌, cond, ℤ, ◌≤ℤ◌, ◌<ℤ◌, List, [], ◌∷◌, ◌++◌, Option, Some, None, refl, sym, ap, ◌∙◌, true≢false, arith, All}
+use Rattle.std.specs.Ordering.{match_ordering}
+use Rattle.std.specs.declared.cmp.Ordering.{Ordering}
+use Rattle.std.specs.declared.cmp.Ordering.TheVariants.{Less, Equal, Greater}
+use Rattle.std.specs.BTreeSet.{insert_key}
+use Rattle.std.proofs.lemmas.Int.{ints}
+use Rattle.std.proofs.lemmas.Bool.{false_from_ne_true}
+use Rattle.std.proofs.lemmas.List.Elements.{All-cons, All-head, All-tail, All-nil}
+use Rattle.span_self_time.specs.declared.division.time_map.ties.Ties.{Ties}
+use Rattle.span_self_time.specs.Spans.{Span, covers, outranks}
+use Rattle.span_self_time.specs.Division.{Owners, claims, taken}
+use Rattle.span_self_time.specs.Division.TimeMap.Ties.{IsBarred, AreBarred}
+use Rattle.span_self_time.proofs.Ranks.{outranks-itself, outranks-trans, IsAbove, Decides-outranks}
+
+-- an owner whom no span ranks below is out of reach of those below the span
+claims-above : (s x : Span ℕ) (o : Option (Span ℕ)) → outranks s x ≡ true → claims s o ≡ false → claims x o ≡ false
+claims-above s x None above none = absurd (true≢false none)
+claims-above s x (Some o) above none =
+    false_from_ne_true (outranks x o) (λ higher. true≢false (sym (outranks-trans s x o above higher) ∙ none))
+
+-- what the span has taken is out of reach of those who could not take it before
+claims-taken : (s x : Span ℕ) (owners : Owners) (u : ℤ) → claims x (owners u) ≡ false → claims x (taken s owners u) ≡ false
+claims-taken s x owners u none = by_owner (owners u) none
+  where
+    by_owner : (o : Option (Span ℕ)) → claims x o ≡ false → claims x (cond (covers s u && claims s o) (Some s) o) ≡ false
+    by_owner None h = absurd (true≢false h)
+    by_owner (Some o) h = by_test (covers s u) (outranks s o) refl
+      where
+        by_test : (c b : Bool) → outranks s o ≡ b → claims x (cond (c && b) (Some s) (Some o)) ≡ false
+        by_test false b above = h
+        by_test true false above = h
+        by_test true true above =
+            false_from_ne_true (outranks x s) (λ higher. true≢false (sym (outranks-trans x s o higher above) ∙ h))
+
+pub IsBarred-taken : (s : Span ℕ) (owners : Owners) (a e : ℤ) → IsBarred owners a e → IsBarred (taken s owners) a e
+IsBarred-taken s owners a e barred = λ x u from before below. claims-taken s x owners u (barred x u from before below)
+
+pub AreBarred-taken : (s : Span ℕ) (owners : Owners) (t : Ties) → AreBarred owners t → AreBarred (taken s owners) t
+AreBarred-taken s owners t are = λ k d within. IsBarred-taken s owners _ _ (are k d within)
+
+-- a span bars what it covers from those below it
+pub IsBarred-own : (s : Span ℕ) (owners : Owners) → IsBarred (taken s owners) s.start s.until
+IsBarred-own s owners = λ x u from before below.
+    claims-above s x (taken s owners u) ((Decides-outranks s x).1 (above x below)) (own u (covers s u) (grind (arith, ints, from, before)) refl)
+  where
+    above : (x : Span ℕ) → (x.start <ℤ s.start) ⊎ ((x.start ≡ s.start) × (s.until <ℤ x.until)) → IsAbove s x
+    above x (inl h) = inl h
+    above x (inr (h, k)) = inr (sym h, inl k)
+
+    own : (u : ℤ) (c : Bool) → covers s u ≡ true → covers s u ≡ c → claims s (taken s owners u) ≡ false
+    own u c here is = ap (λ b. claims s (cond (b && claims s (owners u)) (Some s) (owners u))) here ∙ by_claim (claims s (owners u)) refl
+      where
+        by_claim : (b : Bool) → claims s (owners u) ≡ b → claims s (cond b (Some s) (owners u)) ≡ false
+        by_claim true h = outranks-itself s
+        by_claim false h = h
+
+pub All-insert_key : {K : Type 0} (P : K → Type 0) (cmp : K → K → Ordering) (ks : List K) (k : K) → All P ks → P k → All P (insert_key cmp ks k)
+All-insert_key P cmp [] k all here = All-cons P k [] here (All-nil P)
+All-insert_key P cmp (x ∷ xs) k all here =
+    by_order (cmp k x) (All-insert_key P cmp xs k (All-tail P x xs all) here)
+  where
+    by_order : (o : Ordering) → All P (insert_key cmp xs k) → All P (match_ordering o (k ∷ x ∷ xs) (x ∷ xs) (x ∷ insert_key cmp xs k))
+    by_order Less rest = All-cons P k (x ∷ xs) here all
+    by_order Equal rest = all
+    by_order Greater rest = All-cons P x (insert_key cmp xs k) (All-head P x xs all) rest
+
+pub All-last : {K : Type 0} (P : K → Type 0) (ks : List K) (k : K) → All P (ks ++ k ∷ []) → P k
+All-last P [] k all = All-head P k [] all
+All-last P (x ∷ ks) k all = All-last P ks k (All-tail P x (ks ++ k ∷ []) all)
+
+-- who doesn't rank above starts no later
+pub outranks-start : (s o : Span ℕ) → outranks s o ≡ false → s.start ≤ℤ o.start
+outranks-start s o below = grind (arith, ints, below)

@@ -1,6 +1,0 @@
-use Rattle.span_self_time.specs.Stretches.{parts_in}
-use Rattle.span_self_time.proofs.Listing.{AreParts-stretches}
-use Rattle.span_self_time.proofs.shares.Shares.segment_count.Goals as goal
-
-pub returns : goal.returns
-returns c = λ owners is. record { parts = parts_in c.args.self.now.stretches; are = AreParts-stretches owners c.args.self.now.stretches is.divided is.whole c.part_count.ensures.ordered; holds = c.part_count.ensures.count }

@@ -1,7 +1,0 @@
-use Rattle.std.proofs.Common.{rules, ◌≡◌, Some, ap, ◌∙◌, w64, to_z, of_z}
-use Rattle.span_self_time.proofs.stretches.Stretches.end_of.Goals as goal
-
-pub returns-in-Some : goal.returns-in-Some
-returns-in-Some c =
-    let until : to_z w64 (of_z w64 c.in-Some.part.segment.until) ≡ c.in-Some.part.segment.until = search rules in
-    rw until (c.requires.divided.holds.held c.args.time c.in-Some.part (c.requires.held ∙ ap Some c.in-Some.is)).next

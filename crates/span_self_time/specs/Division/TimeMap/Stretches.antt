@@ -1,0 +1,75 @@
+-- Time cut into stretches: from each key of a map up to the next, time is of one span or of none.
+use Rattle.std.specs.Prelude.{◌≡◌, ◌≢◌, ℕ, ℤ, ◌≤ℤ◌, ◌<ℤ◌, IsSome, List, [], ◌∷◌, Option, Some, None}
+use Rattle.std.specs.Ordering.{int_cmp}
+use Rattle.std.specs.BTreeMap.{get, values}
+use Rattle.span_self_time.specs.declared.segment.Part.{Part}
+use Rattle.span_self_time.specs.declared.division.time_map.stretches.Stretches.{Stretches}
+use Rattle.span_self_time.specs.Spans.{Span}
+use Rattle.span_self_time.specs.Closed.{least_start, greatest_until}
+use Rattle.span_self_time.specs.Division.{Owners, owner_of, Belong}
+
+-- what starts at each time, if anything
+abbrev pub Starts : Type 0
+Starts = ℤ → Option (Option Part)
+
+abbrev pub at : Stretches → Starts
+at s q = get int_cmp s.map q
+
+-- the stretch that starts at k is the last one that starts no later than t
+pub record IsLast (m : Starts) (t k : ℤ) (v : Option Part) : Type 0 where
+  pub is : m k ≡ Some v
+  pub first : k ≤ℤ t
+  pub none : (q : ℤ) → k <ℤ q → q ≤ℤ t → m q ≡ None
+
+-- n is the first start after t
+pub record IsNext (m : Starts) (t n : ℤ) : Type 0 where
+  pub some : IsSome (m n)
+  pub later : t <ℤ n
+  pub none : (q : ℤ) → t <ℤ q → q <ℤ n → m q ≡ None
+
+-- the part at k is of its span, and the next stretch starts where it ends
+pub record IsHeld (owners : Owners) (m : Starts) (k : ℤ) (p : Part) : Type 0 where
+  pub start : p.segment.start ≡ k
+  pub belongs : Belong owners k p.segment.until (Some (owner_of p))
+  pub next : IsNext m k p.segment.until
+
+-- u is a microsecond of a part
+pub record IsOfPart (m : Starts) (u : ℤ) : Type 0 where
+  pub start : ℤ
+  pub part : Part
+  pub is : m start ≡ Some (Some part)
+  pub from : start ≤ℤ u
+  pub before : u <ℤ part.segment.until
+
+-- the stretches are those of these owners
+pub record IsDivided (owners : Owners) (m : Starts) : Type 0 where
+  pub held : (k : ℤ) (p : Part) → m k ≡ Some (Some p) → IsHeld owners m k p
+  pub owned : (u : ℤ) (o : Span ℕ) → owners u ≡ Some o → IsOfPart m u
+  pub in_time : (k : ℤ) → IsSome (m k) → (least_start ≤ℤ k) × (k ≤ℤ greatest_until)
+
+-- a part of this owner ends at t
+pub record IsEnd (m : Starts) (t : ℤ) (o : Span ℕ) : Type 0 where
+  pub start : ℤ
+  pub part : Part
+  pub is : m start ≡ Some (Some part)
+  pub until : part.segment.until ≡ t
+  pub owner : owner_of part ≡ o
+
+-- n has v at k, and at each other time what m has
+pub record IsPut (m : Starts) (k : ℤ) (v : Option (Option Part)) (n : Starts) : Type 0 where
+  pub here : n k ≡ v
+  pub others : (q : ℤ) → q ≢ k → n q ≡ m q
+
+-- each part is as long as can be: where it ends, its span's time does
+abbrev pub AreWhole : Owners → Starts → Type 0
+AreWhole owners m = (t : ℤ) (o : Span ℕ) → IsEnd m t o → owners t ≢ Some o
+
+-- what is there of these
+abbrev pub present : List (Option Part) → List Part
+present [] = []
+present (None ∷ parts) = present parts
+present (Some p ∷ parts) = p ∷ present parts
+
+-- the parts in order
+abbrev pub parts_in : Stretches → List Part
+parts_in s = present (values s.map)
