@@ -10,8 +10,7 @@ ghost use Rattle.span_self_time.specs.Segments.{lasts, AreSegments, HasSegments,
 
 use crate::division::Division;
 use crate::segment::{Part, Segment};
-use crate::span::{ClosedSpan, NameTotal};
-use crate::walk::distance;
+use crate::span::{ClosedSpan, NameTotal, distance};
 use indexmap::IndexMap;
 use std::alloc::{AllocError, Global};
 use std::marker::Model;

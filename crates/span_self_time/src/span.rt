@@ -1,3 +1,8 @@
+//! Closed spans, and how far two times lie apart.
+ghost use Rattle.std.specs.Prelude.{◌≡◌, ◌≤◌, ◌^◌, ◌≤ℤ◌};
+ghost use Rattle.span_event.specs.Time.{distance};
+ghost use Rattle.span_self_time.specs.Closed.{least_start, greatest_until};
+
 use span_event::Args;
 
 /// A span that has ended, with the number of its name. It covers the microseconds from `start` to before `until`; `at` is the
@@ -16,4 +21,15 @@ pub struct ClosedSpan {
 pub struct NameTotal {
     pub count: u32,
     pub total: u128,
+}
+
+/// How many microseconds there are from one time to another.
+pub(crate) fn distance(from: i64, to: i64) -> u64
+    requires forward { from ≤ℤ to }
+    requires from_in_time { least_start ≤ℤ from }
+    requires to_in_time { to ≤ℤ greatest_until }
+    ensures value { result ≡ distance from to }
+    ensures small { result ≤ 2 ^ 55 }
+{
+    (to - from) as u64
 }

@@ -1,11 +1,11 @@
 //! Self and busy times of a list of spans, found by walking from each start or end to the next. Takes no memory.
-ghost use Rattle.std.specs.Prelude.{◌≡◌, ◌⊎◌, ◌≤◌, ◌^◌, ℤ, ◌≤ℤ◌, ◌<ℤ◌, nat_eq, map, All};
-ghost use Rattle.span_event.specs.Time.{distance};
+ghost use Rattle.std.specs.Prelude.{◌≡◌, ◌⊎◌, ℤ, ◌≤ℤ◌, ◌<ℤ◌, nat_eq, map, All};
 ghost use Rattle.span_self_time.specs.Spans.{covers, outranks, is_outranked, is_covered, earliest, latest, self_time, busy_time, self_of};
-ghost use Rattle.span_self_time.specs.Closed.{span_of, least_start, greatest_until, IsInTime, AreClosed};
+ghost use Rattle.span_self_time.specs.Closed.{span_of, IsInTime, AreClosed};
 ghost use Rattle.span_self_time.specs.Walk.{IsUnbroken};
 
-use crate::span::ClosedSpan;
+use crate::segment::Part;
+use crate::span::{ClosedSpan, distance};
 
 fn covers(span: &ClosedSpan, u: i64) -> bool
     ensures { result ≡ covers (span_of span.now) u }
@@ -16,8 +16,7 @@ fn covers(span: &ClosedSpan, u: i64) -> bool
 fn outranks(a: &ClosedSpan, b: &ClosedSpan) -> bool
     ensures { result ≡ outranks (span_of a.now) (span_of b.now) }
 {
-    b.start < a.start
-        || (a.start == b.start && (a.until < b.until || (a.until == b.until && b.at < a.at)))
+    Part::whole(a).outranks(&Part::whole(b))
 }
 
 fn is_outranked(spans: &[ClosedSpan], span: &ClosedSpan, u: i64) -> bool
@@ -66,17 +65,6 @@ fn next_boundary(spans: &[ClosedSpan], u: i64, end: i64) -> i64
     next
 }
 
-// How many microseconds there are from one time to another.
-pub(crate) fn distance(from: i64, to: i64) -> u64
-    requires forward { from ≤ℤ to }
-    requires from_in_time { least_start ≤ℤ from }
-    requires to_in_time { to ≤ℤ greatest_until }
-    ensures value { result ≡ distance from to }
-    ensures small { result ≤ 2 ^ 55 }
-{
-    (to - from) as u64
-}
-
 // The microseconds of the span that no span above it covers.
 fn self_time(spans: &[ClosedSpan], span: &ClosedSpan) -> u64
     requires lasts { span.now.start ≤ℤ span.now.until }
@@ -117,7 +105,6 @@ fn latest(spans: &[ClosedSpan]) -> i64
     latest
 }
 
-/// The microseconds that at least one span covers.
 /// The busy time, in microseconds, found by walking through the time from the first span to the last.
 pub fn busy_time(spans: &[ClosedSpan]) -> u64
     requires { AreClosed (map span_of spans.now) }
@@ -136,7 +123,6 @@ pub fn busy_time(spans: &[ClosedSpan]) -> u64
     busy
 }
 
-/// The self times of the spans of one name, together.
 /// The self times of the spans of one name, in microseconds, found by walking through each of these spans.
 pub fn self_of(spans: &[ClosedSpan], name: u32) -> u64
     requires { AreClosed (map span_of spans.now) }

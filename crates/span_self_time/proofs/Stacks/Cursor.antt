@@ -1,4 +1,4 @@
--- How the cursor of a stacks moves from one part to the next.
+-- How the cursor between the stacks moves from one part to the next.
 use Rattle.std.proofs.Common.{◌≡◌, ◌≢◌, ◌++◌, ℤ, pos, ◌-ℤ◌, ◌≤ℤ◌, List, [], ◌∷◌, reverse, Some, None, false, sym, ap, ◌∙◌, subst, arith}
 use Rattle.std.proofs.lemmas.Int.{ints, by_lt_z}
 use Rattle.std.proofs.lemmas.List.{reverse-reverse, append-nil, append_assoc, reverse-append}

@@ -1,4 +1,4 @@
--- How a stacks gets from part to part while a new span takes what is its own.
+-- How the cursor gets from part to part while a new span takes what is its own.
 use Rattle.std.proofs.Common.{◌≡◌, ◌≤◌, ◌<◌, ℕ, ◌+◌, ℤ, ◌<ℤ◌, Bool, true, false, cond, int_lt, List, [], ◌∷◌, ◌++◌, length, subst, arith}
 use Rattle.std.specs.Global.{Vec}
 use Rattle.std.specs.Vec.{vec_len, vec_capacity}

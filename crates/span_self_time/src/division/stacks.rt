@@ -9,7 +9,7 @@ ghost use Rattle.span_self_time.specs.Division.Stacks.{ArePast, IsOnly, parts_of
 
 use super::own_times::{gain_own, keep_name, lose_own, own_in};
 use crate::segment::{Part, Segment};
-use crate::walk::distance;
+use crate::span::distance;
 use indexmap::IndexMap;
 use std::alloc::{AllocError, Global};
 

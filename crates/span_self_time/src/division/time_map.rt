@@ -14,7 +14,7 @@ mod ties;
 
 use super::own_times::{gain_own, keep_name, lose_own, own_in};
 use crate::segment::{Part, Segment};
-use crate::walk::distance;
+use crate::span::distance;
 use indexmap::IndexMap;
 use std::alloc::{AllocError, Global};
 use stretches::Stretches;
