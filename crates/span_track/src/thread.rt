@@ -101,12 +101,12 @@ impl ThreadTrack {
         ensures stands { OnOk result (TakesEvent self.old self.new (ended ts args.now)) }
         ensures err { OnErr result (self.new ≡ self.old) }
     {
-        let Some(begin) = self.opened.last() else {
-            return Err(TrackFault::Refused(NO_OPEN_SPAN));
-        };
-        if self.goes_back(ts) {
-            return Err(TrackFault::Refused(TIME_GOES_BACK));
+        if let Some(number) = self.end_refusal(ts) {
+            return Err(TrackFault::Refused(number));
         }
+        let Some(begin) = self.opened.last() else {
+            unreachable!();
+        };
         let alloc = *self.opened.allocator();
         let merged = self.merged_args(args).map_err(|_| TrackFault::Memory)?;
         let copy = merged.try_clone(alloc).map_err(|_| TrackFault::Memory)?;
