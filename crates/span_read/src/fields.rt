@@ -1,6 +1,7 @@
-use span_event::{ArgValue, Args, Text};
-// The members of an event's object that are read, each in its own place.
+//! The members of an event's object that are read, each in its own place.
 ghost use Rattle.std.specs.Prelude.{◌≡◌};
+
+use span_event::{ArgValue, Args, Text};
 
 /// A member's value by its kind; of an object the members, by theirs.
 #[derive(Drop)]

@@ -1,7 +1,8 @@
-use span_event::Phase;
-// The letters of the phases, and which phases read which field.
+//! The letters of the phases, and which phases read which field.
 ghost use Rattle.std.specs.Prelude.{◌≡◌};
 ghost use Rattle.span_read.specs.Phase.{phase_of, needs_id, reads_id, reads_scope};
+
+use span_event::Phase;
 
 pub(crate) fn phase_of(letter: &str) -> Option<Phase>
     ensures { result ≡ phase_of letter.now }
