@@ -3,7 +3,7 @@ use Rattle.std.proofs.Common.{ℕ, ◌+◌, ◌-◌, ◌≤◌, List, ◌++◌, 
 use Rattle.std.proofs.lemmas.List.{take_rest}
 use Rattle.std.proofs.Math.Seq.{take-add}
 use Rattle.std.specs.Io.KnownBytes.{Appends}
-use Rattle.span_report.specs.Sink.{SinkState, Takes}
+use Rattle.span_report.specs.Sink.{SinkState, TakesBytes}
 
 Appends-append : (a b c : Option (List ℕ)) (xs ys : List ℕ) → Appends a b xs → Appends b c ys → Appends a c (xs ++ ys)
 Appends-append None b c xs ys first second = tt
@@ -11,11 +11,11 @@ Appends-append (Some known) None c xs ys first second = absurd first
 Appends-append (Some known) (Some more) None xs ys first second = second
 Appends-append (Some known) (Some more) (Some all) xs ys first second = second ∙ (ap (λ l. l ++ ys) first ∙ append_assoc known xs ys)
 
-Takes-append : (a b c : SinkState) (xs ys : List ℕ) → Takes a b xs → Takes b c ys → Takes a c (xs ++ ys)
-Takes-append a b c xs ys first second = record { taken = Appends-append a.taken b.taken c.taken xs ys first.taken second.taken; failures = second.failures ∙ first.failures }
+TakesBytes-append : (a b c : SinkState) (xs ys : List ℕ) → TakesBytes a b xs → TakesBytes b c ys → TakesBytes a c (xs ++ ys)
+TakesBytes-append a b c xs ys first second = record { taken = Appends-append a.taken b.taken c.taken xs ys first.taken second.taken; failures = second.failures ∙ first.failures }
 
 -- a call takes n bytes more of those from a place to the end
-pub Takes-next : (a b c : SinkState) (bytes : List ℕ) (at n : ℕ) → (at ≤ length bytes) × Takes a b (take at bytes) → n ≤ length (take (length bytes - at) (drop at bytes)) → Takes b c (take n (take (length bytes - at) (drop at bytes))) → (at + n ≤ length bytes) × Takes a c (take (at + n) bytes)
-Takes-next a b c bytes at n first within second =
+pub TakesBytes-next : (a b c : SinkState) (bytes : List ℕ) (at n : ℕ) → (at ≤ length bytes) × TakesBytes a b (take at bytes) → n ≤ length (take (length bytes - at) (drop at bytes)) → TakesBytes b c (take n (take (length bytes - at) (drop at bytes))) → (at + n ≤ length bytes) × TakesBytes a c (take (at + n) bytes)
+TakesBytes-next a b c bytes at n first within second =
     let rest = take_rest bytes at in
-    (omega (arith, first.0, rw rest at within, length-drop at bytes), rw (take-add at n bytes) (Takes-append a b c _ _ first.1 (rw rest at second)))
+    (omega (arith, first.0, rw rest at within, length-drop at bytes), rw (take-add at n bytes) (TakesBytes-append a b c _ _ first.1 (rw rest at second)))

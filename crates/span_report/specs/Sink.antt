@@ -1,6 +1,7 @@
 -- What contracts see of a sink, and what calls on it do.
-use Rattle.std.specs.Prelude.{◌≡◌, ℕ, ◌+◌, List, Option}
+use Rattle.std.specs.Prelude.{◌≡◌, ℕ, ◌+◌, List, Option, Some, None}
 use Rattle.std.specs.Io.KnownBytes.{Appends}
+use Rattle.std.specs.declared.snapshot.Snapshot.{Snapshot}
 
 -- the bytes taken so far, where the sink tells them, and how many calls on it failed
 pub record SinkState : Type 0 where
@@ -8,7 +9,7 @@ pub record SinkState : Type 0 where
   pub failures : ℕ
 
 -- the sink took these bytes, and no call failed
-pub record Takes (old new : SinkState) (bytes : List ℕ) : Type 0 where
+pub record TakesBytes (old new : SinkState) (bytes : List ℕ) : Type 0 where
   pub taken : Appends old.taken new.taken bytes
   pub failures : new.failures ≡ old.failures
 
@@ -16,3 +17,8 @@ pub record Takes (old new : SinkState) (bytes : List ℕ) : Type 0 where
 pub record Fails (old new : SinkState) (bytes : List ℕ) : Type 0 where
   pub taken : Appends old.taken new.taken bytes
   pub failures : new.failures ≡ old.failures + 1
+
+-- a number, by what is remembered of the one before it; none is before 0
+abbrev pub after_last : Option (Snapshot ℕ) → ℕ
+after_last None = 0
+after_last (Some last) = last.value + 1

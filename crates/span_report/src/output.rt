@@ -1,8 +1,8 @@
 //! Writes the report of a ledger to a sink.
-ghost use Rattle.std.specs.Prelude.{◌≡◌, ◌-◌, ◌^◌, ◌<◌, ◌≤◌, length, take, IfErr, OnOk};
+ghost use Rattle.std.specs.Prelude.{◌≡◌, ◌≤◌, length, take, IfErr, OnOk};
 ghost use Rattle.span_report.specs.Report.{report_of};
-ghost use Rattle.span_report.specs.Sink.{Takes, Fails};
-ghost use Rattle.span_report.specs.Output.{code_of, LeavesOutput};
+ghost use Rattle.span_report.specs.Sink.{TakesBytes, Fails};
+ghost use Rattle.span_report.specs.Output.{write_code, WriteLeaves};
 
 use crate::sink::Sink;
 use crate::text::report;
@@ -20,7 +20,7 @@ pub enum WriteFault {
 
 impl WriteFault {
     pub fn code(&self) -> u16
-        ensures { result ≡ code_of self.now }
+        ensures { result ≡ write_code self.now }
     {
         match self {
             WriteFault::Memory => 31,
@@ -31,10 +31,9 @@ impl WriteFault {
 
 /// Writes the report of the ledger's journal. The first fault of the output ends it, and nothing is tried again.
 pub fn write_report<O: Sink>(alloc: Global, ledger: &Ledger, out: &mut O) -> Result<(), WriteFault>
-    requires { (O.state out.old).failures < 2 ^ 64 - 1 }
-    ensures ok { OnOk result (Takes (O.state out.old) (O.state out.new) (report_of ledger.now.journal)) }
+    ensures ok { OnOk result (TakesBytes (O.state out.old) (O.state out.new) (report_of ledger.now.journal)) }
     ensures fault { IfErr result
-        (λ fault. LeavesOutput fault (report_of ledger.now.journal) (O.state out.old) (O.state out.new)) }
+        (λ fault. WriteLeaves fault (report_of ledger.now.journal) (O.state out.old) (O.state out.new)) }
 {
     let Ok(text) = report(alloc, ledger) else {
         return Err(WriteFault::Memory);
@@ -45,8 +44,7 @@ pub fn write_report<O: Sink>(alloc: Global, ledger: &Ledger, out: &mut O) -> Res
 /// Puts the bytes until all are taken, then finishes once. The first fault of the output ends it; the error is how many bytes
 /// it took.
 pub fn write_bytes<O: Sink>(bytes: &[u8], out: &mut O) -> Result<(), u64>
-    requires { (O.state out.old).failures < 2 ^ 64 - 1 }
-    ensures ok { OnOk result (Takes (O.state out.old) (O.state out.new) bytes.now) }
+    ensures ok { OnOk result (TakesBytes (O.state out.old) (O.state out.new) bytes.now) }
     ensures within { IfErr result (λ written. written ≤ length bytes.now) }
     ensures fault { IfErr result (λ written. Fails (O.state out.old) (O.state out.new) (take written bytes.now)) }
 {

@@ -1,6 +1,6 @@
 //! Where a report goes: a sink takes bytes, and tells in contracts which.
-ghost use Rattle.std.specs.Prelude.{◌-◌, ◌^◌, ◌<◌, ◌≤◌, [], length, take, IfOk, OnOk, OnErr};
-ghost use Rattle.span_report.specs.Sink.{SinkState, Takes, Fails};
+ghost use Rattle.std.specs.Prelude.{◌<◌, ◌≤◌, [], length, take, IfOk, OnOk, OnErr};
+ghost use Rattle.span_report.specs.Sink.{SinkState, TakesBytes, Fails};
 
 /// A call on a sink failed. It took no byte.
 #[derive(Clone, Copy, Debug, PartialEq, Eq)]
@@ -12,15 +12,13 @@ pub trait Sink {
 
     /// Takes the first of the bytes, at least one, and answers how many.
     fn put(&mut self, bytes: &[u8]) -> Result<usize, SinkFault>
-        requires some { 0 < length bytes.now }
-        requires countable { (state self.old).failures < 2 ^ 64 - 1 }
+        requires { 0 < length bytes.now }
         ensures progress { IfOk result (λ n. (0 < n) × (n ≤ length bytes.now)) }
-        ensures ok { IfOk result (λ n. Takes (state self.old) (state self.new) (take n bytes.now)) }
+        ensures ok { IfOk result (λ n. TakesBytes (state self.old) (state self.new) (take n bytes.now)) }
         ensures fault { OnErr result (Fails (state self.old) (state self.new) []) };
 
     /// Called once, after the last byte.
     fn finish(&mut self) -> Result<(), SinkFault>
-        requires { (state self.old).failures < 2 ^ 64 - 1 }
-        ensures ok { OnOk result (Takes (state self.old) (state self.new) []) }
+        ensures ok { OnOk result (TakesBytes (state self.old) (state self.new) []) }
         ensures fault { OnErr result (Fails (state self.old) (state self.new) []) };
 }
