@@ -17,7 +17,7 @@ use Rattle.span_collect.specs.declared.queries.Asked.{Asked}
 use Rattle.span_collect.specs.Account.{Account, Document, EndsAs, IsAsked, asking, callers_named, operations, telling}
 use Rattle.span_collect.specs.Run.{TakesReportOf, journal_by, status_of}
 use Rattle.span_report.specs.Report.{report_of}
-use Rattle.span_report.specs.Sink.{SinkState, Takes}
+use Rattle.span_report.specs.Sink.{SinkState, TakesBytes}
 
 one_of_two : (c k : ℕ) → Contains (0 ∷ c ∷ []) k → (k ≡ 0) ⊎ (k ≡ c)
 one_of_two c k (zero, within, is) = inl (sym is)
@@ -77,10 +77,10 @@ one-journal file limit (end ∷ next ∷ ends) asked journal account below = abs
 
 -- the report of one file without a query is that of what one caller tells
 pub one_report : (files : List Input) (asks : List Query) (limit : ℕ) (ends : List FileEnd) (asked : Asked) (journal : List Entry) (old new : SinkState) → Account files asks limit ends asked journal → status_of ends asked < 2 →
-    Takes old new (report_of journal) → (file : Input) → files ≡ file ∷ [] → asks ≡ [] → TakesReportOf file old new
+    TakesBytes old new (report_of journal) → (file : Input) → files ≡ file ∷ [] → asks ≡ [] → TakesReportOf file old new
 one_report files asks limit ends asked journal old new account below takes file one none =
     let alone : Account (file ∷ []) [] limit ends asked journal = subst (λ qs. Account (file ∷ []) qs limit ends asked journal) none (subst (λ fs. Account fs asks limit ends asked journal) one account) in
     let same = one-journal file limit ends asked journal alone below in (
       same.0,
-      subst (λ (j : List Entry). Takes old new (report_of j)) same.1 takes,
+      subst (λ (j : List Entry). TakesBytes old new (report_of j)) same.1 takes,
     )

@@ -22,11 +22,11 @@ use Rattle.span_share.specs.Entries.{entry}
 use Rattle.span_share.specs.Seats.{ShareId, Seated, IsSeatOf, IsCauseAt, Keeps, Records, Enrols, mine}
 use Rattle.span_collect.specs.declared.files.FileEnd.TheVariants.{Read, Refused, Stopped}
 use Rattle.span_collect.specs.Account.{Document, IsCause, operations, telling, asking}
-use Rattle.span_collect.specs.Work.{HasRecorded, IsNew, IsWorked}
+use Rattle.span_collect.specs.Work.{HasRecorded, IsNewSeat, IsWorked}
 use Rattle.span_collect.proofs.Counting.{length-calls}
 
 -- a seat that was enrolled has recorded nothing
-pub HasRecorded-enrolled : (share : ShareId) (old new : Seated) → IsSeatOf share new → Enrols old new → IsNew share new
+pub HasRecorded-enrolled : (share : ShareId) (old new : Seated) → IsSeatOf share new → Enrols old new → IsNewSeat share new
 HasRecorded-enrolled share old new seat enrols = record {
   sound = seat;
   alone = enrols.owned;
@@ -169,6 +169,6 @@ document_is_small bytes items is = of_bytes (nat_lt most_bytes (length bytes)) (
     of_bytes false o is e = of_data o is e
 
 -- the same of a seat that enrolling may give
-pub enrolled : (share : ShareId) (old : Seated) (result : Result Seated ShareError) → IfOk result (IsSeatOf share) → IfOk result (Enrols old) → IfSome (result_ok result) (IsNew share)
+pub enrolled : (share : ShareId) (old : Seated) (result : Result Seated ShareError) → IfOk result (IsSeatOf share) → IfOk result (Enrols old) → IfSome (result_ok result) (IsNewSeat share)
 enrolled share old (Ok new) seat enrols = HasRecorded-enrolled share old new seat enrols
 enrolled share old (Err error) seat enrols = tt

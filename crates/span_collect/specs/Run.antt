@@ -7,7 +7,7 @@ use Rattle.span_ledger.specs.declared.entry.Entry.{Entry}
 use Rattle.span_ledger.specs.declared.query.Query.{Query}
 use Rattle.span_ledger.specs.Legal.{sequential}
 use Rattle.span_report.specs.Report.{report_of}
-use Rattle.span_report.specs.Sink.{SinkState, Takes, Fails}
+use Rattle.span_report.specs.Sink.{SinkState, TakesBytes, Fails}
 use Rattle.span_collect.specs.declared.files.FileEnd.{FileEnd}
 use Rattle.span_collect.specs.declared.files.FileEnd.TheVariants.{Refused, Stopped, NotStarted}
 use Rattle.span_collect.specs.declared.files.Input.{Input}
@@ -42,7 +42,7 @@ pub record IsRunOf (files : List Input) (asks : List Query) (limit : ℕ) (run :
   pub journal : List Entry
   pub account : Account files asks limit run.ends.items run.asked journal
   pub status : run.status ≡ status_of run.ends.items run.asked
-  pub written : run.status < 2 → Takes old new (report_of journal)
+  pub written : run.status < 2 → TakesBytes old new (report_of journal)
   pub silent : run.status ≡ 2 → new ≡ old
 
 -- a journal accounts for the files, each read or refused, and for all queries, and just the first `written` bytes of its report
@@ -57,11 +57,11 @@ pub record IsCutShort (files : List Input) (asks : List Query) (limit : ℕ) (wr
   pub output : Fails old new (take written (report_of journal))
 
 -- what a refused run leaves: only a failed output took bytes
-abbrev pub LeavesOutput : RunError → List Input → List Query → ℕ → SinkState → SinkState → Type 0
-LeavesOutput FileCount files asks limit old new = new ≡ old
-LeavesOutput Memory files asks limit old new = new ≡ old
-LeavesOutput (Unaccounted entries calls) files asks limit old new = new ≡ old
-LeavesOutput (Output written) files asks limit old new = IsCutShort files asks limit written old new
+abbrev pub RunLeaves : RunError → List Input → List Query → ℕ → SinkState → SinkState → Type 0
+RunLeaves FileCount files asks limit old new = new ≡ old
+RunLeaves Memory files asks limit old new = new ≡ old
+RunLeaves (Unaccounted entries calls) files asks limit old new = new ≡ old
+RunLeaves (Output written) files asks limit old new = IsCutShort files asks limit written old new
 
 -- the journal that one caller makes of a document: of all its items, and of none where it is refused
 abbrev pub journal_by : ℕ → Document → List Entry
@@ -70,7 +70,7 @@ journal_by caller (Err error) = []
 
 -- the report of the journal that one caller makes of the file was written
 abbrev pub TakesReportOf : Input → SinkState → SinkState → Type 0
-TakesReportOf file old new = (caller : ℕ) × Takes old new (report_of (journal_by caller (doc file.bytes.items)))
+TakesReportOf file old new = (caller : ℕ) × TakesBytes old new (report_of (journal_by caller (doc file.bytes.items)))
 
 -- where one file is given, no query, and the status isn't 2, the report of that file was written
 abbrev pub ReportsOneFile : List Input → List Query → ℕ → SinkState → SinkState → Type 0

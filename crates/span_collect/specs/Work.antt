@@ -1,5 +1,6 @@
 -- What the seats of workers and the main seat stand for.
-use Rattle.std.specs.Prelude.{◌≡◌, List, [], ◌∷◌, Some}
+use Rattle.std.specs.Prelude.{◌≡◌, ◌^◌, ◌<◌, ◌≤◌, List, [], ◌∷◌, length, All, Option, Some, IfSome, vec_capacity}
+use Rattle.std.specs.Global.{Vec}
 use Rattle.span_ledger.specs.declared.entry.Op.{Op}
 use Rattle.span_ledger.specs.declared.query.Query.{Query}
 use Rattle.span_share.specs.Seats.{ShareId, Seated, IsSeatOf}
@@ -14,8 +15,20 @@ pub record HasRecorded (share : ShareId) (ops : List Op) (seat : Seated) : Type 
   pub alone : seat.owned ≡ seat.number ∷ []
   pub recorded : operations seat.seen seat.number ≡ ops
 
-abbrev pub IsNew : ShareId → Seated → Type 0
-IsNew share seat = HasRecorded share [] seat
+abbrev pub IsNewSeat : ShareId → Seated → Type 0
+IsNewSeat share seat = HasRecorded share [] seat
+
+-- What is needed to start the workers of at most 64 files: the main seat and, for each file, perhaps a seat have recorded nothing; no
+-- file has an end yet, and there is room for that of each.
+pub record IsReadyToWork (share : ShareId) (files : List Input) (seats : List (Option Seated)) (main : Seated) (ends : Vec FileEnd) : Type 0 where
+  pub small : share.limit < 2 ^ 32
+  pub fresh : IsNewSeat share main
+  pub first : main.number ≡ 0
+  pub count : length seats ≡ length files
+  pub each_fresh : All (λ seat. IfSome seat (IsNewSeat share)) seats
+  pub few : length files ≤ 64
+  pub none : ends.items ≡ []
+  pub room : length files ≤ vec_capacity ends
 
 -- the seat of a worker whose file gave this document and ended like this
 pub record IsWorked (share : ShareId) (document : Document) (end : FileEnd) (seat : Seated) : Type 0 where

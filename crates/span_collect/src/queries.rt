@@ -1,6 +1,6 @@
 //! What was asked while the files were told.
-ghost use Rattle.std.specs.Prelude.{◌≡◌, []};
-ghost use Rattle.span_collect.specs.Work.{IsNew, HasMet};
+ghost use Rattle.std.specs.Prelude.{◌≡◌, ◌^◌, ◌<◌, []};
+ghost use Rattle.span_collect.specs.Work.{IsNewSeat, HasMet};
 
 use crate::gate::Gate;
 use span_ledger::{Cause, Query};
@@ -27,8 +27,9 @@ pub(crate) fn ask_all<G: Gate, R: Wait>(
     asks: &[Query],
     seat: &mut Seat,
 ) -> Asked
-    requires new { IsNew share.now seat.old }
+    requires new { IsNewSeat share.now seat.old }
     requires first { seat.old.number ≡ 0 }
+    requires small { share.now.limit < 2 ^ 32 }
     ensures { HasMet share.now [] asks.now [] result seat.new }
 {
     let mut done: u32 = 0;
@@ -46,8 +47,6 @@ pub(crate) fn ask_all<G: Gate, R: Wait>(
                 cause: Some(back.cause),
             };
         }
-        // There are as many entries or more, and their number is a u32.
-        share.front(seat);
         done += 1;
     }
     Asked { done, cause: None }

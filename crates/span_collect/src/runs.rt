@@ -1,11 +1,11 @@
 //! A run: files are collected, and their report is written.
-ghost use Rattle.std.specs.Prelude.{◌≡◌, ◌-◌, ◌^◌, ◌<◌, ◌↔◌, Err, IfOk, IfErr};
+ghost use Rattle.std.specs.Prelude.{◌≡◌, ◌<◌, ◌↔◌, Err, IfOk, IfErr};
 ghost use Rattle.std.specs.List.{list_any};
 ghost use Rattle.span_report.specs.Report.{report_of};
-ghost use Rattle.span_report.specs.Sink.{Takes};
+ghost use Rattle.span_report.specs.Sink.{TakesBytes};
 ghost use Rattle.span_collect.specs.Account.{Account};
 ghost use Rattle.span_collect.specs.Collection.{AreNoneOrTooMany};
-ghost use Rattle.span_collect.specs.Run.{code_of, is_cut, is_refused, status_of, IsRunOf, LeavesOutput, ReportsOneFile};
+ghost use Rattle.span_collect.specs.Run.{code_of, is_cut, is_refused, status_of, IsRunOf, RunLeaves, ReportsOneFile};
 
 use crate::collection::{CollectError, collect};
 use crate::files::{FileEnd, Input};
@@ -76,13 +76,12 @@ pub fn run<O: Sink, R: Threads + Wait + Sync>(
     limit: u32,
     out: &mut O,
 ) -> Result<RunEnd, RunError>
-    requires { (O.state out.old).failures < 2 ^ 64 - 1 }
     ensures run { IfOk result (λ run. IsRunOf files.now asks.now limit run (O.state out.old) (O.state out.new)) }
     ensures one_file { IfOk result
         (λ run. ReportsOneFile files.now asks.now run.status (O.state out.old) (O.state out.new)) }
     ensures count { (result ≡ Err RunError.FileCount) ↔ AreNoneOrTooMany files.now }
     ensures error { IfErr result
-        (λ error. LeavesOutput error files.now asks.now limit (O.state out.old) (O.state out.new)) }
+        (λ error. RunLeaves error files.now asks.now limit (O.state out.old) (O.state out.new)) }
 {
     match run_to_ledger(rt, alloc, files, asks, limit, out) {
         Ok(collected) => Ok(collected.end),
@@ -99,20 +98,19 @@ pub fn run_to_ledger<O: Sink, R: Threads + Wait + Sync>(
     limit: u32,
     out: &mut O,
 ) -> Result<Collected, RunError>
-    requires { (O.state out.old).failures < 2 ^ 64 - 1 }
     ensures run { IfOk result
         (λ collected. IsRunOf files.now asks.now limit collected.end (O.state out.old) (O.state out.new)) }
     ensures one_file { IfOk result
         (λ collected. ReportsOneFile files.now asks.now collected.end.status (O.state out.old) (O.state out.new)) }
     ensures count { (result ≡ Err RunError.FileCount) ↔ AreNoneOrTooMany files.now }
     ensures error { IfErr result
-        (λ error. LeavesOutput error files.now asks.now limit (O.state out.old) (O.state out.new)) }
+        (λ error. RunLeaves error files.now asks.now limit (O.state out.old) (O.state out.new)) }
     ensures account { IfOk result
         (λ collected. Account files.now asks.now limit collected.end.ends.items collected.end.asked
         collected.ledger.journal) }
     ensures report { IfOk result
         (λ collected. collected.end.status < 2
-        → Takes (O.state out.old) (O.state out.new) (report_of collected.ledger.journal)) }
+        → TakesBytes (O.state out.old) (O.state out.new) (report_of collected.ledger.journal)) }
 {
     let outcome = match collect(rt, alloc, files, asks, &FreeGate, limit) {
         Ok(outcome) => outcome,

@@ -2,7 +2,7 @@
 ghost use Rattle.std.specs.Prelude.{◌≤◌, length, All, Ok};
 ghost use Rattle.span_read.specs.Document.{doc, most_items};
 ghost use Rattle.span_event.specs.Item.{IsGoodItem};
-ghost use Rattle.span_collect.specs.Work.{IsNew, IsWorked};
+ghost use Rattle.span_collect.specs.Work.{IsNewSeat, IsWorked};
 
 use crate::files::{FileEnd, Input};
 use crate::gate::Gate;
@@ -23,7 +23,7 @@ pub(crate) fn work<G: Gate, R: Wait>(
     file: &Input,
     seat: &mut Seat,
 ) -> FileEnd
-    requires { IsNew share.now seat.old }
+    requires { IsNewSeat share.now seat.old }
     ensures { IsWorked share.now (doc file.now.bytes.items) result seat.new }
 {
     let caller = seat.number();
@@ -51,7 +51,7 @@ fn tell_all<G: Gate, R: Wait>(
     items: Items,
     seat: &mut Seat,
 ) -> FileEnd
-    requires new { IsNew share.now seat.old }
+    requires new { IsNewSeat share.now seat.old }
     requires good { All IsGoodItem items }
     requires few { length items ≤ most_items }
     ensures { IsWorked share.now (Ok items) result seat.new }

@@ -1,8 +1,8 @@
 //! The threads of a collection: one worker for each file, and the main seat, which asks while they run.
-ghost use Rattle.std.specs.Prelude.{◌≡◌, ◌+◌, ◌≤◌, [], length, vec_capacity, All, IfSome, IfOk};
+ghost use Rattle.std.specs.Prelude.{◌≡◌, length, vec_capacity, All, IfSome, IfOk};
 ghost use Rattle.span_read.specs.Document.{doc};
 ghost use Rattle.span_share.specs.Seats.{IsSeatOf};
-ghost use Rattle.span_collect.specs.Work.{IsNew, IsWorked, HasMet};
+ghost use Rattle.span_collect.specs.Work.{IsNewSeat, IsWorked, HasMet, IsReadyToWork};
 
 use crate::files::{FileEnd, Input};
 use crate::gate::Gate;
@@ -38,7 +38,7 @@ pub(crate) fn enrol_all<R: Wait>(
     requires { IsSeatOf share.now main.old }
     ensures same { main.new ≡ main.old }
     ensures count { IfOk result (λ seats. length seats.items ≡ count) }
-    ensures new { IfOk result (λ seats. All (λ seat. IfSome seat (IsNew share.now)) seats.items) }
+    ensures new { IfOk result (λ seats. All (λ seat. IfSome seat (IsNewSeat share.now)) seats.items) }
 {
     let mut seats = Vec::with_capacity(alloc, count)?;
     for _ in 0..count {
@@ -58,7 +58,7 @@ fn start_worker<'s, E, G: Gate, R: Wait + Sync>(
     file: &'s Input,
     seat: Option<Seat>,
 ) -> Option<PromisedHandle<(FileEnd, Seat), Worked>>
-    requires { IfSome seat (IsNew share.now) }
+    requires { IfSome seat (IsNewSeat share.now) }
     ensures share { IfSome result (λ handle. handle.promise.share.value ≡ share.now) }
     ensures file { IfSome result (λ handle. handle.promise.file.value ≡ file.now) }
 {
@@ -71,7 +71,7 @@ fn start_worker<'s, E, G: Gate, R: Wait + Sync>(
         .spawn_with(
             promise,
             move ||
-                requires { IsNew share.now seat }
+                requires { IsNewSeat share.now seat }
                 ensures { IsWorked share.entry.now (doc file.entry.now.bytes.items) result.0 result.1 }
             {
                 let mut seat = seat;
@@ -97,13 +97,7 @@ fn work_all<'s, E, G: Gate, R: Threads + Wait + Sync>(
     main: &mut Seat,
     ends: &mut Vec<FileEnd>,
 ) -> Asked
-    requires main { IsNew share.now main.old }
-    requires first { main.old.number ≡ 0 }
-    requires count { length seats.old.items ≡ length files.now }
-    requires seats { All (λ seat. IfSome seat (IsNew share.now)) seats.old.items }
-    requires few { length files.now ≤ 64 }
-    requires ends { ends.old.items ≡ [] }
-    requires room { length files.now ≤ vec_capacity ends.old }
+    requires { IsReadyToWork share.now files.now seats.old.items main.old ends.old }
     ensures met { HasMet share.now files.now asks.now ends.new.items result main.new }
     ensures room { vec_capacity ends.new ≡ vec_capacity ends.old }
 {
@@ -140,26 +134,14 @@ pub(crate) fn run_workers<G: Gate, R: Threads + Wait + Sync>(
     main: Seat,
     ends: Vec<FileEnd>,
 ) -> (Asked, Seat, Vec<FileEnd>)
-    requires main { IsNew share.now main }
-    requires first { main.number ≡ 0 }
-    requires count { length seats.items ≡ length files.now }
-    requires seats { All (λ seat. IfSome seat (IsNew share.now)) seats.items }
-    requires few { length files.now ≤ 64 }
-    requires ends { ends.items ≡ [] }
-    requires room { length files.now ≤ vec_capacity ends }
+    requires { IsReadyToWork share.now files.now seats.items main ends }
     ensures { HasMet share.now files.now asks.now result.2.items result.0 result.1 }
 {
     thread::scope(
         thread::scope_env(),
         rt,
         move |scope|
-            requires main { IsNew share.now main }
-            requires first { main.number ≡ 0 }
-            requires count { length seats.items ≡ length files.now }
-            requires seats { All (λ seat. IfSome seat (IsNew share.now)) seats.items }
-            requires few { length files.now ≤ 64 }
-            requires ends { ends.items ≡ [] }
-            requires room { length files.now ≤ vec_capacity ends }
+            requires { IsReadyToWork share.now files.now seats.items main ends }
             ensures { HasMet share.entry.now files.entry.now asks.entry.now result.2.items result.0 result.1 }
         {
             let mut seats = seats;

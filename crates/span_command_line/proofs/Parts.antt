@@ -7,12 +7,12 @@ use Rattle.span_collect.specs.declared.files.Input.{Input}
 use Rattle.span_collect.specs.declared.runs.RunEnd.{RunEnd}
 use Rattle.span_collect.specs.declared.runs.RunError.{RunError}
 use Rattle.span_collect.specs.declared.runs.RunError.TheVariants.{FileCount, Memory, Unaccounted, Output}
-use Rattle.span_collect.specs.Run.{IsRunOf, LeavesOutput}
+use Rattle.span_collect.specs.Run.{IsRunOf, RunLeaves}
 use Rattle.span_collect.proofs.Statuses.{status_of-lt}
 use Rattle.span_command_line.specs.Order.{LeavesPart}
 
 -- a run that was refused wrote nothing, or first bytes of its report
-pub LeavesPart-refused : (error : RunError) (inputs : List Input) (limit : ℕ) (old new : SinkState) → LeavesOutput error inputs [] limit old new → LeavesPart inputs limit old new
+pub LeavesPart-refused : (error : RunError) (inputs : List Input) (limit : ℕ) (old new : SinkState) → RunLeaves error inputs [] limit old new → LeavesPart inputs limit old new
 LeavesPart-refused FileCount inputs limit old new same = inl same
 LeavesPart-refused Memory inputs limit old new same = inl same
 LeavesPart-refused (Unaccounted entries calls) inputs limit old new same = inl same

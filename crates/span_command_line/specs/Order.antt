@@ -3,7 +3,7 @@ use Rattle.std.specs.Prelude.{◌≡◌, ℕ, ◌⊎◌, List, [], take, string_
 use Rattle.std.specs.Io.KnownBytes.{Appends}
 use Rattle.span_ledger.specs.declared.entry.Entry.{Entry}
 use Rattle.span_report.specs.Report.{report_of}
-use Rattle.span_report.specs.Sink.{SinkState, Takes, Fails}
+use Rattle.span_report.specs.Sink.{SinkState, TakesBytes, Fails}
 use Rattle.span_collect.specs.declared.files.FileEnd.{FileEnd}
 use Rattle.span_collect.specs.declared.files.Input.{Input}
 use Rattle.span_collect.specs.declared.queries.Asked.{Asked}
@@ -47,7 +47,7 @@ CollectsPart source names limit old new = (new ≡ old) ⊎ ((inputs : List Inpu
 -- what an order did that ended with status 0 or 1: its files were collected, or its text was written
 abbrev pub Performs : SourceBytes → Order → ℕ → SinkState → SinkState → Type 0
 Performs source (Collect limit files) status old new = Collects source files.items limit status old new
-Performs source (Show text) status old new = (status ≡ 0) × Takes old new (string_bytes text)
+Performs source (Show text) status old new = (status ≡ 0) × TakesBytes old new (string_bytes text)
 Performs source (Refuse text) status old new = ⊥
 
 -- what an order did that ended with status 2: it wrote nothing, or first bytes of what it would have written

@@ -3,7 +3,7 @@ use Rattle.span_ledger.specs.declared.entry.Op.TheVariants.{Ask}
 use Rattle.span_ledger.specs.declared.refusal.Cause.TheVariants.{Memory}
 use Rattle.span_collect.specs.Account.{asking}
 use Rattle.span_collect.specs.Work.{HasRecorded}
-use Rattle.span_collect.proofs.Meeting.{HasMet-asked}
+use Rattle.span_collect.proofs.Meeting.{BeginsWith-length, HasMet-asked}
 use Rattle.span_collect.proofs.Recording.{HasRecorded-next, HasRecorded-keeps, IsCause-at, asked-le, asking-next}
 use Rattle.span_collect.proofs.queries.ask_all.Goals as goal
 
@@ -27,21 +27,26 @@ pub returns-in-Err : goal.returns-in-Err
 returns-in-Err g c =
     let invariant = c.loop-query.invariant in
     let asks = c.args.asks.now in
-    let kept = HasRecorded-keeps c.args.share.now (asking (take c.loop-query.query-index asks)) c.loop-query.seat c.ask.new.seat invariant.recorded c.in-Err.ensures.seat c.in-Err.ensures.kept in
+    let told = c.in-Err.ensures.told in
+    let kept = HasRecorded-keeps c.args.share.now (asking (take c.loop-query.query-index asks)) c.loop-query.seat c.ask.new.seat invariant.recorded told.seat told.kept in
     HasMet-asked c.args.share.now asks c.loop-query.done (Some c.in-Err.back.cause) _ c.ask.new.seat
-    (subst (λ k. HasRecorded c.args.share.now (asking (take k asks)) c.ask.new.seat) (sym invariant.done) kept) (c.in-Err.ensures.kept.number ∙ invariant.first) refl
-    (omega (arith, invariant.done, c.loop-query-test.true), IsCause-at c.args.share.now.limit c.ask.new.seat.seen c.in-Err.back.cause c.in-Err.ensures.cause c.in-Err.ensures.when)
+    (subst (λ k. HasRecorded c.args.share.now (asking (take k asks)) c.ask.new.seat) (sym invariant.done) kept) (told.kept.number ∙ invariant.first) refl
+    (omega (arith, invariant.done, c.loop-query-test.true), IsCause-at c.args.share.now.limit c.ask.new.seat.seen c.in-Err.back.cause c.in-Err.ensures.cause told.cause)
 
--- the journal has more entries than queries so far, and their number fits
+-- the queries so far stand before this one, whose place is below the limit
 pub overflow_add-done : goal.overflow_add-done
 overflow_add-done g c =
     let invariant = c.loop-query.invariant in
-    let asks = c.args.asks.now in
-    let index = c.loop-query.query-index in
-    let next = HasRecorded-next c.args.share.now (asking (take index asks)) (Ask c.in-Ok.query) c.in_default-ask.field-0 c.loop-query.seat c.ask.new.seat invariant.recorded c.in_default-ask.ensures.seat c.in_default-ask.ensures.told in
-    let kept = HasRecorded-keeps c.args.share.now _ c.ask.new.seat c.front.new.seat next c.front.ensures.seat c.front.ensures.keeps in
-    let more = subst (λ ops. HasRecorded c.args.share.now ops c.front.new.seat) (asking-next asks index c.in-Ok.query c.query-item.result c.loop-query-test.true c.in-Ok.ensures c.query-item.is) kept in
-    omega (arith, invariant.done, asked-le c.args.share.now asks (index + 1) c.front.new.seat more (omega (arith, c.loop-query-test.true)), c.front.ensures.front, c.front.type_inv)
+    let told = c.in_default-ask.ensures.told in
+    omega (
+      arith,
+      invariant.done,
+      asked-le c.args.share.now c.args.asks.now c.loop-query.query-index c.loop-query.seat invariant.recorded (omega (arith, c.loop-query-test.true)),
+      BeginsWith-length told.recorded.earlier c.loop-query.seat.seen told.recorded.begins,
+      told.recorded.place,
+      told.within,
+      c.requires.small,
+    )
 
 -- the query was asked
 pub loop-query-preserved : goal.loop-query-preserved
@@ -49,11 +54,11 @@ loop-query-preserved g c =
     let invariant = c.loop-query.invariant in
     let asks = c.args.asks.now in
     let index = c.loop-query.query-index in
-    let next = HasRecorded-next c.args.share.now (asking (take index asks)) (Ask c.in-Ok.query) c.in_default-ask.field-0 c.loop-query.seat c.ask.new.seat invariant.recorded c.in_default-ask.ensures.seat c.in_default-ask.ensures.told in
-    let kept = HasRecorded-keeps c.args.share.now _ c.ask.new.seat c.front.new.seat next c.front.ensures.seat c.front.ensures.keeps in
+    let told = c.in_default-ask.ensures.told in
+    let next = HasRecorded-next c.args.share.now (asking (take index asks)) (Ask c.in-Ok.query) c.in_default-ask.field-0 c.loop-query.seat c.ask.new.seat invariant.recorded told.seat told.recorded in
     record {
-      recorded = subst (λ ops. HasRecorded c.args.share.now ops c.front.new.seat) (asking-next asks index c.in-Ok.query c.query-item.result c.loop-query-test.true c.in-Ok.ensures c.query-item.is) kept;
-      first = c.front.ensures.keeps.number ∙ c.in_default-ask.ensures.told.number ∙ invariant.first;
+      recorded = subst (λ ops. HasRecorded c.args.share.now ops c.ask.new.seat) (asking-next asks index c.in-Ok.query c.query-item.result c.loop-query-test.true c.in-Ok.ensures c.query-item.is) next;
+      first = told.recorded.number ∙ invariant.first;
       done = ap (λ n. n + 1) invariant.done;
     }
 

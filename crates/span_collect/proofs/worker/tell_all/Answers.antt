@@ -30,9 +30,9 @@ tell-requires-clause-good g c = All-head IsGoodItem c.in-Some.item c.next.new.se
 pub returns-in-Err : goal.returns-in-Err
 returns-in-Err g c =
     let invariant = c.items.invariant in
-    let kept = HasRecorded-keeps c.args.share.now (telling invariant.told) c.items.seat c.tell.new.seat invariant.recorded c.in-Err.ensures.seat c.in-Err.ensures.kept in
-    IsWorked-stopped c.args.share.now c.number-caller.result c.tell.new.seat (invariant.named ∙ sym c.in-Err.ensures.kept.number) c.args.items invariant.told c.next.new.self c.in-Some.item c.items.done c.in-Err.back.cause
-    kept (rw c.in-Some.ensures.first at invariant.all) invariant.done c.in-Err.ensures.cause c.in-Err.ensures.when
+    let kept = HasRecorded-keeps c.args.share.now (telling invariant.told) c.items.seat c.tell.new.seat invariant.recorded c.in-Err.ensures.told.seat c.in-Err.ensures.told.kept in
+    IsWorked-stopped c.args.share.now c.number-caller.result c.tell.new.seat (invariant.named ∙ sym c.in-Err.ensures.told.kept.number) c.args.items invariant.told c.next.new.self c.in-Some.item c.items.done c.in-Err.back.cause
+    kept (rw c.in-Some.ensures.first at invariant.all) invariant.done c.in-Err.ensures.cause c.in-Err.ensures.told.cause
 
 -- a file has few items
 pub overflow_add-done : goal.overflow_add-done
@@ -48,14 +48,14 @@ items-preserved g c =
     let invariant = c.items.invariant in
     let rest = c.next.new.self in
     let first = c.in-Some.ensures.first in
-    let told = c.in_default-tell in
-    let next = HasRecorded-next c.args.share.now (telling invariant.told) (One c.in-Some.item) told.field-0 c.items.seat c.tell.new.seat invariant.recorded told.ensures.seat told.ensures.told in
+    let told = c.in_default-tell.ensures.told in
+    let next = HasRecorded-next c.args.share.now (telling invariant.told) (One c.in-Some.item) c.in_default-tell.field-0 c.items.seat c.tell.new.seat invariant.recorded told.seat told.recorded in
     record {
       told = invariant.told ++ c.in-Some.item ∷ [];
       all = append_assoc invariant.told (c.in-Some.item ∷ []) rest ∙ ap (λ items. invariant.told ++ items) (sym first) ∙ invariant.all;
       done = omega (arith, invariant.done, length-append invariant.told (c.in-Some.item ∷ []));
       recorded = subst (λ ops. HasRecorded c.args.share.now ops c.tell.new.seat) (telling-next invariant.told c.in-Some.item) next;
-      named = invariant.named ∙ sym told.ensures.told.number;
+      named = invariant.named ∙ sym told.recorded.number;
       good = All-tail IsGoodItem c.in-Some.item rest (rw first at invariant.good);
     }
 
