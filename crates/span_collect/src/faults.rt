@@ -44,6 +44,15 @@ fn put_end(alloc: Global, out: &mut String, name: &Text, end: FileEnd) -> Result
     }
 }
 
+/// The line of a file and a fault: the file's name, the number and its word.
+pub fn fault_line_of(alloc: Global, name: &Text, code: u16) -> Result<String, AllocError>
+    ensures { IfOk result (λ line. string_bytes line ≡ fault_line name.now code) }
+{
+    let mut line = String::new(alloc);
+    put_fault(alloc, &mut line, name, code)?;
+    Ok(line)
+}
+
 /// One line for each end other than `Read`, in order.
 pub fn fault_lines(alloc: Global, files: &[Input], ends: &[FileEnd]) -> Result<Vec<u8>, AllocError>
     requires { length files.now ≡ length ends.now }

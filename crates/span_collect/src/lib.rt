@@ -13,11 +13,11 @@ mod worker;
 mod workers;
 
 pub use collection::{CollectError, Outcome, collect};
-pub use faults::fault_lines;
+pub use faults::{fault_line_of, fault_lines};
 pub use files::{FileEnd, Input};
 pub use gate::{FreeGate, Gate};
 pub use queries::Asked;
 pub use runs::{Collected, RunEnd, RunError, run, run_to_ledger};
 pub use span_ledger::{Cause, Ledger, Query, Text};
 pub use span_report::{Sink, SinkFault, Writer};
-pub use words::fault_word;
+pub use words::{fault_word, numbered_text};

@@ -45,7 +45,7 @@ pub fn fault_word(code: u16) -> Option<&'static str>
 
 /// The number, and its word where it has one.
 #[tactic(auto, unfolding(crate::specs::Words::numbered))]
-pub(crate) fn numbered_text(alloc: Global, code: u16) -> Result<String, AllocError>
+pub fn numbered_text(alloc: Global, code: u16) -> Result<String, AllocError>
     ensures { IfOk result (λ s. string_bytes s ≡ numbered code) }
 {
     match fault_word(code) {
