@@ -9,7 +9,7 @@ use Rattle.span_collect.specs.declared.runs.RunError.{RunError}
 use Rattle.span_collect.specs.declared.runs.RunError.TheVariants.{FileCount, Memory, Unaccounted, Output}
 use Rattle.span_collect.specs.Run.{IsRunOf, RunLeaves}
 use Rattle.span_collect.proofs.Statuses.{status_of-lt}
-use Rattle.span_command_line.specs.Order.{LeavesPart}
+use Rattle.span_command_line.specs.Request.{LeavesPart}
 
 -- a run that was refused wrote nothing, or first bytes of its report
 pub LeavesPart-refused : (error : RunError) (inputs : List Input) (limit : ℕ) (old new : SinkState) → RunLeaves error inputs [] limit old new → LeavesPart inputs limit old new

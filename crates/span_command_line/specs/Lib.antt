@@ -1,3 +1,3 @@
 pub mod Source
 pub mod Inputs
-pub mod Order
+pub mod Request

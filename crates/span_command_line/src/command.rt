@@ -25,7 +25,7 @@ shows the names that took the most time of their own.";
 
 /// What a command line asks for.
 #[derive(Debug, Drop)]
-pub enum Order {
+pub enum Request {
     /// Collect these files, or standard input where there are none.
     Collect { limit: u32, files: Vec<Text> },
     /// Print this help, or the version.
@@ -35,20 +35,20 @@ pub enum Order {
 }
 
 /// What the words ask for; they leave out the program's own name.
-pub fn order_of(alloc: Global, words: &[Text]) -> Result<Order, AllocError> {
+pub fn request_of(alloc: Global, words: &[Text]) -> Result<Request, AllocError> {
     let limit_help = format!(in alloc;
         "The most entries of the journal, 1 to 4294967295 [default: {DEFAULT_LIMIT}]"
     )?;
     let command = command_of(alloc, limit_help.as_str())?;
     let all = with_program(alloc, words)?;
     match command.try_get_matches_from(all.as_slice()) {
-        Ok(matches) => collect_order(alloc, &matches),
+        Ok(matches) => collect_request(alloc, &matches),
         Err(error) => match error.kind() {
             ErrorKind::OutOfMemory => Err(AllocError),
             ErrorKind::DisplayHelp | ErrorKind::DisplayVersion => {
-                Ok(Order::Show(format!(in alloc; "{error}")?))
+                Ok(Request::Show(format!(in alloc; "{error}")?))
             }
-            _ => Ok(Order::Refuse(format!(in alloc; "{error}")?)),
+            _ => Ok(Request::Refuse(format!(in alloc; "{error}")?)),
         },
     }
 }
@@ -83,7 +83,7 @@ fn with_program<'a>(alloc: Global, words: &'a [Text]) -> Result<Vec<&'a str>, Al
     Ok(all)
 }
 
-fn collect_order(alloc: Global, matches: &ArgMatches<'_>) -> Result<Order, AllocError> {
+fn collect_request(alloc: Global, matches: &ArgMatches<'_>) -> Result<Request, AllocError> {
     let limit = matches.get_one::<u32>("limit").unwrap_or(DEFAULT_LIMIT);
     let mut files = Vec::new(alloc);
     if let Some(names) = matches.get_strs("files") {
@@ -91,5 +91,5 @@ fn collect_order(alloc: Global, matches: &ArgMatches<'_>) -> Result<Order, Alloc
             files.push(Text::of(alloc, name)?)?;
         }
     }
-    Ok(Order::Collect { limit, files })
+    Ok(Request::Collect { limit, files })
 }

@@ -1,4 +1,4 @@
-//! The files that an order names, as they are read.
+//! The files that a request names, as they are read.
 ghost use Rattle.std.specs.Prelude.{◌≡◌, [], ◌∷◌, ◌++◌, IfOk, OnOk, Ok, codes};
 ghost use Rattle.span_command_line.specs.Source.{AreFirst};
 ghost use Rattle.span_command_line.specs.Inputs.{AreInputs, most_read};
@@ -40,7 +40,9 @@ fn standard_input<S: Source>(alloc: Global, source: &mut S) -> Result<Input, Unr
     ensures name { IfOk result (λ input. input.name ≡ codes "-") }
     ensures bytes { IfOk result (λ input. AreFirst most_read (S.bytes source.old).standard input.bytes.items) }
 {
-    let name = Text::of(alloc, "-").map_err(|_| Unread::Memory)?;
+    let Ok(name) = Text::of(alloc, "-") else {
+        return Err(Unread::Memory);
+    };
     let read = source.standard(MOST_READ);
     input_of(name, read)
 }
@@ -68,5 +70,8 @@ fn input_of(name: Text, read: Result<Vec<u8>, SourceFault>) -> Result<Input, Unr
 fn add_input(inputs: &mut Vec<Input>, input: Input) -> Result<(), Unread>
     ensures { OnOk result (inputs.new.items ≡ inputs.old.items ++ (input ∷ [])) }
 {
-    inputs.push(input).map_err(|_| Unread::Memory)
+    match inputs.push(input) {
+        Ok(()) => Ok(()),
+        Err(_) => Err(Unread::Memory),
+    }
 }

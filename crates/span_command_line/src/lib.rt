@@ -7,7 +7,7 @@ mod program;
 mod reading;
 mod source;
 
-pub use command::{Order, order_of};
+pub use command::{Request, request_of};
 pub use program::perform;
 pub use reading::read_up_to;
 pub use source::{Source, SourceFault};

@@ -1,13 +1,15 @@
 //! The program, over whatever files and outputs it is given.
-ghost use Rattle.std.specs.Prelude.{◌≡◌, ◌-◌, ◌^◌, ◌<◌, ◌≤◌, ◌⊎◌, length};
-ghost use Rattle.span_command_line.specs.Order.{EndsWith, LeavesPart, Collects, CollectsPart, Performs, GivesUp};
+ghost use Rattle.std.specs.Prelude.{◌≡◌, ◌<◌, ◌≤◌, ◌⊎◌, length};
+ghost use Rattle.span_command_line.specs.Request.{EndsWith, LeavesPart, Collects, CollectsPart, Performs, GivesUp};
 
-use crate::command::Order;
+use crate::command::Request;
 use crate::inputs::{Unread, inputs_of};
 use crate::source::Source;
-use span_collect::{Input, RunEnd, Sink, Text, fault_lines, fault_word, run_to_ledger};
-use span_report::{json_text, write_bytes};
-use std::alloc::{AllocError, Global};
+use span_collect::{
+    Input, RunEnd, Sink, Text, fault_line_of, fault_lines, numbered_text, run_to_ledger,
+};
+use span_report::write_bytes;
+use std::alloc::Global;
 use std::io::Write;
 use std::mem::forget;
 use std::sync::Wait;
@@ -19,33 +21,32 @@ const MEMORY: u16 = 31;
 
 const NOT_OPENED: u16 = 52;
 
-/// Does what the order asks for, and gives the exit status: 0 where all files were read, 1 where one was refused, else 2. Files are
+/// Does what is asked for, and gives the exit status: 0 where all files were read, 1 where one was refused, else 2. Files are
 /// read in the order of their names; the first that cannot be read decides. A failed write to `faults` changes nothing. Waits for
 /// the workers, of which each file has one.
 pub fn perform<R: Threads + Wait + Sync, S: Source, O: Sink, F: Write>(
     rt: &R,
     alloc: Global,
-    order: Order,
+    request: Request,
     source: &mut S,
     out: &mut O,
     faults: &mut F,
 ) -> u8
-    requires { (O.state out.old).failures < 2 ^ 64 - 1 }
     ensures status { result ≤ 2 }
     ensures done { result < 2
-        → Performs (S.bytes source.old) order result (O.state out.old) (O.state out.new) }
-    ensures failed { result ≡ 2 → GivesUp (S.bytes source.old) order (O.state out.old) (O.state out.new) }
+        → Performs (S.bytes source.old) request result (O.state out.old) (O.state out.new) }
+    ensures failed { result ≡ 2 → GivesUp (S.bytes source.old) request (O.state out.old) (O.state out.new) }
 {
-    match order {
-        Order::Collect { limit, files } => {
+    match request {
+        Request::Collect { limit, files } => {
             collect_files(rt, alloc, limit, files, source, out, faults)
         }
-        Order::Show(text) => {
+        Request::Show(text) => {
             let shown = write_bytes(text.as_bytes(), out);
             drop(text);
             if shown.is_ok() { 0 } else { FAILED }
         }
-        Order::Refuse(text) => {
+        Request::Refuse(text) => {
             let _ = faults.write_all(text.as_bytes());
             drop(text);
             FAILED
@@ -62,7 +63,6 @@ fn collect_files<R: Threads + Wait + Sync, S: Source, O: Sink, F: Write>(
     out: &mut O,
     faults: &mut F,
 ) -> u8
-    requires { (O.state out.old).failures < 2 ^ 64 - 1 }
     ensures status { result ≤ 2 }
     ensures done { result < 2
         → Collects (S.bytes source.old) names.items limit result (O.state out.old) (O.state out.new) }
@@ -93,7 +93,6 @@ fn collect<R: Threads + Wait + Sync, O: Sink, F: Write>(
     out: &mut O,
     faults: &mut F,
 ) -> u8
-    requires { (O.state out.old).failures < 2 ^ 64 - 1 }
     ensures status { result ≤ 2 }
     ensures done { result < 2 → EndsWith files.now limit result (O.state out.old) (O.state out.new) }
     ensures failed { result ≡ 2 → LeavesPart files.now limit (O.state out.old) (O.state out.new) }
@@ -137,25 +136,11 @@ fn fail<F: Write>(alloc: Global, code: u16, faults: &mut F) -> u8
 fn fail_at<F: Write>(alloc: Global, name: &Text, faults: &mut F) -> u8
     ensures { result ≡ 2 }
 {
-    match fault_line_of(alloc, name) {
+    match fault_line_of(alloc, name, NOT_OPENED) {
         Ok(line) => {
             let _ = faults.write_all(line.as_bytes());
             FAILED
         }
         Err(_) => fail(alloc, MEMORY, faults),
-    }
-}
-
-fn fault_line_of(alloc: Global, name: &Text) -> Result<String, AllocError> {
-    let name = json_text(alloc, name)?;
-    let fault = numbered_text(alloc, NOT_OPENED)?;
-    format!(in alloc; "tracebook: {name}: {fault}\n")
-}
-
-// The number, and its word where it has one.
-fn numbered_text(alloc: Global, code: u16) -> Result<String, AllocError> {
-    match fault_word(code) {
-        Some(word) => format!(in alloc; "{code} {word}"),
-        None => format!(in alloc; "{code}"),
     }
 }

@@ -11,7 +11,10 @@ const CHUNK: usize = 65_536;
 fn chunk_of(alloc: Global, size: usize) -> Result<Vec<u8>, SourceFault>
     ensures { IfOk result (λ chunk. vec_len chunk ≡ size) }
 {
-    vec![in alloc; 0u8; size].map_err(|_| SourceFault::Memory)
+    match vec![in alloc; 0u8; size] {
+        Ok(chunk) => Ok(chunk),
+        Err(_) => Err(SourceFault::Memory),
+    }
 }
 
 fn read_some<R: Read>(

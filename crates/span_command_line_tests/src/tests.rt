@@ -2,7 +2,7 @@
 ghost use Rattle.std.specs.Prelude.{◌≤◌, vec_len, IfOk, None};
 
 use span_collect::{Text, Writer};
-use span_command_line::{Order, Source, SourceFault, order_of, perform};
+use span_command_line::{Request, Source, SourceFault, perform, request_of};
 use std::alloc::{AllocError, Global};
 use std::io;
 use std::io::{ErrorKind, Write};
@@ -78,10 +78,10 @@ fn texts_of(alloc: Global, words: &[&str]) -> Result<Vec<Text>, AllocError> {
     Ok(texts)
 }
 
-// The order ends with this status, this standard output and this standard error.
+// The request ends with this status, this standard output and this standard error.
 fn ends_with(
     rt: &(impl Abort + AllocGlobal + Threads + Wait + Sync),
-    order: Order,
+    request: Request,
     status: u8,
     report: &str,
     lines: &str,
@@ -91,7 +91,7 @@ fn ends_with(
     let mut out = Vec::new(alloc);
     let mut faults = Vec::new(alloc);
     let mut writer = Writer::new(&mut out);
-    let own = perform(rt, alloc, order, &mut source, &mut writer, &mut faults);
+    let own = perform(rt, alloc, request, &mut source, &mut writer, &mut faults);
     assert_eq!(rt; own, status, "{lines}");
     assert!(rt; out.as_slice() == report.as_bytes(), "{lines}");
     assert!(rt; faults.as_slice() == lines.as_bytes(), "{lines}");
@@ -105,8 +105,8 @@ fn performs(
     lines: &str,
 ) -> Result<(), Fail> {
     let texts = texts_of(rt.alloc(), words)?;
-    let order = order_of(rt.alloc(), &texts)?;
-    ends_with(rt, order, status, report, lines);
+    let request = request_of(rt.alloc(), &texts)?;
+    ends_with(rt, request, status, report, lines);
     Ok(())
 }
 
@@ -151,7 +151,7 @@ fn takes_up_to_64_files(rt: HostRuntime) -> Result<(), Fail> {
 
 fn status_of(
     rt: &(impl Abort + AllocGlobal + Threads + Wait + Sync),
-    order: Order,
+    request: Request,
     out: &mut Short,
 ) -> u8 {
     let alloc = rt.alloc();
@@ -160,7 +160,7 @@ fn status_of(
     perform(
         rt,
         alloc,
-        order,
+        request,
         &mut source,
         &mut Writer::new(out),
         &mut faults,
@@ -202,8 +202,8 @@ fn prints_help_and_refuses_wrong_words(rt: HostRuntime) -> Result<(), Fail> {
         ("--limit=4294967296", 100_000, 2, false),
     ] {
         let mut out = Short { room, taken: 0 };
-        let order = order_of(alloc, &texts_of(alloc, &[word])?)?;
-        assert_eq!(rt; status_of(&rt, order, &mut out), status, "{word}");
+        let request = request_of(alloc, &texts_of(alloc, &[word])?)?;
+        assert_eq!(rt; status_of(&rt, request, &mut out), status, "{word}");
         assert_eq!(rt; out.taken > 0, is_printed, "{word}");
     }
     Ok(())
@@ -215,8 +215,8 @@ fn orders(
     limit: u32,
     count: usize,
 ) -> Result<(), Fail> {
-    match order_of(rt.alloc(), words)? {
-        Order::Collect { limit: own, files } => {
+    match request_of(rt.alloc(), words)? {
+        Request::Collect { limit: own, files } => {
             assert_eq!(rt; own, limit);
             assert_eq!(rt; files.len(), count);
             Ok(())

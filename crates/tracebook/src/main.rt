@@ -7,7 +7,7 @@ ghost use Rattle.std.specs.Prelude.{None};
 
 use progress::{Cleared, Progress, Watched};
 use span_collect::{Text, Writer};
-use span_command_line::{Order, Source, SourceFault, order_of, perform, read_up_to};
+use span_command_line::{Request, Source, SourceFault, perform, read_up_to, request_of};
 use std::fs::File;
 use std::io::{ErrorKind, IsTerminal};
 use std::process::ExitCode;
@@ -55,17 +55,17 @@ impl<'a> Source for Host<'a> {
 }
 
 // What the words of the command line behind the program's name ask for. Each of them must be text.
-fn order(rt: &HostRuntime) -> io::Result<Order> {
+fn request(rt: &HostRuntime) -> io::Result<Request> {
     let alloc = rt.alloc();
     let mut words = Vec::new(alloc);
     for word in env::args(rt)?.skip(1) {
         words.push(Text::of(alloc, word.as_str())?)?;
     }
-    Ok(order_of(alloc, &words)?)
+    Ok(request_of(alloc, &words)?)
 }
 
-// Says why there is no order. Nothing can be done where standard error fails.
-fn fail_without_order(rt: &HostRuntime, error: io::Error) -> ExitCode {
+// Says why there is no request. Nothing can be done where standard error fails.
+fn fail_without_request(rt: &HostRuntime, error: io::Error) -> ExitCode {
     let _ = match error.kind() {
         ErrorKind::OutOfMemory => eprintln!(rt; "tracebook: 31 Memory"),
         _ => eprintln!(rt; "tracebook: a word of the command line is not UTF-8 text"),
@@ -74,9 +74,9 @@ fn fail_without_order(rt: &HostRuntime, error: io::Error) -> ExitCode {
 }
 
 fn main(rt: HostRuntime) -> ExitCode {
-    let order = match order(&rt) {
-        Ok(order) => order,
-        Err(error) => return fail_without_order(&rt, error),
+    let request = match request(&rt) {
+        Ok(request) => request,
+        Err(error) => return fail_without_request(&rt, error),
     };
     let is_terminal = rt.stderr().is_terminal();
     let mut source = Host {
@@ -85,6 +85,6 @@ fn main(rt: HostRuntime) -> ExitCode {
     };
     let mut out = Writer::new(Cleared::new(&rt, rt.stdout(), is_terminal));
     let mut faults = Cleared::new(&rt, rt.stderr(), is_terminal);
-    let status = perform(&rt, rt.alloc(), order, &mut source, &mut out, &mut faults);
+    let status = perform(&rt, rt.alloc(), request, &mut source, &mut out, &mut faults);
     ExitCode::from(status)
 }

@@ -1,4 +1,4 @@
--- What an order does.
+-- What a request does.
 use Rattle.std.specs.Prelude.{◌≡◌, ℕ, ◌⊎◌, List, [], take, string_bytes}
 use Rattle.std.specs.Io.KnownBytes.{Appends}
 use Rattle.span_ledger.specs.declared.entry.Entry.{Entry}
@@ -10,8 +10,8 @@ use Rattle.span_collect.specs.declared.queries.Asked.{Asked}
 use Rattle.span_collect.specs.declared.runs.RunEnd.{RunEnd}
 use Rattle.span_collect.specs.Account.{Account}
 use Rattle.span_collect.specs.Run.{IsRunOf}
-use Rattle.span_command_line.specs.declared.command.Order.{Order}
-use Rattle.span_command_line.specs.declared.command.Order.TheVariants.{Collect, Show, Refuse}
+use Rattle.span_command_line.specs.declared.command.Request.{Request}
+use Rattle.span_command_line.specs.declared.command.Request.TheVariants.{Collect, Show, Refuse}
 use Rattle.span_command_line.specs.Source.{SourceBytes}
 use Rattle.span_command_line.specs.Inputs.{AreInputs}
 
@@ -44,14 +44,14 @@ pub record Collects (source : SourceBytes) (names : List (List ℕ)) (limit stat
 abbrev pub CollectsPart : SourceBytes → List (List ℕ) → ℕ → SinkState → SinkState → Type 0
 CollectsPart source names limit old new = (new ≡ old) ⊎ ((inputs : List Input) × AreInputs source names inputs × BeginsReport inputs limit old new)
 
--- what an order did that ended with status 0 or 1: its files were collected, or its text was written
-abbrev pub Performs : SourceBytes → Order → ℕ → SinkState → SinkState → Type 0
+-- what a request did that ended with status 0 or 1: its files were collected, or its text was written
+abbrev pub Performs : SourceBytes → Request → ℕ → SinkState → SinkState → Type 0
 Performs source (Collect limit files) status old new = Collects source files.items limit status old new
 Performs source (Show text) status old new = (status ≡ 0) × TakesBytes old new (string_bytes text)
 Performs source (Refuse text) status old new = ⊥
 
--- what an order did that ended with status 2: it wrote nothing, or first bytes of what it would have written
-abbrev pub GivesUp : SourceBytes → Order → SinkState → SinkState → Type 0
+-- what a request did that ended with status 2: it wrote nothing, or first bytes of what it would have written
+abbrev pub GivesUp : SourceBytes → Request → SinkState → SinkState → Type 0
 GivesUp source (Collect limit files) old new = CollectsPart source files.items limit old new
 GivesUp source (Show text) old new = (written : ℕ) × Fails old new (take written (string_bytes text))
 GivesUp source (Refuse text) old new = new ≡ old
