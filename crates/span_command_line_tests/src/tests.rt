@@ -90,8 +90,14 @@ fn ends_with(
     let mut source = Table { alloc };
     let mut out = Vec::new(alloc);
     let mut faults = Vec::new(alloc);
-    let mut writer = Writer::new(&mut out);
-    let own = perform(rt, alloc, request, &mut source, &mut writer, &mut faults);
+    let own = perform(
+        rt,
+        alloc,
+        request,
+        &mut source,
+        &mut Writer::new(&mut out),
+        &mut faults,
+    );
     assert_eq!(rt; own, status, "{lines}");
     assert!(rt; out.as_slice() == report.as_bytes(), "{lines}");
     assert!(rt; faults.as_slice() == lines.as_bytes(), "{lines}");
