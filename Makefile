@@ -23,6 +23,7 @@ test:
 	rt ci
 	tests/acceptance/run crates/tracebook/out/tracebook
 	tests/documented_words
+	tests/trusted_definitions
 	tests/refused_growths
 	tests/refused_reading
 	tests/refused_runs
