@@ -1,5 +1,7 @@
 -- What a collection gives, and its refusals.
 use Rattle.std.specs.Prelude.{◌≡◌, ◌≢◌, ℕ, ◌+◌, ◌<◌, ◌⊎◌, ⊤, List, length, sum_by}
+use Rattle.span_event.specs.declared.fault.Fault.TheVariants.{FileCount as FileCountFault, Memory as MemoryFault, Unaccounted as UnaccountedFault}
+use Rattle.span_event.specs.Fault.{number_of}
 use Rattle.span_ledger.specs.declared.query.Query.{Query}
 use Rattle.span_ledger.specs.Legal.{Kept}
 use Rattle.span_share.specs.Seats.{ShareId, Seated, Closes}
@@ -11,10 +13,10 @@ use Rattle.span_collect.specs.declared.files.Input.{Input}
 use Rattle.span_collect.specs.declared.queries.Asked.{Asked}
 use Rattle.span_collect.specs.Work.{HasMet}
 
-abbrev pub code_of : CollectError → ℕ
-code_of FileCount = 41
-code_of Memory = 31
-code_of (Unaccounted entries calls) = 43
+abbrev pub collect_code : CollectError → ℕ
+collect_code FileCount = number_of FileCountFault
+collect_code Memory = number_of MemoryFault
+collect_code (Unaccounted entries calls) = number_of UnaccountedFault
 
 -- there are none, or more than 64
 abbrev pub AreNoneOrTooMany : List Input → Type 0

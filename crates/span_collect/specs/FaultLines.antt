@@ -1,5 +1,7 @@
 -- The lines that say how files failed.
 use Rattle.std.specs.Prelude.{ℕ, List, [], ◌∷◌, ◌++◌, codes, decimal}
+use Rattle.span_event.specs.declared.fault.Fault.TheVariants.{NotStarted as NotStartedFault}
+use Rattle.span_event.specs.Fault.{number_of}
 use Rattle.span_ledger.specs.Refusal.{code_of}
 use Rattle.span_collect.specs.declared.files.FileEnd.{FileEnd}
 use Rattle.span_collect.specs.declared.files.FileEnd.TheVariants.{Read, Refused, Stopped, NotStarted}
@@ -24,7 +26,7 @@ abbrev pub end_line : List ℕ → FileEnd → List ℕ
 end_line name (Read caller items) = []
 end_line name (Refused caller code) = fault_line name code
 end_line name (Stopped caller done cause) = stop_line name (code_of cause) done
-end_line name NotStarted = fault_line name 42
+end_line name NotStarted = fault_line name (number_of NotStartedFault)
 
 -- the lines of all files, each with its end
 abbrev pub end_lines : List Input → List FileEnd → List ℕ

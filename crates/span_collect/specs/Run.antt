@@ -2,6 +2,8 @@
 use Rattle.std.specs.Prelude.{◌≡◌, ℕ, ◌<◌, ◌≤◌, Bool, true, false, ◌||◌, if◌then◌else◌, List, [], ◌∷◌, length, map, take, Ok, Err}
 use Rattle.std.specs.List.{list_any}
 use Rattle.std.specs.Option.{is_some}
+use Rattle.span_event.specs.declared.fault.Fault.TheVariants.{FileCount as FileCountFault, Memory as MemoryFault, Unaccounted as UnaccountedFault, Output as OutputFault}
+use Rattle.span_event.specs.Fault.{number_of}
 use Rattle.span_read.specs.Document.{doc}
 use Rattle.span_ledger.specs.declared.entry.Entry.{Entry}
 use Rattle.span_ledger.specs.declared.query.Query.{Query}
@@ -17,11 +19,11 @@ use Rattle.span_collect.specs.declared.runs.RunError.{RunError}
 use Rattle.span_collect.specs.declared.runs.RunError.TheVariants.{FileCount, Memory, Unaccounted, Output}
 use Rattle.span_collect.specs.Account.{Account, Document, telling}
 
-abbrev pub code_of : RunError → ℕ
-code_of FileCount = 41
-code_of Memory = 31
-code_of (Unaccounted entries calls) = 43
-code_of (Output written) = 51
+abbrev pub run_code : RunError → ℕ
+run_code FileCount = number_of FileCountFault
+run_code Memory = number_of MemoryFault
+run_code (Unaccounted entries calls) = number_of UnaccountedFault
+run_code (Output written) = number_of OutputFault
 
 -- the file stopped, or was not started
 abbrev pub is_cut : FileEnd → Bool

@@ -1,12 +1,13 @@
 //! Collects files into one ledger, and accounts for each of them.
 ghost use Rattle.std.specs.Prelude.{◌≡◌, ◌+◌, ◌^◌, ◌<◌, ◌≤◌, ◌↔◌, Err, length, IfOk, IfErr};
 ghost use Rattle.span_collect.specs.Account.{Account};
-ghost use Rattle.span_collect.specs.Collection.{AreNoneOrTooMany, IsClosed, IsDifference, code_of, calls_told, told_by};
+ghost use Rattle.span_collect.specs.Collection.{AreNoneOrTooMany, IsClosed, IsDifference, collect_code, calls_told, told_by};
 
 use crate::files::{FileEnd, Input};
 use crate::gate::Gate;
 use crate::queries::Asked;
 use crate::workers::{enrol_all, run_workers};
+use span_event::Fault;
 use span_ledger::{Ledger, Query};
 use span_share::Share;
 use std::alloc::{AllocError, Global};
@@ -42,12 +43,12 @@ pub enum CollectError {
 impl CollectError {
     /// 31 for want of memory, 41 for the count of files, 43 for a difference.
     pub fn code(&self) -> u16
-        ensures { result ≡ code_of self.now }
+        ensures { result ≡ collect_code self.now }
     {
         match self {
-            CollectError::FileCount => 41,
-            CollectError::Memory => 31,
-            CollectError::Unaccounted { .. } => 43,
+            CollectError::FileCount => Fault::FileCount.code(),
+            CollectError::Memory => Fault::Memory.code(),
+            CollectError::Unaccounted { .. } => Fault::Unaccounted.code(),
         }
     }
 }

@@ -4,7 +4,7 @@ ghost use Rattle.span_collect.specs.FaultLines.{end_line, end_lines, fault_line,
 
 use crate::files::{FileEnd, Input};
 use crate::words::numbered_text;
-use span_ledger::Text;
+use span_event::{Fault, Text};
 use span_report::json_text;
 use std::alloc::{AllocError, Global};
 
@@ -40,7 +40,7 @@ fn put_end(alloc: Global, out: &mut String, name: &Text, end: FileEnd) -> Result
         FileEnd::Read { .. } => Ok(()),
         FileEnd::Refused { code, .. } => put_fault(alloc, out, name, code),
         FileEnd::Stopped { done, cause, .. } => put_stop(alloc, out, name, cause.code(), done),
-        FileEnd::NotStarted => put_fault(alloc, out, name, 42),
+        FileEnd::NotStarted => put_fault(alloc, out, name, Fault::NotStarted.code()),
     }
 }
 

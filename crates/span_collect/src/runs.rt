@@ -5,12 +5,13 @@ ghost use Rattle.span_report.specs.Report.{report_of};
 ghost use Rattle.span_report.specs.Sink.{TakesBytes};
 ghost use Rattle.span_collect.specs.Account.{Account};
 ghost use Rattle.span_collect.specs.Collection.{AreNoneOrTooMany};
-ghost use Rattle.span_collect.specs.Run.{code_of, is_cut, is_refused, status_of, IsRunOf, RunLeaves, ReportsOneFile};
+ghost use Rattle.span_collect.specs.Run.{run_code, is_cut, is_refused, status_of, IsRunOf, RunLeaves, ReportsOneFile};
 
 use crate::collection::{CollectError, collect};
 use crate::files::{FileEnd, Input};
 use crate::gate::FreeGate;
 use crate::queries::Asked;
+use span_event::Fault;
 use span_ledger::{Ledger, Query};
 use span_report::{Sink, WriteFault, write_report};
 use std::alloc::Global;
@@ -49,13 +50,13 @@ pub enum RunError {
 impl RunError {
     /// 31 for want of memory, 41 for the count of files, 43 for a difference, 51 for the output.
     pub fn code(&self) -> u16
-        ensures { result ≡ code_of self.now }
+        ensures { result ≡ run_code self.now }
     {
         match self {
-            RunError::FileCount => 41,
-            RunError::Memory => 31,
-            RunError::Unaccounted { .. } => 43,
-            RunError::Output { .. } => 51,
+            RunError::FileCount => Fault::FileCount.code(),
+            RunError::Memory => Fault::Memory.code(),
+            RunError::Unaccounted { .. } => Fault::Unaccounted.code(),
+            RunError::Output { .. } => Fault::Output.code(),
         }
     }
 }

@@ -8,6 +8,7 @@ use crate::source::Source;
 use span_collect::{
     Input, RunEnd, Sink, Text, fault_line_of, fault_lines, numbered_text, run_to_ledger,
 };
+use span_event::Fault;
 use span_report::write_bytes;
 use std::alloc::Global;
 use std::io::Write;
@@ -16,10 +17,6 @@ use std::sync::Wait;
 use std::thread::Threads;
 
 const FAILED: u8 = 2;
-
-const MEMORY: u16 = 31;
-
-const NOT_OPENED: u16 = 52;
 
 /// Does what is asked for, and gives the exit status: 0 where all files were read, 1 where one was refused, else 2. Files are
 /// read in the order of their names; the first that cannot be read decides. A failed write to `faults` changes nothing. Waits for
@@ -76,7 +73,7 @@ fn collect_files<R: Threads + Wait + Sync, S: Source, O: Sink, F: Write>(
             drop(inputs);
             status
         }
-        Err(Unread::Memory) => fail(alloc, MEMORY, faults),
+        Err(Unread::Memory) => fail(alloc, Fault::Memory.code(), faults),
         Err(Unread::NotOpened(name)) => {
             let status = fail_at(alloc, &name, faults);
             drop(name);
@@ -118,7 +115,7 @@ fn report_faults<F: Write>(alloc: Global, files: &[Input], end: &RunEnd, faults:
             let _ = faults.write_all(&lines);
             end.status
         }
-        Err(_) => fail(alloc, MEMORY, faults),
+        Err(_) => fail(alloc, Fault::Memory.code(), faults),
     }
 }
 
@@ -136,11 +133,11 @@ fn fail<F: Write>(alloc: Global, code: u16, faults: &mut F) -> u8
 fn fail_at<F: Write>(alloc: Global, name: &Text, faults: &mut F) -> u8
     ensures { result ≡ 2 }
 {
-    match fault_line_of(alloc, name, NOT_OPENED) {
+    match fault_line_of(alloc, name, Fault::NotOpened.code()) {
         Ok(line) => {
             let _ = faults.write_all(line.as_bytes());
             FAILED
         }
-        Err(_) => fail(alloc, MEMORY, faults),
+        Err(_) => fail(alloc, Fault::Memory.code(), faults),
     }
 }

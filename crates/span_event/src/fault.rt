@@ -7,7 +7,7 @@ ghost use Rattle.span_event.specs.Fault.{fault_of, number_of, word_of};
 pub enum Fault {
     /// 1: a file is not JSON.
     NotJson = 1,
-    /// 2: a file's document is no trace.
+    /// 2: a file's document is not a trace.
     NotTrace = 2,
     /// 3: a file has too many bytes.
     TooLarge = 3,
@@ -43,33 +43,35 @@ pub enum Fault {
     FlowOpen = 25,
     /// 26: a step or an end of a flow chain, of which none is unclosed (`t`, `f`).
     NoFlow = 26,
-    /// 31: memory is refused.
+    /// 31: memory was refused.
     Memory = 31,
     /// 32: the ledger has as many entries as its limit allows.
     Full = 32,
-    /// 33: another caller has the turn.
+    /// 33: another seat has the turn.
     Busy = 33,
-    /// 34: every caller's place is taken.
+    /// 34: every caller number was given.
     CallersFull = 34,
-    /// 41: a run is given no files or too many.
+    /// 41: there is no file, or there are more than 64.
     FileCount = 41,
-    /// 42: no worker starts that could read the file.
+    /// 42: no seat or no thread was to be had for a file.
     NotStarted = 42,
-    /// 43: what a file's worker did is not known.
+    /// 43: the journal has another number of entries than the callers say that they recorded.
     Unaccounted = 43,
-    /// 51: the output takes no more bytes.
+    /// 51: the output failed.
     Output = 51,
-    /// 52: a file does not open.
+    /// 52: a file could not be opened or read.
     NotOpened = 52,
 }
 
 impl Fault {
+    /// The number of the fault.
     pub const fn code(self) -> u16
         ensures { result ≡ number_of self }
     {
         self as u16
     }
 
+    /// The word that stands beside the number.
     pub fn word(self) -> &'static str
         ensures { result.now ≡ word_of self }
     {

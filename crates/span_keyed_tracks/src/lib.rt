@@ -9,7 +9,6 @@ mod flow_track;
 mod keys;
 mod meta_track;
 mod names;
-pub mod refusal;
 mod texts;
 
 pub use async_track::{AsyncRow, AsyncTotals, AsyncTrack};

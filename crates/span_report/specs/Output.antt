@@ -1,12 +1,14 @@
 -- What a report that could not be written leaves.
 use Rattle.std.specs.Prelude.{◌≡◌, ℕ, ◌≤◌, List, length, take}
+use Rattle.span_event.specs.declared.fault.Fault.TheVariants.{Memory as MemoryFault, Output as OutputFault}
+use Rattle.span_event.specs.Fault.{number_of}
 use Rattle.span_report.specs.declared.output.WriteFault.{WriteFault}
 use Rattle.span_report.specs.declared.output.WriteFault.TheVariants.{Memory, Output}
 use Rattle.span_report.specs.Sink.{SinkState, Fails}
 
 abbrev pub write_code : WriteFault → ℕ
-write_code Memory = 31
-write_code (Output written) = 51
+write_code Memory = number_of MemoryFault
+write_code (Output written) = number_of OutputFault
 
 -- want of memory leaves the output as it was; a failed output took just the first `written` bytes of the text
 abbrev pub WriteLeaves : WriteFault → List ℕ → SinkState → SinkState → Type 0

@@ -6,6 +6,7 @@ ghost use Rattle.span_report.specs.Output.{write_code, WriteLeaves};
 
 use crate::sink::Sink;
 use crate::text::report;
+use span_event::Fault;
 use span_ledger::Ledger;
 use std::alloc::Global;
 
@@ -23,8 +24,8 @@ impl WriteFault {
         ensures { result ≡ write_code self.now }
     {
         match self {
-            WriteFault::Memory => 31,
-            WriteFault::Output { .. } => 51,
+            WriteFault::Memory => Fault::Memory.code(),
+            WriteFault::Output { .. } => Fault::Output.code(),
         }
     }
 }

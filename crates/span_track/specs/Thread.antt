@@ -1,5 +1,7 @@
 -- What the track of a thread keeps, and when it refuses an event.
 use Rattle.std.specs.Prelude.{◌≡◌, ℕ, ◌+◌, ◌<◌, ◌^◌, ◌-◌, Bool, false, if◌then◌else◌, ℤ, int_lt, List, [], ◌∷◌, ◌++◌, length, All, Option, Some, None, ◌==◌}
+use Rattle.span_event.specs.declared.fault.Fault.TheVariants.{NoOpenSpan, TimeGoesBack}
+use Rattle.span_event.specs.Fault.{number_of}
 use Rattle.span_event.specs.Args.{merged}
 use Rattle.span_self_time.specs.Spans.{Arguments, Span}
 use Rattle.span_keyed_tracks.specs.Last.{last_of}
@@ -40,11 +42,11 @@ module _ {N : Type 0} where
 
   -- a begin: 22 where time goes back
   abbrev pub begin_refusal : ThreadSpans N → ℤ → Option ℕ
-  begin_refusal track ts = if goes_back ts track.last then Some 22 else None
+  begin_refusal track ts = if goes_back ts track.last then Some (number_of TimeGoesBack) else None
 
   -- an end: 21 where no span is open, then 22 as for a begin
   abbrev pub end_refusal : ThreadSpans N → ℤ → Option ℕ
-  end_refusal track ts = if length track.opened == 0 then Some 21 else begin_refusal track ts
+  end_refusal track ts = if length track.opened == 0 then Some (number_of NoOpenSpan) else begin_refusal track ts
 
   -- the arguments of a begin, if there is one, with those of an end
   abbrev pub merged_with : Option (Begin N) → Arguments → Arguments

@@ -11,9 +11,8 @@ ghost use Rattle.span_self_time.specs.Spans.{Arguments, names_of, self_of, busy_
 ghost use Rattle.span_track.specs.Thread.{StandsFor, TakesEvent, HasRoom, IsNext, goes_back, begin_refusal, end_refusal, merged_args};
 ghost use Rattle.span_self_time.specs.Closed.{span_of, total_for, AreClosed};
 
-use span_event::{Args, merge_args};
+use span_event::{Args, Fault, merge_args};
 use span_keyed_tracks::TrackFault;
-use span_keyed_tracks::refusal::{NO_OPEN_SPAN, TIME_GOES_BACK};
 use span_self_time::{ClosedSpan, ClosedSpans, NameTotal, Segment};
 use std::alloc::{AllocError, Global};
 use std::marker::Model;
@@ -80,7 +79,7 @@ impl ThreadTrack {
         ensures err { OnErr result (self.new ≡ self.old) }
     {
         if self.goes_back(ts) {
-            return Err(TrackFault::Refused(TIME_GOES_BACK));
+            return Err(TrackFault::Refused(Fault::TimeGoesBack.code()));
         }
         let args = args
             .try_clone(*self.opened.allocator())
@@ -157,7 +156,7 @@ impl ThreadTrack {
         ensures { result ≡ begin_refusal self.now ts }
     {
         if self.goes_back(ts) {
-            Some(TIME_GOES_BACK)
+            Some(Fault::TimeGoesBack.code())
         } else {
             None
         }
@@ -169,7 +168,7 @@ impl ThreadTrack {
         ensures { result ≡ end_refusal self.now ts }
     {
         if self.opened.is_empty() {
-            Some(NO_OPEN_SPAN)
+            Some(Fault::NoOpenSpan.code())
         } else {
             self.begin_refusal(ts)
         }
