@@ -1,15 +1,16 @@
 -- Asynchronous spans: begins, ends and points of a key, which no thread holds together.
-use Rattle.std.specs.Prelude.{◌≡◌, ℕ, ◌+◌, ◌<◌, ◌^◌, ◌-◌, Bool, true, false, if◌then◌else◌, ℤ, int_lt, List, [], ◌∷◌, ◌++◌, length, map, sum, count_by, Option, Some, None}
+use Rattle.std.specs.Prelude.{◌≡◌, ℕ, ◌+◌, ◌<◌, ◌^◌, ◌-◌, Bool, true, false, if◌then◌else◌, ℤ, int_lt, List, [], ◌∷◌, ◌++◌, length, map, sum, count_by, Option, Some, None, Result, Ok, Err}
 use Rattle.std.specs.declared.cmp.Ordering.{Ordering}
 use Rattle.std.specs.Ordering.{ordering_then}
+use Rattle.span_event.specs.declared.fault.Fault.{Fault}
 use Rattle.span_event.specs.declared.fault.Fault.TheVariants.{NoOpenAsync, EndBeforeBegin}
-use Rattle.span_event.specs.Fault.{number_of}
 use Rattle.span_event.specs.Orders.{id_cmp}
 use Rattle.span_event.specs.Text.{text_cmp}
 use Rattle.span_event.specs.Time.{distance}
 use Rattle.span_keyed_tracks.specs.declared.keys.AsyncKey.{AsyncKey}
 use Rattle.span_keyed_tracks.specs.declared.async_track.AsyncRow.{AsyncRow}
 use Rattle.span_keyed_tracks.specs.declared.async_track.AsyncTotals.{AsyncTotals}
+use Rattle.span_keyed_tracks.specs.Fault.{refusal_of}
 use Rattle.span_keyed_tracks.specs.Matching.{Step, opens, closes, other, opener, open_of, closed_by, closed_of}
 use Rattle.span_keyed_tracks.specs.Keyed.{Keyed, entries_in, kept_at}
 
@@ -64,14 +65,14 @@ async_spans steps = record {
   points = count_by is_point steps;
 }
 
--- an end that matches this begin, if there is one, and may not be before it
-abbrev pub refusal_after : Option ℤ → ℤ → Option ℕ
-refusal_after None ts = Some (number_of NoOpenAsync)
-refusal_after (Some begin) ts = if int_lt ts begin then Some (number_of EndBeforeBegin) else None
+-- what an end at this time matches: this begin; `NoOpenAsync` where there is none, `EndBeforeBegin` where its time is below that of the begin
+abbrev pub async_matched : Option ℤ → ℤ → Result ℤ Fault
+async_matched None ts = Err NoOpenAsync
+async_matched (Some begin) ts = if int_lt ts begin then Err EndBeforeBegin else Ok begin
 
--- an end: there is a begin left that it matches, and its time is not below that of this begin
+-- an end of a key that had these steps
 abbrev pub async_end_refusal : List AsyncStep → ℤ → Option ℕ
-async_end_refusal steps ts = refusal_after (opener steps) ts
+async_end_refusal steps ts = refusal_of (async_matched (opener steps) ts)
 
 -- each key that has a step, in ascending order, with what its steps give
 abbrev pub AsyncKept : Type 0

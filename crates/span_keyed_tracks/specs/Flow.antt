@@ -1,10 +1,10 @@
 -- Flow chains: the points of a key, from a start to a finish.
-use Rattle.std.specs.Prelude.{◌≡◌, ℕ, ◌+◌, ◌<◌, ◌^◌, ◌-◌, Bool, true, false, if◌then◌else◌, ℤ, int_lt, List, [], ◌∷◌, ◌++◌, length, map, sum, count_by, Option, Some, None}
+use Rattle.std.specs.Prelude.{◌≡◌, ℕ, ◌+◌, ◌<◌, ◌^◌, ◌-◌, Bool, true, false, if◌then◌else◌, ℤ, int_lt, List, [], ◌∷◌, ◌++◌, length, map, sum, count_by, Option, Some, None, Result, Ok, Err}
 use Rattle.std.specs.List.{list_any}
 use Rattle.std.specs.declared.cmp.Ordering.{Ordering}
 use Rattle.std.specs.Ordering.{ordering_then}
+use Rattle.span_event.specs.declared.fault.Fault.{Fault}
 use Rattle.span_event.specs.declared.fault.Fault.TheVariants.{FlowOpen, NoFlow, TimeGoesBack}
-use Rattle.span_event.specs.Fault.{number_of}
 use Rattle.span_event.specs.Orders.{id_cmp}
 use Rattle.span_event.specs.Text.{text_cmp}
 use Rattle.span_event.specs.Time.{distance}
@@ -12,6 +12,7 @@ use Rattle.span_keyed_tracks.specs.declared.keys.FlowKey.{FlowKey}
 use Rattle.span_keyed_tracks.specs.declared.flow_track.FlowRow.{FlowRow}
 use Rattle.span_keyed_tracks.specs.declared.flow_track.FlowTotals.{FlowTotals}
 use Rattle.span_keyed_tracks.specs.declared.flow_track.FlowClosed.{FlowClosed}
+use Rattle.span_keyed_tracks.specs.Fault.{refusal_of}
 use Rattle.span_keyed_tracks.specs.Keyed.{Keyed, entries_in, kept_at}
 
 -- by category, name and id; texts by their bytes
@@ -112,23 +113,24 @@ pub record FlowChains : Type 0 where
 abbrev pub flow_chains : List FlowPoint → FlowChains
 flow_chains points = record { ended = count_by is_finish points; total = sum (ended_lengths points); unclosed = summary (chain_of points) }
 
--- a start, beside the unclosed chain
-abbrev pub refusal_at_start : Option OpenChain → Option ℕ
-refusal_at_start None = None
-refusal_at_start (Some chain) = Some (number_of FlowOpen)
+-- a start beside this unclosed chain: `FlowOpen` where there is one
+abbrev pub flow_opened : Option OpenChain → Result (Unit {0}) Fault
+flow_opened None = Ok tt
+flow_opened (Some chain) = Err FlowOpen
 
--- a start: no chain may be unclosed
+-- a start of a key of which this is kept
 abbrev pub flow_start_refusal : FlowChains → Option ℕ
-flow_start_refusal chains = refusal_at_start chains.unclosed
+flow_start_refusal chains = refusal_of (flow_opened chains.unclosed)
 
--- a step or a finish of the unclosed chain, if there is one, and may not be before its last point
-abbrev pub refusal_at_point : Option OpenChain → ℤ → Option ℕ
-refusal_at_point None ts = Some (number_of NoFlow)
-refusal_at_point (Some chain) ts = if int_lt ts chain.last then Some (number_of TimeGoesBack) else None
+-- the chain that a step or a finish at this time belongs to: the unclosed one; `NoFlow` where there is none, `TimeGoesBack` where its time is
+-- below that of the chain's last point
+abbrev pub flow_continued : Option OpenChain → ℤ → Result OpenChain Fault
+flow_continued None ts = Err NoFlow
+flow_continued (Some chain) ts = if int_lt ts chain.last then Err TimeGoesBack else Ok chain
 
--- a step or a finish: a chain is unclosed, and the time is not below that of its last point
+-- a step or a finish of a key of which this is kept
 abbrev pub flow_point_refusal : FlowChains → ℤ → Option ℕ
-flow_point_refusal chains ts = refusal_at_point chains.unclosed ts
+flow_point_refusal chains ts = refusal_of (flow_continued chains.unclosed ts)
 
 -- the chain with a finish at this time
 abbrev pub closed_at : Option OpenChain → ℤ → Option FlowClosed

@@ -1,9 +1,9 @@
 //! The asynchronous spans of one key.
 ghost use Rattle.std.specs.Prelude.{◌≡◌, ◌+◌, ◌<◌, ◌^◌, ◌-◌, [], None, length, IfOk, OnOk, OnErr};
 ghost use Rattle.span_event.specs.Event.{IsTime};
-ghost use Rattle.span_keyed_tracks.specs.Fault.{Answers};
+ghost use Rattle.span_keyed_tracks.specs.Fault.{Answers, refusal_of};
 ghost use Rattle.span_keyed_tracks.specs.Last.{last_of};
-ghost use Rattle.span_keyed_tracks.specs.Async.{async_spans, async_totals, refusal_after};
+ghost use Rattle.span_keyed_tracks.specs.Async.{async_matched, async_spans, async_totals};
 ghost use Rattle.span_keyed_tracks.specs.AsyncKept.{EndsLast, with_begin, with_point};
 
 use super::AsyncTotals;
@@ -58,7 +58,7 @@ impl KeySpans {
 
     pub(crate) fn end(&mut self, ts: i64) -> Result<u64, TrackFault>
         requires in_time { IsTime ts }
-        ensures refusal { Answers result (refusal_after (last_of self.old.opened) ts) }
+        ensures refusal { Answers result (refusal_of (async_matched (last_of self.old.opened) ts)) }
         ensures ends { IfOk result (λ length. EndsLast self.old ts length self.new) }
         ensures err { OnErr result (self.new ≡ self.old) }
     {

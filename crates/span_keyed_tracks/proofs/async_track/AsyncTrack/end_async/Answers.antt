@@ -2,11 +2,11 @@ use Rattle.std.proofs.Common.{◌≡◌, ℤ, Option, [], ◌∷◌, refl, sym, 
 use Rattle.std.specs.Prelude.{IfOk}
 use Rattle.std.specs.Map.{lookup}
 use Rattle.std.specs.BTreeMap.{is_at}
-use Rattle.span_keyed_tracks.specs.Fault.{Answers}
+use Rattle.span_keyed_tracks.specs.Fault.{Answers, refusal_of}
 use Rattle.span_keyed_tracks.specs.Last.{last_of}
 use Rattle.span_keyed_tracks.specs.Matching.{closes, opener}
 use Rattle.span_keyed_tracks.specs.Keyed.{steps_at}
-use Rattle.span_keyed_tracks.specs.Async.{AsyncSpans, async_cmp, async_spans, refusal_after}
+use Rattle.span_keyed_tracks.specs.Async.{AsyncSpans, async_cmp, async_matched, async_spans}
 use Rattle.span_keyed_tracks.specs.AsyncKept.{EndsLast, with_end}
 use Rattle.span_keyed_tracks.proofs.Async.{async_spans-closes, length_closed_by-closes}
 use Rattle.span_keyed_tracks.proofs.Keyed.{set_value-stays, lookup-entries_in, steps_at-absent, entries_in-after}
@@ -26,9 +26,9 @@ returns-clause-refusal c = λ es stands.
     let was = lookup-entries_in async_cmp-total async_cmp-same async_spans es c.args.key.now c.in-Some.spans.now
     (ap (lookup (is_at (async_cmp c.args.key.now))) (sym (c.self.view_is ∙ stands)) ∙ sym c.in-Some.ensures.value) in
     let last : last_of c.in-Some.spans.now.opened ≡ opener (steps_at async_cmp c.args.key.now es) = ap (λ (s : AsyncSpans). last_of s.opened) was ∙ sym (opener-open_of (steps_at async_cmp c.args.key.now es)) in
-    let refusal : Answers c.end.result (refusal_after (last_of c.in-Some.spans.now.opened) c.args.ts) =
-    subst (λ t. Answers c.end.result (refusal_after (last_of c.in-Some.spans.now.opened) t)) (to_z-of_z c.ranges.ts) c.end.ensures.refusal in
-    subst (λ (o : Option ℤ). Answers c.end.result (refusal_after o c.args.ts)) last refusal
+    let refusal : Answers c.end.result (refusal_of (async_matched (last_of c.in-Some.spans.now.opened) c.args.ts)) =
+    subst (λ t. Answers c.end.result (refusal_of (async_matched (last_of c.in-Some.spans.now.opened) t))) (to_z-of_z c.ranges.ts) c.end.ensures.refusal in
+    subst (λ (o : Option ℤ). Answers c.end.result (refusal_of (async_matched o c.args.ts))) last refusal
 
 pub returns-clause-length : goal.returns-clause-length
 returns-clause-length c =
