@@ -1,9 +1,10 @@
 -- What the track of a thread keeps, and when it refuses an event.
-use Rattle.std.specs.Prelude.{◌≡◌, ℕ, ◌+◌, ◌<◌, ◌^◌, ◌-◌, Bool, false, if◌then◌else◌, ℤ, int_lt, List, [], ◌∷◌, ◌++◌, length, All, Option, Some, None, ◌==◌}
+use Rattle.std.specs.Prelude.{◌≡◌, ℕ, ◌+◌, ◌<◌, ◌^◌, ◌-◌, Bool, false, if◌then◌else◌, ℤ, int_lt, List, [], ◌∷◌, ◌++◌, length, All, Option, Some, None, Result, Ok, Err}
 use Rattle.span_event.specs.declared.fault.Fault.TheVariants.{NoOpenSpan, TimeGoesBack}
-use Rattle.span_event.specs.Fault.{number_of}
+use Rattle.span_event.specs.declared.fault.Fault.{Fault}
 use Rattle.span_event.specs.Args.{merged}
 use Rattle.span_self_time.specs.Spans.{Arguments, Span}
+use Rattle.span_keyed_tracks.specs.Fault.{refusal_of}
 use Rattle.span_keyed_tracks.specs.Last.{last_of}
 use Rattle.span_keyed_tracks.specs.Matching.{opens, closes, other}
 use Rattle.span_track.specs.Nesting.{Begin, ThreadEvent, open_spans, closed_spans, last_time}
@@ -18,6 +19,15 @@ pub record ThreadSpans (N : Type 0) : Type 0 where
 abbrev pub goes_back : ℤ → Option ℤ → Bool
 goes_back ts None = false
 goes_back ts (Some last) = int_lt ts last
+
+-- a begin at this time, after a last begin or end: `TimeGoesBack` where it is below the time of that
+abbrev pub opening : Option ℤ → ℤ → Result (Unit {0}) Fault
+opening last ts = if goes_back ts last then Err TimeGoesBack else Ok tt
+
+-- the begin that an end at this time closes, if one is open: `NoOpenSpan` where none is, then `TimeGoesBack` as for a begin
+abbrev pub closing : {N : Type 0} → Option (Begin N) → Option ℤ → ℤ → Result (Begin N) Fault
+closing None last ts = Err NoOpenSpan
+closing (Some begin) last ts = if goes_back ts last then Err TimeGoesBack else Ok begin
 
 module _ {N : Type 0} where
   -- what the events of a thread give
@@ -40,13 +50,13 @@ module _ {N : Type 0} where
   abbrev pub IsNext : ℕ → ThreadSpans N → Type 0
   IsNext at track = All (λ b. b.at < at) track.opened × All (λ s. s.at < at) track.closed
 
-  -- a begin: 22 where time goes back
+  -- the number with which a begin at this time is refused, if it is
   abbrev pub begin_refusal : ThreadSpans N → ℤ → Option ℕ
-  begin_refusal track ts = if goes_back ts track.last then Some (number_of TimeGoesBack) else None
+  begin_refusal track ts = refusal_of (opening track.last ts)
 
-  -- an end: 21 where no span is open, then 22 as for a begin
+  -- the number with which an end at this time is refused, if it is
   abbrev pub end_refusal : ThreadSpans N → ℤ → Option ℕ
-  end_refusal track ts = if length track.opened == 0 then Some (number_of NoOpenSpan) else begin_refusal track ts
+  end_refusal track ts = refusal_of (closing (last_of track.opened) track.last ts)
 
   -- the arguments of a begin, if there is one, with those of an end
   abbrev pub merged_with : Option (Begin N) → Arguments → Arguments

@@ -1,13 +1,17 @@
 -- The end of the last open span.
-use Rattle.std.proofs.Common.{◌≡◌, ℕ, ◌==◌, Bool, true, false, cond, ℤ, List, [], ◌∷◌, ◌++◌, length, Option, Some, None, map, refl, ap, ◌∙◌, subst, arith, ne_eqb}
-use Rattle.std.proofs.lemmas.List.{map_push, length_push}
+use Rattle.std.proofs.Common.{◌≡◌, ℕ, ◌==◌, Bool, true, false, cond, ℤ, List, [], ◌∷◌, ◌++◌, length, Option, Some, None, map, refl, sym, ap, ◌∙◌, subst, arith, ne_eqb}
+use Rattle.std.specs.Prelude.{Err, Ok}
+use Rattle.std.specs.Option.{option_or}
+use Rattle.std.proofs.lemmas.List.{map_push}
+use Rattle.span_event.specs.declared.fault.Fault.TheVariants.{TimeGoesBack}
+use Rattle.span_keyed_tracks.specs.Fault.{refusal_of}
 use Rattle.span_event.specs.Args.{merged}
 use Rattle.span_self_time.specs.Spans.{Arguments, Span}
 use Rattle.span_track.specs.declared.thread.OpenSpan.{OpenSpan}
 use Rattle.span_track.specs.Kept.{begin_of, IsSound}
 use Rattle.span_keyed_tracks.specs.Last.{last_of}
 use Rattle.span_track.specs.Nesting.{Begin, ThreadEvent, opener, open_spans}
-use Rattle.span_track.specs.Thread.{ThreadSpans, goes_back, end_refusal, merged_args, merged_with}
+use Rattle.span_track.specs.Thread.{ThreadSpans, goes_back, opening, closing, end_refusal, merged_args, merged_with}
 use Rattle.span_keyed_tracks.proofs.Lists.Last.{last_of-append}
 use Rattle.span_keyed_tracks.proofs.Matching.Open.{opener-open_of}
 
@@ -17,11 +21,20 @@ sound_with_last opened rest o closed last taken sound =
     let split : map begin_of opened ≡ map begin_of rest ++ begin_of o ∷ [] = ap (map begin_of) taken ∙ map_push begin_of rest o in
     subst (λ (l : List (Begin ℕ)). IsSound (record { opened = l; closed = closed; last = last })) split sound
 
--- an end that is not too early, with a span open, is not refused
-pub end_refusal_of_open : (t : ThreadSpans ℕ) (opened : List (Begin ℕ)) (b : Begin ℕ) (ts : ℤ) → t.opened ≡ opened ++ b ∷ [] → goes_back ts t.last ≡ false → end_refusal t ts ≡ None
-end_refusal_of_open t opened b ts is_open later =
-    let some : (length t.opened == 0) ≡ false = ne_eqb _ _ (λ none. omega (arith, ap length is_open, length_push opened b)) in
-    rw (some, later)
+-- an end is refused where no span is open, and then as a begin is
+pub end_refusal-is : {N : Type 0} (opened : List (Begin N)) (last : Option ℤ) (ts : ℤ) →
+    refusal_of (closing (last_of opened) last ts) ≡ cond (length opened == 0) (Some 21) (refusal_of (opening last ts))
+end_refusal-is [] last ts = refl
+end_refusal-is {N = N} (b ∷ opened) last ts =
+    let some : (length (b ∷ opened) == 0) ≡ false = ne_eqb (length (b ∷ opened)) 0 (λ (z : length (b ∷ opened) ≡ 0). omega (arith, z)) in
+    (by (last_of opened)) ∙ sym (ap (λ t. cond {A = Option ℕ} t (Some 21) (refusal_of (opening last ts))) some)
+  where
+    in_time : (x : Begin N) → refusal_of (closing (Some x) last ts) ≡ refusal_of (opening last ts)
+    in_time x = elim (goes_back ts last) as (λ back. refusal_of {A = Begin N} (cond back (Err TimeGoesBack) (Ok x)) ≡ refusal_of {A = Unit {0}} (cond back (Err TimeGoesBack) (Ok tt))) [ true ↦ refl | false ↦ refl ]
+
+    by : (o : Option (Begin N)) → refusal_of (closing (option_or o (Some b)) last ts) ≡ refusal_of (opening last ts)
+    by None = in_time b
+    by (Some x) = in_time x
 
 -- an end matches the last open span
 pub opener_of_last : (es : List (ThreadEvent ℕ)) (opened : List (Begin ℕ)) (b : Begin ℕ) → open_spans es ≡ opened ++ b ∷ [] → opener es ≡ Some b
@@ -29,9 +42,9 @@ opener_of_last es opened b is_open = opener-open_of es ∙ ap last_of is_open �
 
 -- an end that is not refused is not too early
 pub goes_back-taken : (t : ThreadSpans ℕ) (ts : ℤ) → end_refusal t ts ≡ None → goes_back ts t.last ≡ false
-goes_back-taken t ts taken = by (length t.opened == 0) (goes_back ts t.last) taken
+goes_back-taken t ts taken = by (length t.opened == 0) (goes_back ts t.last) (sym (end_refusal-is t.opened t.last ts) ∙ taken)
   where
-    by : (none back : Bool) → cond {A = Option ℕ} none (Some 21) (cond back (Some 22) None) ≡ None → back ≡ false
+    by : (none back : Bool) → cond {A = Option ℕ} none (Some 21) (refusal_of {A = Unit {0}} (cond back (Err TimeGoesBack) (Ok tt))) ≡ None → back ≡ false
     by true back taken = cc
     by false true taken = cc
     by false false taken = refl
