@@ -1,9 +1,10 @@
-pub mod Answering
+pub mod Answered
 pub mod Ascending
 pub mod Counting
 pub mod FlowAnswers
 pub mod Following
 pub mod Grouping
+pub mod KeyTelling
 pub mod KeyedEvents
 pub mod Later
 pub mod LegalJournals
@@ -14,8 +15,9 @@ pub mod Selected
 pub mod SeriesParts
 pub mod Sorted
 pub mod Taking
+pub mod ThreadAnswers
+pub mod ThreadTelling
 pub mod Threads
 pub mod Totals
 pub mod TrackReplies
 pub mod TrackRows
-pub mod TrackMaps

@@ -1,19 +1,19 @@
 -- The parts that are made of what is grouped are those of the journal.
 use Rattle.span_event.specs.Orders.{thread_cmp}
-use Rattle.std.proofs.Common.{◌≡◌, ℤ, List, Bool, refl, sym, ap, ap₂, ◌∙◌, map}
-use Rattle.std.specs.Prelude.{filter, filter_map}
+use Rattle.std.proofs.Common.{◌≡◌, ℤ, List, Bool, ap, ap₂, ◌∙◌, map}
+use Rattle.std.specs.Prelude.{filter_map}
 use Rattle.std.specs.declared.cmp.Ordering.TheVariants.{Equal}
 use Rattle.std.specs.Ordering.{int_eq}
 use Rattle.span_keyed_tracks.specs.declared.counter_track.SeriesRow.{SeriesRow}
 use Rattle.span_keyed_tracks.specs.Counters.{series_rows, series_rows_of}
-use Rattle.span_keyed_tracks.specs.Keyed.{ascending, entry_of}
+use Rattle.span_keyed_tracks.specs.Keyed.{entry_of}
 use Rattle.span_ledger.specs.declared.entry.Entry.{Entry}
 use Rattle.span_event.specs.declared.thread.Thread.{Thread}
 use Rattle.span_ledger.specs.Grouped.{Grouped, group_of, grouped_part, groups_of}
 use Rattle.span_ledger.specs.Journal.{accepted}
 use Rattle.span_ledger.specs.Parts.{process_part, process_parts, threads_in}
 use Rattle.span_ledger.specs.Rows.{process_keys, thread_keys}
-use Rattle.span_ledger.specs.Told.{counter_events, listed_by, told}
+use Rattle.span_ledger.specs.Told.{counter_events, listed_by}
 use Rattle.span_ledger.proofs.Selected.{filter-ascending}
 use Rattle.span_ledger.proofs.SeriesParts.{filter-series_rows}
 use Rattle.span_ledger.proofs.Sorted.{map-map}
@@ -26,7 +26,7 @@ module _ (journal : List Entry) where
   group_of-is pid =
       let in_process : Thread → Bool = λ thread. int_eq thread.pid pid in
       ap₂ (λ (ts : List Thread) (rs : List SeriesRow). let group : Grouped = record { threads = ts; series = rs } in group)
-      (filter-ascending thread_cmp-total in_process (λ (a b : Thread) (e : thread_cmp a b ≡ Equal). ap in_process (thread_cmp-same a b e)) (filter_map (λ a. listed_by (told a)) (accepted journal)))
+      (filter-ascending thread_cmp-total in_process (λ (a b : Thread) (e : thread_cmp a b ≡ Equal). ap in_process (thread_cmp-same a b e)) (filter_map (λ a. listed_by a.event) (accepted journal)))
       (filter-series_rows pid (counter_events (accepted journal)))
 
   -- the parts of the groups are those of the journal

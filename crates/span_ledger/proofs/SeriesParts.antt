@@ -12,7 +12,7 @@ use Rattle.span_event.specs.declared.event.Event.{Event}
 use Rattle.span_event.specs.Args.{value_of}
 use Rattle.span_keyed_tracks.specs.declared.counter_track.SeriesRow.{SeriesRow}
 use Rattle.span_keyed_tracks.specs.declared.keys.SeriesKey.{SeriesKey}
-use Rattle.span_keyed_tracks.specs.Counters.{Sample, Series, as_sample, sample_of, samples_of, series_cmp, series_from, series_key, series_keys, series_of, series_row, series_rows, series_rows_of}
+use Rattle.span_keyed_tracks.specs.Counters.{Series, as_sample, sample_of, samples_of, series_cmp, series_from, series_key, series_keys, series_of, series_row, series_rows, series_rows_of}
 use Rattle.span_keyed_tracks.specs.Keyed.{ascending, entry_of}
 use Rattle.span_keyed_tracks.proofs.Keyed.{same_from_is_eq}
 use Rattle.span_keyed_tracks.proofs.Orders.{series_cmp-same, series_cmp-total}

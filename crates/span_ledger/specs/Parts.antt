@@ -14,7 +14,7 @@ use Rattle.span_ledger.specs.declared.rows.ThreadRow.{ThreadRow}
 use Rattle.span_event.specs.declared.thread.Thread.{Thread}
 use Rattle.span_ledger.specs.Journal.{Accepted, accepted}
 use Rattle.span_ledger.specs.Rows.{process_keys, process_row, thread_row, thread_span_rows}
-use Rattle.span_ledger.specs.Told.{told, listed_by, counter_events, meta_events}
+use Rattle.span_ledger.specs.Told.{listed_by, counter_events, meta_events}
 
 -- the rows of a thread: its own, one for each name of its closed spans, and one for each name and reach of its instants
 pub record ThreadRows : Type 0 where
@@ -28,9 +28,9 @@ pub record ProcessRows : Type 0 where
   pub threads : List ThreadRows
   pub series : List SeriesRow
 
--- the threads of a process that are listed for what accepted events tell, in ascending order
+-- the threads of a process that are listed for accepted events, in ascending order
 abbrev pub threads_in : ℤ → List Accepted → List Thread
-threads_in pid events = ascending thread_cmp (filter (λ thread. int_eq thread.pid pid) (filter_map (λ a. listed_by (told a)) events))
+threads_in pid events = ascending thread_cmp (filter (λ thread. int_eq thread.pid pid) (filter_map (λ a. listed_by a.event) events))
 
 abbrev pub thread_part : List Entry → Thread → ThreadRows
 thread_part journal thread = record {

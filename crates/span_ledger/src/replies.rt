@@ -12,6 +12,7 @@ use crate::keyed_tracks::KeyedTracks;
 use crate::query::Query;
 use crate::reply::{Reply, copy_of};
 use crate::rows::CountRow;
+use crate::thread_tracks::ThreadTracks;
 use crate::tracks::Tracks;
 use span_event::{Text, Thread};
 use std::alloc::{AllocError, Global};
@@ -30,14 +31,14 @@ pub(crate) fn reply_to(
 {
     match query {
         Query::Thread { pid, tid } => Ok(thread_reply(
-            tracks,
+            tracks.keyed.spans(),
             &Thread {
                 pid: *pid,
                 tid: *tid,
             },
         )),
         Query::Name { pid, tid, name } => Ok(name_reply(
-            tracks,
+            tracks.keyed.spans(),
             &Thread {
                 pid: *pid,
                 tid: *tid,
@@ -56,10 +57,10 @@ pub(crate) fn reply_to(
     }
 }
 
-fn thread_reply(tracks: &Tracks, thread: &Thread) -> Reply
-    ensures { result ≡ track_reply (track_at tracks.now.threads thread.now) }
+fn thread_reply(spans: &ThreadTracks, thread: &Thread) -> Reply
+    ensures { result ≡ track_reply (track_at spans.now.threads thread.now) }
 {
-    let (unclosed, busy, last) = match tracks.threads.get(thread) {
+    let (unclosed, busy, last) = match spans.threads.get(thread) {
         Some(track) => (track.depth(), track.busy(), track.last_time()),
         None => (0, 0, None),
     };
@@ -71,17 +72,17 @@ fn thread_reply(tracks: &Tracks, thread: &Thread) -> Reply
 }
 
 // A name without a number is that of no span.
-fn name_reply(tracks: &Tracks, thread: &Thread, name: &Text) -> Reply
-    ensures { result ≡ number_reply (track_at tracks.now.threads thread.now) (number_in tracks.now.names name.now) }
+fn name_reply(spans: &ThreadTracks, thread: &Thread, name: &Text) -> Reply
+    ensures { result ≡ number_reply (track_at spans.now.threads thread.now) (number_in spans.now.names name.now) }
 {
-    let Some(number) = tracks.names.find(name) else {
+    let Some(number) = spans.names.find(name) else {
         return Reply::Name {
             count: 0,
             total: 0,
             self_time: 0,
         };
     };
-    let (count, total, self_time) = match tracks.threads.get(thread) {
+    let (count, total, self_time) = match spans.threads.get(thread) {
         Some(track) => {
             let totals = track.total_of(number);
             (totals.count, totals.total, track.self_of(number))

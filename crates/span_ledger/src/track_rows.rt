@@ -10,11 +10,13 @@ ghost use Rattle.span_ledger.specs.Tracked.{FollowsJournal, track_row, track_spa
 use crate::entry::Entry;
 use crate::reply::copy_of;
 use crate::rows::{ProcessRow, SpanRow, ThreadRow};
+use crate::thread_tracks::ThreadTracks;
 use crate::tracks::Tracks;
 use span_event::{Text, Thread};
-use span_track::{Names, ThreadTrack};
+use span_keyed_tracks::Names;
+use span_track::ThreadTrack;
 use std::alloc::{AllocError, Global};
-use std::collections::{BTreeMap, BTreeSet};
+use std::collections::BTreeSet;
 
 // The rows of the processes of a journal, which is what the tracks follow.
 pub(crate) fn process_rows(
@@ -72,21 +74,22 @@ pub(crate) fn thread_row(
 {
     let names = tracks.keyed.thread_names(thread.pid, thread.tid);
     let name = copy_of(alloc, names.name)?;
-    Ok(named_row(&tracks.threads, thread, name))
+    Ok(named_row(tracks.keyed.spans(), thread, name))
 }
 
 // The row of a thread that has this name.
-fn named_row(
-    tracks: &BTreeMap<Thread, ThreadTrack>,
-    thread: &Thread,
-    name: Option<Text>,
-) -> ThreadRow
-    ensures { result ≡ track_row tracks.now.entries thread.now name }
+fn named_row(spans: &ThreadTracks, thread: &Thread, name: Option<Text>) -> ThreadRow
+    ensures { result ≡ track_row spans.now.threads thread.now name }
 {
-    let (unclosed, busy) = match tracks.get(thread) {
-        Some(track) => (track.depth(), track.busy()),
-        None => (0, 0),
-    };
+    match spans.threads.get(thread) {
+        Some(track) => row_of(thread, name, track.depth(), track.busy()),
+        None => row_of(thread, name, 0, 0),
+    }
+}
+
+fn row_of(thread: &Thread, name: Option<Text>, unclosed: u32, busy: u64) -> ThreadRow
+    ensures { result ≡ record { pid = thread.now.pid; tid = thread.now.tid; name = name; unclosed = unclosed; busy = busy } }
+{
     ThreadRow {
         pid: thread.pid,
         tid: thread.tid,
@@ -98,11 +101,11 @@ fn named_row(
 
 pub(crate) fn span_rows(alloc: Global, tracks: &Tracks) -> Result<Vec<SpanRow>, AllocError>
     ensures { IfOk result (λ rows. rows.items
-        ≡ flat_map (track_span_rows tracks.now.names tracks.now.threads) tracks.now.listed) }
+        ≡ flat_map (track_span_rows tracks.now.keyed.spans) tracks.now.listed) }
 {
     let mut rows = Vec::new(alloc);
     for thread in &tracks.listed.ordered_threads(alloc)? {
-        add_span_rows(alloc, tracks, thread, &mut rows)?;
+        add_span_rows(alloc, tracks.keyed.spans(), thread, &mut rows)?;
     }
     Ok(rows)
 }
@@ -118,22 +121,21 @@ pub(crate) fn thread_span_rows(
     ensures { IfOk result (λ rows. rows.items ≡ thread_span_rows journal.now thread.now) }
 {
     let mut rows = Vec::new(alloc);
-    add_span_rows(alloc, tracks, thread, &mut rows)?;
+    add_span_rows(alloc, tracks.keyed.spans(), thread, &mut rows)?;
     Ok(rows)
 }
 
 // Adds the rows of the names of one thread, if it has a track.
 fn add_span_rows(
     alloc: Global,
-    tracks: &Tracks,
+    spans: &ThreadTracks,
     thread: &Thread,
     rows: &mut Vec<SpanRow>,
 ) -> Result<(), AllocError>
-    ensures { OnOk result (rows.new.items
-        ≡ rows.old.items ++ track_span_rows tracks.now.names tracks.now.threads thread.now) }
+    ensures { OnOk result (rows.new.items ≡ rows.old.items ++ track_span_rows spans.now thread.now) }
 {
-    match tracks.threads.get(thread) {
-        Some(track) => add_rows_of_track(alloc, &tracks.names, thread, track, rows),
+    match spans.threads.get(thread) {
+        Some(track) => add_rows_of_track(alloc, &spans.names, thread, track, rows),
         None => Ok(()),
     }
 }

@@ -1,4 +1,3 @@
-use Rattle.span_event.specs.Orders.{thread_cmp}
 use Rattle.std.proofs.Common.{ap, ap₂, ◌∙◌}
 use Rattle.std.specs.Ordering.{int_cmp}
 use Rattle.std.specs.Cmp.{int_cmp_total}

@@ -1,5 +1,5 @@
 use Rattle.span_event.specs.Text.{text_cmp}
-use Rattle.std.proofs.Common.{◌≡◌, ℕ, suc, ◌+◌, ◌<◌, List, [], length, get_or, drop, drop-cons, Option, Some, None, refl, sym, ap, ◌∙◌, arith}
+use Rattle.std.proofs.Common.{◌≡◌, ℕ, suc, ◌+◌, ◌<◌, List, length, get_or, drop, drop-cons, Option, Some, None, refl, sym, ap, ◌∙◌, arith}
 use Rattle.std.specs.Prelude.{fold, filter_map, nat_eq, slice_get, option_and_then}
 use Rattle.std.specs.List.{cons_option}
 use Rattle.std.specs.BTreeSet.{insert_key, keys}

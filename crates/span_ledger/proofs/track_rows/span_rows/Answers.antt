@@ -3,7 +3,7 @@ use Rattle.std.proofs.lemmas.List.{map_push}
 use Rattle.std.specs.Prelude.{flat_map}
 use Rattle.span_event.specs.declared.thread.Thread.{Thread}
 use Rattle.span_ledger.specs.declared.rows.SpanRow.{SpanRow}
-use Rattle.span_ledger.specs.Tracked.{track_span_rows}
+use Rattle.span_ledger.specs.Tracked.{TracksKept, track_span_rows}
 use Rattle.span_ledger.proofs.track_rows.span_rows.Goals as goal
 
 flat_map-push : {A B : Type 0} (f : A → List B) (xs : List A) (x : A) → flat_map f (xs ++ x ∷ []) ≡ flat_map f xs ++ f x
@@ -16,5 +16,7 @@ flat_map-passed f passed thread = ap (flat_map f) (map_push (λ x. x.now) passed
 
 pub loop-thread-preserved : goal.loop-thread-preserved
 loop-thread-preserved c =
-    let rows = track_span_rows c.args.tracks.now.names c.args.tracks.now.threads in
-    c.in_ok-add_span_rows.ensures ∙ ap (λ xs. xs ++ rows c.in-Some.thread.now) c.loop-thread.invariant ∙ sym (flat_map-passed rows c.loop-thread.yielded c.in-Some.thread)
+    let kept = c.args.tracks.now.keyed.spans in
+    let rows = track_span_rows kept in
+    let same : c.spans.result.now ≡ kept = c.spans.ensures ∙ ap (λ (t : TracksKept). t.keyed.spans) c.tracks.view_is in
+    c.in_ok-add_span_rows.ensures ∙ ap₂ (λ xs k. xs ++ track_span_rows k c.in-Some.thread.now) c.loop-thread.invariant same ∙ sym (flat_map-passed rows c.loop-thread.yielded c.in-Some.thread)

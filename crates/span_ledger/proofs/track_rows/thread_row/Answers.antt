@@ -1,8 +1,9 @@
-use Rattle.std.proofs.Common.{◌≡◌, rules, sym, ap, subst, ◌∙◌, length, Some, to_z, of_z, w64}
+use Rattle.std.proofs.Common.{◌≡◌, rules, sym, ap, subst, ◌∙◌, Some, to_z, of_z, w64}
 use Rattle.span_ledger.specs.Journal.{accepted}
 use Rattle.span_ledger.specs.Rows.{names_of}
 use Rattle.span_ledger.specs.Told.{meta_events}
-use Rattle.span_ledger.specs.Tracked.{FollowsJournal, track_row}
+use Rattle.span_ledger.specs.Tracked.{FollowsJournal, SpansKept, track_row}
+use Rattle.span_ledger.proofs.ThreadTelling.{IsTrackOf-journal}
 use Rattle.span_ledger.proofs.TrackRows.{track_row-is}
 use Rattle.span_ledger.proofs.track_rows.thread_row.Goals as goal
 
@@ -15,5 +16,6 @@ returns c =
     let tid : to_z w64 (of_z w64 thread.tid) ≡ thread.tid = search rules in
     let told = rw (pid, tid) at c.thread_names-names.ensures.name in
     let named : c.in_ok-name.name ≡ (names_of journal (thread.pid, Some thread.tid)).name = c.in_ok-name.ensures ∙ told (meta_events (accepted journal)) ready.keyed.meta in
-    c.named_row.ensures ∙ ap (track_row c.tracks.inside.threads.entries thread) named
-    ∙ track_row-is c.tracks.inside.names (length journal) thread journal c.tracks.inside.threads.entries (ready.each thread)
+    let spans = c.tracks.inside.keyed.spans in
+    c.named_row.ensures ∙ ap (λ (kept : SpansKept). track_row kept.threads thread c.in_ok-name.name) c.spans.ensures ∙ ap (track_row spans.threads thread) named
+    ∙ track_row-is spans.names thread journal spans.threads (IsTrackOf-journal journal _ ready thread)
