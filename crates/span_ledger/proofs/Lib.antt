@@ -8,6 +8,7 @@ pub mod KeyTelling
 pub mod KeyedEvents
 pub mod Later
 pub mod LegalJournals
+pub mod Listing
 pub mod PartRows
 pub mod Renaming
 pub mod RowOrder

@@ -3,13 +3,13 @@ ghost use Rattle.span_event.specs.Orders.{thread_cmp};
 ghost use Rattle.std.specs.Prelude.{◌≡◌, ◌<◌, [], IfOk, OnOk};
 ghost use Rattle.std.specs.Ordering.{int_cmp};
 ghost use Rattle.std.specs.BTreeSet.{insert_key};
-ghost use Rattle.indexmap.specs.IndexSet.{spare};
 ghost use Rattle.span_keyed_tracks.specs.Keyed.{ascending};
 
 use indexmap::IndexSet;
 use span_event::Thread;
 use std::alloc::{AllocError, Global};
 use std::collections::BTreeSet;
+use std::marker::Model;
 
 // Each once, in the order of the events that listed them.
 #[derive(Drop)]
@@ -18,10 +18,30 @@ pub(crate) struct Listed {
     pub(crate) threads: IndexSet<Thread>,
 }
 
+impl Model for Listed {
+    ghost use Rattle.std.specs.Prelude.{◌≡◌, true};
+    ghost use Rattle.std.specs.List.{list_all, list_any};
+    ghost use Rattle.std.specs.Ordering.{int_eq};
+    ghost use Rattle.indexmap.specs.IndexSet.{spare};
+    ghost use Rattle.span_ledger.specs.Tracked.{ListedKept};
+
+    ghost Value = { ListedKept };
+
+    ghost view = { λ l. record {
+      processes = l.processes.keys;
+      threads = l.threads.keys;
+      process_room = spare l.processes;
+      thread_room = spare l.threads;
+    } };
+
+    ghost invariant = { λ l.
+        list_all (λ thread. list_any (int_eq thread.pid) l.processes.keys) l.threads.keys ≡ true };
+}
+
 impl Listed {
     pub(crate) fn new(alloc: Global) -> Listed
-        ensures processes { ascending int_cmp result.processes.keys ≡ [] }
-        ensures threads { ascending thread_cmp result.threads.keys ≡ [] }
+        ensures processes { ascending int_cmp result.processes ≡ [] }
+        ensures threads { ascending thread_cmp result.threads ≡ [] }
     {
         Listed {
             processes: IndexSet::new(alloc),
@@ -31,10 +51,10 @@ impl Listed {
 
     // Makes room for one more process and one more thread.
     pub(crate) fn reserve(&mut self) -> Result<(), AllocError>
-        ensures processes { self.new.processes.keys ≡ self.old.processes.keys }
-        ensures threads { self.new.threads.keys ≡ self.old.threads.keys }
-        ensures process_room { OnOk result (0 < spare self.new.processes) }
-        ensures thread_room { OnOk result (0 < spare self.new.threads) }
+        ensures processes { self.new.processes ≡ self.old.processes }
+        ensures threads { self.new.threads ≡ self.old.threads }
+        ensures process_room { OnOk result (0 < self.new.process_room) }
+        ensures thread_room { OnOk result (0 < self.new.thread_room) }
     {
         self.processes.reserve(1)?;
         self.threads.reserve(1)
@@ -42,9 +62,9 @@ impl Listed {
 
     // Lists a process.
     pub(crate) fn add_process(&mut self, pid: i64)
-        requires { 0 < spare self.old.processes }
-        ensures processes { ascending int_cmp self.new.processes.keys
-            ≡ insert_key int_cmp (ascending int_cmp self.old.processes.keys) pid }
+        requires { 0 < self.old.process_room }
+        ensures processes { ascending int_cmp self.new.processes
+            ≡ insert_key int_cmp (ascending int_cmp self.old.processes) pid }
         ensures threads { self.new.threads ≡ self.old.threads }
     {
         if self.processes.insert(pid).is_err() {
@@ -52,23 +72,28 @@ impl Listed {
         }
     }
 
-    // Lists a thread and its process.
+    // Lists a thread and its process, which a listed thread has listed already.
     pub(crate) fn add(&mut self, thread: Thread)
-        requires process_room { 0 < spare self.old.processes }
-        requires thread_room { 0 < spare self.old.threads }
-        ensures processes { ascending int_cmp self.new.processes.keys
-            ≡ insert_key int_cmp (ascending int_cmp self.old.processes.keys) thread.pid }
-        ensures threads { ascending thread_cmp self.new.threads.keys
-            ≡ insert_key thread_cmp (ascending thread_cmp self.old.threads.keys) thread }
+        requires process_room { 0 < self.old.process_room }
+        requires thread_room { 0 < self.old.thread_room }
+        ensures processes { ascending int_cmp self.new.processes
+            ≡ insert_key int_cmp (ascending int_cmp self.old.processes) thread.pid }
+        ensures threads { ascending thread_cmp self.new.threads
+            ≡ insert_key thread_cmp (ascending thread_cmp self.old.threads) thread }
     {
-        self.add_process(thread.pid);
-        if self.threads.insert(thread).is_err() {
-            unreachable!();
+        match self.threads.insert(thread) {
+            Ok(true) => {
+                if self.processes.insert(thread.pid).is_err() {
+                    unreachable!();
+                }
+            }
+            Ok(false) => {}
+            Err(_) => unreachable!(),
         }
     }
 
     pub(crate) fn ordered_processes(&self, alloc: Global) -> Result<BTreeSet<i64>, AllocError>
-        ensures { IfOk result (λ set. set.keys ≡ ascending int_cmp self.now.processes.keys) }
+        ensures { IfOk result (λ set. set.keys ≡ ascending int_cmp self.now.processes) }
     {
         let mut set = BTreeSet::new(alloc);
         for pid in &self.processes {
@@ -78,7 +103,7 @@ impl Listed {
     }
 
     pub(crate) fn ordered_threads(&self, alloc: Global) -> Result<BTreeSet<Thread>, AllocError>
-        ensures { IfOk result (λ set. set.keys ≡ ascending thread_cmp self.now.threads.keys) }
+        ensures { IfOk result (λ set. set.keys ≡ ascending thread_cmp self.now.threads) }
     {
         let mut set = BTreeSet::new(alloc);
         for thread in &self.threads {

@@ -193,7 +193,7 @@ fn grouped(alloc: Global, tracks: &Tracks) -> Result<BTreeMap<i64, Group>, Alloc
 
 fn empty_groups(alloc: Global, listed: &Listed) -> Result<BTreeMap<i64, Group>, AllocError>
     ensures { IfOk result (λ groups. groups.entries
-        ≡ groups_of (ascending int_cmp listed.now.processes.keys) [] []) }
+        ≡ groups_of (ascending int_cmp listed.now.processes) [] []) }
 {
     let mut groups = BTreeMap::new(alloc);
     for pid in &listed.processes {

@@ -1,19 +1,42 @@
-use Rattle.span_event.specs.Thread.{same_thread}
-use Rattle.span_event.specs.Orders.{thread_cmp}
-use Rattle.std.proofs.Common.{◌≡◌, List, ap, sym, ◌∙◌}
-use Rattle.std.specs.declared.cmp.Ordering.TheVariants.{Equal}
+use Rattle.std.proofs.Common.{◌≡◌, Bool, true, false, not, rules, sym, ap, ◌∙◌, to_z, of_z, w64}
+use Rattle.std.specs.List.{list_any}
+use Rattle.std.specs.Ordering.{int_cmp, int_eq}
+use Rattle.std.specs.BTreeSet.{insert_key}
 use Rattle.indexmap.specs.IndexSet.{insert_key as add_key}
-use Rattle.span_event.specs.declared.thread.Thread.{Thread}
-use Rattle.span_event.proofs.Orders.{thread_cmp-same, thread_cmp-total}
-use Rattle.span_keyed_tracks.proofs.Keyed.{same_from_is_eq}
-use Rattle.span_ledger.proofs.Threads.{same_thread-cmp}
-use Rattle.span_ledger.proofs.listed.Listed.add.Goals as goal
-use Rattle.span_keyed_tracks.proofs.Ascending.{ascending-add_key}
+use Rattle.span_event.specs.Orders.{thread_cmp}
+use Rattle.span_event.specs.Thread.{same_thread}
 use Rattle.span_keyed_tracks.proofs.Results.{if_ok-there}
 use Rattle.span_keyed_tracks.specs.Keyed.{ascending}
+use Rattle.span_ledger.specs.Tracked.{ListedKept}
+use Rattle.span_ledger.proofs.Listing.{add_key-listed, ascending-process, ascending-thread, have_processes-thread}
+use Rattle.span_ledger.proofs.listed.Listed.add.Goals as goal
 
-pub returns-clause-threads : goal.returns-clause-threads
-returns-clause-threads c =
-    ap (ascending thread_cmp) (if_ok-there c.insert.result _ c.if-is_err.ensures.value c.insert.ensures.keys)
-    ∙ ap (λ (ks : List Thread). ascending thread_cmp (add_key same_thread ks c.args.thread)) (ap (λ s. s.keys) c.add_process.ensures.threads)
-    ∙ ascending-add_key thread_cmp-total (λ (a : Thread) (b : Thread) (e : thread_cmp a b ≡ Equal). thread_cmp-same a b e) same_thread (λ (a : Thread) (b : Thread) e. same_from_is_eq thread_cmp-total thread_cmp-same a b (sym (same_thread-cmp a b) ∙ e)) c.args.self.now.threads.keys c.args.thread
+not-false : (b : Bool) → not b ≡ false → b ≡ true
+not-false true e = cc
+not-false false e = cc
+
+pub invariant_of-self : goal.invariant_of-self
+invariant_of-self c =
+    let processes = if_ok-there c.insert-in-Ok-true.result _ c.if-is_err.ensures.value c.insert-in-Ok-true.ensures.keys in
+    let pid : to_z w64 (of_z w64 c.args.thread.pid) ≡ c.args.thread.pid = search rules in
+    rw (processes, c.in-Ok-true.ensures.keys, pid) (have_processes-thread c.self.inside.processes.keys c.self.inside.threads.keys c.args.thread c.self.invariant)
+
+pub returns-else-is_err-clause-processes : goal.returns-else-is_err-clause-processes
+returns-else-is_err-clause-processes c =
+    let processes = if_ok-there c.insert-in-Ok-true.result _ c.if-is_err.ensures.value c.insert-in-Ok-true.ensures.keys in
+    let pid : to_z w64 (of_z w64 c.args.thread.pid) ≡ c.args.thread.pid = search rules in
+    ap (ascending int_cmp) processes ∙ ap (λ k. ascending int_cmp (add_key int_eq c.self.inside.processes.keys k)) pid
+    ∙ ascending-process c.self.inside.processes.keys c.args.thread.pid
+    ∙ ap (λ (l : ListedKept). insert_key int_cmp (ascending int_cmp l.processes) c.args.thread.pid) c.self.view_is
+
+pub returns-in-Ok-false-clause-processes : goal.returns-in-Ok-false-clause-processes
+returns-in-Ok-false-clause-processes c =
+    let known : list_any (same_thread c.args.thread) c.self.inside.threads.keys ≡ true = not-false _ (sym c.in-Ok-false.ensures.added ∙ c.in-Ok-false.field-0-test) in
+    ap (ascending int_cmp) (sym (add_key-listed c.self.inside.processes.keys c.self.inside.threads.keys c.args.thread c.self.invariant known))
+    ∙ ascending-process c.self.inside.processes.keys c.args.thread.pid
+    ∙ ap (λ (l : ListedKept). insert_key int_cmp (ascending int_cmp l.processes) c.args.thread.pid) c.self.view_is
+
+pub returns-in-Ok-false-clause-threads : goal.returns-in-Ok-false-clause-threads
+returns-in-Ok-false-clause-threads c =
+    ap (ascending thread_cmp) c.in-Ok-false.ensures.keys ∙ ascending-thread c.self.inside.threads.keys c.args.thread
+    ∙ ap (λ (l : ListedKept). insert_key thread_cmp (ascending thread_cmp l.threads) c.args.thread) c.self.view_is
