@@ -9,7 +9,7 @@ ghost use Rattle.span_ledger.specs.Tracked.{TellsAsync};
 use crate::entry::Answer;
 use crate::event_key::{put_async_key, take_async_key};
 use span_event::{Event, Phase};
-use span_track::{AsyncKey, AsyncTrack, TrackFault};
+use span_keyed_tracks::{AsyncKey, AsyncTrack, TrackFault};
 use std::alloc::Global;
 
 // An asynchronous event is told to the track. Its key has the event's own texts for so long.

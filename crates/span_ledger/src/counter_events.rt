@@ -8,7 +8,7 @@ ghost use Rattle.span_ledger.specs.Tracked.{Tells};
 
 use crate::entry::Answer;
 use span_event::Event;
-use span_track::{CounterTrack, TrackFault};
+use span_keyed_tracks::{CounterTrack, TrackFault};
 
 pub(crate) fn tell_counter(
     track: &mut CounterTrack,

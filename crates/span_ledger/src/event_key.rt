@@ -4,7 +4,7 @@ ghost use Rattle.span_ledger.specs.Told.{async_key, flow_key};
 ghost use Rattle.span_ledger.specs.Keys.{without_async_key, with_async_key, without_flow_key, with_flow_key};
 
 use span_event::{Event, Text};
-use span_track::{AsyncKey, FlowKey};
+use span_keyed_tracks::{AsyncKey, FlowKey};
 use std::alloc::Global;
 use std::mem;
 

@@ -8,7 +8,7 @@ ghost use Rattle.span_ledger.specs.Tracked.{TellsFlow};
 use crate::entry::Answer;
 use crate::event_key::{put_flow_key, take_flow_key};
 use span_event::{Event, Phase};
-use span_track::{FlowClosed, FlowKey, FlowTrack, TrackFault};
+use span_keyed_tracks::{FlowClosed, FlowKey, FlowTrack, TrackFault};
 use std::alloc::Global;
 
 // A flow event is told to the track. Its key has the event's own texts for so long.

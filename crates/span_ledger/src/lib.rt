@@ -33,7 +33,7 @@ pub use rows::{CountRow, ProcessRow, SpanRow, ThreadRow};
 pub use span_event::{
     ArgValue, Args, Event, Field, IdKey, Item, ItemFault, Items, Phase, Reach, Text,
 };
-pub use span_track::{
+pub use span_keyed_tracks::{
     AsyncKey, AsyncRow, AsyncTotals, FlowKey, FlowRow, FlowTotals, InstantRow, SeriesKey,
     SeriesRow, SeriesTotals,
 };

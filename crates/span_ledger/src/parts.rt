@@ -15,7 +15,7 @@ use crate::rows::{ProcessRow, SpanRow, ThreadRow};
 use crate::track_rows::{process_row, thread_row, thread_span_rows};
 use crate::tracks::Tracks;
 use span_event::Thread;
-use span_track::{InstantRow, SeriesRow};
+use span_keyed_tracks::{InstantRow, SeriesRow};
 use std::alloc::{AllocError, Global};
 use std::collections::{BTreeMap, BTreeSet};
 use std::marker::Model;

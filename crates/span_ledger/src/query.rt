@@ -2,7 +2,7 @@
 ghost use Rattle.std.specs.Prelude.{◌≡◌, IfOk};
 
 use span_event::Text;
-use span_track::{AsyncKey, FlowKey, SeriesKey};
+use span_keyed_tracks::{AsyncKey, FlowKey, SeriesKey};
 use std::alloc::{AllocError, Global};
 
 /// A question about the entries before it. It is an entry itself, and changes nothing else.

@@ -3,7 +3,7 @@ ghost use Rattle.std.specs.Prelude.{◌≡◌, option_copied, IfOk};
 
 use crate::rows::CountRow;
 use span_event::Text;
-use span_track::{AsyncTotals, FlowTotals, SeriesTotals};
+use span_keyed_tracks::{AsyncTotals, FlowTotals, SeriesTotals};
 use std::alloc::{AllocError, Global};
 
 /// The reply to a query. Times and lengths are microseconds.
