@@ -65,7 +65,7 @@ length-steps_at {K = K} {A = A} cmp key es =
 
 module _ {K : Type 0} {cmp : K → K → Ordering} (o : IsTotalOrder cmp) where
   -- a key below the first of these is none of them
-  has_key-below : (k x : K) (xs : List K) → cmp k x ≡ Less → AllByRecursion (λ y. cmp x y ≡ Less) xs → has_key cmp k xs ≡ false
+  pub has_key-below : (k x : K) (xs : List K) → cmp k x ≡ Less → AllByRecursion (λ y. cmp x y ≡ Less) xs → has_key cmp k xs ≡ false
   has_key-below k x [] h below = refl
   has_key-below k x (y ∷ ys) h below = ap₂ (λ r b. is_eq r || b) (o.trans k x y h below.0) (has_key-below k x ys h below.1)
 
@@ -224,16 +224,22 @@ module _ {K : Type 0} {cmp : K → K → Ordering} (o : IsTotalOrder cmp) (same 
         ∙ made-set_value (λ k. give (steps_at cmp k es)) (λ k. give (steps_at cmp k (es ++ e ∷ []))) e.key (agree_but_at es e) (keys_in cmp es) rising
         ∙ ap (map (entry_of (λ k. give (steps_at cmp k (es ++ e ∷ []))))) (sym (keys_in-append es e ∙ insert_key-present o e.key (keys_in cmp es) rising has))
 
+    -- what the steps of a key give with one more was inserted at the key
+    pub entries_in-insert_entry : (es : List (Keyed K A)) (e : Keyed K A) (kept : List (K × X)) (new : X) → kept ≡ entries_in cmp give es → IsStrictlySortedBy cmp (keys_of kept) →
+        new ≡ give (steps_at cmp e.key es ++ e.step ∷ []) → insert_entry cmp kept e.key new ≡ entries_in cmp give (es ++ e ∷ [])
+    entries_in-insert_entry es e kept new stands sorted is =
+        let keys : keys_of kept ≡ keys_in cmp es = ap keys_of stands ∙ keys_of-made (λ k. give (steps_at cmp k es)) (keys_in cmp es) in
+        let rising : IsStrictlySortedBy cmp (keys_in cmp es) = subst (IsStrictlySortedBy cmp) keys sorted in
+        ap₂ (λ l x. insert_entry cmp l e.key x) stands (is ∙ ap give (sym (steps_at-own es e)))
+        ∙ made-insert_entry (λ k. give (steps_at cmp k es)) (λ k. give (steps_at cmp k (es ++ e ∷ []))) e.key (agree_but_at es e) (keys_in cmp es) rising
+        ∙ ap (map (entry_of (λ k. give (steps_at cmp k (es ++ e ∷ []))))) (sym (keys_in-append es e))
+
     -- what the first step of a key gives was inserted
     pub entries_in-inserted : (es : List (Keyed K A)) (e : Keyed K A) (kept : List (K × X)) (new : X) → kept ≡ entries_in cmp give es → IsStrictlySortedBy cmp (keys_of kept) → lookup (is_at (cmp e.key)) kept ≡ None →
         new ≡ give (e.step ∷ []) → insert_entry cmp kept e.key new ≡ entries_in cmp give (es ++ e ∷ [])
     entries_in-inserted es e kept new stands sorted none is =
-        let keys : keys_of kept ≡ keys_in cmp es = ap keys_of stands ∙ keys_of-made (λ k. give (steps_at cmp k es)) (keys_in cmp es) in
-        let rising : IsStrictlySortedBy cmp (keys_in cmp es) = subst (IsStrictlySortedBy cmp) keys sorted in
         let first : steps_at cmp e.key es ≡ [] = steps_at-absent es e.key (ap (lookup (is_at (cmp e.key))) (sym stands) ∙ none) in
-        ap₂ (λ l x. insert_entry cmp l e.key x) stands (is ∙ ap give (ap (λ l. l ++ e.step ∷ []) (sym first) ∙ sym (steps_at-own es e)))
-        ∙ made-insert_entry (λ k. give (steps_at cmp k es)) (λ k. give (steps_at cmp k (es ++ e ∷ []))) e.key (agree_but_at es e) (keys_in cmp es) rising
-        ∙ ap (map (entry_of (λ k. give (steps_at cmp k (es ++ e ∷ []))))) (sym (keys_in-append es e))
+        entries_in-insert_entry es e kept new stands sorted (is ∙ ap give (ap (λ l. l ++ e.step ∷ []) (sym first)))
 
     -- a step of a key that has some, after which the steps of the key give what the step makes of what they gave
     pub entries_in-after : (es : List (Keyed K A)) (key : K) (step : A) (after : X → X) (kept final : List (K × X)) (old new : X) →

@@ -5,6 +5,7 @@ pub mod Counters
 pub mod Flow
 pub mod FlowRoom
 pub mod Instants
+pub mod KeyChange
 pub mod Keyed
 pub mod Lists
 pub mod Maps

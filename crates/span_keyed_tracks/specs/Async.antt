@@ -90,9 +90,13 @@ TakesAsync old new e = (es : List AsyncEvent) → AsyncStandsFor old es → Asyn
 abbrev pub async_spans_at : AsyncKept → AsyncKey → AsyncSpans
 async_spans_at track key = kept_at async_cmp (async_spans []) track key
 
--- there is room for the number of one more step of the key
+-- there is room for the number of one more step
+abbrev pub HasStepRoom : AsyncSpans → Type 0
+HasStepRoom spans = length spans.opened + spans.closed + spans.points < 2 ^ 32 - 1
+
+-- the same of a key
 abbrev pub HasAsyncRoom : AsyncKept → AsyncKey → Type 0
-HasAsyncRoom track key = let spans = async_spans_at track key in length spans.opened + spans.closed + spans.points < 2 ^ 32 - 1
+HasAsyncRoom track key = HasStepRoom (async_spans_at track key)
 
 -- the numbers of what is kept for a key
 abbrev pub async_totals : AsyncSpans → AsyncTotals

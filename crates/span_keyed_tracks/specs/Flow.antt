@@ -162,9 +162,13 @@ abbrev pub points_of : Option OpenChain → ℕ
 points_of None = 0
 points_of (Some chain) = chain.points
 
--- there is room for the number of one more point of the key
+-- there is room for the number of one more point
+abbrev pub HasPointRoom : FlowChains → Type 0
+HasPointRoom chains = chains.ended + points_of chains.unclosed < 2 ^ 32 - 1
+
+-- the same of a key
 abbrev pub HasFlowRoom : FlowKept → FlowKey → Type 0
-HasFlowRoom track key = let chains = flow_chains_at track key in chains.ended + points_of chains.unclosed < 2 ^ 32 - 1
+HasFlowRoom track key = HasPointRoom (flow_chains_at track key)
 
 -- the numbers of what is kept for a key
 abbrev pub flow_totals : FlowChains → FlowTotals

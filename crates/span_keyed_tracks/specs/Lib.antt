@@ -8,6 +8,7 @@ pub mod FlowKept
 pub mod Instants
 pub mod InstantsKept
 pub mod Keyed
+pub mod KeyedKept
 pub mod Last
 pub mod Maps
 pub mod Matching

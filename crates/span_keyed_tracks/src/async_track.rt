@@ -1,6 +1,5 @@
 //! The track of asynchronous spans.
 ghost use Rattle.std.specs.Prelude.{◌≡◌, [], ◌∷◌, List, map, None, IfOk, OnOk, OnErr};
-ghost use Rattle.std.specs.BTreeMap.{insert_entry};
 ghost use Rattle.span_event.specs.Event.{IsTime};
 ghost use Rattle.span_keyed_tracks.specs.Fault.{Answers};
 ghost use Rattle.span_keyed_tracks.specs.Matching.{opens, closes, other};
@@ -10,9 +9,9 @@ ghost use Rattle.span_keyed_tracks.specs.Async.{AsyncEvent, AsyncStandsFor, HasA
 mod key_spans;
 
 use crate::fault::TrackFault;
+use crate::key_change::change_at;
 use crate::keys::AsyncKey;
 use key_spans::KeySpans;
-use span_event::Fault;
 use std::alloc::{AllocError, Global};
 use std::collections::BTreeMap;
 use std::marker::Model;
@@ -71,12 +70,14 @@ impl AsyncTrack {
         ensures stands { OnOk result (TakesAsync self.old self.new (record { key = key.now; step = opens ts })) }
         ensures err { OnErr result (self.new ≡ self.old) }
     {
-        if let Some(spans) = self.keys.get_mut(key) {
-            return spans.begin(ts);
-        }
-        let mut spans = KeySpans::new(self.alloc);
-        spans.begin(ts)?;
-        self.insert(key, spans)
+        let none = KeySpans::new(self.alloc);
+        change_at(
+            self.alloc,
+            &mut self.keys,
+            key,
+            none,
+            |spans| spans.begin(ts),
+        )
     }
 
     /// The last unmatched begin of the key ends. Answers the length of the span in microseconds; or `NoOpenAsync` where no
@@ -90,10 +91,8 @@ impl AsyncTrack {
         ensures stands { OnOk result (TakesAsync self.old self.new (record { key = key.now; step = closes ts })) }
         ensures err { OnErr result (self.new ≡ self.old) }
     {
-        let Some(spans) = self.keys.get_mut(key) else {
-            return Err(TrackFault::Refused(Fault::NoOpenAsync.code()));
-        };
-        spans.end(ts)
+        let none = KeySpans::new(self.alloc);
+        change_at(self.alloc, &mut self.keys, key, none, |spans| spans.end(ts))
     }
 
     /// A point of the key. Only want of memory refuses it.
@@ -103,28 +102,11 @@ impl AsyncTrack {
         ensures stands { OnOk result (TakesAsync self.old self.new (record { key = key.now; step = other tt })) }
         ensures err { OnErr result (self.new ≡ self.old) }
     {
-        if let Some(spans) = self.keys.get_mut(key) {
+        let none = KeySpans::new(self.alloc);
+        change_at(self.alloc, &mut self.keys, key, none, |spans| {
             spans.point();
-            return Ok(());
-        }
-        let mut spans = KeySpans::new(self.alloc);
-        spans.point();
-        self.insert(key, spans)
-    }
-
-    // The first event of a key, whose texts are copied.
-    fn insert(&mut self, key: &AsyncKey, spans: KeySpans) -> Result<(), TrackFault>
-        ensures refusal { Answers result None }
-        ensures ok { OnOk result (self.new ≡ insert_entry async_cmp self.old key.now spans) }
-        ensures err { OnErr result (self.new ≡ self.old) }
-    {
-        let Ok(key) = key.try_clone(self.alloc) else {
-            return Err(TrackFault::Memory);
-        };
-        match self.keys.insert(key, spans) {
-            Ok(_) => Ok(()),
-            Err(_) => Err(TrackFault::Memory),
-        }
+            Ok(())
+        })
     }
 
     /// What the events of the key give; zeros for an unknown key. Takes no memory.

@@ -1,6 +1,5 @@
 //! The track of flow chains.
 ghost use Rattle.std.specs.Prelude.{◌≡◌, [], map, Some, None, IfOk, OnOk, OnErr};
-ghost use Rattle.std.specs.BTreeMap.{insert_entry};
 ghost use Rattle.span_event.specs.Event.{IsTime};
 ghost use Rattle.span_keyed_tracks.specs.Fault.{Answers};
 ghost use Rattle.span_keyed_tracks.specs.Flow.{FlowStandsFor, HasFlowRoom, TakesFlow, started, stepped, finished};
@@ -9,9 +8,9 @@ ghost use Rattle.span_keyed_tracks.specs.Flow.{flow_closed, flow_cmp, flow_point
 mod key_chains;
 
 use crate::fault::TrackFault;
+use crate::key_change::change_at;
 use crate::keys::FlowKey;
 use key_chains::KeyChains;
-use span_event::Fault;
 use std::alloc::{AllocError, Global};
 use std::collections::BTreeMap;
 use std::marker::Model;
@@ -77,10 +76,14 @@ impl FlowTrack {
         ensures stands { OnOk result (TakesFlow self.old self.new (record { key = key.now; step = started ts })) }
         ensures err { OnErr result (self.new ≡ self.old) }
     {
-        if let Some(chains) = self.keys.get_mut(key) {
-            return chains.start(ts);
-        }
-        self.insert(key, KeyChains::started(ts))
+        let none = KeyChains::new();
+        change_at(
+            self.alloc,
+            &mut self.keys,
+            key,
+            none,
+            |chains| chains.start(ts),
+        )
     }
 
     /// The unclosed chain of the key gets one more point; `NoFlow` where there is none, `TimeGoesBack` where `ts` is below the
@@ -92,10 +95,14 @@ impl FlowTrack {
         ensures stands { OnOk result (TakesFlow self.old self.new (record { key = key.now; step = stepped ts })) }
         ensures err { OnErr result (self.new ≡ self.old) }
     {
-        let Some(chains) = self.keys.get_mut(key) else {
-            return Err(TrackFault::Refused(Fault::NoFlow.code()));
-        };
-        chains.step(ts)
+        let none = KeyChains::new();
+        change_at(
+            self.alloc,
+            &mut self.keys,
+            key,
+            none,
+            |chains| chains.step(ts),
+        )
     }
 
     /// The unclosed chain of the key gets its last point and ends. Answers how many points it has, and its length; or
@@ -108,25 +115,14 @@ impl FlowTrack {
         ensures stands { OnOk result (TakesFlow self.old self.new (record { key = key.now; step = finished ts })) }
         ensures err { OnErr result (self.new ≡ self.old) }
     {
-        let Some(chains) = self.keys.get_mut(key) else {
-            return Err(TrackFault::Refused(Fault::NoFlow.code()));
-        };
-        chains.end(ts)
-    }
-
-    // The first point of a key, whose texts are copied.
-    fn insert(&mut self, key: &FlowKey, chains: KeyChains) -> Result<(), TrackFault>
-        ensures refusal { Answers result None }
-        ensures ok { OnOk result (self.new ≡ insert_entry flow_cmp self.old key.now chains) }
-        ensures err { OnErr result (self.new ≡ self.old) }
-    {
-        let Ok(key) = key.try_clone(self.alloc) else {
-            return Err(TrackFault::Memory);
-        };
-        match self.keys.insert(key, chains) {
-            Ok(_) => Ok(()),
-            Err(_) => Err(TrackFault::Memory),
-        }
+        let none = KeyChains::new();
+        change_at(
+            self.alloc,
+            &mut self.keys,
+            key,
+            none,
+            |chains| chains.end(ts),
+        )
     }
 
     /// What the points of the key give; zeros for an unknown key. Takes no memory.

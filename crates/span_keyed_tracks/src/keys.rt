@@ -1,6 +1,7 @@
 //! The keys of asynchronous spans, of flow chains and of series.
 ghost use Rattle.std.specs.Prelude.{◌≡◌, IfOk};
 
+use crate::key_change::Key;
 use span_event::{IdKey, Text};
 use std::alloc::{AllocError, Global};
 
@@ -31,6 +32,12 @@ impl AsyncKey {
     }
 }
 
+impl Key for AsyncKey {
+    fn copied(&self, alloc: Global) -> Result<AsyncKey, AllocError> {
+        self.try_clone(alloc)
+    }
+}
+
 /// What the points of a flow chain share. Ordered by category, name and id.
 #[derive(Debug, Drop, PartialEq, Eq, PartialOrd, Ord, Hash)]
 pub struct FlowKey {
@@ -48,6 +55,12 @@ impl FlowKey {
         let name = self.name.try_clone(alloc)?;
         let id = self.id.try_clone(alloc)?;
         Ok(FlowKey { cat, name, id })
+    }
+}
+
+impl Key for FlowKey {
+    fn copied(&self, alloc: Global) -> Result<FlowKey, AllocError> {
+        self.try_clone(alloc)
     }
 }
 

@@ -6,6 +6,7 @@ mod async_track;
 mod counter_track;
 mod fault;
 mod flow_track;
+mod key_change;
 mod keys;
 mod meta_track;
 mod names;

@@ -1,9 +1,9 @@
 //! The asynchronous spans of one key.
-ghost use Rattle.std.specs.Prelude.{◌≡◌, ◌+◌, ◌<◌, ◌^◌, ◌-◌, [], None, length, IfOk, OnOk, OnErr};
+ghost use Rattle.std.specs.Prelude.{◌≡◌, [], None, IfOk, OnOk, OnErr};
 ghost use Rattle.span_event.specs.Event.{IsTime};
 ghost use Rattle.span_keyed_tracks.specs.Fault.{Answers, refusal_of};
 ghost use Rattle.span_keyed_tracks.specs.Last.{last_of};
-ghost use Rattle.span_keyed_tracks.specs.Async.{async_matched, async_spans, async_totals};
+ghost use Rattle.span_keyed_tracks.specs.Async.{HasStepRoom, async_matched, async_spans, async_totals};
 ghost use Rattle.span_keyed_tracks.specs.AsyncKept.{EndsLast, with_begin, with_point};
 
 use super::AsyncTotals;
@@ -45,7 +45,7 @@ impl KeySpans {
     }
 
     pub(crate) fn begin(&mut self, ts: i64) -> Result<(), TrackFault>
-        requires room { length self.old.opened + self.old.closed + self.old.points < 2 ^ 32 - 1 }
+        requires room { HasStepRoom self.old }
         requires in_time { IsTime ts }
         ensures refusal { Answers result None }
         ensures ok { OnOk result (self.new ≡ with_begin self.old ts) }
@@ -77,7 +77,7 @@ impl KeySpans {
     }
 
     pub(crate) fn point(&mut self)
-        requires room { length self.old.opened + self.old.closed + self.old.points < 2 ^ 32 - 1 }
+        requires room { HasStepRoom self.old }
         ensures { self.new ≡ with_point self.old }
     {
         self.points += 1;

@@ -1,8 +1,8 @@
 //! The flow chains of one key.
-ghost use Rattle.std.specs.Prelude.{◌≡◌, ◌+◌, ◌<◌, ◌^◌, ◌-◌, ◌≤ℤ◌, [], Some, IfOk, OnOk, OnErr};
+ghost use Rattle.std.specs.Prelude.{◌≡◌, ◌≤ℤ◌, [], Some, IfOk, OnOk, OnErr};
 ghost use Rattle.span_event.specs.Event.{IsTime};
 ghost use Rattle.span_keyed_tracks.specs.Fault.{Answers};
-ghost use Rattle.span_keyed_tracks.specs.Flow.{flow_chains, flow_closed, flow_point_refusal, flow_start_refusal, flow_totals, points_of};
+ghost use Rattle.span_keyed_tracks.specs.Flow.{HasPointRoom, flow_chains, flow_closed, flow_point_refusal, flow_start_refusal, flow_totals};
 ghost use Rattle.span_keyed_tracks.specs.FlowKept.{with_finish, with_start, with_step};
 
 use super::{FlowClosed, FlowTotals};
@@ -47,24 +47,18 @@ impl Model for KeyChains {
 }
 
 impl KeyChains {
-    // The chains of a key whose first point is a start.
-    pub(crate) fn started(ts: i64) -> KeyChains
-        requires { IsTime ts }
-        ensures { result ≡ with_start (flow_chains []) ts }
+    pub(crate) fn new() -> KeyChains
+        ensures { result ≡ flow_chains [] }
     {
         KeyChains {
             ended: 0,
             total: 0,
-            unclosed: Some(Chain {
-                start: ts,
-                last: ts,
-                points: 1,
-            }),
+            unclosed: None,
         }
     }
 
     pub(crate) fn start(&mut self, ts: i64) -> Result<(), TrackFault>
-        requires room { self.old.ended + points_of self.old.unclosed < 2 ^ 32 - 1 }
+        requires room { HasPointRoom self.old }
         requires in_time { IsTime ts }
         ensures refusal { Answers result (flow_start_refusal self.old) }
         ensures ok { OnOk result (self.new ≡ with_start self.old ts) }
@@ -98,7 +92,7 @@ impl KeyChains {
     }
 
     pub(crate) fn step(&mut self, ts: i64) -> Result<(), TrackFault>
-        requires room { self.old.ended + points_of self.old.unclosed < 2 ^ 32 - 1 }
+        requires room { HasPointRoom self.old }
         requires in_time { IsTime ts }
         ensures refusal { Answers result (flow_point_refusal self.old ts) }
         ensures ok { OnOk result (self.new ≡ with_step self.old ts) }
@@ -114,7 +108,7 @@ impl KeyChains {
     }
 
     pub(crate) fn end(&mut self, ts: i64) -> Result<FlowClosed, TrackFault>
-        requires room { self.old.ended + points_of self.old.unclosed < 2 ^ 32 - 1 }
+        requires room { HasPointRoom self.old }
         requires in_time { IsTime ts }
         ensures refusal { Answers result (flow_point_refusal self.old ts) }
         ensures closed { IfOk result (λ closed. flow_closed self.old ts ≡ Some closed) }
