@@ -137,6 +137,12 @@ flow_chains_at-StandsFor track es key stands =
     ap (λ t. flow_chains_at t key) stands ∙ kept_at-entries_in flow_cmp-total flow_cmp-same flow_chains es key
 
 -- a finish closes only a chain that is unclosed
-pub unclosed-closed_at : (unclosed : Option OpenChain) (ts : ℤ) (closed : FlowClosed) → closed_at unclosed ts ≡ Some closed → (chain : OpenChain) × (unclosed ≡ Some chain)
+unclosed-closed_at : (unclosed : Option OpenChain) (ts : ℤ) (closed : FlowClosed) → closed_at unclosed ts ≡ Some closed → (chain : OpenChain) × (unclosed ≡ Some chain)
 unclosed-closed_at None ts closed is = absurd cc
 unclosed-closed_at (Some chain) ts closed is = (chain, refl)
+
+-- a finish that closes a chain ends it
+pub flow_chains-closed_at : (points : List FlowPoint) (ts : ℤ) (closed : FlowClosed) → closed_at (summary (chain_of points)) ts ≡ Some closed → flow_chains (points ++ finished ts ∷ []) ≡ with_finish (flow_chains points) ts
+flow_chains-closed_at points ts closed is =
+    let chain = unclosed-closed_at (summary (chain_of points)) ts closed is in
+    flow_chains-finished points ts chain.0 chain.1

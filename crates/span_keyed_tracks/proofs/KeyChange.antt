@@ -64,6 +64,10 @@ module _ {K X : Type 0} {cmp : K → K → Ordering} (o : IsTotalOrder cmp) wher
       err = err;
     }
 
+-- two that are the same as a third
+pub by_third : {X : Type 0} {a b c : X} → c ≡ b → a ≡ b → a ≡ c
+by_third second first = first ∙ sym second
+
 -- what holds of what a track keeps at a key holds of what a call is made on
 pub kept_at-holds : {K X : Type 0} (cmp : K → K → Ordering) (P : X → Type 0) {none empty value : X} {old track : List (K × X)} (key : K) → value ≡ kept_at cmp none old key → none ≡ empty → old ≡ track → P (kept_at cmp empty track key) → P value
 kept_at-holds cmp P key is same stands holds = subst P (sym (is ∙ ap₂ (λ n kept. kept_at cmp n kept key) same stands)) holds

@@ -213,17 +213,6 @@ module _ {K : Type 0} {cmp : K → K → Ordering} (o : IsTotalOrder cmp) (same 
     agree_but_at : (es : List (Keyed K A)) (e : Keyed K A) (k : K) → is_eq (cmp e.key k) ≡ false → give (steps_at cmp k es) ≡ give (steps_at cmp k (es ++ e ∷ []))
     agree_but_at es e k h = ap give (sym (steps_at-other k es e h))
 
-    -- what the steps of a key give was written at a key that has some
-    pub entries_in-written : (es : List (Keyed K A)) (e : Keyed K A) (kept : List (K × X)) (old new : X) → kept ≡ entries_in cmp give es → IsStrictlySortedBy cmp (keys_of kept) → lookup (is_at (cmp e.key)) kept ≡ Some old →
-        new ≡ give (steps_at cmp e.key es ++ e.step ∷ []) → set_value (is_at (cmp e.key)) kept new ≡ entries_in cmp give (es ++ e ∷ [])
-    entries_in-written es e kept old new stands sorted found is =
-        let keys : keys_of kept ≡ keys_in cmp es = ap keys_of stands ∙ keys_of-made (λ k. give (steps_at cmp k es)) (keys_in cmp es) in
-        let rising : IsStrictlySortedBy cmp (keys_in cmp es) = subst (IsStrictlySortedBy cmp) keys sorted in
-        let has : has_key cmp e.key (keys_in cmp es) ≡ true = ap (has_key cmp e.key) (sym keys) ∙ sym (is_some-lookup (is_at (cmp e.key)) kept) ∙ ap is_some found in
-        ap₂ (set_value (is_at (cmp e.key))) stands (is ∙ ap give (sym (steps_at-own es e)))
-        ∙ made-set_value (λ k. give (steps_at cmp k es)) (λ k. give (steps_at cmp k (es ++ e ∷ []))) e.key (agree_but_at es e) (keys_in cmp es) rising
-        ∙ ap (map (entry_of (λ k. give (steps_at cmp k (es ++ e ∷ []))))) (sym (keys_in-append es e ∙ insert_key-present o e.key (keys_in cmp es) rising has))
-
     -- what the steps of a key give with one more was inserted at the key
     pub entries_in-insert_entry : (es : List (Keyed K A)) (e : Keyed K A) (kept : List (K × X)) (new : X) → kept ≡ entries_in cmp give es → IsStrictlySortedBy cmp (keys_of kept) →
         new ≡ give (steps_at cmp e.key es ++ e.step ∷ []) → insert_entry cmp kept e.key new ≡ entries_in cmp give (es ++ e ∷ [])
@@ -233,25 +222,3 @@ module _ {K : Type 0} {cmp : K → K → Ordering} (o : IsTotalOrder cmp) (same 
         ap₂ (λ l x. insert_entry cmp l e.key x) stands (is ∙ ap give (sym (steps_at-own es e)))
         ∙ made-insert_entry (λ k. give (steps_at cmp k es)) (λ k. give (steps_at cmp k (es ++ e ∷ []))) e.key (agree_but_at es e) (keys_in cmp es) rising
         ∙ ap (map (entry_of (λ k. give (steps_at cmp k (es ++ e ∷ []))))) (sym (keys_in-append es e))
-
-    -- what the first step of a key gives was inserted
-    pub entries_in-inserted : (es : List (Keyed K A)) (e : Keyed K A) (kept : List (K × X)) (new : X) → kept ≡ entries_in cmp give es → IsStrictlySortedBy cmp (keys_of kept) → lookup (is_at (cmp e.key)) kept ≡ None →
-        new ≡ give (e.step ∷ []) → insert_entry cmp kept e.key new ≡ entries_in cmp give (es ++ e ∷ [])
-    entries_in-inserted es e kept new stands sorted none is =
-        let first : steps_at cmp e.key es ≡ [] = steps_at-absent es e.key (ap (lookup (is_at (cmp e.key))) (sym stands) ∙ none) in
-        entries_in-insert_entry es e kept new stands sorted (is ∙ ap give (ap (λ l. l ++ e.step ∷ []) (sym first)))
-
-    -- a step of a key that has some, after which the steps of the key give what the step makes of what they gave
-    pub entries_in-after : (es : List (Keyed K A)) (key : K) (step : A) (after : X → X) (kept final : List (K × X)) (old new : X) →
-        give (steps_at cmp key es ++ step ∷ []) ≡ after (give (steps_at cmp key es)) → kept ≡ entries_in cmp give es → IsStrictlySortedBy cmp (keys_of kept) → lookup (is_at (cmp key)) kept ≡ Some old →
-        new ≡ after old → final ≡ set_value (is_at (cmp key)) kept new → final ≡ entries_in cmp give (es ++ record { key = key; step = step } ∷ [])
-    entries_in-after es key step after kept final old new follows stands sorted found becomes written =
-        let was : old ≡ give (steps_at cmp key es) = lookup-entries_in es key old (ap (lookup (is_at (cmp key))) (sym stands) ∙ found) in
-        written ∙ entries_in-written es (record { key = key; step = step }) kept old new stands sorted found (becomes ∙ ap after was ∙ sym follows)
-
-    -- the first step of a key
-    pub entries_in-first : (es : List (Keyed K A)) (key : K) (step : A) (kept final : List (K × X)) (new : X) →
-        kept ≡ entries_in cmp give es → IsStrictlySortedBy cmp (keys_of kept) → lookup (is_at (cmp key)) kept ≡ None →
-        new ≡ give (step ∷ []) → final ≡ insert_entry cmp kept key new → final ≡ entries_in cmp give (es ++ record { key = key; step = step } ∷ [])
-    entries_in-first es key step kept final new stands sorted none is inserted =
-        inserted ∙ entries_in-inserted es (record { key = key; step = step }) kept new stands sorted none is

@@ -2,7 +2,7 @@
 ghost use Rattle.std.specs.Prelude.{◌≡◌, IfOk};
 
 use crate::key_change::Key;
-use span_event::{IdKey, Text};
+use span_event::{IdKey, Text, Thread};
 use std::alloc::{AllocError, Global};
 
 /// What asynchronous events that belong together share. Ordered by its fields in their order.
@@ -91,5 +91,17 @@ impl SeriesKey {
             id,
             series,
         })
+    }
+}
+
+impl Key for Text {
+    fn copied(&self, alloc: Global) -> Result<Text, AllocError> {
+        self.try_clone(alloc)
+    }
+}
+
+impl Key for Thread {
+    fn copied(&self, _alloc: Global) -> Result<Thread, AllocError> {
+        Ok(*self)
     }
 }

@@ -15,6 +15,7 @@ mod reaches;
 mod setting;
 
 use crate::fault::TrackFault;
+use crate::key_change::change_at;
 pub use instants::InstantRow;
 use instants::Instants;
 use named::Named;
@@ -98,10 +99,7 @@ impl MetaTrack {
             unreachable!();
         };
         let thread = Thread::of(event);
-        let Ok(()) = self.instants.add(self.alloc, thread, &event.name, reach) else {
-            return Err(TrackFault::Memory);
-        };
-        Ok(())
+        self.instants.add(self.alloc, thread, &event.name, reach)
     }
 
     /// What the last metadata events set of the process. Takes no memory.
@@ -172,15 +170,10 @@ impl MetaTrack {
         ensures takes { OnOk result (TakesSetting self.old.names self.new.names (keyed_setting (holder, setting))) }
         ensures err { OnErr result (self.new ≡ self.old) }
     {
-        if let Some(named) = self.names.get_mut(&holder) {
+        let none = Named::new();
+        change_at(self.alloc, &mut self.names, &holder, none, |named| {
             named.set(setting);
-            return Ok(());
-        }
-        let mut named = Named::new();
-        named.set(setting);
-        match self.names.insert(holder, named) {
-            Ok(_) => Ok(()),
-            Err(_) => Err(TrackFault::Memory),
-        }
+            Ok(())
+        })
     }
 }

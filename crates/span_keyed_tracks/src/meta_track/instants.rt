@@ -1,5 +1,6 @@
 //! The instants of all threads.
-ghost use Rattle.std.specs.Prelude.{◌≡◌, ◌++◌, [], IfOk, OnOk, OnErr};
+ghost use Rattle.std.specs.Prelude.{◌≡◌, ◌++◌, [], None, IfOk, OnOk, OnErr};
+ghost use Rattle.span_keyed_tracks.specs.Fault.{Answers};
 ghost use Rattle.span_keyed_tracks.specs.Instants.{HasInstantRoom, HasNameRoom, TakesInstant, TakesName, counts_of, names_counted, rows_of_instants, rows_of_thread};
 ghost use Rattle.span_keyed_tracks.specs.InstantsKept.{count_at};
 ghost use Rattle.span_keyed_tracks.specs.Keyed.{kept_at};
@@ -7,6 +8,8 @@ ghost use Rattle.span_event.specs.Orders.{thread_cmp};
 ghost use Rattle.span_event.specs.Text.{text_cmp};
 
 use super::reaches::Reaches;
+use crate::fault::TrackFault;
+use crate::key_change::change_at;
 use span_event::{Reach, Text, Thread};
 use std::alloc::{AllocError, Global};
 use std::collections::BTreeMap;
@@ -45,20 +48,16 @@ impl ThreadInstants {
         }
     }
 
-    fn add(&mut self, alloc: Global, name: &Text, reach: Reach) -> Result<(), AllocError>
+    fn add(&mut self, alloc: Global, name: &Text, reach: Reach) -> Result<(), TrackFault>
         requires { HasNameRoom self.old }
+        ensures refusal { Answers result None }
         ensures takes { OnOk result (TakesName self.old self.new (record { key = name.now; step = reach })) }
         ensures err { OnErr result (self.new ≡ self.old) }
     {
-        if let Some(reaches) = self.names.get_mut(name) {
+        change_at(alloc, &mut self.names, name, Reaches::new(), |reaches| {
             reaches.add(reach);
-            return Ok(());
-        }
-        let mut reaches = Reaches::new();
-        reaches.add(reach);
-        let name = name.try_clone(alloc)?;
-        self.names.insert(name, reaches)?;
-        Ok(())
+            Ok(())
+        })
     }
 
     fn of(&self, name: &Text, reach: Reach) -> u32
@@ -114,19 +113,17 @@ impl Instants {
         thread: Thread,
         name: &Text,
         reach: Reach,
-    ) -> Result<(), AllocError>
+    ) -> Result<(), TrackFault>
         requires { HasInstantRoom self.old }
+        ensures refusal { Answers result None }
         ensures takes { OnOk result (TakesInstant self.old self.new
             (record { key = thread; step = record { key = name.now; step = reach } })) }
         ensures err { OnErr result (self.new ≡ self.old) }
     {
-        if let Some(instants) = self.threads.get_mut(&thread) {
-            return instants.add(alloc, name, reach);
-        }
-        let mut instants = ThreadInstants::new(alloc);
-        instants.add(alloc, name, reach)?;
-        self.threads.insert(thread, instants)?;
-        Ok(())
+        let none = ThreadInstants::new(alloc);
+        change_at(alloc, &mut self.threads, &thread, none, |instants| {
+            instants.add(alloc, name, reach)
+        })
     }
 
     pub(crate) fn of(&self, thread: Thread, name: &Text, reach: Reach) -> u32

@@ -3,11 +3,18 @@ ghost use Rattle.std.specs.Prelude.{◌≡◌, option_map, IfOk};
 ghost use Rattle.span_keyed_tracks.specs.Meta.{labels_setting, name_setting, names_thread, setting_of, sort_setting, whole_at, text_at};
 ghost use Rattle.span_keyed_tracks.specs.MetaKept.{keyed_setting};
 
+use crate::key_change::Key;
 use span_event::{ArgValue, Event, Phase, Text};
 use std::alloc::{AllocError, Global};
 
 // A process; or one of its threads.
 pub(crate) type Holder = (i64, Option<i64>);
+
+impl Key for Holder {
+    fn copied(&self, _alloc: Global) -> Result<Holder, AllocError> {
+        Ok(*self)
+    }
+}
 
 #[derive(Drop)]
 pub(crate) enum Setting {

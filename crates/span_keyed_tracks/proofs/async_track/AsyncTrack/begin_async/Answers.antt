@@ -1,10 +1,9 @@
-use Rattle.std.proofs.Common.{rules, ◌≡◌, sym, subst, ◌∙◌}
+use Rattle.std.proofs.Common.{rules, subst}
 use Rattle.std.specs.Prelude.{OnOk}
 use Rattle.span_keyed_tracks.specs.Matching.{opens}
 use Rattle.span_keyed_tracks.specs.Async.{AsyncKept, HasStepRoom, TakesAsync, async_cmp, async_spans}
-use Rattle.span_keyed_tracks.specs.AsyncKept.{with_begin}
 use Rattle.span_keyed_tracks.proofs.Async.{async_spans-opens}
-use Rattle.span_keyed_tracks.proofs.KeyChange.{kept_at-holds, ChangesAt-stands}
+use Rattle.span_keyed_tracks.proofs.KeyChange.{kept_at-holds, ChangesAt-stands, by_third}
 use Rattle.span_keyed_tracks.proofs.Orders.{async_cmp-total, async_cmp-same}
 use Rattle.span_keyed_tracks.proofs.async_track.AsyncTrack.begin_async.Goals as goal
 
@@ -15,4 +14,4 @@ pub returns-clause-stands : goal.returns-clause-stands
 returns-clause-stands c =
     subst (λ (track : AsyncKept). OnOk c.change_at.result (TakesAsync track c.change_at.new.kept.entries (record { key = c.args.key.now; step = opens c.args.ts }))) c.self.view_is
     (ChangesAt-stands async_cmp-total async_cmp-same async_spans c.new-none.result c.change_at.result c.new-none.ensures c.change_at.ensures (opens c.args.ts)
-    (λ steps answer value called. let becomes : value ≡ with_begin (async_spans steps) c.args.ts = search rules in becomes ∙ sym (async_spans-opens steps c.args.ts)))
+    (λ steps answer value called. by_third (async_spans-opens steps c.args.ts) (search rules)))

@@ -1,12 +1,11 @@
-use Rattle.std.proofs.Common.{rules, ◌≡◌, List, ◌∷◌, [], sym, ap, subst, ◌∙◌}
+use Rattle.std.proofs.Common.{rules, ◌≡◌, List, ◌∷◌, [], sym, subst, ◌∙◌}
 use Rattle.std.specs.Prelude.{IfOk, OnOk}
 use Rattle.span_keyed_tracks.specs.Matching.{closes}
 use Rattle.span_keyed_tracks.specs.Fault.{Answers, refusal_of}
 use Rattle.span_keyed_tracks.specs.Last.{last_of}
 use Rattle.span_keyed_tracks.specs.Async.{AsyncEvent, AsyncKept, AsyncStandsFor, TakesAsync, async_cmp, async_end_refusal, async_matched, async_spans, length_closed_by}
-use Rattle.span_keyed_tracks.specs.AsyncKept.{EndsLast}
 use Rattle.span_keyed_tracks.specs.Keyed.{steps_at}
-use Rattle.span_keyed_tracks.proofs.Async.{async_spans-closes, length_closed_by-closes}
+use Rattle.span_keyed_tracks.proofs.Async.{async_spans-EndsLast, length_closed_by-EndsLast}
 use Rattle.span_keyed_tracks.proofs.KeyChange.{ChangesAt-answered, ChangesAt-refusal, ChangesAt-stands}
 use Rattle.span_keyed_tracks.proofs.Matching.Open.{opener-open_of}
 use Rattle.span_keyed_tracks.proofs.Orders.{async_cmp-total, async_cmp-same}
@@ -24,14 +23,10 @@ pub returns-clause-length : goal.returns-clause-length
 returns-clause-length c =
     subst (λ (track : AsyncKept). IfOk c.change_at.result (λ length. (es : List AsyncEvent) → AsyncStandsFor track es → length_closed_by (steps_at async_cmp c.args.key.now es) (closes c.args.ts) ≡ length ∷ [])) c.self.view_is
     (ChangesAt-answered async_cmp-total async_cmp-same async_spans c.new-none.result c.change_at.result c.new-none.ensures c.change_at.ensures (λ steps length. length_closed_by steps (closes c.args.ts) ≡ length ∷ [])
-    (λ steps answer value called.
-    let ends : EndsLast (async_spans steps) c.args.ts answer value = search rules in
-    length_closed_by-closes steps ends.begin c.args.ts ends.matched ∙ ap (λ n. n ∷ []) (sym ends.lasts)))
+    (λ steps answer value called. length_closed_by-EndsLast steps c.args.ts answer value (search rules)))
 
 pub returns-clause-stands : goal.returns-clause-stands
 returns-clause-stands c =
     subst (λ (track : AsyncKept). OnOk c.change_at.result (TakesAsync track c.change_at.new.kept.entries (record { key = c.args.key.now; step = closes c.args.ts }))) c.self.view_is
     (ChangesAt-stands async_cmp-total async_cmp-same async_spans c.new-none.result c.change_at.result c.new-none.ensures c.change_at.ensures (closes c.args.ts)
-    (λ steps answer value called.
-    let ends : EndsLast (async_spans steps) c.args.ts answer value = search rules in
-    ends.becomes ∙ sym (async_spans-closes steps ends.begin c.args.ts ends.matched)))
+    (λ steps answer value called. async_spans-EndsLast steps c.args.ts answer value (search rules)))

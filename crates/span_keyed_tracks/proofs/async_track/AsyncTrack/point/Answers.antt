@@ -1,10 +1,9 @@
-use Rattle.std.proofs.Common.{rules, ◌≡◌, sym, subst, ◌∙◌}
+use Rattle.std.proofs.Common.{rules, subst}
 use Rattle.std.specs.Prelude.{OnOk}
 use Rattle.span_keyed_tracks.specs.Matching.{other}
 use Rattle.span_keyed_tracks.specs.Async.{AsyncKept, HasStepRoom, TakesAsync, async_cmp, async_spans}
-use Rattle.span_keyed_tracks.specs.AsyncKept.{with_point}
 use Rattle.span_keyed_tracks.proofs.Async.{async_spans-other}
-use Rattle.span_keyed_tracks.proofs.KeyChange.{kept_at-holds, ChangesAt-stands}
+use Rattle.span_keyed_tracks.proofs.KeyChange.{kept_at-holds, ChangesAt-stands, by_third}
 use Rattle.span_keyed_tracks.proofs.Orders.{async_cmp-total, async_cmp-same}
 use Rattle.span_keyed_tracks.proofs.async_track.AsyncTrack.point.Goals as goal
 
@@ -15,4 +14,4 @@ pub returns-clause-stands : goal.returns-clause-stands
 returns-clause-stands c =
     subst (λ (track : AsyncKept). OnOk c.change_at.result (TakesAsync track c.change_at.new.kept.entries (record { key = c.args.key.now; step = other tt }))) c.self.view_is
     (ChangesAt-stands async_cmp-total async_cmp-same async_spans c.new-none.result c.change_at.result c.new-none.ensures c.change_at.ensures (other tt)
-    (λ steps answer value called. let becomes : value ≡ with_point (async_spans steps) = search rules in becomes ∙ sym (async_spans-other steps)))
+    (λ steps answer value called. by_third (async_spans-other steps) (search rules)))

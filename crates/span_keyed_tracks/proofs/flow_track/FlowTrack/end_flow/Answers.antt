@@ -1,10 +1,9 @@
 use Rattle.std.proofs.Common.{rules, ◌≡◌, sym, ap₂, subst, ◌∙◌}
 use Rattle.std.specs.Prelude.{OnOk, Some}
 use Rattle.span_keyed_tracks.specs.Keyed.{kept_at}
-use Rattle.span_keyed_tracks.specs.Flow.{FlowKept, HasPointRoom, TakesFlow, closed_at, flow_chains, flow_closed, flow_cmp, finished}
-use Rattle.span_keyed_tracks.specs.FlowKept.{with_finish}
-use Rattle.span_keyed_tracks.proofs.Flow.{flow_chains-finished, unclosed-closed_at}
-use Rattle.span_keyed_tracks.proofs.KeyChange.{kept_at-holds, ChangesAt-answer, ChangesAt-stands}
+use Rattle.span_keyed_tracks.specs.Flow.{FlowKept, HasPointRoom, TakesFlow, flow_chains, flow_closed, flow_cmp, finished}
+use Rattle.span_keyed_tracks.proofs.Flow.{flow_chains-closed_at}
+use Rattle.span_keyed_tracks.proofs.KeyChange.{kept_at-holds, ChangesAt-answer, ChangesAt-stands, by_third}
 use Rattle.span_keyed_tracks.proofs.Orders.{flow_cmp-total, flow_cmp-same}
 use Rattle.span_keyed_tracks.proofs.flow_track.FlowTrack.end_flow.Goals as goal
 
@@ -23,8 +22,4 @@ pub returns-clause-stands : goal.returns-clause-stands
 returns-clause-stands c =
     subst (λ (track : FlowKept). OnOk c.change_at.result (TakesFlow track c.change_at.new.kept.entries (record { key = c.args.key.now; step = finished c.args.ts }))) c.self.view_is
     (ChangesAt-stands flow_cmp-total flow_cmp-same flow_chains c.new-none.result c.change_at.result c.new-none.ensures c.change_at.ensures (finished c.args.ts)
-    (λ points answer value called.
-    let becomes : value ≡ with_finish (flow_chains points) c.args.ts = search rules in
-    let closed : closed_at (flow_chains points).unclosed c.args.ts ≡ Some answer = search rules in
-    let chain = unclosed-closed_at (flow_chains points).unclosed c.args.ts answer closed in
-    becomes ∙ sym (flow_chains-finished points c.args.ts chain.0 chain.1)))
+    (λ points answer value called. by_third (flow_chains-closed_at points c.args.ts answer (search rules)) (search rules)))

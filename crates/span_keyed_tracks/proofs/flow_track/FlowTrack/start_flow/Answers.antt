@@ -1,9 +1,8 @@
-use Rattle.std.proofs.Common.{rules, ◌≡◌, sym, subst, ◌∙◌}
+use Rattle.std.proofs.Common.{rules, subst}
 use Rattle.std.specs.Prelude.{OnOk}
 use Rattle.span_keyed_tracks.specs.Flow.{FlowKept, HasPointRoom, TakesFlow, flow_chains, flow_cmp, started}
-use Rattle.span_keyed_tracks.specs.FlowKept.{with_start}
 use Rattle.span_keyed_tracks.proofs.Flow.{flow_chains-started}
-use Rattle.span_keyed_tracks.proofs.KeyChange.{kept_at-holds, ChangesAt-stands}
+use Rattle.span_keyed_tracks.proofs.KeyChange.{kept_at-holds, ChangesAt-stands, by_third}
 use Rattle.span_keyed_tracks.proofs.Orders.{flow_cmp-total, flow_cmp-same}
 use Rattle.span_keyed_tracks.proofs.flow_track.FlowTrack.start_flow.Goals as goal
 
@@ -14,6 +13,4 @@ pub returns-clause-stands : goal.returns-clause-stands
 returns-clause-stands c =
     subst (λ (track : FlowKept). OnOk c.change_at.result (TakesFlow track c.change_at.new.kept.entries (record { key = c.args.key.now; step = started c.args.ts }))) c.self.view_is
     (ChangesAt-stands flow_cmp-total flow_cmp-same flow_chains c.new-none.result c.change_at.result c.new-none.ensures c.change_at.ensures (started c.args.ts)
-    (λ points answer value called.
-    let becomes : value ≡ with_start (flow_chains points) c.args.ts = search rules in
-    becomes ∙ sym (flow_chains-started points c.args.ts)))
+    (λ points answer value called. by_third (flow_chains-started points c.args.ts) (search rules)))
