@@ -1,12 +1,11 @@
 -- A track of few events has room for a step of any key.
-use Rattle.std.proofs.Common.{◌≡◌, ℕ, ◌+◌, ◌-◌, ◌<◌, ◌≤◌, ◌^◌, List, [], ◌∷◌, ◌++◌, length, refl, ap, subst, ◌∙◌, arith, append_assoc, append-nil, length-append}
+use Rattle.std.proofs.Common.{◌≡◌, ℕ, ◌+◌, ◌-◌, ◌<◌, ◌≤◌, ◌^◌, List, [], ◌∷◌, ◌++◌, length, refl, ap, ◌∙◌, arith, length-append}
 use Rattle.span_keyed_tracks.specs.declared.keys.AsyncKey.{AsyncKey}
 use Rattle.span_keyed_tracks.specs.Last.{last_of}
 use Rattle.span_keyed_tracks.specs.Matching.{opens, closes, other, opener, open_of, closed_with}
-use Rattle.span_keyed_tracks.specs.Keyed.{steps_at}
 use Rattle.span_keyed_tracks.specs.Async.{AsyncStep, AsyncSpans, AsyncKept, AsyncEvent, AsyncStandsFor, HasAsyncRoom, async_cmp, async_spans, closed_lengths, length_between, no_length}
 use Rattle.span_keyed_tracks.proofs.Async.{async_spans-opens, async_spans-other, async_spans_at-StandsFor, count_by-closes}
-use Rattle.span_keyed_tracks.proofs.Keyed.{length-steps_at}
+use Rattle.span_keyed_tracks.proofs.Keyed.{size-steps_at}
 use Rattle.span_keyed_tracks.proofs.Matching.Open.{opener-open_of, open_of-closes}
 use Rattle.span_keyed_tracks.proofs.Matching.Closed.{closed_of-append, length-closed_with}
 
@@ -25,14 +24,7 @@ size-append steps (closes ts) =
     let points = count_by-closes steps ts in
     omega (arith, opened, closed, points, length-closed_with length_between no_length ts (λ b. refl) (open_of steps))
 
-size-from : (steps later : List AsyncStep) → size (async_spans (steps ++ later)) ≤ size (async_spans steps) + length later
-size-from steps [] = rw (append-nil steps) (omega arith)
-size-from steps (step ∷ later) =
-    let rest = size-from (steps ++ step ∷ []) later in
-    let moved = subst (λ (l : List AsyncStep). size (async_spans l) ≤ size (async_spans (steps ++ step ∷ [])) + length later) (append_assoc steps (step ∷ []) later) rest in
-    omega (arith, moved, size-append steps step)
-
 -- a key has room where the track stands for few events
 pub HasAsyncRoom-StandsFor : (track : AsyncKept) (es : List AsyncEvent) (key : AsyncKey) → AsyncStandsFor track es → length es < 2 ^ 32 - 1 → HasAsyncRoom track key
 HasAsyncRoom-StandsFor track es key stands few =
-    rw (async_spans_at-StandsFor track es key stands) (omega (arith, few, size-from [] (steps_at async_cmp key es), length-steps_at async_cmp key es))
+    rw (async_spans_at-StandsFor track es key stands) (omega (arith, few, size-steps_at async_cmp (λ (l : List AsyncStep). size (async_spans l)) refl size-append key es))

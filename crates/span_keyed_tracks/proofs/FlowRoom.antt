@@ -1,12 +1,11 @@
 -- A track of few events has room for a point of any key.
-use Rattle.std.proofs.Common.{ℕ, ◌+◌, ◌-◌, ◌<◌, ◌≤◌, ◌^◌, ℤ, List, [], ◌∷◌, ◌++◌, length, Option, Some, None, ap, subst, arith, append_assoc, append-nil}
+use Rattle.std.proofs.Common.{refl, ℕ, ◌+◌, ◌-◌, ◌<◌, ◌≤◌, ◌^◌, ℤ, List, [], ◌∷◌, ◌++◌, length, Option, Some, None, ap, arith}
 use Rattle.std.specs.Option.{option_map}
 use Rattle.span_keyed_tracks.specs.declared.keys.FlowKey.{FlowKey}
-use Rattle.span_keyed_tracks.specs.Keyed.{steps_at}
 use Rattle.span_keyed_tracks.specs.Flow.{FlowPoint, started, stepped, finished, OpenChain, FlowChains, FlowKept, FlowEvent, FlowStandsFor, HasFlowRoom, chain_of, flow_chains, flow_cmp, points_of, summary}
 use Rattle.span_keyed_tracks.specs.FlowKept.{longer}
 use Rattle.span_keyed_tracks.proofs.Flow.{count-append, flow_chains-started, flow_chains-stepped, unclosed-finished, flow_chains_at-StandsFor}
-use Rattle.span_keyed_tracks.proofs.Keyed.{length-steps_at}
+use Rattle.span_keyed_tracks.proofs.Keyed.{size-steps_at}
 
 -- how many points they account for
 abbrev size : FlowChains → ℕ
@@ -21,14 +20,7 @@ size-append points (started ts) = omega (arith, ap size (flow_chains-started poi
 size-append points (stepped ts) = omega (arith, ap size (flow_chains-stepped points ts), points_of-longer ts (summary (chain_of points)))
 size-append points (finished ts) = omega (arith, count-append points (finished ts), ap points_of (unclosed-finished points ts))
 
-size-from : (points later : List FlowPoint) → size (flow_chains (points ++ later)) ≤ size (flow_chains points) + length later
-size-from points [] = rw (append-nil points) (omega arith)
-size-from points (point ∷ later) =
-    let rest = size-from (points ++ point ∷ []) later in
-    let moved = subst (λ (l : List FlowPoint). size (flow_chains l) ≤ size (flow_chains (points ++ point ∷ [])) + length later) (append_assoc points (point ∷ []) later) rest in
-    omega (arith, moved, size-append points point)
-
 -- a key has room where the track stands for few events
 pub HasFlowRoom-StandsFor : (track : FlowKept) (es : List FlowEvent) (key : FlowKey) → FlowStandsFor track es → length es < 2 ^ 32 - 1 → HasFlowRoom track key
 HasFlowRoom-StandsFor track es key stands few =
-    rw (flow_chains_at-StandsFor track es key stands) (omega (arith, few, size-from [] (steps_at flow_cmp key es), length-steps_at flow_cmp key es))
+    rw (flow_chains_at-StandsFor track es key stands) (omega (arith, few, size-steps_at flow_cmp (λ (l : List FlowPoint). size (flow_chains l)) refl size-append key es))

@@ -79,30 +79,33 @@ ChangesAt-answer {cmp = cmp} {none = none} {call = call} {old = old} {key = key}
     follows answer change.value (subst (λ made. call (kept_at cmp none old key) made change.value) change.ok.0 change.called)
 ChangesAt-answer (Err fault) P follows change = tt
 
--- where the map keeps what the steps of each key give
+-- where a track keeps what the steps of each key give
 module _ {K A X : Type 0} {cmp : K → K → Ordering} (o : IsTotalOrder cmp) (same : (a b : K) → cmp a b ≡ Equal → a ≡ b) (give : List A → X) where
-  module _ {T : Type 0} {call : X → Result T TrackFault → X → Type 0} {old new : List (K × X)} {key : K} (none : X) (result : Result T TrackFault) (empty : none ≡ give []) (change : ChangesAt cmp none call old new key result) where
-    called_on : (es : List (Keyed K A)) → old ≡ entries_in cmp give es → call (give (steps_at cmp key es)) change.made change.value
-    called_on es stands = subst (λ x. call x change.made change.value) (ap₂ (λ n kept. kept_at cmp n kept key) empty stands ∙ kept_at-entries_in o same give es key) change.called
+  module _ {T : Type 0} {call : X → Result T TrackFault → X → Type 0} {none : X} {old new track : List (K × X)} {key : K} (empty : none ≡ give []) (is : old ≡ track) where
+    called_on : {result : Result T TrackFault} (change : ChangesAt cmp none call old new key result) (es : List (Keyed K A)) → track ≡ entries_in cmp give es → call (give (steps_at cmp key es)) change.made change.value
+    called_on change es stands = subst (λ x. call x change.made change.value) (ap₂ (λ n kept. kept_at cmp n kept key) empty (is ∙ stands) ∙ kept_at-entries_in o same give es key) change.called
+
+    answered_on : (answer : T) (change : ChangesAt cmp none call old new key (Ok answer)) (es : List (Keyed K A)) → track ≡ entries_in cmp give es → call (give (steps_at cmp key es)) (Ok answer) change.value
+    answered_on answer change es stands = subst (λ made. call (give (steps_at cmp key es)) made change.value) change.ok.0 (called_on change es stands)
 
     -- what a call refuses after some steps is refused
-    pub ChangesAt-refusal : (refusal : List A → Option ℕ) → ((steps : List A) (made : Result T TrackFault) (value : X) → call (give steps) made value → Answers made (refusal steps)) →
-        (es : List (Keyed K A)) → old ≡ entries_in cmp give es → Answers result (refusal (steps_at cmp key es))
-    ChangesAt-refusal refusal follows es stands = change.answers (refusal (steps_at cmp key es)) (follows (steps_at cmp key es) change.made change.value (called_on es stands))
+    pub ChangesAt-refusal : {result : Result T TrackFault} → ChangesAt cmp none call old new key result → (refusal : List A → Option ℕ) →
+        ((steps : List A) (made : Result T TrackFault) (value : X) → call (give steps) made value → Answers made (refusal steps)) →
+        (es : List (Keyed K A)) → track ≡ entries_in cmp give es → Answers result (refusal (steps_at cmp key es))
+    ChangesAt-refusal change refusal follows es stands = change.answers (refusal (steps_at cmp key es)) (follows (steps_at cmp key es) change.made change.value (called_on change es stands))
 
-  -- what a call answers after some steps is answered
-  pub ChangesAt-answered : {T : Type 0} {call : X → Result T TrackFault → X → Type 0} {old new : List (K × X)} {key : K} (none : X) (result : Result T TrackFault) → none ≡ give [] → ChangesAt cmp none call old new key result →
-      (P : List A → T → Type 0) → ((steps : List A) (answer : T) (value : X) → call (give steps) (Ok answer) value → P steps answer) →
-      IfOk result (λ answer. (es : List (Keyed K A)) → old ≡ entries_in cmp give es → P (steps_at cmp key es) answer)
-  ChangesAt-answered {call = call} {key = key} none (Ok answer) empty change P follows = λ es stands.
-      follows (steps_at cmp key es) answer change.value (subst (λ made. call (give (steps_at cmp key es)) made change.value) change.ok.0 (called_on none (Ok answer) empty change es stands))
-  ChangesAt-answered none (Err fault) empty change P follows = tt
+    -- what a call answers after some steps is answered
+    pub ChangesAt-answered : (result : Result T TrackFault) → ChangesAt cmp none call old new key result → (P : List A → T → Type 0) →
+        ((steps : List A) (answer : T) (value : X) → call (give steps) (Ok answer) value → P steps answer) →
+        IfOk result (λ answer. (es : List (Keyed K A)) → track ≡ entries_in cmp give es → P (steps_at cmp key es) answer)
+    ChangesAt-answered (Ok answer) change P follows = λ es stands. follows (steps_at cmp key es) answer change.value (answered_on answer change es stands)
+    ChangesAt-answered (Err fault) change P follows = tt
 
-  -- where a call makes of what some steps give what they give with one more, the map stands for one more step
-  pub ChangesAt-stands : {T : Type 0} {call : X → Result T TrackFault → X → Type 0} {old new : List (K × X)} {key : K} (none : X) (result : Result T TrackFault) → none ≡ give [] → ChangesAt cmp none call old new key result →
-      (step : A) → ((steps : List A) (answer : T) (value : X) → call (give steps) (Ok answer) value → value ≡ give (steps ++ step ∷ [])) →
-      OnOk result ((es : List (Keyed K A)) → old ≡ entries_in cmp give es → new ≡ entries_in cmp give (es ++ record { key = key; step = step } ∷ []))
-  ChangesAt-stands {call = call} {old = old} {key = key} none (Ok answer) empty change step follows = λ es stands.
-      let called = subst (λ made. call (give (steps_at cmp key es)) made change.value) change.ok.0 (called_on none (Ok answer) empty change es stands) in
-      change.ok.1 ∙ entries_in-insert_entry o same give es (record { key = key; step = step }) old change.value stands change.ordered (follows (steps_at cmp key es) answer change.value called)
-  ChangesAt-stands none (Err fault) empty change step follows = tt
+    -- where a call makes of what some steps give what they give with one more, the track stands for one more step
+    pub ChangesAt-stands : (result : Result T TrackFault) → ChangesAt cmp none call old new key result → (step : A) →
+        ((steps : List A) (answer : T) (value : X) → call (give steps) (Ok answer) value → value ≡ give (steps ++ step ∷ [])) →
+        OnOk result ((es : List (Keyed K A)) → track ≡ entries_in cmp give es → new ≡ entries_in cmp give (es ++ record { key = key; step = step } ∷ []))
+    ChangesAt-stands (Ok answer) change step follows = λ es stands.
+        change.ok.1 ∙ entries_in-insert_entry o same give es (record { key = key; step = step }) old change.value (is ∙ stands) change.ordered
+        (follows (steps_at cmp key es) answer change.value (answered_on answer change es stands))
+    ChangesAt-stands (Err fault) change step follows = tt

@@ -1,5 +1,5 @@
 -- How what is kept for many keys changes with a step of one of them.
-use Rattle.std.proofs.Common.{◌≡◌, ◌≤◌, length, arith, List, [], ◌∷◌, ◌++◌, Bool, true, false, ◌||◌, cond, Option, Some, None, refl, sym, ap, ap₂, subst, ◌∙◌, map, append-nil}
+use Rattle.std.proofs.Common.{◌≡◌, ℕ, ◌+◌, ◌≤◌, length, arith, append_assoc, List, [], ◌∷◌, ◌++◌, Bool, true, false, ◌||◌, cond, Option, Some, None, refl, sym, ap, ap₂, subst, ◌∙◌, map, append-nil}
 use Rattle.std.specs.Prelude.{filter, fold, is_some, unwrap_or}
 use Rattle.std.specs.List.{list_any, AllByRecursion}
 use Rattle.std.specs.List.Sorted.{IsStrictlySortedBy}
@@ -62,6 +62,17 @@ pub length-steps_at : {K A : Type 0} (cmp : K → K → Ordering) (key : K) (es 
 length-steps_at {K = K} {A = A} cmp key es =
     let kept = filter (λ (e : Keyed K A). is_eq (cmp e.key key)) es in
     omega (arith, length-map kept (λ (e : Keyed K A). e.step), length-filter (λ (e : Keyed K A). is_eq (cmp e.key key)) es, count_by-le-length (λ (e : Keyed K A). is_eq (cmp e.key key)) es)
+
+-- what grows by one at most with each step
+size-append : {A : Type 0} (size : List A → ℕ) → ((steps : List A) (step : A) → size (steps ++ step ∷ []) ≤ size steps + 1) → (steps later : List A) → size (steps ++ later) ≤ size steps + length later
+size-append size grows steps [] = rw (append-nil steps) (omega arith)
+size-append {A = A} size grows steps (step ∷ later) =
+    let rest = subst (λ (l : List A). size l ≤ size (steps ++ step ∷ []) + length later) (append_assoc steps (step ∷ []) later) (size-append size grows (steps ++ step ∷ []) later) in
+    omega (arith, rest, grows steps step)
+
+-- is, for the steps of a key, no more than there are steps
+pub size-steps_at : {K A : Type 0} (cmp : K → K → Ordering) (size : List A → ℕ) → size [] ≡ 0 → ((steps : List A) (step : A) → size (steps ++ step ∷ []) ≤ size steps + 1) → (key : K) (es : List (Keyed K A)) → size (steps_at cmp key es) ≤ length es
+size-steps_at cmp size empty grows key es = omega (arith, empty, size-append size grows [] (steps_at cmp key es), length-steps_at cmp key es)
 
 module _ {K : Type 0} {cmp : K → K → Ordering} (o : IsTotalOrder cmp) where
   -- a key below the first of these is none of them

@@ -72,10 +72,8 @@ fn name_setting(
 ) -> Result<Option<(Holder, Setting)>, AllocError>
     ensures { IfOk result (λ s. option_map keyed_setting s ≡ name_setting event.now tid) }
 {
-    match text_at(alloc, event, "name")? {
-        Some(name) => Ok(Some(((event.pid, tid), Setting::Name(name)))),
-        None => Ok(None),
-    }
+    let name = text_at(alloc, event, "name")?;
+    Ok(name.map(|name| ((event.pid, tid), Setting::Name(name))))
 }
 
 fn labels_setting(
@@ -85,10 +83,8 @@ fn labels_setting(
 ) -> Result<Option<(Holder, Setting)>, AllocError>
     ensures { IfOk result (λ s. option_map keyed_setting s ≡ labels_setting event.now tid) }
 {
-    match text_at(alloc, event, "labels")? {
-        Some(labels) => Ok(Some(((event.pid, tid), Setting::Labels(labels)))),
-        None => Ok(None),
-    }
+    let labels = text_at(alloc, event, "labels")?;
+    Ok(labels.map(|labels| ((event.pid, tid), Setting::Labels(labels))))
 }
 
 fn sort_setting(event: &Event, tid: Option<i64>) -> Option<(Holder, Setting)>

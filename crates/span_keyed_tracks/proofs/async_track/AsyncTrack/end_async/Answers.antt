@@ -1,10 +1,8 @@
-use Rattle.std.proofs.Common.{rules, ◌≡◌, List, ◌∷◌, [], sym, subst, ◌∙◌}
-use Rattle.std.specs.Prelude.{IfOk, OnOk}
+use Rattle.std.proofs.Common.{rules, ◌≡◌, ◌∷◌, [], sym, subst}
 use Rattle.span_keyed_tracks.specs.Matching.{closes}
 use Rattle.span_keyed_tracks.specs.Fault.{Answers, refusal_of}
 use Rattle.span_keyed_tracks.specs.Last.{last_of}
-use Rattle.span_keyed_tracks.specs.Async.{AsyncEvent, AsyncKept, AsyncStandsFor, TakesAsync, async_cmp, async_end_refusal, async_matched, async_spans, length_closed_by}
-use Rattle.span_keyed_tracks.specs.Keyed.{steps_at}
+use Rattle.span_keyed_tracks.specs.Async.{async_end_refusal, async_matched, async_spans, length_closed_by}
 use Rattle.span_keyed_tracks.proofs.Async.{async_spans-EndsLast, length_closed_by-EndsLast}
 use Rattle.span_keyed_tracks.proofs.KeyChange.{ChangesAt-answered, ChangesAt-refusal, ChangesAt-stands}
 use Rattle.span_keyed_tracks.proofs.Matching.Open.{opener-open_of}
@@ -12,21 +10,18 @@ use Rattle.span_keyed_tracks.proofs.Orders.{async_cmp-total, async_cmp-same}
 use Rattle.span_keyed_tracks.proofs.async_track.AsyncTrack.end_async.Goals as goal
 
 pub returns-clause-refusal : goal.returns-clause-refusal
-returns-clause-refusal c = λ es stands.
-    ChangesAt-refusal async_cmp-total async_cmp-same async_spans c.new-none.result c.change_at.result c.new-none.ensures c.change_at.ensures (λ steps. async_end_refusal steps c.args.ts)
+returns-clause-refusal c =
+    ChangesAt-refusal async_cmp-total async_cmp-same async_spans c.new-none.ensures c.self.view_is c.change_at.ensures (λ steps. async_end_refusal steps c.args.ts)
     (λ steps made value called.
     let told : Answers made (refusal_of (async_matched (last_of (async_spans steps).opened) c.args.ts)) = search rules in
     subst (λ begin. Answers made (refusal_of (async_matched begin c.args.ts))) (sym (opener-open_of steps)) told)
-    es (c.self.view_is ∙ stands)
 
 pub returns-clause-length : goal.returns-clause-length
 returns-clause-length c =
-    subst (λ (track : AsyncKept). IfOk c.change_at.result (λ length. (es : List AsyncEvent) → AsyncStandsFor track es → length_closed_by (steps_at async_cmp c.args.key.now es) (closes c.args.ts) ≡ length ∷ [])) c.self.view_is
-    (ChangesAt-answered async_cmp-total async_cmp-same async_spans c.new-none.result c.change_at.result c.new-none.ensures c.change_at.ensures (λ steps length. length_closed_by steps (closes c.args.ts) ≡ length ∷ [])
-    (λ steps answer value called. length_closed_by-EndsLast steps c.args.ts answer value (search rules)))
+    ChangesAt-answered async_cmp-total async_cmp-same async_spans c.new-none.ensures c.self.view_is c.change_at.result c.change_at.ensures (λ steps length. length_closed_by steps (closes c.args.ts) ≡ length ∷ [])
+    (λ steps answer value called. length_closed_by-EndsLast steps c.args.ts answer value (search rules))
 
 pub returns-clause-stands : goal.returns-clause-stands
 returns-clause-stands c =
-    subst (λ (track : AsyncKept). OnOk c.change_at.result (TakesAsync track c.change_at.new.kept.entries (record { key = c.args.key.now; step = closes c.args.ts }))) c.self.view_is
-    (ChangesAt-stands async_cmp-total async_cmp-same async_spans c.new-none.result c.change_at.result c.new-none.ensures c.change_at.ensures (closes c.args.ts)
-    (λ steps answer value called. async_spans-EndsLast steps c.args.ts answer value (search rules)))
+    ChangesAt-stands async_cmp-total async_cmp-same async_spans c.new-none.ensures c.self.view_is c.change_at.result c.change_at.ensures (closes c.args.ts)
+    (λ steps answer value called. async_spans-EndsLast steps c.args.ts answer value (search rules))

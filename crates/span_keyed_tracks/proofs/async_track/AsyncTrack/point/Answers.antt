@@ -1,7 +1,6 @@
-use Rattle.std.proofs.Common.{rules, subst}
-use Rattle.std.specs.Prelude.{OnOk}
+use Rattle.std.proofs.Common.{rules}
 use Rattle.span_keyed_tracks.specs.Matching.{other}
-use Rattle.span_keyed_tracks.specs.Async.{AsyncKept, HasStepRoom, TakesAsync, async_cmp, async_spans}
+use Rattle.span_keyed_tracks.specs.Async.{HasStepRoom, async_cmp, async_spans}
 use Rattle.span_keyed_tracks.proofs.Async.{async_spans-other}
 use Rattle.span_keyed_tracks.proofs.KeyChange.{kept_at-holds, ChangesAt-stands, by_third}
 use Rattle.span_keyed_tracks.proofs.Orders.{async_cmp-total, async_cmp-same}
@@ -12,6 +11,5 @@ change_at-requires-clause-can c = λ value is. let room = kept_at-holds async_cm
 
 pub returns-clause-stands : goal.returns-clause-stands
 returns-clause-stands c =
-    subst (λ (track : AsyncKept). OnOk c.change_at.result (TakesAsync track c.change_at.new.kept.entries (record { key = c.args.key.now; step = other tt }))) c.self.view_is
-    (ChangesAt-stands async_cmp-total async_cmp-same async_spans c.new-none.result c.change_at.result c.new-none.ensures c.change_at.ensures (other tt)
-    (λ steps answer value called. by_third (async_spans-other steps) (search rules)))
+    ChangesAt-stands async_cmp-total async_cmp-same async_spans c.new-none.ensures c.self.view_is c.change_at.result c.change_at.ensures (other tt)
+    (λ steps answer value called. by_third (async_spans-other steps) (search rules))

@@ -1,7 +1,7 @@
-use Rattle.std.proofs.Common.{rules, ◌≡◌, sym, ap₂, subst, ◌∙◌}
-use Rattle.std.specs.Prelude.{OnOk, Some}
+use Rattle.std.proofs.Common.{rules, ◌≡◌, sym, ap₂, ◌∙◌}
+use Rattle.std.specs.Prelude.{Some}
 use Rattle.span_keyed_tracks.specs.Keyed.{kept_at}
-use Rattle.span_keyed_tracks.specs.Flow.{FlowKept, HasPointRoom, TakesFlow, flow_chains, flow_closed, flow_cmp, finished}
+use Rattle.span_keyed_tracks.specs.Flow.{HasPointRoom, flow_chains, flow_closed, flow_cmp, finished}
 use Rattle.span_keyed_tracks.proofs.Flow.{flow_chains-closed_at}
 use Rattle.span_keyed_tracks.proofs.KeyChange.{kept_at-holds, ChangesAt-answer, ChangesAt-stands, by_third}
 use Rattle.span_keyed_tracks.proofs.Orders.{flow_cmp-total, flow_cmp-same}
@@ -20,6 +20,5 @@ returns-clause-closed c =
 
 pub returns-clause-stands : goal.returns-clause-stands
 returns-clause-stands c =
-    subst (λ (track : FlowKept). OnOk c.change_at.result (TakesFlow track c.change_at.new.kept.entries (record { key = c.args.key.now; step = finished c.args.ts }))) c.self.view_is
-    (ChangesAt-stands flow_cmp-total flow_cmp-same flow_chains c.new-none.result c.change_at.result c.new-none.ensures c.change_at.ensures (finished c.args.ts)
-    (λ points answer value called. by_third (flow_chains-closed_at points c.args.ts answer (search rules)) (search rules)))
+    ChangesAt-stands flow_cmp-total flow_cmp-same flow_chains c.new-none.ensures c.self.view_is c.change_at.result c.change_at.ensures (finished c.args.ts)
+    (λ points answer value called. by_third (flow_chains-closed_at points c.args.ts answer (search rules)) (search rules))

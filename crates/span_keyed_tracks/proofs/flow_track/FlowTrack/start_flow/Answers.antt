@@ -1,6 +1,5 @@
-use Rattle.std.proofs.Common.{rules, subst}
-use Rattle.std.specs.Prelude.{OnOk}
-use Rattle.span_keyed_tracks.specs.Flow.{FlowKept, HasPointRoom, TakesFlow, flow_chains, flow_cmp, started}
+use Rattle.std.proofs.Common.{rules}
+use Rattle.span_keyed_tracks.specs.Flow.{HasPointRoom, flow_chains, flow_cmp, started}
 use Rattle.span_keyed_tracks.proofs.Flow.{flow_chains-started}
 use Rattle.span_keyed_tracks.proofs.KeyChange.{kept_at-holds, ChangesAt-stands, by_third}
 use Rattle.span_keyed_tracks.proofs.Orders.{flow_cmp-total, flow_cmp-same}
@@ -11,6 +10,5 @@ change_at-requires-clause-can c = λ value is. let room = kept_at-holds flow_cmp
 
 pub returns-clause-stands : goal.returns-clause-stands
 returns-clause-stands c =
-    subst (λ (track : FlowKept). OnOk c.change_at.result (TakesFlow track c.change_at.new.kept.entries (record { key = c.args.key.now; step = started c.args.ts }))) c.self.view_is
-    (ChangesAt-stands flow_cmp-total flow_cmp-same flow_chains c.new-none.result c.change_at.result c.new-none.ensures c.change_at.ensures (started c.args.ts)
-    (λ points answer value called. by_third (flow_chains-started points c.args.ts) (search rules)))
+    ChangesAt-stands flow_cmp-total flow_cmp-same flow_chains c.new-none.ensures c.self.view_is c.change_at.result c.change_at.ensures (started c.args.ts)
+    (λ points answer value called. by_third (flow_chains-started points c.args.ts) (search rules))

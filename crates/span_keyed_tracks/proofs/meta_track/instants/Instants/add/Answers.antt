@@ -1,8 +1,7 @@
-use Rattle.std.proofs.Common.{rules, refl, subst}
-use Rattle.std.specs.Prelude.{OnOk}
+use Rattle.std.proofs.Common.{rules, refl}
 use Rattle.span_event.specs.Orders.{thread_cmp}
 use Rattle.span_event.proofs.Orders.{thread_cmp-same, thread_cmp-total}
-use Rattle.span_keyed_tracks.specs.Instants.{HasNameRoom, InstantsKept, NamedReach, TakesInstant, TakesName, names_counted}
+use Rattle.span_keyed_tracks.specs.Instants.{HasNameRoom, NamedReach, TakesName, names_counted}
 use Rattle.span_keyed_tracks.proofs.Instants.{few_names}
 use Rattle.span_keyed_tracks.proofs.KeyChange.{kept_at-holds, ChangesAt-stands}
 use Rattle.span_keyed_tracks.proofs.meta_track.instants.Instants.add.Goals as goal
@@ -13,6 +12,5 @@ change_at-requires-clause-can c = λ value is. let room = kept_at-holds thread_c
 pub returns-clause-takes : goal.returns-clause-takes
 returns-clause-takes c =
     let step : NamedReach = record { key = c.args.name.now; step = c.args.reach } in
-    subst (λ (track : InstantsKept). OnOk c.change_at.result (TakesInstant track c.change_at.new.kept.entries (record { key = c.args.thread; step = step }))) c.self.view_is
-    (ChangesAt-stands thread_cmp-total thread_cmp-same names_counted c.new-none.result c.change_at.result c.new-none.ensures c.change_at.ensures step
-    (λ steps answer value called. let takes : TakesName (names_counted steps) value step = search rules in takes steps refl))
+    ChangesAt-stands thread_cmp-total thread_cmp-same names_counted c.new-none.ensures c.self.view_is c.change_at.result c.change_at.ensures step
+    (λ steps answer value called. let takes : TakesName (names_counted steps) value step = search rules in takes steps refl)

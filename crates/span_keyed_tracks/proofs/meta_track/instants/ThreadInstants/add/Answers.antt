@@ -1,9 +1,8 @@
-use Rattle.std.proofs.Common.{rules, ◌-◌, ◌<◌, ◌^◌, subst}
-use Rattle.std.specs.Prelude.{OnOk}
+use Rattle.std.proofs.Common.{rules, ◌-◌, ◌<◌, ◌^◌}
 use Rattle.std.proofs.lemmas.Cmp.{nat_list_cmp_total}
 use Rattle.span_event.proofs.Orders.{text_same}
 use Rattle.span_event.specs.Text.{text_cmp}
-use Rattle.span_keyed_tracks.specs.Instants.{NamesCounted, ReachCounts, TakesName, counts_of}
+use Rattle.span_keyed_tracks.specs.Instants.{ReachCounts, counts_of}
 use Rattle.span_keyed_tracks.specs.InstantsKept.{count_at}
 use Rattle.span_keyed_tracks.proofs.Instants.{counts_of-push, few_reaches}
 use Rattle.span_keyed_tracks.proofs.KeyChange.{kept_at-holds, ChangesAt-stands, by_third}
@@ -16,6 +15,5 @@ change_at-requires-clause-can c = λ value is.
 
 pub returns-clause-takes : goal.returns-clause-takes
 returns-clause-takes c =
-    subst (λ (names : NamesCounted). OnOk c.change_at.result (TakesName names c.change_at.new.kept.entries (record { key = c.args.name.now; step = c.args.reach }))) c.self.view_is
-    (ChangesAt-stands nat_list_cmp_total text_same counts_of c.new.result c.change_at.result c.new.ensures c.change_at.ensures c.args.reach
-    (λ reaches answer value called. by_third (counts_of-push reaches c.args.reach) (search rules)))
+    ChangesAt-stands nat_list_cmp_total text_same counts_of c.new.ensures c.self.view_is c.change_at.result c.change_at.ensures c.args.reach
+    (λ reaches answer value called. by_third (counts_of-push reaches c.args.reach) (search rules))
