@@ -85,12 +85,12 @@ const NOTHING: AsyncTotals = AsyncTotals {
     points: 0,
 };
 
-fn a_key_in_two_scopes_on(
-    rt: &(impl Abort + AllocGlobal),
-    track: &mut AsyncTrack,
-    here: &AsyncKey,
-    elsewhere: &AsyncKey,
-) -> Result<(), Fail> {
+#[test]
+fn a_key_in_two_scopes(rt: HostRuntime) -> Result<(), Fail> {
+    let rt = &rt;
+    let here = &key(rt.alloc(), ("net", "A", None, "5", ""))?;
+    let elsewhere = &key(rt.alloc(), ("net", "B", None, "5", ""))?;
+    let track = &mut AsyncTrack::new(rt.alloc());
     begin(rt, track, here, 10)?;
     expect_refusal(rt, track, elsewhere, 11, 23);
     expect_length(rt, track, here, 14, 4)?;
@@ -108,23 +108,11 @@ fn a_key_in_two_scopes_on(
 }
 
 #[test]
-fn a_key_in_two_scopes(rt: HostRuntime) -> Result<(), Fail> {
-    let here = key(rt.alloc(), ("net", "A", None, "5", ""))?;
-    let elsewhere = key(rt.alloc(), ("net", "B", None, "5", ""))?;
-    let mut track = AsyncTrack::new(rt.alloc());
-    let told = a_key_in_two_scopes_on(&rt, &mut track, &here, &elsewhere);
-    drop(track);
-    drop(elsewhere);
-    drop(here);
-    told
-}
-
-fn an_id_of_two_processes_on(
-    rt: &impl Abort,
-    track: &mut AsyncTrack,
-    first: &AsyncKey,
-    second: &AsyncKey,
-) -> Result<(), Fail> {
+fn an_id_of_two_processes(rt: HostRuntime) -> Result<(), Fail> {
+    let rt = &rt;
+    let first = &key(rt.alloc(), ("", "", Some(1), "1", ""))?;
+    let second = &key(rt.alloc(), ("", "", Some(2), "1", ""))?;
+    let track = &mut AsyncTrack::new(rt.alloc());
     begin(rt, track, first, 1)?;
     expect_refusal(rt, track, second, 2, 23);
     expect_refusal(rt, track, first, 0, 24);
@@ -135,22 +123,10 @@ fn an_id_of_two_processes_on(
 }
 
 #[test]
-fn an_id_of_two_processes(rt: HostRuntime) -> Result<(), Fail> {
-    let first = key(rt.alloc(), ("", "", Some(1), "1", ""))?;
-    let second = key(rt.alloc(), ("", "", Some(2), "1", ""))?;
-    let mut track = AsyncTrack::new(rt.alloc());
-    let told = an_id_of_two_processes_on(&rt, &mut track, &first, &second);
-    drop(track);
-    drop(second);
-    drop(first);
-    told
-}
-
-fn spans_of_one_key_that_nest_on(
-    rt: &impl Abort,
-    track: &mut AsyncTrack,
-    key: &AsyncKey,
-) -> Result<(), Fail> {
+fn spans_of_one_key_that_nest(rt: HostRuntime) -> Result<(), Fail> {
+    let rt = &rt;
+    let key = &key(rt.alloc(), ("c", "", None, "x", "n"))?;
+    let track = &mut AsyncTrack::new(rt.alloc());
     expect_totals(rt, track, key, NOTHING);
     point(rt, track, key)?;
     begin(rt, track, key, 9)?;
@@ -175,20 +151,10 @@ fn spans_of_one_key_that_nest_on(
 }
 
 #[test]
-fn spans_of_one_key_that_nest(rt: HostRuntime) -> Result<(), Fail> {
-    let key = key(rt.alloc(), ("c", "", None, "x", "n"))?;
-    let mut track = AsyncTrack::new(rt.alloc());
-    let told = spans_of_one_key_that_nest_on(&rt, &mut track, &key);
-    drop(track);
-    drop(key);
-    told
-}
-
-fn the_longest_span_three_times_on(
-    rt: &impl Abort,
-    track: &mut AsyncTrack,
-    key: &AsyncKey,
-) -> Result<(), Fail> {
+fn the_longest_span_three_times(rt: HostRuntime) -> Result<(), Fail> {
+    let rt = &rt;
+    let key = &key(rt.alloc(), ("", "", None, "", ""))?;
+    let track = &mut AsyncTrack::new(rt.alloc());
     for _ in 0..3u32 {
         begin(rt, track, key, -9_007_199_254_740_991)?;
         expect_length(
@@ -203,40 +169,19 @@ fn the_longest_span_three_times_on(
     Ok(())
 }
 
-#[test]
-fn the_longest_span_three_times(rt: HostRuntime) -> Result<(), Fail> {
-    let key = key(rt.alloc(), ("", "", None, "", ""))?;
-    let mut track = AsyncTrack::new(rt.alloc());
-    let told = the_longest_span_three_times_on(&rt, &mut track, &key);
-    drop(track);
-    drop(key);
-    told
-}
-
 // A step of the second key and then of the first: their rows come the other way round.
-fn expect_order_on(
-    rt: &(impl Abort + AllocGlobal),
-    track: &mut AsyncTrack,
-    first: &AsyncKey,
-    second: &AsyncKey,
-) -> Result<(), Fail> {
-    point(rt, track, second)?;
-    point(rt, track, first)?;
-    let rows = track.rows(rt.alloc())?;
-    assert!(rt; rows.len() == 2);
-    assert!(rt; rows[0].key == *first);
-    Ok(())
-}
-
 fn expect_order(
     rt: &(impl Abort + AllocGlobal),
     first: &AsyncKey,
     second: &AsyncKey,
 ) -> Result<(), Fail> {
     let mut track = AsyncTrack::new(rt.alloc());
-    let told = expect_order_on(rt, &mut track, first, second);
-    drop(track);
-    told
+    point(rt, &mut track, second)?;
+    point(rt, &mut track, first)?;
+    let rows = track.rows(rt.alloc())?;
+    assert!(rt; rows.len() == 2);
+    assert!(rt; rows[0].key == *first);
+    Ok(())
 }
 
 // By category before scope, scope before id, the id's process before its text, id before name, and name.

@@ -83,11 +83,11 @@ fn expect_one_row(rt: &impl Abort, rows: &[FlowRow], key: &FlowKey, totals: Flow
     }
 }
 
-fn a_chain_and_the_start_of_another_on(
-    rt: &(impl Abort + AllocGlobal),
-    track: &mut FlowTrack,
-    key: &FlowKey,
-) -> Result<(), Fail> {
+#[test]
+fn a_chain_and_the_start_of_another(rt: HostRuntime) -> Result<(), Fail> {
+    let rt = &rt;
+    let key = &key(rt.alloc(), ("", "", None, "9"))?;
+    let track = &mut FlowTrack::new(rt.alloc());
     start(rt, track, key, 1)?;
     expect_refusal(rt, start(rt, track, key, 2), 25);
     step(rt, track, key, 3)?;
@@ -114,21 +114,11 @@ fn a_chain_and_the_start_of_another_on(
 }
 
 #[test]
-fn a_chain_and_the_start_of_another(rt: HostRuntime) -> Result<(), Fail> {
-    let key = key(rt.alloc(), ("", "", None, "9"))?;
-    let mut track = FlowTrack::new(rt.alloc());
-    let told = a_chain_and_the_start_of_another_on(&rt, &mut track, &key);
-    drop(track);
-    drop(key);
-    told
-}
-
-fn points_of_two_keys_on(
-    rt: &(impl Abort + AllocGlobal),
-    track: &mut FlowTrack,
-    first: &FlowKey,
-    second: &FlowKey,
-) -> Result<(), Fail> {
+fn points_of_two_keys(rt: HostRuntime) -> Result<(), Fail> {
+    let rt = &rt;
+    let first = &key(rt.alloc(), ("c", "n", None, "x"))?;
+    let second = &key(rt.alloc(), ("c", "n", Some(1), "x"))?;
+    let track = &mut FlowTrack::new(rt.alloc());
     start(rt, track, first, 0)?;
     expect_refusal(rt, step(rt, track, second, 9), 26);
     assert_eq!(rt; track.rows(rt.alloc())?.len(), 1);
@@ -149,42 +139,19 @@ fn points_of_two_keys_on(
     Ok(())
 }
 
-#[test]
-fn points_of_two_keys(rt: HostRuntime) -> Result<(), Fail> {
-    let first = key(rt.alloc(), ("c", "n", None, "x"))?;
-    let second = key(rt.alloc(), ("c", "n", Some(1), "x"))?;
-    let mut track = FlowTrack::new(rt.alloc());
-    let told = points_of_two_keys_on(&rt, &mut track, &first, &second);
-    drop(track);
-    drop(second);
-    drop(first);
-    told
-}
-
 // A point of the second key and then of the first: their rows come the other way round.
-fn expect_order_on(
-    rt: &(impl Abort + AllocGlobal),
-    track: &mut FlowTrack,
-    first: &FlowKey,
-    second: &FlowKey,
-) -> Result<(), Fail> {
-    start(rt, track, second, 0)?;
-    start(rt, track, first, 0)?;
-    let rows = track.rows(rt.alloc())?;
-    assert!(rt; rows.len() == 2);
-    assert!(rt; rows[0].key == *first);
-    Ok(())
-}
-
 fn expect_order(
     rt: &(impl Abort + AllocGlobal),
     first: &FlowKey,
     second: &FlowKey,
 ) -> Result<(), Fail> {
     let mut track = FlowTrack::new(rt.alloc());
-    let told = expect_order_on(rt, &mut track, first, second);
-    drop(track);
-    told
+    start(rt, &mut track, second, 0)?;
+    start(rt, &mut track, first, 0)?;
+    let rows = track.rows(rt.alloc())?;
+    assert!(rt; rows.len() == 2);
+    assert!(rt; rows[0].key == *first);
+    Ok(())
 }
 
 // By category before name, name before id, and id.
