@@ -1,9 +1,7 @@
 -- Where a pair is put among pairs in the order of their names.
-use Rattle.std.proofs.Common.{◌≡◌, ℕ, ◌+◌, ◌-◌, ◌<◌, ◌≤◌, List, [], ◌∷◌, ◌++◌, length, set, Less, Equal, Greater, append_assoc, length-append, refl, sym, ap, subst, ◌∙◌, arith}
-use Rattle.std.specs.List.{insert}
+use Rattle.std.proofs.Common.{◌≡◌, ℕ, ◌+◌, List, [], ◌∷◌, ◌++◌, length, set, Equal, Greater, append_assoc, length-append, refl, sym, ap, ◌∙◌, arith}
 use Rattle.std.specs.BTreeMap.{insert_entry}
 use Rattle.std.proofs.Math.Seq.{set-append_seam}
-use Rattle.std.proofs.lemmas.List.Edits.{insert-append_right}
 use Rattle.span_event.specs.declared.args.ArgValue.{ArgValue}
 use Rattle.span_event.specs.Args.{IsBelowAll, IsInNameOrder}
 use Rattle.span_event.proofs.Merged.{same_name}
@@ -18,9 +16,6 @@ pub record IsPassed (pairs : List Pair) (name : List ℕ) (place : ℕ) (rest : 
   pub parts : before ++ rest ≡ pairs
   pub count : length before ≡ place
   pub put : (value : ArgValue) → insert_entry text_cmp pairs name value ≡ before ++ insert_entry text_cmp rest name value
-
-pub IsPassed-none : (pairs : List Pair) (name : List ℕ) → IsPassed pairs name 0 pairs
-IsPassed-none pairs name = record { before = []; parts = refl; count = refl; put = λ value. refl }
 
 module _ (pairs : List Pair) (name : List ℕ) (place : ℕ) (rest : List Pair) (is : IsPassed pairs name place rest) where
   pub IsPassed-next : (p : Pair) (later : List Pair) → rest ≡ p ∷ later → text_cmp name p.0 ≡ Greater → IsPassed pairs name (place + 1) later
@@ -38,25 +33,6 @@ module _ (pairs : List Pair) (name : List ℕ) (place : ℕ) (rest : List Pair) 
       let here : insert_entry text_cmp rest name value ≡ (name, value) ∷ later = rw (first, same, same_name name p.0 same) refl in
       is.put value ∙ ap (λ r. is.before ++ r) here ∙ sym (set-append_seam is.before p later (name, value))
       ∙ ap (λ i. set (is.before ++ p ∷ later) i (name, value)) is.count ∙ ap (λ ps. set ps place (name, value)) (ap (λ r. is.before ++ r) (sym first) ∙ is.parts)
-
-  pub within-IsPassed : (p : Pair) (later : List Pair) → rest ≡ p ∷ later → place < length pairs
-  within-IsPassed p later first = subst (λ (ps : List Pair). place < length ps) is.parts (rw first (omega (arith, is.count, length-append is.before (p ∷ later))))
-
-  pub among-IsPassed : place ≤ length pairs
-  among-IsPassed = subst (λ (ps : List Pair). place ≤ length ps) is.parts (omega (arith, is.count, length-append is.before rest))
-
-  inserted : (value : ArgValue) → insert_entry text_cmp rest name value ≡ (name, value) ∷ rest → insert_entry text_cmp pairs name value ≡ insert pairs place (name, value)
-  inserted value here =
-      let there : insert (is.before ++ rest) place (name, value) ≡ is.before ++ insert rest (place - place) (name, value) = insert-append_right is.before rest place place (name, value) is.count (omega arith) in
-      let none : place - place ≡ 0 = omega arith in
-      is.put value ∙ ap (λ r. is.before ++ r) here ∙ sym (there ∙ ap (λ i. is.before ++ insert rest i (name, value)) none)
-      ∙ ap (λ ps. insert ps place (name, value)) is.parts
-
-  pub free-before : (p : Pair) (later : List Pair) → rest ≡ p ∷ later → text_cmp name p.0 ≡ Less → (value : ArgValue) → insert_entry text_cmp pairs name value ≡ insert pairs place (name, value)
-  free-before p later first below value = inserted value (rw (first, below) refl)
-
-  pub free-last : rest ≡ [] → (value : ArgValue) → insert_entry text_cmp pairs name value ≡ insert pairs place (name, value)
-  free-last none value = inserted value (rw none refl)
 
 -- in order, each pair is below those behind it
 pub IsBelowAll-behind : (before : List Pair) (p : Pair) (behind : List Pair) → IsInNameOrder (before ++ p ∷ behind) → IsBelowAll p.0 behind

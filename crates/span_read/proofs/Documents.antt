@@ -1,5 +1,5 @@
 -- What a file is, from what its first candidate is that reads.
-use Rattle.std.proofs.Common.{◌≡◌, ℕ, ◌≤◌, List, length, refl, sym, ap, Bool, true, false, Option, None, Some, Result, Ok, Err, IfOk, All, nat_lt, if◌then◌else◌, rules, tests, ap₂, [], ◌∷◌, ◌++◌}
+use Rattle.std.proofs.Common.{◌≡◌, ℕ, ◌≤◌, List, length, refl, sym, Bool, true, false, Option, None, Some, Result, Ok, Err, IfOk, All, nat_lt, if◌then◌else◌, rules, tests, ap₂, [], ◌∷◌, ◌++◌}
 use Rattle.std.specs.Option.{option_or}
 use Rattle.std.specs.Prelude.{IfErr}
 use Rattle.std.specs.Str.{IsUtf8, is_utf8}
@@ -7,7 +7,7 @@ use Rattle.std.proofs.lemmas.Str.{is_utf8-from_IsUtf8, IsUtf8-from_is_utf8}
 use Rattle.serde_json.specs.Data.{Data, Items}
 use Rattle.serde_json.specs.Events.{items_len}
 use Rattle.span_event.specs.declared.item.Item.{Item}
-use Rattle.span_read.specs.declared.error.ReadError.TheVariants.{TooLarge, NotJson, TooMany}
+use Rattle.span_read.specs.declared.error.ReadError.TheVariants.{TooMany}
 use Rattle.span_read.specs.Document.{document, read_utf8, first_read, cut_text, opens_array, elements_of, doc, doc_of_document, doc_of_elements, items_of, most_bytes, most_items}
 use Rattle.serde_json.specs.Read.{read}
 use Rattle.span_read.proofs.Utf8.{IsUtf8-cut_text, IsUtf8-closed}
@@ -34,39 +34,6 @@ none_cut false text not = refl
 -- where the bytes are no UTF-8, no candidate is
 pub document-of_no_utf8 : (bytes : List ℕ) → (IsUtf8 bytes → ⊥) → document bytes ≡ None
 document-of_no_utf8 bytes not = ap₂ (λ c d. option_or c d) (not_read bytes not) (none_cut (opens_array bytes) bytes not)
-
-limited : (b : Bool) (is : List Item) → (if b then Err TooMany else Ok is) ≡ Err NotJson → ⊥
-limited true is e = cc
-limited false is e = cc
-
-elements_read : (o : Option Items) → doc_of_elements o ≡ Err NotJson → ⊥
-elements_read None e = cc
-elements_read (Some ds) e = limited (nat_lt most_items (items_len ds)) (items_of ds) e
-
--- a text is refused as no JSON only where it doesn't read
-pub none_read : (o : Option Data) → doc_of_document o ≡ Err NotJson → o ≡ None
-none_read None e = refl
-none_read (Some d) e = absurd (elements_read (elements_of d) e)
-
--- once a text reads, the others count for nothing
-pub doc_of_document-first : (o more : Option Data) → (doc_of_document o ≡ Err NotJson → ⊥) → doc_of_document (option_or o more) ≡ doc_of_document o
-doc_of_document-first None more read = absurd (read refl)
-doc_of_document-first (Some d) more read = refl
-
-pub doc_of_document-next : (o more : Option Data) → o ≡ None → doc_of_document (option_or o more) ≡ doc_of_document more
-doc_of_document-next o more none = ap (λ p. doc_of_document (option_or p more)) none
-
-never_large : (b : Bool) (is : List Item) → (if b then Err TooMany else Ok is) ≡ Err TooLarge → ⊥
-never_large true is e = cc
-never_large false is e = cc
-
-elements_small : (o : Option Items) → doc_of_elements o ≡ Err TooLarge → ⊥
-elements_small None e = cc
-elements_small (Some ds) e = never_large (nat_lt most_items (items_len ds)) (items_of ds) e
-
-pub document_small : (o : Option Data) → doc_of_document o ≡ Err TooLarge → ⊥
-document_small None e = cc
-document_small (Some d) e = elements_small (elements_of d) e
 
 pub doc-small : (bytes : List ℕ) → length bytes ≤ most_bytes → doc bytes ≡ doc_of_document (document bytes)
 doc-small bytes small = search (rules, tests)

@@ -1,17 +1,17 @@
 -- An array whose closing bracket is missing doesn't read.
-use Rattle.std.proofs.Common.{◌≡◌, ℕ, ◌+◌, ◌-◌, ◌≤◌, List, [], ◌∷◌, length, take, get_or, Option, Some, None, Bool, true, false, ◌||◌, ◌==◌, eqb-true, refl, sym, ap, ◌∙◌, arith, if◌then◌else◌}
+use Rattle.std.proofs.Common.{◌≡◌, ℕ, ◌+◌, ◌-◌, ◌≤◌, List, [], ◌∷◌, length, take, get_or, Option, Some, None, option_and_then, Bool, true, false, ◌||◌, ◌==◌, eqb-true, refl, sym, ap, ◌∙◌, arith, if◌then◌else◌}
 use Rattle.std.specs.List.{suffix_len}
 use Rattle.std.proofs.lemmas.List.{get_or-take, length-take-le}
 use Rattle.std.proofs.lemmas.List.Sums.{suffix_len_is}
 use Rattle.json.specs.Token.{Token, begin_array}
-use Rattle.json.specs.Json.{Json, value}
+use Rattle.json.specs.Json.{Json, value, if_last}
 use Rattle.json.specs.Lex.{Lexeme, token, space, class, between, lex_byte, lex, fresh, punctuate, tokens}
 use Rattle.json.proofs.Grammar.{left}
-use Rattle.serde_json.specs.Read.{read}
+use Rattle.serde_json.specs.Data.{Data}
+use Rattle.serde_json.specs.Read.{read, of_json}
 use Rattle.span_read.specs.Document.{is_blank, opens_array, without_trailing_blanks}
 use Rattle.span_read.specs.Ending.{closes_array}
 use Rattle.span_read.proofs.Ends.{array_ends}
-use Rattle.span_read.proofs.Grammar.{whole}
 use Rattle.span_read.proofs.LastByte.{ClosesAt, ClosesAt-tokens}
 
 blank_class : (b : ℕ) (p q r s : Bool) → (b == 32) ≡ p → (b == 9) ≡ q → (b == 10) ≡ r → (b == 13) ≡ s → (p || q || r || s) ≡ true → class b ≡ space
@@ -45,6 +45,10 @@ closes text opens all =
     let first : tokens text ≡ begin_array ∷ punctuate fresh ls.0 = begins (lex between text) ls.0 ls.1 in
     let last = array_ends 127 (punctuate fresh ls.0) (ap (λ ts. left (value 127 ts)) (sym first) ∙ all) in
     ClosesAt-tokens text (last.0, first ∙ last.1)
+
+-- the value of all tokens
+abbrev whole : Option (Json × List Token) → Option Data
+whole o = option_and_then of_json (option_and_then (λ p. if_last p.0 p.1) o)
 
 unread : (text : List ℕ) (o : Option (Json × List Token)) → value 127 (tokens text) ≡ o → opens_array text ≡ true → (ClosesAt text → ⊥) → whole o ≡ None
 unread text None is opens unclosed = refl
