@@ -19,7 +19,8 @@ use Rattle.span_event.specs.declared.item.ItemFault.TheVariants.{NotWhole, BadFi
 use Rattle.span_event.specs.Event.{IsTime, IsKnownAt, IsGood, IsGoodAt, greatest_time}
 use Rattle.span_event.specs.Item.{IsGoodItem}
 use Rattle.span_read.specs.Phase.{reads_time, reads_duration, reads_id, needs_id, reads_reach, wants_whole_args, phase_of}
-use Rattle.span_read.specs.Fields.{FieldData, fields_of, whole, words, pairs, is_time, is_duration, whole_or_zero, duration_or_zero, id_text, parts_key, key_of, reach_of, args_of}
+use Rattle.span_read.specs.declared.fields.Fields.{Fields}
+use Rattle.span_read.specs.Fields.{fields_of, whole, words, pairs, is_time, is_duration, whole_or_zero, duration_or_zero, id_text, parts_key, key_of, reach_of, args_of}
 use Rattle.span_event.specs.Args.{value_of, AllWhole, all_whole}
 use Rattle.span_read.specs.Element.{unless, where_read, time_fault, duration_fault, id_fault, first_fault, faults, fault_of, event_of, item_at, item_of_phase, item_of_letter, item_of_fields, item_of_data}
 use Rattle.span_read.specs.Document.{items_of}
@@ -125,7 +126,7 @@ AllWhole-from_test ((name, Other) ∷ ps) right = cc
 -- ---- phase by phase
 
 -- what the absence of each fault says of an event
-record NoFaults (phase : Phase) (f : FieldData) : Type 0 where
+record NoFaults (phase : Phase) (f : Fields) : Type 0 where
   no_time : where_read (reads_time phase) (time_fault f.ts) ≡ None
   no_duration : where_read (reads_duration phase) (duration_fault f.dur) ≡ None
   no_id : where_read (reads_id phase) (id_fault f.id f.id2) ≡ None
@@ -133,13 +134,13 @@ record NoFaults (phase : Phase) (f : FieldData) : Type 0 where
   no_reach : where_read (reads_reach phase) (unless (is_some (reach_of f.s)) BadReach) ≡ None
   no_series : where_read (wants_whole_args phase) (unless (all_whole (args_of f.args)) BadSeries) ≡ None
 
-no_faults : (phase : Phase) (f : FieldData) → fault_of phase f ≡ None → NoFaults phase f
+no_faults : (phase : Phase) (f : Fields) → fault_of phase f ≡ None → NoFaults phase f
 no_faults phase f none =
     let each = all_none (faults phase f) none in
     let from_id = each.1.1.1.1.1.1 in
     record { no_time = each.0; no_duration = each.1.0; no_id = from_id.0; no_lack = from_id.1.1.0; no_reach = from_id.1.1.1.0; no_series = from_id.1.1.1.1.0 }
 
-good_at : (phase : Phase) (f : FieldData) → NoFaults phase f → IsGoodAt phase (event_of phase f)
+good_at : (phase : Phase) (f : Fields) → NoFaults phase f → IsGoodAt phase (event_of phase f)
 good_at SpanBegin f none = (refl, refl, refl, refl)
 good_at SpanEnd f none = (refl, refl, refl, refl)
 good_at Complete f none = (duration_at f.dur none.no_duration, refl, refl, refl)
@@ -153,24 +154,24 @@ good_at Counter f none = (refl, refl, refl, AllWhole-from_test (args_of f.args) 
 good_at Instant f none = (refl, refl, refl, holds _ BadReach none.no_reach)
 good_at Meta f none = (refl, refl, refl, refl, refl)
 
-IsGood-event_of : (phase : Phase) (f : FieldData) → NoFaults phase f → IsGood (event_of phase f)
+IsGood-event_of : (phase : Phase) (f : Fields) → NoFaults phase f → IsGood (event_of phase f)
 IsGood-event_of phase f none = record { in_time = time_at (reads_time phase) f.ts none.no_time; by_home = home_at (reads_id phase) (whole_or_zero f.pid) f.id f.id2; by_phase = good_at phase f none }
 
 -- ---- the items
 
-good_item_at : (phase : Phase) (f : FieldData) (fault : Option ItemFault) → fault_of phase f ≡ fault → IsGoodItem (item_at phase f fault)
+good_item_at : (phase : Phase) (f : Fields) (fault : Option ItemFault) → fault_of phase f ≡ fault → IsGoodItem (item_at phase f fault)
 good_item_at phase f None is = IsGood-event_of phase f (no_faults phase f is)
 good_item_at phase f (Some fault) is = tt
 
-good_item_of_phase : (f : FieldData) (phase : Option Phase) → IsGoodItem (item_of_phase f phase)
+good_item_of_phase : (f : Fields) (phase : Option Phase) → IsGoodItem (item_of_phase f phase)
 good_item_of_phase f None = tt
 good_item_of_phase f (Some phase) = good_item_at phase f _ refl
 
-good_item_of_letter : (f : FieldData) (letter : Option (List ℕ)) → IsGoodItem (item_of_letter f letter)
+good_item_of_letter : (f : Fields) (letter : Option (List ℕ)) → IsGoodItem (item_of_letter f letter)
 good_item_of_letter f None = tt
 good_item_of_letter f (Some letter) = good_item_of_phase f (phase_of letter)
 
-pub IsGoodItem-item_of_fields : (f : FieldData) → IsGoodItem (item_of_fields f)
+pub IsGoodItem-item_of_fields : (f : Fields) → IsGoodItem (item_of_fields f)
 IsGoodItem-item_of_fields f = good_item_of_letter f (option_and_then words f.ph)
 
 pub IsGoodItem-item_of_data : (d : Data) → IsGoodItem (item_of_data d)

@@ -4,7 +4,8 @@ use Rattle.std.proofs.lemmas.Slice.Eq.{bytes_eq-Decides}
 use Rattle.serde_json.specs.Data.{Data, Members, put}
 use Rattle.serde_json.proofs.Views.{get_member-put, get_member-put_other}
 use Rattle.span_read.specs.declared.fields.FieldValue.{FieldValue}
-use Rattle.span_read.specs.Fields.{FieldData, field_value, field_at}
+use Rattle.span_read.specs.declared.fields.Fields.{Fields}
+use Rattle.span_read.specs.Fields.{field_value, field_at}
 use Rattle.span_read.specs.Slots.{slots, put_at}
 use Rattle.span_event.specs.Text.{same_text}
 
@@ -24,7 +25,7 @@ put_at-places name d ms [] = refl
 put_at-places name d ms (n ∷ ns) = ap₂ (λ o os. o ∷ os) (put_one _ name n d ms refl) (put_at-places name d ms ns)
 
 -- the fields in their places
-fields_at : List (Option FieldValue) → FieldData
+fields_at : List (Option FieldValue) → Fields
 fields_at os = record {
   ph = get_or os 0 None;
   ts = get_or os 1 None;
@@ -40,6 +41,6 @@ fields_at os = record {
   args = get_or os 11 None;
 }
 
-pub slots_injective : (f g : FieldData) → slots f ≡ slots g → f ≡ g
+pub slots_injective : (f g : Fields) → slots f ≡ slots g → f ≡ g
 unfolding fields_at
 slots_injective f g same = ap fields_at same

@@ -12,7 +12,8 @@ use Rattle.span_event.specs.declared.item.Item.TheVariants.{Good, Bad, Other}
 use Rattle.span_event.specs.declared.item.ItemFault.{ItemFault}
 use Rattle.span_event.specs.declared.item.ItemFault.TheVariants.{NotObject, NoPhase, NoTime, NotWhole, NoDuration, BadField, NoId, BadReach, BadSeries}
 use Rattle.span_read.specs.Phase.{phase_of, reads_time, reads_duration, needs_id, reads_id, reads_scope, reads_reach, wants_whole_args}
-use Rattle.span_read.specs.Fields.{FieldData, fields_of, whole, words, is_time, is_duration, whole_or_zero, text_or_empty, duration_or_zero, key_of, reach_of, args_of}
+use Rattle.span_read.specs.declared.fields.Fields.{Fields}
+use Rattle.span_read.specs.Fields.{fields_of, whole, words, is_time, is_duration, whole_or_zero, text_or_empty, duration_or_zero, key_of, reach_of, args_of}
 use Rattle.span_event.specs.Args.{all_whole}
 
 -- the fault where the test fails
@@ -54,7 +55,7 @@ first_fault [] = None
 first_fault (f ∷ fs) = option_or f (first_fault fs)
 
 -- what may be wrong with an event's fields, in the order in which they are looked at
-abbrev pub faults : Phase → FieldData → List (Option ItemFault)
+abbrev pub faults : Phase → Fields → List (Option ItemFault)
 faults phase f =
     where_read (reads_time phase) (time_fault f.ts)
     ∷ where_read (reads_duration phase) (duration_fault f.dur)
@@ -70,11 +71,11 @@ faults phase f =
     ∷ []
 
 -- the first fault of an event's fields
-abbrev pub fault_of : Phase → FieldData → Option ItemFault
+abbrev pub fault_of : Phase → Fields → Option ItemFault
 fault_of phase f = first_fault (faults phase f)
 
 -- the event that fields without a fault give
-abbrev pub event_of : Phase → FieldData → Event
+abbrev pub event_of : Phase → Fields → Event
 event_of phase f = record {
   phase = phase;
   name = text_or_empty f.name;
@@ -90,20 +91,20 @@ event_of phase f = record {
 }
 
 -- the item of an event's fields at a phase
-abbrev pub item_at : Phase → FieldData → Option ItemFault → Item
+abbrev pub item_at : Phase → Fields → Option ItemFault → Item
 item_at phase f None = Good (event_of phase f)
 item_at phase f (Some fault) = Bad fault
 
 -- the item of an object whose `ph` is that text, if it is one
-abbrev pub item_of_phase : FieldData → Option Phase → Item
+abbrev pub item_of_phase : Fields → Option Phase → Item
 item_of_phase f None = Other
 item_of_phase f (Some phase) = item_at phase f (fault_of phase f)
 
-abbrev pub item_of_letter : FieldData → Option (List ℕ) → Item
+abbrev pub item_of_letter : Fields → Option (List ℕ) → Item
 item_of_letter f None = Bad NoPhase
 item_of_letter f (Some letter) = item_of_phase f (phase_of letter)
 
-abbrev pub item_of_fields : FieldData → Item
+abbrev pub item_of_fields : Fields → Item
 item_of_fields f = item_of_letter f (option_and_then words f.ph)
 
 -- the item of an element

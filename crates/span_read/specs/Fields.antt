@@ -4,13 +4,14 @@ use Rattle.std.specs.Option.{option_or}
 use Rattle.std.specs.Int.RustNames.{int_le}
 use Rattle.std.specs.Fmt.{signed_decimal}
 use Rattle.std.specs.Map.{lookup}
-use Rattle.serde_json.specs.Data.{Data, null, boolean, number, string, array, object, Members, no_members, member}
+use Rattle.serde_json.specs.Data.{Data, null, boolean, number, string, object, Members, no_members, member}
 use Rattle.serde_json.specs.Find.{get_member, as_i64}
 use Rattle.span_event.specs.declared.args.ArgValue.{ArgValue}
 use Rattle.span_event.specs.declared.args.ArgValue.TheVariants.{Whole, Words, Flag, Nil, Other}
 use Rattle.span_event.specs.declared.event.IdKey.{IdKey}
 use Rattle.span_event.specs.declared.event.Reach.{Reach}
 use Rattle.span_event.specs.declared.event.Reach.TheVariants.{Global, Process, Thread}
+use Rattle.span_read.specs.declared.fields.Fields.{Fields}
 use Rattle.span_read.specs.declared.fields.FieldValue.{FieldValue}
 use Rattle.span_read.specs.declared.fields.FieldValue.TheVariants.{Plain, Pairs}
 use Rattle.span_event.specs.Args.{Arguments, as_text, as_whole, value_of}
@@ -24,8 +25,7 @@ arg_value null = Nil
 arg_value (boolean b) = Flag b
 arg_value (number n) = unwrap_or (option_map Whole (as_i64 n)) Other
 arg_value (string s) = Words s
-arg_value (array ds) = Other
-arg_value (object ms) = Other
+arg_value _ = Other
 
 abbrev pub pairs_of : Members → Arguments
 pairs_of no_members = []
@@ -33,32 +33,14 @@ pairs_of (member name d ms) = (name, arg_value d) ∷ pairs_of ms
 
 -- of an object its members are read, by their kinds
 abbrev pub field_value : Data → FieldValue
-field_value null = Plain (arg_value null)
-field_value (boolean b) = Plain (arg_value (boolean b))
-field_value (number n) = Plain (arg_value (number n))
-field_value (string s) = Plain (arg_value (string s))
-field_value (array ds) = Plain (arg_value (array ds))
 field_value (object ms) = Pairs (pairs_of ms)
-
--- the members of an event's object that are read, each under its name
-pub record FieldData : Type 0 where
-  pub ph : Option FieldValue
-  pub ts : Option FieldValue
-  pub dur : Option FieldValue
-  pub pid : Option FieldValue
-  pub tid : Option FieldValue
-  pub name : Option FieldValue
-  pub cat : Option FieldValue
-  pub id : Option FieldValue
-  pub id2 : Option FieldValue
-  pub scope : Option FieldValue
-  pub s : Option FieldValue
-  pub args : Option FieldValue
+field_value d = Plain (arg_value d)
 
 abbrev pub field_at : Bytes → Members → Option FieldValue
 field_at name ms = option_map field_value (get_member name ms)
 
-abbrev pub fields_of : Members → FieldData
+-- the members of an event's object that are read, each under its name
+abbrev pub fields_of : Members → Fields
 fields_of ms = record {
   ph = field_at (codes "ph") ms;
   ts = field_at (codes "ts") ms;

@@ -2,7 +2,7 @@
 use Rattle.std.specs.Prelude.{◌≡◌, ℕ, ◌≤◌, List, [], ◌∷◌, length, Bool, true, false, Option, Some, Result, Err}
 use Rattle.json.specs.Token.{Token}
 use Rattle.json.specs.Json.{value, items, members, parse_map}
-use Rattle.serde_json.specs.Data.{Data, null, boolean, number, string, array, object, Items, item, Members, no_members}
+use Rattle.serde_json.specs.Data.{Data, array, object, Items, item, Members, no_members}
 use Rattle.serde_json.specs.Read.{of_json, of_items, of_members, converted}
 use Rattle.span_event.specs.declared.args.ArgValue.{ArgValue}
 use Rattle.span_event.specs.declared.args.ArgValue.TheVariants as arg
@@ -33,12 +33,9 @@ IsNotJson r = r ≡ Err NotJson
 
 -- neither an array nor an object
 abbrev pub is_leaf : Data → Bool
-is_leaf null = true
-is_leaf (boolean b) = true
-is_leaf (number n) = true
-is_leaf (string s) = true
 is_leaf (array ds) = false
 is_leaf (object ms) = false
+is_leaf _ = true
 
 -- a leaf of that value was taken, however deep it stands
 pub record TakesLeaf (v : ArgValue) (old new : List Token) : Type 0 where

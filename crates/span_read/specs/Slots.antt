@@ -2,30 +2,13 @@
 use Rattle.std.specs.Prelude.{List, [], ◌∷◌, Option, Some, None, map, codes, if◌then◌else◌}
 use Rattle.span_read.specs.declared.fields.Fields.{Fields}
 use Rattle.span_read.specs.declared.fields.FieldValue.{FieldValue}
-use Rattle.span_read.specs.Fields.{FieldData}
 use Rattle.span_event.specs.Text.{Bytes, same_text}
-
-abbrev pub data_of : Fields → FieldData
-data_of f = record {
-  ph = f.ph;
-  ts = f.ts;
-  dur = f.dur;
-  pid = f.pid;
-  tid = f.tid;
-  name = f.name;
-  cat = f.cat;
-  id = f.id;
-  id2 = f.id2;
-  scope = f.scope;
-  s = f.s;
-  args = f.args;
-}
 
 -- the names of the fields, and the fields in their order
 abbrev pub names : List Bytes
 names = codes "ph" ∷ codes "ts" ∷ codes "dur" ∷ codes "pid" ∷ codes "tid" ∷ codes "name" ∷ codes "cat" ∷ codes "id" ∷ codes "id2" ∷ codes "scope" ∷ codes "s" ∷ codes "args" ∷ []
 
-abbrev pub slots : FieldData → List (Option FieldValue)
+abbrev pub slots : Fields → List (Option FieldValue)
 slots f = f.ph ∷ f.ts ∷ f.dur ∷ f.pid ∷ f.tid ∷ f.name ∷ f.cat ∷ f.id ∷ f.id2 ∷ f.scope ∷ f.s ∷ f.args ∷ []
 
 -- nothing in any place

@@ -3,7 +3,6 @@ ghost use Rattle.std.specs.Prelude.{◌≡◌, IfOk};
 ghost use Rattle.serde_json.specs.View.{view};
 ghost use Rattle.span_event.specs.Item.{IsGoodItem};
 ghost use Rattle.span_read.specs.Element.{item_of_data, item_of_fields};
-ghost use Rattle.span_read.specs.Slots.{data_of};
 
 mod event;
 mod id;
@@ -30,7 +29,7 @@ pub fn item_of(alloc: Global, value: &Value) -> Result<Item, AllocError>
 }
 
 pub(crate) fn item_of_fields(alloc: Global, fields: Fields) -> Result<Item, AllocError>
-    ensures { IfOk result (λ item. item ≡ item_of_fields (data_of fields)) }
+    ensures { IfOk result (λ item. item ≡ item_of_fields fields) }
 {
     let mut fields = fields;
     let letter = match fields.ph.take() {

@@ -50,10 +50,10 @@ pub(crate) struct Fields {
 }
 
 impl Fields {
-    ghost use Rattle.span_read.specs.Slots.{data_of, slots, names, put_at, nothing};
+    ghost use Rattle.span_read.specs.Slots.{slots, names, put_at, nothing};
 
     pub(crate) fn none() -> Fields
-        ensures { slots (data_of result) ≡ nothing }
+        ensures { slots result ≡ nothing }
     {
         Fields {
             ph: None,
@@ -74,8 +74,8 @@ impl Fields {
     // Inlined, it would have all the fields copied at each member.
     #[inline(never)]
     pub(crate) fn put(&mut self, name: &str, value: FieldValue)
-        ensures { slots (data_of self.new)
-            ≡ put_at name.now value names (slots (data_of self.old)) }
+        ensures { slots self.new
+            ≡ put_at name.now value names (slots self.old) }
     {
         match name {
             "ph" => self.ph = Some(value),

@@ -3,7 +3,6 @@ ghost use Rattle.std.specs.Prelude.{◌≡◌, ◌<◌, ◌∷◌, length, None,
 ghost use Rattle.json.specs.Token.{Token};
 ghost use Rattle.span_read.specs.Fields.{arg_value, field_value, pairs_of, fields_of};
 ghost use Rattle.span_read.specs.Reading.{data_at, TakesValue, TakesObject, IsNotJson};
-ghost use Rattle.span_read.specs.Slots.{data_of};
 
 use crate::arg_map::ArgMap;
 use crate::error::stop::Stop;
@@ -22,7 +21,7 @@ pub(crate) fn read_fields(
     depth: usize,
 ) -> Result<Fields, Stop>
     ensures fields { IfOk result (λ fields. TakesObject depth reader.old reader.new
-        (λ ms. data_of fields ≡ fields_of ms)) }
+        (λ ms. fields ≡ fields_of ms)) }
     ensures shorter { OnOk result (length reader.new < length reader.old) }
     ensures refused { IsNotJson result → data_at depth (Token.begin_object ∷ reader.old) ≡ None }
 {

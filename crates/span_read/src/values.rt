@@ -2,7 +2,6 @@
 ghost use Rattle.std.specs.Prelude.{◌≡◌, IfOk};
 ghost use Rattle.serde_json.specs.View.{view, members_view};
 ghost use Rattle.span_read.specs.Fields.{arg_value, pairs_of, field_value, field_at, fields_of};
-ghost use Rattle.span_read.specs.Slots.{data_of};
 
 use crate::fields::{FieldValue, Fields};
 use serde_json::{Map, Value};
@@ -12,7 +11,7 @@ use std::alloc::{AllocError, Global};
 type Members = Map<String, Value>;
 
 pub(crate) fn fields_of_members(alloc: Global, members: &Members) -> Result<Fields, AllocError>
-    ensures { IfOk result (λ fields. data_of fields ≡ fields_of (members_view members.now.entries)) }
+    ensures { IfOk result (λ fields. fields ≡ fields_of (members_view members.now.entries)) }
 {
     Ok(Fields {
         ph: field_at(alloc, members, "ph")?,

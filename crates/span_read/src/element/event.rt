@@ -2,7 +2,6 @@
 ghost use Rattle.std.specs.Prelude.{◌≡◌, None, IfOk, IfErr};
 ghost use Rattle.span_read.specs.Phase.{needs_id};
 ghost use Rattle.span_read.specs.Element.{fault_of, event_of};
-ghost use Rattle.span_read.specs.Slots.{data_of};
 ghost use Rattle.span_read.specs.Refusal.{IsForFault};
 
 use crate::element::id::take_key;
@@ -16,9 +15,9 @@ use span_event::{Event, Field, ItemFault, Phase};
 use std::alloc::Global;
 
 pub(crate) fn event_of(alloc: Global, phase: Phase, fields: Fields) -> Result<Event, Refusal>
-    ensures right { IfOk result (λ event. fault_of phase (data_of fields) ≡ None) }
-    ensures event { IfOk result (λ event. event ≡ event_of phase (data_of fields)) }
-    ensures refused { IfErr result (IsForFault (fault_of phase (data_of fields))) }
+    ensures right { IfOk result (λ event. fault_of phase fields ≡ None) }
+    ensures event { IfOk result (λ event. event ≡ event_of phase fields) }
+    ensures refused { IfErr result (IsForFault (fault_of phase fields)) }
 {
     let ts = take_time(phase, &fields.ts)?;
     let dur = take_duration(phase, &fields.dur)?;

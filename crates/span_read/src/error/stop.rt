@@ -1,4 +1,6 @@
 //! Why the reading of a text stops.
+ghost use Rattle.std.specs.Prelude.{◌≡◌};
+
 use json::Invalid;
 use std::alloc::{AllocError, AllocFailed};
 
@@ -9,7 +11,6 @@ pub(crate) enum Stop {
 }
 
 impl From<Invalid> for Stop {
-    ghost use Rattle.std.specs.Prelude.{◌≡◌};
     ghost use Rattle.span_read.specs.declared.error.stop.Stop.TheVariants.{NotJson};
 
     ghost from_gives = { λ invalid stop. stop ≡ NotJson };
@@ -20,7 +21,6 @@ impl From<Invalid> for Stop {
 }
 
 impl From<AllocError> for Stop {
-    ghost use Rattle.std.specs.Prelude.{◌≡◌};
     ghost use Rattle.span_read.specs.declared.error.stop.Stop.TheVariants.{Memory};
 
     ghost from_gives = { λ error stop. stop ≡ Memory };
@@ -31,7 +31,6 @@ impl From<AllocError> for Stop {
 }
 
 impl<T: Drop> From<AllocFailed<T>> for Stop {
-    ghost use Rattle.std.specs.Prelude.{◌≡◌};
     ghost use Rattle.span_read.specs.declared.error.stop.Stop.TheVariants.{Memory};
 
     ghost from_gives = { λ failed stop. stop ≡ Memory };

@@ -2,11 +2,10 @@ use Rattle.std.proofs.Common.{◌≡◌, subst, sym}
 use Rattle.std.proofs.lemmas.Result.{IfOk-weaker}
 use Rattle.span_read.specs.Element.{item_of_fields}
 use Rattle.span_event.specs.Item.{IsGoodItem}
-use Rattle.span_read.specs.Slots.{data_of}
 use Rattle.span_read.proofs.Good.{IsGoodItem-item_of_fields}
 use Rattle.span_read.proofs.element.item_of.Goals as goal
 
 pub returns-in_ok-fields_of_members-in-Object-clause-good : goal.returns-in_ok-fields_of_members-in-Object-clause-good
 returns-in_ok-fields_of_members-in-Object-clause-good c =
-    let fields = data_of c.in_ok-fields_of_members-in-Object.field-0 in
+    let fields = c.in_ok-fields_of_members-in-Object.field-0 in
     IfOk-weaker c.item_of_fields.result (λ item. item ≡ item_of_fields fields) IsGoodItem (λ item is. subst IsGoodItem (sym is) (IsGoodItem-item_of_fields fields)) c.item_of_fields.ensures
