@@ -8,7 +8,7 @@ use Rattle.span_event.specs.declared.item.Item.{Item}
 use Rattle.span_read.specs.declared.error.ReadError.TheVariants.{TooMany}
 use Rattle.span_read.specs.Document.{elements_of, items_of, doc_of_elements, most_items}
 use Rattle.span_read.specs.Element.{item_of_data}
-use Rattle.span_read.specs.Reading.{items_before}
+use Rattle.span_read.specs.Tokens.{items_before}
 
 items_len-items_before : (bs : List Data) (ds : Items) → items_len (items_before bs ds) ≡ length bs + items_len ds
 items_len-items_before [] ds = omega arith

@@ -6,7 +6,7 @@ use Rattle.json.specs.Json.{Parse, parse_map, after_end_array, read_key, items_s
 use Rattle.json.proofs.Grammar.{items_end, items_more, members_end, members_no_key, members_more, value-begin_array, value-begin_object}
 use Rattle.serde_json.specs.Data.{Data, array, object, no_items, item, Members, no_members, put}
 use Rattle.serde_json.specs.Read.{of_json, of_items, of_members, converted}
-use Rattle.span_read.specs.Reading.{data_at}
+use Rattle.span_read.specs.Tokens.{data_at}
 
 abbrev pick : {A : Type 0} → A → Option A → A
 pick d None = d

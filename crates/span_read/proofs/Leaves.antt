@@ -6,7 +6,7 @@ use Rattle.serde_json.specs.Data.{Data, number, Num}
 use Rattle.serde_json.specs.Read.{of_json, number_of, converted}
 use Rattle.span_event.specs.declared.args.ArgValue.{ArgValue}
 use Rattle.span_read.specs.Fields.{arg_value}
-use Rattle.span_read.specs.Reading.{data_at, TakesLeaf}
+use Rattle.span_read.specs.Tokens.{data_at, TakesLeaf}
 
 -- what holds anyway holds where a call fails
 pub on_err : {T E P : Type 0} (r : Result T E) → P → OnErr r P

@@ -5,7 +5,7 @@ use Rattle.json.specs.Json.{parse_map, after_end_array, read_key, items, members
 use Rattle.json.proofs.Grammar.{read_key-shorter}
 use Rattle.serde_json.specs.Data.{Data, array, object, Items, no_items, item, Members, no_members, put}
 use Rattle.serde_json.specs.Read.{of_items, of_members, converted}
-use Rattle.span_read.specs.Reading.{data_at, TakesObject, items_before, ItemsSoFar, MembersSoFar}
+use Rattle.span_read.specs.Tokens.{data_at, TakesObject, items_before, ItemsSoFar, MembersSoFar}
 use Rattle.span_read.proofs.Grammar.{data_at-begin_array, data_at-begin_object, item_read, item_refused, items_over, member_read, member_refused, key_refused, members_over}
 
 same_items : (r : Option (Items × List Token)) → r ≡ parse_map (items_before []) r

@@ -6,6 +6,6 @@ pub mod Ending
 pub mod Fields
 pub mod Phase
 pub mod ReadError
-pub mod Reading
 pub mod Refusal
 pub mod Slots
+pub mod Tokens

@@ -6,9 +6,9 @@ ghost use Rattle.span_read.specs.Document.{is_blank, opens_array, without_traili
 ghost use Rattle.span_read.specs.declared.error.ReadError.TheVariants.{Memory};
 ghost use Rattle.span_read.specs.Ending.{closes_array};
 
+use crate::document::read_document;
 use crate::error::ReadError;
 use crate::error::stop::Stop;
-use crate::trace::read_document;
 use json::{Reader, Scratch};
 use span_event::Items;
 use std::alloc::{AllocError, Global};

@@ -12,7 +12,7 @@ use crate::element::event::event_of;
 use crate::error::refusal::Refusal;
 use crate::fields::Fields;
 use crate::phase::phase_of;
-use crate::values::fields_of_members;
+use crate::value_fields::fields_of_members;
 use serde_json::Value;
 use span_event::{Item, ItemFault};
 use std::alloc::{AllocError, Global};

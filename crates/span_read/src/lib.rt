@@ -3,19 +3,19 @@
 
 mod arg_map;
 mod candidates;
+mod document;
 mod element;
 mod error;
 mod fields;
+mod file;
 mod phase;
-mod read;
-mod reading;
+mod token_fields;
 mod tokens;
-mod trace;
-mod values;
+mod value_fields;
 
 pub use element::item_of;
 pub use error::ReadError;
-pub use read::read_items;
+pub use file::read_items;
 pub use span_event::{
     ArgValue, Args, Event, Field, IdKey, Item, ItemFault, Items, Phase, Reach, Text, merge_args,
 };

@@ -1,6 +1,6 @@
 //! The beginning of a value.
 ghost use Rattle.std.specs.Prelude.{◌≡◌, ◌<◌, ℕ, length, None, IfOk, OnOk, OnErr};
-ghost use Rattle.span_read.specs.Reading.{data_at, TakesHead};
+ghost use Rattle.span_read.specs.Tokens.{data_at, TakesHead};
 
 use crate::tokens::number::number_value;
 use json::{Invalid, Reader, Token};

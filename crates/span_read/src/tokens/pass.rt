@@ -4,7 +4,7 @@ ghost use Rattle.json.specs.Token.{Token};
 ghost use Rattle.json.specs.Json.{items, value};
 ghost use Rattle.serde_json.specs.Data.{Items};
 ghost use Rattle.serde_json.specs.Read.{of_items, converted};
-ghost use Rattle.span_read.specs.Reading.{data_at, TakesValue, TakesArray, TakesObject};
+ghost use Rattle.span_read.specs.Tokens.{data_at, TakesValue, TakesArray, TakesObject};
 
 use crate::tokens::head::{Head, next_head};
 use json::{Invalid, Reader};

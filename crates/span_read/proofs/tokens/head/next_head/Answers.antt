@@ -5,7 +5,7 @@ use Rattle.json.specs.Reads.{token_of}
 use Rattle.json.proofs.Grammar.{value_is}
 use Rattle.serde_json.specs.Data.{string, boolean, null}
 use Rattle.serde_json.specs.Read.{of_json, number_of, converted}
-use Rattle.span_read.specs.Reading.{data_at}
+use Rattle.span_read.specs.Tokens.{data_at}
 use Rattle.span_read.proofs.Leaves.{on_err, number_taken, number_refused}
 use Rattle.span_read.proofs.tokens.head.next_head.Goals as goal
 

@@ -3,7 +3,7 @@ use Rattle.std.specs.Prelude.{⊤}
 use Rattle.std.proofs.lemmas.Result.{on_ok_weaker, on_err_weaker}
 use Rattle.json.specs.Token.{Token}
 use Rattle.json.specs.Json.{after_end_array, read_key}
-use Rattle.span_read.specs.Reading.{data_at, items_before}
+use Rattle.span_read.specs.Tokens.{data_at, items_before}
 use Rattle.serde_json.specs.Data.{no_items, array, object}
 use Rattle.span_read.proofs.Grammar.{data_at-too_deep_array, data_at-too_deep_object}
 use Rattle.span_read.proofs.Leaves.{on_err}

@@ -1,6 +1,6 @@
 use Rattle.std.proofs.Common.{ℕ, ◌+◌, ◌*◌, ◌-◌, ◌≤◌, length}
 use Rattle.std.specs.Prelude.{⊤}
-use Rattle.span_read.specs.Reading.{ItemsSoFar, MembersSoFar}
+use Rattle.span_read.specs.Tokens.{ItemsSoFar, MembersSoFar}
 use Rattle.span_read.proofs.tokens.pass.+pass.Given as goal
 
 abbrev pub decreases-pass_value : goal.decreases-pass_value

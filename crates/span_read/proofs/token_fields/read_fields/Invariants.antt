@@ -1,0 +1,11 @@
+use Rattle.std.proofs.Common.{◌≡◌, ◌-◌, length}
+use Rattle.span_read.specs.Tokens.{MembersSoFar}
+use Rattle.span_read.specs.Slots.{slots, names}
+use Rattle.span_read.proofs.Slots.{places}
+use Rattle.span_read.proofs.token_fields.read_fields.Given as goal
+
+abbrev pub invariant-members : goal.invariant-members
+invariant-members l = MembersSoFar (l.depth - 1) l.initial.reader l.reader (λ ms. slots l.fields ≡ places names ms)
+
+abbrev pub decreases-members : goal.decreases-members
+decreases-members l = length l.reader
