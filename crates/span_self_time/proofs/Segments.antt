@@ -9,7 +9,8 @@ use Rattle.span_self_time.specs.Spans.{Span}
 use Rattle.span_self_time.specs.Segments.{lies_in, is_in_segment, IsRightBefore, AreInOrder, AreSegments}
 use Rattle.span_self_time.specs.Division.{Owners, bare, owners_of, owner_of, AreFuture, AreParts}
 use Rattle.span_self_time.specs.Laws.{IsApart, AreSpans}
-use Rattle.span_self_time.specs.Closed.{least_start, AreClosed}
+use Rattle.span_event.specs.Event.{least_time}
+use Rattle.span_self_time.specs.Closed.{AreClosed}
 use Rattle.span_self_time.proofs.Owners.{is_of, owners_of-All, is_on_top-owners_of}
 
 lies_in-before : (g : Segment) (u : ℤ) → u <ℤ g.start → lies_in g u ≡ false
@@ -111,11 +112,11 @@ module _ (owners : Owners) (single : AreSingle owners) where
 
   is_in_segment-AreParts : (parts : List Part) → AreParts owners parts → (at : ℕ) (u : ℤ) → is_in_segment (segments_of parts) at u ≡ is_of at (owners u)
   is_in_segment-AreParts parts are at u =
-      by_lt_z u least_start
+      by_lt_z u least_time
       (λ early.
-      is_in_segment-before least_start (segments_of parts) (AreInOrder-parts least_start parts are.each) (AreFrom-parts owners least_start parts are.each) at u early
+      is_in_segment-before least_time (segments_of parts) (AreInOrder-parts least_time parts are.each) (AreFrom-parts owners least_time parts are.each) at u early
       ∙ sym (ap (is_of at) (are.nothing u early)))
-      (λ from. is_in_segment-parts least_start parts are.each at u from)
+      (λ from. is_in_segment-parts least_time parts are.each at u from)
 
 IsApart-All : (at : ℕ) (spans : List (Span ℕ)) → IsApart at spans → All (λ s. s.at ≢ at) spans
 IsApart-All at [] apart = All-nil (λ (s : Span ℕ). s.at ≢ at)
@@ -158,7 +159,7 @@ pub AreSegments-parts : (spans : List (Span ℕ)) (parts : List Part) → AreClo
 AreSegments-parts spans parts closed are =
     let single = AreSingle-owners_of spans closed.are in
     record {
-      in_order = AreInOrder-parts (owners_of spans) single least_start parts are.each;
+      in_order = AreInOrder-parts (owners_of spans) single least_time parts are.each;
       exact = λ at u. is_in_segment-AreParts (owners_of spans) single parts are at u ∙ sym (is_on_top-owners_of spans at u);
-      named = names-parts spans closed.are least_start parts are.each;
+      named = names-parts spans closed.are least_time parts are.each;
     }

@@ -7,7 +7,8 @@ use Rattle.std.proofs.lemmas.List.Elements.{All-nil, All-cons}
 use Rattle.std.proofs.lemmas.List.Folds.{list_any_at}
 use Rattle.span_event.specs.Time.{distance}
 use Rattle.span_self_time.specs.Spans.{Span, covers, count_from, self_of, busy_time}
-use Rattle.span_self_time.specs.Closed.{least_start, greatest_until, span_of, AreClosed}
+use Rattle.span_event.specs.Event.{least_time}
+use Rattle.span_self_time.specs.Closed.{greatest_until, span_of, AreClosed}
 use Rattle.span_self_time.specs.Laws.{AreSpans}
 use Rattle.span_self_time.specs.declared.span.ClosedSpan.{ClosedSpan}
 use Rattle.span_self_time.specs.Division.{bare, claims, taken, owners_of, IsNew, AreSettled}
@@ -19,14 +20,14 @@ use Rattle.span_self_time.proofs.SelfTimes.{sum_by-self_time}
 
 pub time_of-self_of : (spans : List (Span ℕ)) → AreClosed spans → (name : ℕ) → time_of (has_name name) (owners_of spans) ≡ self_of nat_eq name spans
 unfolding time_of self_sum
-time_of-self_of spans closed name = from least_start greatest_until closed.in_time
+time_of-self_of spans closed name = from least_time greatest_until closed.in_time
   where
     from : (a b : ℤ) → All (λ s. (a ≤ℤ s.start) × (s.until ≤ℤ b)) spans → count_from a (distance a b) (λ u. has_name name (owners_of spans u)) ≡ self_of nat_eq name spans
     from a b within = sym (sum_by-self_times (has_name name) refl spans closed.are a b within) ∙ self_sum-self_of spans name spans
 
 pub time_of-busy_time : (spans : List (Span ℕ)) → AreClosed spans → time_of is_some (owners_of spans) ≡ busy_time spans
 unfolding time_of
-time_of-busy_time spans closed = from least_start greatest_until closed.in_time
+time_of-busy_time spans closed = from least_time greatest_until closed.in_time
   where
     from : (a b : ℤ) → All (λ s. (a ≤ℤ s.start) × (s.until ≤ℤ b)) spans → count_from a (distance a b) (λ u. is_some (owners_of spans u)) ≡ busy_time spans
     from a b within = sym (sum_by-self_times is_some refl spans closed.are a b within) ∙ sum_by-self_time spans closed.are

@@ -1,8 +1,9 @@
 -- The closed spans that a track keeps, and their totals.
-use Rattle.std.specs.Prelude.{◌≡◌, ℕ, ◌<◌, ◌^◌, ℤ, pos, negsuc, ◌≤ℤ◌, List, length, All, nat_eq, unwrap_or}
+use Rattle.std.specs.Prelude.{◌≡◌, ℕ, ◌<◌, ◌^◌, ℤ, pos, ◌≤ℤ◌, List, length, All, nat_eq, unwrap_or}
 use Rattle.indexmap.specs.IndexMap.{IndexMap, get, keys}
 use Rattle.std.specs.declared.hash.FoldHasher.{FoldHasher}
 use Rattle.std.specs.declared.hash.BuildHasherDefault.{BuildHasherDefault}
+use Rattle.span_event.specs.Event.{least_time}
 use Rattle.span_self_time.specs.declared.span.ClosedSpan.{ClosedSpan}
 use Rattle.span_self_time.specs.declared.span.NameTotal.{NameTotal}
 use Rattle.span_self_time.specs.Spans.{Span, named, names_of, total_of}
@@ -12,15 +13,12 @@ use Rattle.span_self_time.specs.Laws.{AreSpans}
 abbrev pub span_of : ClosedSpan → Span ℕ
 span_of s = record { name = s.name; start = s.start; until = s.until; at = s.at; args = s.args }
 
--- the least time of an event, and the greatest time and the greatest length together
-abbrev pub least_start : ℤ
-least_start = negsuc 9007199254740990
-
+-- the greatest time and the greatest length of an event together
 abbrev pub greatest_until : ℤ
 greatest_until = pos 18014398509481982
 
 abbrev pub IsInTime : Span ℕ → Type 0
-IsInTime s = (least_start ≤ℤ s.start) × (s.until ≤ℤ greatest_until)
+IsInTime s = (least_time ≤ℤ s.start) × (s.until ≤ℤ greatest_until)
 
 -- what holds of the closed spans of a track
 pub record AreClosed (spans : List (Span ℕ)) : Type 0 where

@@ -10,7 +10,8 @@ use Rattle.span_self_time.specs.declared.segment.Part.{Part}
 use Rattle.span_self_time.specs.declared.span.ClosedSpan.{ClosedSpan}
 use Rattle.span_event.specs.Time.{distance}
 use Rattle.span_self_time.specs.Spans.{Span, covers, outranks}
-use Rattle.span_self_time.specs.Closed.{least_start, greatest_until}
+use Rattle.span_event.specs.Event.{least_time}
+use Rattle.span_self_time.specs.Closed.{greatest_until}
 
 -- the one part of a span that has all of its time
 abbrev pub whole : ClosedSpan → Part
@@ -53,8 +54,8 @@ AreFuture owners t (p ∷ ps) =
 
 -- the parts, in order, are the whole time
 pub record AreParts (owners : Owners) (parts : List Part) : Type 0 where
-  pub nothing : (u : ℤ) → u <ℤ least_start → owners u ≡ None
-  pub each : AreFuture owners least_start parts
+  pub nothing : (u : ℤ) → u <ℤ least_time → owners u ≡ None
+  pub each : AreFuture owners least_time parts
 
 -- there are parts of these owners of which P holds
 pub record HasParts (owners : Owners) (P : List Part → Type 0) : Type 0 where

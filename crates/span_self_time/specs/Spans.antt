@@ -5,11 +5,7 @@ use Rattle.indexmap.specs.IndexSet.{insert_key}
 use Rattle.std.specs.Ordering.{int_eq}
 use Rattle.std.specs.Int.{int_min, int_max}
 use Rattle.span_event.specs.Time.{distance}
-use Rattle.span_event.specs.declared.args.ArgValue.{ArgValue}
-
--- the arguments of an event, as its reader gives them
-abbrev pub Arguments : Type 0
-Arguments = List (List ℕ × ArgValue)
+pub use Rattle.span_event.specs.Args.{Arguments}
 
 -- a closed span: it covers each microsecond from `start` to before `until`; `at` is the journal's position of the event that opened it
 pub record Span (N : Type 0) : Type 0 where

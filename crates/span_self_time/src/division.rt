@@ -1,7 +1,8 @@
 //! The division of a thread's time, kept in the way that suits the order in which its spans come.
 ghost use Rattle.std.specs.Prelude.{◌≡◌, ◌≤◌, ℕ, ◌≤ℤ◌, nat_eq, List, [], length, map, slice_get, option_copied, OnOk, OnErr, IfOk};
 ghost use Rattle.span_self_time.specs.Spans.{Span, self_of, busy_time};
-ghost use Rattle.span_self_time.specs.Closed.{least_start, greatest_until, span_of, AreClosed};
+ghost use Rattle.span_event.specs.Event.{least_time};
+ghost use Rattle.span_self_time.specs.Closed.{greatest_until, span_of, AreClosed};
 ghost use Rattle.span_self_time.specs.Division.{Owners, owner_of, owners_of, taken, IsNew, ForSome, HasParts, AreSettled};
 ghost use Rattle.span_self_time.specs.Division.TimeMap.{IsTimeMap};
 ghost use Rattle.span_self_time.specs.Division.Ways.{IsDivision};
@@ -80,7 +81,7 @@ impl Division {
         requires is { ForSome (λ owners. IsDivision owners self.old
             × IsNew (owner_of span.now) owners × AreSettled owners) }
         requires forward { span.now.span_start ≤ℤ span.now.span_until }
-        requires from_in_time { least_start ≤ℤ span.now.span_start }
+        requires from_in_time { least_time ≤ℤ span.now.span_start }
         requires to_in_time { span.now.span_until ≤ℤ greatest_until }
         ensures ok { OnOk result ((owners : Owners) → IsDivision owners self.old
             → IsNew (owner_of span.now) owners → AreSettled owners

@@ -1,7 +1,8 @@
 //! Closed spans, and how far two times lie apart.
 ghost use Rattle.std.specs.Prelude.{◌≡◌, ◌≤◌, ◌^◌, ◌≤ℤ◌};
 ghost use Rattle.span_event.specs.Time.{distance};
-ghost use Rattle.span_self_time.specs.Closed.{least_start, greatest_until};
+ghost use Rattle.span_event.specs.Event.{least_time};
+ghost use Rattle.span_self_time.specs.Closed.{greatest_until};
 
 use span_event::Args;
 
@@ -26,7 +27,7 @@ pub struct NameTotal {
 /// How many microseconds there are from one time to another.
 pub(crate) fn distance(from: i64, to: i64) -> u64
     requires forward { from ≤ℤ to }
-    requires from_in_time { least_start ≤ℤ from }
+    requires from_in_time { least_time ≤ℤ from }
     requires to_in_time { to ≤ℤ greatest_until }
     ensures value { result ≡ distance from to }
     ensures small { result ≤ 2 ^ 55 }

@@ -3,7 +3,7 @@ use Rattle.std.specs.Prelude.{ℕ, ◌+◌, ◌<◌, ◌≢◌, ◌^◌, ℤ, �
 use Rattle.span_track.specs.declared.thread.OpenSpan.{OpenSpan}
 use Rattle.span_track.specs.Nesting.{Begin}
 use Rattle.span_track.specs.Thread.{ThreadSpans}
-use Rattle.span_self_time.specs.Closed.{least_start}
+use Rattle.span_event.specs.Event.{least_time}
 
 -- an open span of the program, as a begin
 abbrev pub begin_of : OpenSpan → Begin ℕ
@@ -21,7 +21,7 @@ AreRising (b ∷ bs) = All (λ c. b.at < c.at) bs × AreRising bs
 
 -- what holds of the open spans of a track beside its closed ones
 pub record IsSound (t : ThreadSpans ℕ) : Type 0 where
-  pub from : All (λ b. least_start ≤ℤ b.ts) t.opened
+  pub from : All (λ b. least_time ≤ℤ b.ts) t.opened
   pub up_to : All (λ b. IsUpTo b.ts t.last) t.opened
   pub apart : All (λ b. All (λ s. s.at ≢ b.at) t.closed) t.opened
   pub rising : AreRising t.opened

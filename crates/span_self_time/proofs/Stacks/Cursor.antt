@@ -3,7 +3,8 @@ use Rattle.std.proofs.Common.{◌≡◌, ◌≢◌, ◌++◌, ℤ, pos, ◌-ℤ�
 use Rattle.std.proofs.lemmas.Int.{ints, by_lt_z}
 use Rattle.std.proofs.lemmas.List.{reverse-reverse, append-nil, append_assoc, reverse-append}
 use Rattle.span_self_time.specs.declared.segment.Part.{Part}
-use Rattle.span_self_time.specs.Closed.{least_start, greatest_until}
+use Rattle.span_event.specs.Event.{least_time}
+use Rattle.span_self_time.specs.Closed.{greatest_until}
 use Rattle.span_self_time.specs.Division.{Owners, owner_of, Belong, AreFuture, AreParts}
 use Rattle.span_self_time.specs.Division.Stacks.{ArePast, IsChange, lasts_beyond, starts_before}
 
@@ -27,7 +28,7 @@ ArePast-later owners t later [] h none past = (omega (arith, ints, past.0), λ u
 ArePast-later owners t later (p ∷ ps) h none past =
     (omega (arith, ints, past.0), (λ u from before. by_lt_z u t (λ k. past.1 u from k) (λ k. none u k before)), past.2, past.3, past.4, past.5)
 
-ArePast-sooner : (owners : Owners) (t sooner : ℤ) (ps : List Part) → sooner ≤ℤ t → least_start ≤ℤ sooner → EndsBy sooner ps → ArePast owners t ps → ArePast owners sooner ps
+ArePast-sooner : (owners : Owners) (t sooner : ℤ) (ps : List Part) → sooner ≤ℤ t → least_time ≤ℤ sooner → EndsBy sooner ps → ArePast owners t ps → ArePast owners sooner ps
 ArePast-sooner owners t sooner [] h least ends past = (least, λ u before. past.1 u (omega (arith, ints)))
 ArePast-sooner owners t sooner (p ∷ ps) h least ends past = (ends, (λ u from before. past.1 u from (omega (arith, ints))), past.2, past.3, past.4, past.5)
 
@@ -116,13 +117,13 @@ HasCursor-on owners t (p ∷ parts) past future at =
 -- parts that are the whole time have a cursor between any two
 pub HasCursor-parts : (owners : Owners) (past future : List Part) → AreParts owners (past ++ future) → HasCursor owners (reverse past) future
 HasCursor-parts owners past future are =
-    let at = HasCursor-on owners least_start past [] future (record { before = (omega (arith, ints), are.nothing); after = are.each; change = λ owner before from. Some≢None (sym before ∙ are.nothing (least_start -ℤ pos 1) (omega (arith, ints))) }) in
+    let at = HasCursor-on owners least_time past [] future (record { before = (omega (arith, ints), are.nothing); after = are.each; change = λ owner before from. Some≢None (sym before ∙ are.nothing (least_time -ℤ pos 1) (omega (arith, ints))) }) in
     subst (λ l. HasCursor owners l future) (append-nil (reverse past)) at
 
 AreParts-back : (owners : Owners) (t : ℤ) (past future : List Part) → IsCursor owners t past future → AreParts owners (reverse past ++ future)
 AreParts-back owners t [] future at = record {
   nothing = λ u before. at.before.1 u (omega (arith, ints, at.before.0));
-  each = AreFuture-sooner owners t least_start future at.before.0 (λ u from before. at.before.1 u before) at.after;
+  each = AreFuture-sooner owners t least_time future at.before.0 (λ u from before. at.before.1 u before) at.after;
 }
 AreParts-back owners t (p ∷ past) future at =
     subst (λ l. AreParts owners l) (sym (reverse-onto p past future)) (AreParts-back owners p.segment.start past (p ∷ future) (IsCursor-back owners t p past future at))
@@ -132,7 +133,7 @@ AreParts-cursor owners t past future at =
     subst (λ l. AreParts owners (l ++ future)) (reverse-reverse past) (AreParts-back owners t (reverse past) future at)
 
 -- a cursor can stand at any time in the gap in which it stands
-pub IsCursor-within : (owners : Owners) (t time : ℤ) (past future : List Part) → least_start ≤ℤ time → EndsBy time past → StartsFrom time future → IsCursor owners t past future → IsCursor owners time past future
+pub IsCursor-within : (owners : Owners) (t time : ℤ) (past future : List Part) → least_time ≤ℤ time → EndsBy time past → StartsFrom time future → IsCursor owners t past future → IsCursor owners time past future
 IsCursor-within owners t time past future least ends starts at =
     by_lt_z time t
     (λ k. let none = ArePast-none owners t time past ends at.before in record {

@@ -7,7 +7,8 @@ use Rattle.std.proofs.lemmas.List.Sums.{sum_by-cons}
 use Rattle.span_self_time.specs.declared.segment.Part.{Part}
 use Rattle.span_event.specs.Time.{distance}
 use Rattle.span_self_time.specs.Spans.{Span, count_from, self_time, self_of, busy_time}
-use Rattle.span_self_time.specs.Closed.{least_start, greatest_until, AreClosed}
+use Rattle.span_event.specs.Event.{least_time}
+use Rattle.span_self_time.specs.Closed.{greatest_until, AreClosed}
 use Rattle.span_self_time.specs.Division.{Owners, bare, owners_of, owner_of, AreFuture, AreParts}
 use Rattle.span_self_time.specs.Division.Stacks.{ArePast, part_length, named_length, whole_length}
 use Rattle.span_self_time.proofs.Counts.{add-distance, count_from-none, count_from-unbroken}
@@ -32,14 +33,14 @@ whole_length-le owners t (p ∷ parts) are =
     (within, omega (arith, ints, sum_by-cons (λ (x : Part). part_length x) p parts, are.0, are.2, rest.1, here, later, all))
 
 -- the past parts fit in the time before
-pub whole_length-le_past : (owners : Owners) (t : ℤ) (parts : List Part) → ArePast owners t parts → (least_start ≤ℤ t) × (whole_length parts ≤ distance least_start t)
+pub whole_length-le_past : (owners : Owners) (t : ℤ) (parts : List Part) → ArePast owners t parts → (least_time ≤ℤ t) × (whole_length parts ≤ distance least_time t)
 whole_length-le_past owners t [] are = (are.0, omega arith)
 whole_length-le_past owners t (p ∷ parts) are =
     let rest = whole_length-le_past owners p.segment.start parts are.5 in
     let here = add-distance p.segment.start p.segment.until (omega (arith, ints, are.2)) in
-    let earlier = add-distance least_start p.segment.start rest.0 in
-    let within : least_start ≤ℤ t = omega (arith, ints, are.0, are.2, rest.0) in
-    let all = add-distance least_start t within in
+    let earlier = add-distance least_time p.segment.start rest.0 in
+    let within : least_time ≤ℤ t = omega (arith, ints, are.0, are.2, rest.0) in
+    let all = add-distance least_time t within in
     (within, omega (arith, ints, sum_by-cons (λ (x : Part). part_length x) p parts, are.0, are.2, rest.1, here, earlier, all))
 
 -- the parts whose span passes a test are as long as the time in which the owner passes it
@@ -55,7 +56,7 @@ sum_by-future q none owners t (p ∷ parts) are =
 
 -- the parts whose span passes a test are as long as the self times of the spans that pass it
 sum_by-parts : (q : Option (Span ℕ) → Bool) → q None ≡ false → (spans : List (Span ℕ)) (parts : List Part) → AreClosed spans → AreParts (owners_of spans) parts → sum_by (λ p. cond (q (Some (owner_of p))) (part_length p) 0) parts ≡ sum_by (λ s. cond (q (Some (bare s))) (self_time spans s) 0) spans
-sum_by-parts q none spans parts closed are = from least_start are.each closed.in_time
+sum_by-parts q none spans parts closed are = from least_time are.each closed.in_time
   where
     from : (a : ℤ) → AreFuture (owners_of spans) a parts → All (λ s. (a ≤ℤ s.start) × (s.until ≤ℤ greatest_until)) spans → sum_by (λ p. cond (q (Some (owner_of p))) (part_length p) 0) parts ≡ sum_by (λ s. cond (q (Some (bare s))) (self_time spans s) 0) spans
     from a future in_time =
@@ -86,6 +87,6 @@ length-le-whole owners t (p ∷ parts) are =
 -- there are fewer parts than microseconds
 pub length-le-parts : (owners : Owners) (parts : List Part) → AreParts owners parts → length parts ≤ 2 ^ 55
 length-le-parts owners parts are =
-    let all = whole_length-le owners least_start parts are.each in
-    let whole = add-distance least_start greatest_until all.0 in
-    omega (arith, ints, length-le-whole owners least_start parts are.each, all.1, whole)
+    let all = whole_length-le owners least_time parts are.each in
+    let whole = add-distance least_time greatest_until all.0 in
+    omega (arith, ints, length-le-whole owners least_time parts are.each, all.1, whole)

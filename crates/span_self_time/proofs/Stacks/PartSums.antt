@@ -7,7 +7,8 @@ use Rattle.std.proofs.lemmas.List.Sums.{sum_by-cons, sum_by_push, sum_by-append}
 use Rattle.span_self_time.specs.declared.segment.Part.{Part}
 use Rattle.span_event.specs.Time.{distance}
 use Rattle.span_self_time.specs.Spans.{Span}
-use Rattle.span_self_time.specs.Closed.{least_start, greatest_until}
+use Rattle.span_event.specs.Event.{least_time}
+use Rattle.span_self_time.specs.Closed.{greatest_until}
 use Rattle.span_self_time.specs.Division.{Owners, taken, SelfTimes, own_in, between}
 use Rattle.span_self_time.specs.Division.Stacks.{part_length, named_length, whole_length, AreSums, parts_of, piece, IsTakenTo, IsNextPart, IsGained}
 use Rattle.span_self_time.proofs.Counts.{add-distance, distance-add}
@@ -156,8 +157,8 @@ pub record AreSmall (own : SelfTimes) (busy : ℕ) : Type 0 where
   pub of_names : (name : ℕ) → own_in own name ≤ 2 ^ 55
   pub of_all : busy ≤ 2 ^ 55
 
-whole-small : (t : ℤ) → least_start ≤ℤ t → t ≤ℤ greatest_until → distance least_start t + distance t greatest_until ≤ 2 ^ 55
-whole-small t h k = omega (arith, ints, add-distance least_start t h, add-distance t greatest_until k)
+whole-small : (t : ℤ) → least_time ≤ℤ t → t ≤ℤ greatest_until → distance least_time t + distance t greatest_until ≤ 2 ^ 55
+whole-small t h k = omega (arith, ints, add-distance least_time t h, add-distance t greatest_until k)
 
 pub AreSmall-taken : (s : Span ℕ) (t : ℤ) (past future : List Part) (owners : Owners) (own : SelfTimes) (busy : ℕ) → IsTakenTo s t past future owners → AreSums own busy (parts_of past future) → AreSmall own busy
 AreSmall-taken s t past future owners own busy at sums =

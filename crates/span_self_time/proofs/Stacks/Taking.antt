@@ -5,7 +5,8 @@ use Rattle.std.proofs.lemmas.Int.{ints, clamps, by_lt_z}
 use Rattle.std.proofs.lemmas.List.{append-nil}
 use Rattle.span_self_time.specs.declared.segment.Part.{Part}
 use Rattle.span_self_time.specs.Spans.{Span, covers, outranks}
-use Rattle.span_self_time.specs.Closed.{least_start, greatest_until}
+use Rattle.span_event.specs.Event.{least_time}
+use Rattle.span_self_time.specs.Closed.{greatest_until}
 use Rattle.span_self_time.specs.Division.{Owners, owner_of, claims, taken, Belong, AreFuture, IsNew, AreParts, between}
 use Rattle.span_self_time.specs.Division.Stacks.{ArePast, IsOnly, parts_of, piece, starts_before, ends_by, IsTakenTo, IsNextPart, IsAtStart}
 use Rattle.span_self_time.proofs.Owners.{taken-before, taken-after, taken-within, taken-kept}
@@ -81,7 +82,7 @@ pub record IsTakenUpTo (s : Span ℕ) (from until : ℤ) (p : Part) : Type 0 whe
   pub within : until ≤ℤ p.segment.until
   pub covered : until ≤ℤ s.until
   pub rest : until <ℤ s.until → until ≡ p.segment.until
-  pub from_in_time : least_start ≤ℤ from
+  pub from_in_time : least_time ≤ℤ from
   pub in_time : until ≤ℤ greatest_until
 
 pub IsTakenUpTo-next : (s : Span ℕ) (from until : ℤ) (p : Part) (past future : List Part) (owners : Owners) → IsNextPart s from p past future owners → until ≡ int_min p.segment.until s.until → IsTakenUpTo s from until p
@@ -149,7 +150,7 @@ AreFuture-last owners t p rest after = subst (λ l. AreFuture owners t l) (rever
 -- the gap before the part that comes next
 pub record IsGapBefore (s : Span ℕ) (t : ℤ) (p : Part) (owners : Owners) : Type 0 where
   pub first : t ≤ℤ p.segment.start
-  pub from_in_time : least_start ≤ℤ t
+  pub from_in_time : least_time ≤ℤ t
   pub in_time : p.segment.start ≤ℤ greatest_until
   pub belongs : p.segment.start ≤ℤ s.until → Belong (taken s owners) t p.segment.start (Some s)
 
@@ -276,7 +277,7 @@ piece-none p a b h = ap (λ t. length (cond t (between p a b ∷ []) [])) (int_l
 pub AreParts-empty : (s : Span ℕ) (parts : List Part) (owners : Owners) → s.start ≡ s.until → AreParts owners parts → AreParts (taken s owners) parts
 AreParts-empty s parts owners empty are = record {
   nothing = λ u before. same u ∙ are.nothing u before;
-  each = AreFuture-same owners (taken s owners) least_start parts (λ u from. same u) are.each;
+  each = AreFuture-same owners (taken s owners) least_time parts (λ u from. same u) are.each;
 }
   where
     same : (u : ℤ) → taken s owners u ≡ owners u

@@ -4,7 +4,8 @@ use Rattle.std.proofs.lemmas.Int.{ints, by_lt_z}
 use Rattle.std.proofs.lemmas.Option.{same_Some}
 use Rattle.span_self_time.specs.declared.segment.Part.{Part}
 use Rattle.span_self_time.specs.Spans.{Span}
-use Rattle.span_self_time.specs.Closed.{least_start, greatest_until}
+use Rattle.span_event.specs.Event.{least_time}
+use Rattle.span_self_time.specs.Closed.{greatest_until}
 use Rattle.span_self_time.specs.Division.{Owners, owner_of, between}
 use Rattle.span_self_time.specs.Division.TimeMap.Stretches.{Starts, IsLast, IsHeld, IsOfPart, IsDivided, IsEnd, IsPut}
 use Rattle.span_self_time.proofs.TimeMap.StretchOwners.{by_eq_z, IsSome-Some, IsSome-None, until-last, last-is}
@@ -102,7 +103,7 @@ module _ (owners : Owners) (m n : Starts) (t k : ℤ) (p : Part) (are : IsDivide
         before = of.before;
       })
 
-  pub IsDivided-cut : least_start ≤ℤ t → t ≤ℤ greatest_until → IsDivided owners n
+  pub IsDivided-cut : least_time ≤ℤ t → t ≤ℤ greatest_until → IsDivided owners n
   IsDivided-cut least greatest = record {
     held = λ j r is. by_part j r is
         (λ h same. subst (λ x. IsHeld owners n x r) (sym h) (subst (IsHeld owners n k) same held-head))
@@ -111,7 +112,7 @@ module _ (owners : Owners) (m n : Starts) (t k : ℤ) (p : Part) (are : IsDivide
     owned = λ u o is. of_part u (are.owned u o is);
     in_time = λ q some.
         by_eq_z q k (λ h. are.in_time q (IsSome-Some (m q) _ (ap m h ∙ cut.last.is)))
-        (λ h. by_eq_z q t (λ g. (subst (λ x. least_start ≤ℤ x) (sym g) least, subst (λ x. x ≤ℤ greatest_until) (sym g) greatest))
+        (λ h. by_eq_z q t (λ g. (subst (λ x. least_time ≤ℤ x) (sym g) least, subst (λ x. x ≤ℤ greatest_until) (sym g) greatest))
         (λ g. are.in_time q (subst IsSome (cut.others q h g) some)));
   }
 
@@ -149,7 +150,7 @@ module _ (owners : Owners) (m n : Starts) (t : ℤ) (are : IsDivided owners m) (
         };
       }
 
-  pub IsDivided-free : least_start ≤ℤ t → t ≤ℤ greatest_until → IsDivided owners n
+  pub IsDivided-free : least_time ≤ℤ t → t ≤ℤ greatest_until → IsDivided owners n
   IsDivided-free least greatest = record {
     held = λ j r is. held-free j r (from_m j r is);
     owned = λ u o is.
@@ -162,7 +163,7 @@ module _ (owners : Owners) (m n : Starts) (t : ℤ) (are : IsDivided owners m) (
           before = of.before;
         };
     in_time = λ q some.
-        by_eq_z q t (λ g. (subst (λ x. least_start ≤ℤ x) (sym g) least, subst (λ x. x ≤ℤ greatest_until) (sym g) greatest))
+        by_eq_z q t (λ g. (subst (λ x. least_time ≤ℤ x) (sym g) least, subst (λ x. x ≤ℤ greatest_until) (sym g) greatest))
         (λ g. are.in_time q (subst IsSome (put.others q g) some));
   }
 

@@ -13,7 +13,8 @@ use Rattle.std.proofs.lemmas.Map.Entries.{lookup_head, lookup_tail}
 use Rattle.span_self_time.specs.declared.segment.Part.{Part}
 use Rattle.span_self_time.specs.declared.division.time_map.stretches.Stretches.{Stretches}
 use Rattle.span_self_time.specs.Spans.{Span}
-use Rattle.span_self_time.specs.Closed.{least_start, greatest_until}
+use Rattle.span_event.specs.Event.{least_time}
+use Rattle.span_self_time.specs.Closed.{greatest_until}
 use Rattle.span_self_time.specs.Division.{Owners, owner_of, AreFuture, AreParts}
 use Rattle.span_self_time.specs.Division.TimeMap.Stretches.{Starts, at, IsOfPart, IsDivided, AreWhole, present, parts_in}
 use Rattle.span_self_time.proofs.TimeMap.StretchOwners.{by_eq_z, IsSome-Some, IsSome-None, apart}
@@ -116,20 +117,20 @@ module _ (owners : Owners) (m : Starts) (are : IsDivided owners m) (whole : AreW
 pub AreParts-stretches : (owners : Owners) (s : Stretches) → IsDivided owners (at s) → AreWhole owners (at s) → IsOrdered int_cmp s.map → AreParts owners (parts_in s)
 AreParts-stretches owners s are whole ordered = record {
   nothing = λ u before. nothing u before (owners u) refl;
-  each = AreFuture-run owners (at s) are whole least_start least_start s.map.entries (omega (arith, ints))
+  each = AreFuture-run owners (at s) are whole least_time least_time s.map.entries (omega (arith, ints))
       (λ k p is before. absurd (let from = are.in_time k (IsSome-Some (at s k) _ is) in omega (arith, ints, from.0)))
       (λ q from some. from)
-      (IsRun-found least_start s.map.entries ordered (first s.map.entries (λ e es is. (are.in_time e.0 (ap is_some (ap (λ l. found l e.0) is ∙ lookup_head (is_at (int_cmp e.0)) e es (same e.0)))).0)));
+      (IsRun-found least_time s.map.entries ordered (first s.map.entries (λ e es is. (are.in_time e.0 (ap is_some (ap (λ l. found l e.0) is ∙ lookup_head (is_at (int_cmp e.0)) e es (same e.0)))).0)));
 }
   where
     same : (k : ℤ) → is_eq (int_cmp k k) ≡ true
     same k = grind (arith, ints)
 
-    first : (es : Entries) → ((e : ℤ × Option Part) (rest : Entries) → es ≡ e ∷ rest → least_start ≤ℤ e.0) → StartsFrom least_start es
+    first : (es : Entries) → ((e : ℤ × Option Part) (rest : Entries) → es ≡ e ∷ rest → least_time ≤ℤ e.0) → StartsFrom least_time es
     first [] h = tt
     first (e ∷ es) h = h e es refl
 
-    nothing : (u : ℤ) → u <ℤ least_start → (o : Option (Span ℕ)) → owners u ≡ o → o ≡ None
+    nothing : (u : ℤ) → u <ℤ least_time → (o : Option (Span ℕ)) → owners u ≡ o → o ≡ None
     nothing u before None h = refl
     nothing u before (Some o) h =
         let of = are.owned u o h in

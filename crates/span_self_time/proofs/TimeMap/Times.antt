@@ -3,7 +3,8 @@ use Rattle.std.proofs.Common.{◌≡◌, ◌≤◌, ◌^◌, ℕ, ◌+◌, Bool,
 use Rattle.std.proofs.lemmas.Int.{ints}
 use Rattle.span_event.specs.Time.{distance}
 use Rattle.span_self_time.specs.Spans.{Span, count_from}
-use Rattle.span_self_time.specs.Closed.{least_start, greatest_until}
+use Rattle.span_event.specs.Event.{least_time}
+use Rattle.span_self_time.specs.Closed.{greatest_until}
 use Rattle.span_self_time.specs.Division.{Owners, Belong}
 use Rattle.span_self_time.specs.Division.TimeMap.{time_of}
 use Rattle.span_self_time.proofs.Counts.{add-distance, distance-add, count_from-add, count_from-same, count_from-unbroken, count_from-none, count_from-le}
@@ -25,7 +26,7 @@ count_from-agreed q old new a b forward same =
 
 -- new has what old has but from t to n, where r follows p
 pub record IsReplaced (old new : Owners) (t n : ℤ) (p r : Option (Span ℕ)) : Type 0 where
-  pub first : least_start ≤ℤ t
+  pub first : least_time ≤ℤ t
   pub lasts : t <ℤ n
   pub last : n ≤ℤ greatest_until
   pub before : (u : ℤ) → u <ℤ t → new u ≡ old u
@@ -35,7 +36,7 @@ pub record IsReplaced (old new : Owners) (t n : ℤ) (p r : Option (Span ℕ)) :
 
 pub time_of-replaced : (q : Option (Span ℕ) → Bool) (old new : Owners) (t n : ℤ) (p r : Option (Span ℕ)) → IsReplaced old new t n p r → time_of q new + cond (q p) (distance t n) 0 ≡ time_of q old + cond (q r) (distance t n) 0
 unfolding time_of
-time_of-replaced q old new t n p r h = from least_start greatest_until h.first h.last
+time_of-replaced q old new t n p r h = from least_time greatest_until h.first h.last
   where
     from : (a b : ℤ) → a ≤ℤ t → n ≤ℤ b → count_from a (distance a b) (λ u. q (new u)) + cond (q p) (distance t n) 0 ≡ count_from a (distance a b) (λ u. q (old u)) + cond (q r) (distance t n) 0
     from a b first last =
@@ -47,9 +48,9 @@ time_of-replaced q old new t n p r h = from least_start greatest_until h.first h
         omega (arith, of_new, of_old, head, tail)
 
 -- a stretch is no longer than all that passes
-pub distance-time_of : (q : Option (Span ℕ) → Bool) (owners : Owners) (t n : ℤ) (p : Option (Span ℕ)) → least_start ≤ℤ t → t ≤ℤ n → n ≤ℤ greatest_until → Belong owners t n p → q p ≡ true → distance t n ≤ time_of q owners
+pub distance-time_of : (q : Option (Span ℕ) → Bool) (owners : Owners) (t n : ℤ) (p : Option (Span ℕ)) → least_time ≤ℤ t → t ≤ℤ n → n ≤ℤ greatest_until → Belong owners t n p → q p ≡ true → distance t n ≤ time_of q owners
 unfolding time_of
-distance-time_of q owners t n p first lasts last belongs passes = from least_start greatest_until first last
+distance-time_of q owners t n p first lasts last belongs passes = from least_time greatest_until first last
   where
     from : (a b : ℤ) → a ≤ℤ t → n ≤ℤ b → distance t n ≤ count_from a (distance a b) (λ u. q (owners u))
     from a b before after =
@@ -59,7 +60,7 @@ distance-time_of q owners t n p first lasts last belongs passes = from least_sta
 
 pub time_of-le : (q : Option (Span ℕ) → Bool) (owners : Owners) → time_of q owners ≤ 2 ^ 55
 unfolding time_of
-time_of-le q owners = from least_start greatest_until (omega (arith, ints)) (omega (arith, ints))
+time_of-le q owners = from least_time greatest_until (omega (arith, ints)) (omega (arith, ints))
   where
     from : (a b : ℤ) → a ≤ℤ b → (b -ℤ a) ≤ℤ pos (2 ^ 55) → count_from a (distance a b) (λ u. q (owners u)) ≤ 2 ^ 55
     from a b forward short =
@@ -69,7 +70,7 @@ time_of-le q owners = from least_start greatest_until (omega (arith, ints)) (ome
 
 pub time_of-none : (q : Option (Span ℕ) → Bool) → q None ≡ false → time_of q (λ u. None) ≡ 0
 unfolding time_of
-time_of-none q none = from least_start (distance least_start greatest_until)
+time_of-none q none = from least_time (distance least_time greatest_until)
   where
     from : (a : ℤ) (n : ℕ) → count_from a n (λ u. q None) ≡ 0
     from a n = count_from-none (λ u. q None) a n (λ u here before. none)

@@ -5,12 +5,13 @@ use Rattle.span_self_time.specs.declared.segment.Part.{Part}
 use Rattle.span_self_time.specs.declared.division.stacks.Stacks.{Stacks}
 use Rattle.span_event.specs.Time.{distance}
 use Rattle.span_self_time.specs.Spans.{Span}
-use Rattle.span_self_time.specs.Closed.{least_start, IsInTime}
+use Rattle.span_event.specs.Event.{least_time}
+use Rattle.span_self_time.specs.Closed.{IsInTime}
 use Rattle.span_self_time.specs.Division.{Owners, SelfTimes, own_in, taken, owner_of, Belong, AreFuture, AreParts, IsNew, between}
 
 -- the parts, the last first, are the time before t: each is as long as can be to its start
 abbrev pub ArePast : Owners → ℤ → List Part → Type 0
-ArePast owners t [] = (least_start ≤ℤ t) × ((u : ℤ) → u <ℤ t → owners u ≡ None)
+ArePast owners t [] = (least_time ≤ℤ t) × ((u : ℤ) → u <ℤ t → owners u ≡ None)
 ArePast owners t (p ∷ ps) =
     (p.segment.until ≤ℤ t) × Belong owners p.segment.until t None
     × (p.segment.start <ℤ p.segment.until) × Belong owners p.segment.start p.segment.until (Some (owner_of p))

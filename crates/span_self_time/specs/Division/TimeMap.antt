@@ -8,7 +8,8 @@ use Rattle.span_self_time.specs.declared.segment.Part.{Part}
 use Rattle.span_self_time.specs.declared.division.time_map.TimeMap.{TimeMap}
 use Rattle.span_event.specs.Time.{distance}
 use Rattle.span_self_time.specs.Spans.{Span, covers, count_from}
-use Rattle.span_self_time.specs.Closed.{least_start, greatest_until, IsInTime}
+use Rattle.span_event.specs.Event.{least_time}
+use Rattle.span_self_time.specs.Closed.{greatest_until, IsInTime}
 use Rattle.span_self_time.specs.Division.{Owners, SelfTimes, own_in, claims, taken, IsNew, AreSettled}
 use Rattle.span_self_time.specs.Division.TimeMap.Ties.{AreBarred}
 use Rattle.span_self_time.specs.Division.TimeMap.Stretches.{at, IsDivided, IsEnd, AreWhole}
@@ -20,7 +21,7 @@ has_name name (Some o) = nat_eq o.name name
 
 -- how long the owner passes a test
 unfoldable pub time_of : (Option (Span ℕ) → Bool) → Owners → ℕ
-time_of q owners = count_from least_start (distance least_start greatest_until) (λ u. q (owners u))
+time_of q owners = count_from least_time (distance least_time greatest_until) (λ u. q (owners u))
 
 -- the running times are those of the owners
 pub record AreTimes (own : SelfTimes) (busy : ℕ) (owners : Owners) : Type 0 where

@@ -3,7 +3,8 @@ ghost use Rattle.std.specs.Prelude.{true, false, map, option_copied, ◌≡◌, 
 ghost use Rattle.indexmap.specs.IndexMap.{get};
 ghost use Rattle.span_event.specs.Time.{distance};
 ghost use Rattle.span_self_time.specs.Spans.{outranks};
-ghost use Rattle.span_self_time.specs.Closed.{least_start, greatest_until};
+ghost use Rattle.span_event.specs.Event.{least_time};
+ghost use Rattle.span_self_time.specs.Closed.{greatest_until};
 ghost use Rattle.span_self_time.specs.Division.{Owners, owner_of, taken, Belong, own_in, IsNew, ForSome};
 ghost use Rattle.span_self_time.specs.Division.Stacks.{ArePast, IsOnly, parts_of, piece, ends_by, lasts_beyond, starts_before, AreStacks, IsEntering, IsTaking, IsAhead, IsPassing, IsTakenBack, IsGained};
 
@@ -79,7 +80,7 @@ impl Stacks {
     pub(crate) fn add(&mut self, span: &Part) -> Result<(), AllocError>
         requires is { ForSome (λ owners. AreStacks owners self.old × IsNew (owner_of span.now) owners) }
         requires forward { span.now.span_start ≤ℤ span.now.span_until }
-        requires from_in_time { least_start ≤ℤ span.now.span_start }
+        requires from_in_time { least_time ≤ℤ span.now.span_start }
         requires to_in_time { span.now.span_until ≤ℤ greatest_until }
         ensures ok { OnOk result ((owners : Owners) → AreStacks owners self.old → IsNew (owner_of span.now) owners
             → AreStacks (taken (owner_of span.now) owners) self.new) }
@@ -248,7 +249,7 @@ impl Stacks {
 
     fn gain(&mut self, span: &Part, from: i64, until: i64)
         requires lasts { from <ℤ until }
-        requires from_in_time { least_start ≤ℤ from }
+        requires from_in_time { least_time ≤ℤ from }
         requires to_in_time { until ≤ℤ greatest_until }
         requires room { vec_len self.old.past < vec_capacity self.old.past }
         requires kept { IsSome (get nat_eq self.old.own span.now.segment.name) }

@@ -3,7 +3,8 @@ ghost use Rattle.std.specs.Prelude.{true, false, ◌≡◌, ◌≤◌, ◌<◌, 
 ghost use Rattle.std.specs.Option.{is_some, option_map};
 ghost use Rattle.indexmap.specs.IndexMap.{get};
 ghost use Rattle.span_self_time.specs.Spans.{Span, self_of, busy_time};
-ghost use Rattle.span_self_time.specs.Closed.{least_start, greatest_until, AreClosed};
+ghost use Rattle.span_event.specs.Event.{least_time};
+ghost use Rattle.span_self_time.specs.Closed.{greatest_until, AreClosed};
 ghost use Rattle.span_self_time.specs.Division.{Owners, owner_of, claims, taken, owners_of, own_in, IsNew, ForSome, HasParts, AreSettled};
 ghost use Rattle.span_self_time.specs.Division.TimeMap.Stretches.{at};
 ghost use Rattle.span_self_time.specs.Division.TimeMap.Ties.{IsBarred, AreBarred};
@@ -75,7 +76,7 @@ impl TimeMap {
         requires is { ForSome (λ owners. IsTimeMap owners self.old
             × IsNew (owner_of span.now) owners × AreSettled owners) }
         requires forward { span.now.span_start ≤ℤ span.now.span_until }
-        requires from_in_time { least_start ≤ℤ span.now.span_start }
+        requires from_in_time { least_time ≤ℤ span.now.span_start }
         requires to_in_time { span.now.span_until ≤ℤ greatest_until }
         ensures ok { OnOk result ((owners : Owners) → IsTimeMap owners self.old
             → IsNew (owner_of span.now) owners → AreSettled owners

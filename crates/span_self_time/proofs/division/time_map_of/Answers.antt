@@ -1,7 +1,8 @@
 use Rattle.std.proofs.Common.{◌≡◌, ◌≤ℤ◌, ℕ, map, take, sym, ap, ◌∙◌, subst}
 use Rattle.span_self_time.specs.declared.segment.Part.{Part}
 use Rattle.span_self_time.specs.Spans.{Span}
-use Rattle.span_self_time.specs.Closed.{span_of, least_start, greatest_until}
+use Rattle.span_event.specs.Event.{least_time}
+use Rattle.span_self_time.specs.Closed.{span_of, greatest_until}
 use Rattle.span_self_time.specs.Division.{Owners, bare, owner_of, owners_of, taken, IsNew}
 use Rattle.span_self_time.specs.Division.TimeMap.{IsTimeMap}
 use Rattle.span_self_time.proofs.SelfSums.{lasts-read, IsInTime-read}
@@ -21,7 +22,7 @@ pub add-requires-clause-forward : goal.add-requires-clause-forward
 add-requires-clause-forward c = subst (λ (p : Part). p.span_start ≤ℤ p.span_until) (sym c.whole.ensures) (lasts-read c.args.spans.now c.loop-span.span-index c.span-item.result c.requires c.loop-span-test.true c.span-item.is)
 
 pub add-requires-clause-from_in_time : goal.add-requires-clause-from_in_time
-add-requires-clause-from_in_time c = subst (λ (p : Part). least_start ≤ℤ p.span_start) (sym c.whole.ensures) (IsInTime-read c.args.spans.now c.loop-span.span-index c.span-item.result c.requires c.loop-span-test.true c.span-item.is).0
+add-requires-clause-from_in_time c = subst (λ (p : Part). least_time ≤ℤ p.span_start) (sym c.whole.ensures) (IsInTime-read c.args.spans.now c.loop-span.span-index c.span-item.result c.requires c.loop-span-test.true c.span-item.is).0
 
 pub add-requires-clause-to_in_time : goal.add-requires-clause-to_in_time
 add-requires-clause-to_in_time c = subst (λ (p : Part). p.span_until ≤ℤ greatest_until) (sym c.whole.ensures) (IsInTime-read c.args.spans.now c.loop-span.span-index c.span-item.result c.requires c.loop-span-test.true c.span-item.is).1

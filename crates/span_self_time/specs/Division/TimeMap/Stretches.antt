@@ -5,7 +5,8 @@ use Rattle.std.specs.BTreeMap.{get, values}
 use Rattle.span_self_time.specs.declared.segment.Part.{Part}
 use Rattle.span_self_time.specs.declared.division.time_map.stretches.Stretches.{Stretches}
 use Rattle.span_self_time.specs.Spans.{Span}
-use Rattle.span_self_time.specs.Closed.{least_start, greatest_until}
+use Rattle.span_event.specs.Event.{least_time}
+use Rattle.span_self_time.specs.Closed.{greatest_until}
 use Rattle.span_self_time.specs.Division.{Owners, owner_of, Belong}
 
 -- what starts at each time, if anything
@@ -45,7 +46,7 @@ pub record IsOfPart (m : Starts) (u : ℤ) : Type 0 where
 pub record IsDivided (owners : Owners) (m : Starts) : Type 0 where
   pub held : (k : ℤ) (p : Part) → m k ≡ Some (Some p) → IsHeld owners m k p
   pub owned : (u : ℤ) (o : Span ℕ) → owners u ≡ Some o → IsOfPart m u
-  pub in_time : (k : ℤ) → IsSome (m k) → (least_start ≤ℤ k) × (k ≤ℤ greatest_until)
+  pub in_time : (k : ℤ) → IsSome (m k) → (least_time ≤ℤ k) × (k ≤ℤ greatest_until)
 
 -- a part of this owner ends at t
 pub record IsEnd (m : Starts) (t : ℤ) (o : Span ℕ) : Type 0 where

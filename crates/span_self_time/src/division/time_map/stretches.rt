@@ -5,7 +5,8 @@ ghost use Rattle.std.specs.Option.{option_map};
 ghost use Rattle.std.specs.Ordering.{int_cmp};
 ghost use Rattle.span_self_time.specs.declared.segment.Part.{Part};
 ghost use Rattle.span_self_time.specs.Spans.{Span};
-ghost use Rattle.span_self_time.specs.Closed.{least_start, greatest_until};
+ghost use Rattle.span_event.specs.Event.{least_time};
+ghost use Rattle.span_self_time.specs.Closed.{greatest_until};
 ghost use Rattle.span_self_time.specs.Division.{Owners, owner_of, ForSome};
 ghost use Rattle.span_self_time.specs.Division.TimeMap.Stretches.{at, IsLast, IsDivided, IsEnd, IsNext, IsPut, AreWhole, parts_in};
 
@@ -110,7 +111,7 @@ impl Stretches {
 
     /// Makes a stretch start at `time`. Where memory is refused, nothing changes.
     pub(crate) fn split(&mut self, time: i64) -> Result<(), AllocError>
-        requires from_in_time { least_start ≤ℤ time }
+        requires from_in_time { least_time ≤ℤ time }
         requires to_in_time { time ≤ℤ greatest_until }
         ensures divided { OnOk result ((owners : Owners) → IsDivided owners (at self.old)
             → IsDivided owners (at self.new)) }
@@ -139,7 +140,7 @@ impl Stretches {
 
     /// Where a part of one span ends at `time` and another of it starts, they become one.
     pub(crate) fn join(&mut self, time: i64)
-        requires from_in_time { least_start ≤ℤ time }
+        requires from_in_time { least_time ≤ℤ time }
         ensures divided { (owners : Owners) → IsDivided owners (at self.old) → IsDivided owners (at self.new) }
         ensures keeps { (q : ℤ) → q ≢ time → IsSome (at self.old q) → IsSome (at self.new q) }
         ensures ends { (owners : Owners) (t : ℤ) (o : Span ℕ) → IsDivided owners (at self.old)
@@ -164,7 +165,7 @@ impl Stretches {
 
     /// Makes stretches start at both times. Where memory is refused, the owners stay, and each part is still whole.
     pub(crate) fn split_both(&mut self, from: i64, until: i64) -> Result<(), AllocError>
-        requires from_in_time { least_start ≤ℤ from }
+        requires from_in_time { least_time ≤ℤ from }
         requires forward { from ≤ℤ until }
         requires to_in_time { until ≤ℤ greatest_until }
         ensures divided { (owners : Owners) → IsDivided owners (at self.old) → IsDivided owners (at self.new) }

@@ -3,7 +3,8 @@ use Rattle.std.proofs.lemmas.Int.{ints}
 use Rattle.std.proofs.lemmas.List.{length-reverse}
 use Rattle.span_self_time.specs.declared.segment.Part.{Part}
 use Rattle.span_self_time.specs.declared.division.stacks.Stacks.{Stacks}
-use Rattle.span_self_time.specs.Closed.{least_start, greatest_until}
+use Rattle.span_event.specs.Event.{least_time}
+use Rattle.span_self_time.specs.Closed.{greatest_until}
 use Rattle.span_self_time.specs.Division.{Owners, owner_of, own_in, IsNew, AreParts}
 use Rattle.span_self_time.specs.Division.Stacks.{AreStacks, IsAtStart, IsEntering}
 use Rattle.span_self_time.proofs.Stacks.Taking.{AreParts-empty}
@@ -26,7 +27,7 @@ overflow_add-len c =
 at_start : (c : In_ok-advance) (owners : Owners) → AreStacks owners c.args.self.now → IsNew (owner_of c.args.span.now) owners → IsAtStart (owner_of c.args.span.now) c.advance.new.self.past.items c.advance.new.self.future.items owners
 at_start c owners is new =
     let start : to_z w64 (of_z w64 c.args.span.now.span_start) ≡ c.args.span.now.span_start = search rules in
-    let first : least_start ≤ℤ c.args.span.now.span_start = c.requires.from_in_time in
+    let first : least_time ≤ℤ c.args.span.now.span_start = c.requires.from_in_time in
     let last : c.args.span.now.span_until ≤ℤ greatest_until = c.requires.to_in_time in
     let forward : c.args.span.now.span_start ≤ℤ c.args.span.now.span_until = c.requires.forward in
     record {
