@@ -3,7 +3,8 @@
 #![tactic(auto)]
 
 use serde_json::Value;
-use span_read::{Item, Items, ReadError, read_items};
+use span_event::{Item, Items};
+use span_read::{ReadError, read_items};
 use std::alloc::Global;
 use std::io::{self, Read};
 use std::{env, str};

@@ -4,7 +4,8 @@ ghost use Rattle.bench_tracking.specs.Ready.{IsReady};
 
 use crate::step::Step;
 use span_event::Phase;
-use span_track::{ThreadTrack, TrackFault};
+use span_keyed_tracks::TrackFault;
+use span_track::ThreadTrack;
 use std::alloc::Global;
 
 // Gives the track an event at position `at`, and answers the next position.

@@ -1,5 +1,6 @@
 //! The files of a collection, and how each of them ended.
-use span_ledger::{Cause, Text};
+use span_event::Text;
+use span_ledger::Cause;
 
 /// A file: its name, and the bytes that were read of it.
 #[derive(Debug, Drop)]

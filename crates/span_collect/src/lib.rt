@@ -18,6 +18,4 @@ pub use files::{FileEnd, Input};
 pub use gate::{FreeGate, Gate};
 pub use queries::Asked;
 pub use runs::{Collected, RunEnd, RunError, run, run_to_ledger};
-pub use span_ledger::{Cause, Ledger, Query, Text};
-pub use span_report::{Sink, SinkFault, Writer};
 pub use words::{fault_word, numbered_text};

@@ -2,7 +2,7 @@
 ghost use Rattle.std.specs.Prelude.{◌≡◌, List, [], ◌∷◌, reverse, IfSome, IfNone};
 ghost use Rattle.span_event.specs.declared.item.Item.{Item as TheItem};
 
-use span_ledger::{Item, Items};
+use span_event::{Item, Items};
 use std::marker::Model;
 
 /// After so many items the memory of those that were taken is let go.

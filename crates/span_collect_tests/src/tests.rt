@@ -1,9 +1,11 @@
 //! Whole collections of files in memory, by threads that race. Reports and fault lines were written by hand from the format.
 use span_collect::{
-    Cause, CollectError, FileEnd, FreeGate, Gate, Input, Outcome, Query, RunEnd, RunError, Text,
-    Writer, collect, fault_lines, fault_word, run,
+    CollectError, FileEnd, FreeGate, Gate, Input, Outcome, RunEnd, RunError, collect, fault_lines,
+    fault_word, run,
 };
-use span_report::report;
+use span_event::Text;
+use span_ledger::{Cause, Query};
+use span_report::{Writer, report};
 use std::alloc::{AllocError, AllocGlobal, Global};
 use std::process::Abort;
 use std::sync::Wait;

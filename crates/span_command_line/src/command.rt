@@ -1,7 +1,7 @@
 //! The command line: its words, and what they ask for.
 use clap::error::ErrorKind;
 use clap::{Arg, ArgAction, ArgMatches, Command};
-use span_ledger::Text;
+use span_event::Text;
 use std::alloc::{AllocError, Global};
 
 /// The most entries of the journal, where the command line does not say.

@@ -4,7 +4,8 @@ ghost use Rattle.span_command_line.specs.Source.{AreFirst};
 ghost use Rattle.span_command_line.specs.Inputs.{AreInputs, most_read};
 
 use crate::source::{Source, SourceFault};
-use span_collect::{Input, Text};
+use span_collect::Input;
+use span_event::Text;
 use std::alloc::Global;
 
 /// The most bytes that are read of a file: one more than it may have, so that a longer one is refused.

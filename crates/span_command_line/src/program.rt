@@ -5,11 +5,9 @@ ghost use Rattle.span_command_line.specs.Request.{EndsWith, LeavesPart, Collects
 use crate::command::Request;
 use crate::inputs::{Unread, inputs_of};
 use crate::source::Source;
-use span_collect::{
-    Input, RunEnd, Sink, Text, fault_line_of, fault_lines, numbered_text, run_to_ledger,
-};
-use span_event::Fault;
-use span_report::write_bytes;
+use span_collect::{Input, RunEnd, fault_line_of, fault_lines, numbered_text, run_to_ledger};
+use span_event::{Fault, Text};
+use span_report::{Sink, write_bytes};
 use std::alloc::Global;
 use std::io::Write;
 use std::mem::forget;

@@ -1,8 +1,9 @@
 //! Whole runs of the program over files in memory; reports and fault lines were written by hand from the format.
 ghost use Rattle.std.specs.Prelude.{◌≤◌, vec_len, IfOk, None};
 
-use span_collect::{Text, Writer};
 use span_command_line::{Request, Source, SourceFault, perform, request_of};
+use span_event::Text;
+use span_report::Writer;
 use std::alloc::{AllocError, Global};
 use std::io;
 use std::io::{ErrorKind, Write};

@@ -10,6 +10,5 @@ mod writer;
 pub use lines::json_text;
 pub use output::{WriteFault, write_bytes, write_report};
 pub use sink::{Sink, SinkFault};
-pub use span_ledger::{Ledger, Text};
 pub use text::report;
 pub use writer::Writer;

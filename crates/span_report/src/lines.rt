@@ -3,10 +3,9 @@ ghost use Rattle.std.specs.Prelude.{◌≡◌, ◌++◌, ℕ, List, string_bytes
 ghost use Rattle.span_report.specs.Lines.{first_line, count_line, process_line, thread_line, span_line, name_text, json_text_of, reach_text, instant_line, id_text, any_id_text, counter_line, samples_text, async_line, flow_line};
 
 use serde_json::Value;
-use span_ledger::{
-    AsyncRow, CountRow, FlowRow, IdKey, InstantRow, ProcessRow, Reach, SeriesRow, SeriesTotals,
-    SpanRow, Text, ThreadRow,
-};
+use span_event::{IdKey, Reach, Text};
+use span_keyed_tracks::{AsyncRow, FlowRow, InstantRow, SeriesRow, SeriesTotals};
+use span_ledger::{CountRow, ProcessRow, SpanRow, ThreadRow};
 use std::alloc::{AllocError, Global};
 
 /// What a report prints as lines.

@@ -1,9 +1,10 @@
 //! Reports of worked traces, written by hand from the format, and outputs that fail.
 ghost use Rattle.span_event.specs.Item.{IsGoodItem};
 
-use span_ledger::Op;
-use span_read::{Item, read_items};
-use span_report::{Ledger, Text, WriteFault, Writer, json_text, report, write_report};
+use span_event::{Item, Text};
+use span_ledger::{Ledger, Op};
+use span_read::read_items;
+use span_report::{WriteFault, Writer, json_text, report, write_report};
 use std::alloc::Global;
 use std::io;
 use std::io::{ErrorKind, Write};

@@ -13,7 +13,6 @@ mod turn;
 pub use book::{Book, Receipt};
 pub use seat::Seat;
 pub use share::{Share, ShareError};
-pub use span_ledger::{Answer, Back, Cause, Entry, Item, Ledger, Op, Query, Reply};
 
 #[cfg(test)]
 mod tests;

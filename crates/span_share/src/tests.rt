@@ -4,8 +4,9 @@ ghost use Rattle.span_share.specs.Seats.{IsSeatOf};
 
 use crate::steps::take_turn;
 use crate::turn::Returns;
-use crate::{Back, Cause, Item, Ledger, Op, Query, Receipt, Seat, Share};
-use span_event::{Args, Event, Phase, Text};
+use crate::{Receipt, Seat, Share};
+use span_event::{Args, Event, Item, Phase, Text};
+use span_ledger::{Back, Cause, Ledger, Op, Query};
 use std::alloc::{AllocGlobal, Global};
 use std::process::Abort;
 use std::sync::Wait;

@@ -6,8 +6,9 @@ mod progress;
 ghost use Rattle.std.specs.Prelude.{None};
 
 use progress::{Cleared, Progress, Watched};
-use span_collect::{Text, Writer};
 use span_command_line::{Request, Source, SourceFault, perform, read_up_to, request_of};
+use span_event::Text;
+use span_report::Writer;
 use std::fs::File;
 use std::io::{ErrorKind, IsTerminal};
 use std::process::ExitCode;
