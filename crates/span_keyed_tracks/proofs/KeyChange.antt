@@ -16,7 +16,7 @@ use Rattle.span_keyed_tracks.proofs.Keyed.{has_key-below, is_some-lookup, kept_a
 
 module _ {K X : Type 0} {cmp : K → K → Ordering} (o : IsTotalOrder cmp) where
   -- to insert an entry at a key that is there is to write its value
-  insert_entry-found : (es : List (K × X)) (key : K) (was value : X) → IsStrictlySortedBy cmp (keys_of es) → lookup (is_at (cmp key)) es ≡ Some was → set_value (is_at (cmp key)) es value ≡ insert_entry cmp es key value
+  pub insert_entry-found : (es : List (K × X)) (key : K) (was value : X) → IsStrictlySortedBy cmp (keys_of es) → lookup (is_at (cmp key)) es ≡ Some was → set_value (is_at (cmp key)) es value ≡ insert_entry cmp es key value
   unfolding IsStrictlySortedBy
   insert_entry-found [] key was value sorted found = cc
   insert_entry-found (e ∷ es) key was value sorted found = by (cmp key e.0) refl (insert_entry-found es key was value sorted.1) found
