@@ -1,5 +1,5 @@
 -- How long parts are together as the cursor moves and parts are cut.
-use Rattle.std.proofs.Common.{◌≡◌, ◌≤◌, ◌<◌, ℕ, ◌+◌, ◌^◌, ◌==◌, Bool, true, false, cond, nat_eq, ℤ, ◌≤ℤ◌, ◌<ℤ◌, int_lt, List, [], ◌∷◌, ◌++◌, reverse, refl, ap, ◌∙◌, arith, eq-eqb}
+use Rattle.std.proofs.Common.{◌≡◌, ◌≤◌, ◌<◌, ℕ, ◌+◌, ◌^◌, ◌==◌, Bool, true, false, cond, nat_eq, ℤ, ◌≤ℤ◌, ◌<ℤ◌, int_lt, List, [], ◌∷◌, ◌++◌, reverse, refl, sym, ap, ◌∙◌, arith, eq-eqb}
 use Rattle.std.specs.List.{sum_by}
 use Rattle.std.proofs.lemmas.Int.{ints}
 use Rattle.std.proofs.lemmas.List.{reverse-append}
@@ -35,49 +35,39 @@ whole_length-next : (p : Part) (past future : List Part) → whole_length (p ∷
 whole_length-next p past future =
     omega (arith, sum_by-cons (λ (x : Part). part_length x) p (parts_of past future), sum_by-parts_of (λ (x : Part). part_length x) past future)
 
-pub AreSums-push : (own : SelfTimes) (busy : ℕ) (p : Part) (past future : List Part) → AreSums own busy (p ∷ parts_of past future) → AreSums own busy (parts_of (past ++ p ∷ []) future)
-AreSums-push own busy p past future sums = record {
-  of_names = λ name. omega (arith, sums.of_names name, named_length-next name p past future, sum_by-parts_of (named name) (past ++ p ∷ []) future, sum_by_push (named name) past p);
-  of_all = omega (arith, sums.of_all, whole_length-next p past future, sum_by-parts_of (λ (x : Part). part_length x) (past ++ p ∷ []) future, sum_by_push (λ (x : Part). part_length x) past p);
-}
+AreSums-same : (own : SelfTimes) (busy : ℕ) (xs ys : List Part) → ((f : Part → ℕ) → sum_by f xs ≡ sum_by f ys) → AreSums own busy xs → AreSums own busy ys
+AreSums-same own busy xs ys same sums = record { of_names = λ name. sums.of_names name ∙ same (named name); of_all = sums.of_all ∙ same (λ p. part_length p) }
 
-AreSums-last : (own : SelfTimes) (busy : ℕ) (p : Part) (past rest : List Part) → AreSums own busy (p ∷ parts_of past rest) → AreSums own busy (parts_of past (rest ++ p ∷ []))
-AreSums-last own busy p past rest sums = record {
-  of_names = λ name. omega (arith, sums.of_names name, named_length-next name p past rest, sum_by-parts_of (named name) past (rest ++ p ∷ []), sum_by_push (named name) rest p);
-  of_all = omega (arith, sums.of_all, whole_length-next p past rest, sum_by-parts_of (λ (x : Part). part_length x) past (rest ++ p ∷ []), sum_by_push (λ (x : Part). part_length x) rest p);
-}
+pub AreSums-push : (own : SelfTimes) (busy : ℕ) (p : Part) (past future : List Part) → AreSums own busy (p ∷ parts_of past future) → AreSums own busy (parts_of (past ++ p ∷ []) future)
+AreSums-push own busy p past future = AreSums-same own busy _ _ (λ f. omega (arith, sum_by-cons f p (parts_of past future), sum_by-parts_of f past future, sum_by-parts_of f (past ++ p ∷ []) future, sum_by_push f past p))
+
+-- a part in front is worth as much as one behind the cursor
+sum_by-last : (f : Part → ℕ) (p : Part) (past rest : List Part) → sum_by f (p ∷ parts_of past rest) ≡ sum_by f (parts_of past (rest ++ p ∷ []))
+sum_by-last f p past rest = omega (arith, sum_by-cons f p (parts_of past rest), sum_by-parts_of f past rest, sum_by-parts_of f past (rest ++ p ∷ []), sum_by_push f rest p)
 
 pub AreSums-pop : (own : SelfTimes) (busy : ℕ) (p : Part) (past rest future : List Part) → future ≡ rest ++ p ∷ [] → AreSums own busy (parts_of past future) → AreSums own busy (p ∷ parts_of past rest)
-AreSums-pop own busy p past rest future split sums = record {
-  of_names = λ name. omega (arith, sums.of_names name, named_length-next name p past rest, sum_by-parts_of (named name) past future, ap (sum_by (named name)) split, sum_by_push (named name) rest p);
-  of_all = omega (arith, sums.of_all, whole_length-next p past rest, sum_by-parts_of (λ (x : Part). part_length x) past future, ap (sum_by (λ (x : Part). part_length x)) split, sum_by_push (λ (x : Part). part_length x) rest p);
-}
+AreSums-pop own busy p past rest future split = AreSums-same own busy _ _ (λ f. ap (λ l. sum_by f (parts_of past l)) split ∙ sym (sum_by-last f p past rest))
 
 pub distance-positive : (a b : ℤ) → a <ℤ b → 0 < distance a b
 distance-positive a b h = let e = add-distance a b (omega (arith, ints)) in omega (arith, ints, e)
 
--- what a piece of a part adds
-named_length-piece : (name : ℕ) (p : Part) (a b : ℤ) (parts : List Part) → a ≤ℤ b → named_length name (parts ++ piece p a b) ≡ named_length name parts + cond (nat_eq p.segment.name name) (distance a b) 0
-named_length-piece name p a b parts h = by_test (int_lt a b) refl
+-- what a piece of a part adds, if nothing is worth nothing
+sum_by-piece : (f : Part → ℕ) (p : Part) (a b : ℤ) (parts : List Part) → (distance a b ≡ 0 → f (between p a b) ≡ 0) → a ≤ℤ b → sum_by f (parts ++ piece p a b) ≡ sum_by f parts + f (between p a b)
+sum_by-piece f p a b parts nothing h = by_test (int_lt a b) refl
   where
-    none : (t : Bool) (n : ℕ) → n ≡ 0 → cond t n 0 ≡ 0
-    none true n e = e
-    none false n e = refl
+    by_test : (t : Bool) → int_lt a b ≡ t → sum_by f (parts ++ cond t (between p a b ∷ []) []) ≡ sum_by f parts + f (between p a b)
+    by_test true e = sum_by_push f parts (between p a b)
+    by_test false e = let d = add-distance a b h in omega (arith, sum_by-append f parts [], nothing (omega (arith, ints, d, e)))
 
-    by_test : (t : Bool) → int_lt a b ≡ t → named_length name (parts ++ cond t (between p a b ∷ []) []) ≡ named_length name parts + cond (nat_eq p.segment.name name) (distance a b) 0
-    by_test true e = sum_by_push (named name) parts (between p a b)
-    by_test false e =
-        let here : distance a b ≡ 0 = let d = add-distance a b h in omega (arith, ints, d, e) in
-        omega (arith, sum_by-append (named name) parts [], none (nat_eq p.segment.name name) (distance a b) here)
+cond-none : (t : Bool) (n : ℕ) → n ≡ 0 → cond t n 0 ≡ 0
+cond-none true n none = none
+cond-none false n none = refl
+
+named_length-piece : (name : ℕ) (p : Part) (a b : ℤ) (parts : List Part) → a ≤ℤ b → named_length name (parts ++ piece p a b) ≡ named_length name parts + cond (nat_eq p.segment.name name) (distance a b) 0
+named_length-piece name p a b parts = sum_by-piece (named name) p a b parts (cond-none (nat_eq p.segment.name name) (distance a b))
 
 whole_length-piece : (p : Part) (a b : ℤ) (parts : List Part) → a ≤ℤ b → whole_length (parts ++ piece p a b) ≡ whole_length parts + distance a b
-whole_length-piece p a b parts h = by_test (int_lt a b) refl
-  where
-    by_test : (t : Bool) → int_lt a b ≡ t → whole_length (parts ++ cond t (between p a b ∷ []) []) ≡ whole_length parts + distance a b
-    by_test true e = sum_by_push (λ (x : Part). part_length x) parts (between p a b)
-    by_test false e =
-        let here : distance a b ≡ 0 = let d = add-distance a b h in omega (arith, ints, d, e) in
-        omega (arith, sum_by-append (λ (x : Part). part_length x) parts [])
+whole_length-piece p a b parts = sum_by-piece (λ (x : Part). part_length x) p a b parts (λ none. none)
 
 cond-add : (t : Bool) (a b c d : ℕ) → a ≡ b + c + d → cond t a 0 ≡ cond t b 0 + cond t c 0 + cond t d 0
 cond-add true a b c d h = h
@@ -186,5 +176,4 @@ AreSmall-next s from p past future owners own busy next sums =
 
 pub AreSmall-next_of : (s : Span ℕ) (t : ℤ) (p : Part) (past future : List Part) (owners : Owners) (own : SelfTimes) (busy : ℕ) → IsTakenTo s t past (future ++ p ∷ []) owners → AreSums own busy (p ∷ parts_of past future) → AreSmall own busy
 AreSmall-next_of s t p past future owners own busy at sums =
-    let pushed : AreSums own busy (parts_of past (future ++ p ∷ [])) = AreSums-last own busy p past future sums in
-    AreSmall-taken s t past (future ++ p ∷ []) owners own busy at pushed
+    AreSmall-taken s t past (future ++ p ∷ []) owners own busy at (AreSums-same own busy _ _ (λ f. sum_by-last f p past future) sums)

@@ -165,47 +165,43 @@ IsGapBefore-taken s t p past rest owners at =
       belongs = λ within u here before. taken-within s owners u None true (omega (arith, ints, at.from)) (omega (arith, ints)) (after.1 u here before) refl;
     }
 
--- the next part, after the gap before it is filled
-pub IsNextPart-filled : (s : Span ℕ) (t : ℤ) (p : Part) (past filled rest : List Part) (owners : Owners) → IsTakenTo s t past (rest ++ p ∷ []) owners → t <ℤ p.segment.start → p.segment.start <ℤ s.until → ArePast (taken s owners) p.segment.start (reverse filled) → IsNextPart s p.segment.start p filled rest owners
-IsNextPart-filled s t p past filled rest owners at gap ends before =
+-- the next part, whose span has nothing right before it, once the span has taken its own up to there
+IsNextPart-behind : (s : Span ℕ) (t : ℤ) (p : Part) (past new rest : List Part) (owners : Owners) → IsTakenTo s t past (rest ++ p ∷ []) owners → p.segment.start <ℤ s.until
+    → ArePast (taken s owners) p.segment.start (reverse new) → taken s owners (p.segment.start -ℤ pos 1) ≢ Some (owner_of p) → IsNextPart s p.segment.start p new rest owners
+IsNextPart-behind s t p past new rest owners at ends before start =
     let after = AreFuture-last owners t p rest at.after in
-    let own = after.3 p.segment.start (omega (arith, ints)) after.2 in
     record {
       new = at.new;
       in_time = at.in_time;
-      begins = omega (arith, ints, at.from);
+      begins = omega (arith, ints, at.from, after.0);
       ends = ends;
       within = (omega (arith, ints), after.2);
       head = λ h. absurd (omega (arith, ints));
       before = before;
-      start = λ here.
-          let filled : Some (owner_of p) ≡ Some s = sym here ∙ taken-within s owners (p.segment.start -ℤ pos 1) None true (omega (arith, ints, at.from)) (omega (arith, ints)) (after.1 (p.segment.start -ℤ pos 1) (omega (arith, ints)) (omega (arith, ints))) refl in
-          let same : owner_of p ≡ s = cc in
-          at.new p.segment.start (owner_of p) own (ap (λ (o : Span ℕ). o.at) same);
+      start = start;
       belongs = after.3;
       until = after.4;
       after = after.5;
     }
 
--- the next part, where there is no gap before it
+-- after the gap before it is filled
+pub IsNextPart-filled : (s : Span ℕ) (t : ℤ) (p : Part) (past filled rest : List Part) (owners : Owners) → IsTakenTo s t past (rest ++ p ∷ []) owners → t <ℤ p.segment.start → p.segment.start <ℤ s.until → ArePast (taken s owners) p.segment.start (reverse filled) → IsNextPart s p.segment.start p filled rest owners
+IsNextPart-filled s t p past filled rest owners at gap ends before =
+    let after = AreFuture-last owners t p rest at.after in
+    let own = after.3 p.segment.start (omega (arith, ints)) after.2 in
+    IsNextPart-behind s t p past filled rest owners at ends before (λ here.
+    let filled : Some (owner_of p) ≡ Some s = sym here ∙ taken-within s owners (p.segment.start -ℤ pos 1) None true (omega (arith, ints, at.from)) (omega (arith, ints)) (after.1 (p.segment.start -ℤ pos 1) (omega (arith, ints)) (omega (arith, ints))) refl in
+    let same : owner_of p ≡ s = cc in
+    at.new p.segment.start (owner_of p) own (ap (λ (o : Span ℕ). o.at) same))
+
+-- where there is no gap before it
 pub IsNextPart-at : (s : Span ℕ) (t : ℤ) (p : Part) (past rest : List Part) (owners : Owners) → IsTakenTo s t past (rest ++ p ∷ []) owners → p.segment.start ≤ℤ t → p.segment.start <ℤ s.until → IsNextPart s p.segment.start p past rest owners
 IsNextPart-at s t p past rest owners at gap ends =
     let after = AreFuture-last owners t p rest at.after in
     let here : t ≡ p.segment.start = omega (arith, ints, after.0) in
     let own = after.3 p.segment.start (omega (arith, ints)) after.2 in
-    record {
-      new = at.new;
-      in_time = at.in_time;
-      begins = omega (arith, ints, at.from);
-      ends = ends;
-      within = (omega (arith, ints), after.2);
-      head = λ h. absurd (omega (arith, ints));
-      before = subst (λ u. ArePast (taken s owners) u (reverse past)) here at.before;
-      start = λ before. at.change (owner_of p) (ap (λ u. taken s owners (u -ℤ pos 1)) here ∙ before) (ap owners here ∙ own);
-      belongs = after.3;
-      until = after.4;
-      after = after.5;
-    }
+    IsNextPart-behind s t p past past rest owners at ends (subst (λ u. ArePast (taken s owners) u (reverse past)) here at.before)
+    (λ before. at.change (owner_of p) (ap (λ u. taken s owners (u -ℤ pos 1)) here ∙ before) (ap owners here ∙ own))
 
 pub IsTakenTo-start : (s : Span ℕ) (past future : List Part) (owners : Owners) → IsAtStart s past future owners → StartsFrom s.start (reverse future) → IsTakenTo s s.start past future owners
 IsTakenTo-start s past future owners start gap =

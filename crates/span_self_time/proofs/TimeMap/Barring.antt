@@ -1,12 +1,8 @@
 -- What spans that start together keep from others.
 use Rattle.std.proofs.Common.{◌≡◌, ◌⊎◌, inl, inr, ℕ, Bool, true, false, ◌&&◌, cond, ℤ, ◌≤ℤ◌, ◌<ℤ◌, List, [], ◌∷◌, ◌++◌, Option, Some, None, refl, sym, ap, ◌∙◌, true≢false, arith, All}
-use Rattle.std.specs.Ordering.{match_ordering}
-use Rattle.std.specs.declared.cmp.Ordering.{Ordering}
-use Rattle.std.specs.declared.cmp.Ordering.TheVariants.{Less, Equal, Greater}
-use Rattle.std.specs.BTreeSet.{insert_key}
 use Rattle.std.proofs.lemmas.Int.{ints}
 use Rattle.std.proofs.lemmas.Bool.{false_from_ne_true}
-use Rattle.std.proofs.lemmas.List.Elements.{All-cons, All-head, All-tail, All-nil}
+use Rattle.std.proofs.lemmas.List.Elements.{All-head, All-tail}
 use Rattle.span_self_time.specs.declared.division.time_map.ties.Ties.{Ties}
 use Rattle.span_self_time.specs.Spans.{Span, covers, outranks}
 use Rattle.span_self_time.specs.Division.{Owners, claims, taken}
@@ -54,16 +50,6 @@ IsBarred-own s owners = λ x u from before below.
         by_claim : (b : Bool) → claims s (owners u) ≡ b → claims s (cond b (Some s) (owners u)) ≡ false
         by_claim true h = outranks-itself s
         by_claim false h = h
-
-pub All-insert_key : {K : Type 0} (P : K → Type 0) (cmp : K → K → Ordering) (ks : List K) (k : K) → All P ks → P k → All P (insert_key cmp ks k)
-All-insert_key P cmp [] k all here = All-cons P k [] here (All-nil P)
-All-insert_key P cmp (x ∷ xs) k all here =
-    by_order (cmp k x) (All-insert_key P cmp xs k (All-tail P x xs all) here)
-  where
-    by_order : (o : Ordering) → All P (insert_key cmp xs k) → All P (match_ordering o (k ∷ x ∷ xs) (x ∷ xs) (x ∷ insert_key cmp xs k))
-    by_order Less rest = All-cons P k (x ∷ xs) here all
-    by_order Equal rest = all
-    by_order Greater rest = All-cons P x (insert_key cmp xs k) (All-head P x xs all) rest
 
 pub All-last : {K : Type 0} (P : K → Type 0) (ks : List K) (k : K) → All P (ks ++ k ∷ []) → P k
 All-last P [] k all = All-head P k [] all
