@@ -1,5 +1,5 @@
 -- A text that begins with an opening bracket and reads has a closing bracket as its last byte that is no blank.
-use Rattle.std.proofs.Common.{◌≡◌, ℕ, zero, suc, List, [], ◌∷◌, ◌++◌, length, Option, Some, None, option_and_then, refl, sym, ap, ◌∙◌}
+use Rattle.std.proofs.Common.{◌≡◌, ℕ, zero, suc, List, [], ◌∷◌, ◌++◌, length, Option, Some, None, option_and_then, append_assoc, refl, sym, ap, ◌∙◌}
 use Rattle.json.specs.Token.{Token, begin_object, end_object, begin_array, end_array, key, string, number, boolean, null, bad}
 use Rattle.json.specs.Json.{Json, Items, item, Members, member, Parse, parse_map, after_end_array, read_key, items_step, members_step, items, members, value_with, value}
 use Rattle.json.specs.Json as json
@@ -18,10 +18,6 @@ itself ts r e = ([], cc)
 
 later : (t : Token) (ts r : List Token) → IsEnd ts r → IsEnd (t ∷ ts) r
 later t ts r end = (t ∷ end.0, ap (λ us. t ∷ us) end.1)
-
-append_assoc : (xs ys zs : List Token) → (xs ++ ys) ++ zs ≡ xs ++ (ys ++ zs)
-append_assoc [] ys zs = refl
-append_assoc (x ∷ xs) ys zs = ap (λ us. x ∷ us) (append_assoc xs ys zs)
 
 both_ends : (ts s r : List Token) → IsEnd ts s → IsEnd s r → IsEnd ts r
 both_ends ts s r a b = (a.0 ++ b.0, a.1 ∙ ap (λ us. a.0 ++ us) b.1 ∙ sym (append_assoc a.0 b.0 r))

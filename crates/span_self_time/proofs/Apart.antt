@@ -1,6 +1,6 @@
--- That one more span leaves the closed spans what they must be.
+-- That one more span leaves the closed spans what they must be, and what differing positions say of each span.
 use Rattle.std.proofs.Common.{ℕ, ◌+◌, ◌<◌, ◌≢◌, ◌^◌, ◌≤ℤ◌, List, [], ◌∷◌, ◌++◌, length, sym, arith, All, length-append}
-use Rattle.std.proofs.lemmas.List.Elements.{All-push, All-head, All-tail}
+use Rattle.std.proofs.lemmas.List.Elements.{All-push, All-head, All-tail, All-nil, All-cons}
 use Rattle.span_self_time.specs.Spans.{Span}
 use Rattle.span_self_time.specs.Laws.{IsApart, AreSpans}
 use Rattle.span_self_time.specs.Closed.{IsInTime, AreClosed}
@@ -22,3 +22,7 @@ AreClosed-append spans s closed few lasts in_time apart = record {
   in_time = All-push IsInTime spans s closed.in_time in_time;
   few = omega (arith, length-append spans (s ∷ []));
 }
+
+pub All-apart : (at : ℕ) (spans : List (Span ℕ)) → IsApart at spans → All (λ s. s.at ≢ at) spans
+All-apart at [] apart = All-nil (λ (s : Span ℕ). s.at ≢ at)
+All-apart at (s ∷ spans) apart = All-cons (λ (s : Span ℕ). s.at ≢ at) s spans apart.0 (All-apart at spans apart.1)

@@ -72,7 +72,7 @@ int_lt-above a b h = grind (arith, ints)
 int_le-below : (a b : ℤ) → a ≤ℤ b → int_le a b ≡ true
 int_le-below a b h = grind (arith, ints)
 
-int_lt-below : (a b : ℤ) → a <ℤ b → int_lt a b ≡ true
+pub int_lt-below : (a b : ℤ) → a <ℤ b → int_lt a b ≡ true
 int_lt-below a b h = grind (arith, ints)
 
 module _ {N : Type 0} where

@@ -1,5 +1,5 @@
 -- That a span's self time is the time that the spans leave it.
-use Rattle.std.proofs.Common.{◌≡◌, ◌≢◌, ℕ, ◌+◌, Bool, true, false, not, ◌&&◌, cond, ℤ, ◌≤ℤ◌, List, [], ◌∷◌, Option, Some, None, refl, sym, ap, ap₂, ◌∙◌, true≢false, arith, All, get_or}
+use Rattle.std.proofs.Common.{◌≡◌, ℕ, ◌+◌, Bool, true, false, not, ◌&&◌, cond, ℤ, ◌≤ℤ◌, List, [], ◌∷◌, Option, Some, None, refl, sym, ap, ap₂, ◌∙◌, true≢false, arith, All, get_or}
 use Rattle.std.specs.List.{sum_by}
 use Rattle.std.specs.Option.{is_some}
 use Rattle.std.proofs.lemmas.Bool.{and_parts, not-true}
@@ -8,16 +8,13 @@ use Rattle.std.proofs.lemmas.List.Folds.{list_any_none, list_any_at}
 use Rattle.std.proofs.lemmas.List.Sums.{sum_by-cons}
 use Rattle.span_event.specs.Time.{distance}
 use Rattle.span_self_time.specs.Spans.{Span, covers, outranks, is_outranked, is_covered, count_from, self_time}
-use Rattle.span_self_time.specs.Laws.{IsApart, AreSpans}
+use Rattle.span_self_time.specs.Laws.{AreSpans}
 use Rattle.span_self_time.specs.Division.{bare, owners_of}
+use Rattle.span_self_time.proofs.Apart.{All-apart}
 use Rattle.span_self_time.proofs.Counts.{count_from-none, count_from-covered, sum_by-count_from}
 use Rattle.span_self_time.proofs.Ranks.{outranks-itself, outranks-trans, IsRanked-spans}
 use Rattle.span_self_time.proofs.Owners.{owners_of-All, covers-owners_of, at-owners_of}
 use Rattle.span_self_time.proofs.Tops.{one_if, sum_by-tops}
-
-pub All-apart : (at : ℕ) (spans : List (Span ℕ)) → IsApart at spans → All (λ s. s.at ≢ at) spans
-All-apart at [] apart = All-nil (λ (s : Span ℕ). s.at ≢ at)
-All-apart at (s ∷ spans) apart = All-cons (λ (s : Span ℕ). s.at ≢ at) s spans apart.0 (All-apart at spans apart.1)
 
 -- a position is that of one span
 same_span : (spans : List (Span ℕ)) → AreSpans spans → All (λ s. All (λ z. z.at ≡ s.at → z ≡ s) spans) spans

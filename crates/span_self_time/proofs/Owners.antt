@@ -152,11 +152,14 @@ taken-within s owners u owner b from before is claim =
     ap (λ t. cond (t && claims s (owners u)) (Some s) (owners u)) (covers-between s u from before)
     ∙ ap (λ o. cond (claims s o) (Some s) o) is ∙ ap (λ t. cond t (Some s) owner) claim
 
--- where the span has no claim on an owner, he stays
-pub taken-kept : (s : Span ℕ) (owners : Owners) (u : ℤ) (owner : Span ℕ) → owners u ≡ Some owner → outranks s owner ≡ false → taken s owners u ≡ Some owner
-taken-kept s owners u owner is below =
-    by_test (covers s u) ∙ is
+-- nothing is taken where the span has no claim
+pub taken-unclaimed : (s : Span ℕ) (owners : Owners) (u : ℤ) → claims s (owners u) ≡ false → taken s owners u ≡ owners u
+taken-unclaimed s owners u none = by_test (covers s u)
   where
     by_test : (b : Bool) → cond (b && claims s (owners u)) (Some s) (owners u) ≡ owners u
-    by_test true = ap (λ t. cond t (Some s) (owners u)) (ap (claims s) is ∙ below)
+    by_test true = ap (λ t. cond t (Some s) (owners u)) none
     by_test false = refl
+
+-- where the span has no claim on an owner, he stays
+pub taken-kept : (s : Span ℕ) (owners : Owners) (u : ℤ) (owner : Span ℕ) → owners u ≡ Some owner → outranks s owner ≡ false → taken s owners u ≡ Some owner
+taken-kept s owners u owner is below = taken-unclaimed s owners u (ap (claims s) is ∙ below) ∙ is

@@ -3,7 +3,7 @@ use Rattle.std.proofs.Common.{◌≡◌, ◌≢◌, ◌≤◌, ℕ, ◌*◌, nat
 use Rattle.std.specs.List.{list_any, count_by, AllByRecursion, IsDistinct}
 use Rattle.std.specs.Ordering.{int_eq}
 use Rattle.std.proofs.lemmas.Int.{ints, by_lt_z}
-use Rattle.std.proofs.lemmas.Bool.{eq-eqb, ne_eqb, or_cases}
+use Rattle.std.proofs.lemmas.Bool.{eq-eqb, ne_eqb, or_cases, or_parts}
 use Rattle.std.proofs.lemmas.Cmp.{int_eq_equiv}
 use Rattle.std.proofs.lemmas.List.{length-map}
 use Rattle.std.proofs.lemmas.List.Folds.{list_any-append}
@@ -23,14 +23,10 @@ HasNoEnd u s = has_end u s ≡ false
 covers-no_end : (s : Span ℕ) (u : ℤ) → HasNoEnd u s → covers s (u -ℤ pos 1) ≡ covers s u
 covers-no_end s u h = grind (arith, ints)
 
-or_none : (a b : Bool) → (a || b) ≡ false → (a ≡ false) × (b ≡ false)
-or_none true b h = cc
-or_none false b h = (refl, h)
-
 All-from_list_any : {A : Type 0} (p : A → Bool) (xs : List A) → list_any p xs ≡ false → All (λ x. p x ≡ false) xs
 All-from_list_any p [] none = All-nil (λ x. p x ≡ false)
 All-from_list_any p (x ∷ xs) none =
-    let parts = or_none (p x) (list_any p xs) none in
+    let parts = or_parts (p x) (list_any p xs) none in
     All-cons (λ x. p x ≡ false) x xs parts.0 (All-from_list_any p xs parts.1)
 
 -- where no span starts or ends, the same span is on top as in the microsecond before

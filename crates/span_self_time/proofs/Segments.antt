@@ -8,9 +8,10 @@ use Rattle.span_self_time.specs.declared.segment.Part.{Part}
 use Rattle.span_self_time.specs.Spans.{Span}
 use Rattle.span_self_time.specs.Segments.{lies_in, is_in_segment, IsRightBefore, AreInOrder, AreSegments}
 use Rattle.span_self_time.specs.Division.{Owners, bare, owners_of, owner_of, AreFuture, AreParts}
-use Rattle.span_self_time.specs.Laws.{IsApart, AreSpans}
+use Rattle.span_self_time.specs.Laws.{AreSpans}
 use Rattle.span_event.specs.Event.{least_time}
 use Rattle.span_self_time.specs.Closed.{AreClosed}
+use Rattle.span_self_time.proofs.Apart.{All-apart}
 use Rattle.span_self_time.proofs.Owners.{is_of, owners_of-All, is_on_top-owners_of}
 
 lies_in-before : (g : Segment) (u : ℤ) → u <ℤ g.start → lies_in g u ≡ false
@@ -118,10 +119,6 @@ module _ (owners : Owners) (single : AreSingle owners) where
       ∙ sym (ap (is_of at) (are.nothing u early)))
       (λ from. is_in_segment-parts least_time parts are.each at u from)
 
-IsApart-All : (at : ℕ) (spans : List (Span ℕ)) → IsApart at spans → All (λ s. s.at ≢ at) spans
-IsApart-All at [] apart = All-nil (λ (s : Span ℕ). s.at ≢ at)
-IsApart-All at (s ∷ spans) apart = All-cons (λ (s : Span ℕ). s.at ≢ at) s spans apart.0 (IsApart-All at spans apart.1)
-
 -- no other of the spans has the position of this one
 abbrev IsAlone : List (Span ℕ) → Span ℕ → Type 0
 IsAlone spans a = All (λ b. a.at ≡ b.at → a ≡ b) spans
@@ -129,7 +126,7 @@ IsAlone spans a = All (λ b. a.at ≡ b.at → a ≡ b) spans
 All-IsAlone : (spans : List (Span ℕ)) → AreSpans spans → All (IsAlone spans) spans
 All-IsAlone [] are = All-nil (IsAlone [])
 All-IsAlone (s ∷ spans) are =
-    let apart = IsApart-All s.at spans are.1 in
+    let apart = All-apart s.at spans are.1 in
     All-cons (IsAlone (s ∷ spans)) s spans
     (All-cons (λ (b : Span ℕ). s.at ≡ b.at → s ≡ b) s spans (λ same. refl) (λ k d within same. absurd (apart k d within (sym same))))
     (λ k d within. All-cons (λ (b : Span ℕ). (get_or spans k d).at ≡ b.at → get_or spans k d ≡ b) s spans (λ same. absurd (apart k d within same)) (All-IsAlone spans are.2 k d within))

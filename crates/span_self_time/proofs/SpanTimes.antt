@@ -13,7 +13,8 @@ use Rattle.span_self_time.specs.Laws.{AreSpans}
 use Rattle.span_self_time.specs.declared.span.ClosedSpan.{ClosedSpan}
 use Rattle.span_self_time.specs.Division.{bare, claims, taken, owners_of, IsNew, AreSettled}
 use Rattle.span_self_time.specs.Division.TimeMap.{has_name, time_of}
-use Rattle.span_self_time.proofs.OwnTimes.{sum_by-self_times, All-apart}
+use Rattle.span_self_time.proofs.Apart.{All-apart}
+use Rattle.span_self_time.proofs.OwnTimes.{sum_by-self_times}
 use Rattle.span_self_time.proofs.Owners.{list_any-owners_of, owners_of-All, owners_of-append, owners_of-apart}
 use Rattle.span_self_time.proofs.SelfSums.{self_sum, self_sum-self_of}
 use Rattle.span_self_time.proofs.SelfTimes.{sum_by-self_time}

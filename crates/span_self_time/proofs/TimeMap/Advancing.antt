@@ -1,5 +1,5 @@
 -- How a new span goes from stretch to stretch.
-use Rattle.std.proofs.Common.{◌≡◌, ◌≢◌, ◌⊎◌, inl, inr, ℕ, Bool, true, false, ◌&&◌, cond, ℤ, pos, ◌-ℤ◌, ◌≤ℤ◌, ◌<ℤ◌, int_lt, IsSome, Option, Some, None, refl, sym, ap, ◌∙◌, subst, true≢false, arith}
+use Rattle.std.proofs.Common.{◌≡◌, ◌≢◌, ◌⊎◌, inl, inr, ℕ, true, false, cond, ℤ, pos, ◌-ℤ◌, ◌≤ℤ◌, ◌<ℤ◌, IsSome, Option, Some, None, refl, sym, ap, ◌∙◌, subst, true≢false, arith}
 use Rattle.std.specs.Option.{option_map}
 use Rattle.std.proofs.lemmas.Int.{ints, by_lt_z}
 use Rattle.std.proofs.lemmas.Bool.{or_cases, false_from_ne_true}
@@ -10,28 +10,17 @@ use Rattle.span_self_time.specs.Spans.{Span, covers, outranks}
 use Rattle.span_self_time.specs.Division.{Owners, owner_of, claims, taken, Belong}
 use Rattle.span_self_time.specs.Division.TimeMap.Stretches.{Starts, at, IsNext, IsHeld, IsOfPart, IsDivided, IsEnd, IsPut}
 use Rattle.span_self_time.specs.Division.TimeMap.{IsEntrant, IsTaking, taken_to, AreTimes}
-use Rattle.span_self_time.proofs.Counts.{covers-between, int_lt-above}
+use Rattle.span_self_time.proofs.Counts.{covers-between, int_lt-above, int_lt-below}
 use Rattle.span_self_time.proofs.Ranks.{outranks-trans, outranks-either}
-use Rattle.span_self_time.proofs.Owners.{taken-before, taken-after, taken-within}
+use Rattle.span_self_time.proofs.Owners.{taken-before, taken-after, taken-within, taken-unclaimed}
 use Rattle.span_self_time.proofs.TimeMap.StretchOwners.{by_eq_z, IsSome-Some, IsSome-None, Belong-next, apart, owner-stays}
 use Rattle.span_self_time.proofs.TimeMap.Times.{IsReplaced}
-
-int_lt-below : (a b : ℤ) → a <ℤ b → int_lt a b ≡ true
-int_lt-below a b h = grind (arith, ints)
 
 pub taken_to-before : (s : Span ℕ) (t : ℤ) (owners : Owners) (u : ℤ) → u <ℤ t → taken_to s t owners u ≡ taken s owners u
 taken_to-before s t owners u h = ap (λ b. cond b (taken s owners u) (owners u)) (int_lt-below u t h)
 
 pub taken_to-after : (s : Span ℕ) (t : ℤ) (owners : Owners) (u : ℤ) → t ≤ℤ u → taken_to s t owners u ≡ owners u
 taken_to-after s t owners u h = ap (λ b. cond b (taken s owners u) (owners u)) (int_lt-above u t h)
-
--- nothing is taken where the span has no claim
-pub taken-unclaimed : (s : Span ℕ) (owners : Owners) (u : ℤ) → claims s (owners u) ≡ false → taken s owners u ≡ owners u
-taken-unclaimed s owners u none = by_test (covers s u)
-  where
-    by_test : (b : Bool) → cond (b && claims s (owners u)) (Some s) (owners u) ≡ owners u
-    by_test true = ap (λ t. cond t (Some s) (owners u)) none
-    by_test false = refl
 
 -- who has no claim on an owner has none on those who rank above
 pub claims-below : (s o : Span ℕ) (x : Option (Span ℕ)) → o.at ≢ s.at → claims s (Some o) ≡ false → claims o x ≡ false → claims s x ≡ false

@@ -1,5 +1,5 @@
 -- The parts of a division in order.
-use Rattle.std.proofs.Common.{◌≡◌, ℕ, true, ℤ, pos, ◌+ℤ◌, ◌≤ℤ◌, ◌<ℤ◌, IsSome, List, [], ◌∷◌, length, ◌≤◌, Option, Some, None, refl, sym, ap, ◌∙◌, arith}
+use Rattle.std.proofs.Common.{◌≡◌, true, ℤ, pos, ◌+ℤ◌, ◌≤ℤ◌, ◌<ℤ◌, IsSome, List, [], ◌∷◌, length, ◌≤◌, Option, Some, None, refl, sym, ap, ◌∙◌, arith}
 use Rattle.std.specs.Ordering.{int_cmp, is_eq}
 use Rattle.std.specs.Option.{is_some}
 use Rattle.std.specs.declared.cmp.Ordering.TheVariants.{Less}
@@ -12,12 +12,11 @@ use Rattle.std.proofs.lemmas.Option.{same_Some}
 use Rattle.std.proofs.lemmas.Map.Entries.{lookup_head, lookup_tail}
 use Rattle.span_self_time.specs.declared.segment.Part.{Part}
 use Rattle.span_self_time.specs.declared.division.time_map.stretches.Stretches.{Stretches}
-use Rattle.span_self_time.specs.Spans.{Span}
 use Rattle.span_event.specs.Event.{least_time}
 use Rattle.span_self_time.specs.Closed.{greatest_until}
 use Rattle.span_self_time.specs.Division.{Owners, owner_of, AreFuture, AreParts}
-use Rattle.span_self_time.specs.Division.TimeMap.Stretches.{Starts, at, IsOfPart, IsDivided, AreWhole, present, parts_in}
-use Rattle.span_self_time.proofs.TimeMap.StretchOwners.{by_eq_z, IsSome-Some, IsSome-None, apart}
+use Rattle.span_self_time.specs.Division.TimeMap.Stretches.{Starts, at, IsDivided, AreWhole, present, parts_in}
+use Rattle.span_self_time.proofs.TimeMap.StretchOwners.{by_eq_z, IsSome-Some, IsSome-None, owner-none, apart}
 use Rattle.span_self_time.proofs.TimeMap.Searching.{differs}
 
 abbrev Entries : Type 0
@@ -52,17 +51,17 @@ none-below q e (x ∷ es) h starts sorted =
     lookup_tail (is_at (int_cmp q)) e (x ∷ es) (differs q e.0 (λ same. omega (arith, ints)))
     ∙ none-below q x es (omega (arith, ints, starts)) (StartsFrom-sorted x es sorted.0) sorted.1
 
+is_eq-int_cmp : (k : ℤ) → is_eq (int_cmp k k) ≡ true
+is_eq-int_cmp k = grind (arith, ints)
+
 IsRun-found : (t : ℤ) (es : Entries) → IsStrictlySortedBy int_cmp (keys_of es) → StartsFrom t es → IsRun (found es) t es
 unfolding IsStrictlySortedBy
 IsRun-found t [] sorted starts = λ q from. refl
 IsRun-found t (e ∷ es) sorted starts =
     let rest = IsRun-found (e.0 +ℤ pos 1) es sorted.1 (StartsFrom-sorted e es sorted.0) in
     let beyond : (q : ℤ) → (e.0 +ℤ pos 1) ≤ℤ q → found (e ∷ es) q ≡ found es q = λ q from. lookup_tail (is_at (int_cmp q)) e es (differs q e.0 (λ same. omega (arith, ints))) in
-    (starts, (λ q from before. below q before), lookup_head (is_at (int_cmp e.0)) e es (same e.0), IsRun-same (found es) (found (e ∷ es)) (e.0 +ℤ pos 1) es beyond rest)
+    (starts, (λ q from before. below q before), lookup_head (is_at (int_cmp e.0)) e es (is_eq-int_cmp e.0), IsRun-same (found es) (found (e ∷ es)) (e.0 +ℤ pos 1) es beyond rest)
   where
-    same : (k : ℤ) → is_eq (int_cmp k k) ≡ true
-    same k = grind (arith, ints)
-
     below : (q : ℤ) → q <ℤ e.0 → found (e ∷ es) q ≡ None
     below q h = none-below q e es h (StartsFrom-sorted e es sorted.0) sorted.1
 
@@ -71,16 +70,9 @@ module _ (owners : Owners) (m : Starts) (are : IsDivided owners m) (whole : AreW
   AreFuture-run : (t s : ℤ) (es : Entries) → t ≤ℤ greatest_until → ((k : ℤ) (p : Part) → m k ≡ Some (Some p) → k <ℤ s → p.segment.until ≤ℤ t) → ((q : ℤ) → s ≤ℤ q → IsSome (m q) → t ≤ℤ q) → IsRun m s es → AreFuture owners t (present (values_of es))
   AreFuture-run t s [] last done later run = (
     last,
-    λ u from. none-unless-owned u (λ of.
+    λ u from. owner-none owners m u are (λ of.
         by_lt_z of.start s (λ h. let ends = done of.start of.part of.is h in omega (arith, ints, of.before)) (λ h. IsSome-None (m of.start) (run of.start h) (IsSome-Some (m of.start) _ of.is))),
   )
-    where
-      none-unless-owned : (u : ℤ) → (IsOfPart m u → ⊥) → owners u ≡ None
-      none-unless-owned u h = by_owner (owners u) refl
-        where
-          by_owner : (o : Option (Span ℕ)) → owners u ≡ o → o ≡ None
-          by_owner None g = refl
-          by_owner (Some o) g = absurd (h (are.owned u o g))
   AreFuture-run t s ((k, None) ∷ es) last done later run =
       AreFuture-run t (k +ℤ pos 1) es last
       (λ j p is before. by_lt_z j s (λ h. done j p is h)
@@ -105,37 +97,26 @@ module _ (owners : Owners) (m : Starts) (are : IsDivided owners m) (whole : AreW
       )
     where
       free : (u : ℤ) → t ≤ℤ u → u <ℤ k → owners u ≡ None
-      free u from before = by_owner (owners u) refl
-        where
-          by_owner : (o : Option (Span ℕ)) → owners u ≡ o → o ≡ None
-          by_owner None g = refl
-          by_owner (Some o) g =
-              let of = are.owned u o g in
-              absurd (by_lt_z of.start s (λ h. let ends = done of.start of.part of.is h in omega (arith, ints, of.before))
-              (λ h. IsSome-None (m of.start) (run.1 of.start h (omega (arith, ints, of.from))) (IsSome-Some (m of.start) _ of.is)))
+      free u from before =
+          owner-none owners m u are (λ of.
+          by_lt_z of.start s (λ h. let ends = done of.start of.part of.is h in omega (arith, ints, of.before))
+          (λ h. IsSome-None (m of.start) (run.1 of.start h (omega (arith, ints, of.from))) (IsSome-Some (m of.start) _ of.is)))
 
 pub AreParts-stretches : (owners : Owners) (s : Stretches) → IsDivided owners (at s) → AreWhole owners (at s) → IsOrdered int_cmp s.map → AreParts owners (parts_in s)
 AreParts-stretches owners s are whole ordered = record {
-  nothing = λ u before. nothing u before (owners u) refl;
+  nothing = λ u before.
+      owner-none owners (at s) u are (λ of.
+      let from = are.in_time of.start (IsSome-Some (at s of.start) _ of.is) in
+      omega (arith, ints, from.0, of.from));
   each = AreFuture-run owners (at s) are whole least_time least_time s.map.entries (omega (arith, ints))
       (λ k p is before. absurd (let from = are.in_time k (IsSome-Some (at s k) _ is) in omega (arith, ints, from.0)))
       (λ q from some. from)
-      (IsRun-found least_time s.map.entries ordered (first s.map.entries (λ e es is. (are.in_time e.0 (ap is_some (ap (λ l. found l e.0) is ∙ lookup_head (is_at (int_cmp e.0)) e es (same e.0)))).0)));
+      (IsRun-found least_time s.map.entries ordered (first s.map.entries (λ e es is. (are.in_time e.0 (ap is_some (ap (λ l. found l e.0) is ∙ lookup_head (is_at (int_cmp e.0)) e es (is_eq-int_cmp e.0)))).0)));
 }
   where
-    same : (k : ℤ) → is_eq (int_cmp k k) ≡ true
-    same k = grind (arith, ints)
-
     first : (es : Entries) → ((e : ℤ × Option Part) (rest : Entries) → es ≡ e ∷ rest → least_time ≤ℤ e.0) → StartsFrom least_time es
     first [] h = tt
     first (e ∷ es) h = h e es refl
-
-    nothing : (u : ℤ) → u <ℤ least_time → (o : Option (Span ℕ)) → owners u ≡ o → o ≡ None
-    nothing u before None h = refl
-    nothing u before (Some o) h =
-        let of = are.owned u o h in
-        let from = are.in_time of.start (IsSome-Some (at s of.start) _ of.is) in
-        absurd (omega (arith, ints, from.0, of.from))
 
 pub length-present : (parts : List (Option Part)) → length (present parts) ≤ length parts
 length-present [] = omega arith

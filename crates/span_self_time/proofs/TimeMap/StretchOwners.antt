@@ -6,7 +6,7 @@ use Rattle.std.proofs.lemmas.Option.{same_Some}
 use Rattle.span_self_time.specs.declared.segment.Part.{Part}
 use Rattle.span_self_time.specs.Spans.{Span}
 use Rattle.span_self_time.specs.Division.{Owners, owner_of, Belong}
-use Rattle.span_self_time.specs.Division.TimeMap.Stretches.{Starts, IsLast, IsNext, IsDivided}
+use Rattle.span_self_time.specs.Division.TimeMap.Stretches.{Starts, IsLast, IsNext, IsOfPart, IsDivided}
 
 pub by_eq_z : {P : Type 0} (a b : ℤ) → (a ≡ b → P) → (a ≢ b → P) → P
 by_eq_z a b same differs =
@@ -39,28 +39,27 @@ until-last owners m t k p are last =
     by_lt_z t p.segment.until (λ h. h)
     (λ h. absurd (IsSome-None (m p.segment.until) (last.none p.segment.until held.next.later h) held.next.some))
 
+-- what is of no part has no owner
+pub owner-none : (owners : Owners) (m : Starts) (u : ℤ) → IsDivided owners m → (IsOfPart m u → ⊥) → owners u ≡ None
+owner-none owners m u are none = by_owner (owners u) refl
+  where
+    by_owner : (o : Option (Span ℕ)) → owners u ≡ o → o ≡ None
+    by_owner None is = refl
+    by_owner (Some o) is = absurd (none (are.owned u o is))
+
 -- the owner of t is that of the last stretch that starts no later
 pub owner-last : (owners : Owners) (m : Starts) (t k : ℤ) (v : Option Part) → IsDivided owners m → IsLast m t k v → owners t ≡ option_map owner_of v
 owner-last owners m t k (Some p) are last = (are.held k p last.is).belongs t last.first (until-last owners m t k p are last)
-owner-last owners m t k None are last = by_owner (owners t) refl
-  where
-    by_owner : (o : Option (Span ℕ)) → owners t ≡ o → o ≡ None
-    by_owner None h = refl
-    by_owner (Some o) h =
-        let of = are.owned t o h in
-        let here = last-is owners m t k of.start None of.part are last of.is of.from of.before in
-        let none : None ≡ Some of.part = same_part m of.start None of.part (subst (λ j. m j ≡ Some None) (sym here) last.is) of.is in
-        absurd cc
+owner-last owners m t k None are last =
+    owner-none owners m t are (λ of.
+    let here = last-is owners m t k of.start None of.part are last of.is of.from of.before in
+    let none : None ≡ Some of.part = same_part m of.start None of.part (subst (λ j. m j ≡ Some None) (sym here) last.is) of.is in
+    cc)
 
 -- before the first stretch there is no owner
 pub owner-before : (owners : Owners) (m : Starts) (t : ℤ) → IsDivided owners m → ((q : ℤ) → q ≤ℤ t → m q ≡ None) → owners t ≡ None
-owner-before owners m t are none = by_owner (owners t) refl
-  where
-    by_owner : (o : Option (Span ℕ)) → owners t ≡ o → o ≡ None
-    by_owner None h = refl
-    by_owner (Some o) h =
-        let of = are.owned t o h in
-        absurd (IsSome-None (m of.start) (none of.start of.from) (IsSome-Some (m of.start) (Some of.part) of.is))
+owner-before owners m t are none =
+    owner-none owners m t are (λ of. IsSome-None (m of.start) (none of.start of.from) (IsSome-Some (m of.start) (Some of.part) of.is))
 
 -- up to the next stretch the owner stays
 pub Belong-next : (owners : Owners) (m : Starts) (k n : ℤ) (v : Option Part) → IsDivided owners m → m k ≡ Some v → IsNext m k n → Belong owners k n (option_map owner_of v)
