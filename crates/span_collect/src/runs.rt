@@ -84,10 +84,8 @@ pub fn run<O: Sink, R: Threads + Wait + Sync>(
     ensures error { IfErr result
         (λ error. RunLeaves error files.now asks.now limit (O.state out.old) (O.state out.new)) }
 {
-    match run_to_ledger(rt, alloc, files, asks, limit, out) {
-        Ok(collected) => Ok(collected.end),
-        Err(error) => Err(error),
-    }
+    let collected = run_to_ledger(rt, alloc, files, asks, limit, out)?;
+    Ok(collected.end)
 }
 
 /// As `run`, and gives what was collected: a program that ends then need not free it, which takes long.
