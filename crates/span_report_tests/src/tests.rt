@@ -62,20 +62,11 @@ fn reports(rt: &(impl Abort + AllocGlobal), events: &str, want: &str) -> Result<
 
 #[test]
 fn prints_threads_under_their_processes(rt: HostRuntime) -> Result<(), Fail> {
-    for (events, want) in [
-        ("[]", EMPTY_REPORT),
-        (
-            "[{\"ph\":\"B\",\"name\":\"a\",\"ts\":1,\"pid\":1,\"tid\":2},{\"ph\":\"E\",\"ts\":11,\"pid\":1,\"tid\":2}]",
-            "tracebook 1\nevents 2 refused 0 skipped 0 queries 0\nprocess 1 -\nthread 1 2 - open 0 busy 10\nspan        1               10               10 \"a\"\n",
-        ),
-        (
-            "[{\"ph\":\"X\",\"name\":\"b\",\"ts\":0,\"dur\":2,\"pid\":2,\"tid\":1},{\"ph\":\"B\",\"name\":\"c\",\"ts\":0,\"pid\":-1,\"tid\":5},{\"ph\":\"X\",\"name\":\"a\",\"ts\":0,\"dur\":9,\"pid\":-1,\"tid\":-3},{\"ph\":\"s\",\"id\":1,\"ts\":0,\"pid\":1},{\"ph\":\"X\",\"name\":\"B\",\"ts\":0,\"dur\":1,\"pid\":2,\"tid\":1}]",
-            "tracebook 1\nevents 5 refused 0 skipped 0 queries 0\nprocess -1 -\nthread -1 -3 - open 0 busy 9\nspan        1                9                9 \"a\"\nthread -1 5 - open 1 busy 0\nprocess 1 -\nprocess 2 -\nthread 2 1 - open 0 busy 2\nspan        1                1                1 \"B\"\nspan        1                2                1 \"b\"\nflow \"\" \"\" \"1\" ended 0 total 0 open 1\n",
-        ),
-    ] {
-        reports(&rt, events, want)?;
-    }
-    Ok(())
+    let events =
+        "[{\"ph\":\"X\",\"name\":\"b\",\"ts\":0,\"dur\":2,\"pid\":2,\"tid\":1},{\"ph\":\"B\",\"name\":\"c\",\"ts\":0,\"pid\":-1,\"tid\":5},{\"ph\":\"X\",\"name\":\"a\",\"ts\":0,\"dur\":9,\"pid\":-1,\"tid\":-3},{\"ph\":\"s\",\"id\":1,\"ts\":0,\"pid\":1},{\"ph\":\"X\",\"name\":\"B\",\"ts\":0,\"dur\":1,\"pid\":2,\"tid\":1}]";
+    let want =
+        "tracebook 1\nevents 5 refused 0 skipped 0 queries 0\nprocess -1 -\nthread -1 -3 - open 0 busy 9\nspan        1                9                9 \"a\"\nthread -1 5 - open 1 busy 0\nprocess 1 -\nprocess 2 -\nthread 2 1 - open 0 busy 2\nspan        1                1                1 \"B\"\nspan        1                2                1 \"b\"\nflow \"\" \"\" \"1\" ended 0 total 0 open 1\n";
+    reports(&rt, events, want)
 }
 
 #[test]
@@ -122,16 +113,6 @@ fn prints_the_series_of_a_process_behind_its_threads(rt: HostRuntime) -> Result<
         "[{\"ph\":\"C\",\"name\":\"m\",\"ts\":5,\"pid\":1,\"args\":{\"k\":7}},{\"ph\":\"C\",\"name\":\"m\",\"ts\":3,\"pid\":1,\"args\":{\"k\":9}},{\"ph\":\"C\",\"name\":\"m\",\"ts\":8,\"pid\":1,\"args\":{\"k\":0.5}},{\"ph\":\"C\",\"name\":\"m\",\"id\":4,\"ts\":5,\"pid\":1,\"args\":{\"a\":-2,\"b\":1}},{\"ph\":\"X\",\"name\":\"x\",\"ts\":0,\"dur\":2,\"pid\":1},{\"ph\":\"C\",\"name\":\"n\",\"ts\":1,\"args\":{\"k\":3}}]";
     let want =
         "tracebook 1\nevents 5 refused 1 skipped 0 queries 0\nprocess 0 -\ncounter 0 \"n\" - \"k\" samples 1 least 3 greatest 3 last 3\nprocess 1 -\nthread 1 0 - open 0 busy 2\nspan        1                2                2 \"x\"\ncounter 1 \"m\" - \"k\" samples 2 least 7 greatest 9 last 7\ncounter 1 \"m\" \"4\" \"a\" samples 1 least -2 greatest -2 last -2\ncounter 1 \"m\" \"4\" \"b\" samples 1 least 1 greatest 1 last 1\n";
-    reports(&rt, events, want)
-}
-
-// As Chrome writes them: the object form, fields that are not read, a name of a thread, and a phase that is not used.
-#[test]
-fn prints_events_as_chrome_writes_them(rt: HostRuntime) -> Result<(), Fail> {
-    let events =
-        r#"{"traceEvents":[{"pid":7,"tid":1,"ts":100,"ph":"X","cat":"toplevel","name":"Run","args":{"src":"a.cc"},"dur":30,"tdur":20,"tts":5},{"pid":7,"tid":1,"ts":0,"ph":"M","cat":"__metadata","name":"thread_name","args":{"name":"CrMain"}},{"pid":7,"tid":1,"ts":110,"ph":"P","cat":"x","name":"s"}],"metadata":{}}"#;
-    let want =
-        "tracebook 1\nevents 2 refused 0 skipped 1 queries 0\nprocess 7 -\nthread 7 1 \"CrMain\" open 0 busy 30\nspan        1               30               30 \"Run\"\n";
     reports(&rt, events, want)
 }
 
