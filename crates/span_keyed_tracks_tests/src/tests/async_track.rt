@@ -199,10 +199,7 @@ fn rows_are_ordered_by_their_keys(rt: HostRuntime) -> Result<(), Fail> {
     ] {
         let first = key(rt.alloc(), first)?;
         let second = key(rt.alloc(), second)?;
-        let told = expect_order(&rt, &first, &second);
-        drop(second);
-        drop(first);
-        told?;
+        expect_order(&rt, &first, &second)?;
     }
     Ok(())
 }

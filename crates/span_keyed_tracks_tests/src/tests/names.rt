@@ -1,18 +1,13 @@
-ghost use Rattle.std.specs.Prelude.{◌≡◌, []};
-
 use span_keyed_tracks::Names;
 use span_read::Text;
-use std::process::Abort;
 use std::test::Fail;
 
-fn numbers_in_order_of_first_use_on(
-    rt: &impl Abort,
-    names: &mut Names,
-    a: &Text,
-    b: &Text,
-) -> Result<(), Fail>
-    requires { names.old ≡ [] }
-{
+#[test]
+fn numbers_in_order_of_first_use(rt: HostRuntime) -> Result<(), Fail> {
+    let rt = &rt;
+    let a = &Text::of(rt.alloc(), "a")?;
+    let b = &Text::of(rt.alloc(), "b")?;
+    let mut names = Names::new(rt.alloc());
     assert!(rt; names.find(a).is_none());
     assert_eq!(rt; names.number_of(a)?, 0);
     assert_eq!(rt; names.count(), 1);
@@ -27,16 +22,4 @@ fn numbers_in_order_of_first_use_on(
     assert!(rt; names.find(b).is_none());
     assert_eq!(rt; names.find(a), Some(0));
     Ok(())
-}
-
-#[test]
-fn numbers_in_order_of_first_use(rt: HostRuntime) -> Result<(), Fail> {
-    let a = Text::of(rt.alloc(), "a")?;
-    let b = Text::of(rt.alloc(), "b")?;
-    let mut names = Names::new(rt.alloc());
-    let told = numbers_in_order_of_first_use_on(&rt, &mut names, &a, &b);
-    drop(names);
-    drop(b);
-    drop(a);
-    told
 }
