@@ -4,10 +4,19 @@ ghost use Rattle.span_track.specs.Thread.{StandsFor};
 
 use super::expect_plain_times;
 use super::placed::Placed;
-use span_read::{ArgValue, Args, Item, Items, merge_args, read_items};
+use span_read::{ArgValue, Args, Item, Items, ReadError, merge_args, read_items};
 use span_track::ThreadTrack;
+use std::alloc::Global;
 use std::process::Abort;
 use std::test::Fail;
+
+// Of the member that both have, the end's value is taken.
+fn begin_and_end(alloc: Global) -> Result<Items, ReadError> {
+    read_items(
+        alloc,
+        br#"[{"ph":"B","ts":0,"args":{"x":1,"y":2}},{"ph":"E","ts":1,"args":{"y":3,"z":true}}]"#,
+    )
+}
 
 fn args_at(items: &Items, i: usize) -> Option<&Args> {
     match items.get(i)? {
@@ -43,10 +52,7 @@ fn arguments_of_begin_and_end_on(
 
 #[test]
 fn arguments_of_begin_and_end(rt: HostRuntime) -> Result<(), Fail> {
-    let items = read_items(
-        rt.alloc(),
-        br#"[{"ph":"B","ts":0,"args":{"x":1,"y":2}},{"ph":"E","ts":1,"args":{"y":3,"z":true}}]"#,
-    )?;
+    let items = begin_and_end(rt.alloc())?;
     let mut placed = Placed::new(rt.alloc());
     let told = arguments_of_begin_and_end_on(&rt, &mut placed, &items);
     drop(placed);
@@ -79,10 +85,7 @@ fn an_end_with_arguments_merged_before_on(
 
 #[test]
 fn an_end_with_arguments_merged_before(rt: HostRuntime) -> Result<(), Fail> {
-    let items = read_items(
-        rt.alloc(),
-        br#"[{"ph":"B","ts":0,"args":{"x":1,"y":2}},{"ph":"E","ts":1,"args":{"y":3,"z":true}}]"#,
-    )?;
+    let items = begin_and_end(rt.alloc())?;
     let mut track = ThreadTrack::new(rt.alloc());
     let told = an_end_with_arguments_merged_before_on(&rt, &mut track, &items);
     drop(track);
