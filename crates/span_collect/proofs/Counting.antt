@@ -1,9 +1,10 @@
 -- How many entries a journal has of some callers.
 use Rattle.std.proofs.Common.{◌≡◌, ℕ, zero, suc, ◌+◌, ◌<◌, ◌≤◌, List, [], ◌∷◌, Bool, true, false, cond, eqb, eqb-true, length, All, Contains, refl, sym, subst, arith}
+use Rattle.std.proofs.lemmas.List.Elements.{All-cons}
 use Rattle.span_ledger.specs.declared.entry.Entry.{Entry}
 use Rattle.span_share.specs.Callers.{calls, AreDistinct}
 use Rattle.span_share.specs.Entries.{caller_of}
-use Rattle.span_share.proofs.CallersLists.{Contains-here}
+use Rattle.span_share.proofs.CallersLists.{Contains-here, Contains-later}
 
 -- the entries of all these callers together
 abbrev pub total : List ℕ → List Entry → ℕ
@@ -14,9 +15,6 @@ total (c ∷ cs) journal = length (calls caller_of c journal) + total cs journal
 abbrev hits : ℕ → List ℕ → ℕ
 hits k [] = 0
 hits k (c ∷ cs) = cond (eqb k c) 1 0 + hits k cs
-
-pub Contains-later : (n : ℕ) (ns : List ℕ) (m : ℕ) → Contains ns m → Contains (n ∷ ns) m
-Contains-later n ns m h = (suc h.0, omega (arith, h.1), h.2)
 
 hits-contains : (k : ℕ) (cs : List ℕ) → 0 < hits k cs → Contains cs k
 hits-contains k [] some = absurd (omega (arith, some))
@@ -55,10 +53,6 @@ pub total-le : (cs : List ℕ) (journal : List Entry) → AreDistinct cs → tot
 total-le cs [] distinct = omega (arith, total-nil cs)
 total-le cs (e ∷ journal) distinct = omega (arith, total-cons cs e journal, hits-once e.caller cs distinct, total-le cs journal distinct)
 
-All-cons : {X : Type 0} (P : X → Type 0) (x : X) (xs : List X) → P x → All P xs → All P (x ∷ xs)
-All-cons P x xs px all zero d lt = px
-All-cons P x xs px all (suc k) d lt = all k d (omega (arith, lt))
-
 -- where they are all that there are, every entry is of one of them
 pub total-all : (cs : List ℕ) (journal : List Entry) → AreDistinct cs → total cs journal ≡ length journal → All (λ e. Contains cs e.caller) journal
 total-all cs [] distinct all = λ k d lt. absurd (omega (arith, lt))
@@ -67,11 +61,3 @@ total-all cs (e ∷ journal) distinct all =
     let once = hits-once e.caller cs distinct in
     let most = total-le cs journal distinct in
     All-cons (λ (x : Entry). Contains cs x.caller) e journal (hits-contains e.caller cs (omega (arith, all, split, once, most))) (total-all cs journal distinct (omega (arith, all, split, once, most)))
-
-pub length-calls : (caller : ℕ) (journal : List Entry) → length (calls caller_of caller journal) ≤ length journal
-length-calls caller [] = omega arith
-length-calls caller (e ∷ journal) = one (eqb e.caller caller) (calls caller_of caller journal) (length-calls caller journal)
-  where
-    one : (b : Bool) (rest : List Entry) → length rest ≤ length journal → length (cond b (e ∷ rest) rest) ≤ suc (length journal)
-    one true rest le = omega (arith, le)
-    one false rest le = omega (arith, le)

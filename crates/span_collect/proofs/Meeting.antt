@@ -8,14 +8,13 @@ use Rattle.span_ledger.specs.declared.refusal.Cause.{Cause}
 use Rattle.span_ledger.specs.declared.refusal.Cause.TheVariants.{Memory, Full, Busy}
 use Rattle.span_share.specs.Callers.{BeginsWith}
 use Rattle.span_share.specs.Seats.{ShareId, Seated, IsSeatOf, Gathers}
-use Rattle.span_share.proofs.CallersLists.{Contains-here}
+use Rattle.span_share.proofs.CallersLists.{Contains-here, Contains-later}
 use Rattle.span_collect.specs.declared.files.FileEnd.{FileEnd}
 use Rattle.span_collect.specs.declared.files.FileEnd.TheVariants.{Read, Refused, Stopped, NotStarted}
 use Rattle.span_collect.specs.declared.files.Input.{Input}
 use Rattle.span_collect.specs.declared.queries.Asked.{Asked}
 use Rattle.span_collect.specs.Account.{Document, IsCause, EndsAs, EachEndsAs, IsAsked, StopsAsking, asking, caller_named, callers_named, operations}
 use Rattle.span_collect.specs.Work.{HasRecorded, IsWorked, HasMet}
-use Rattle.span_collect.proofs.Counting.{Contains-later}
 
 pub BeginsWith-length : (new old : List Entry) → BeginsWith new old → length old ≤ length new
 BeginsWith-length new old begins = omega (arith, ap length begins.1, length-append old begins.0)

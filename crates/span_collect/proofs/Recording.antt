@@ -1,15 +1,14 @@
 -- What one seat has recorded, and how its file ended.
-use Rattle.std.proofs.Common.{◌≡◌, ℕ, ◌+◌, ◌<◌, ◌≤◌, ◌⊎◌, List, [], ◌∷◌, ◌++◌, length, map, take, get_or, nat_lt, lt-ltb, Bool, true, false, Option, Some, None, Ok, Err, refl, sym, subst, ap, ap₂, ◌∙◌, append-nil, length-append, arith, inl, inr}
+use Rattle.std.proofs.Common.{◌≡◌, ℕ, ◌+◌, ◌<◌, ◌≤◌, ◌⊎◌, List, [], ◌∷◌, ◌++◌, length, map, take, get_or, nat_lt, lt-ltb, eqb, Bool, true, false, Option, Some, None, Ok, Err, refl, sym, ap, ap₂, ◌∙◌, append-nil, length-append, arith, inl, inr}
 use Rattle.std.specs.Prelude.{if◌then◌else◌, Result, IfOk, IfSome}
 use Rattle.std.specs.Result.{result_ok}
 use Rattle.std.proofs.lemmas.List.{map-append, length-map, take_more, length-take-le}
+use Rattle.std.proofs.lemmas.List.Sums.{length-filter, count_by-le-length}
 use Rattle.serde_json.specs.Data.{Data, Items, no_items, item}
 use Rattle.serde_json.specs.Events.{items_len}
 use Rattle.span_event.specs.declared.item.Item.{Item}
-use Rattle.span_read.specs.declared.error.ReadError.{ReadError}
 use Rattle.span_read.specs.declared.error.ReadError.TheVariants.{TooLarge, TooMany}
 use Rattle.span_read.specs.Document.{doc, document, doc_of_document, doc_of_elements, elements_of, items_of, most_bytes, most_items}
-use Rattle.span_read.specs.ReadError.{code_of}
 use Rattle.span_ledger.specs.declared.entry.Entry.{Entry}
 use Rattle.span_ledger.specs.declared.entry.Op.{Op}
 use Rattle.span_ledger.specs.declared.entry.Op.TheVariants.{One, Ask}
@@ -20,10 +19,9 @@ use Rattle.span_share.specs.declared.book.Receipt.{Receipt}
 use Rattle.span_share.specs.declared.share.ShareError.{ShareError}
 use Rattle.span_share.specs.Entries.{entry}
 use Rattle.span_share.specs.Seats.{ShareId, Seated, IsSeatOf, IsCauseAt, Keeps, Records, Enrols, mine}
-use Rattle.span_collect.specs.declared.files.FileEnd.TheVariants.{Read, Refused, Stopped}
-use Rattle.span_collect.specs.Account.{Document, IsCause, operations, telling, asking}
+use Rattle.span_collect.specs.declared.files.FileEnd.TheVariants.{Read, Stopped}
+use Rattle.span_collect.specs.Account.{IsCause, operations, telling, asking}
 use Rattle.span_collect.specs.Work.{HasRecorded, IsNewSeat, IsWorked}
-use Rattle.span_collect.proofs.Counting.{length-calls}
 
 -- a seat that was enrolled has recorded nothing
 pub HasRecorded-enrolled : (share : ShareId) (old new : Seated) → IsSeatOf share new → Enrols old new → IsNewSeat share new
@@ -98,24 +96,6 @@ module _ (share : ShareId) (caller : ℕ) (seat : Seated) (named : caller ≡ se
     );
   }
 
-  -- the file was refused
-  pub IsWorked-refused : (document : Document) (error : ReadError) (code : ℕ) → HasRecorded share [] seat → document ≡ Err error → code ≡ code_of error → IsWorked share document (Refused caller code) seat
-  IsWorked-refused document error code has refused is = subst (λ d. IsWorked share d (Refused caller code) seat) (sym refused) (record {
-    sound = has.sound;
-    alone = has.alone;
-    named = ap (λ n. Some n) named;
-    ended = (is, ap (operations seat.seen) named ∙ has.recorded);
-  })
-
-  -- reading found no memory
-  pub IsWorked-unread : (document : Document) → HasRecorded share [] seat → IsWorked share document (Stopped caller 0 Memory) seat
-  IsWorked-unread document has = record {
-    sound = has.sound;
-    alone = has.alone;
-    named = ap (λ n. Some n) named;
-    ended = (inr (refl, refl, ap (operations seat.seen) named ∙ has.recorded), tt);
-  }
-
 -- one query more was asked
 pub asking-next : (asks : List Query) (i : ℕ) (query found : Query) → i < length asks → query ≡ found → found ≡ get_or asks i found → asking (take i asks) ++ Ask query ∷ [] ≡ asking (take (i + 1) asks)
 asking-next asks i query found within same at =
@@ -125,13 +105,15 @@ asking-next asks i query found within same at =
 -- as many entries as queries were seen
 pub asked-le : (share : ShareId) (asks : List Query) (i : ℕ) (seat : Seated) → HasRecorded share (asking (take i asks)) seat → i ≤ length asks → i ≤ length seat.seen
 asked-le share asks i seat has within =
+    let own : Entry → Bool = λ e. eqb e.caller seat.number in
     omega (
       arith,
       length-take-le i asks within,
       length-map (take i asks) (λ (q : Query). Ask q),
       ap length has.recorded,
       length-map (mine seat seat.number) (λ (e : Entry). e.op),
-      length-calls seat.number seat.seen,
+      length-filter own seat.seen,
+      count_by-le-length own seat.seen,
     )
 
 -- one item more was told

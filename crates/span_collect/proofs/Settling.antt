@@ -12,14 +12,14 @@ use Rattle.span_ledger.specs.declared.query.Query.{Query}
 use Rattle.span_ledger.specs.Legal.{Kept}
 use Rattle.span_share.specs.Callers.{calls, AreDistinct}
 use Rattle.span_share.specs.Entries.{caller_of}
-use Rattle.span_share.proofs.CallersLists.{Contains-here}
+use Rattle.span_share.proofs.CallersLists.{Contains-here, Contains-later}
 use Rattle.span_collect.specs.declared.files.FileEnd.{FileEnd}
 use Rattle.span_collect.specs.declared.files.FileEnd.TheVariants.{Read, Refused, Stopped, NotStarted}
 use Rattle.span_collect.specs.declared.files.Input.{Input}
 use Rattle.span_collect.specs.declared.queries.Asked.{Asked}
 use Rattle.span_collect.specs.Account.{Account, Document, EndsAs, EachEndsAs, IsAsked, StopsAsking, asking, callers_named, operations, telling}
 use Rattle.span_collect.specs.Collection.{IsClosed, calls_told, told_by}
-use Rattle.span_collect.proofs.Counting.{Contains-later, total, total-le, total-all}
+use Rattle.span_collect.proofs.Counting.{total, total-le, total-all}
 use Rattle.span_collect.proofs.Meeting.{BeginsWith-length, EachEndsAs-later, IsAsked-later}
 
 -- as many entries as operations
