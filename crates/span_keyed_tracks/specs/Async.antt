@@ -11,7 +11,7 @@ use Rattle.span_keyed_tracks.specs.declared.keys.AsyncKey.{AsyncKey}
 use Rattle.span_keyed_tracks.specs.declared.async_track.AsyncRow.{AsyncRow}
 use Rattle.span_keyed_tracks.specs.declared.async_track.AsyncTotals.{AsyncTotals}
 use Rattle.span_keyed_tracks.specs.Fault.{refusal_of}
-use Rattle.span_keyed_tracks.specs.Matching.{Step, opens, closes, other, opener, open_of, closed_by, closed_of}
+use Rattle.span_keyed_tracks.specs.Matching.{Step, other, opener, open_of, closed_by, closed_of}
 use Rattle.span_keyed_tracks.specs.Keyed.{Keyed, entries_in, kept_at}
 
 -- by category, scope, id and name; texts by their bytes
@@ -52,9 +52,8 @@ length_closed_by earlier step = closed_by length_between no_length earlier step
 
 -- the step is a point
 abbrev pub is_point : AsyncStep → Bool
-is_point (opens begin) = false
-is_point (closes end) = false
 is_point (other point) = true
+is_point step = false
 
 -- what the steps of one key give
 abbrev pub async_spans : List AsyncStep → AsyncSpans

@@ -38,21 +38,18 @@ time_of (finished ts) = ts
 -- the point is a start
 abbrev pub is_start : FlowPoint → Bool
 is_start (started ts) = true
-is_start (stepped ts) = false
-is_start (finished ts) = false
+is_start point = false
 
 -- the point is a finish
 abbrev pub is_finish : FlowPoint → Bool
-is_finish (started ts) = false
-is_finish (stepped ts) = false
 is_finish (finished ts) = true
+is_finish point = false
 
 -- the points from the last start on; none, where there is no start
 abbrev pub from_last_start : List FlowPoint → List FlowPoint
 from_last_start [] = []
 from_last_start (started ts ∷ later) = if list_any is_start later then from_last_start later else started ts ∷ later
-from_last_start (stepped ts ∷ later) = from_last_start later
-from_last_start (finished ts ∷ later) = from_last_start later
+from_last_start (point ∷ later) = from_last_start later
 
 -- these points, unless a finish is among them
 abbrev pub unless_finished : List FlowPoint → List FlowPoint
@@ -74,9 +71,8 @@ length_from (Some start) ts = distance start ts ∷ []
 
 -- the length of the chain that a point ends: a finish, from the last start before it
 abbrev pub length_ended_by : List FlowPoint → FlowPoint → List ℕ
-length_ended_by earlier (started ts) = []
-length_ended_by earlier (stepped ts) = []
 length_ended_by earlier (finished ts) = length_from (start_of (from_last_start earlier)) ts
+length_ended_by earlier point = []
 
 -- the lengths of the chains that the later points end, in their order
 abbrev pub lengths_after : List FlowPoint → List FlowPoint → List ℕ

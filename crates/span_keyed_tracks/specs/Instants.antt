@@ -4,7 +4,7 @@ use Rattle.std.specs.Option.{option_map}
 use Rattle.std.specs.Ordering.{is_eq}
 use Rattle.span_event.specs.declared.event.Event.{Event}
 use Rattle.span_event.specs.declared.event.Phase.{Phase}
-use Rattle.span_event.specs.declared.event.Phase.TheVariants.{SpanBegin, SpanEnd, Complete, AsyncBegin, AsyncPoint, AsyncEnd, FlowStart, FlowStep, FlowEnd, Counter, Instant, Meta}
+use Rattle.span_event.specs.declared.event.Phase.TheVariants.{Instant}
 use Rattle.span_event.specs.declared.event.Reach.{Reach}
 use Rattle.span_event.specs.declared.event.Reach.TheVariants.{Global, Process, Thread as OneThread}
 use Rattle.span_event.specs.declared.thread.Thread.{Thread}
@@ -27,17 +27,7 @@ InstantStep = Keyed Thread NamedReach
 -- the event is an instant
 abbrev pub is_instant : Phase → Bool
 is_instant Instant = true
-is_instant SpanBegin = false
-is_instant SpanEnd = false
-is_instant Complete = false
-is_instant AsyncBegin = false
-is_instant AsyncPoint = false
-is_instant AsyncEnd = false
-is_instant FlowStart = false
-is_instant FlowStep = false
-is_instant FlowEnd = false
-is_instant Counter = false
-is_instant Meta = false
+is_instant phase = false
 
 -- the thread, name and reach of an instant, which has a reach
 abbrev pub instant_of : Event → Option InstantStep

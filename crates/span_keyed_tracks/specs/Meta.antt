@@ -5,7 +5,7 @@ use Rattle.std.specs.declared.cmp.Ordering.{Ordering}
 use Rattle.std.specs.Ordering.{int_cmp, ordering_then}
 use Rattle.span_event.specs.declared.event.Event.{Event}
 use Rattle.span_event.specs.declared.event.Phase.{Phase}
-use Rattle.span_event.specs.declared.event.Phase.TheVariants.{SpanBegin, SpanEnd, Complete, AsyncBegin, AsyncPoint, AsyncEnd, FlowStart, FlowStep, FlowEnd, Counter, Instant, Meta}
+use Rattle.span_event.specs.declared.event.Phase.TheVariants.{Meta}
 use Rattle.span_event.specs.Args.{as_text, as_whole, value_of}
 use Rattle.span_event.specs.Given.{Gives}
 use Rattle.span_event.specs.Text.{Bytes, same_text}
@@ -56,17 +56,7 @@ setting_of event =
 -- the event is a metadata event
 abbrev pub is_meta : Phase → Bool
 is_meta Meta = true
-is_meta SpanBegin = false
-is_meta SpanEnd = false
-is_meta Complete = false
-is_meta AsyncBegin = false
-is_meta AsyncPoint = false
-is_meta AsyncEnd = false
-is_meta FlowStart = false
-is_meta FlowStep = false
-is_meta FlowEnd = false
-is_meta Counter = false
-is_meta Instant = false
+is_meta phase = false
 
 -- what the metadata events set, in their order
 abbrev pub settings_in : List Event → List (Keyed Holder Setting)
