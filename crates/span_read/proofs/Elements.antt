@@ -1,5 +1,6 @@
 -- The elements of a document, against the limit; and the member `traceEvents` as members are put into an object.
-use Rattle.std.proofs.Common.{◌≡◌, ℕ, ◌+◌, ◌<◌, ◌≤◌, List, [], ◌∷◌, ◌++◌, length, Some, Ok, Err, map, codes, option_and_then, refl, sym, ap, ◌∙◌, arith, rules, tests}
+use Rattle.std.proofs.Common.{◌≡◌, ℕ, ◌+◌, ◌<◌, ◌≤◌, List, [], ◌∷◌, ◌++◌, length, Bool, true, false, Some, Ok, Err, map, codes, option_and_then, refl, sym, ap, ◌∙◌, arith, rules, tests}
+use Rattle.std.proofs.lemmas.List.{length-append, length-map, map_push}
 use Rattle.serde_json.specs.Data.{Data, object, Items, no_items, Members, put}
 use Rattle.serde_json.specs.Events.{items_len}
 use Rattle.serde_json.specs.Find.{as_array, get_member}
@@ -18,25 +19,40 @@ items_of-items_before : (bs : List Data) → items_of (items_before bs no_items)
 items_of-items_before [] = refl
 items_of-items_before (b ∷ bs) = ap (λ is. item_of_data b ∷ is) (items_of-items_before bs)
 
-doc_of_elements-too_many : (bs : List Data) (ds : Items) → most_items < length bs → doc_of_elements (Some (items_before bs ds)) ≡ Err TooMany
-doc_of_elements-too_many bs ds many =
-    let len = items_len-items_before bs ds in
-    let over : most_items < items_len (items_before bs ds) = omega arith in
+-- the items of the elements so far, up to the limit, and whether there were more
+pub record AreCollected (too_many : Bool) (is : List Item) (ds : List Data) : Type 0 where
+  pub within : length is ≤ most_items
+  pub all : too_many ≡ false → map item_of_data ds ≡ is
+  pub over : too_many ≡ true → (length is ≡ most_items) × (most_items < length ds)
+
+pub AreCollected-push : (too_many : Bool) (is : List Item) (ds : List Data) (d : Data) → length is < most_items → AreCollected too_many is ds → AreCollected too_many (is ++ item_of_data d ∷ []) (ds ++ d ∷ [])
+AreCollected-push too_many is ds d few are = record {
+  within = omega (arith, length-append is (item_of_data d ∷ []));
+  all = λ h. map_push item_of_data ds d ∙ ap (λ is. is ++ item_of_data d ∷ []) (are.all h);
+  over = λ h. absurd (omega (arith, (are.over h).0));
+}
+
+pub AreCollected-over : (too_many : Bool) (is : List Item) (ds : List Data) (d : Data) → most_items ≤ length is → AreCollected too_many is ds → AreCollected true is (ds ++ d ∷ [])
+AreCollected-over too_many is ds d full are = record {
+  within = are.within;
+  all = λ h. absurd cc;
+  over = λ h. (omega (arith, are.within), omega (arith, length-append ds (d ∷ []), as_many too_many refl));
+}
+  where
+    as_many : (b : Bool) → too_many ≡ b → most_items ≤ length ds
+    as_many true h = omega (arith, (are.over h).1)
+    as_many false h = omega (arith, ap length (are.all h), length-map ds item_of_data)
+
+pub doc_of_elements-over : (too_many : Bool) (is : List Item) (ds : List Data) → AreCollected too_many is ds → too_many ≡ true → Err TooMany ≡ doc_of_elements (Some (items_before ds no_items))
+doc_of_elements-over too_many is ds are more =
+    let over : most_items < items_len (items_before ds no_items) = omega (arith, items_len-items_before ds no_items, (are.over more).1) in
     search (rules, tests)
 
-pub TooMany-doc_of_elements : (bs : List Data) (ds : Items) → most_items < length bs → Err TooMany ≡ doc_of_elements (Some (items_before bs ds))
-TooMany-doc_of_elements bs ds many = sym (doc_of_elements-too_many bs ds many)
-
-pub doc_of_elements-within : (bs : List Data) (is : List Item) → length bs ≤ most_items → map item_of_data bs ≡ is → doc_of_elements (Some (items_before bs no_items)) ≡ Ok is
-doc_of_elements-within bs is few same =
-    let len = items_len-items_before bs no_items in
-    let within : items_len (items_before bs no_items) ≤ most_items = omega arith in
-    let kept : doc_of_elements (Some (items_before bs no_items)) ≡ Ok (items_of (items_before bs no_items)) = search (rules, tests) in
-    kept ∙ ap Ok (items_of-items_before bs ∙ same)
-
-pub map-snoc : (bs : List Data) (d : Data) → map item_of_data (bs ++ d ∷ []) ≡ map item_of_data bs ++ item_of_data d ∷ []
-map-snoc [] d = refl
-map-snoc (b ∷ bs) d = ap (λ is. item_of_data b ∷ is) (map-snoc bs d)
+pub doc_of_elements-all : (too_many : Bool) (is : List Item) (ds : List Data) → AreCollected too_many is ds → too_many ≡ false → doc_of_elements (Some (items_before ds no_items)) ≡ Ok is
+doc_of_elements-all too_many is ds are whole =
+    let within : items_len (items_before ds no_items) ≤ most_items = omega (arith, items_len-items_before ds no_items, are.within, ap length (are.all whole), length-map ds item_of_data) in
+    let kept : doc_of_elements (Some (items_before ds no_items)) ≡ Ok (items_of (items_before ds no_items)) = search (rules, tests) in
+    kept ∙ ap Ok (items_of-items_before ds ∙ are.all whole)
 
 -- the last member of the name counts
 pub elements_of-put : (k : List ℕ) (d : Data) (ms : Members) → k ≡ codes "traceEvents" → elements_of (object (put k d ms)) ≡ as_array d

@@ -24,23 +24,9 @@ pub put_at-places : (name : List ℕ) (d : Data) (ms : Members) (ns : List (List
 put_at-places name d ms [] = refl
 put_at-places name d ms (n ∷ ns) = ap₂ (λ o os. o ∷ os) (put_one _ name n d ms refl) (put_at-places name d ms ns)
 
--- the fields in their places
-fields_at : List (Option FieldValue) → Fields
-fields_at os = record {
-  ph = get_or os 0 None;
-  ts = get_or os 1 None;
-  dur = get_or os 2 None;
-  pid = get_or os 3 None;
-  tid = get_or os 4 None;
-  name = get_or os 5 None;
-  cat = get_or os 6 None;
-  id = get_or os 7 None;
-  id2 = get_or os 8 None;
-  scope = get_or os 9 None;
-  s = get_or os 10 None;
-  args = get_or os 11 None;
-}
+fields_at : (ℕ → Option FieldValue) → Fields
+fields_at at = record { ph = at 0; ts = at 1; dur = at 2; pid = at 3; tid = at 4; name = at 5; cat = at 6; id = at 7; id2 = at 8; scope = at 9; s = at 10; args = at 11 }
 
 pub slots_injective : (f g : Fields) → slots f ≡ slots g → f ≡ g
 unfolding fields_at
-slots_injective f g same = ap fields_at same
+slots_injective f g same = ap (λ os. fields_at (λ n. get_or os n None)) same

@@ -1,5 +1,5 @@
 -- The fields as a list with a place for each name; for private clauses.
-use Rattle.std.specs.Prelude.{List, [], ◌∷◌, Option, Some, None, map, codes, if◌then◌else◌}
+use Rattle.std.specs.Prelude.{List, [], ◌∷◌, Option, Some, codes, if◌then◌else◌}
 use Rattle.span_read.specs.declared.fields.Fields.{Fields}
 use Rattle.span_read.specs.declared.fields.FieldValue.{FieldValue}
 use Rattle.span_event.specs.Text.{Bytes, same_text}
@@ -10,10 +10,6 @@ names = codes "ph" ∷ codes "ts" ∷ codes "dur" ∷ codes "pid" ∷ codes "tid
 
 abbrev pub slots : Fields → List (Option FieldValue)
 slots f = f.ph ∷ f.ts ∷ f.dur ∷ f.pid ∷ f.tid ∷ f.name ∷ f.cat ∷ f.id ∷ f.id2 ∷ f.scope ∷ f.s ∷ f.args ∷ []
-
--- nothing in any place
-abbrev pub nothing : List (Option FieldValue)
-nothing = map (λ name. None) names
 
 -- the places, with v in the one of that name, if there is one
 abbrev pub put_at : Bytes → FieldValue → List Bytes → List (Option FieldValue) → List (Option FieldValue)

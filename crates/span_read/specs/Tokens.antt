@@ -57,13 +57,12 @@ abbrev pub items_before : List Data → Items → Items
 items_before [] rest = rest
 items_before (d ∷ ds) rest = item d (items_before ds rest)
 
--- of the items from `start` on, which end within n turns, some with P were taken, and `left` is left
-pub record ItemsSoFar (depth n : ℕ) (start left : List Token) (P : List Data → Type 0) : Type 0 where
+-- of the items from `start` on some with P were taken, and `left` is left
+pub record ItemsSoFar (depth : ℕ) (start left : List Token) (P : List Data → Type 0) : Type 0 where
   pub before : List Data
   pub turns : ℕ
   pub enough : length left ≤ turns
-  pub fewer : length left ≤ length start
-  pub same : converted of_items (items (value depth) n start) ≡ parse_map (items_before before) (converted of_items (items (value depth) turns left))
+  pub same : converted of_items (items (value depth) (length start) start) ≡ parse_map (items_before before) (converted of_items (items (value depth) turns left))
   pub holds : P before
 
 -- of the members from `start` on some with P were taken, and `left` is left
@@ -71,7 +70,6 @@ pub record MembersSoFar (depth : ℕ) (start left : List Token) (P : Members →
   pub before : Members
   pub turns : ℕ
   pub enough : length left ≤ turns
-  pub fewer : length left ≤ length start
   pub same :
       converted (λ ms. of_members ms no_members) (members (value depth) (length start) start) ≡ converted (λ ms. of_members ms before) (members (value depth) turns left)
   pub holds : P before

@@ -9,6 +9,7 @@ ghost use Rattle.span_read.specs.Ending.{closes_array};
 use crate::document::read_document;
 use crate::error::ReadError;
 use crate::error::stop::Stop;
+use crate::tokens::Tokens;
 use json::{Reader, Scratch};
 use span_event::Items;
 use std::alloc::{AllocError, Global};
@@ -57,11 +58,12 @@ fn read_text(alloc: Global, text: &str) -> Result<Items, ReadError>
     ensures { result ≢ Err Memory → result ≡ doc_of_document (read text.now) }
 {
     let mut scratch = Scratch::new(alloc);
-    let Ok(mut reader) = Reader::new(text, &mut scratch) else {
+    let Ok(reader) = Reader::new(text, &mut scratch) else {
         return Err(ReadError::Memory);
     };
-    match read_document(alloc, &mut reader, MAX_DEPTH) {
-        Ok(found) => if reader.next().is_some() {
+    let mut tokens = Tokens { reader, alloc };
+    match read_document(&mut tokens, MAX_DEPTH) {
+        Ok(found) => if tokens.reader.next().is_some() {
             Err(ReadError::NotJson)
         } else {
             found

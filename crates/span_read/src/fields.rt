@@ -33,7 +33,7 @@ impl FieldValue {
     }
 }
 
-#[derive(Drop)]
+#[derive(Default, Drop)]
 pub(crate) struct Fields {
     pub(crate) ph: Option<FieldValue>,
     pub(crate) ts: Option<FieldValue>,
@@ -50,26 +50,7 @@ pub(crate) struct Fields {
 }
 
 impl Fields {
-    ghost use Rattle.span_read.specs.Slots.{slots, names, put_at, nothing};
-
-    pub(crate) fn none() -> Fields
-        ensures { slots result ≡ nothing }
-    {
-        Fields {
-            ph: None,
-            ts: None,
-            dur: None,
-            pid: None,
-            tid: None,
-            name: None,
-            cat: None,
-            id: None,
-            id2: None,
-            scope: None,
-            s: None,
-            args: None,
-        }
-    }
+    ghost use Rattle.span_read.specs.Slots.{slots, names, put_at};
 
     // Inlined, it would have all the fields copied at each member.
     #[inline(never)]

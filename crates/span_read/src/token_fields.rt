@@ -1,96 +1,88 @@
 //! The fields of an event, as the tokens of its object give them.
-ghost use Rattle.std.specs.Prelude.{◌≡◌, ◌<◌, ◌∷◌, length, None, IfOk, OnOk};
-ghost use Rattle.json.specs.Token.{Token};
 ghost use Rattle.span_read.specs.Fields.{arg_value, field_value, pairs_of, fields_of};
-ghost use Rattle.span_read.specs.Tokens.{data_at, TakesValue, TakesObject, IsNotJson};
 
 use crate::arg_map::ArgMap;
 use crate::error::stop::Stop;
 use crate::fields::{FieldValue, Fields};
+use crate::tokens::Tokens;
 use crate::tokens::head::{Head, next_head};
+use crate::tokens::kept::{KeptMembers, KeptValue, read_object};
 use crate::tokens::pass::{pass_array, pass_object};
-use json::Reader;
-use span_event::{ArgValue, Args, Text};
+use span_event::{ArgValue, Text};
 use std::alloc::Global;
+use std::mem::replace;
 
-/// The rest of an object whose bracket was taken.
-#[inline(never)]
-pub(crate) fn read_fields(
-    alloc: Global,
-    reader: &mut Reader<'_>,
-    depth: usize,
-) -> Result<Fields, Stop>
-    ensures fields { IfOk result (λ fields. TakesObject depth reader.old reader.new
-        (λ ms. fields ≡ fields_of ms)) }
-    ensures shorter { OnOk result (length reader.new < length reader.old) }
-    ensures refused { IsNotJson result → data_at depth (Token.begin_object ∷ reader.old) ≡ None }
-{
-    if depth == 0 {
-        return Err(Stop::NotJson);
-    }
-    let mut fields = Fields::none();
-    'members: while let Some(name) = reader.next_key()? {
-        let value = read_field(alloc, reader, depth - 1)?;
-        fields.put(name, value);
-    }
-    Ok(fields)
-}
+impl KeptMembers for Fields {
+    ghost of = { fields_of };
 
-#[inline(always)]
-fn read_field(alloc: Global, reader: &mut Reader<'_>, depth: usize) -> Result<FieldValue, Stop>
-    ensures field { IfOk result (λ field. TakesValue depth reader.old reader.new
-        (λ d. field_value d ≡ field)) }
-    ensures shorter { OnOk result (length reader.new < length reader.old) }
-    ensures refused { IsNotJson result → data_at depth reader.old ≡ None }
-{
-    match next_head(reader)? {
-        Head::Object => Ok(FieldValue::Pairs(read_pairs(alloc, reader, depth)?)),
-        Head::Array => {
-            pass_array(reader, depth)?;
-            Ok(FieldValue::Plain(ArgValue::Other))
-        }
-        Head::Words(text) => Ok(FieldValue::Plain(ArgValue::Words(Text::of(alloc, text)?))),
-        Head::Plain(value) => Ok(FieldValue::Plain(value)),
+    fn none(_alloc: Global) -> Fields {
+        Fields::default()
+    }
+
+    #[inline(always)]
+    fn keep(&mut self, name: &str, tokens: &mut Tokens<'_>, depth: usize) -> Result<(), Stop> {
+        let value = FieldValue::read(tokens, depth)?;
+        self.put(name, value);
+        Ok(())
     }
 }
 
-/// The rest of an object whose bracket was taken. Of two members of one name the last stays.
-#[inline(never)]
-fn read_pairs(alloc: Global, reader: &mut Reader<'_>, depth: usize) -> Result<Args, Stop>
-    ensures pairs { IfOk result (λ args. TakesObject depth reader.old reader.new
-        (λ ms. args ≡ pairs_of ms)) }
-    ensures shorter { OnOk result (length reader.new < length reader.old) }
-    ensures refused { IsNotJson result → data_at depth (Token.begin_object ∷ reader.old) ≡ None }
-{
-    if depth == 0 {
-        return Err(Stop::NotJson);
+impl KeptMembers for ArgMap {
+    ghost of = { pairs_of };
+
+    fn none(alloc: Global) -> ArgMap {
+        ArgMap::new(alloc)
     }
-    let mut found = ArgMap::new(alloc);
-    'members: while let Some(key) = reader.next_key()? {
-        let name = Text::of(alloc, key)?;
-        let value = read_arg(alloc, reader, depth - 1)?;
-        found = found.with(alloc, name, value)?;
+
+    #[inline(always)]
+    fn keep(&mut self, name: &str, tokens: &mut Tokens<'_>, depth: usize) -> Result<(), Stop> {
+        let name = Text::of(tokens.alloc, name)?;
+        let value = ArgValue::read(tokens, depth)?;
+        let before = replace(self, ArgMap::new(tokens.alloc));
+        *self = before.with(tokens.alloc, name, value)?;
+        Ok(())
     }
-    Ok(found.into_args(alloc)?)
 }
 
-#[inline(always)]
-fn read_arg(alloc: Global, reader: &mut Reader<'_>, depth: usize) -> Result<ArgValue, Stop>
-    ensures value { IfOk result (λ v. TakesValue depth reader.old reader.new
-        (λ d. arg_value d ≡ v)) }
-    ensures shorter { OnOk result (length reader.new < length reader.old) }
-    ensures refused { IsNotJson result → data_at depth reader.old ≡ None }
-{
-    match next_head(reader)? {
-        Head::Object => {
-            pass_object(reader, depth)?;
-            Ok(ArgValue::Other)
+impl KeptValue for FieldValue {
+    ghost of = { field_value };
+
+    #[inline(always)]
+    fn read(tokens: &mut Tokens<'_>, depth: usize) -> Result<FieldValue, Stop> {
+        match next_head(&mut tokens.reader)? {
+            Head::Object => {
+                let pairs: ArgMap = read_object(tokens, depth)?;
+                Ok(FieldValue::Pairs(pairs.into_args(tokens.alloc)?))
+            }
+            Head::Array => {
+                pass_array(&mut tokens.reader, depth)?;
+                Ok(FieldValue::Plain(ArgValue::Other))
+            }
+            Head::Words(text) => {
+                let words = Text::of(tokens.alloc, text)?;
+                Ok(FieldValue::Plain(ArgValue::Words(words)))
+            }
+            Head::Plain(value) => Ok(FieldValue::Plain(value)),
         }
-        Head::Array => {
-            pass_array(reader, depth)?;
-            Ok(ArgValue::Other)
+    }
+}
+
+impl KeptValue for ArgValue {
+    ghost of = { arg_value };
+
+    #[inline(always)]
+    fn read(tokens: &mut Tokens<'_>, depth: usize) -> Result<ArgValue, Stop> {
+        match next_head(&mut tokens.reader)? {
+            Head::Object => {
+                pass_object(&mut tokens.reader, depth)?;
+                Ok(ArgValue::Other)
+            }
+            Head::Array => {
+                pass_array(&mut tokens.reader, depth)?;
+                Ok(ArgValue::Other)
+            }
+            Head::Words(text) => Ok(ArgValue::Words(Text::of(tokens.alloc, text)?)),
+            Head::Plain(value) => Ok(value),
         }
-        Head::Words(text) => Ok(ArgValue::Words(Text::of(alloc, text)?)),
-        Head::Plain(value) => Ok(value),
     }
 }

@@ -1,4 +1,15 @@
-//! The tokens of a text: the head of a value, its number, and values that are passed over.
+//! The tokens of a text: the head of a value, its number, what is kept of values and objects, and values that are passed over.
 pub(crate) mod head;
+pub(crate) mod kept;
 mod number;
 pub(crate) mod pass;
+
+use json::Reader;
+use std::alloc::Global;
+
+/// The tokens that are left of a text, and the memory for what is kept of them.
+#[derive(Drop)]
+pub(crate) struct Tokens<'a> {
+    pub(crate) reader: Reader<'a>,
+    pub(crate) alloc: Global,
+}

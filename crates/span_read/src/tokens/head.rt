@@ -1,5 +1,5 @@
 //! The beginning of a value.
-ghost use Rattle.std.specs.Prelude.{◌≡◌, ◌<◌, ℕ, length, None, IfOk, OnOk, OnErr};
+ghost use Rattle.std.specs.Prelude.{◌≡◌, ℕ, None, IfOk, OnErr};
 ghost use Rattle.span_read.specs.Tokens.{data_at, TakesHead};
 
 use crate::tokens::number::number_value;
@@ -18,7 +18,6 @@ pub(crate) enum Head<'a> {
 #[inline(always)]
 pub(crate) fn next_head<'a>(reader: &mut Reader<'a>) -> Result<Head<'a>, Invalid>
     ensures head { IfOk result (λ head. TakesHead head reader.old reader.new) }
-    ensures shorter { OnOk result (length reader.new < length reader.old) }
     ensures refused { OnErr result ((depth : ℕ) → data_at depth reader.old ≡ None) }
 {
     let token = reader.next().ok_or(Invalid)?;

@@ -1,9 +1,6 @@
 //! Values that are passed over. They are checked all the same.
-ghost use Rattle.std.specs.Prelude.{◌≡◌, ◌<◌, ◌≤◌, ℕ, ◌∷◌, length, Some, None, OnOk, OnErr, ⊤};
+ghost use Rattle.std.specs.Prelude.{◌≡◌, ◌∷◌, None, OnOk, OnErr, ⊤};
 ghost use Rattle.json.specs.Token.{Token};
-ghost use Rattle.json.specs.Json.{items, value};
-ghost use Rattle.serde_json.specs.Data.{Items};
-ghost use Rattle.serde_json.specs.Read.{of_items, converted};
 ghost use Rattle.span_read.specs.Tokens.{data_at, TakesValue, TakesArray, TakesObject};
 
 use crate::tokens::head::{Head, next_head};
@@ -13,7 +10,6 @@ use json::{Invalid, Reader};
 #[inline(always)]
 pub(crate) fn pass_value(reader: &mut Reader<'_>, depth: usize) -> Result<(), Invalid>
     ensures taken { OnOk result (TakesValue depth reader.old reader.new (λ d. ⊤)) }
-    ensures shorter { OnOk result (length reader.new < length reader.old) }
     ensures refused { OnErr result (data_at depth reader.old ≡ None) }
 {
     match next_head(reader)? {
@@ -26,28 +22,16 @@ pub(crate) fn pass_value(reader: &mut Reader<'_>, depth: usize) -> Result<(), In
 
 /// The rest of an array whose bracket was taken.
 #[cycle(pass)]
+#[inline(never)]
 pub(crate) fn pass_array(reader: &mut Reader<'_>, depth: usize) -> Result<(), Invalid>
     ensures taken { OnOk result (TakesArray depth reader.old reader.new (λ ds. ⊤)) }
-    ensures shorter { OnOk result (length reader.new < length reader.old) }
     ensures refused { OnErr result (data_at depth (Token.begin_array ∷ reader.old) ≡ None) }
 {
     if depth == 0 {
         return Err(Invalid);
     }
-    pass_items(reader, depth - 1)
-}
-
-#[cycle(pass)]
-#[inline(never)]
-pub(crate) fn pass_items(reader: &mut Reader<'_>, depth: usize) -> Result<(), Invalid>
-    ensures taken { OnOk result ((n : ℕ) → length reader.old ≤ n
-        → (ds : Items) × (converted of_items (items (value depth) n reader.old) ≡ Some (ds, reader.new))) }
-    ensures shorter { OnOk result (length reader.new < length reader.old) }
-    ensures refused { OnErr result ((n : ℕ) → length reader.old ≤ n
-        → converted of_items (items (value depth) n reader.old) ≡ None) }
-{
     'items: while !reader.take_end_array() {
-        pass_value(reader, depth)?;
+        pass_value(reader, depth - 1)?;
     }
     Ok(())
 }
@@ -57,7 +41,6 @@ pub(crate) fn pass_items(reader: &mut Reader<'_>, depth: usize) -> Result<(), In
 #[inline(never)]
 pub(crate) fn pass_object(reader: &mut Reader<'_>, depth: usize) -> Result<(), Invalid>
     ensures taken { OnOk result (TakesObject depth reader.old reader.new (λ ms. ⊤)) }
-    ensures shorter { OnOk result (length reader.new < length reader.old) }
     ensures refused { OnErr result (data_at depth (Token.begin_object ∷ reader.old) ≡ None) }
 {
     if depth == 0 {
