@@ -1,42 +1,25 @@
 -- What a file is, from what its first candidate is that reads.
-use Rattle.std.proofs.Common.{◌≡◌, ℕ, ◌≤◌, List, length, refl, sym, Bool, true, false, Option, None, Some, Result, Ok, Err, IfOk, All, nat_lt, if◌then◌else◌, rules, tests, ap₂, [], ◌∷◌, ◌++◌}
-use Rattle.std.specs.Option.{option_or}
+use Rattle.std.proofs.Common.{◌≡◌, ℕ, ◌≤◌, List, length, refl, sym, Bool, true, false, Option, None, Some, Result, Ok, Err, IfOk, All, nat_lt, if◌then◌else◌, rules, tests}
 use Rattle.std.specs.Prelude.{IfErr}
 use Rattle.std.specs.Str.{IsUtf8, is_utf8}
 use Rattle.std.proofs.lemmas.Str.{is_utf8-from_IsUtf8, IsUtf8-from_is_utf8}
 use Rattle.serde_json.specs.Data.{Data, Items}
 use Rattle.serde_json.specs.Events.{items_len}
 use Rattle.span_event.specs.declared.item.Item.{Item}
-use Rattle.span_read.specs.declared.error.ReadError.TheVariants.{TooMany}
-use Rattle.span_read.specs.Document.{document, read_utf8, first_read, cut_text, opens_array, elements_of, doc, doc_of_document, doc_of_elements, items_of, most_bytes, most_items}
-use Rattle.serde_json.specs.Read.{read}
-use Rattle.span_read.proofs.Utf8.{IsUtf8-cut_text, IsUtf8-closed}
+use Rattle.span_read.specs.declared.error.ReadError.TheVariants.{NotJson, TooMany}
+use Rattle.span_read.specs.Document.{candidates, first_read, elements_of, doc, doc_of_document, doc_of_elements, items_of, most_bytes, most_items}
 use Rattle.span_event.specs.Item.{IsGoodItem}
 use Rattle.span_read.proofs.Good.{All-good_items_of}
 
-pub read_utf8-of_utf8 : (text : List ℕ) → IsUtf8 text → read_utf8 text ≡ read text
-read_utf8-of_utf8 text is = rw (is_utf8-from_IsUtf8 text is)
+pub doc-of_utf8 : (bytes : List ℕ) → length bytes ≤ most_bytes → IsUtf8 bytes → doc bytes ≡ doc_of_document (first_read (candidates bytes))
+doc-of_utf8 bytes small is = let text = is_utf8-from_IsUtf8 bytes is in search (rules, tests)
 
-test_fails : (b : Bool) → (b ≡ true → ⊥) → b ≡ false
-test_fails true not = absurd (not refl)
-test_fails false not = refl
-
-not_read : (text : List ℕ) → (IsUtf8 text → ⊥) → read_utf8 text ≡ None
-not_read text not = rw (test_fails (is_utf8 text) (λ h. not (IsUtf8-from_is_utf8 text h)))
-
-none_cut : (b : Bool) (text : List ℕ) → (IsUtf8 text → ⊥) → first_read (if b then cut_text text ∷ (cut_text text ++ 93 ∷ []) ∷ [] else []) ≡ None
-none_cut true text not =
-    let cut = not_read (cut_text text) (λ h. not (IsUtf8-cut_text text h)) in
-    let closed = not_read (cut_text text ++ 93 ∷ []) (λ h. not (IsUtf8-cut_text text (IsUtf8-closed (cut_text text) h))) in
-    ap₂ (λ c d. option_or c (option_or d None)) cut closed
-none_cut false text not = refl
-
--- where the bytes are no UTF-8, no candidate is
-pub document-of_no_utf8 : (bytes : List ℕ) → (IsUtf8 bytes → ⊥) → document bytes ≡ None
-document-of_no_utf8 bytes not = ap₂ (λ c d. option_or c d) (not_read bytes not) (none_cut (opens_array bytes) bytes not)
-
-pub doc-small : (bytes : List ℕ) → length bytes ≤ most_bytes → doc bytes ≡ doc_of_document (document bytes)
-doc-small bytes small = search (rules, tests)
+pub doc-of_no_utf8 : (bytes : List ℕ) → length bytes ≤ most_bytes → (IsUtf8 bytes → ⊥) → doc bytes ≡ Err NotJson
+doc-of_no_utf8 bytes small not = by (is_utf8 bytes) refl
+  where
+    by : (b : Bool) → is_utf8 bytes ≡ b → doc bytes ≡ Err NotJson
+    by true is = absurd (not (IsUtf8-from_is_utf8 bytes is))
+    by false is = search (rules, tests)
 
 all_good : (b : Bool) (ds : Items) (is : List Item) → (if b then Err TooMany else Ok (items_of ds)) ≡ Ok is → All IsGoodItem is
 all_good true ds is e = cc

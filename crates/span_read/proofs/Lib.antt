@@ -10,4 +10,3 @@ pub mod NameOrder
 pub mod Slots
 pub mod Turns
 pub mod Unclosed
-pub mod Utf8

@@ -43,18 +43,14 @@ cut_text text = without_trailing_blanks (without_trailing_comma (without_trailin
 abbrev pub candidates : List ℕ → List (List ℕ)
 candidates text = text ∷ (if opens_array text then cut_text text ∷ (cut_text text ++ 93 ∷ []) ∷ [] else [])
 
--- the value of a text, which must be UTF-8
-abbrev pub read_utf8 : List ℕ → Option Data
-read_utf8 text = if is_utf8 text then read text else None
-
 -- the value of the first text that reads
 abbrev pub first_read : List (List ℕ) → Option Data
 first_read [] = None
-first_read (text ∷ texts) = option_or (read_utf8 text) (first_read texts)
+first_read (text ∷ texts) = option_or (read text) (first_read texts)
 
--- the value that the bytes are
+-- the value that the bytes are, which must be UTF-8
 abbrev pub document : List ℕ → Option Data
-document bytes = first_read (candidates bytes)
+document bytes = if is_utf8 bytes then first_read (candidates bytes) else None
 
 -- the elements of a trace: the array itself, or the member `traceEvents` of an object
 abbrev pub elements_of : Data → Option Items

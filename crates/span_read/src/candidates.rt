@@ -2,7 +2,7 @@
 ghost use Rattle.std.specs.Prelude.{◌≡◌, ◌≢◌, ◌∷◌, ◌++◌, [], Err, IfOk};
 ghost use Rattle.std.specs.String.{string_bytes};
 ghost use Rattle.serde_json.specs.Read.{read};
-ghost use Rattle.span_read.specs.Document.{is_blank, opens_array, without_trailing_blanks, without_trailing_comma, cut_text, candidates, read_utf8, first_read, doc_of_document};
+ghost use Rattle.span_read.specs.Document.{is_blank, opens_array, without_trailing_blanks, without_trailing_comma, cut_text, candidates, first_read, doc_of_document};
 ghost use Rattle.span_read.specs.declared.error.ReadError.TheVariants.{Memory};
 ghost use Rattle.span_read.specs.Ending.{closes_array};
 
@@ -45,7 +45,7 @@ fn read_unfinished(alloc: Global, text: &str) -> Result<Items, ReadError>
 
 /// An array whose closing bracket is missing isn't read to its end to find that out.
 fn read_closed(alloc: Global, text: &str) -> Result<Items, ReadError>
-    ensures { result ≢ Err Memory → result ≡ doc_of_document (read_utf8 text.now) }
+    ensures { result ≢ Err Memory → result ≡ doc_of_document (read text.now) }
 {
     if opens_array(text) && !closes_array(text) {
         Err(ReadError::NotJson)

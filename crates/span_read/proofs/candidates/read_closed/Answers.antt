@@ -1,7 +1,6 @@
-use Rattle.std.proofs.Common.{◌≡◌, true, false, sym, ap, ◌∙◌, rules}
+use Rattle.std.proofs.Common.{◌≡◌, true, false, sym, ap, rules}
 use Rattle.span_read.specs.Document.{opens_array, doc_of_document}
 use Rattle.span_read.specs.Ending.{closes_array}
-use Rattle.span_read.proofs.Documents.{read_utf8-of_utf8}
 use Rattle.span_read.proofs.Unclosed.{read-unclosed}
 use Rattle.span_read.proofs.candidates.read_closed.Goals as goal
 
@@ -10,7 +9,4 @@ returns-then-not-closes_array c = λ other.
     let text = c.args.text.now in
     let opens : opens_array text ≡ true = search rules in
     let unclosed : closes_array text ≡ false = search rules in
-    ap doc_of_document (sym (read_utf8-of_utf8 text c.utf8.text ∙ read-unclosed text opens unclosed))
-
-pub returns-else-opens_array : goal.returns-else-opens_array
-returns-else-opens_array c = λ other. c.read_text.ensures other ∙ ap doc_of_document (sym (read_utf8-of_utf8 c.args.text.now c.utf8.text))
+    ap doc_of_document (sym (read-unclosed text opens unclosed))
