@@ -14,15 +14,16 @@ use Rattle.span_event.specs.declared.event.Phase.TheVariants.{SpanBegin, SpanEnd
 use Rattle.span_event.specs.declared.event.IdKey.{IdKey}
 use Rattle.span_event.specs.declared.item.Field.TheVariants.{Id}
 use Rattle.span_event.specs.declared.item.Item.{Item}
+use Rattle.span_event.specs.declared.item.Item.TheVariants.{Good, Bad}
 use Rattle.span_event.specs.declared.item.ItemFault.{ItemFault}
 use Rattle.span_event.specs.declared.item.ItemFault.TheVariants.{NotWhole, BadField, NoId, BadReach, BadSeries}
-use Rattle.span_event.specs.Event.{IsTime, IsKnownAt, IsGood, IsGoodAt, greatest_time}
+use Rattle.span_event.specs.Event.{IsTime, IsKnownAt, IsGood, IsGoodAt, least_time, greatest_time}
 use Rattle.span_event.specs.Item.{IsGoodItem}
 use Rattle.span_read.specs.Phase.{reads_time, reads_duration, reads_id, needs_id, reads_reach, wants_whole_args, phase_of}
 use Rattle.span_read.specs.declared.fields.Fields.{Fields}
-use Rattle.span_read.specs.Fields.{fields_of, whole, words, pairs, is_time, is_duration, whole_or_zero, duration_or_zero, id_text, parts_key, key_of, reach_of, args_of}
+use Rattle.span_read.specs.Fields.{fields_of, whole, words, pairs, is_time_from, whole_or_zero, duration_or_zero, id_text, parts_key, key_of, reach_of, args_of}
 use Rattle.span_event.specs.Args.{value_of, AllWhole, all_whole}
-use Rattle.span_read.specs.Element.{unless, where_read, time_fault, duration_fault, id_fault, first_fault, faults, fault_of, event_of, item_at, item_of_phase, item_of_letter, item_of_fields, item_of_data}
+use Rattle.span_read.specs.Element.{unless, where_read, time_fault, duration_fault, id_fault, first_fault, faults, fault_of, event_of, item_of_phase, item_of_letter, item_of_fields, item_of_data}
 use Rattle.span_read.specs.Document.{items_of}
 use Rattle.span_event.specs.Time.{natural}
 
@@ -46,7 +47,7 @@ key_record home id = record { home = home; id = id }
 within : (low high z : ℤ) → (int_le low z && int_le z high) ≡ true → (low ≤ℤ z) × (z ≤ℤ high)
 within low high z h = (grind (arith, ints), grind (arith, ints))
 
-time_of_number : (o : Option ℤ) → is_time o ≡ true → IsTime (unwrap_or o (pos 0))
+time_of_number : (o : Option ℤ) → is_time_from least_time o ≡ true → IsTime (unwrap_or o (pos 0))
 time_of_number None right = cc
 time_of_number (Some z) right = within _ _ z right
 
@@ -63,7 +64,7 @@ natural-within : (z : ℤ) → z ≤ℤ pos greatest_time → natural z ≤ grea
 natural-within (pos n) below = omega (arith, ints)
 natural-within (negsuc n) below = omega arith
 
-duration_of_number : (o : Option ℤ) → is_duration o ≡ true → natural (unwrap_or o (pos 0)) ≤ greatest_time
+duration_of_number : (o : Option ℤ) → is_time_from (pos 0) o ≡ true → natural (unwrap_or o (pos 0)) ≤ greatest_time
 duration_of_number None right = cc
 duration_of_number (Some z) right = natural-within z (within (pos 0) (pos greatest_time) z right).1
 
@@ -82,12 +83,14 @@ is_some-parts_key pid None (Some l) = same_home (Some pid) (Some (pos 0)) (id_te
 is_some-parts_key pid None None = refl
 
 pub is_some-key_of : (pid : ℤ) (id id2 : Option FieldValue) → is_some (key_of pid id id2) ≡ is_some (key_of (pos 0) id id2)
-is_some-key_of pid (Some v) id2 = refl
+is_some-key_of pid (Some (Plain v)) id2 = refl
+is_some-key_of pid (Some (Pairs ps)) id2 = refl
 is_some-key_of pid None (Some v) = is_some-parts_key pid (value_of (codes "global") (pairs v)) (value_of (codes "local") (pairs v))
 is_some-key_of pid None None = refl
 
 key_at_zero : (id id2 : Option FieldValue) → id_fault id id2 ≡ None → unless (is_some id || is_some id2) NoId ≡ None → is_some (key_of (pos 0) id id2) ≡ true
-key_at_zero (Some v) id2 right there = holds _ (BadField Id) right
+key_at_zero (Some (Plain v)) id2 right there = holds _ (BadField Id) right
+key_at_zero (Some (Pairs ps)) id2 right there = holds _ (BadField Id) right
 key_at_zero None (Some v) right there = holds _ (BadField Id) right
 key_at_zero None None right there = cc
 
@@ -159,7 +162,7 @@ IsGood-event_of phase f none = record { in_time = time_at (reads_time phase) f.t
 
 -- ---- the items
 
-good_item_at : (phase : Phase) (f : Fields) (fault : Option ItemFault) → fault_of phase f ≡ fault → IsGoodItem (item_at phase f fault)
+good_item_at : (phase : Phase) (f : Fields) (fault : Option ItemFault) → fault_of phase f ≡ fault → IsGoodItem (unwrap_or (option_map Bad fault) (Good (event_of phase f)))
 good_item_at phase f None is = IsGood-event_of phase f (no_faults phase f is)
 good_item_at phase f (Some fault) is = tt
 

@@ -1,5 +1,5 @@
 -- What one element of a trace is: a good event, its first fault, or an event of a phase that is not used.
-use Rattle.std.specs.Prelude.{ℕ, pos, List, [], ◌∷◌, ◌||◌, Bool, true, false, Option, Some, None, is_some, option_and_then, if◌then◌else◌}
+use Rattle.std.specs.Prelude.{ℕ, pos, List, [], ◌∷◌, ◌||◌, Bool, true, false, Option, Some, None, is_some, option_map, option_and_then, unwrap_or, if◌then◌else◌}
 use Rattle.std.specs.Option.{option_or}
 use Rattle.serde_json.specs.Data.{Data, object}
 use Rattle.span_event.specs.declared.event.Event.{Event}
@@ -13,8 +13,9 @@ use Rattle.span_event.specs.declared.item.ItemFault.{ItemFault}
 use Rattle.span_event.specs.declared.item.ItemFault.TheVariants.{NotObject, NoPhase, NoTime, NotWhole, NoDuration, BadField, NoId, BadReach, BadSeries}
 use Rattle.span_read.specs.Phase.{phase_of, reads_time, reads_duration, needs_id, reads_id, reads_scope, reads_reach, wants_whole_args}
 use Rattle.span_read.specs.declared.fields.Fields.{Fields}
-use Rattle.span_read.specs.Fields.{fields_of, whole, words, is_time, is_duration, whole_or_zero, text_or_empty, duration_or_zero, key_of, reach_of, args_of}
+use Rattle.span_read.specs.Fields.{fields_of, whole, words, is_time_from, whole_or_zero, text_or_empty, duration_or_zero, key_of, reach_of, args_of}
 use Rattle.span_event.specs.Args.{all_whole}
+use Rattle.span_event.specs.Event.{least_time}
 
 -- the fault where the test fails
 abbrev pub unless : Bool → ItemFault → Option ItemFault
@@ -28,11 +29,11 @@ where_read false fault = None
 
 abbrev pub time_fault : Option FieldValue → Option ItemFault
 time_fault None = Some NoTime
-time_fault (Some v) = unless (is_time (whole v)) NotWhole
+time_fault (Some v) = unless (is_time_from least_time (whole v)) NotWhole
 
 abbrev pub duration_fault : Option FieldValue → Option ItemFault
 duration_fault None = Some NoDuration
-duration_fault (Some v) = unless (is_duration (whole v)) NotWhole
+duration_fault (Some v) = unless (is_time_from (pos 0) (whole v)) NotWhole
 
 -- a missing `pid` or `tid` is 0
 abbrev pub whole_fault : Field → Option FieldValue → Option ItemFault
@@ -90,16 +91,12 @@ event_of phase f = record {
   args = args_of f.args;
 }
 
--- the item of an event's fields at a phase
-abbrev pub item_at : Phase → Fields → Option ItemFault → Item
-item_at phase f None = Good (event_of phase f)
-item_at phase f (Some fault) = Bad fault
-
--- the item of an object whose `ph` is that text, if it is one
+-- the item of an event's fields at their phase, if that is one that is used
 abbrev pub item_of_phase : Fields → Option Phase → Item
 item_of_phase f None = Other
-item_of_phase f (Some phase) = item_at phase f (fault_of phase f)
+item_of_phase f (Some phase) = unwrap_or (option_map Bad (fault_of phase f)) (Good (event_of phase f))
 
+-- the item of an object whose `ph` is that text, if it is one
 abbrev pub item_of_letter : Fields → Option (List ℕ) → Item
 item_of_letter f None = Bad NoPhase
 item_of_letter f (Some letter) = item_of_phase f (phase_of letter)

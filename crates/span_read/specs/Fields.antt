@@ -15,7 +15,7 @@ use Rattle.span_read.specs.declared.fields.Fields.{Fields}
 use Rattle.span_read.specs.declared.fields.FieldValue.{FieldValue}
 use Rattle.span_read.specs.declared.fields.FieldValue.TheVariants.{Plain, Pairs}
 use Rattle.span_event.specs.Args.{Arguments, as_text, as_whole, value_of}
-use Rattle.span_event.specs.Event.{least_time, greatest_time}
+use Rattle.span_event.specs.Event.{greatest_time}
 use Rattle.span_event.specs.Text.{Bytes, same_text}
 use Rattle.span_event.specs.Time.{natural}
 
@@ -80,15 +80,10 @@ text_or_empty f = unwrap_or (option_and_then words f) []
 abbrev pub duration_or_zero : Option FieldValue → ℕ
 duration_or_zero f = natural (whole_or_zero f)
 
--- a whole number within the range of times
-abbrev pub is_time : Option ℤ → Bool
-is_time None = false
-is_time (Some z) = int_le least_time z && int_le z (pos greatest_time)
-
--- a whole number within the range of durations
-abbrev pub is_duration : Option ℤ → Bool
-is_duration None = false
-is_duration (Some z) = int_le (pos 0) z && int_le z (pos greatest_time)
+-- a whole number that is this one or more, and not above the greatest time
+abbrev pub is_time_from : ℤ → Option ℤ → Bool
+is_time_from least None = false
+is_time_from least (Some z) = int_le least z && int_le z (pos greatest_time)
 
 -- an id is a text, or a whole number, which is read as its decimal text
 abbrev pub id_text : ArgValue → Option Bytes
@@ -98,20 +93,16 @@ id_text v = option_or (as_text v) (option_map signed_decimal (as_whole v))
 abbrev pub key_with : Option ℤ → ArgValue → Option IdKey
 key_with home v = option_map (λ t. record { home = home; id = t }) (id_text v)
 
--- an object is no id
-abbrev pub key_of_id : FieldValue → Option IdKey
-key_of_id (Plain v) = key_with None v
-key_of_id (Pairs ps) = None
-
 -- `id2` has a member `global`, or else a member `local`, which is known in its process alone
 abbrev pub parts_key : ℤ → Option ArgValue → Option ArgValue → Option IdKey
 parts_key pid (Some global) local = key_with None global
 parts_key pid None (Some local) = key_with (Some pid) local
 parts_key pid None None = None
 
--- the key that `id` gives, or else `id2`
+-- the key that `id` gives, which must be no object, or else `id2`
 abbrev pub key_of : ℤ → Option FieldValue → Option FieldValue → Option IdKey
-key_of pid (Some id) id2 = key_of_id id
+key_of pid (Some (Plain v)) id2 = key_with None v
+key_of pid (Some (Pairs ps)) id2 = None
 key_of pid None (Some id2) = parts_key pid (value_of (codes "global") (pairs id2)) (value_of (codes "local") (pairs id2))
 key_of pid None None = None
 

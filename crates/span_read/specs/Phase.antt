@@ -24,27 +24,24 @@ abbrev pub reads_duration : Phase → Bool
 reads_duration Complete = true
 reads_duration _ = false
 
--- an id is needed at asynchronous and flow events
-abbrev pub needs_id : Phase → Bool
-needs_id AsyncBegin = true
-needs_id AsyncPoint = true
-needs_id AsyncEnd = true
-needs_id FlowStart = true
-needs_id FlowStep = true
-needs_id FlowEnd = true
-needs_id _ = false
-
--- and counters may have one
-abbrev pub reads_id : Phase → Bool
-reads_id Counter = true
-reads_id phase = needs_id phase
-
 -- `scope` is read at asynchronous events
 abbrev pub reads_scope : Phase → Bool
 reads_scope AsyncBegin = true
 reads_scope AsyncPoint = true
 reads_scope AsyncEnd = true
 reads_scope _ = false
+
+-- an id is needed at flow events and at asynchronous ones
+abbrev pub needs_id : Phase → Bool
+needs_id FlowStart = true
+needs_id FlowStep = true
+needs_id FlowEnd = true
+needs_id phase = reads_scope phase
+
+-- and counters may have one
+abbrev pub reads_id : Phase → Bool
+reads_id Counter = true
+reads_id phase = needs_id phase
 
 -- `s` is read at instants
 abbrev pub reads_reach : Phase → Bool
