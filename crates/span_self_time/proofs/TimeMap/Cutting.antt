@@ -8,7 +8,7 @@ use Rattle.span_event.specs.Event.{least_time}
 use Rattle.span_self_time.specs.Closed.{greatest_until}
 use Rattle.span_self_time.specs.Division.{Owners, owner_of, between}
 use Rattle.span_self_time.specs.Division.TimeMap.Stretches.{Starts, IsLast, IsHeld, IsOfPart, IsDivided, IsEnd, IsPut}
-use Rattle.span_self_time.proofs.TimeMap.StretchOwners.{by_eq_z, IsSome-Some, IsSome-None, until-last, last-is}
+use Rattle.span_self_time.proofs.TimeMap.StretchOwners.{by_eq_z, IsSome-Some, IsSome-None, until-last, last-is, IsHeld-same}
 
 -- n has one more start, at t
 pub record IsCut (m n : Starts) (t : ℤ) (p : Part) (k : ℤ) : Type 0 where
@@ -74,18 +74,10 @@ module _ (owners : Owners) (m n : Starts) (t k : ℤ) (p : Part) (are : IsDivide
   held-other : (j : ℤ) (r : Part) → j ≢ k → m j ≡ Some (Some r) → IsHeld owners n j r
   held-other j r differs is =
       let held = are.held j r is in
-      record {
-        start = held.start;
-        belongs = held.belongs;
-        next = record {
-          some = keeps-cut r.segment.until held.next.some;
-          later = held.next.later;
-          none = λ q after before.
-              by_eq_z q k (λ h. absurd (IsSome-None (m q) (held.next.none q after before) (IsSome-Some (m q) _ (ap m h ∙ cut.last.is))))
-              (λ h. by_eq_z q t (λ g. absurd (differs (last-is owners m t k j (Some p) r are cut.last is (omega (arith, ints)) (omega (arith, ints)))))
-              (λ g. cut.others q h g ∙ held.next.none q after before));
-        };
-      }
+      IsHeld-same owners m n j r held (keeps-cut r.segment.until) (λ q after before.
+      by_eq_z q k (λ h. absurd (IsSome-None (m q) (held.next.none q after before) (IsSome-Some (m q) _ (ap m h ∙ cut.last.is))))
+      (λ h. by_eq_z q t (λ g. absurd (differs (last-is owners m t k j (Some p) r are cut.last is (omega (arith, ints)) (omega (arith, ints)))))
+      (λ g. cut.others q h g ∙ held.next.none q after before)))
 
   of_part : (u : ℤ) → IsOfPart m u → IsOfPart n u
   of_part u of =
@@ -125,30 +117,27 @@ module _ (owners : Owners) (m n : Starts) (t k : ℤ) (p : Part) (are : IsDivide
       (λ h g is. inr (record { start = end.start; part = end.part; is = is; until = end.until; owner = end.owner }))
 
 -- a start where there is no part
-module _ (owners : Owners) (m n : Starts) (t : ℤ) (are : IsDivided owners m) (free : owners t ≡ None) (new : m t ≡ None) (put : IsPut m t (Some None) n) where
+pub record IsOpened (m n : Starts) (t : ℤ) : Type 0 where
+  pub new : m t ≡ None
+  pub free : (owners : Owners) → IsDivided owners m → owners t ≡ None
+  pub put : IsPut m t (Some None) n
+
+module _ (owners : Owners) (m n : Starts) (t : ℤ) (are : IsDivided owners m) (opened : IsOpened m n t) where
   pub keeps-free : (q : ℤ) → IsSome (m q) → IsSome (n q)
   keeps-free q some =
-      by_eq_z q t (λ g. IsSome-Some (n q) _ (ap n g ∙ put.here)) (λ g. subst IsSome (sym (put.others q g)) some)
+      by_eq_z q t (λ g. IsSome-Some (n q) _ (ap n g ∙ opened.put.here)) (λ g. subst IsSome (sym (opened.put.others q g)) some)
 
   from_m : (j : ℤ) (r : Part) → n j ≡ Some (Some r) → m j ≡ Some (Some r)
   from_m j r is =
-      by_eq_z j t (λ g. let none : None ≡ Some r = same_Some _ _ (sym put.here ∙ ap n (sym g) ∙ is) in absurd cc) (λ g. sym (put.others j g) ∙ is)
+      by_eq_z j t (λ g. let none : None ≡ Some r = same_Some _ _ (sym opened.put.here ∙ ap n (sym g) ∙ is) in absurd cc) (λ g. sym (opened.put.others j g) ∙ is)
 
   held-free : (j : ℤ) (r : Part) → m j ≡ Some (Some r) → IsHeld owners n j r
   held-free j r is =
       let held = are.held j r is in
-      record {
-        start = held.start;
-        belongs = held.belongs;
-        next = record {
-          some = keeps-free r.segment.until held.next.some;
-          later = held.next.later;
-          none = λ q after before.
-              by_eq_z q t
-              (λ g. let owned : None ≡ Some (owner_of r) = sym free ∙ ap owners (sym g) ∙ held.belongs q (omega (arith, ints)) before in absurd cc)
-              (λ g. put.others q g ∙ held.next.none q after before);
-        };
-      }
+      IsHeld-same owners m n j r held (keeps-free r.segment.until) (λ q after before.
+      by_eq_z q t
+      (λ g. let owned : None ≡ Some (owner_of r) = sym (opened.free owners are) ∙ ap owners (sym g) ∙ held.belongs q (omega (arith, ints)) before in absurd cc)
+      (λ g. opened.put.others q g ∙ held.next.none q after before))
 
   pub IsDivided-free : least_time ≤ℤ t → t ≤ℤ greatest_until → IsDivided owners n
   IsDivided-free least greatest = record {
@@ -158,13 +147,13 @@ module _ (owners : Owners) (m n : Starts) (t : ℤ) (are : IsDivided owners m) (
         record {
           start = of.start;
           part = of.part;
-          is = put.others of.start (λ g. IsSome-None (m of.start) (ap m g ∙ new) (IsSome-Some (m of.start) _ of.is)) ∙ of.is;
+          is = opened.put.others of.start (λ g. IsSome-None (m of.start) (ap m g ∙ opened.new) (IsSome-Some (m of.start) _ of.is)) ∙ of.is;
           from = of.from;
           before = of.before;
         };
     in_time = λ q some.
         by_eq_z q t (λ g. (subst (λ x. least_time ≤ℤ x) (sym g) least, subst (λ x. x ≤ℤ greatest_until) (sym g) greatest))
-        (λ g. are.in_time q (subst IsSome (put.others q g) some));
+        (λ g. are.in_time q (subst IsSome (opened.put.others q g) some));
   }
 
   pub IsEnd-free : (u : ℤ) (o : Span ℕ) → IsEnd n u o → IsEnd m u o

@@ -6,7 +6,7 @@ use Rattle.span_self_time.specs.declared.segment.Part.{Part}
 use Rattle.span_self_time.specs.Spans.{Span}
 use Rattle.span_self_time.specs.Division.{Owners, owner_of, between}
 use Rattle.span_self_time.specs.Division.TimeMap.Stretches.{Starts, IsLast, IsHeld, IsOfPart, IsDivided, IsEnd, IsPut}
-use Rattle.span_self_time.proofs.TimeMap.StretchOwners.{by_eq_z, IsSome-Some, IsSome-None, until-last, last-is, apart}
+use Rattle.span_self_time.proofs.TimeMap.StretchOwners.{by_eq_z, IsSome-Some, IsSome-None, until-last, last-is, apart, IsHeld-same}
 
 -- where no part starts at t, the owner of a part that ends there doesn't go on
 pub apart-free : (owners : Owners) (m : Starts) (t : ℤ) (o : Span ℕ) → IsDivided owners m → ((p : Part) → m t ≢ Some (Some p)) → IsEnd m t o → owners t ≢ Some o
@@ -105,17 +105,11 @@ module _ (owners : Owners) (m n : Starts) (t k : ℤ) (p later : Part) (are : Is
   held-other : (j : ℤ) (r : Part) → j ≢ k → j ≢ t → m j ≡ Some (Some r) → IsHeld owners n j r
   held-other j r differs away is =
       let held = are.held j r is in
-      record {
-        start = held.start;
-        belongs = held.belongs;
-        next = record {
-          some = keeps-joined m n t k p later join r.segment.until (λ ends. differs (start-last owners m t k (Some p) j r are join.last is ends)) held.next.some;
-          later = held.next.later;
-          none = λ q after before.
-              by_eq_z q k (λ h. absurd (IsSome-None (m q) (held.next.none q after before) (IsSome-Some (m q) _ (ap m h ∙ join.last.is))))
-              (λ h. by_eq_z q t (λ g. ap n g ∙ join.gone) (λ g. join.others q h g ∙ held.next.none q after before));
-        };
-      }
+      IsHeld-same owners m n j r held
+      (keeps-joined m n t k p later join r.segment.until (λ ends. differs (start-last owners m t k (Some p) j r are join.last is ends)))
+      (λ q after before.
+      by_eq_z q k (λ h. absurd (IsSome-None (m q) (held.next.none q after before) (IsSome-Some (m q) _ (ap m h ∙ join.last.is))))
+      (λ h. by_eq_z q t (λ g. ap n g ∙ join.gone) (λ g. join.others q h g ∙ held.next.none q after before)))
 
   of_part : (u : ℤ) → IsOfPart m u → IsOfPart n u
   of_part u of =

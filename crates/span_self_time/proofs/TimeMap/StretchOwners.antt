@@ -6,7 +6,7 @@ use Rattle.std.proofs.lemmas.Option.{same_Some}
 use Rattle.span_self_time.specs.declared.segment.Part.{Part}
 use Rattle.span_self_time.specs.Spans.{Span}
 use Rattle.span_self_time.specs.Division.{Owners, owner_of, Belong}
-use Rattle.span_self_time.specs.Division.TimeMap.Stretches.{Starts, IsLast, IsNext, IsOfPart, IsDivided}
+use Rattle.span_self_time.specs.Division.TimeMap.Stretches.{Starts, IsLast, IsNext, IsHeld, IsOfPart, IsDivided}
 
 pub by_eq_z : {P : Type 0} (a b : ℤ) → (a ≡ b → P) → (a ≢ b → P) → P
 by_eq_z a b same differs =
@@ -94,3 +94,11 @@ owner-stays owners m t are none = by_owner (owners t) refl
         (λ g.
         let first : of.start <ℤ t = by_lt_z of.start t (λ k. k) (λ k. absurd (g (omega (arith, ints, of.from)))) in
         held.belongs (t -ℤ pos 1) (omega (arith, ints)) (omega (arith, ints, of.before)) ∙ sym (held.belongs t of.from of.before))
+
+-- a part stays where nothing new starts in it, and its end stays a start
+pub IsHeld-same : (owners : Owners) (m n : Starts) (k : ℤ) (p : Part) → IsHeld owners m k p → (IsSome (m p.segment.until) → IsSome (n p.segment.until)) → ((q : ℤ) → k <ℤ q → q <ℤ p.segment.until → n q ≡ None) → IsHeld owners n k p
+IsHeld-same owners m n k p held keeps none = record {
+  start = held.start;
+  belongs = held.belongs;
+  next = record { some = keeps held.next.some; later = held.next.later; none = none };
+}

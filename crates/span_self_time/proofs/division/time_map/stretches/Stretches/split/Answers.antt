@@ -4,39 +4,43 @@ use Rattle.std.proofs.lemmas.Int.{ints, by_lt_z}
 use Rattle.span_self_time.specs.Division.TimeMap.Stretches.{at, IsLast, IsPut}
 use Rattle.span_self_time.specs.Division.{between}
 use Rattle.span_self_time.proofs.TimeMap.StretchOwners.{owner-last, owner-before}
-use Rattle.span_self_time.proofs.TimeMap.Cutting.{IsCut, IsCut-put, keeps-cut, IsDivided-cut, IsEnd-cut, IsDivided-free, IsEnd-free}
+use Rattle.span_self_time.proofs.TimeMap.Cutting.{IsCut, IsCut-put, keeps-cut, IsDivided-cut, IsEnd-cut, IsOpened, IsDivided-free, IsEnd-free}
 use Rattle.span_self_time.proofs.division.time_map.stretches.Stretches.split.Goals as goal
 
 pub returns-in_default-clause-divided : goal.returns-in_default-clause-divided
 returns-in_default-clause-divided c =
     let m = at c.args.self.now in
     let t = c.args.time in
+    let n = at c.put.new.self in
     let time : to_z w64 (of_z w64 t) ≡ t = search rules in
     let none : (q : ℤ) → q ≤ℤ t → m q ≡ None = subst (λ t. (q : ℤ) → q ≤ℤ t → m q ≡ None) time c.in_default.ensures in
-    let put : IsPut m t (Some None) (at c.put.new.self) = subst (λ t. IsPut m t (Some None) (at c.put.new.self)) time c.in_ok-put.ensures.ok in
-    λ owners are. IsDivided-free owners m (at c.put.new.self) t are (owner-before owners m t are none) (none t (omega (arith, ints))) put c.requires.from_in_time c.requires.to_in_time
+    let opened : IsOpened m n t = record {
+      new = none t (omega (arith, ints));
+      free = λ owners are. owner-before owners m t are none;
+      put = subst (λ t. IsPut m t (Some None) n) time c.in_ok-put.ensures.ok;
+    } in
+    λ owners are. IsDivided-free owners m n t are opened c.requires.from_in_time c.requires.to_in_time
+
+-- after the last part
+opened : (c : goal.In_ok-put-2) → IsOpened (at c.args.self.now) (at c.put-in_default-held.new.self) c.args.time
+opened c =
+    let m = at c.args.self.now in
+    let t = c.args.time in
+    let k = c.in-Some.start in
+    let time : to_z w64 (of_z w64 t) ≡ t = search rules in
+    let last : IsLast m t k None = subst (λ v. IsLast m t k v) c.in_default-held.is (subst (λ t. IsLast m t k c.in-Some.held) time c.in-Some.ensures) in
+    let later : k <ℤ t = by_lt_z k t (λ h. h) (λ h. let same : k ≡ t = omega (arith, ints, last.first) in absurd (c.if-start-time.false (ap (of_z w64) same))) in
+    record {
+      new = last.none t later (omega (arith, ints));
+      free = λ owners are. owner-last owners m t k None are last;
+      put = subst (λ t. IsPut m t (Some None) (at c.put-in_default-held.new.self)) time c.in_ok-put-2.ensures.ok;
+    }
 
 pub returns-in_default-held-clause-divided : goal.returns-in_default-held-clause-divided
-returns-in_default-held-clause-divided c =
-    let m = at c.args.self.now in
-    let t = c.args.time in
-    let k = c.in-Some.start in
-    let time : to_z w64 (of_z w64 t) ≡ t = search rules in
-    let last : IsLast m t k None = subst (λ v. IsLast m t k v) c.in_default-held.is (subst (λ t. IsLast m t k c.in-Some.held) time c.in-Some.ensures) in
-    let put : IsPut m t (Some None) (at c.put-in_default-held.new.self) = subst (λ t. IsPut m t (Some None) (at c.put-in_default-held.new.self)) time c.in_ok-put-2.ensures.ok in
-    let later : k <ℤ t = by_lt_z k t (λ h. h) (λ h. let same : k ≡ t = omega (arith, ints, last.first) in absurd (c.if-start-time.false (ap (of_z w64) same))) in
-    λ owners are. IsDivided-free owners m (at c.put-in_default-held.new.self) t are (owner-last owners m t k None are last) (last.none t later (omega (arith, ints))) put c.requires.from_in_time c.requires.to_in_time
+returns-in_default-held-clause-divided c = λ owners are. IsDivided-free owners _ _ _ are (opened c) c.requires.from_in_time c.requires.to_in_time
 
 pub returns-in_default-held-clause-ends : goal.returns-in_default-held-clause-ends
-returns-in_default-held-clause-ends c =
-    let m = at c.args.self.now in
-    let t = c.args.time in
-    let k = c.in-Some.start in
-    let time : to_z w64 (of_z w64 t) ≡ t = search rules in
-    let last : IsLast m t k None = subst (λ v. IsLast m t k v) c.in_default-held.is (subst (λ t. IsLast m t k c.in-Some.held) time c.in-Some.ensures) in
-    let put : IsPut m t (Some None) (at c.put-in_default-held.new.self) = subst (λ t. IsPut m t (Some None) (at c.put-in_default-held.new.self)) time c.in_ok-put-2.ensures.ok in
-    let later : k <ℤ t = by_lt_z k t (λ h. h) (λ h. let same : k ≡ t = omega (arith, ints, last.first) in absurd (c.if-start-time.false (ap (of_z w64) same))) in
-    λ owners u o are end. inr (IsEnd-free owners m (at c.put-in_default-held.new.self) t are (owner-last owners m t k None are last) (last.none t later (omega (arith, ints))) put u o end)
+returns-in_default-held-clause-ends c = λ owners u o are end. inr (IsEnd-free owners _ _ _ are (opened c) u o end)
 
 pub write-requires : goal.write-requires
 write-requires c =
