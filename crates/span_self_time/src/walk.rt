@@ -1,11 +1,22 @@
 //! Self and busy times of a list of spans, found by walking from each start or end to the next. Takes no memory.
 ghost use Rattle.std.specs.Prelude.{◌≡◌, ◌⊎◌, ℤ, ◌≤ℤ◌, ◌<ℤ◌, nat_eq, map, All};
-ghost use Rattle.span_self_time.specs.Spans.{covers, outranks, is_outranked, is_covered, earliest, latest, self_time, busy_time, self_of};
-ghost use Rattle.span_self_time.specs.Closed.{span_of, IsInTime, AreClosed};
-ghost use Rattle.span_self_time.specs.Walk.{IsUnbroken};
+ghost use Rattle.span_event.specs.Event.{least_time};
+ghost use Rattle.span_event.specs.Time.{distance};
+ghost use Rattle.span_self_time.specs.Spans.{covers, outranks, is_outranked, is_covered, count_from, earliest, latest, self_time, busy_time, self_of};
+ghost use Rattle.span_self_time.specs.Closed.{span_of, greatest_until, IsInTime, AreClosed};
+ghost use Rattle.span_self_time.specs.Walk.{IsUnbroken, counts};
 
 use crate::segment::Part;
 use crate::span::{ClosedSpan, distance};
+
+/// Which microseconds a walk counts.
+#[derive(Clone, Copy)]
+enum Counted<'a> {
+    /// Those that no span above this one covers.
+    OwnOf(&'a ClosedSpan),
+    /// Those that any span covers.
+    Covered,
+}
 
 fn covers(span: &ClosedSpan, u: i64) -> bool
     ensures { result ≡ covers (span_of span.now) u }
@@ -65,44 +76,55 @@ fn next_boundary(spans: &[ClosedSpan], u: i64, end: i64) -> i64
     next
 }
 
+fn counts(spans: &[ClosedSpan], counted: Counted<'_>, u: i64) -> bool
+    ensures { result ≡ counts (map span_of spans.now) counted.entry u }
+{
+    match counted {
+        Counted::OwnOf(span) => !is_outranked(spans, span, u),
+        Counted::Covered => is_covered(spans, u),
+    }
+}
+
+// How many microseconds count from one time to before another.
+fn time_counted(spans: &[ClosedSpan], counted: Counted<'_>, from: i64, until: i64) -> u64
+    requires forward { from ≤ℤ until }
+    requires from_in_time { least_time ≤ℤ from }
+    requires to_in_time { until ≤ℤ greatest_until }
+    ensures { result ≡ count_from from (distance from until) (counts (map span_of spans.now) counted.entry) }
+{
+    let mut time = 0;
+    let mut u = from;
+    while u < until {
+        let next = next_boundary(spans, u, until);
+        if counts(spans, counted, u) {
+            time += distance(u, next);
+        }
+        u = next;
+    }
+    time
+}
+
 // The microseconds of the span that no span above it covers.
 fn self_time(spans: &[ClosedSpan], span: &ClosedSpan) -> u64
     requires lasts { span.now.start ≤ℤ span.now.until }
     requires in_time { IsInTime (span_of span.now) }
     ensures { result ≡ self_time (map span_of spans.now) (span_of span.now) }
 {
-    let mut own = 0;
-    let mut u = span.start;
-    while u < span.until {
-        let next = next_boundary(spans, u, span.until);
-        if !is_outranked(spans, span, u) {
-            own += distance(u, next);
-        }
-        u = next;
-    }
-    own
+    time_counted(spans, Counted::OwnOf(span), span.start, span.until)
 }
 
-// The time from which on all spans lie, or 0 where they start later.
-fn earliest(spans: &[ClosedSpan]) -> i64
-    ensures { result ≡ earliest (map span_of spans.now) }
+// The time from which on all spans lie, or 0 where they start later, and that before which all end, or 0 where they end sooner.
+fn bounds(spans: &[ClosedSpan]) -> (i64, i64)
+    ensures from { result.0 ≡ earliest (map span_of spans.now) }
+    ensures until { result.1 ≡ latest (map span_of spans.now) }
 {
-    let mut earliest = 0;
+    let mut earliest = 0i64;
+    let mut latest = 0i64;
     for span in spans {
         earliest = earliest.min(span.start);
-    }
-    earliest
-}
-
-// The time before which all spans end, or 0 where they end sooner.
-fn latest(spans: &[ClosedSpan]) -> i64
-    ensures { result ≡ latest (map span_of spans.now) }
-{
-    let mut latest = 0;
-    for span in spans {
         latest = latest.max(span.until);
     }
-    latest
+    (earliest, latest)
 }
 
 /// The busy time, in microseconds, found by walking through the time from the first span to the last.
@@ -110,17 +132,8 @@ pub fn busy_time(spans: &[ClosedSpan]) -> u64
     requires { AreClosed (map span_of spans.now) }
     ensures { result ≡ busy_time (map span_of spans.now) }
 {
-    let end = latest(spans);
-    let mut busy = 0;
-    let mut u = earliest(spans);
-    while u < end {
-        let next = next_boundary(spans, u, end);
-        if is_covered(spans, u) {
-            busy += distance(u, next);
-        }
-        u = next;
-    }
-    busy
+    let (from, until) = bounds(spans);
+    time_counted(spans, Counted::Covered, from, until)
 }
 
 /// The self times of the spans of one name, in microseconds, found by walking through each of these spans.
