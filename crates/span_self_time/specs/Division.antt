@@ -11,7 +11,7 @@ use Rattle.span_self_time.specs.declared.span.ClosedSpan.{ClosedSpan}
 use Rattle.span_event.specs.Time.{distance}
 use Rattle.span_self_time.specs.Spans.{Span, covers, outranks}
 use Rattle.span_event.specs.Event.{least_time}
-use Rattle.span_self_time.specs.Closed.{greatest_until}
+use Rattle.span_self_time.specs.Closed.{greatest_until, IsInTime}
 
 -- the one part of a span that has all of its time
 abbrev pub whole : ClosedSpan → Part
@@ -83,6 +83,20 @@ pub record AreSettled (owners : Owners) : Type 0 where
 pub record ForSome (P : Owners → Type 0) : Type 0 where
   pub owners : Owners
   pub holds : P owners
+
+-- a new span may take its own from the owners of whom `Is` tells what is kept
+pub record CanAdd {T : Type 0} (Is : Owners → T → Type 0) (s : Span ℕ) (kept : T) : Type 0 where
+  pub is : ForSome (λ owners. Is owners kept × IsNew s owners × AreSettled owners)
+  pub forward : s.start ≤ℤ s.until
+  pub in_time : IsInTime s
+
+-- the span took its own from them
+abbrev pub Adds : {T : Type 0} → (Owners → T → Type 0) → Span ℕ → T → T → Type 0
+Adds Is s old new = (owners : Owners) → Is owners old → IsNew s owners → AreSettled owners → Is (taken s owners) new
+
+-- the owners are the same
+abbrev pub KeepsOwners : {T : Type 0} → (Owners → T → Type 0) → T → T → Type 0
+KeepsOwners Is old new = (owners : Owners) → Is owners old → Is owners new
 
 -- the same span's part from a to before b
 abbrev pub between : Part → ℤ → ℤ → Part

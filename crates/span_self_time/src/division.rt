@@ -1,9 +1,8 @@
 //! The division of a thread's time, kept in the way that suits the order in which its spans come.
 ghost use Rattle.std.specs.Prelude.{◌≡◌, ◌≤◌, ℕ, ◌≤ℤ◌, nat_eq, List, [], length, map, slice_get, option_copied, OnOk, OnErr, IfOk};
 ghost use Rattle.span_self_time.specs.Spans.{Span, self_of, busy_time};
-ghost use Rattle.span_event.specs.Event.{least_time};
-ghost use Rattle.span_self_time.specs.Closed.{greatest_until, span_of, AreClosed};
-ghost use Rattle.span_self_time.specs.Division.{Owners, owner_of, owners_of, taken, IsNew, ForSome, HasParts, AreSettled};
+ghost use Rattle.span_self_time.specs.Closed.{span_of, AreClosed};
+ghost use Rattle.span_self_time.specs.Division.{Owners, owner_of, owners_of, HasParts, CanAdd, Adds, KeepsOwners};
 ghost use Rattle.span_self_time.specs.Division.TimeMap.{IsTimeMap};
 ghost use Rattle.span_self_time.specs.Division.Ways.{IsDivision};
 
@@ -78,15 +77,9 @@ impl Division {
     /// The span takes the microseconds that it covers from no one and from the spans that it outranks. Where memory is refused,
     /// no reader sees a change.
     pub(crate) fn add(&mut self, span: &Part) -> Result<(), AllocError>
-        requires is { ForSome (λ owners. IsDivision owners self.old
-            × IsNew (owner_of span.now) owners × AreSettled owners) }
-        requires forward { span.now.span_start ≤ℤ span.now.span_until }
-        requires from_in_time { least_time ≤ℤ span.now.span_start }
-        requires to_in_time { span.now.span_until ≤ℤ greatest_until }
-        ensures ok { OnOk result ((owners : Owners) → IsDivision owners self.old
-            → IsNew (owner_of span.now) owners → AreSettled owners
-            → IsDivision (taken (owner_of span.now) owners) self.new) }
-        ensures err { OnErr result ((owners : Owners) → IsDivision owners self.old → IsDivision owners self.new) }
+        requires { CanAdd IsDivision (owner_of span.now) self.old }
+        ensures ok { OnOk result (Adds IsDivision (owner_of span.now) self.old self.new) }
+        ensures err { OnErr result (KeepsOwners IsDivision self.old self.new) }
     {
         match self {
             Division::Stacked(stacks) => stacks.add(span),

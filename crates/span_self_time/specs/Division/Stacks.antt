@@ -68,6 +68,12 @@ pub record AreStacks (owners : Owners) (t : Stacks) : Type 0 where
   pub parts : AreParts owners (parts_of t.past.items t.future.items)
   pub sums : AreSums t.own t.busy (parts_of t.past.items t.future.items)
 
+-- the same parts and times, if perhaps with another cursor
+pub record IsMoved (old new : Stacks) : Type 0 where
+  pub parts : parts_of new.past.items new.future.items ≡ parts_of old.past.items old.future.items
+  pub own : new.own ≡ old.own
+  pub busy : new.busy ≡ old.busy
+
 -- the cursor stands right before the span, or before a part that the span starts in
 pub record IsAtStart (s : Span ℕ) (past future : List Part) (owners : Owners) : Type 0 where
   pub new : IsNew s owners

@@ -5,8 +5,8 @@ ghost use Rattle.span_event.specs.Time.{distance};
 ghost use Rattle.span_self_time.specs.Spans.{outranks};
 ghost use Rattle.span_event.specs.Event.{least_time};
 ghost use Rattle.span_self_time.specs.Closed.{greatest_until};
-ghost use Rattle.span_self_time.specs.Division.{Owners, owner_of, taken, Belong, own_in, IsNew, ForSome};
-ghost use Rattle.span_self_time.specs.Division.Stacks.{ArePast, IsOnly, parts_of, piece, ends_by, lasts_beyond, starts_before, AreStacks, IsEntering, IsTaking, IsAhead, IsPassing, IsTakenBack, IsGained};
+ghost use Rattle.span_self_time.specs.Division.{Owners, owner_of, taken, Belong, own_in, ForSome, CanAdd, Adds, KeepsOwners};
+ghost use Rattle.span_self_time.specs.Division.Stacks.{ArePast, IsOnly, parts_of, piece, ends_by, lasts_beyond, starts_before, AreStacks, IsMoved, IsEntering, IsTaking, IsAhead, IsPassing, IsTakenBack, IsGained};
 
 use super::own_times::{gain_own, keep_name, lose_own, own_in};
 use crate::segment::{Part, Segment};
@@ -78,13 +78,9 @@ impl Stacks {
     /// The span takes the microseconds that it covers from no one and from the spans that it outranks. Where memory is refused,
     /// only the cursor may have moved, which no reader sees.
     pub(crate) fn add(&mut self, span: &Part) -> Result<(), AllocError>
-        requires is { ForSome (λ owners. AreStacks owners self.old × IsNew (owner_of span.now) owners) }
-        requires forward { span.now.span_start ≤ℤ span.now.span_until }
-        requires from_in_time { least_time ≤ℤ span.now.span_start }
-        requires to_in_time { span.now.span_until ≤ℤ greatest_until }
-        ensures ok { OnOk result ((owners : Owners) → AreStacks owners self.old → IsNew (owner_of span.now) owners
-            → AreStacks (taken (owner_of span.now) owners) self.new) }
-        ensures err { OnErr result ((owners : Owners) → AreStacks owners self.old → AreStacks owners self.new) }
+        requires { CanAdd AreStacks (owner_of span.now) self.old }
+        ensures ok { OnOk result (Adds AreStacks (owner_of span.now) self.old self.new) }
+        ensures err { OnErr result (KeepsOwners AreStacks self.old self.new) }
     {
         if span.span_start == span.span_until {
             return Ok(());
@@ -109,10 +105,7 @@ impl Stacks {
 
     // Moves the cursor back, behind the parts that end no later than `time`.
     fn rewind(&mut self, time: i64) -> Result<(), AllocError>
-        ensures parts { parts_of self.new.past.items self.new.future.items
-            ≡ parts_of self.old.past.items self.old.future.items }
-        ensures own { self.new.own ≡ self.old.own }
-        ensures busy { self.new.busy ≡ self.old.busy }
+        ensures moved { IsMoved self.old self.new }
         ensures past { OnOk result (lasts_beyond time (reverse self.new.past.items) ≡ false) }
     {
         while lasts_beyond(&self.past, time) {
@@ -127,10 +120,7 @@ impl Stacks {
 
     // Moves the cursor on, behind the parts that end no later than `time`.
     fn advance(&mut self, time: i64) -> Result<(), AllocError>
-        ensures parts { parts_of self.new.past.items self.new.future.items
-            ≡ parts_of self.old.past.items self.old.future.items }
-        ensures own { self.new.own ≡ self.old.own }
-        ensures busy { self.new.busy ≡ self.old.busy }
+        ensures moved { IsMoved self.old self.new }
         ensures past { lasts_beyond time (reverse self.old.past.items) ≡ false
             → lasts_beyond time (reverse self.new.past.items) ≡ false }
         ensures future { OnOk result (ends_by time (reverse self.new.future.items) ≡ false) }

@@ -3,9 +3,8 @@ ghost use Rattle.std.specs.Prelude.{true, false, ◌≡◌, ◌≤◌, ◌<◌, 
 ghost use Rattle.std.specs.Option.{is_some, option_map};
 ghost use Rattle.indexmap.specs.IndexMap.{get};
 ghost use Rattle.span_self_time.specs.Spans.{Span, self_of, busy_time};
-ghost use Rattle.span_event.specs.Event.{least_time};
-ghost use Rattle.span_self_time.specs.Closed.{greatest_until, AreClosed};
-ghost use Rattle.span_self_time.specs.Division.{Owners, owner_of, claims, taken, owners_of, own_in, IsNew, ForSome, HasParts, AreSettled};
+ghost use Rattle.span_self_time.specs.Closed.{AreClosed};
+ghost use Rattle.span_self_time.specs.Division.{Owners, owner_of, claims, owners_of, own_in, ForSome, HasParts, CanAdd, Adds, KeepsOwners};
 ghost use Rattle.span_self_time.specs.Division.TimeMap.Stretches.{at};
 ghost use Rattle.span_self_time.specs.Division.TimeMap.Ties.{IsBarred, AreBarred};
 ghost use Rattle.span_self_time.specs.Division.TimeMap.{has_name, IsTimeMap, IsEntrant, IsTaking};
@@ -73,15 +72,9 @@ impl TimeMap {
     /// The span takes the microseconds that it covers from no one and from the spans that it outranks. Where memory is refused,
     /// no reader sees a change.
     pub(crate) fn add(&mut self, span: &Part) -> Result<(), AllocError>
-        requires is { ForSome (λ owners. IsTimeMap owners self.old
-            × IsNew (owner_of span.now) owners × AreSettled owners) }
-        requires forward { span.now.span_start ≤ℤ span.now.span_until }
-        requires from_in_time { least_time ≤ℤ span.now.span_start }
-        requires to_in_time { span.now.span_until ≤ℤ greatest_until }
-        ensures ok { OnOk result ((owners : Owners) → IsTimeMap owners self.old
-            → IsNew (owner_of span.now) owners → AreSettled owners
-            → IsTimeMap (taken (owner_of span.now) owners) self.new) }
-        ensures err { OnErr result ((owners : Owners) → IsTimeMap owners self.old → IsTimeMap owners self.new) }
+        requires { CanAdd IsTimeMap (owner_of span.now) self.old }
+        ensures ok { OnOk result (Adds IsTimeMap (owner_of span.now) self.old self.new) }
+        ensures err { OnErr result (KeepsOwners IsTimeMap self.old self.new) }
     {
         if span.span_start == span.span_until {
             return Ok(());

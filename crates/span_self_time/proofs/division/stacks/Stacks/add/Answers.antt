@@ -3,8 +3,6 @@ use Rattle.std.proofs.lemmas.Int.{ints}
 use Rattle.std.proofs.lemmas.List.{length-reverse}
 use Rattle.span_self_time.specs.declared.segment.Part.{Part}
 use Rattle.span_self_time.specs.declared.division.stacks.Stacks.{Stacks}
-use Rattle.span_event.specs.Event.{least_time}
-use Rattle.span_self_time.specs.Closed.{greatest_until}
 use Rattle.span_self_time.specs.Division.{Owners, owner_of, own_in, IsNew, AreParts}
 use Rattle.span_self_time.specs.Division.Stacks.{AreStacks, IsAtStart, IsEntering}
 use Rattle.span_self_time.proofs.Stacks.Taking.{AreParts-empty}
@@ -13,30 +11,28 @@ use Rattle.span_self_time.proofs.division.stacks.Stacks.add.Goals.{In_ok-advance
 use Rattle.span_self_time.proofs.division.stacks.Stacks.add.Goals as goal
 
 pub returns-then-span-clause-ok : goal.returns-then-span-clause-ok
-returns-then-span-clause-ok c = λ owners is new.
+returns-then-span-clause-ok c = λ owners is new settled.
     record { parts = AreParts-empty (owner_of c.args.span.now) _ owners (omega (arith, ints, c.if-span.true)) is.parts; sums = is.sums }
 
 pub overflow_add-len : goal.overflow_add-len
 overflow_add-len c =
     let is = c.requires.is.holds.0 in
     let few = length-le-parts _ _ is.parts in
-    let same = ap length (c.in_ok-advance.ensures.parts ∙ c.in_ok-rewind.ensures.parts) in
+    let same = ap length (c.in_ok-advance.ensures.moved.parts ∙ c.in_ok-rewind.ensures.moved.parts) in
     omega (arith, few, same, length-append c.advance.new.self.past.items (reverse c.advance.new.self.future.items), length-reverse c.advance.new.self.future.items, c.len.ensures)
 
 -- the cursor has moved to the start of the span
 at_start : (c : In_ok-advance) (owners : Owners) → AreStacks owners c.args.self.now → IsNew (owner_of c.args.span.now) owners → IsAtStart (owner_of c.args.span.now) c.advance.new.self.past.items c.advance.new.self.future.items owners
 at_start c owners is new =
     let start : to_z w64 (of_z w64 c.args.span.now.span_start) ≡ c.args.span.now.span_start = search rules in
-    let first : least_time ≤ℤ c.args.span.now.span_start = c.requires.from_in_time in
-    let last : c.args.span.now.span_until ≤ℤ greatest_until = c.requires.to_in_time in
     let forward : c.args.span.now.span_start ≤ℤ c.args.span.now.span_until = c.requires.forward in
     record {
       new = new;
-      in_time = (first, last);
+      in_time = c.requires.in_time;
       lasts = omega (arith, ints, c.if-span.false, forward);
       ends = rw start at (c.in_ok-advance.ensures.past c.in_ok-rewind.ensures.past);
       beyond = rw start at c.in_ok-advance.ensures.future;
-      parts = subst (λ (l : List Part). AreParts owners l) (sym (c.in_ok-advance.ensures.parts ∙ c.in_ok-rewind.ensures.parts)) is.parts;
+      parts = subst (λ (l : List Part). AreParts owners l) (sym (c.in_ok-advance.ensures.moved.parts ∙ c.in_ok-rewind.ensures.moved.parts)) is.parts;
     }
 
 -- the stacks that the span enters
@@ -48,14 +44,14 @@ entering : (c : After-keep_name) (owners : Owners) → AreStacks owners c.args.s
     → IsEntering (owner_of c.args.span.now) (ready c) owners
 entering c owners is start =
     let past = c.in_ok-reserve-2.ensures.items in
-    let parts = c.in_ok-advance.ensures.parts ∙ c.in_ok-rewind.ensures.parts in
+    let parts = c.in_ok-advance.ensures.moved.parts ∙ c.in_ok-rewind.ensures.moved.parts in
     let own : (name : ℕ) → own_in c.keep_name.new.own name ≡ own_in c.args.self.now.own name = λ name.
-    c.keep_name.ensures.same name ∙ ap (λ own. own_in own name) (c.in_ok-advance.ensures.own ∙ c.in_ok-rewind.ensures.own) ∙ search rules in
+    c.keep_name.ensures.same name ∙ ap (λ own. own_in own name) (c.in_ok-advance.ensures.moved.own ∙ c.in_ok-rewind.ensures.moved.own) ∙ search rules in
     record {
       start = rw past start;
       sums = rw (past, parts) (record {
         of_names = λ name. own name ∙ is.sums.of_names name;
-        of_all = c.in_ok-advance.ensures.busy ∙ c.in_ok-rewind.ensures.busy ∙ is.sums.of_all;
+        of_all = c.in_ok-advance.ensures.moved.busy ∙ c.in_ok-rewind.ensures.moved.busy ∙ is.sums.of_all;
       });
       kept = c.keep_name.ensures.kept;
       room = omega (arith, c.in_ok-reserve-2.ensures.ok, c.in_ok-reserve-2.ensures.len, c.len.ensures);
@@ -85,7 +81,7 @@ finish-requires-clause-taken c =
     rw time (record { owners = is.owners; holds = c.go_through-time.ensures.taken is.owners (rw entered (c.enter-entered.ensures is.owners entering)) })
 
 pub returns-clause-ok : goal.returns-clause-ok
-returns-clause-ok c = λ owners is new.
+returns-clause-ok c = λ owners is new settled.
     let entered : to_z w64 (of_z w64 c.enter-entered.result) ≡ c.enter-entered.result = search rules in
     let time : to_z w64 (of_z w64 c.go_through-time.result) ≡ c.go_through-time.result = search rules in
     let at = goal.at.returns-clause-ok c in

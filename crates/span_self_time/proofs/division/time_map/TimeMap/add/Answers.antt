@@ -31,7 +31,7 @@ entrant c owners new settled =
     record {
       new = new;
       settled = settled;
-      in_time = (c.requires.from_in_time, c.requires.to_in_time);
+      in_time = c.requires.in_time;
       lasts = omega (arith, ints, c.if-span.false, forward);
     }
 
