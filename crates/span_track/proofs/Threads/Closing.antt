@@ -1,5 +1,5 @@
 -- The end of the last open span.
-use Rattle.std.proofs.Common.{◌≡◌, ℕ, ◌==◌, Bool, true, false, cond, ℤ, List, [], ◌∷◌, ◌++◌, length, Option, Some, None, map, refl, sym, ap, ◌∙◌, subst, arith, ne_eqb}
+use Rattle.std.proofs.Common.{◌≡◌, ℕ, ◌-◌, ◌==◌, take, slice_get, Bool, true, false, cond, ℤ, List, [], ◌∷◌, ◌++◌, length, Option, Some, None, map, refl, sym, ap, ◌∙◌, subst, arith, ne_eqb}
 use Rattle.std.specs.Prelude.{Err, Ok}
 use Rattle.std.specs.Option.{option_or}
 use Rattle.std.proofs.lemmas.List.{map_push}
@@ -12,14 +12,16 @@ use Rattle.span_track.specs.Kept.{begin_of, IsSound}
 use Rattle.span_keyed_tracks.specs.Last.{last_of}
 use Rattle.span_track.specs.Nesting.{Begin, ThreadEvent, opener, open_spans}
 use Rattle.span_track.specs.Thread.{ThreadSpans, goes_back, opening, closing, end_refusal, merged_args, merged_with}
-use Rattle.span_keyed_tracks.proofs.Lists.Last.{last_of-append}
+use Rattle.span_keyed_tracks.proofs.Lists.Last.{last_of-append, take-last}
 use Rattle.span_keyed_tracks.proofs.Matching.Open.{opener-open_of}
 
+-- the last of the open spans, as a begin
+pub opened-last : (items : List OpenSpan) (o : OpenSpan) → Some o ≡ slice_get items (length items - 1) → map begin_of items ≡ map begin_of (take (length items - 1) items) ++ begin_of o ∷ []
+opened-last items o read = ap (map begin_of) (take-last items o read) ∙ map_push begin_of (take (length items - 1) items) o
+
 -- the track, of which the last open span is taken
-pub sound_with_last : (opened rest : List OpenSpan) (o : OpenSpan) (closed : List (Span ℕ)) (last : Option ℤ) → opened ≡ rest ++ o ∷ [] → IsSound (record { opened = map begin_of opened; closed = closed; last = last }) → IsSound (record { opened = map begin_of rest ++ begin_of o ∷ []; closed = closed; last = last })
-sound_with_last opened rest o closed last taken sound =
-    let split : map begin_of opened ≡ map begin_of rest ++ begin_of o ∷ [] = ap (map begin_of) taken ∙ map_push begin_of rest o in
-    subst (λ (l : List (Begin ℕ)). IsSound (record { opened = l; closed = closed; last = last })) split sound
+pub sound_with_last : (items : List OpenSpan) (o : OpenSpan) (closed : List (Span ℕ)) (last : Option ℤ) → Some o ≡ slice_get items (length items - 1) → IsSound (record { opened = map begin_of items; closed = closed; last = last }) → IsSound (record { opened = map begin_of (take (length items - 1) items) ++ begin_of o ∷ []; closed = closed; last = last })
+sound_with_last items o closed last read sound = subst (λ (l : List (Begin ℕ)). IsSound (record { opened = l; closed = closed; last = last })) (opened-last items o read) sound
 
 -- an end is refused where no span is open, and then as a begin is
 pub end_refusal-is : {N : Type 0} (opened : List (Begin N)) (last : Option ℤ) (ts : ℤ) →

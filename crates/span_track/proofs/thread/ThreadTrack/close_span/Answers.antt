@@ -1,45 +1,35 @@
-use Rattle.std.proofs.Common.{rules, ◌≡◌, ℕ, ◌-◌, false, [], ◌∷◌, ◌++◌, length, take, Some, map, slice_get, refl, sym, ap, ◌∙◌, subst, w64, to_z, of_z, to_z-of_z, arith}
+use Rattle.std.proofs.Common.{rules, ◌≡◌, ℕ, ◌-◌, false, [], ◌∷◌, ◌++◌, length, take, Some, slice_get, refl, sym, ap, ◌∙◌, subst, w64, to_z, of_z, to_z-of_z, arith}
 use Rattle.std.specs.Option.{option_map}
 use Rattle.std.proofs.lemmas.Int.{ints}
-use Rattle.std.proofs.lemmas.List.{map_push}
 use Rattle.span_event.specs.Args.{merged}
 use Rattle.span_self_time.specs.Spans.{Span}
 use Rattle.span_track.specs.Nesting.{Begin}
 use Rattle.span_track.specs.Thread.{ThreadSpans, goes_back}
 use Rattle.span_track.specs.Kept.{begin_of}
 use Rattle.span_self_time.specs.Closed.{span_of}
-use Rattle.span_keyed_tracks.proofs.Lists.Last.{take-last}
-use Rattle.span_track.proofs.Threads.Sound.{IsSound-with_end, MayClose-sound}
-use Rattle.span_track.proofs.Threads.Closing.{sound_with_last, opener_of_last, goes_back-taken, merged_args-open}
+use Rattle.span_track.proofs.Threads.Sound.{IsSound-with_end, MayClose, MayClose-sound}
+use Rattle.span_track.proofs.Threads.Closing.{opened-last, sound_with_last, opener_of_last, goes_back-taken, merged_args-open}
 use Rattle.span_track.proofs.Threads.Spans.{thread_spans-closing}
+use Rattle.span_track.proofs.thread.ThreadTrack.close_span.Goals.{In-Some}
 use Rattle.span_track.proofs.thread.ThreadTrack.close_span.Goals as goal
 
+read : (c : In-Some) → Some c.in-Some.last_open.now ≡ slice_get c.self.inside.opened.items (length c.self.inside.opened.items - 1)
+read c = search rules
+
+later : (c : In-Some) → goes_back c.args.ts c.self.inside.last ≡ false
+later c = subst (λ (t : ThreadSpans ℕ). goes_back c.args.ts t.last ≡ false) (sym c.self.view_is) (goes_back-taken c.args.self.now c.args.ts c.requires.taken)
+
+may : (c : In-Some) → MayClose (begin_of c.in-Some.last_open.now) c.self.inside.closed c.args.ts
+may c = MayClose-sound _ _ _ _ c.args.ts (sound_with_last _ _ _ _ (read c) c.self.invariant) (later c)
+
 pub add-requires-clause-forward : goal.add-requires-clause-forward
-add-requires-clause-forward c =
-    let later : goes_back c.args.ts c.self.inside.last ≡ false = subst (λ (t : ThreadSpans ℕ). goes_back c.args.ts t.last ≡ false) (sym c.self.view_is) (goes_back-taken c.args.self.now c.args.ts c.requires.taken) in
-    let read : Some c.in-Some.last_open.now ≡ slice_get c.self.inside.opened.items (length c.self.inside.opened.items - 1) = search rules in
-    let split = take-last c.self.inside.opened.items c.in-Some.last_open.now read in
-    let sound = sound_with_last _ _ _ _ _ split c.self.invariant in
-    let may = MayClose-sound _ _ _ _ c.args.ts sound later in
-    rw c.closed_at-span.ensures (omega (arith, ints, may.lasts))
+add-requires-clause-forward c = let may = may (goal.at.add-requires-clause-forward c).In-Some in rw c.closed_at-span.ensures (omega (arith, ints, may.lasts))
 
 pub add-requires-clause-in_time : goal.add-requires-clause-in_time
-add-requires-clause-in_time c =
-    let later : goes_back c.args.ts c.self.inside.last ≡ false = subst (λ (t : ThreadSpans ℕ). goes_back c.args.ts t.last ≡ false) (sym c.self.view_is) (goes_back-taken c.args.self.now c.args.ts c.requires.taken) in
-    let read : Some c.in-Some.last_open.now ≡ slice_get c.self.inside.opened.items (length c.self.inside.opened.items - 1) = search rules in
-    let split = take-last c.self.inside.opened.items c.in-Some.last_open.now read in
-    let sound = sound_with_last _ _ _ _ _ split c.self.invariant in
-    let may = MayClose-sound _ _ _ _ c.args.ts sound later in
-    rw c.closed_at-span.ensures (omega (arith, ints, may.from), omega (arith, ints))
+add-requires-clause-in_time c = let may = may (goal.at.add-requires-clause-in_time c).In-Some in rw c.closed_at-span.ensures (omega (arith, ints, may.from), omega (arith, ints))
 
 pub add-requires-clause-apart : goal.add-requires-clause-apart
-add-requires-clause-apart c =
-    let later : goes_back c.args.ts c.self.inside.last ≡ false = subst (λ (t : ThreadSpans ℕ). goes_back c.args.ts t.last ≡ false) (sym c.self.view_is) (goes_back-taken c.args.self.now c.args.ts c.requires.taken) in
-    let read : Some c.in-Some.last_open.now ≡ slice_get c.self.inside.opened.items (length c.self.inside.opened.items - 1) = search rules in
-    let split = take-last c.self.inside.opened.items c.in-Some.last_open.now read in
-    let sound = sound_with_last _ _ _ _ _ split c.self.invariant in
-    let may = MayClose-sound _ _ _ _ c.args.ts sound later in
-    rw c.closed_at-span.ensures may.apart
+add-requires-clause-apart c = rw c.closed_at-span.ensures (may (goal.at.add-requires-clause-apart c).In-Some).apart
 
 pub invariant_of-self : goal.invariant_of-self
 invariant_of-self c =
@@ -48,39 +38,31 @@ invariant_of-self c =
 
 pub invariant_of-self-2 : goal.invariant_of-self-2
 invariant_of-self-2 c =
-    let later : goes_back c.args.ts c.self.inside.last ≡ false = subst (λ (t : ThreadSpans ℕ). goes_back c.args.ts t.last ≡ false) (sym c.self.view_is) (goes_back-taken c.args.self.now c.args.ts c.requires.taken) in
-    let read : Some c.in-Some.last_open.now ≡ slice_get c.self.inside.opened.items (length c.self.inside.opened.items - 1) = search rules in
-    let split = take-last c.self.inside.opened.items c.in-Some.last_open.now read in
+    let at = (goal.at.invariant_of-self-2 c).In-Some in
     let popped : c.pop.new.self.items ≡ take (length c.self.inside.opened.items - 1) c.self.inside.opened.items = search rules in
-    let sound = sound_with_last _ _ _ _ _ split c.self.invariant in
     let ts : to_z w64 (of_z w64 c.args.ts) ≡ c.args.ts = to_z-of_z c.ranges.ts in
     let same_at : c.closed_at-span.result.at ≡ c.in-Some.last_open.now.at = ap (λ s. s.at) c.closed_at-span.ensures in
     let closed : c.add.new.self ≡ c.self.inside.closed ++ span_of c.closed_at-span.result ∷ [] = search rules in
-    rw (closed, popped, ts) (IsSound-with_end _ _ _ _ (span_of c.closed_at-span.result) c.args.ts same_at sound later)
+    rw (closed, popped, ts) (IsSound-with_end _ _ _ _ (span_of c.closed_at-span.result) c.args.ts same_at (sound_with_last _ _ _ _ (read at) c.self.invariant) (later at))
 
 pub returns-clause-stands : goal.returns-clause-stands
 returns-clause-stands c = λ args both. λ es stands.
+    let at = (goal.at.returns-clause-stands c).In-Some in
+    let opened = opened-last c.self.inside.opened.items c.in-Some.last_open.now (read at) in
     let ts : to_z w64 (of_z w64 c.args.ts) ≡ c.args.ts = to_z-of_z c.ranges.ts in
-    let later : goes_back c.args.ts c.self.inside.last ≡ false = subst (λ (t : ThreadSpans ℕ). goes_back c.args.ts t.last ≡ false) (sym c.self.view_is) (goes_back-taken c.args.self.now c.args.ts c.requires.taken) in
-    let read : Some c.in-Some.last_open.now ≡ slice_get c.self.inside.opened.items (length c.self.inside.opened.items - 1) = search rules in
-    let split = take-last c.self.inside.opened.items c.in-Some.last_open.now read in
     let popped : c.pop.new.self.items ≡ take (length c.self.inside.opened.items - 1) c.self.inside.opened.items = search rules in
-    let is_open = sym (ap (λ (t : ThreadSpans ℕ). t.opened) c.self.view_is) ∙ ap (map begin_of) split ∙ map_push begin_of (take (length c.self.inside.opened.items - 1) c.self.inside.opened.items) c.in-Some.last_open.now in
-    let all : c.args.merged ≡ merged c.in-Some.last_open.now.args args = both ∙ merged_args-open c.args.self.now (map begin_of (take (length c.self.inside.opened.items - 1) c.self.inside.opened.items)) (begin_of c.in-Some.last_open.now) args is_open in
     let begin = begin_of c.in-Some.last_open.now in
+    let all : c.args.merged ≡ merged begin.args args = both ∙ merged_args-open c.args.self.now _ begin args (sym (ap (λ (t : ThreadSpans ℕ). t.opened) c.self.view_is) ∙ opened) in
     let span : Span ℕ = record { name = begin.name; start = begin.ts; until = c.args.ts; at = begin.at; args = merged begin.args args } in
     let span_is : span_of c.closed_at-span.result ≡ span = rw (c.closed_at-span.ensures, ts, all) refl in
     let added : c.add.new.self ≡ c.self.inside.closed ++ span_of c.closed_at-span.result ∷ [] = search rules in
     let closed : c.add.new.self ≡ c.self.inside.closed ++ span ∷ [] = added ∙ ap (λ (s : Span ℕ). c.self.inside.closed ++ s ∷ []) span_is in
-    let opened = ap (map begin_of) split ∙ map_push begin_of _ c.in-Some.last_open.now in
     rw (closed, popped, ts) (thread_spans-closing es _ _ c.self.inside.closed c.self.inside.last begin c.args.ts args opened (c.self.view_is ∙ stands))
 
 pub returns-clause-start : goal.returns-clause-start
 returns-clause-start c = λ es stands.
-    let read : Some c.in-Some.last_open.now ≡ slice_get c.self.inside.opened.items (length c.self.inside.opened.items - 1) = search rules in
-    let split = take-last c.self.inside.opened.items c.in-Some.last_open.now read in
-    let is_open = sym (ap (λ (t : ThreadSpans ℕ). t.opened) (c.self.view_is ∙ stands)) ∙ ap (map begin_of) split ∙ map_push begin_of _ c.in-Some.last_open.now in
-    let later : goes_back c.args.ts c.self.inside.last ≡ false = subst (λ (t : ThreadSpans ℕ). goes_back c.args.ts t.last ≡ false) (sym c.self.view_is) (goes_back-taken c.args.self.now c.args.ts c.requires.taken) in
-    let may = MayClose-sound _ _ _ _ c.args.ts (sound_with_last _ _ _ _ _ split c.self.invariant) later in
+    let at = (goal.at.returns-clause-start c).In-Some in
+    let may = may at in
+    let is_open = sym (ap (λ (t : ThreadSpans ℕ). t.opened) (c.self.view_is ∙ stands)) ∙ opened-last _ _ (read at) in
     let same : to_z w64 (of_z w64 c.in-Some.last_open.now.ts) ≡ c.in-Some.last_open.now.ts = omega (arith, ints, may.from, may.lasts, c.requires.in_time.1) in
     ap (option_map (λ (b : Begin ℕ). b.ts)) (opener_of_last es _ _ is_open) ∙ ap Some (sym same)

@@ -1,23 +1,19 @@
-use Rattle.std.proofs.Common.{rules, ◌≡◌, ℕ, ◌-◌, [], ◌∷◌, ◌++◌, length, take, Some, map, slice_get, refl, sym, ap, ◌∙◌, subst, w64, to_z, of_z, to_z-of_z}
-use Rattle.std.proofs.lemmas.List.{map_push}
+use Rattle.std.proofs.Common.{rules, ◌≡◌, ℕ, ◌-◌, [], ◌∷◌, ◌++◌, length, Some, slice_get, refl, sym, ap, ◌∙◌, subst, w64, to_z, of_z, to_z-of_z}
 use Rattle.span_event.specs.Args.{merged}
 use Rattle.span_track.specs.Nesting.{ended}
 use Rattle.span_track.specs.Thread.{ThreadSpans, StandsFor, merged_args}
 use Rattle.span_track.specs.Kept.{begin_of}
-use Rattle.span_keyed_tracks.proofs.Lists.Last.{take-last}
-use Rattle.span_track.proofs.Threads.Closing.{opener_of_last, merged_args-open}
+use Rattle.span_track.proofs.Threads.Closing.{opened-last, opener_of_last, merged_args-open}
 use Rattle.span_track.proofs.thread.ThreadTrack.end_span.Goals as goal
 
 pub returns-in-Ok-clause-span : goal.returns-in-Ok-clause-span
 returns-in-Ok-clause-span c = λ es stands.
     let ts : to_z w64 (of_z w64 c.args.ts) ≡ c.args.ts = to_z-of_z c.ranges.ts in
     let read : Some c.in-Some-last.begin.now ≡ slice_get c.self.inside.opened.items (length c.self.inside.opened.items - 1) = search rules in
-    let split = take-last c.self.inside.opened.items c.in-Some-last.begin.now read in
-    let is_open = sym (ap (λ (t : ThreadSpans ℕ). t.opened) (c.self.view_is ∙ stands)) ∙ ap (map begin_of) split ∙ map_push begin_of _ c.in-Some-last.begin.now in
-    let opens = opener_of_last es _ _ is_open in
+    let opened = opened-last c.self.inside.opened.items c.in-Some-last.begin.now read in
+    let opens = opener_of_last es _ _ (sym (ap (λ (t : ThreadSpans ℕ). t.opened) (c.self.view_is ∙ stands)) ∙ opened) in
     let all : c.in_ok-merged.merged ≡ merged_args c.args.self.now c.args.args.now = search rules in
-    let opened = sym (ap (λ (t : ThreadSpans ℕ). t.opened) c.self.view_is) ∙ ap (map begin_of) split ∙ map_push begin_of (take (length c.self.inside.opened.items - 1) c.self.inside.opened.items) c.in-Some-last.begin.now in
-    let both : c.in_ok-merged.merged ≡ merged c.in-Some-last.begin.now.args c.args.args.now = all ∙ merged_args-open c.args.self.now (map begin_of (take (length c.self.inside.opened.items - 1) c.self.inside.opened.items)) (begin_of c.in-Some-last.begin.now) c.args.args.now opened in
+    let both : c.in_ok-merged.merged ≡ merged c.in-Some-last.begin.now.args c.args.args.now = all ∙ merged_args-open c.args.self.now _ (begin_of c.in-Some-last.begin.now) c.args.args.now (sym (ap (λ (t : ThreadSpans ℕ). t.opened) c.self.view_is) ∙ opened) in
     let copied : c.in_ok-copy.copy ≡ c.in_ok-merged.merged = search rules in
     let args : c.in_ok-copy.copy ≡ merged c.in-Some-last.begin.now.args c.args.args.now = copied ∙ both in
     rw (opens, c.closed_at-answer.ensures, ts, args) refl

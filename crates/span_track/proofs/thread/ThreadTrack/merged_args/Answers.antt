@@ -1,15 +1,12 @@
-use Rattle.std.proofs.Common.{rules, ◌≡◌, ◌-◌, ℕ, length, take, Some, map, slice_get, sym, ap, ◌∙◌}
-use Rattle.std.proofs.lemmas.List.{map_push}
+use Rattle.std.proofs.Common.{rules, ◌≡◌, ◌-◌, ℕ, length, Some, slice_get, sym, ap, ◌∙◌}
 use Rattle.span_track.specs.Kept.{begin_of}
 use Rattle.span_track.specs.Thread.{ThreadSpans}
-use Rattle.span_keyed_tracks.proofs.Lists.Last.{take-last}
 use Rattle.span_keyed_tracks.proofs.Results.{if_ok-map}
-use Rattle.span_track.proofs.Threads.Closing.{merged_args-open}
+use Rattle.span_track.proofs.Threads.Closing.{opened-last, merged_args-open}
 use Rattle.span_track.proofs.thread.ThreadTrack.merged_args.Goals as goal
 
 pub returns : goal.returns
 returns c =
     let read : Some c.in-Some.last_open.now ≡ slice_get c.self.inside.opened.items (length c.self.inside.opened.items - 1) = search rules in
-    let split = take-last c.self.inside.opened.items c.in-Some.last_open.now read in
-    let is_open = sym (ap (λ (t : ThreadSpans ℕ). t.opened) c.self.view_is) ∙ ap (map begin_of) split ∙ map_push begin_of (take (length c.self.inside.opened.items - 1) c.self.inside.opened.items) c.in-Some.last_open.now in
-    if_ok-map c.merge_args.result _ _ (λ m is. is ∙ sym (merged_args-open c.args.self.now (map begin_of (take (length c.self.inside.opened.items - 1) c.self.inside.opened.items)) (begin_of c.in-Some.last_open.now) c.args.args.now is_open)) c.merge_args.ensures
+    let is_open = sym (ap (λ (t : ThreadSpans ℕ). t.opened) c.self.view_is) ∙ opened-last c.self.inside.opened.items c.in-Some.last_open.now read in
+    if_ok-map c.merge_args.result _ _ (λ m is. is ∙ sym (merged_args-open c.args.self.now _ (begin_of c.in-Some.last_open.now) c.args.args.now is_open)) c.merge_args.ensures
