@@ -1,6 +1,6 @@
 -- A change of what is kept at one key, and what the map stands for then.
-use Rattle.std.proofs.Common.{◌≡◌, ℕ, List, [], ◌∷◌, ◌++◌, true, false, cond, Option, Some, None, refl, sym, ap, ap₂, subst, ◌∙◌}
-use Rattle.std.specs.Prelude.{Result, Ok, Err, IfOk, OnOk, OnErr, is_some, unwrap_or}
+use Rattle.std.proofs.Common.{◌≡◌, ◌⊎◌, ℕ, List, [], ◌∷◌, ◌++◌, true, false, cond, Option, Some, None, refl, sym, ap, ap₂, subst, ◌∙◌, inl, inr}
+use Rattle.std.specs.Prelude.{Result, Ok, Err, IfOk, IfErr, OnOk, OnErr, IsOk, is_some, unwrap_or}
 use Rattle.std.specs.List.Sorted.{IsStrictlySortedBy}
 use Rattle.std.specs.declared.cmp.Ordering.{Ordering}
 use Rattle.std.specs.declared.cmp.Ordering.TheVariants.{Less, Equal, Greater}
@@ -34,6 +34,16 @@ module _ {K X : Type 0} {cmp : K → K → Ordering} (o : IsTotalOrder cmp) wher
     on_found (Ok answer) written stays = ((refl, written), tt)
     on_found (Err fault) written stays = (tt, stays fault refl)
 
+    own_fault : (result : Result T TrackFault) → IfErr result (λ fault. (result ≡ Err fault) ⊎ (IsOk result × (kept_at cmp none old key ≡ none)))
+    own_fault (Ok answer) = tt
+    own_fault (Err fault) = inl refl
+
+    first_fault : (made result : Result T TrackFault) → kept_at cmp none old key ≡ none → IfErr result (λ fault. (made ≡ Err fault) ⊎ IsOk made) →
+        IfErr result (λ fault. (made ≡ Err fault) ⊎ (IsOk made × (kept_at cmp none old key ≡ none)))
+    first_fault made (Ok answer) nothing fault = tt
+    first_fault made (Err f) nothing (inl own) = inl own
+    first_fault made (Err f) nothing (inr taken) = inr (taken, nothing)
+
     -- the call was made on what is kept at the key
     pub ChangesAt-found : (was : X) (result : Result T TrackFault) → IsStrictlySortedBy cmp (keys_of old) → lookup (is_at (cmp key)) old ≡ Some was → new ≡ set_value (is_at (cmp key)) old value →
         call was result value → ((a b : X) (fault : TrackFault) → call a (Err fault) b → b ≡ a) → ChangesAt cmp none call old new key result
@@ -48,13 +58,14 @@ module _ {K X : Type 0} {cmp : K → K → Ordering} (o : IsTotalOrder cmp) wher
           ordered = sorted;
           ok = ends.0;
           err = ends.1;
+          fault = own_fault result;
         }
 
     -- the call was made on `none`, where nothing is kept at the key
     pub ChangesAt-first : (made result : Result T TrackFault) → IsStrictlySortedBy cmp (keys_of old) → lookup (is_at (cmp key)) old ≡ None → call none made value →
         ((refusal : Option ℕ) → Answers made refusal → Answers result refusal) → IfOk result (λ answer. (made ≡ Ok answer) × (new ≡ insert_entry cmp old key value)) → OnErr result (new ≡ old) →
-        ChangesAt cmp none call old new key result
-    ChangesAt-first made result sorted absent called answers ok err = record {
+        IfErr result (λ fault. (made ≡ Err fault) ⊎ IsOk made) → ChangesAt cmp none call old new key result
+    ChangesAt-first made result sorted absent called answers ok err fault = record {
       made = made;
       value = value;
       called = subst (λ v. call v made value) (sym (ap (λ found. unwrap_or found none) absent)) called;
@@ -62,6 +73,7 @@ module _ {K X : Type 0} {cmp : K → K → Ordering} (o : IsTotalOrder cmp) wher
       ordered = sorted;
       ok = ok;
       err = err;
+      fault = first_fault made result (ap (λ found. unwrap_or found none) absent) fault;
     }
 
 -- two that are the same as a third

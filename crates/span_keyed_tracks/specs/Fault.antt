@@ -1,5 +1,5 @@
 -- What a track refuses.
-use Rattle.std.specs.Prelude.{◌≡◌, ℕ, Option, Some, None, Result, Ok, Err}
+use Rattle.std.specs.Prelude.{◌≡◌, ◌≢◌, ℕ, Option, Some, None, Result, Ok, Err, IfErr}
 use Rattle.span_event.specs.declared.fault.Fault.{Fault}
 use Rattle.span_event.specs.Fault.{number_of}
 use Rattle.span_keyed_tracks.specs.declared.fault.TrackFault.{TrackFault}
@@ -15,3 +15,7 @@ abbrev pub Answers : {A : Type 0} → Result A TrackFault → Option ℕ → Typ
 Answers (Ok a) refusal = refusal ≡ None
 Answers (Err (Refused code)) refusal = refusal ≡ Some code
 Answers (Err Memory) refusal = refusal ≡ None
+
+-- memory is never refused
+abbrev pub TakesNoMemory : {A : Type 0} → Result A TrackFault → Type 0
+TakesNoMemory result = IfErr result (λ fault. fault ≢ Memory)

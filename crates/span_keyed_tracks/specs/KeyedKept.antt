@@ -1,5 +1,5 @@
 -- How what is kept for many keys changes at one of them.
-use Rattle.std.specs.Prelude.{◌≡◌, ℕ, List, Option, Result, Ok, IfOk, OnErr}
+use Rattle.std.specs.Prelude.{◌≡◌, ◌⊎◌, ℕ, List, Option, Result, Ok, Err, IfOk, IfErr, OnErr, IsOk}
 use Rattle.std.specs.declared.cmp.Ordering.{Ordering}
 use Rattle.std.specs.List.Sorted.{IsStrictlySortedBy}
 use Rattle.std.specs.Map.{keys_of}
@@ -8,7 +8,8 @@ use Rattle.span_keyed_tracks.specs.declared.fault.TrackFault.{TrackFault}
 use Rattle.span_keyed_tracks.specs.Fault.{Answers}
 use Rattle.span_keyed_tracks.specs.Keyed.{kept_at}
 
--- a call was made on what is kept at a key, `none` where nothing is. What it left is kept there then; where it was refused, or there is no memory for the key, all stays
+-- a call was made on what is kept at a key, `none` where nothing is. What it left is kept there then; where it was refused, or there is
+-- no memory for the key, all stays. A fault is the call's own, unless it was taken at a key where nothing is kept
 pub record ChangesAt {K V T : Type 0} (cmp : K → K → Ordering) (none : V) (call : V → Result T TrackFault → V → Type 0) (old new : List (K × V)) (key : K) (result : Result T TrackFault) : Type 0 where
   pub made : Result T TrackFault
   pub value : V
@@ -17,3 +18,4 @@ pub record ChangesAt {K V T : Type 0} (cmp : K → K → Ordering) (none : V) (c
   pub ordered : IsStrictlySortedBy cmp (keys_of old)
   pub ok : IfOk result (λ answer. (made ≡ Ok answer) × (new ≡ insert_entry cmp old key value))
   pub err : OnErr result (new ≡ old)
+  pub fault : IfErr result (λ fault. (made ≡ Err fault) ⊎ (IsOk made × (kept_at cmp none old key ≡ none)))

@@ -1,7 +1,7 @@
 //! The track of asynchronous spans.
 ghost use Rattle.std.specs.Prelude.{◌≡◌, [], ◌∷◌, List, map, None, IfOk, OnOk, OnErr};
 ghost use Rattle.span_event.specs.Event.{IsTime};
-ghost use Rattle.span_keyed_tracks.specs.Fault.{Answers};
+ghost use Rattle.span_keyed_tracks.specs.Fault.{Answers, TakesNoMemory};
 ghost use Rattle.span_keyed_tracks.specs.Matching.{opens, closes, other};
 ghost use Rattle.span_keyed_tracks.specs.Keyed.{steps_at};
 ghost use Rattle.span_keyed_tracks.specs.Async.{AsyncEvent, AsyncStandsFor, HasAsyncRoom, TakesAsync, async_cmp, async_end_refusal, async_row, async_spans_at, async_totals, length_closed_by};
@@ -90,6 +90,7 @@ impl AsyncTrack {
             → length_closed_by (steps_at async_cmp key.now es) (closes ts) ≡ length ∷ []) }
         ensures stands { OnOk result (TakesAsync self.old self.new (record { key = key.now; step = closes ts })) }
         ensures err { OnErr result (self.new ≡ self.old) }
+        ensures memory { TakesNoMemory result }
     {
         let none = KeySpans::new(self.alloc);
         change_at(self.alloc, &mut self.keys, key, none, |spans| spans.end(ts))

@@ -1,7 +1,7 @@
 //! The track of flow chains.
 ghost use Rattle.std.specs.Prelude.{◌≡◌, [], map, Some, None, IfOk, OnOk, OnErr};
 ghost use Rattle.span_event.specs.Event.{IsTime};
-ghost use Rattle.span_keyed_tracks.specs.Fault.{Answers};
+ghost use Rattle.span_keyed_tracks.specs.Fault.{Answers, TakesNoMemory};
 ghost use Rattle.span_keyed_tracks.specs.Flow.{FlowStandsFor, HasFlowRoom, TakesFlow, started, stepped, finished};
 ghost use Rattle.span_keyed_tracks.specs.Flow.{flow_closed, flow_cmp, flow_point_refusal, flow_row, flow_chains_at, flow_start_refusal, flow_totals};
 
@@ -94,6 +94,7 @@ impl FlowTrack {
         ensures refusal { Answers result (flow_point_refusal (flow_chains_at self.old key.now) ts) }
         ensures stands { OnOk result (TakesFlow self.old self.new (record { key = key.now; step = stepped ts })) }
         ensures err { OnErr result (self.new ≡ self.old) }
+        ensures memory { TakesNoMemory result }
     {
         let none = KeyChains::new();
         change_at(
@@ -114,6 +115,7 @@ impl FlowTrack {
         ensures closed { IfOk result (λ closed. flow_closed (flow_chains_at self.old key.now) ts ≡ Some closed) }
         ensures stands { OnOk result (TakesFlow self.old self.new (record { key = key.now; step = finished ts })) }
         ensures err { OnErr result (self.new ≡ self.old) }
+        ensures memory { TakesNoMemory result }
     {
         let none = KeyChains::new();
         change_at(

@@ -4,9 +4,9 @@ ghost use Rattle.span_event.specs.declared.event.Event.{Event};
 ghost use Rattle.span_event.specs.declared.event.Phase.TheVariants.{Instant, Meta};
 ghost use Rattle.span_event.specs.Event.{IsGood};
 ghost use Rattle.span_event.specs.Given.{Gives};
-ghost use Rattle.span_keyed_tracks.specs.Fault.{Answers};
+ghost use Rattle.span_keyed_tracks.specs.Fault.{Answers, TakesNoMemory};
 ghost use Rattle.span_keyed_tracks.specs.Instants.{instant_rows, instant_rows_of, instants_of};
-ghost use Rattle.span_keyed_tracks.specs.Meta.{HasLabels, HasMetaRoom, HasName, HasSortIndex, MetaStandsFor, TakesMeta, TakesSetting};
+ghost use Rattle.span_keyed_tracks.specs.Meta.{HasLabels, HasMetaRoom, HasName, HasSortIndex, MetaStandsFor, TakesMeta, TakesSetting, setting_of};
 ghost use Rattle.span_keyed_tracks.specs.MetaKept.{keyed_setting};
 
 mod instants;
@@ -76,6 +76,7 @@ impl MetaTrack {
         ensures refusal { Answers result None }
         ensures stands { OnOk result (TakesMeta self.old self.new event.now) }
         ensures err { OnErr result (self.new ≡ self.old) }
+        ensures memory { setting_of event.now ≡ None → TakesNoMemory result }
     {
         let Ok(set) = setting_of(self.alloc, event) else {
             return Err(TrackFault::Memory);

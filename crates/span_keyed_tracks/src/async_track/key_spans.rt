@@ -1,7 +1,7 @@
 //! The asynchronous spans of one key.
 ghost use Rattle.std.specs.Prelude.{◌≡◌, [], None, IfOk, OnOk, OnErr};
 ghost use Rattle.span_event.specs.Event.{IsTime};
-ghost use Rattle.span_keyed_tracks.specs.Fault.{Answers, refusal_of};
+ghost use Rattle.span_keyed_tracks.specs.Fault.{Answers, TakesNoMemory, refusal_of};
 ghost use Rattle.span_keyed_tracks.specs.Last.{last_of};
 ghost use Rattle.span_keyed_tracks.specs.Async.{HasStepRoom, async_matched, async_spans, async_totals};
 ghost use Rattle.span_keyed_tracks.specs.AsyncKept.{EndsLast, with_begin, with_point};
@@ -61,6 +61,7 @@ impl KeySpans {
         ensures refusal { Answers result (refusal_of (async_matched (last_of self.old.opened) ts)) }
         ensures ends { IfOk result (λ length. EndsLast self.old ts length self.new) }
         ensures err { OnErr result (self.new ≡ self.old) }
+        ensures memory { TakesNoMemory result }
     {
         let Some(begin) = self.opened.last() else {
             return Err(TrackFault::Refused(Fault::NoOpenAsync.code()));

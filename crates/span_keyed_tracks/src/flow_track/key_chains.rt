@@ -1,7 +1,7 @@
 //! The flow chains of one key.
 ghost use Rattle.std.specs.Prelude.{◌≡◌, ◌≤ℤ◌, [], Some, IfOk, OnOk, OnErr};
 ghost use Rattle.span_event.specs.Event.{IsTime};
-ghost use Rattle.span_keyed_tracks.specs.Fault.{Answers};
+ghost use Rattle.span_keyed_tracks.specs.Fault.{Answers, TakesNoMemory};
 ghost use Rattle.span_keyed_tracks.specs.Flow.{HasPointRoom, flow_chains, flow_closed, flow_point_refusal, flow_start_refusal, flow_totals};
 ghost use Rattle.span_keyed_tracks.specs.FlowKept.{with_finish, with_start, with_step};
 
@@ -81,6 +81,7 @@ impl KeyChains {
         ensures refusal { Answers result (flow_point_refusal self.now ts) }
         ensures chain { IfOk result (λ chain. self.now.unclosed ≡ Some chain) }
         ensures later { IfOk result (λ chain. chain.last ≤ℤ ts) }
+        ensures memory { TakesNoMemory result }
     {
         let Some(chain) = self.unclosed else {
             return Err(TrackFault::Refused(Fault::NoFlow.code()));
@@ -97,6 +98,7 @@ impl KeyChains {
         ensures refusal { Answers result (flow_point_refusal self.old ts) }
         ensures ok { OnOk result (self.new ≡ with_step self.old ts) }
         ensures err { OnErr result (self.new ≡ self.old) }
+        ensures memory { TakesNoMemory result }
     {
         let chain = self.chain_until(ts)?;
         self.unclosed = Some(Chain {
@@ -114,6 +116,7 @@ impl KeyChains {
         ensures closed { IfOk result (λ closed. flow_closed self.old ts ≡ Some closed) }
         ensures ok { OnOk result (self.new ≡ with_finish self.old ts) }
         ensures err { OnErr result (self.new ≡ self.old) }
+        ensures memory { TakesNoMemory result }
     {
         let chain = self.chain_until(ts)?;
         let points = chain.points + 1;

@@ -1,5 +1,5 @@
 //! What a metadata event sets.
-ghost use Rattle.std.specs.Prelude.{◌≡◌, option_map, IfOk};
+ghost use Rattle.std.specs.Prelude.{◌≡◌, None, option_map, IfOk, IsOk};
 ghost use Rattle.span_keyed_tracks.specs.Meta.{labels_setting, name_setting, names_thread, setting_of, sort_setting, whole_at, text_at};
 ghost use Rattle.span_keyed_tracks.specs.MetaKept.{keyed_setting};
 
@@ -44,7 +44,8 @@ pub(crate) fn setting_of(
     alloc: Global,
     event: &Event,
 ) -> Result<Option<(Holder, Setting)>, AllocError>
-    ensures { IfOk result (λ s. option_map keyed_setting s ≡ setting_of event.now) }
+    ensures setting { IfOk result (λ s. option_map keyed_setting s ≡ setting_of event.now) }
+    ensures none { setting_of event.now ≡ None → IsOk result }
 {
     let name = event.name.as_str();
     if name == "thread_name" {
@@ -70,7 +71,8 @@ fn name_setting(
     event: &Event,
     tid: Option<i64>,
 ) -> Result<Option<(Holder, Setting)>, AllocError>
-    ensures { IfOk result (λ s. option_map keyed_setting s ≡ name_setting event.now tid) }
+    ensures setting { IfOk result (λ s. option_map keyed_setting s ≡ name_setting event.now tid) }
+    ensures none { name_setting event.now tid ≡ None → IsOk result }
 {
     let name = text_at(alloc, event, "name")?;
     Ok(name.map(|name| ((event.pid, tid), Setting::Name(name))))
@@ -81,7 +83,8 @@ fn labels_setting(
     event: &Event,
     tid: Option<i64>,
 ) -> Result<Option<(Holder, Setting)>, AllocError>
-    ensures { IfOk result (λ s. option_map keyed_setting s ≡ labels_setting event.now tid) }
+    ensures setting { IfOk result (λ s. option_map keyed_setting s ≡ labels_setting event.now tid) }
+    ensures none { labels_setting event.now tid ≡ None → IsOk result }
 {
     let labels = text_at(alloc, event, "labels")?;
     Ok(labels.map(|labels| ((event.pid, tid), Setting::Labels(labels))))
@@ -95,7 +98,8 @@ fn sort_setting(event: &Event, tid: Option<i64>) -> Option<(Holder, Setting)>
 }
 
 fn text_at(alloc: Global, event: &Event, member: &str) -> Result<Option<Text>, AllocError>
-    ensures { IfOk result (λ words. words ≡ text_at member.now event.now) }
+    ensures words { IfOk result (λ words. words ≡ text_at member.now event.now) }
+    ensures none { text_at member.now event.now ≡ None → IsOk result }
 {
     match event.args.get(member) {
         Some(ArgValue::Words(words)) => Ok(Some(words.try_clone(alloc)?)),

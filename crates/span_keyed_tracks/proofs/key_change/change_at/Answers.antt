@@ -10,19 +10,19 @@ returns-in-Some g c =
 pub returns-in_err-answer : goal.returns-in_err-answer
 returns-in_err-answer g c =
     ChangesAt-first g.met.K.Ord.total c.args.none _ c.args.kept.now.entries _ c.args.key.now c.change-2.new.arg2 c.change-2.result _
-    c.in_default.ensures.ordered (sym c.in_default.ensures.value) (search rules) (search rules) (search rules) (search rules)
+    c.in_default.ensures.ordered (sym c.in_default.ensures.value) (search rules) (search rules) (search rules) (search rules) (search rules)
 
 pub returns-in_default-copied : goal.returns-in_default-copied
 returns-in_default-copied g c =
     ChangesAt-first g.met.K.Ord.total c.args.none _ c.args.kept.now.entries _ c.args.key.now c.change-2.new.arg2 c.change-2.result _
-    c.in_default.ensures.ordered (sym c.in_default.ensures.value) (search rules) (search rules) (search rules) (search rules)
+    c.in_default.ensures.ordered (sym c.in_default.ensures.value) (search rules) (search rules) (search rules) (search rules) (search rules)
 
 pub returns-in-Ok-insert : goal.returns-in-Ok-insert
 returns-in-Ok-insert g c =
     ChangesAt-first g.met.K.Ord.total c.args.none _ c.args.kept.now.entries _ c.args.key.now c.change-2.new.arg2 c.change-2.result _
-    c.in_default.ensures.ordered (sym c.in_default.ensures.value) (search rules) (search rules) (search rules) (search rules)
+    c.in_default.ensures.ordered (sym c.in_default.ensures.value) (search rules) (search rules) (search rules) (search rules) (search rules)
 
 pub returns : goal.returns
 returns g c =
     ChangesAt-first g.met.K.Ord.total c.args.none _ c.args.kept.now.entries _ c.args.key.now c.change-2.new.arg2 c.change-2.result _
-    c.in_default.ensures.ordered (sym c.in_default.ensures.value) (search rules) (search rules) (search rules) (search rules)
+    c.in_default.ensures.ordered (sym c.in_default.ensures.value) (search rules) (search rules) (search rules) (search rules) (search rules)
