@@ -8,9 +8,11 @@ use crate::gate::Gate;
 use crate::queries::Asked;
 use crate::workers::{enrol_all, run_workers};
 use span_event::Fault;
+use span_keyed_tracks::HashKeys;
 use span_ledger::{Ledger, Query};
 use span_share::Share;
 use std::alloc::{AllocError, Global};
+use std::random::RandomSource;
 use std::sync::Wait;
 use std::thread::Threads;
 use thiserror::Error;
@@ -57,7 +59,7 @@ impl CollectError {
 /// are asked while the workers run. Waits until all are done.
 ///
 /// The refusals come in this order: 41 `FileCount`; 31 `Memory`, before any worker is started; 43 `Unaccounted`, at the end.
-pub fn collect<G: Gate, R: Threads + Wait + Sync>(
+pub fn collect<G: Gate, R: Threads + Wait + RandomSource + Sync>(
     rt: &R,
     alloc: Global,
     files: &[Input],
@@ -86,7 +88,7 @@ pub fn collect<G: Gate, R: Threads + Wait + Sync>(
 }
 
 // Collects the files, and closes the ledger.
-fn collect_unsettled<G: Gate, R: Threads + Wait + Sync>(
+fn collect_unsettled<G: Gate, R: Threads + Wait + RandomSource + Sync>(
     rt: &R,
     alloc: Global,
     files: &[Input],
@@ -98,7 +100,7 @@ fn collect_unsettled<G: Gate, R: Threads + Wait + Sync>(
     ensures { IfOk result
         (λ outcome. IsClosed files.now asks.now limit outcome.files.items outcome.asked outcome.ledger) }
 {
-    let (share, mut main) = Share::start(alloc, limit)?;
+    let (share, mut main) = Share::start_with_keys(alloc, limit, HashKeys::random(rt))?;
     let ends = Vec::with_capacity(alloc, files.len())?;
     let seats = enrol_all(rt, alloc, &share, &mut main, files.len())?;
     let (asked, main, files) = run_workers(rt, alloc, &share, gate, files, asks, seats, main, ends);

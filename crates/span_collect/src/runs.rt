@@ -15,6 +15,7 @@ use span_event::Fault;
 use span_ledger::{Ledger, Query};
 use span_report::{Sink, WriteFault, write_report};
 use std::alloc::Global;
+use std::random::RandomSource;
 use std::sync::Wait;
 use std::thread::Threads;
 use thiserror::Error;
@@ -69,7 +70,7 @@ pub struct Collected {
 }
 
 /// Collects 1 to 64 files, with one worker for each in threads of their own, and writes the report of their journal.
-pub fn run<O: Sink, R: Threads + Wait + Sync>(
+pub fn run<O: Sink, R: Threads + Wait + RandomSource + Sync>(
     rt: &R,
     alloc: Global,
     files: &[Input],
@@ -89,7 +90,7 @@ pub fn run<O: Sink, R: Threads + Wait + Sync>(
 }
 
 /// As `run`, and gives what was collected: a program that ends then need not free it, which takes long.
-pub fn run_to_ledger<O: Sink, R: Threads + Wait + Sync>(
+pub fn run_to_ledger<O: Sink, R: Threads + Wait + RandomSource + Sync>(
     rt: &R,
     alloc: Global,
     files: &[Input],

@@ -8,6 +8,7 @@ use span_ledger::{Cause, Query};
 use span_report::{Writer, report};
 use std::alloc::{AllocError, AllocGlobal, Global};
 use std::process::Abort;
+use std::random::RandomSource;
 use std::sync::Wait;
 use std::sync::atomic::{AtomicBool, AtomicU32, Ordering};
 use std::test::Fail;
@@ -136,7 +137,7 @@ fn two_are_collected(rt: &(impl Abort + AllocGlobal), outcome: &Outcome) -> Resu
 
 // Collects these files and asks two queries behind this gate.
 fn collect_two_of<G: Gate>(
-    rt: &(impl Threads + Wait + Sync + Abort + AllocGlobal),
+    rt: &(impl Threads + Wait + RandomSource + Sync + Abort + AllocGlobal),
     files: &[Input],
     gate: &G,
 ) -> Result<(), Fail> {
@@ -148,7 +149,7 @@ fn collect_two_of<G: Gate>(
 }
 
 fn collect_two<G: Gate>(
-    rt: &(impl Threads + Wait + Sync + Abort + AllocGlobal),
+    rt: &(impl Threads + Wait + RandomSource + Sync + Abort + AllocGlobal),
     gate: &G,
 ) -> Result<(), Fail> {
     let files = files_of(rt.alloc(), 1, 2)?;
@@ -170,7 +171,7 @@ fn workers_read_and_tell_while_the_main_seat_asks(rt: HostRuntime) -> Result<(),
 }
 
 fn one_after_the_other(
-    rt: &(impl Threads + Wait + Sync + Abort + AllocGlobal),
+    rt: &(impl Threads + Wait + RandomSource + Sync + Abort + AllocGlobal),
     held: u32,
 ) -> Result<(), Fail> {
     let gate = After {
@@ -198,7 +199,7 @@ fn all_are_read(rt: &impl Abort, outcome: &Outcome) {
 }
 
 fn collect_all(
-    rt: &(impl Threads + Wait + Sync + Abort + AllocGlobal),
+    rt: &(impl Threads + Wait + RandomSource + Sync + Abort + AllocGlobal),
     files: &[Input],
 ) -> Result<(), Fail> {
     let outcome = collect(rt, rt.alloc(), files, &[], &FreeGate, 1000)?;
@@ -216,7 +217,7 @@ fn takes_64_files(rt: HostRuntime) -> Result<(), Fail> {
 }
 
 // The number with which the collection of these files is refused.
-fn refusal_of(rt: &(impl Threads + Wait + Sync + AllocGlobal), files: &[Input]) -> Option<u16> {
+fn refusal_of(rt: &(impl Threads + Wait + RandomSource + Sync + AllocGlobal), files: &[Input]) -> Option<u16> {
     match collect(rt, rt.alloc(), files, &[], &FreeGate, 1000) {
         Ok(outcome) => {
             drop(outcome);
@@ -238,7 +239,7 @@ fn wants_1_to_64_files(rt: HostRuntime) -> Result<(), Fail> {
 }
 
 fn ends_with(
-    rt: &(impl Threads + Wait + Sync + Abort + AllocGlobal),
+    rt: &(impl Threads + Wait + RandomSource + Sync + Abort + AllocGlobal),
     files: &[Input],
     end: &RunEnd,
     lines: &str,
@@ -252,7 +253,7 @@ fn ends_with(
 
 // A run of these files, of which one is refused, writes this report, and these lines tell of its ends.
 fn runs(
-    rt: &(impl Threads + Wait + Sync + Abort + AllocGlobal),
+    rt: &(impl Threads + Wait + RandomSource + Sync + Abort + AllocGlobal),
     files: &[Input],
     wanted: &str,
     lines: &str,
@@ -268,7 +269,7 @@ fn runs(
 }
 
 fn stops_at_the_limit_of(
-    rt: &(impl Threads + Wait + Sync + Abort + AllocGlobal),
+    rt: &(impl Threads + Wait + RandomSource + Sync + Abort + AllocGlobal),
     files: &[Input],
 ) -> Result<(), Fail> {
     let outcome = collect(rt, rt.alloc(), files, &[], &FreeGate, 3)?;

@@ -11,6 +11,7 @@ use span_report::{Sink, write_bytes};
 use std::alloc::Global;
 use std::io::Write;
 use std::mem::forget;
+use std::random::RandomSource;
 use std::sync::Wait;
 use std::thread::Threads;
 
@@ -19,7 +20,7 @@ const FAILED: u8 = 2;
 /// Does what is asked for, and gives the exit status: 0 where all files were read, 1 where one was refused, else 2. Files are
 /// read in the order of their names; the first that cannot be read decides. A failed write to `faults` changes nothing. Waits for
 /// the workers, of which each file has one.
-pub fn perform<R: Threads + Wait + Sync, S: Source, O: Sink, F: Write>(
+pub fn perform<R: Threads + Wait + RandomSource + Sync, S: Source, O: Sink, F: Write>(
     rt: &R,
     alloc: Global,
     request: Request,
@@ -49,7 +50,7 @@ pub fn perform<R: Threads + Wait + Sync, S: Source, O: Sink, F: Write>(
     }
 }
 
-fn collect_files<R: Threads + Wait + Sync, S: Source, O: Sink, F: Write>(
+fn collect_files<R: Threads + Wait + RandomSource + Sync, S: Source, O: Sink, F: Write>(
     rt: &R,
     alloc: Global,
     limit: u32,
@@ -80,7 +81,7 @@ fn collect_files<R: Threads + Wait + Sync, S: Source, O: Sink, F: Write>(
     }
 }
 
-fn collect<R: Threads + Wait + Sync, O: Sink, F: Write>(
+fn collect<R: Threads + Wait + RandomSource + Sync, O: Sink, F: Write>(
     rt: &R,
     alloc: Global,
     limit: u32,

@@ -8,6 +8,7 @@ use std::alloc::{AllocError, Global};
 use std::io;
 use std::io::{ErrorKind, Write};
 use std::process::Abort;
+use std::random::RandomSource;
 use std::sync::Wait;
 use std::test::Fail;
 use std::thread::Threads;
@@ -53,7 +54,7 @@ fn texts_of(alloc: Global, words: &[&str]) -> Result<Vec<Text>, AllocError> {
 }
 
 // The request ends with status 0, the report of no events, and no line of a fault.
-fn reports_nothing(rt: &(impl Abort + AllocGlobal + Threads + Wait + Sync), request: Request) {
+fn reports_nothing(rt: &(impl Abort + AllocGlobal + Threads + Wait + RandomSource + Sync), request: Request) {
     let alloc = rt.alloc();
     let mut source = Empty { alloc };
     let mut out = Vec::new(alloc);
@@ -80,7 +81,7 @@ fn takes_64_files(rt: HostRuntime) -> Result<(), Fail> {
 }
 
 fn status_of(
-    rt: &(impl Abort + AllocGlobal + Threads + Wait + Sync),
+    rt: &(impl Abort + AllocGlobal + Threads + Wait + RandomSource + Sync),
     request: Request,
     out: &mut Short,
 ) -> u8 {

@@ -5,6 +5,7 @@ pub mod CountersKept
 pub mod Fault
 pub mod Flow
 pub mod FlowKept
+pub mod HashKeys
 pub mod Instants
 pub mod InstantsKept
 pub mod Keyed

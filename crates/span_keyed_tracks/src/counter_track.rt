@@ -13,6 +13,7 @@ mod codes;
 mod running;
 
 use crate::fault::TrackFault;
+use crate::hash_keys::HashKeys;
 use crate::keys::SeriesKey;
 use coded::CodedSeries;
 use span_event::Event;
@@ -57,13 +58,20 @@ impl Model for CounterTrack {
 }
 
 impl CounterTrack {
-    /// The track of no events. Takes no memory.
+    /// The track of no events, for input that is trusted. Takes no memory.
     pub fn new(alloc: Global) -> CounterTrack
+        ensures { CounterStandsFor result [] }
+    {
+        CounterTrack::with_keys(alloc, HashKeys::fixed())
+    }
+
+    /// The track of no events, which looks series up by these keys. Takes no memory.
+    pub fn with_keys(alloc: Global, keys: HashKeys) -> CounterTrack
         ensures { CounterStandsFor result [] }
     {
         CounterTrack {
             alloc,
-            series: CodedSeries::new(alloc),
+            series: CodedSeries::new(alloc, keys),
         }
     }
 

@@ -2,6 +2,7 @@
 ghost use Rattle.std.specs.Prelude.{◌≡◌, ◌-◌, ◌<◌, ◌^◌, List, ℕ, [], Some, length, slice_get, take, option_copied, IfOk, OnOk, OnErr};
 ghost use Rattle.span_keyed_tracks.specs.Numbering.{number_in, with_name};
 
+use crate::hash_keys::HashKeys;
 use crate::texts::Texts;
 use span_event::Text;
 use std::alloc::{AllocError, Global};
@@ -24,12 +25,19 @@ impl Model for Names {
 }
 
 impl Names {
-    /// No names. Takes no memory.
+    /// No names, of input that is trusted. Takes no memory.
     pub fn new(alloc: Global) -> Names
         ensures { result ≡ [] }
     {
+        Names::with_keys(alloc, HashKeys::fixed())
+    }
+
+    /// No names, which are looked up by these keys. Takes no memory.
+    pub fn with_keys(alloc: Global, keys: HashKeys) -> Names
+        ensures { result ≡ [] }
+    {
         Names {
-            texts: Texts::new(alloc),
+            texts: Texts::new(alloc, keys),
         }
     }
 

@@ -2,6 +2,7 @@
 ghost use Rattle.std.specs.Prelude.{◌≡◌, List, ℕ, [], Some, length, slice_get, take, option_copied, IfOk, OnOk, OnErr};
 ghost use Rattle.span_keyed_tracks.specs.Numbering.{KeepsNumbers, number_in, text_at, with_name};
 
+use crate::hash_keys::HashKeys;
 use indexmap::IndexSet;
 use span_event::Text;
 use std::alloc::{AllocError, Global};
@@ -10,7 +11,7 @@ use std::marker::Model;
 // Distinct texts, as many as memory holds, numbered from 0 in the order of their first use.
 #[derive(Drop)]
 pub(crate) struct Texts {
-    texts: IndexSet<Text>,
+    texts: IndexSet<Text, HashKeys>,
 }
 
 impl Model for Texts {
@@ -22,11 +23,11 @@ impl Model for Texts {
 }
 
 impl Texts {
-    pub(crate) fn new(alloc: Global) -> Texts
+    pub(crate) fn new(alloc: Global, keys: HashKeys) -> Texts
         ensures { result ≡ [] }
     {
         Texts {
-            texts: IndexSet::new(alloc),
+            texts: IndexSet::with_hasher(alloc, keys),
         }
     }
 

@@ -34,6 +34,6 @@ pub use span_event::{
     ArgValue, Args, Event, Field, IdKey, Item, ItemFault, Items, Phase, Reach, Text,
 };
 pub use span_keyed_tracks::{
-    AsyncKey, AsyncRow, AsyncTotals, FlowKey, FlowRow, FlowTotals, InstantRow, SeriesKey,
+    AsyncKey, AsyncRow, AsyncTotals, FlowKey, FlowRow, FlowTotals, HashKeys, InstantRow, SeriesKey,
     SeriesRow, SeriesTotals,
 };

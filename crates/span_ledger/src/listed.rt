@@ -7,6 +7,7 @@ ghost use Rattle.span_keyed_tracks.specs.Keyed.{ascending};
 
 use indexmap::IndexSet;
 use span_event::Thread;
+use span_keyed_tracks::HashKeys;
 use std::alloc::{AllocError, Global};
 use std::collections::BTreeSet;
 use std::marker::Model;
@@ -14,8 +15,8 @@ use std::marker::Model;
 // Each once, in the order of the events that listed them.
 #[derive(Drop)]
 pub(crate) struct Listed {
-    pub(crate) processes: IndexSet<i64>,
-    pub(crate) threads: IndexSet<Thread>,
+    pub(crate) processes: IndexSet<i64, HashKeys>,
+    pub(crate) threads: IndexSet<Thread, HashKeys>,
 }
 
 impl Model for Listed {
@@ -39,13 +40,13 @@ impl Model for Listed {
 }
 
 impl Listed {
-    pub(crate) fn new(alloc: Global) -> Listed
+    pub(crate) fn new(alloc: Global, keys: HashKeys) -> Listed
         ensures processes { ascending int_cmp result.processes ≡ [] }
         ensures threads { ascending thread_cmp result.threads ≡ [] }
     {
         Listed {
-            processes: IndexSet::new(alloc),
-            threads: IndexSet::new(alloc),
+            processes: IndexSet::with_hasher(alloc, keys),
+            threads: IndexSet::with_hasher(alloc, keys),
         }
     }
 

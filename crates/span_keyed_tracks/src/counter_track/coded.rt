@@ -17,6 +17,7 @@ ghost use Rattle.span_event.specs.declared.args.ArgValue.TheVariants.{Whole};
 use super::SeriesTotals;
 use super::codes::{CounterCode, IdCode, SeriesCode};
 use super::running::Running;
+use crate::hash_keys::HashKeys;
 use crate::keys::SeriesKey;
 use crate::texts::Texts;
 use indexmap::IndexMap;
@@ -27,17 +28,17 @@ use std::collections::BTreeMap;
 #[derive(Drop)]
 pub(crate) struct CodedSeries {
     pub(crate) texts: Texts,
-    pub(crate) entries: IndexMap<SeriesCode, Running>,
+    pub(crate) entries: IndexMap<SeriesCode, Running, HashKeys>,
 }
 
 impl CodedSeries {
-    pub(crate) fn new(alloc: Global) -> CodedSeries
+    pub(crate) fn new(alloc: Global, keys: HashKeys) -> CodedSeries
         ensures texts { result.texts ≡ [] }
         ensures entries { result.entries.entries ≡ [] }
     {
         CodedSeries {
-            texts: Texts::new(alloc),
-            entries: IndexMap::new(alloc),
+            texts: Texts::new(alloc, keys),
+            entries: IndexMap::with_hasher(alloc, keys),
         }
     }
 

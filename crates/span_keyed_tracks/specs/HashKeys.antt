@@ -1,0 +1,15 @@
+-- How keys hash.
+use Rattle.std.specs.Prelude.{Option, Some, None}
+use Rattle.std.specs.Hash.DefaultHasher.{initial}
+use Rattle.std.specs.RandomState.{initial_hasher}
+use Rattle.std.specs.declared.hash.DefaultHasher.{DefaultHasher}
+use Rattle.std.specs.declared.hash.RandomState.{RandomState}
+use Rattle.span_keyed_tracks.specs.declared.hash_keys.HashKeys.{HashKeys}
+
+-- the hasher of random keys, where there are any; else that of the fixed ones
+abbrev pub hasher_of : Option RandomState → DefaultHasher
+hasher_of (Some keys) = initial_hasher keys
+hasher_of None = initial
+
+abbrev pub hasher_by : HashKeys → DefaultHasher
+hasher_by keys = hasher_of keys.random

@@ -1,0 +1,38 @@
+//! How the maps that files fill are hashed.
+ghost use Rattle.span_keyed_tracks.specs.HashKeys.{hasher_by};
+
+use std::hash::{BuildHasher, DefaultHasher, RandomState};
+use std::random::RandomSource;
+
+/// The keys by which a map hashes what a file may choose: names, processes, threads and series. No answer depends on them.
+#[derive(Clone, Copy)]
+pub struct HashKeys {
+    random: Option<RandomState>,
+}
+
+impl HashKeys {
+    /// Keys that everybody knows, for input that is trusted: who wants to can choose names of which all collide.
+    pub fn fixed() -> HashKeys {
+        HashKeys { random: None }
+    }
+
+    /// Keys of random bytes, by which nobody outside can tell what collides; the fixed ones, where no random bytes are to be had.
+    pub fn random(rt: &impl RandomSource) -> HashKeys {
+        HashKeys {
+            random: RandomState::new(rt).ok(),
+        }
+    }
+}
+
+impl BuildHasher for HashKeys {
+    type Hasher = DefaultHasher;
+
+    ghost build_hasher = { hasher_by };
+
+    fn build_hasher(&self) -> DefaultHasher {
+        match self.random {
+            Some(keys) => keys.build_hasher(),
+            None => DefaultHasher::new(),
+        }
+    }
+}
