@@ -1,5 +1,5 @@
 -- The account of a closed ledger, from what the callers say that they recorded.
-use Rattle.std.proofs.Common.{◌≡◌, ℕ, ◌+◌, ◌≤◌, List, [], ◌∷◌, length, map, take, Some, None, Ok, Err, Option, Contains, refl, sym, subst, ap, ap₂, ◌∙◌, arith, inl, inr}
+use Rattle.std.proofs.Common.{◌≡◌, ◌≢◌, ℕ, ◌+◌, ◌≤◌, List, [], ◌∷◌, length, map, take, Some, None, Ok, Err, Option, Contains, refl, sym, subst, ap, ap₂, ◌∙◌, arith, inl, inr}
 use Rattle.std.specs.Prelude.{sum_by}
 use Rattle.std.proofs.lemmas.List.{length-map, length-take-le}
 use Rattle.std.proofs.lemmas.List.Sums.{sum_by-cons}
@@ -18,7 +18,7 @@ use Rattle.span_collect.specs.declared.files.FileEnd.TheVariants.{Read, Refused,
 use Rattle.span_collect.specs.declared.files.Input.{Input}
 use Rattle.span_collect.specs.declared.queries.Asked.{Asked}
 use Rattle.span_collect.specs.Account.{Account, Document, EndsAs, EachEndsAs, IsAsked, StopsAsking, asking, callers_named, operations, telling}
-use Rattle.span_collect.specs.Collection.{IsClosed, calls_told, told_by}
+use Rattle.span_collect.specs.Collection.{HasMore, IsClosed, calls_told, told_by}
 use Rattle.span_collect.proofs.Counting.{total, total-le, total-all}
 use Rattle.span_collect.proofs.Meeting.{BeginsWith-length, EachEndsAs-later, IsAsked-later}
 
@@ -93,4 +93,20 @@ module _ (files : List Input) (asks : List Query) (limit : ℕ) (ends : List Fil
     each_query_once_in_order = queries;
     distinct_callers = distinct;
     nothing_else = total-all (0 ∷ callers_named ends) ledger.journal distinct (sym (same ∙ all_calls));
+  }
+
+  -- where they are fewer, something else does
+  pub IsClosed-more : length ledger.journal ≢ calls_told ends asked → HasMore files asks limit (length ledger.journal) (calls_told ends asked)
+  IsClosed-more differ = record {
+    journal = ledger.journal;
+    ends = ends;
+    asked = asked;
+    legal = closed.closes.lawful.legal;
+    within_limit = within;
+    each_file_once_in_order = ended;
+    each_query_once_in_order = queries;
+    distinct_callers = distinct;
+    entries_are = refl;
+    told_are = refl;
+    more = omega (arith, all_calls, total-le (0 ∷ callers_named ends) ledger.journal distinct, differ);
   }

@@ -1,9 +1,11 @@
 -- What a collection gives, and its refusals.
-use Rattle.std.specs.Prelude.{◌≡◌, ◌≢◌, ℕ, ◌+◌, ◌<◌, ◌⊎◌, ⊤, List, length, sum_by}
+use Rattle.std.specs.Prelude.{◌≡◌, ℕ, ◌+◌, ◌<◌, ◌≤◌, ◌⊎◌, ⊤, List, ◌∷◌, length, sum_by}
 use Rattle.span_event.specs.declared.fault.Fault.TheVariants.{FileCount as FileCountFault, Memory as MemoryFault, Unaccounted as UnaccountedFault}
 use Rattle.span_event.specs.Fault.{number_of}
 use Rattle.span_ledger.specs.declared.query.Query.{Query}
-use Rattle.span_ledger.specs.Legal.{Kept}
+use Rattle.span_ledger.specs.declared.entry.Entry.{Entry}
+use Rattle.span_ledger.specs.Legal.{IsLegal, Kept}
+use Rattle.span_share.specs.Callers.{AreDistinct}
 use Rattle.span_share.specs.Seats.{ShareId, Seated, Closes}
 use Rattle.span_collect.specs.declared.collection.CollectError.{CollectError}
 use Rattle.span_collect.specs.declared.collection.CollectError.TheVariants.{FileCount, Memory, Unaccounted}
@@ -11,6 +13,7 @@ use Rattle.span_collect.specs.declared.files.FileEnd.{FileEnd}
 use Rattle.span_collect.specs.declared.files.FileEnd.TheVariants.{Read, Refused, Stopped, NotStarted}
 use Rattle.span_collect.specs.declared.files.Input.{Input}
 use Rattle.span_collect.specs.declared.queries.Asked.{Asked}
+use Rattle.span_collect.specs.Account.{EachEndsAs, IsAsked, callers_named}
 use Rattle.span_collect.specs.Work.{HasMet}
 
 abbrev pub collect_code : CollectError → ℕ
@@ -22,12 +25,6 @@ collect_code (Unaccounted entries calls) = number_of UnaccountedFault
 abbrev pub AreNoneOrTooMany : List Input → Type 0
 AreNoneOrTooMany files = (length files ≡ 0) ⊎ (64 < length files)
 
--- an unaccounted journal has another number of entries than calls
-abbrev pub IsDifference : CollectError → Type 0
-IsDifference FileCount = ⊤
-IsDifference Memory = ⊤
-IsDifference (Unaccounted entries calls) = entries ≢ calls
-
 -- how many items of its file an end says stand in the journal
 abbrev pub told_by : FileEnd → ℕ
 told_by (Read caller items) = items
@@ -38,6 +35,26 @@ told_by NotStarted = 0
 -- how many items and queries stand in the journal, by the ends and by what was asked
 abbrev pub calls_told : List FileEnd → Asked → ℕ
 calls_told ends asked = asked.done + sum_by told_by ends
+
+-- The journal has all that the ends and `asked` tell of, and more: so many entries, of which so many calls are told.
+pub record HasMore (files : List Input) (asks : List Query) (limit : ℕ) (entries told : ℕ) : Type 0 where
+  pub journal : List Entry
+  pub ends : List FileEnd
+  pub asked : Asked
+  pub legal : IsLegal journal
+  pub within_limit : length journal ≤ limit
+  pub each_file_once_in_order : EachEndsAs journal limit files ends
+  pub each_query_once_in_order : IsAsked journal limit asks asked
+  pub distinct_callers : AreDistinct (0 ∷ callers_named ends)
+  pub entries_are : entries ≡ length journal
+  pub told_are : told ≡ calls_told ends asked
+  pub more : told < entries
+
+-- why there is no outcome
+abbrev pub IsRefused : List Input → List Query → ℕ → CollectError → Type 0
+IsRefused files asks limit FileCount = AreNoneOrTooMany files
+IsRefused files asks limit Memory = ⊤
+IsRefused files asks limit (Unaccounted entries calls) = HasMore files asks limit entries calls
 
 -- the main seat met all workers, and closed the share of this limit
 pub record IsClosed (files : List Input) (asks : List Query) (limit : ℕ) (ends : List FileEnd) (asked : Asked) (ledger : Kept) : Type 0 where

@@ -18,6 +18,7 @@ use Rattle.span_collect.specs.declared.runs.RunEnd.{RunEnd}
 use Rattle.span_collect.specs.declared.runs.RunError.{RunError}
 use Rattle.span_collect.specs.declared.runs.RunError.TheVariants.{FileCount, Memory, Unaccounted, Output}
 use Rattle.span_collect.specs.Account.{Account, Document, telling}
+use Rattle.span_collect.specs.Collection.{AreNoneOrTooMany, HasMore}
 
 abbrev pub run_code : RunError → ℕ
 run_code FileCount = number_of FileCountFault
@@ -58,11 +59,11 @@ pub record IsCutShort (files : List Input) (asks : List Query) (limit : ℕ) (wr
   pub within : written ≤ length (report_of journal)
   pub output : Fails old new (take written (report_of journal))
 
--- what a refused run leaves: only a failed output took bytes
+-- why a run is refused, and what it leaves: only a failed output took bytes
 abbrev pub RunLeaves : RunError → List Input → List Query → ℕ → SinkState → SinkState → Type 0
-RunLeaves FileCount files asks limit old new = new ≡ old
+RunLeaves FileCount files asks limit old new = AreNoneOrTooMany files × (new ≡ old)
 RunLeaves Memory files asks limit old new = new ≡ old
-RunLeaves (Unaccounted entries calls) files asks limit old new = new ≡ old
+RunLeaves (Unaccounted entries calls) files asks limit old new = HasMore files asks limit entries calls × (new ≡ old)
 RunLeaves (Output written) files asks limit old new = IsCutShort files asks limit written old new
 
 -- the journal that one caller makes of a document: of all its items, and of none where it is refused

@@ -1,7 +1,7 @@
 //! Collects files into one ledger, and accounts for each of them.
 ghost use Rattle.std.specs.Prelude.{◌≡◌, ◌+◌, ◌^◌, ◌<◌, ◌≤◌, ◌↔◌, Err, length, IfOk, IfErr};
 ghost use Rattle.span_collect.specs.Account.{Account};
-ghost use Rattle.span_collect.specs.Collection.{AreNoneOrTooMany, IsClosed, IsDifference, collect_code, calls_told, told_by};
+ghost use Rattle.span_collect.specs.Collection.{AreNoneOrTooMany, IsClosed, IsRefused, collect_code, calls_told, told_by};
 
 use crate::files::{FileEnd, Input};
 use crate::gate::Gate;
@@ -71,7 +71,7 @@ pub fn collect<G: Gate, R: Threads + Wait + RandomSource + Sync>(
         (λ outcome. Account files.now asks.now limit outcome.files.items outcome.asked outcome.ledger.journal) }
     ensures limit { IfOk result (λ outcome. outcome.ledger.limit ≡ limit) }
     ensures count { (result ≡ Err CollectError.FileCount) ↔ AreNoneOrTooMany files.now }
-    ensures differ { IfErr result IsDifference }
+    ensures refused { IfErr result (IsRefused files.now asks.now limit) }
 {
     if files.is_empty() || files.len() > MOST_FILES {
         return Err(CollectError::FileCount);

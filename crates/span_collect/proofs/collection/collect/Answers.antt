@@ -1,5 +1,5 @@
 use Rattle.std.proofs.Common.{sym, ◌∙◌, arith}
-use Rattle.span_collect.proofs.Settling.{IsClosed-few, IsClosed-accounts}
+use Rattle.span_collect.proofs.Settling.{IsClosed-few, IsClosed-accounts, IsClosed-more}
 use Rattle.span_collect.proofs.collection.collect.Goals as goal
 
 -- the calls are within the limit
@@ -12,3 +12,9 @@ pub returns-clause-accounts : goal.returns-clause-accounts
 returns-clause-accounts g c =
     let calls = rw c.deref.ensures.value at c.count_calls-calls.ensures in
     IsClosed-accounts _ _ _ _ _ _ c.in-Ok.ensures (sym c.len-entries.ensures.length ∙ c.if-entries-calls.false ∙ calls)
+
+-- more entries than calls
+pub returns-then-entries-calls-clause-refused : goal.returns-then-entries-calls-clause-refused
+returns-then-entries-calls-clause-refused g c =
+    let calls = rw c.deref.ensures.value at c.count_calls-calls.ensures in
+    rw (c.len-entries.ensures.length, calls) (IsClosed-more _ _ _ _ _ _ c.in-Ok.ensures (λ same. c.if-entries-calls.true (c.len-entries.ensures.length ∙ same ∙ sym calls)))
