@@ -67,6 +67,10 @@ module _ {N : Type 0} where
   abbrev pub merged_args : ThreadSpans N → Arguments → Arguments
   merged_args track args = merged_with (last_of track.opened) args
 
+  -- the arguments of the last open span with those of some end
+  abbrev pub AreMerged : ThreadSpans N → Arguments → Type 0
+  AreMerged track merged = (args : Arguments) × (merged ≡ merged_args track args)
+
   -- the event stands before this position; an end opens nothing, and needs none
   abbrev pub IsBefore : ℕ → ThreadEvent N → Type 0
   IsBefore at (opens b) = b.at < at

@@ -8,7 +8,7 @@ ghost use Rattle.span_keyed_tracks.specs.Fault.{Answers};
 ghost use Rattle.span_track.specs.Nesting.{ThreadEvent, began, ended, completed, closed_by, opener, opener_args};
 ghost use Rattle.span_self_time.specs.Segments.{lasts, AreSegments, HasSegments, HasEnds};
 ghost use Rattle.span_self_time.specs.Spans.{Arguments, names_of, self_of, busy_time};
-ghost use Rattle.span_track.specs.Thread.{StandsFor, TakesEvent, HasRoom, IsNext, goes_back, begin_refusal, end_refusal, merged_args};
+ghost use Rattle.span_track.specs.Thread.{AreMerged, StandsFor, TakesEvent, HasRoom, IsNext, goes_back, begin_refusal, end_refusal, merged_args};
 ghost use Rattle.span_self_time.specs.Closed.{span_of, total_for, AreClosed};
 
 use span_event::{Args, Fault, merge_args};
@@ -121,6 +121,7 @@ impl ThreadTrack {
     pub fn close_span(&mut self, ts: i64, merged: Args) -> Result<i64, AllocError>
         requires in_time { IsTime ts }
         requires taken { end_refusal self.old ts ≡ None }
+        requires merged { AreMerged self.old merged }
         ensures start { IfOk result (λ start. (es : List (ThreadEvent ℕ)) → StandsFor self.old es
             → option_map (λ begin. begin.ts) (opener es) ≡ Some start) }
         ensures stands { OnOk result ((args : Arguments) → merged ≡ merged_args self.old args
