@@ -1,19 +1,37 @@
--- What a request does.
-use Rattle.std.specs.Prelude.{◌≡◌, ℕ, ◌⊎◌, List, [], take, string_bytes}
-use Rattle.std.specs.Io.KnownBytes.{Appends}
-use Rattle.span_ledger.specs.declared.entry.Entry.{Entry}
-use Rattle.span_report.specs.Report.{report_of}
+-- What the words of a command line ask for, and what a request does.
+use Rattle.std.specs.Prelude.{◌≡◌, ℕ, ◌⊎◌, Bool, false, List, [], take, codes, nat_eq, string_bytes}
+use Rattle.std.specs.List.{list_any, starts_with}
 use Rattle.span_report.specs.Sink.{SinkState, TakesBytes, Fails}
-use Rattle.span_collect.specs.declared.files.FileEnd.{FileEnd}
 use Rattle.span_collect.specs.declared.files.Input.{Input}
-use Rattle.span_collect.specs.declared.queries.Asked.{Asked}
 use Rattle.span_collect.specs.declared.runs.RunEnd.{RunEnd}
-use Rattle.span_collect.specs.Account.{Account}
-use Rattle.span_collect.specs.Run.{IsRunOf}
+use Rattle.span_collect.specs.declared.runs.RunError.{RunError}
+use Rattle.span_collect.specs.Run.{IsRunOf, RunLeaves}
 use Rattle.span_command_line.specs.declared.command.Request.{Request}
 use Rattle.span_command_line.specs.declared.command.Request.TheVariants.{Collect, Show, Refuse}
 use Rattle.span_command_line.specs.Source.{SourceBytes}
 use Rattle.span_command_line.specs.Inputs.{AreInputs}
+
+-- the word begins with a hyphen
+abbrev pub is_option : List ℕ → Bool
+is_option word = starts_with nat_eq word (codes "-")
+
+-- the limit where the command line doesn't say
+abbrev pub default_limit : ℕ
+default_limit = 16777216
+
+-- the files of these names are to be collected, with the default limit
+abbrev pub NamesFiles : List (List ℕ) → Request → Type 0
+NamesFiles words (Collect limit files) = (limit ≡ default_limit) × (files.items ≡ words)
+NamesFiles words (Show text) = ⊥
+NamesFiles words (Refuse text) = ⊥
+
+-- words without options ask for the files that they name
+abbrev pub AsksFor : List (List ℕ) → Request → Type 0
+AsksFor words request = list_any is_option words ≡ false → NamesFiles words request
+
+-- this holds of a request that the words ask for
+abbrev pub Asked : List (List ℕ) → (Request → Type 0) → Type 0
+Asked words Holds = (request : Request) × AsksFor words request × Holds request
 
 -- a run of these inputs, without queries, ended with this status
 pub record EndsWith (inputs : List Input) (limit status : ℕ) (old new : SinkState) : Type 0 where
@@ -21,18 +39,11 @@ pub record EndsWith (inputs : List Input) (limit status : ℕ) (old new : SinkSt
   pub is_run : IsRunOf inputs [] limit run old new
   pub ended : run.status ≡ status
 
--- of the report of a journal that accounts for these inputs the first bytes were written, or all
-pub record BeginsReport (inputs : List Input) (limit : ℕ) (old new : SinkState) : Type 0 where
-  pub ends : List FileEnd
-  pub asked : Asked
-  pub journal : List Entry
-  pub account : Account inputs [] limit ends asked journal
-  pub written : ℕ
-  pub taken : Appends old.taken new.taken (take written (report_of journal))
-
--- nothing was written, or a report was begun
+-- What a run of these inputs left where the program ended with 2. The run ended with 2, and wrote nothing; or it was refused, and wrote
+-- nothing unless the output failed; or a file was refused, the report of the run is written, and memory for the file's line was refused.
 abbrev pub LeavesPart : List Input → ℕ → SinkState → SinkState → Type 0
-LeavesPart inputs limit old new = (new ≡ old) ⊎ BeginsReport inputs limit old new
+LeavesPart inputs limit old new =
+    EndsWith inputs limit 2 old new ⊎ (((error : RunError) × RunLeaves error inputs [] limit old new) ⊎ EndsWith inputs limit 1 old new)
 
 -- the files of these names were collected, and their report is written
 pub record Collects (source : SourceBytes) (names : List (List ℕ)) (limit status : ℕ) (old new : SinkState) : Type 0 where
@@ -40,9 +51,9 @@ pub record Collects (source : SourceBytes) (names : List (List ℕ)) (limit stat
   pub read : AreInputs source names inputs
   pub ended : EndsWith inputs limit status old new
 
--- nothing was written, or first bytes of the report of these files
+-- not all files were read, and nothing was written; or a run of them left this
 abbrev pub CollectsPart : SourceBytes → List (List ℕ) → ℕ → SinkState → SinkState → Type 0
-CollectsPart source names limit old new = (new ≡ old) ⊎ ((inputs : List Input) × AreInputs source names inputs × BeginsReport inputs limit old new)
+CollectsPart source names limit old new = (new ≡ old) ⊎ ((inputs : List Input) × AreInputs source names inputs × LeavesPart inputs limit old new)
 
 -- what a request did that ended with status 0 or 1: its files were collected, or its text was written
 abbrev pub Performs : SourceBytes → Request → ℕ → SinkState → SinkState → Type 0

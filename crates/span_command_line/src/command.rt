@@ -1,4 +1,8 @@
 //! The command line: its words, and what they ask for.
+ghost use Rattle.std.specs.Prelude.{◌≡◌, codes, nat_eq, IfOk};
+ghost use Rattle.std.specs.List.{list_any, starts_with};
+ghost use Rattle.span_command_line.specs.Request.{AsksFor, is_option};
+
 use clap::error::ErrorKind;
 use clap::{Arg, ArgAction, ArgMatches, Command};
 use span_event::Text;
@@ -11,7 +15,7 @@ const ABOUT: &str =
     "Reports where the time went in trace event files, of Chrome, clang, node and other tools: for each thread how long the spans of each name took, together and on their own.";
 
 const AFTER: &str =
-    "All times are whole microseconds, as Chrome, clang, node and cmake write them. An event with
+    r#"All times are whole microseconds, as Chrome, clang, node and cmake write them. An event with
 a fraction, as Go's build trace has, is refused and counted, and begins and ends may then pair wrongly.
 
 Status:
@@ -20,8 +24,9 @@ Status:
   2  a file could not be read, memory ran out or the limit was reached: there is no report
 
 Example:
-  tracebook build.json | grep '^span' | sort -k4,4nr | head
-shows the names that took the most time of their own.";
+  tracebook build.json | awk '/^thread/ {t=$2"/"$3} /^span/ && !/"Total / {
+    s=$4; sub(/^span +[0-9]+ +[0-9]+ +[0-9]+ /, ""); print s, t, $0}' | sort -nr | head
+shows the names that took the most time of their own, each with its process and thread, but not clang's own sums."#;
 
 /// What a command line asks for.
 #[derive(Debug, Drop)]
@@ -34,8 +39,43 @@ pub enum Request {
     Refuse(String),
 }
 
-/// What the words ask for; they leave out the program's own name.
-pub fn request_of(alloc: Global, words: &[Text]) -> Result<Request, AllocError> {
+/// What the words ask for; they leave out the program's own name. Words of which none begins with a hyphen name files.
+pub fn request_of(alloc: Global, words: &[Text]) -> Result<Request, AllocError>
+    ensures { IfOk result (AsksFor words.now) }
+{
+    if has_options(words) {
+        return parsed_request(alloc, words);
+    }
+    Ok(Request::Collect {
+        limit: DEFAULT_LIMIT,
+        files: copies_of(alloc, words)?,
+    })
+}
+
+fn has_options(words: &[Text]) -> bool
+    ensures { result ≡ list_any is_option words.now }
+{
+    words.iter().any(|word| is_option(word))
+}
+
+fn is_option(word: &Text) -> bool
+    ensures { result ≡ is_option word.now }
+{
+    word.as_str().as_bytes().starts_with(b"-")
+}
+
+fn copies_of(alloc: Global, words: &[Text]) -> Result<Vec<Text>, AllocError>
+    ensures { IfOk result (λ copies. copies.items ≡ words.now) }
+{
+    let mut copies = Vec::with_capacity(alloc, words.len())?;
+    for word in words {
+        copies.push(word.try_clone(alloc)?)?;
+    }
+    Ok(copies)
+}
+
+// What words with options ask for. What these mean is the library's to say.
+fn parsed_request(alloc: Global, words: &[Text]) -> Result<Request, AllocError> {
     let limit_help = format!(in alloc;
         "The most entries of the journal, 1 to 4294967295 [default: {DEFAULT_LIMIT}]"
     )?;

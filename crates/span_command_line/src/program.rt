@@ -1,8 +1,8 @@
 //! The program, over whatever files and outputs it is given.
 ghost use Rattle.std.specs.Prelude.{◌≡◌, ◌<◌, ◌≤◌, ◌⊎◌, length};
-ghost use Rattle.span_command_line.specs.Request.{EndsWith, LeavesPart, Collects, CollectsPart, Performs, GivesUp};
+ghost use Rattle.span_command_line.specs.Request.{Asked, EndsWith, LeavesPart, Collects, CollectsPart, Performs, GivesUp};
 
-use crate::command::Request;
+use crate::command::{Request, request_of};
 use crate::inputs::{Unread, inputs_of};
 use crate::source::Source;
 use span_collect::{Input, RunEnd, fault_line_of, fault_lines, numbered_text, run_to_ledger};
@@ -17,10 +17,30 @@ use std::thread::Threads;
 
 const FAILED: u8 = 2;
 
-/// Does what is asked for, and gives the exit status: 0 where all files were read, 1 where one was refused, else 2. Files are
-/// read in the order of their names; the first that cannot be read decides. A failed write to `faults` changes nothing. Waits for
-/// the workers, of which each file has one.
+/// Does what the words ask for, which leave out the program's own name, and gives the exit status: 0 where all files were read, 1
+/// where one was refused, else 2. Files are read in the order of their names; the first that cannot be read decides. A failed
+/// write to `faults` changes no status. Waits for the workers, of which each file has one.
 pub fn perform<R: Threads + Wait + RandomSource + Sync, S: Source, O: Sink, F: Write>(
+    rt: &R,
+    alloc: Global,
+    words: &[Text],
+    source: &mut S,
+    out: &mut O,
+    faults: &mut F,
+) -> u8
+    ensures status { result ≤ 2 }
+    ensures done { result < 2
+        → Asked words.now (λ request. Performs (S.bytes source.old) request result (O.state out.old) (O.state out.new)) }
+    ensures failed { result ≡ 2 → (O.state out.new ≡ O.state out.old)
+        ⊎ Asked words.now (λ request. GivesUp (S.bytes source.old) request (O.state out.old) (O.state out.new)) }
+{
+    match request_of(alloc, words) {
+        Ok(request) => perform_request(rt, alloc, request, source, out, faults),
+        Err(_) => fail(alloc, Fault::Memory.code(), faults),
+    }
+}
+
+fn perform_request<R: Threads + Wait + RandomSource + Sync, S: Source, O: Sink, F: Write>(
     rt: &R,
     alloc: Global,
     request: Request,
@@ -103,12 +123,17 @@ fn collect<R: Threads + Wait + RandomSource + Sync, O: Sink, F: Write>(
     }
 }
 
-// Writes the lines of files that were not read whole, and gives the status of the run.
+// Writes the lines of files that were not read whole, and gives the status of the run; or 2, where memory for the lines is refused.
+// Where every file was read there is no line.
 fn report_faults<F: Write>(alloc: Global, files: &[Input], end: &RunEnd, faults: &mut F) -> u8
     requires lines { length files.now ≡ length end.now.ends.items }
     requires status { end.now.status ≤ 2 }
-    ensures { (result ≡ end.now.status) ⊎ (result ≡ 2) }
+    ensures status { (result ≡ end.now.status) ⊎ (result ≡ 2) }
+    ensures whole { end.now.status ≡ 0 → result ≡ 0 }
 {
+    if end.status == 0 {
+        return 0;
+    }
     match fault_lines(alloc, files, &end.ends) {
         Ok(lines) => {
             let _ = faults.write_all(&lines);

@@ -17,24 +17,25 @@ const EMPTY: &[u8] = b"[]";
 
 const EMPTY_REPORT: &str = "tracebook 1\nevents 0 refused 0 skipped 0 queries 0\n";
 
-// Each file, and standard input, has no items.
+// Each file, and standard input, has these bytes.
 #[derive(Drop)]
-struct Empty {
+struct Same {
     alloc: Global,
+    bytes: &'static [u8],
 }
 
-impl Empty {
+impl Same {
     fn first(&self, most: u64) -> Result<Vec<u8>, SourceFault>
         ensures { IfOk result (λ bytes. vec_len bytes ≤ most) }
     {
-        let count = EMPTY.len().min(most as usize);
-        Vec::from_slice(self.alloc, &EMPTY[..count]).map_err(|_| SourceFault::Memory)
+        let count = self.bytes.len().min(most as usize);
+        Vec::from_slice(self.alloc, &self.bytes[..count]).map_err(|_| SourceFault::Memory)
     }
 }
 
-impl Source for Empty {
+impl Source for Same {
     // The tests read what comes of the files, and prove nothing of it.
-    ghost bytes = { λ empty. record { standard = None; file = λ name. None } };
+    ghost bytes = { λ same. record { standard = None; file = λ name. None } };
 
     fn standard(&mut self, most: u64) -> Result<Vec<u8>, SourceFault> {
         self.first(most)
@@ -53,16 +54,22 @@ fn texts_of(alloc: Global, words: &[&str]) -> Result<Vec<Text>, AllocError> {
     Ok(texts)
 }
 
-// The request ends with status 0, the report of no events, and no line of a fault.
-fn reports_nothing(rt: &(impl Abort + AllocGlobal + Threads + Wait + RandomSource + Sync), request: Request) {
+// The words end with status 0, the report of no events, and no line of a fault.
+fn reports_nothing(
+    rt: &(impl Abort + AllocGlobal + Threads + Wait + RandomSource + Sync),
+    words: &[Text],
+) {
     let alloc = rt.alloc();
-    let mut source = Empty { alloc };
+    let mut source = Same {
+        alloc,
+        bytes: EMPTY,
+    };
     let mut out = Vec::new(alloc);
     let mut faults = Vec::new(alloc);
     let status = perform(
         rt,
         alloc,
-        request,
+        words,
         &mut source,
         &mut Writer::new(&mut out),
         &mut faults,
@@ -75,27 +82,20 @@ fn reports_nothing(rt: &(impl Abort + AllocGlobal + Threads + Wait + RandomSourc
 #[test]
 fn takes_64_files(rt: HostRuntime) -> Result<(), Fail> {
     let texts = texts_of(rt.alloc(), &["empty.json"; 64])?;
-    let request = request_of(rt.alloc(), &texts)?;
-    reports_nothing(&rt, request);
+    reports_nothing(&rt, &texts);
     Ok(())
 }
 
 fn status_of(
     rt: &(impl Abort + AllocGlobal + Threads + Wait + RandomSource + Sync),
-    request: Request,
+    words: &[Text],
+    bytes: &'static [u8],
     out: &mut Short,
+    faults: &mut Short,
 ) -> u8 {
     let alloc = rt.alloc();
-    let mut source = Empty { alloc };
-    let mut faults = Vec::new(alloc);
-    perform(
-        rt,
-        alloc,
-        request,
-        &mut source,
-        &mut Writer::new(out),
-        &mut faults,
-    )
+    let mut source = Same { alloc, bytes };
+    perform(rt, alloc, words, &mut source, &mut Writer::new(out), faults)
 }
 
 // A writer that takes so many bytes, and then fails.
@@ -133,9 +133,32 @@ fn prints_help_and_refuses_wrong_words(rt: HostRuntime) -> Result<(), Fail> {
         ("--limit=4294967296", 100_000, 2, false),
     ] {
         let mut out = Short { room, taken: 0 };
-        let request = request_of(alloc, &texts_of(alloc, &[word])?)?;
-        assert_eq!(rt; status_of(&rt, request, &mut out), status, "{word}");
+        let mut faults = Short { room, taken: 0 };
+        let words = texts_of(alloc, &[word])?;
+        assert_eq!(rt;
+            status_of(&rt, &words, EMPTY, &mut out, &mut faults),
+            status,
+            "{word}"
+        );
         assert_eq!(rt; out.taken > 0, is_printed, "{word}");
+    }
+    Ok(())
+}
+
+// A file that is refused has a line, and wrong words a text, which nobody takes.
+#[test]
+fn a_failed_write_of_faults_changes_no_status(rt: HostRuntime) -> Result<(), Fail> {
+    let alloc = rt.alloc();
+    for (word, status, printed) in [("cut.json", 1u8, EMPTY_REPORT.len()), ("--wrong", 2, 0)] {
+        let mut out = Short {
+            room: 100_000,
+            taken: 0,
+        };
+        let mut faults = Short { room: 0, taken: 0 };
+        let words = texts_of(alloc, &[word])?;
+        let ended = status_of(&rt, &words, b"[{", &mut out, &mut faults);
+        assert_eq!(rt; ended, status, "{word}");
+        assert_eq!(rt; out.taken, printed, "{word}");
     }
     Ok(())
 }

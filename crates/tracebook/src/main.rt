@@ -6,7 +6,7 @@ mod progress;
 ghost use Rattle.std.specs.Prelude.{None};
 
 use progress::{Cleared, Progress, Watched};
-use span_command_line::{Request, Source, SourceFault, perform, read_up_to, request_of};
+use span_command_line::{Source, SourceFault, perform, read_up_to};
 use span_event::Text;
 use span_report::Writer;
 use std::fs::File;
@@ -55,18 +55,18 @@ impl<'a> Source for Host<'a> {
     }
 }
 
-// What the words of the command line behind the program's name ask for. Each of them must be text.
-fn request(rt: &HostRuntime) -> io::Result<Request> {
+// The words of the command line behind the program's name. Each of them must be text.
+fn words(rt: &HostRuntime) -> io::Result<Vec<Text>> {
     let alloc = rt.alloc();
     let mut words = Vec::new(alloc);
     for word in env::args(rt)?.skip(1) {
         words.push(Text::of(alloc, word.as_str())?)?;
     }
-    Ok(request_of(alloc, &words)?)
+    Ok(words)
 }
 
-// Says why there is no request. Nothing can be done where standard error fails.
-fn fail_without_request(rt: &HostRuntime, error: io::Error) -> ExitCode {
+// Says why there are no words. Nothing can be done where standard error fails.
+fn fail_without_words(rt: &HostRuntime, error: io::Error) -> ExitCode {
     let _ = match error.kind() {
         ErrorKind::OutOfMemory => eprintln!(rt; "tracebook: 31 Memory"),
         _ => eprintln!(rt; "tracebook: a word of the command line is not UTF-8 text"),
@@ -75,9 +75,9 @@ fn fail_without_request(rt: &HostRuntime, error: io::Error) -> ExitCode {
 }
 
 fn main(rt: HostRuntime) -> ExitCode {
-    let request = match request(&rt) {
-        Ok(request) => request,
-        Err(error) => return fail_without_request(&rt, error),
+    let words = match words(&rt) {
+        Ok(words) => words,
+        Err(error) => return fail_without_words(&rt, error),
     };
     let is_terminal = rt.stderr().is_terminal();
     let mut source = Host {
@@ -86,6 +86,6 @@ fn main(rt: HostRuntime) -> ExitCode {
     };
     let mut out = Writer::new(Cleared::new(&rt, rt.stdout(), is_terminal));
     let mut faults = Cleared::new(&rt, rt.stderr(), is_terminal);
-    let status = perform(&rt, rt.alloc(), request, &mut source, &mut out, &mut faults);
+    let status = perform(&rt, rt.alloc(), &words, &mut source, &mut out, &mut faults);
     ExitCode::from(status)
 }

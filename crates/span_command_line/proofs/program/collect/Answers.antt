@@ -10,10 +10,15 @@ report_faults-requires-clause-lines g c =
     EachEndsAs-length run.journal c.args.limit c.args.files.now c.in-Ok.collected.end.ends.items run.account.each_file_once_in_order
 
 pub returns-in-Ok-clause-done : goal.returns-in-Ok-clause-done
-returns-in-Ok-clause-done g c = λ below. elim c.report_faults.ensures [
+returns-in-Ok-clause-done g c = λ below. elim c.report_faults.ensures.status [
   | inl same ↦ record { run = c.in-Ok.collected.end; is_run = c.in-Ok.ensures.run; ended = sym same }
   | inr two ↦ absurd (omega (arith, two, below))
 ]
 
 pub returns-in-Ok-clause-failed : goal.returns-in-Ok-clause-failed
-returns-in-Ok-clause-failed g c = λ two. LeavesPart-ended c.in-Ok.collected.end c.args.files.now c.args.limit _ _ c.in-Ok.ensures.run
+returns-in-Ok-clause-failed g c = λ two.
+    LeavesPart-ended c.in-Ok.collected.end c.args.files.now c.args.limit _ _ c.in-Ok.ensures.run (λ none. absurd (omega (arith, two, c.report_faults.ensures.whole none)))
+
+-- the run was refused
+pub returns-in-Err-clause-failed : goal.returns-in-Err-clause-failed
+returns-in-Err-clause-failed g c = λ two. inr (inl (c.in-Err.error, c.in-Err.ensures.error))
