@@ -1,0 +1,116 @@
+#!/usr/bin/env python3
+"""A plain model of tracebook. It reads files by docs/format.md (reading.py), tells them one after another to a ledger by
+docs/ledger.md (ledger.py), and prints the report of docs/report.md. It is written from these pages alone and shares nothing with
+the program, so that the two can be compared. It knows no limit of the journal, and no workers.
+
+usage: report.py FILE...
+"""
+import gc
+import sys
+from json.encoder import encode_basestring as json_text
+
+from ledger import Ledger, busy_time, self_times
+from reading import Refused, elements_of
+
+WORDS = {1: "NotJson", 2: "NotTrace", 3: "TooLarge", 4: "TooMany"}
+
+
+def name_text(name):
+    return "-" if name is None else json_text(name)
+
+
+def id_word(order):
+    """The word of an id in its order."""
+    if order == (0,):
+        return "-"
+    return json_text(order[1]) if order[0] == 1 else f"{order[1]}:{json_text(order[2])}"
+
+
+def span_lines(closed, times):
+    totals = {}
+    for (start, end, _, name), own in zip(closed, times):
+        count, total, self_time = totals.get(name, (0, 0, 0))
+        totals[name] = (count + 1, total + end - start, self_time + own)
+    for name, (count, total, own) in sorted(totals.items()):
+        yield f"span {count:8} {total:16} {own:16} {json_text(name)}"
+
+
+def thread_lines(number, thread):
+    times = self_times(thread.closed)
+    yield f"thread {number[0]} {number[1]} {name_text(thread.name)} open {len(thread.open)} busy {busy_time(thread.closed)}"
+    yield from span_lines(thread.closed, times)
+    for (name, reach), count in sorted(thread.instants.items()):
+        yield f"instant {reach} {count:8} {json_text(name)}"
+
+
+def series_line(process, key, samples):
+    name, id_, member = key
+    values = [value for _, _, value in samples]
+    words = f"counter {process} {json_text(name)} {id_word(id_)} {json_text(member)}"
+    return f"{words} samples {len(values)} least {min(values)} greatest {max(values)} last {max(samples)[2]}"
+
+
+def process_lines(number, process):
+    yield f"process {number} {name_text(process.name)}"
+    for thread in sorted(process.threads):
+        yield from thread_lines(thread, process.threads[thread])
+    for key in sorted(process.series):
+        yield series_line(number, key, process.series[key])
+
+
+def async_line(key, spans):
+    category, scope, id_, name = key
+    words = f"async {json_text(category)} {json_text(scope)} {id_word(id_)} {json_text(name)}"
+    return f"{words} closed {spans.closed} total {spans.total} open {len(spans.open)} points {spans.points}"
+
+
+def flow_line(key, flows):
+    category, name, id_ = key
+    words = f"flow {json_text(category)} {json_text(name)} {id_word(id_)}"
+    return f"{words} ended {flows.ended} total {flows.total} open {len(flows.chain)}"
+
+
+def report_lines(ledger):
+    yield "tracebook 1"
+    yield f"events {ledger.accepted} refused {sum(ledger.refused.values())} skipped {ledger.skipped} queries 0"
+    for number in sorted(ledger.processes):
+        yield from process_lines(number, ledger.processes[number])
+    for key in sorted(ledger.async_keys):
+        yield async_line(key, ledger.async_keys[key])
+    for key in sorted(ledger.flow_keys):
+        yield flow_line(key, ledger.flow_keys[key])
+
+
+def report_of(ledger):
+    """The bytes of the report."""
+    return "".join(line + "\n" for line in report_lines(ledger)).encode()
+
+
+def collect(files):
+    """The ledger of files, each a name and its bytes, and the lines of those that are refused."""
+    ledger, faults = Ledger(), []
+    for name, data in files:
+        try:
+            for element in elements_of(data):
+                ledger.take(element)
+        except Refused as refusal:
+            faults.append(f"tracebook: {json_text(name)}: {refusal.number} {WORDS[refusal.number]}")
+    return ledger, faults
+
+
+def bytes_of(path):
+    with open(path, "rb") as file:
+        return file.read()
+
+
+def main():
+    gc.disable()  # Nothing here is let go in rings, and to look for them takes long.
+    ledger, faults = collect((path, bytes_of(path)) for path in sys.argv[1:])
+    sys.stdout.buffer.write(report_of(ledger))
+    for line in faults:
+        print(line, file=sys.stderr)
+    return 1 if faults else 0
+
+
+if __name__ == "__main__":
+    sys.exit(main())
