@@ -18,16 +18,14 @@ demo: tracebook
 	./tracebook < examples/page_load.json
 
 # The merge gate, which proves and builds everything from nothing, and then what it built: the program on each case of
-# tests/acceptance and on a large generated trace, and each growth refused in turn.
+# tests/acceptance and on a large generated trace, and each allocation refused in turn.
 test:
 	rt ci
 	tests/acceptance/run crates/tracebook/out/tracebook
 	tests/generated_trace crates/tracebook/out/tracebook
 	tests/documented_words
 	tests/trusted_definitions
-	tests/refused_growths
-	tests/refused_reading
-	tests/refused_runs
+	tests/refused_allocations
 	tests/terminal_line
 
 # Times the reading of traces beside that of other readers, the division of a thread's time, a report beside its reading, and

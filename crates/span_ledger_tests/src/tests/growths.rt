@@ -81,7 +81,7 @@ fn tell_at_last(
     tell_again(rt, ledger, back, before.as_str())
 }
 
-// Runs with each growth refused in turn, by tests/refused_growths.
+// Runs with each growth refused in turn, by tests/refused_allocations.
 fn a_refused_growth_changes_nothing_in(
     rt: &(impl Abort + AllocGlobal),
     ledger: &mut Ledger,
