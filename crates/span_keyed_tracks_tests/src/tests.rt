@@ -1,5 +1,36 @@
+//! Tracks that are told events, and what they then tell.
+ghost use Rattle.std.specs.Prelude.{All};
+ghost use Rattle.span_event.specs.Event.{IsGood};
+ghost use Rattle.span_event.specs.Item.{IsGoodItem};
+
 mod async_track;
 mod counter_track;
 mod flow_track;
 mod meta_track;
 mod names;
+
+use span_keyed_tracks::TrackFault;
+use span_read::{Event, IdKey, Item, Items, Text};
+use std::alloc::{AllocError, Global};
+use std::process::Abort;
+
+fn id_key(alloc: Global, home: Option<i64>, text: &str) -> Result<IdKey, AllocError> {
+    let id = Text::of(alloc, text)?;
+    Ok(IdKey { home, id })
+}
+
+// What a track says to an event that it refuses.
+fn refused<T>(number: u16) -> Result<T, TrackFault> {
+    Err(TrackFault::Refused(number))
+}
+
+// The event at a place of a file.
+fn event_at<'a>(rt: &impl Abort, items: &'a Items, place: usize) -> &'a Event
+    requires { All IsGoodItem items.now }
+    ensures { IsGood result.now }
+{
+    let Some(Item::Good(event)) = items.get(place) else {
+        panic!(rt; "no good event at {place}");
+    };
+    event
+}

@@ -1,8 +1,9 @@
 ghost use Rattle.span_event.specs.Event.{IsTime};
 ghost use Rattle.span_keyed_tracks.specs.Async.{HasAsyncRoom};
 
+use super::{id_key, refused};
 use span_keyed_tracks::{AsyncKey, AsyncRow, AsyncTotals, AsyncTrack, TrackFault};
-use span_read::{IdKey, Text};
+use span_read::Text;
 use std::alloc::{AllocError, Global};
 use std::process::Abort;
 use std::test::Fail;
@@ -12,15 +13,11 @@ type KeyTexts<'a> = (&'a str, &'a str, Option<i64>, &'a str, &'a str);
 
 fn key(alloc: Global, texts: KeyTexts<'_>) -> Result<AsyncKey, AllocError> {
     let (cat, scope, home, id, name) = texts;
-    let cat = Text::of(alloc, cat)?;
-    let scope = Text::of(alloc, scope)?;
-    let id = Text::of(alloc, id)?;
-    let name = Text::of(alloc, name)?;
     Ok(AsyncKey {
-        cat,
-        scope,
-        id: IdKey { home, id },
-        name,
+        cat: Text::of(alloc, cat)?,
+        scope: Text::of(alloc, scope)?,
+        id: id_key(alloc, home, id)?,
+        name: Text::of(alloc, name)?,
     })
 }
 
@@ -46,24 +43,17 @@ fn point(rt: &impl Abort, track: &mut AsyncTrack, key: &AsyncKey) -> Result<(), 
     track.point(key)
 }
 
-fn expect_length(
+// An end is answered with the length of the span that it closes, or refused.
+fn expect_end(
     rt: &impl Abort,
     track: &mut AsyncTrack,
     key: &AsyncKey,
     ts: i64,
-    length: u64,
-) -> Result<(), Fail>
+    told: Result<u64, TrackFault>,
+)
     requires { IsTime ts }
 {
-    let ended = track.end_async(key, ts)?;
-    assert_eq!(rt; ended, length);
-    Ok(())
-}
-
-fn expect_refusal(rt: &impl Abort, track: &mut AsyncTrack, key: &AsyncKey, ts: i64, number: u16)
-    requires { IsTime ts }
-{
-    assert_eq!(rt; track.end_async(key, ts), Err(TrackFault::Refused(number)));
+    assert_eq!(rt; track.end_async(key, ts), told);
 }
 
 fn expect_totals(rt: &impl Abort, track: &AsyncTrack, key: &AsyncKey, totals: AsyncTotals) {
@@ -78,48 +68,46 @@ fn expect_one_row(rt: &impl Abort, rows: &[AsyncRow], key: &AsyncKey, totals: As
     }
 }
 
-const NOTHING: AsyncTotals = AsyncTotals {
-    closed: 0,
-    total: 0,
-    unclosed: 0,
-    points: 0,
-};
+fn totals(closed: u32, total: u128, unclosed: u32, points: u32) -> AsyncTotals {
+    AsyncTotals {
+        closed,
+        total,
+        unclosed,
+        points,
+    }
+}
 
-#[test]
-fn a_key_in_two_scopes(rt: HostRuntime) -> Result<(), Fail> {
-    let rt = &rt;
-    let here = &key(rt.alloc(), ("net", "A", None, "5", ""))?;
-    let elsewhere = &key(rt.alloc(), ("net", "B", None, "5", ""))?;
+// A span of the first key, which no end of the second closes.
+fn expect_apart(
+    rt: &(impl Abort + AllocGlobal),
+    first: &AsyncKey,
+    second: &AsyncKey,
+    (start, end): (i64, i64),
+    length: u64,
+) -> Result<(), Fail> {
+    assert!(rt; 0 < start && start < 1000 && 0 < end && end < 1000);
     let track = &mut AsyncTrack::new(rt.alloc());
-    begin(rt, track, here, 10)?;
-    expect_refusal(rt, track, elsewhere, 11, 23);
-    expect_length(rt, track, here, 14, 4)?;
-    let totals = AsyncTotals {
-        closed: 1,
-        total: 4,
-        unclosed: 0,
-        points: 0,
-    };
-    expect_totals(rt, track, here, totals);
-    expect_totals(rt, track, elsewhere, NOTHING);
-    let rows = track.rows(rt.alloc())?;
-    expect_one_row(rt, &rows, here, totals);
+    begin(rt, track, first, start)?;
+    expect_end(rt, track, second, start + 1, refused(23));
+    expect_end(rt, track, first, start - 1, refused(24));
+    expect_end(rt, track, first, end, Ok(length));
+    expect_end(rt, track, first, end, refused(23));
+    let closed = totals(1, u128::from(length), 0, 0);
+    expect_totals(rt, track, first, closed);
+    expect_totals(rt, track, second, totals(0, 0, 0, 0));
+    expect_one_row(rt, &track.rows(rt.alloc())?, first, closed);
     Ok(())
 }
 
+// A key in two scopes, and an id of two processes.
 #[test]
-fn an_id_of_two_processes(rt: HostRuntime) -> Result<(), Fail> {
-    let rt = &rt;
-    let first = &key(rt.alloc(), ("", "", Some(1), "1", ""))?;
-    let second = &key(rt.alloc(), ("", "", Some(2), "1", ""))?;
-    let track = &mut AsyncTrack::new(rt.alloc());
-    begin(rt, track, first, 1)?;
-    expect_refusal(rt, track, second, 2, 23);
-    expect_refusal(rt, track, first, 0, 24);
-    expect_length(rt, track, first, 3, 2)?;
-    expect_refusal(rt, track, first, 3, 23);
-    expect_totals(rt, track, second, NOTHING);
-    Ok(())
+fn keys_are_kept_apart(rt: HostRuntime) -> Result<(), Fail> {
+    let here = key(rt.alloc(), ("net", "A", None, "5", ""))?;
+    let elsewhere = key(rt.alloc(), ("net", "B", None, "5", ""))?;
+    expect_apart(&rt, &here, &elsewhere, (10, 14), 4)?;
+    let first = key(rt.alloc(), ("", "", Some(1), "1", ""))?;
+    let second = key(rt.alloc(), ("", "", Some(2), "1", ""))?;
+    expect_apart(&rt, &first, &second, (1, 3), 2)
 }
 
 #[test]
@@ -127,26 +115,16 @@ fn spans_of_one_key_that_nest(rt: HostRuntime) -> Result<(), Fail> {
     let rt = &rt;
     let key = &key(rt.alloc(), ("c", "", None, "x", "n"))?;
     let track = &mut AsyncTrack::new(rt.alloc());
-    expect_totals(rt, track, key, NOTHING);
+    expect_totals(rt, track, key, totals(0, 0, 0, 0));
     point(rt, track, key)?;
     begin(rt, track, key, 9)?;
     begin(rt, track, key, -5)?;
     begin(rt, track, key, 2)?;
     point(rt, track, key)?;
-    expect_length(rt, track, key, 2, 0)?;
-    expect_length(rt, track, key, 3, 8)?;
-    expect_refusal(rt, track, key, 8, 24);
-    expect_totals(
-        rt,
-        track,
-        key,
-        AsyncTotals {
-            closed: 2,
-            total: 8,
-            unclosed: 1,
-            points: 2,
-        },
-    );
+    expect_end(rt, track, key, 2, Ok(0));
+    expect_end(rt, track, key, 3, Ok(8));
+    expect_end(rt, track, key, 8, refused(24));
+    expect_totals(rt, track, key, totals(2, 8, 1, 2));
     Ok(())
 }
 
@@ -157,49 +135,41 @@ fn the_longest_span_three_times(rt: HostRuntime) -> Result<(), Fail> {
     let track = &mut AsyncTrack::new(rt.alloc());
     for _ in 0..3u32 {
         begin(rt, track, key, -9_007_199_254_740_991)?;
-        expect_length(
+        expect_end(
             rt,
             track,
             key,
             9_007_199_254_740_991,
-            18_014_398_509_481_982,
-        )?;
+            Ok(18_014_398_509_481_982),
+        );
     }
     assert_eq!(rt; track.of(key).total, 54_043_195_528_445_946);
     Ok(())
 }
 
-// A step of the second key and then of the first: their rows come the other way round.
-fn expect_order(
-    rt: &(impl Abort + AllocGlobal),
-    first: &AsyncKey,
-    second: &AsyncKey,
-) -> Result<(), Fail> {
-    let mut track = AsyncTrack::new(rt.alloc());
-    point(rt, &mut track, second)?;
-    point(rt, &mut track, first)?;
-    let rows = track.rows(rt.alloc())?;
-    assert!(rt; rows.len() == 2);
-    assert!(rt; rows[0].key == *first);
-    Ok(())
-}
-
 // By category before scope, scope before id, the id's process before its text, id before name, and name.
+const RISING: [KeyTexts<'static>; 9] = [
+    ("a", "a", None, "b", "b"),
+    ("a", "a", Some(-1), "a", "a"),
+    ("a", "a", Some(1), "b", "b"),
+    ("a", "a", Some(2), "10", "b"),
+    ("a", "a", Some(2), "9", ""),
+    ("a", "a", Some(2), "9", "a"),
+    ("a", "b", None, "a", "a"),
+    ("a", "b", None, "b", "b"),
+    ("b", "a", None, "a", "a"),
+];
+
 #[test]
 fn rows_are_ordered_by_their_keys(rt: HostRuntime) -> Result<(), Fail> {
-    for (first, second) in [
-        (("a", "b", None, "b", "b"), ("b", "a", None, "a", "a")),
-        (("a", "a", Some(1), "b", "b"), ("a", "b", None, "a", "a")),
-        (("a", "a", None, "b", "b"), ("a", "a", Some(-1), "a", "a")),
-        (
-            ("a", "a", Some(2), "10", "b"),
-            ("a", "a", Some(2), "9", "a"),
-        ),
-        (("a", "a", Some(2), "9", ""), ("a", "a", Some(2), "9", "a")),
-    ] {
-        let first = key(rt.alloc(), first)?;
-        let second = key(rt.alloc(), second)?;
-        expect_order(&rt, &first, &second)?;
+    let mut track = AsyncTrack::new(rt.alloc());
+    for texts in RISING.iter().rev() {
+        point(&rt, &mut track, &key(rt.alloc(), *texts)?)?;
+    }
+    let rows = track.rows(rt.alloc())?;
+    assert_eq!(rt; rows.len(), RISING.len());
+    for (row, texts) in rows.iter().zip(&RISING) {
+        assert!(rt; row.key == key(rt.alloc(), *texts)?);
     }
     Ok(())
 }

@@ -1,18 +1,14 @@
 ghost use Rattle.std.specs.Prelude.{◌+◌, ◌<◌, All};
+ghost use Rattle.span_event.specs.Event.{IsGood};
 ghost use Rattle.span_event.specs.Item.{IsGoodItem};
 ghost use Rattle.span_keyed_tracks.specs.Counters.{CountersOf};
 
+use super::event_at;
 use span_keyed_tracks::{CounterTrack, SeriesKey, SeriesTotals};
-use span_read::{Item, Items, Phase, Text, read_items};
+use span_read::{Event, Items, Phase, Text, read_items};
 use std::alloc::{AllocError, Global};
 use std::process::Abort;
 use std::test::Fail;
-
-fn new_track(alloc: Global) -> CounterTrack
-    ensures { CountersOf 0 result }
-{
-    CounterTrack::new(alloc)
-}
 
 fn key(alloc: Global) -> Result<SeriesKey, AllocError> {
     let name = Text::of(alloc, "m")?;
@@ -25,16 +21,13 @@ fn key(alloc: Global) -> Result<SeriesKey, AllocError> {
     })
 }
 
-// Takes the counter event at a place of a file, where as many were taken before.
-fn take(rt: &impl Abort, track: &mut CounterTrack, items: &Items, taken: u32)
-    requires good { All IsGoodItem items.now }
+// Takes a counter event, where so many were taken before.
+fn take(rt: &impl Abort, track: &mut CounterTrack, event: &Event, taken: u32)
+    requires good { IsGood event.now }
     requires few { taken < 1000 }
     requires taken { CountersOf taken track.old }
     ensures { CountersOf (taken + 1) track.new }
 {
-    let Some(Item::Good(event)) = items.get(taken as usize) else {
-        panic!(rt; "a good event");
-    };
     let Phase::Counter = event.phase else {
         panic!(rt; "a counter event");
     };
@@ -60,8 +53,8 @@ fn follow(rt: &impl Abort, alloc: Global, track: &mut CounterTrack, items: &Item
     requires good { All IsGoodItem items.now }
     requires taken { CountersOf 0 track.old }
 {
-    take(rt, track, items, 0);
-    take(rt, track, items, 1);
+    take(rt, track, event_at(rt, items, 0), 0);
+    take(rt, track, event_at(rt, items, 1), 1);
     let after_two = SeriesTotals {
         samples: 2,
         least: 7,
@@ -69,12 +62,12 @@ fn follow(rt: &impl Abort, alloc: Global, track: &mut CounterTrack, items: &Item
         last: 7,
     };
     expect(rt, track, key, after_two);
-    take(rt, track, items, 2);
+    take(rt, track, event_at(rt, items, 2), 2);
     let after_three = SeriesTotals {
         samples: 3,
         least: 1,
-        greatest: 9,
         last: 1,
+        ..after_two
     };
     expect(rt, track, key, after_three);
     expect_one_row(rt, alloc, track, after_three);
@@ -87,7 +80,7 @@ fn the_last_value_is_that_at_the_greatest_time(rt: HostRuntime) -> Result<(), Fa
         rt.alloc(),
         br#"[{"ph":"C","pid":1,"name":"m","ts":5,"args":{"k":7}},{"ph":"C","pid":1,"name":"m","ts":3,"args":{"k":9}},{"ph":"C","pid":1,"name":"m","ts":5,"args":{"k":1}}]"#,
     )?;
-    let mut track = new_track(rt.alloc());
+    let mut track = CounterTrack::new(rt.alloc());
     follow(&rt, rt.alloc(), &mut track, &items, &key);
     drop(track);
     drop(items);

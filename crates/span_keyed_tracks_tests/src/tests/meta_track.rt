@@ -1,53 +1,31 @@
 ghost use Rattle.std.specs.Prelude.{◌+◌, ◌<◌, All};
+ghost use Rattle.span_event.specs.Event.{IsGood};
 ghost use Rattle.span_event.specs.Item.{IsGoodItem};
 ghost use Rattle.span_keyed_tracks.specs.Meta.{MetaOf};
 
+use super::event_at;
 use span_keyed_tracks::{MetaTrack, names_thread};
-use span_read::{Item, Items, Phase, Reach, Text, read_items};
+use span_read::{Event, Items, Phase, Reach, Text, read_items};
 use std::alloc::Global;
 use std::process::Abort;
 use std::test::Fail;
 
-fn new_track(alloc: Global) -> MetaTrack
-    ensures { MetaOf 0 result }
-{
-    MetaTrack::new(alloc)
-}
-
-// Takes the metadata event at a place of a file, where as many were taken before, and tells whether it names its thread.
-fn name(rt: &impl Abort, track: &mut MetaTrack, items: &Items, taken: u32) -> bool
-    requires good { All IsGoodItem items.now }
+// Takes an event, where so many were taken before, and tells whether it names its thread.
+fn take(rt: &impl Abort, track: &mut MetaTrack, event: &Event, taken: u32) -> bool
+    requires good { IsGood event.now }
     requires few { taken < 1000 }
     requires taken { MetaOf taken track.old }
     ensures { MetaOf (taken + 1) track.new }
 {
-    let Some(Item::Good(event)) = items.get(taken as usize) else {
-        panic!(rt; "a good event");
+    let told = match event.phase {
+        Phase::Meta => track.name_event(event),
+        Phase::Instant => track.instant(event),
+        _ => panic!(rt; "an event of another track"),
     };
-    let Phase::Meta = event.phase else {
-        panic!(rt; "a metadata event");
-    };
-    let Ok(()) = track.name_event(event) else {
+    let Ok(()) = told else {
         panic!(rt; "no memory");
     };
     names_thread(event)
-}
-
-// Takes the instant at a place of a file, where as many were taken before.
-fn mark(rt: &impl Abort, track: &mut MetaTrack, items: &Items, taken: u32)
-    requires good { All IsGoodItem items.now }
-    requires few { taken < 1000 }
-    requires taken { MetaOf taken track.old }
-{
-    let Some(Item::Good(event)) = items.get(taken as usize) else {
-        panic!(rt; "a good event");
-    };
-    let Phase::Instant = event.phase else {
-        panic!(rt; "an instant");
-    };
-    let Ok(()) = track.instant(event) else {
-        panic!(rt; "no memory");
-    };
 }
 
 fn expect_names(rt: &impl Abort, track: &MetaTrack) {
@@ -80,13 +58,13 @@ fn follow(rt: &impl Abort, track: &mut MetaTrack, items: &Items)
     requires good { All IsGoodItem items.now }
     requires taken { MetaOf 0 track.old }
 {
-    assert!(rt; !name(rt, track, items, 0));
-    assert!(rt; name(rt, track, items, 1));
-    assert!(rt; !name(rt, track, items, 2));
-    assert!(rt; !name(rt, track, items, 3));
-    assert!(rt; !name(rt, track, items, 4));
-    assert!(rt; !name(rt, track, items, 5));
-    mark(rt, track, items, 6);
+    assert!(rt; !take(rt, track, event_at(rt, items, 0), 0));
+    assert!(rt; take(rt, track, event_at(rt, items, 1), 1));
+    assert!(rt; !take(rt, track, event_at(rt, items, 2), 2));
+    assert!(rt; !take(rt, track, event_at(rt, items, 3), 3));
+    assert!(rt; !take(rt, track, event_at(rt, items, 4), 4));
+    assert!(rt; !take(rt, track, event_at(rt, items, 5), 5));
+    assert!(rt; !take(rt, track, event_at(rt, items, 6), 6));
 }
 
 #[test]
@@ -96,7 +74,7 @@ fn the_last_name_holds(rt: HostRuntime) -> Result<(), Fail> {
         rt.alloc(),
         br#"[{"ph":"M","pid":1,"tid":2,"name":"process_name","args":{"name":"Browser"}},{"ph":"M","pid":1,"tid":2,"name":"thread_name","args":{"name":"Main"}},{"ph":"M","pid":1,"tid":2,"name":"process_name","args":{"name":"Renderer"}},{"ph":"M","pid":1,"tid":2,"name":"process_labels","args":{"labels":"tab"}},{"ph":"M","pid":1,"tid":2,"name":"process_sort_index","args":{"sort_index":-6}},{"ph":"M","pid":1,"tid":2,"name":"thread_name","args":{"name":5}},{"ph":"i","pid":1,"tid":2,"name":"gc","ts":3,"s":"p"}]"#,
     )?;
-    let mut track = new_track(rt.alloc());
+    let mut track = MetaTrack::new(rt.alloc());
     follow(&rt, &mut track, &items);
     expect_names(&rt, &track);
     expect_instant(&rt, rt.alloc(), &track, &name);
