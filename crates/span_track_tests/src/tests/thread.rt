@@ -1,14 +1,13 @@
-ghost use Rattle.std.specs.Prelude.{◌≤◌};
-ghost use Rattle.span_event.specs.Event.{IsTime, greatest_time};
+ghost use Rattle.span_event.specs.Event.{IsTime};
 
 mod arguments;
 mod placed;
 
 use placed::Placed;
-use span_read::Args;
 use span_self_time::{NameTotal, Segment};
 use span_track::laws::{busy_plain, self_law, self_plain};
 use span_track::{ThreadTrack, TrackFault};
+use std::alloc::Global;
 use std::process::Abort;
 use std::test::Fail;
 
@@ -57,103 +56,22 @@ fn expect_plain_times(rt: &impl Abort, track: &ThreadTrack) {
     expect_segments(rt, track);
 }
 
-fn begin(
-    rt: &(impl Abort + AllocGlobal),
-    placed: &mut Placed,
-    at: u32,
-    name: u32,
-    ts: i64,
-) -> Result<u32, TrackFault>
+fn begin(rt: &impl Abort, placed: &mut Placed, name: u32, ts: i64) -> Result<u32, TrackFault>
     requires { IsTime ts }
 {
-    let none = Args::empty(rt.alloc());
-    let begun = placed.begin_span(rt, name, ts, at, &none);
+    let begun = placed.begin(rt, name, ts);
     expect_plain_times(rt, placed.track());
     begun
 }
 
 // The span that the end closes: its name, start, end and place.
-fn end(
-    rt: &(impl Abort + AllocGlobal),
-    placed: &mut Placed,
-    ts: i64,
-) -> Result<(u32, i64, i64, u32), TrackFault>
+fn end(rt: &impl Abort, placed: &mut Placed, ts: i64) -> Result<(u32, i64, i64, u32), TrackFault>
     requires { IsTime ts }
 {
-    let none = Args::empty(rt.alloc());
-    let ended = placed.end_span(rt, ts, &none);
+    let ended = placed.end(rt, ts);
     expect_plain_times(rt, placed.track());
     let span = ended?;
     Ok((span.name, span.start, span.until, span.at))
-}
-
-fn complete(
-    rt: &(impl Abort + AllocGlobal),
-    placed: &mut Placed,
-    at: u32,
-    name: u32,
-    ts: i64,
-    dur: u64,
-) -> Result<(), TrackFault>
-    requires in_time { IsTime ts }
-    requires lasts { dur ≤ greatest_time }
-{
-    let none = Args::empty(rt.alloc());
-    let completed = placed.complete(rt, name, ts, dur, at, &none);
-    expect_plain_times(rt, placed.track());
-    completed
-}
-
-fn expect_begun(
-    rt: &(impl Abort + AllocGlobal),
-    placed: &mut Placed,
-    at: u32,
-    name: u32,
-    ts: i64,
-    depth: u32,
-) -> Result<(), Fail>
-    requires { IsTime ts }
-{
-    let begun = begin(rt, placed, at, name, ts)?;
-    assert_eq!(rt; begun, depth);
-    Ok(())
-}
-
-fn expect_ended(
-    rt: &(impl Abort + AllocGlobal),
-    placed: &mut Placed,
-    ts: i64,
-    span: (u32, i64, i64, u32),
-) -> Result<(), Fail>
-    requires { IsTime ts }
-{
-    let ended = end(rt, placed, ts)?;
-    assert_eq!(rt; ended, span);
-    Ok(())
-}
-
-fn expect_end_refused(rt: &(impl Abort + AllocGlobal), placed: &mut Placed, ts: i64, number: u16)
-    requires { IsTime ts }
-{
-    assert_eq!(rt; end(rt, placed, ts), Err(TrackFault::Refused(number)));
-}
-
-fn segment(start: i64, until: i64, name: u32, at: u32) -> Segment {
-    Segment {
-        start,
-        until,
-        name,
-        at,
-    }
-}
-
-// The track has just these segments.
-fn expect_all_segments(rt: &impl Abort, track: &ThreadTrack, segments: &[Segment]) {
-    assert_eq!(rt; track.segment_count(), segments.len() as u64);
-    for (i, expected) in segments.iter().enumerate() {
-        assert_eq!(rt; track.segment(i as u64), Some(expected), "segment {i}");
-    }
-    assert_eq!(rt; track.segment(segments.len() as u64), None);
 }
 
 // The number, the lengths and the self times of a name.
@@ -190,12 +108,22 @@ fn a_track_without_events(rt: HostRuntime) {
     expect_busy(&rt, &track, 0);
 }
 
-fn a_span_in_a_span_on(rt: &(impl Abort + AllocGlobal), placed: &mut Placed) -> Result<(), Fail> {
-    expect_begun(rt, placed, 0, 0, 0, 1)?;
-    expect_begun(rt, placed, 1, 1, 2, 2)?;
-    expect_ended(rt, placed, 5, (1, 2, 5, 1))?;
+// Uses a new track. (Who lets go of a track by a call of its own has one way to go on.)
+fn on_track<F: FnOnce(&mut Placed) -> Result<(), Fail>>(alloc: Global, uses: F) -> Result<(), Fail>
+    requires { F.IsAlwaysCallable uses }
+{
+    let mut placed = Placed::new(alloc);
+    let told = uses(&mut placed);
+    drop(placed);
+    told
+}
+
+fn a_span_in_a_span_on(rt: &impl Abort, placed: &mut Placed) -> Result<(), Fail> {
+    assert_eq!(rt; begin(rt, placed, 0, 0)?, 1);
+    assert_eq!(rt; begin(rt, placed, 1, 2)?, 2);
+    assert_eq!(rt; end(rt, placed, 5)?, (1, 2, 5, 1));
     assert_eq!(rt; placed.track().depth(), 1);
-    expect_ended(rt, placed, 10, (0, 0, 10, 0))?;
+    assert_eq!(rt; end(rt, placed, 10)?, (0, 0, 10, 0));
     let track = placed.track();
     assert_eq!(rt; track.last_time(), Some(10));
     assert_eq!(rt; track.closed_count(), 2);
@@ -209,198 +137,144 @@ fn a_span_in_a_span_on(rt: &(impl Abort + AllocGlobal), placed: &mut Placed) -> 
 
 #[test]
 fn a_span_in_a_span(rt: HostRuntime) -> Result<(), Fail> {
-    let mut placed = Placed::new(rt.alloc());
-    let told = a_span_in_a_span_on(&rt, &mut placed);
-    drop(placed);
-    told
+    on_track(rt.alloc(), |placed| a_span_in_a_span_on(&rt, placed))
 }
 
-fn a_child_that_came_first_on(
-    rt: &(impl Abort + AllocGlobal),
+// Whole spans, and what a track gives that was told them.
+struct Whole {
+    // The name, the start and the length of each.
+    spans: &'static [(u32, i64, u64)],
+    // The names, with the number, the lengths and the self times of their spans.
+    names: &'static [(u32, u32, u128, u64)],
+    busy: u64,
+    // The start, the end, the name and the place of each.
+    segments: &'static [(i64, i64, u32, u32)],
+}
+
+const LONGEST: u64 = 9_007_199_254_740_991;
+
+const WHOLE: [Whole; 5] = [
+    // A child that came first.
+    Whole {
+        spans: &[(2, 2, 3), (3, 0, 10)],
+        names: &[(3, 1, 10, 7), (2, 1, 3, 3)],
+        busy: 10,
+        segments: &[(0, 2, 3, 1), (2, 5, 2, 0), (5, 10, 3, 1)],
+    },
+    // A span that takes from two.
+    Whole {
+        spans: &[(0, 0, 10), (1, 20, 10), (2, 5, 20)],
+        names: &[(0, 1, 10, 5), (1, 1, 10, 10), (2, 1, 20, 15)],
+        busy: 30,
+        segments: &[(0, 5, 0, 0), (5, 20, 2, 2), (20, 30, 1, 1)],
+    },
+    // Spans that cross.
+    Whole {
+        spans: &[(3, 0, 10), (4, 5, 10)],
+        names: &[(3, 1, 10, 5), (4, 1, 10, 10)],
+        busy: 15,
+        segments: &[(0, 5, 3, 0), (5, 15, 4, 1)],
+    },
+    // Equal spans and an empty one.
+    Whole {
+        spans: &[(0, 0, 4), (1, 0, 4), (25, 9, 0)],
+        names: &[(0, 1, 4, 0), (1, 1, 4, 4), (25, 1, 0, 0)],
+        busy: 4,
+        segments: &[(0, 4, 1, 1)],
+    },
+    // The longest span twice.
+    Whole {
+        spans: &[(7, 0, LONGEST), (7, 0, LONGEST)],
+        names: &[(7, 2, 18_014_398_509_481_982, LONGEST)],
+        busy: LONGEST,
+        segments: &[(0, LONGEST as i64, 7, 1)],
+    },
+];
+
+// The track has just these segments.
+fn expect_all_segments(rt: &impl Abort, track: &ThreadTrack, segments: &[(i64, i64, u32, u32)]) {
+    assert_eq!(rt; track.segment_count(), segments.len() as u64);
+    for (i, (start, until, name, at)) in segments.iter().enumerate() {
+        let expected = Segment {
+            start: *start,
+            until: *until,
+            name: *name,
+            at: *at,
+        };
+        assert_eq!(rt; track.segment(i as u64), Some(&expected), "segment {i}");
+    }
+    assert_eq!(rt; track.segment(segments.len() as u64), None);
+}
+
+fn complete_all(
+    rt: &impl Abort,
     placed: &mut Placed,
+    spans: &[(u32, i64, u64)],
 ) -> Result<(), Fail> {
-    complete(rt, placed, 0, 2, 2, 3)?;
-    complete(rt, placed, 1, 3, 0, 10)?;
+    for (name, start, length) in spans {
+        assert!(rt; 0 <= *start && *start <= LONGEST as i64 && *length <= LONGEST);
+        placed.complete(rt, *name, *start, *length)?;
+        expect_plain_times(rt, placed.track());
+    }
+    Ok(())
+}
+
+fn expect_whole(rt: &impl Abort, placed: &mut Placed, whole: &Whole) -> Result<(), Fail> {
+    complete_all(rt, placed, whole.spans)?;
     let track = placed.track();
-    expect_name(rt, track, 3, 1, 10, 7);
-    expect_name(rt, track, 2, 1, 3, 3);
-    expect_busy(rt, track, 10);
-    let segments = [
-        segment(0, 2, 3, 1),
-        segment(2, 5, 2, 0),
-        segment(5, 10, 3, 1),
-    ];
-    expect_all_segments(rt, track, &segments);
+    for (name, count, total, own) in whole.names {
+        expect_name(rt, track, *name, *count, *total, *own);
+    }
+    expect_busy(rt, track, whole.busy);
+    expect_all_segments(rt, track, whole.segments);
     Ok(())
 }
 
 #[test]
-fn a_child_that_came_first(rt: HostRuntime) -> Result<(), Fail> {
-    let mut placed = Placed::new(rt.alloc());
-    let told = a_child_that_came_first_on(&rt, &mut placed);
-    drop(placed);
-    told
-}
-
-fn a_span_that_takes_from_two_on(
-    rt: &(impl Abort + AllocGlobal),
-    placed: &mut Placed,
-) -> Result<(), Fail> {
-    complete(rt, placed, 0, 0, 0, 10)?;
-    complete(rt, placed, 1, 1, 20, 10)?;
-    complete(rt, placed, 2, 2, 5, 20)?;
-    let track = placed.track();
-    expect_name(rt, track, 0, 1, 10, 5);
-    expect_name(rt, track, 1, 1, 10, 10);
-    expect_name(rt, track, 2, 1, 20, 15);
-    expect_busy(rt, track, 30);
-    let segments = [
-        segment(0, 5, 0, 0),
-        segment(5, 20, 2, 2),
-        segment(20, 30, 1, 1),
-    ];
-    expect_all_segments(rt, track, &segments);
+fn whole_spans_in_any_order(rt: HostRuntime) -> Result<(), Fail> {
+    for whole in &WHOLE {
+        on_track(rt.alloc(), |placed| expect_whole(&rt, placed, whole))?;
+    }
     Ok(())
 }
 
-#[test]
-fn a_span_that_takes_from_two(rt: HostRuntime) -> Result<(), Fail> {
-    let mut placed = Placed::new(rt.alloc());
-    let told = a_span_that_takes_from_two_on(&rt, &mut placed);
-    drop(placed);
-    told
-}
-
-fn spans_that_cross_on(rt: &(impl Abort + AllocGlobal), placed: &mut Placed) -> Result<(), Fail> {
-    complete(rt, placed, 0, 3, 0, 10)?;
-    complete(rt, placed, 1, 4, 5, 10)?;
-    let track = placed.track();
-    expect_name(rt, track, 3, 1, 10, 5);
-    expect_name(rt, track, 4, 1, 10, 10);
-    expect_busy(rt, track, 15);
-    Ok(())
-}
-
-#[test]
-fn spans_that_cross(rt: HostRuntime) -> Result<(), Fail> {
-    let mut placed = Placed::new(rt.alloc());
-    let told = spans_that_cross_on(&rt, &mut placed);
-    drop(placed);
-    told
-}
-
-fn equal_spans_and_an_empty_one_on(
-    rt: &(impl Abort + AllocGlobal),
-    placed: &mut Placed,
-) -> Result<(), Fail> {
-    complete(rt, placed, 0, 0, 0, 4)?;
-    complete(rt, placed, 1, 1, 0, 4)?;
-    complete(rt, placed, 2, 25, 9, 0)?;
-    let track = placed.track();
-    expect_name(rt, track, 0, 1, 4, 0);
-    expect_name(rt, track, 1, 1, 4, 4);
-    expect_name(rt, track, 25, 1, 0, 0);
-    expect_busy(rt, track, 4);
-    Ok(())
-}
-
-#[test]
-fn equal_spans_and_an_empty_one(rt: HostRuntime) -> Result<(), Fail> {
-    let mut placed = Placed::new(rt.alloc());
-    let told = equal_spans_and_an_empty_one_on(&rt, &mut placed);
-    drop(placed);
-    told
-}
-
-fn the_longest_span_twice_on(
-    rt: &(impl Abort + AllocGlobal),
-    placed: &mut Placed,
-) -> Result<(), Fail> {
-    complete(rt, placed, 0, 7, 0, 9_007_199_254_740_991)?;
-    complete(rt, placed, 1, 7, 0, 9_007_199_254_740_991)?;
-    let track = placed.track();
-    expect_name(
-        rt,
-        track,
-        7,
-        2,
-        18_014_398_509_481_982,
-        9_007_199_254_740_991,
-    );
-    expect_busy(rt, track, 9_007_199_254_740_991);
-    Ok(())
-}
-
-#[test]
-fn the_longest_span_twice(rt: HostRuntime) -> Result<(), Fail> {
-    let mut placed = Placed::new(rt.alloc());
-    let told = the_longest_span_twice_on(&rt, &mut placed);
-    drop(placed);
-    told
-}
-
-fn an_end_without_a_begin_on(
-    rt: &(impl Abort + AllocGlobal),
-    placed: &mut Placed,
-) -> Result<(), Fail> {
-    expect_end_refused(rt, placed, 3, 21);
-    expect_begun(rt, placed, 1, 0, 1, 1)?;
+fn an_end_without_a_begin_on(rt: &impl Abort, placed: &mut Placed) -> Result<(), Fail> {
+    assert_eq!(rt; end(rt, placed, 3), Err(TrackFault::Refused(21)));
+    assert_eq!(rt; begin(rt, placed, 0, 1)?, 1);
     Ok(())
 }
 
 #[test]
 fn an_end_without_a_begin(rt: HostRuntime) -> Result<(), Fail> {
-    let mut placed = Placed::new(rt.alloc());
-    let told = an_end_without_a_begin_on(&rt, &mut placed);
-    drop(placed);
-    told
+    on_track(rt.alloc(), |placed| an_end_without_a_begin_on(&rt, placed))
 }
 
-fn times_that_go_back_on(rt: &(impl Abort + AllocGlobal), placed: &mut Placed) -> Result<(), Fail> {
-    expect_begun(rt, placed, 0, 0, 10, 1)?;
-    expect_end_refused(rt, placed, 9, 22);
-    expect_ended(rt, placed, 10, (0, 10, 10, 0))?;
-    expect_end_refused(rt, placed, 9, 21);
-    assert_eq!(rt; begin(rt, placed, 4, 1, 9), Err(TrackFault::Refused(22)));
+fn times_that_go_back_on(rt: &impl Abort, placed: &mut Placed) -> Result<(), Fail> {
+    assert_eq!(rt; placed.track().begin_refusal(-5), None);
+    assert_eq!(rt; placed.track().end_refusal(-5), Some(21));
+    assert_eq!(rt; begin(rt, placed, 0, 10)?, 1);
+    assert_eq!(rt; placed.track().begin_refusal(9), Some(22));
+    assert_eq!(rt; placed.track().end_refusal(9), Some(22));
+    assert_eq!(rt; placed.track().begin_refusal(10), None);
+    assert_eq!(rt; placed.track().end_refusal(10), None);
+    assert_eq!(rt; end(rt, placed, 9), Err(TrackFault::Refused(22)));
+    assert_eq!(rt; end(rt, placed, 10)?, (0, 10, 10, 0));
+    assert_eq!(rt; end(rt, placed, 9), Err(TrackFault::Refused(21)));
+    assert_eq!(rt; begin(rt, placed, 1, 9), Err(TrackFault::Refused(22)));
     Ok(())
 }
 
 #[test]
 fn times_that_go_back(rt: HostRuntime) -> Result<(), Fail> {
-    let mut placed = Placed::new(rt.alloc());
-    let told = times_that_go_back_on(&rt, &mut placed);
-    drop(placed);
-    told
+    on_track(rt.alloc(), |placed| times_that_go_back_on(&rt, placed))
 }
 
-fn refusals_that_are_told_before_on(
-    rt: &(impl Abort + AllocGlobal),
-    placed: &mut Placed,
-) -> Result<(), Fail> {
-    assert_eq!(rt; placed.track().begin_refusal(-5), None);
-    assert_eq!(rt; placed.track().end_refusal(-5), Some(21));
-    begin(rt, placed, 0, 0, 10)?;
-    assert_eq!(rt; placed.track().begin_refusal(9), Some(22));
-    assert_eq!(rt; placed.track().end_refusal(9), Some(22));
-    assert_eq!(rt; placed.track().begin_refusal(10), None);
-    assert_eq!(rt; placed.track().end_refusal(10), None);
-    Ok(())
-}
-
-#[test]
-fn refusals_that_are_told_before(rt: HostRuntime) -> Result<(), Fail> {
-    let mut placed = Placed::new(rt.alloc());
-    let told = refusals_that_are_told_before_on(&rt, &mut placed);
-    drop(placed);
-    told
-}
-
-fn a_stack_200_deep_on(rt: &impl Abort, placed: &mut Placed, none: &Args) -> Result<(), Fail> {
+fn a_stack_200_deep_on(rt: &impl Abort, placed: &mut Placed) -> Result<(), Fail> {
     for at in 0..200u32 {
-        assert_eq!(rt; placed.begin_span(rt, at, i64::from(at), at, none)?, at + 1);
+        assert_eq!(rt; placed.begin(rt, at, i64::from(at))?, at + 1);
     }
     for i in 0..200u32 {
-        let span = placed.end_span(rt, i64::from(200 + i), none)?;
+        let span = placed.end(rt, i64::from(200 + i))?;
         assert!(rt; span.at == 199 - i && span.until == i64::from(200 + i));
     }
     let track = placed.track();
@@ -412,21 +286,12 @@ fn a_stack_200_deep_on(rt: &impl Abort, placed: &mut Placed, none: &Args) -> Res
 
 #[test]
 fn a_stack_200_deep(rt: HostRuntime) -> Result<(), Fail> {
-    let none = Args::empty(rt.alloc());
-    let mut placed = Placed::new(rt.alloc());
-    let told = a_stack_200_deep_on(&rt, &mut placed, &none);
-    drop(placed);
-    drop(none);
-    told
+    on_track(rt.alloc(), |placed| a_stack_200_deep_on(&rt, placed))
 }
 
-fn more_than_4096_closed_spans_on(
-    rt: &impl Abort,
-    placed: &mut Placed,
-    none: &Args,
-) -> Result<(), Fail> {
+fn more_than_4096_closed_spans_on(rt: &impl Abort, placed: &mut Placed) -> Result<(), Fail> {
     for at in 0..4_100u32 {
-        placed.complete(rt, at % 2, i64::from(at), 1, at, none)?;
+        placed.complete(rt, at % 2, i64::from(at), 1)?;
     }
     let track = placed.track();
     assert_eq!(rt; track.closed_count(), 4_100);
@@ -445,10 +310,8 @@ fn more_than_4096_closed_spans_on(
 
 #[test]
 fn more_than_4096_closed_spans(rt: HostRuntime) -> Result<(), Fail> {
-    let none = Args::empty(rt.alloc());
-    let mut placed = Placed::new(rt.alloc());
-    let told = more_than_4096_closed_spans_on(&rt, &mut placed, &none);
-    drop(placed);
-    drop(none);
-    told
+    on_track(
+        rt.alloc(),
+        |placed| more_than_4096_closed_spans_on(&rt, placed),
+    )
 }

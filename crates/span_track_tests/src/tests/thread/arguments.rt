@@ -1,27 +1,27 @@
 // The arguments of a span are those of its begin and of its end.
-ghost use Rattle.std.specs.Prelude.{[]};
-ghost use Rattle.span_track.specs.Thread.{StandsFor};
-
 use super::expect_plain_times;
-use super::placed::Placed;
-use span_read::{ArgValue, Args, Item, Items, ReadError, merge_args, read_items};
-use span_track::ThreadTrack;
+use span_read::{ArgValue, Args, Item, Items, merge_args, read_items};
+use span_track::{ThreadTrack, TrackFault};
 use std::alloc::Global;
 use std::process::Abort;
 use std::test::Fail;
-
-// Of the member that both have, the end's value is taken.
-fn begin_and_end(alloc: Global) -> Result<Items, ReadError> {
-    read_items(
-        alloc,
-        br#"[{"ph":"B","ts":0,"args":{"x":1,"y":2}},{"ph":"E","ts":1,"args":{"y":3,"z":true}}]"#,
-    )
-}
 
 fn args_at(items: &Items, i: usize) -> Option<&Args> {
     match items.get(i)? {
         Item::Good(event) => Some(&event.args),
         _ => None,
+    }
+}
+
+// A track on which a span with these arguments began.
+fn begun(alloc: Global, args: &Args) -> Result<ThreadTrack, TrackFault> {
+    let mut track = ThreadTrack::new(alloc);
+    match track.begin_span(0, 0, 0, args) {
+        Ok(_) => Ok(track),
+        Err(fault) => {
+            drop(track);
+            Err(fault)
+        }
     }
 }
 
@@ -31,46 +31,19 @@ fn expect_merged(rt: &impl Abort, args: &Args) {
     assert!(rt; matches!(args.get("z"), Some(ArgValue::Flag(true))));
 }
 
-fn arguments_of_begin_and_end_on(
-    rt: &(impl Abort + AllocGlobal),
-    placed: &mut Placed,
-    items: &Items,
-) -> Result<(), Fail> {
-    let first = args_at(items, 0).ok_or("a begin")?;
-    let second = args_at(items, 1).ok_or("an end")?;
-    placed.begin_span(rt, 0, 0, 0, first)?;
-    expect_plain_times(rt, placed.track());
-    let span = placed.end_span(rt, 1, second)?;
-    expect_plain_times(rt, placed.track());
+fn ends_with(rt: &impl Abort, track: &mut ThreadTrack, args: &Args) -> Result<(), Fail> {
+    expect_plain_times(rt, track);
+    let span = track.end_span(1, args)?;
+    expect_plain_times(rt, track);
     expect_merged(rt, &span.args);
     drop(span);
-    expect_merged(rt, &merge_args(rt.alloc(), first, second)?);
-    let kept = placed.track().closed(0).ok_or("a closed span")?;
+    let kept = track.closed(0).ok_or("a closed span")?;
     expect_merged(rt, &kept.args);
     Ok(())
 }
 
-#[test]
-fn arguments_of_begin_and_end(rt: HostRuntime) -> Result<(), Fail> {
-    let items = begin_and_end(rt.alloc())?;
-    let mut placed = Placed::new(rt.alloc());
-    let told = arguments_of_begin_and_end_on(&rt, &mut placed, &items);
-    drop(placed);
-    drop(items);
-    told
-}
-
-fn an_end_with_arguments_merged_before_on(
-    rt: &impl Abort,
-    track: &mut ThreadTrack,
-    items: &Items,
-) -> Result<(), Fail>
-    requires { StandsFor track.old [] }
-{
-    let first = args_at(items, 0).ok_or("a begin")?;
-    let second = args_at(items, 1).ok_or("an end")?;
-    track.begin_span(0, 0, 0, first)?;
-    let merged = track.merged_args(second)?;
+fn closes_with(rt: &impl Abort, track: &mut ThreadTrack, args: &Args) -> Result<(), Fail> {
+    let merged = track.merged_args(args)?;
     expect_merged(rt, &merged);
     let None = track.end_refusal(1) else {
         panic!(rt; "the end is refused");
@@ -83,12 +56,28 @@ fn an_end_with_arguments_merged_before_on(
     Ok(())
 }
 
-#[test]
-fn an_end_with_arguments_merged_before(rt: HostRuntime) -> Result<(), Fail> {
-    let items = begin_and_end(rt.alloc())?;
-    let mut track = ThreadTrack::new(rt.alloc());
-    let told = an_end_with_arguments_merged_before_on(&rt, &mut track, &items);
+// An end with its arguments, or with those that were merged before.
+fn merges(rt: &(impl Abort + AllocGlobal), begin: &Args, end: &Args) -> Result<(), Fail> {
+    let mut track = begun(rt.alloc(), begin)?;
+    let ended = ends_with(rt, &mut track, end);
     drop(track);
-    drop(items);
-    told
+    ended?;
+    let mut track = begun(rt.alloc(), begin)?;
+    let closed = closes_with(rt, &mut track, end);
+    drop(track);
+    closed?;
+    expect_merged(rt, &merge_args(rt.alloc(), begin, end)?);
+    Ok(())
+}
+
+// Of the member that both have, the end's value is taken.
+#[test]
+fn arguments_of_begin_and_end(rt: HostRuntime) -> Result<(), Fail> {
+    let items = read_items(
+        rt.alloc(),
+        br#"[{"ph":"B","ts":0,"args":{"x":1,"y":2}},{"ph":"E","ts":1,"args":{"y":3,"z":true}}]"#,
+    )?;
+    let begin = args_at(&items, 0).ok_or("a begin")?;
+    let end = args_at(&items, 1).ok_or("an end")?;
+    merges(&rt, begin, end)
 }

@@ -1,6 +1,8 @@
-//! A track that is told events at places that rise, as those of a journal do.
-ghost use Rattle.std.specs.Prelude.{◌≡◌, ◌<◌, ◌≤◌};
+//! A track that is told events at places that rise by one, as those of a journal do.
+ghost use Rattle.std.specs.Prelude.{ℕ, ◌≡◌, ◌<◌, ◌≤◌};
 ghost use Rattle.span_event.specs.Event.{IsTime, greatest_time};
+ghost use Rattle.span_track.specs.Thread.{HasRoom, IsNext, ThreadSpans};
+ghost use Rattle.span_track_tests.specs.Placed.{IsPlaced};
 
 use span_read::Args;
 use span_self_time::ClosedSpan;
@@ -9,27 +11,15 @@ use std::alloc::Global;
 use std::marker::Model;
 use std::process::Abort;
 
-// The place can be taken by an event: none stands there or behind it, and there are few before it.
-fn expect_free(rt: &impl Abort, next: u32, at: u32)
-    ensures next { next ≤ at }
-    ensures few { at < 10000 }
-{
-    assert!(rt; next <= at);
-    assert!(rt; at < 10_000);
-}
-
-// A track, and the place behind those of its events. An end takes a place too.
+// A track, the place of its next event, which a refused one takes too, and the arguments of each: none.
 #[derive(Drop)]
 pub(super) struct Placed {
     track: ThreadTrack,
     next: u32,
+    none: Args,
 }
 
 impl Model for Placed {
-    ghost use Rattle.std.specs.Prelude.{ℕ};
-    ghost use Rattle.span_track.specs.Thread.{ThreadSpans};
-    ghost use Rattle.span_track_tests.specs.Placed.{IsPlaced};
-
     ghost Value = { ThreadSpans ℕ };
 
     ghost view = { λ p. p.track };
@@ -37,11 +27,22 @@ impl Model for Placed {
     ghost invariant = { λ p. IsPlaced p.next p.track };
 }
 
+// The track can take an event at the next place, before which there are few.
+fn expect_few(rt: &impl Abort, track: &ThreadTrack, next: u32)
+    requires { IsPlaced next track.now }
+    ensures room { HasRoom track.now }
+    ensures free { IsNext next track.now }
+    ensures few { next < 10000 }
+{
+    assert!(rt; next < 10_000);
+}
+
 impl Placed {
     pub(super) fn new(alloc: Global) -> Placed {
         Placed {
             track: ThreadTrack::new(alloc),
             next: 0,
+            none: Args::empty(alloc),
         }
     }
 
@@ -51,34 +52,21 @@ impl Placed {
         &self.track
     }
 
-    pub(super) fn begin_span(
-        &mut self,
-        rt: &impl Abort,
-        name: u32,
-        ts: i64,
-        at: u32,
-        args: &Args,
-    ) -> Result<u32, TrackFault>
+    pub(super) fn begin(&mut self, rt: &impl Abort, name: u32, ts: i64) -> Result<u32, TrackFault>
         requires { IsTime ts }
     {
-        expect_free(rt, self.next, at);
-        let depth = self.track.begin_span(name, ts, at, args)?;
+        let at = self.next;
+        expect_few(rt, &self.track, at);
         self.next = at + 1;
-        Ok(depth)
+        self.track.begin_span(name, ts, at, &self.none)
     }
 
-    pub(super) fn end_span(
-        &mut self,
-        rt: &impl Abort,
-        ts: i64,
-        args: &Args,
-    ) -> Result<ClosedSpan, TrackFault>
+    pub(super) fn end(&mut self, rt: &impl Abort, ts: i64) -> Result<ClosedSpan, TrackFault>
         requires { IsTime ts }
     {
-        expect_free(rt, self.next, self.next);
-        let span = self.track.end_span(ts, args)?;
+        expect_few(rt, &self.track, self.next);
         self.next += 1;
-        Ok(span)
+        self.track.end_span(ts, &self.none)
     }
 
     pub(super) fn complete(
@@ -87,15 +75,13 @@ impl Placed {
         name: u32,
         ts: i64,
         dur: u64,
-        at: u32,
-        args: &Args,
     ) -> Result<(), TrackFault>
         requires in_time { IsTime ts }
         requires lasts { dur ≤ greatest_time }
     {
-        expect_free(rt, self.next, at);
-        self.track.complete(name, ts, dur, at, args)?;
+        let at = self.next;
+        expect_few(rt, &self.track, at);
         self.next = at + 1;
-        Ok(())
+        self.track.complete(name, ts, dur, at, &self.none)
     }
 }
