@@ -1,12 +1,12 @@
 //! What a command line asks for, and what comes of it over files in memory.
 ghost use Rattle.std.specs.Prelude.{◌≤◌, vec_len, IfOk, None};
 
-use span_command_line::{Request, Source, SourceFault, perform, request_of};
+use span_command_line::{Request, Source, SourceFault, perform, read_up_to, request_of};
 use span_event::Text;
 use span_report::Writer;
 use std::alloc::{AllocError, Global};
 use std::io;
-use std::io::{ErrorKind, Write};
+use std::io::{ErrorKind, Read, Write};
 use std::process::Abort;
 use std::random::RandomSource;
 use std::sync::Wait;
@@ -192,4 +192,55 @@ fn knows_the_limit_and_the_files(rt: HostRuntime) -> Result<(), Fail> {
         orders(&rt, &texts, limit, count)?;
     }
     Ok(())
+}
+
+// A reader that gives a byte at each read, but fails once, before byte number `failing`.
+#[derive(Drop)]
+struct Failing {
+    given: u64,
+    failing: u64,
+    kind: ErrorKind,
+    failed: bool,
+}
+
+impl Read for Failing {
+    fn read(&mut self, buf: &mut [u8]) -> io::Result<usize> {
+        if self.given == self.failing && !self.failed {
+            self.failed = true;
+            return Err(io::Error::from(self.kind));
+        }
+        if self.given == 3 || buf.is_empty() {
+            return Ok(0);
+        }
+        self.given = self.given.wrapping_add(1);
+        buf[0] = b'x';
+        Ok(1)
+    }
+}
+
+fn read_failing(alloc: Global, failing: u64, kind: ErrorKind) -> Result<Vec<u8>, SourceFault> {
+    let mut reader = Failing {
+        given: 0,
+        failing,
+        kind,
+        failed: false,
+    };
+    read_up_to(alloc, &mut reader, 10)
+}
+
+#[test]
+fn tries_no_failed_read_again(rt: HostRuntime) {
+    for kind in [ErrorKind::Interrupted, ErrorKind::PermissionDenied] {
+        for failing in 0..4 {
+            let read = read_failing(rt.alloc(), failing, kind);
+            assert!(rt;
+                matches!(&read, Err(SourceFault::NotOpened)),
+                "before {failing}"
+            );
+            drop(read);
+        }
+    }
+    let read = read_failing(rt.alloc(), 4, ErrorKind::Interrupted);
+    assert!(rt; matches!(&read, Ok(bytes) if bytes.as_slice() == b"xxx".as_slice()));
+    drop(read);
 }
