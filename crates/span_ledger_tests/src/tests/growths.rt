@@ -1,10 +1,11 @@
 //! What readers tell where a growth of the ledger is refused.
-ghost use Rattle.std.specs.Prelude.{IfErr};
+ghost use Rattle.std.specs.Prelude.{All, IfErr, IfOk};
 ghost use Rattle.span_event.specs.Item.{IsGoodItem};
 ghost use Rattle.span_ledger.specs.Legal.{IsGoodOp};
 
+use super::examples::{EXAMPLES, Example};
 use super::rows;
-use span_ledger::{Back, Cause, Item, Ledger, Op};
+use span_ledger::{Back, Cause, Item, Items, Ledger, Op};
 use span_read::read_items;
 use std::alloc::{AllocError, Global};
 use std::process::Abort;
@@ -81,42 +82,42 @@ fn tell_at_last(
     tell_again(rt, ledger, back, before.as_str())
 }
 
-// Runs with each growth refused in turn, by tests/refused_allocations.
-fn a_refused_growth_changes_nothing_in(
+// The items of a text, read again where that was refused.
+fn items_at_last(alloc: Global, text: &str) -> Result<Items, Fail>
+    ensures { IfOk result (λ items. All IsGoodItem items) }
+{
+    match read_items(alloc, text.as_bytes()) {
+        Ok(items) => Ok(items),
+        Err(_) => Ok(read_items(alloc, text.as_bytes())?),
+    }
+}
+
+fn tell_example(
     rt: &(impl Abort + AllocGlobal),
     ledger: &mut Ledger,
+    example: &Example,
 ) -> Result<(), Fail> {
-    let alloc = rt.alloc();
-    let events =
-        r#"[{"ph":"B","name":"a","ts":0,"args":{"x":1,"y":2}},{"ph":"B","name":"b","ts":2},{"ph":"E","ts":1},
-        {"ph":"E","ts":5,"args":{"z":true}},{"ph":"E","ts":10,"args":{"y":3,"z":true}},{"ph":"E","ts":11},
-        {"ph":"X","name":"c","ts":3,"dur":4,"tid":7}]"#;
-    let items = match read_items(alloc, events.as_bytes()) {
-        Ok(items) => items,
-        Err(_) => read_items(alloc, events.as_bytes())?,
-    };
+    let items = items_at_last(rt.alloc(), example.events)?;
     for item in items.into_list() {
         tell_at_last(rt, ledger, item)?;
     }
-    let last = seen_at_last(alloc, ledger)?;
-    assert_eq!(rt;
-        last.as_str(),
-        r#"ProcessRow { pid: 0, name: None }
-ThreadRow { pid: 0, tid: 0, name: None, unclosed: 0, busy: 10 }
-ThreadRow { pid: 0, tid: 7, name: None, unclosed: 0, busy: 4 }
-SpanRow { pid: 0, tid: 0, name: "a", count: 1, total: 10, self_time: 7 }
-SpanRow { pid: 0, tid: 0, name: "b", count: 1, total: 3, self_time: 3 }
-SpanRow { pid: 0, tid: 7, name: "c", count: 1, total: 4, self_time: 4 }
-CountRow { accepted: 5, refused: 2, skipped: 0, queries: 0 }
-"#
-    );
+    let last = seen_at_last(rt.alloc(), ledger)?;
+    assert_eq!(rt; last.as_str(), example.rows, "{}", example.name);
     Ok(())
 }
 
-#[test]
-fn a_refused_growth_changes_nothing(rt: HostRuntime) -> Result<(), Fail> {
+fn tell_to_a_ledger(rt: &(impl Abort + AllocGlobal), example: &Example) -> Result<(), Fail> {
     let mut ledger = Ledger::new(rt.alloc(), 100);
-    let told = a_refused_growth_changes_nothing_in(&rt, &mut ledger);
+    let told = tell_example(rt, &mut ledger, example);
     drop(ledger);
     told
+}
+
+// Runs with each allocation refused in turn, by tests/refused_allocations.
+#[test]
+fn a_refused_growth_changes_nothing(rt: HostRuntime) -> Result<(), Fail> {
+    for example in &EXAMPLES {
+        tell_to_a_ledger(&rt, example)?;
+    }
+    Ok(())
 }
