@@ -11,6 +11,8 @@ use std::io::{ErrorKind, Write};
 use std::process::Abort;
 use std::test::Fail;
 
+mod growths;
+
 const EMPTY_REPORT: &str = "tracebook 1\nevents 0 refused 0 skipped 0 queries 0\n";
 
 // Whether the ledger takes the item. (Who lets go of an answer by a call of its own has one way to go on.)
