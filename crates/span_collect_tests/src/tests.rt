@@ -15,6 +15,11 @@ use std::test::Fail;
 use std::thread;
 use std::thread::Threads;
 
+mod cut;
+mod gates;
+mod growths;
+mod outputs;
+
 const TURNS: u32 = 50_000_000;
 
 const FOUR: &str =
@@ -167,6 +172,8 @@ fn workers_read_and_tell_while_the_main_seat_asks(rt: HostRuntime) -> Result<(),
     };
     collect_two(&rt, &gate)?;
     assert!(rt; !gate.late.load(Ordering::SeqCst));
+    assert_eq!(rt; gate.reading.load(Ordering::SeqCst), 3);
+    assert_eq!(rt; gate.telling.load(Ordering::SeqCst), 7);
     Ok(())
 }
 
@@ -217,7 +224,10 @@ fn takes_64_files(rt: HostRuntime) -> Result<(), Fail> {
 }
 
 // The number with which the collection of these files is refused.
-fn refusal_of(rt: &(impl Threads + Wait + RandomSource + Sync + AllocGlobal), files: &[Input]) -> Option<u16> {
+fn refusal_of(
+    rt: &(impl Threads + Wait + RandomSource + Sync + AllocGlobal),
+    files: &[Input],
+) -> Option<u16> {
     match collect(rt, rt.alloc(), files, &[], &FreeGate, 1000) {
         Ok(outcome) => {
             drop(outcome);

@@ -43,6 +43,18 @@ fn a_query_may_meet_the_limit(rt: HostRuntime) -> Result<(), Fail> {
     told
 }
 
+fn has_lines(
+    rt: &(impl Abort + AllocGlobal),
+    files: &[Input],
+    ends: &[FileEnd],
+    lines: &str,
+) -> Result<(), Fail> {
+    assert!(rt; files.len() == ends.len());
+    let faults = fault_lines(rt.alloc(), files, ends)?;
+    assert!(rt; faults.as_slice() == lines.as_bytes());
+    Ok(())
+}
+
 #[test]
 fn a_worker_that_is_not_started_has_a_line(rt: HostRuntime) -> Result<(), Fail> {
     let files = files_of(rt.alloc(), 1, 2)?;
@@ -50,8 +62,8 @@ fn a_worker_that_is_not_started_has_a_line(rt: HostRuntime) -> Result<(), Fail> 
         caller: 1,
         items: 2,
     };
-    let lines = fault_lines(rt.alloc(), &files, &[FileEnd::NotStarted, read]);
+    let line = "tracebook: \"span.json\": 42 NotStarted\n";
+    let told = has_lines(&rt, &files, &[FileEnd::NotStarted, read], line);
     drop(files);
-    assert!(rt; lines?.as_slice() == b"tracebook: \"span.json\": 42 NotStarted\n".as_slice());
-    Ok(())
+    told
 }
