@@ -1,6 +1,7 @@
 -- The lines of a report.
 use Rattle.std.specs.Prelude.{ℕ, ◌-◌, ℤ, List, [], ◌∷◌, ◌++◌, length, replicate, Option, Some, None, codes, decimal}
 use Rattle.std.specs.Fmt.{signed_decimal}
+use Rattle.std.specs.List.{join_with_byte}
 use Rattle.json.specs.Print.{quoted}
 use Rattle.span_event.specs.declared.event.IdKey.{IdKey}
 use Rattle.span_event.specs.declared.event.Reach.{Reach}
@@ -17,9 +18,7 @@ use Rattle.span_keyed_tracks.specs.declared.meta_track.instants.InstantRow.{Inst
 
 -- the words with one blank between them, ended by a line feed
 abbrev pub line_of : List (List ℕ) → List ℕ
-line_of [] = 10 ∷ []
-line_of (word ∷ []) = word ++ 10 ∷ []
-line_of (word ∷ next ∷ words) = word ++ 32 ∷ line_of (next ∷ words)
+line_of words = join_with_byte 32 words ++ 10 ∷ []
 
 -- blanks on the left fill the width; longer digits take the places that they need
 abbrev pub right_in : ℕ → List ℕ → List ℕ
@@ -29,10 +28,10 @@ right_in width digits = replicate (width - length digits) 32 ++ digits
 unfoldable pub json_text_of : List ℕ → List ℕ
 json_text_of text = quoted text
 
--- the name as JSON text, or `-` where there is none
-abbrev pub name_text : Option (List ℕ) → List ℕ
-name_text None = codes "-"
-name_text (Some name) = json_text_of name
+-- the text of what is there, or `-` where there is nothing
+abbrev pub or_dash : {A : Type 0} → (A → List ℕ) → Option A → List ℕ
+or_dash text None = codes "-"
+or_dash text (Some a) = text a
 
 unfoldable pub first_line : List ℕ
 first_line = line_of (codes "tracebook" ∷ codes "1" ∷ [])
@@ -41,10 +40,10 @@ unfoldable pub count_line : CountRow → List ℕ
 count_line row = line_of (codes "events" ∷ decimal row.accepted ∷ codes "refused" ∷ decimal row.refused ∷ codes "skipped" ∷ decimal row.skipped ∷ codes "queries" ∷ decimal row.queries ∷ [])
 
 unfoldable pub process_line : ProcessRow → List ℕ
-process_line row = line_of (codes "process" ∷ signed_decimal row.pid ∷ name_text row.name ∷ [])
+process_line row = line_of (codes "process" ∷ signed_decimal row.pid ∷ or_dash json_text_of row.name ∷ [])
 
 unfoldable pub thread_line : ThreadRow → List ℕ
-thread_line row = line_of (codes "thread" ∷ signed_decimal row.pid ∷ signed_decimal row.tid ∷ name_text row.name ∷ codes "open" ∷ decimal row.unclosed ∷ codes "busy" ∷ decimal row.busy ∷ [])
+thread_line row = line_of (codes "thread" ∷ signed_decimal row.pid ∷ signed_decimal row.tid ∷ or_dash json_text_of row.name ∷ codes "open" ∷ decimal row.unclosed ∷ codes "busy" ∷ decimal row.busy ∷ [])
 
 unfoldable pub span_line : SpanRow → List ℕ
 span_line row = line_of (codes "span" ∷ right_in 8 (decimal row.count) ∷ right_in 16 (decimal row.total) ∷ right_in 16 (decimal row.self_time) ∷ json_text_of row.name ∷ [])
@@ -66,16 +65,11 @@ with_home (Some home) text = signed_decimal home ++ (codes ":" ++ text)
 unfoldable pub id_text : IdKey → List ℕ
 id_text key = with_home key.home (json_text_of key.id)
 
--- `-` where there is no id
-abbrev pub any_id_text : Option IdKey → List ℕ
-any_id_text None = codes "-"
-any_id_text (Some key) = id_text key
-
 unfoldable pub samples_text : SeriesTotals → List ℕ
 samples_text totals = codes "samples " ++ (decimal totals.samples ++ (codes " least " ++ (signed_decimal totals.least ++ (codes " greatest " ++ (signed_decimal totals.greatest ++ (codes " last " ++ signed_decimal totals.last))))))
 
 unfoldable pub counter_line : SeriesRow → List ℕ
-counter_line row = line_of (codes "counter" ∷ signed_decimal row.key.pid ∷ json_text_of row.key.name ∷ any_id_text row.key.id ∷ json_text_of row.key.series ∷ samples_text row.totals ∷ [])
+counter_line row = line_of (codes "counter" ∷ signed_decimal row.key.pid ∷ json_text_of row.key.name ∷ or_dash id_text row.key.id ∷ json_text_of row.key.series ∷ samples_text row.totals ∷ [])
 
 unfoldable pub async_line : AsyncRow → List ℕ
 async_line row = line_of (codes "async" ∷ json_text_of row.key.cat ∷ json_text_of row.key.scope ∷ id_text row.key.id ∷ json_text_of row.key.name ∷ codes "closed" ∷ decimal row.totals.closed ∷ codes "total" ∷ decimal row.totals.total ∷ codes "open" ∷ decimal row.totals.unclosed ∷ codes "points" ∷ decimal row.totals.points ∷ [])

@@ -1,6 +1,6 @@
 //! The lines of a report: one for each row, appended to a text.
 ghost use Rattle.std.specs.Prelude.{◌≡◌, ◌++◌, ℕ, List, string_bytes, OnOk, IfOk};
-ghost use Rattle.span_report.specs.Lines.{first_line, count_line, process_line, thread_line, span_line, name_text, json_text_of, reach_text, instant_line, id_text, any_id_text, counter_line, samples_text, async_line, flow_line};
+ghost use Rattle.span_report.specs.Lines.{first_line, count_line, process_line, thread_line, span_line, or_dash, json_text_of, reach_text, instant_line, id_text, counter_line, samples_text, async_line, flow_line};
 
 use serde_json::Value;
 use span_event::{IdKey, Reach, Text};
@@ -26,7 +26,7 @@ pub fn json_text(alloc: Global, text: &Text) -> Result<String, AllocError>
 }
 
 fn shown_name(alloc: Global, name: &Option<Text>) -> Result<String, AllocError>
-    ensures { IfOk result (λ s. string_bytes s ≡ name_text name.now) }
+    ensures { IfOk result (λ s. string_bytes s ≡ or_dash json_text_of name.now) }
 {
     match name {
         None => String::from_str(alloc, "-"),
@@ -82,7 +82,7 @@ impl Printed for ThreadRow {
 impl Printed for SpanRow {
     ghost lines = { span_line };
 
-    #[tactic(auto, using(crate::proofs::Padding::padded_integral_right), unfolding(crate::specs::Lines::span_line))]
+    #[tactic(auto, using(crate::proofs::Padding::padded_integral_right, std::proofs::Common::append_assoc), unfolding(crate::specs::Lines::span_line))]
     fn put(&self, alloc: Global, out: &mut String) -> Result<(), AllocError> {
         let name = json_text(alloc, &self.name)?;
         let (count, total, self_time) = (self.count, self.total, self.self_time);
@@ -103,7 +103,7 @@ fn letter_of(reach: Reach) -> &'static str
 impl Printed for InstantRow {
     ghost lines = { instant_line };
 
-    #[tactic(auto, using(crate::proofs::Padding::padded_integral_right), unfolding(crate::specs::Lines::instant_line))]
+    #[tactic(auto, using(crate::proofs::Padding::padded_integral_right, std::proofs::Common::append_assoc), unfolding(crate::specs::Lines::instant_line))]
     fn put(&self, alloc: Global, out: &mut String) -> Result<(), AllocError> {
         let name = json_text(alloc, &self.name)?;
         let (reach, count) = (letter_of(self.reach), self.count);
@@ -123,7 +123,7 @@ fn shown_id(alloc: Global, key: &IdKey) -> Result<String, AllocError>
 }
 
 fn shown_any_id(alloc: Global, key: &Option<IdKey>) -> Result<String, AllocError>
-    ensures { IfOk result (λ s. string_bytes s ≡ any_id_text key.now) }
+    ensures { IfOk result (λ s. string_bytes s ≡ or_dash id_text key.now) }
 {
     match key {
         None => String::from_str(alloc, "-"),
