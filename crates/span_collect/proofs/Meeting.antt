@@ -1,5 +1,6 @@
 -- What the main seat has met, and the account of the journal that it closes.
-use Rattle.std.proofs.Common.{◌≡◌, ℕ, suc, ◌≤◌, List, [], ◌∷◌, ◌++◌, length, map, take, Option, Some, None, Ok, Err, Contains, refl, sym, subst, ap, ap₂, ◌∙◌, append-nil, length-append, arith, inl, inr}
+use Rattle.std.proofs.lemmas.Slice.Zip.{all_zipped_more}
+use Rattle.std.proofs.Common.{◌≡◌, ℕ, ◌≤◌, List, [], ◌∷◌, ◌++◌, length, map, take, Option, Some, None, Ok, Err, Contains, refl, sym, subst, ap, ap₂, ◌∙◌, append-nil, length-append, arith, inl, inr}
 use Rattle.std.proofs.lemmas.List.Elements.{filter_map-append}
 use Rattle.span_read.specs.Document.{doc}
 use Rattle.span_ledger.specs.declared.entry.Entry.{Entry}
@@ -59,19 +60,6 @@ EachEndsAs-later limit old new (file ∷ files) (end ∷ ends) grows same ended 
   EachEndsAs-later limit old new files ends grows (later-named (λ c. operations new c ≡ operations old c) end ends same) ended.1,
 )
 
-pub EachEndsAs-push : (journal : List Entry) (limit : ℕ) (files : List Input) (ends : List FileEnd) (file : Input) (end : FileEnd) → EachEndsAs journal limit files ends → EndsAs journal limit (doc file.bytes.items) end →
-    EachEndsAs journal limit (files ++ file ∷ []) (ends ++ end ∷ [])
-EachEndsAs-push journal limit [] [] file end ended last = (last, tt)
-EachEndsAs-push journal limit [] (e ∷ ends) file end ended last = absurd ended
-EachEndsAs-push journal limit (f ∷ files) [] file end ended last = absurd ended
-EachEndsAs-push journal limit (f ∷ files) (e ∷ ends) file end ended last = (ended.0, EachEndsAs-push journal limit files ends file end ended.1 last)
-
-pub EachEndsAs-length : (journal : List Entry) (limit : ℕ) (files : List Input) (ends : List FileEnd) → EachEndsAs journal limit files ends → length files ≡ length ends
-EachEndsAs-length journal limit [] [] ended = refl
-EachEndsAs-length journal limit [] (end ∷ ends) ended = absurd ended
-EachEndsAs-length journal limit (file ∷ files) [] ended = absurd ended
-EachEndsAs-length journal limit (file ∷ files) (end ∷ ends) ended = ap suc (EachEndsAs-length journal limit files ends ended.1)
-
 -- the queries that were asked stay so in a longer journal that has the same operations of caller 0
 pub IsAsked-later : (limit : ℕ) (old new : List Entry) (asks : List Query) (asked : Asked) → length old ≤ length new → operations new 0 ≡ operations old 0 → IsAsked old limit asks asked → IsAsked new limit asks asked
 IsAsked-later limit old new asks asked grows same is = record {
@@ -108,7 +96,7 @@ module _ (share : ShareId) (files : List Input) (asks : List Query) (ends : List
         ∙ ap₂ (λ (a b : List ℕ). a ++ b) met.owned worked.alone
         ∙ ap (λ l. 0 ∷ (callers_named ends ++ l)) (sym (callers_named-end end worker.number worked.named))
         ∙ ap (λ l. 0 ∷ l) (sym (filter_map-append caller_named ends (end ∷ [])));
-    ended = EachEndsAs-push after.seen share.limit files ends file end
+    ended = all_zipped_more (λ (f : Input) (e : FileEnd). EndsAs after.seen share.limit (doc f.bytes.items) e) files ends file end
         (EachEndsAs-later share.limit main.seen after.seen files ends grows (λ c at. kept c (Contains-later 0 (callers_named ends) c at)) met.ended)
         (EndsAs-later share.limit worker.seen after.seen (doc file.bytes.items) end (BeginsWith-length after.seen worker.seen gathers.begins_other) of_worker worked.ended);
     queries = IsAsked-later share.limit main.seen after.seen asks asked grows (kept 0 (Contains-here 0 (callers_named ends))) met.queries;
@@ -131,6 +119,6 @@ module _ (share : ShareId) (files : List Input) (asks : List Query) (ends : List
   HasMet-not_started = record {
     sound = met.sound;
     owned = met.owned ∙ ap (λ l. 0 ∷ l) (sym (filter_map-append caller_named ends (NotStarted ∷ []) ∙ append-nil (callers_named ends)));
-    ended = EachEndsAs-push main.seen share.limit files ends file NotStarted met.ended tt;
+    ended = all_zipped_more (λ (f : Input) (e : FileEnd). EndsAs main.seen share.limit (doc f.bytes.items) e) files ends file NotStarted met.ended tt;
     queries = met.queries;
   }

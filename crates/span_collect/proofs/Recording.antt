@@ -2,6 +2,7 @@
 use Rattle.std.proofs.Common.{◌≡◌, ℕ, ◌+◌, ◌<◌, ◌≤◌, ◌⊎◌, List, [], ◌∷◌, ◌++◌, length, map, take, get_or, nat_lt, lt-ltb, eqb, Bool, true, false, Option, Some, None, Ok, Err, refl, sym, ap, ap₂, ◌∙◌, append-nil, length-append, arith, inl, inr}
 use Rattle.std.specs.Prelude.{if◌then◌else◌, Result, IfOk, IfSome}
 use Rattle.std.specs.Result.{result_ok}
+use Rattle.std.proofs.Math.Seq.{take-append_seam}
 use Rattle.std.proofs.lemmas.List.{map-append, length-map, take_more, length-take-le}
 use Rattle.std.proofs.lemmas.List.Sums.{length-filter, count_by-le-length}
 use Rattle.serde_json.specs.Data.{Data, Items, no_items, item}
@@ -59,13 +60,9 @@ IsCause-at limit seen Full either at = omega (arith, at)
 IsCause-at limit seen (Busy front) (inl same) at = absurd cc
 IsCause-at limit seen (Busy front) (inr same) at = absurd cc
 
-take-front : {A : Type 0} (xs ys : List A) → take (length xs) (xs ++ ys) ≡ xs
-take-front [] ys = refl
-take-front (x ∷ xs) ys = ap (λ l. x ∷ l) (take-front xs ys)
-
 -- those that were told are the first
 told-first : {A : Type 0} (told rest items : List A) (done : ℕ) → told ++ rest ≡ items → done ≡ length told → told ≡ take done items
-told-first told rest items done all counted = sym (take-front told rest) ∙ ap₂ (λ n xs. take n xs) (sym counted) all
+told-first told rest items done all counted = sym (take-append_seam told rest) ∙ ap₂ (λ n xs. take n xs) (sym counted) all
 
 module _ (share : ShareId) (caller : ℕ) (seat : Seated) (named : caller ≡ seat.number) where
   -- all items were told

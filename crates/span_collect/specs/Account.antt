@@ -1,5 +1,6 @@
 -- The account of a collection: how each file ended, what was asked, and what stands in the journal.
-use Rattle.std.specs.Prelude.{◌≡◌, ℕ, ◌<◌, ◌≤◌, ◌⊎◌, ⊤, List, [], ◌∷◌, length, map, take, filter_map, All, Contains, Option, Some, None, Result, Ok, Err}
+use Rattle.std.specs.Prelude.{◌≡◌, ℕ, ◌<◌, ◌≤◌, ◌⊎◌, ⊤, List, [], ◌∷◌, length, map, take, filter_map, All, Contains, Option, Some, None, MatchOption, Result, IsOkAnd, IsErrAnd}
+use Rattle.std.specs.List.{AllZip}
 use Rattle.span_event.specs.declared.item.Item.{Item}
 use Rattle.span_read.specs.declared.error.ReadError.{ReadError}
 use Rattle.span_read.specs.Document.{doc}
@@ -35,18 +36,15 @@ operations journal caller = map (λ entry. entry.op) (calls caller_of caller jou
 
 -- the document has this many items, and all of them stand in the journal under this caller
 abbrev pub IsRead : List Entry → Document → ℕ → ℕ → Type 0
-IsRead journal (Ok items) caller count = (count ≡ length items) × (operations journal caller ≡ telling items)
-IsRead journal (Err error) caller count = ⊥
+IsRead journal document caller count = IsOkAnd document (λ items. (count ≡ length items) × (operations journal caller ≡ telling items))
 
 -- the document is refused with this number, and this caller has no entry
 abbrev pub IsRefused : List Entry → Document → ℕ → ℕ → Type 0
-IsRefused journal (Ok items) caller code = ⊥
-IsRefused journal (Err error) caller code = (code ≡ code_of error) × (operations journal caller ≡ [])
+IsRefused journal document caller code = IsErrAnd document (λ error. (code ≡ code_of error) × (operations journal caller ≡ []))
 
 -- the document has more items than these, and just its first `done` stand in the journal under this caller
 abbrev pub HasFirst : List Entry → Document → ℕ → ℕ → Type 0
-HasFirst journal (Ok items) caller done = (done < length items) × (operations journal caller ≡ telling (take done items))
-HasFirst journal (Err error) caller done = ⊥
+HasFirst journal document caller done = IsOkAnd document (λ items. (done < length items) × (operations journal caller ≡ telling (take done items)))
 
 -- reading found no memory: this caller has no entry
 abbrev pub IsUnread : List Entry → ℕ → ℕ → Cause → Type 0
@@ -67,15 +65,11 @@ EndsAs journal limit document NotStarted = ⊤
 
 -- each file ended as its end says, and there is one end for each, in order
 abbrev pub EachEndsAs : List Entry → ℕ → List Input → List FileEnd → Type 0
-EachEndsAs journal limit [] [] = ⊤
-EachEndsAs journal limit [] (end ∷ ends) = ⊥
-EachEndsAs journal limit (file ∷ files) [] = ⊥
-EachEndsAs journal limit (file ∷ files) (end ∷ ends) = EndsAs journal limit (doc file.bytes.items) end × EachEndsAs journal limit files ends
+EachEndsAs journal limit files ends = AllZip (λ file end. EndsAs journal limit (doc file.bytes.items) end) files ends
 
 -- the asking ended with all queries, or for a cause before that
 abbrev pub StopsAsking : List Entry → ℕ → List Query → ℕ → Option Cause → Type 0
-StopsAsking journal limit asks done None = done ≡ length asks
-StopsAsking journal limit asks done (Some cause) = (done < length asks) × IsCause journal limit cause
+StopsAsking journal limit asks done cause = MatchOption cause (done ≡ length asks) (λ c. (done < length asks) × IsCause journal limit c)
 
 -- the first `done` queries stand in the journal under caller 0, and they are all unless there is a cause
 pub record IsAsked (journal : List Entry) (limit : ℕ) (asks : List Query) (asked : Asked) : Type 0 where

@@ -1,7 +1,8 @@
 use Rattle.std.proofs.Common.{arith}
+use Rattle.std.proofs.lemmas.Slice.Zip.{AllZip-long}
 use Rattle.span_read.specs.Document.{doc}
 use Rattle.span_collect.specs.Work.{IsWorked}
-use Rattle.span_collect.proofs.Meeting.{EachEndsAs-length, HasMet-joined, HasMet-not_started}
+use Rattle.span_collect.proofs.Meeting.{HasMet-joined, HasMet-not_started}
 use Rattle.span_collect.proofs.workers.+work_all.Goals.{in-Some-handle, in-None}
 use Rattle.span_collect.proofs.workers.+work_all.Goals as goal
 
@@ -10,7 +11,7 @@ pub push_reserved-requires : goal.push_reserved-requires
 push_reserved-requires g t c =
     let ends = c.work_all-asked.new.ends in
     let met = c.work_all-asked.ensures.met in
-    omega (arith, EachEndsAs-length _ _ _ ends.items met.ended, ends.ok.0, c.work_all-asked.ensures.room, c.requires.room, c.in-Some.ensures.cases.1)
+    omega (arith, AllZip-long _ _ ends.items met.ended, ends.ok.0, c.work_all-asked.ensures.room, c.requires.room, c.in-Some.ensures.cases.1)
 
 -- the worker is met, or there was none
 pub returns-clause-met : goal.returns-clause-met

@@ -1,5 +1,5 @@
 use Rattle.std.proofs.Common.{sym, arith, inl, inr}
-use Rattle.span_collect.proofs.Meeting.{EachEndsAs-length}
+use Rattle.std.proofs.lemmas.Slice.Zip.{AllZip-long}
 use Rattle.span_command_line.proofs.Parts.{LeavesPart-ended}
 use Rattle.span_command_line.proofs.program.collect.Goals as goal
 
@@ -7,7 +7,7 @@ use Rattle.span_command_line.proofs.program.collect.Goals as goal
 pub report_faults-requires-clause-lines : goal.report_faults-requires-clause-lines
 report_faults-requires-clause-lines g c =
     let run = c.in-Ok.ensures.run in
-    EachEndsAs-length run.journal c.args.limit c.args.files.now c.in-Ok.collected.end.ends.items run.account.each_file_once_in_order
+    sym (AllZip-long _ c.args.files.now c.in-Ok.collected.end.ends.items run.account.each_file_once_in_order)
 
 pub returns-in-Ok-clause-done : goal.returns-in-Ok-clause-done
 returns-in-Ok-clause-done g c = λ below. elim c.report_faults.ensures.status [
