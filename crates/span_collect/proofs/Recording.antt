@@ -1,15 +1,11 @@
 -- What one seat has recorded, and how its file ended.
-use Rattle.std.proofs.Common.{◌≡◌, ℕ, ◌+◌, ◌<◌, ◌≤◌, ◌⊎◌, List, [], ◌∷◌, ◌++◌, length, map, take, get_or, nat_lt, lt-ltb, eqb, Bool, true, false, Option, Some, None, Ok, Err, refl, sym, ap, ap₂, ◌∙◌, append-nil, length-append, arith, inl, inr}
-use Rattle.std.specs.Prelude.{if◌then◌else◌, Result, IfOk, IfSome}
+use Rattle.std.proofs.Common.{◌≡◌, ℕ, ◌+◌, ◌<◌, ◌≤◌, ◌⊎◌, List, [], ◌∷◌, ◌++◌, length, map, take, get_or, eqb, Bool, Some, Ok, Err, sym, ap, ap₂, ◌∙◌, append-nil, length-append, arith, inl, inr}
+use Rattle.std.specs.Prelude.{Result, IfOk, IfSome}
 use Rattle.std.specs.Result.{result_ok}
 use Rattle.std.proofs.Math.Seq.{take-append_seam}
 use Rattle.std.proofs.lemmas.List.{map-append, length-map, take_more, length-take-le}
 use Rattle.std.proofs.lemmas.List.Sums.{length-filter, count_by-le-length}
-use Rattle.serde_json.specs.Data.{Data, Items, no_items, item}
-use Rattle.serde_json.specs.Events.{items_len}
 use Rattle.span_event.specs.declared.item.Item.{Item}
-use Rattle.span_read.specs.declared.error.ReadError.TheVariants.{TooLarge, TooMany}
-use Rattle.span_read.specs.Document.{doc, document, doc_of_document, doc_of_elements, elements_of, items_of, most_bytes, most_items}
 use Rattle.span_ledger.specs.declared.entry.Entry.{Entry}
 use Rattle.span_ledger.specs.declared.entry.Op.{Op}
 use Rattle.span_ledger.specs.declared.entry.Op.TheVariants.{One, Ask}
@@ -31,6 +27,11 @@ HasRecorded-enrolled share old new seat enrols = record {
   alone = enrols.owned;
   recorded = ap (map (λ (e : Entry). e.op)) enrols.empty;
 }
+
+-- the same of a seat that enrolling may give
+pub enrolled : (share : ShareId) (old : Seated) (result : Result Seated ShareError) → IfOk result (IsSeatOf share) → IfOk result (Enrols old) → IfSome (result_ok result) (IsNewSeat share)
+enrolled share old (Ok new) seat enrols = HasRecorded-enrolled share old new seat enrols
+enrolled share old (Err error) seat enrols = tt
 
 -- one operation more is recorded
 pub HasRecorded-next : (share : ShareId) (ops : List Op) (op : Op) (receipt : Receipt) (old new : Seated) → HasRecorded share ops old → IsSeatOf share new → Records old new op receipt → HasRecorded share (ops ++ op ∷ []) new
@@ -116,38 +117,3 @@ asked-le share asks i seat has within =
 -- one item more was told
 pub telling-next : (told : List Item) (next : Item) → telling told ++ One next ∷ [] ≡ telling (told ++ next ∷ [])
 telling-next told next = sym (map-append (λ (i : Item). One i) told (next ∷ []))
-
--- a document has no more items than a file may have
-pub document_is_small : (bytes : List ℕ) (items : List Item) → doc bytes ≡ Ok items → length items ≤ most_items
-document_is_small bytes items is = of_bytes (nat_lt most_bytes (length bytes)) (document bytes) items is
-  where
-    items_of-length : (ds : Items) → length (items_of ds) ≡ items_len ds
-    items_of-length no_items = refl
-    items_of-length (item d ds) = omega (arith, items_of-length ds)
-
-    of_elements : (b : Bool) (ds : Items) (is : List Item) → nat_lt most_items (items_len ds) ≡ b → (if b then Err TooMany else Ok (items_of ds)) ≡ Ok is → length is ≤ most_items
-    of_elements true ds is over e = absurd cc
-    of_elements false ds is over e =
-        let same : items_of ds ≡ is = cc in
-        let below : (most_items < items_len ds) → ⊥ = λ more. absurd (cc_of (lt-ltb most_items (items_len ds) more) over) in
-        omega (arith, items_of-length ds, ap length same, below)
-      where
-        cc_of : {b : Bool} → b ≡ true → b ≡ false → ⊥
-        cc_of e f = cc
-
-    of_option : (o : Option Items) (is : List Item) → doc_of_elements o ≡ Ok is → length is ≤ most_items
-    of_option None is e = absurd cc
-    of_option (Some ds) is e = of_elements (nat_lt most_items (items_len ds)) ds is refl e
-
-    of_data : (o : Option Data) (is : List Item) → doc_of_document o ≡ Ok is → length is ≤ most_items
-    of_data None is e = absurd cc
-    of_data (Some d) is e = of_option (elements_of d) is e
-
-    of_bytes : (b : Bool) (o : Option Data) (is : List Item) → (if b then Err TooLarge else doc_of_document o) ≡ Ok is → length is ≤ most_items
-    of_bytes true o is e = absurd cc
-    of_bytes false o is e = of_data o is e
-
--- the same of a seat that enrolling may give
-pub enrolled : (share : ShareId) (old : Seated) (result : Result Seated ShareError) → IfOk result (IsSeatOf share) → IfOk result (Enrols old) → IfSome (result_ok result) (IsNewSeat share)
-enrolled share old (Ok new) seat enrols = HasRecorded-enrolled share old new seat enrols
-enrolled share old (Err error) seat enrols = tt

@@ -1,13 +1,14 @@
 -- What a file is, from what its first candidate is that reads.
-use Rattle.std.proofs.Common.{◌≡◌, ℕ, ◌≤◌, List, length, refl, sym, Bool, true, false, Option, None, Some, Result, Ok, Err, IfOk, All, nat_lt, if◌then◌else◌, rules, tests}
+use Rattle.std.proofs.Common.{◌≡◌, ℕ, ◌≤◌, List, length, refl, sym, ap, arith, Bool, true, false, Option, None, Some, Result, Ok, Err, IfOk, All, nat_lt, if◌then◌else◌, rules, tests}
+use borrow.Author.Tests.{ltb-false}
 use Rattle.std.specs.Prelude.{IfErr}
 use Rattle.std.specs.Str.{IsUtf8, is_utf8}
 use Rattle.std.proofs.lemmas.Str.{is_utf8-from_IsUtf8, IsUtf8-from_is_utf8}
-use Rattle.serde_json.specs.Data.{Data, Items}
+use Rattle.serde_json.specs.Data.{Data, Items, no_items, item}
 use Rattle.serde_json.specs.Events.{items_len}
 use Rattle.span_event.specs.declared.item.Item.{Item}
-use Rattle.span_read.specs.declared.error.ReadError.TheVariants.{NotJson, TooMany}
-use Rattle.span_read.specs.Document.{candidates, first_read, elements_of, doc, doc_of_document, doc_of_elements, items_of, most_bytes, most_items}
+use Rattle.span_read.specs.declared.error.ReadError.TheVariants.{TooLarge, NotJson, TooMany}
+use Rattle.span_read.specs.Document.{document, candidates, first_read, elements_of, doc, doc_of_document, doc_of_elements, items_of, most_bytes, most_items}
 use Rattle.span_event.specs.Item.{IsGoodItem}
 use Rattle.span_read.proofs.Good.{All-good_items_of}
 
@@ -21,17 +22,38 @@ doc-of_no_utf8 bytes small not = by (is_utf8 bytes) refl
     by true is = absurd (not (IsUtf8-from_is_utf8 bytes is))
     by false is = search (rules, tests)
 
-all_good : (b : Bool) (ds : Items) (is : List Item) → (if b then Err TooMany else Ok (items_of ds)) ≡ Ok is → All IsGoodItem is
-all_good true ds is e = cc
-all_good false ds is e = let same : items_of ds ≡ is = cc in All-good_items_of ds is (sym same)
+-- these are the items of some elements, of which there are not too many
+record AreOfElements (is : List Item) : Type 0 where
+  elements : Items
+  few : items_len elements ≤ most_items
+  are : is ≡ items_of elements
 
-all_elements_good : (o : Option Items) (is : List Item) → doc_of_elements o ≡ Ok is → All IsGoodItem is
-all_elements_good None is e = cc
-all_elements_good (Some ds) is e = all_good (nat_lt most_items (items_len ds)) ds is e
+of_count : (b : Bool) (ds : Items) (is : List Item) → nat_lt most_items (items_len ds) ≡ b → (if b then Err TooMany else Ok (items_of ds)) ≡ Ok is → AreOfElements is
+of_count true ds is over e = cc
+of_count false ds is within e = let same : items_of ds ≡ is = cc in record { elements = ds; few = omega (arith, ltb-false); are = sym same }
+
+of_elements : (o : Option Items) (is : List Item) → doc_of_elements o ≡ Ok is → AreOfElements is
+of_elements None is e = cc
+of_elements (Some ds) is e = of_count _ ds is refl e
+
+of_document : (o : Option Data) (is : List Item) → doc_of_document o ≡ Ok is → AreOfElements is
+of_document None is e = cc
+of_document (Some d) is e = of_elements (elements_of d) is e
 
 pub All-good_document : (o : Option Data) (is : List Item) → doc_of_document o ≡ Ok is → All IsGoodItem is
-All-good_document None is e = cc
-All-good_document (Some d) is e = all_elements_good (elements_of d) is e
+All-good_document o is e = let of = of_document o is e in All-good_items_of of.elements is of.are
+
+length-items_of : (ds : Items) → length (items_of ds) ≡ items_len ds
+length-items_of no_items = refl
+length-items_of (item d ds) = omega (arith, length-items_of ds)
+
+-- a file gives no more items than it may have
+pub length-doc : (bytes : List ℕ) (is : List Item) → doc bytes ≡ Ok is → length is ≤ most_items
+length-doc bytes is e = by (nat_lt most_bytes (length bytes)) e
+  where
+    by : (b : Bool) → (if b then Err TooLarge else doc_of_document (document bytes)) ≡ Ok is → length is ≤ most_items
+    by true e = cc
+    by false e = let of = of_document (document bytes) is e in omega (arith, ap length of.are, length-items_of of.elements, of.few)
 
 -- ---- an answer that is right unless memory ran out
 

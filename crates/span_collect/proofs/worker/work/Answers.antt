@@ -1,6 +1,6 @@
-use Rattle.span_collect.proofs.Recording.{document_is_small}
+use Rattle.span_read.proofs.Documents.{length-doc}
 use Rattle.span_collect.proofs.worker.work.Goals as goal
 
 -- a file has few items
 pub tell_all-requires-clause-few : goal.tell_all-requires-clause-few
-tell_all-requires-clause-few g c κs within = document_is_small _ c.in-Ok.items c.in-Ok.ensures.items
+tell_all-requires-clause-few g c κs within = length-doc _ c.in-Ok.items c.in-Ok.ensures.items
