@@ -11,12 +11,12 @@ pub struct HashKeys {
 }
 
 impl HashKeys {
-    /// Keys that everybody knows, for input that is trusted: who wants to can choose names of which all collide.
+    /// Fixed keys, for input that is trusted: they are public, so anyone can choose names that all collide.
     pub fn fixed() -> HashKeys {
         HashKeys { random: None }
     }
 
-    /// Keys of random bytes, by which nobody outside can tell what collides; the fixed ones, where no random bytes are to be had.
+    /// Keys of random bytes, so that nobody outside can tell which names collide; the fixed ones where no random bytes can be had.
     pub fn random(rt: &impl RandomSource) -> HashKeys {
         HashKeys {
             random: RandomState::new(rt).ok(),
