@@ -98,21 +98,21 @@ module _ (share : ShareId) (files : List Input) (asks : List Query) (ends : List
         ∙ ap (λ l. 0 ∷ l) (sym (filter_map-append caller_named ends (end ∷ [])));
     ended = all_zipped_more (λ (f : Input) (e : FileEnd). EndsAs after.seen share.limit (doc f.bytes.items) e) files ends file end
         (EachEndsAs-later share.limit main.seen after.seen files ends grows (λ c at. kept c (Contains-later 0 (callers_named ends) c at)) met.ended)
-        (EndsAs-later share.limit worker.seen after.seen (doc file.bytes.items) end (BeginsWith-length after.seen worker.seen gathers.begins_other) of_worker worked.ended);
+        (EndsAs-later share.limit worker.seen after.seen (doc file.bytes.items) end (BeginsWith-length after.seen worker.seen gathers.seen_other.begins) of_worker worked.ended);
     queries = IsAsked-later share.limit main.seen after.seen asks asked grows (kept 0 (Contains-here 0 (callers_named ends))) met.queries;
   }
     where
       grows : length main.seen ≤ length after.seen
-      grows = BeginsWith-length after.seen main.seen gathers.begins
+      grows = BeginsWith-length after.seen main.seen gathers.seen.begins
 
       kept : (c : ℕ) → Contains (0 ∷ callers_named ends) c → operations after.seen c ≡ operations main.seen c
-      kept c at = ap (map (λ (e : Entry). e.op)) (gathers.lists c (subst (λ l. Contains l c) (sym met.owned) at))
+      kept c at = ap (map (λ (e : Entry). e.op)) (gathers.seen.lists c (subst (λ l. Contains l c) (sym met.owned) at))
 
       of_worker : (c : ℕ) → caller_named end ≡ Some c → operations after.seen c ≡ operations worker.seen c
       of_worker c at =
           let same : Some worker.number ≡ Some c = sym worked.named ∙ at in
           let own : worker.number ≡ c = cc in
-          ap (map (λ (e : Entry). e.op)) (gathers.lists_other c (subst (λ l. Contains l c) (sym worked.alone) (subst (λ n. Contains (worker.number ∷ []) n) own (Contains-here worker.number []))))
+          ap (map (λ (e : Entry). e.op)) (gathers.seen_other.lists c (subst (λ l. Contains l c) (sym worked.alone) (subst (λ n. Contains (worker.number ∷ []) n) own (Contains-here worker.number []))))
 
   -- one file was not started
   pub HasMet-not_started : HasMet share (files ++ file ∷ []) asks (ends ++ NotStarted ∷ []) asked main

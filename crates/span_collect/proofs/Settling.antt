@@ -58,10 +58,10 @@ asked-total journal limit asks asked is =
 
 module _ (files : List Input) (asks : List Query) (limit : ℕ) (ends : List FileEnd) (asked : Asked) (ledger : Kept) (closed : IsClosed files asks limit ends asked ledger) where
   kept : (c : ℕ) → Contains (0 ∷ callers_named ends) c → operations ledger.journal c ≡ operations closed.seat.seen c
-  kept c at = ap (map (λ (e : Entry). e.op)) (closed.closes.lists c (subst (λ l. Contains l c) (sym closed.met.owned) at))
+  kept c at = ap (map (λ (e : Entry). e.op)) (closed.closes.seen.lists c (subst (λ l. Contains l c) (sym closed.met.owned) at))
 
   grows : length closed.seat.seen ≤ length ledger.journal
-  grows = BeginsWith-length ledger.journal closed.seat.seen closed.closes.begins
+  grows = BeginsWith-length ledger.journal closed.seat.seen closed.closes.seen.begins
 
   ended : EachEndsAs ledger.journal limit files ends
   ended = subst (λ n. EachEndsAs ledger.journal n files ends) closed.limit_is
