@@ -18,11 +18,12 @@ demo: tracebook
 	./tracebook < examples/page_load.json
 
 # The merge gate, which proves and builds everything from nothing, and then what it built: the program on each case of
-# tests/acceptance and on a large generated trace, and each allocation refused in turn.
+# tests/acceptance, on a large generated trace and on names that were chosen to collide, and each allocation refused in turn.
 test:
 	rt ci
 	tests/acceptance/run crates/tracebook/out/tracebook
 	tests/generated_trace crates/tracebook/out/tracebook
+	tests/flooded_names crates/tracebook/out/tracebook
 	tests/documented_words
 	tests/trusted_definitions
 	tests/refused_allocations

@@ -1,6 +1,7 @@
-// Prints keys of which all have the same low bits in the library's quick hash with its halves joined, whose seed is fixed and
-// public, so that they meet in one place of a map that hashes by it. Arguments: the kind of key (name, process, thread or series), how many, and how many
-// bits. Found by trying one after the other.
+// Prints keys of which all have the same low bits in a hash with its halves joined, so that they meet in one place of a map that
+// hashes by it: in the library's quick hash, whose seed is fixed and public, or, of the kind fixed_name, in SipHash-1-3 by the
+// fixed keys, which are 0. Arguments: the kind of key (name, fixed_name, process, thread or series), how many, and how many bits.
+// Found by trying one after the other.
 #include <inttypes.h>
 #include <stdio.h>
 #include <stdlib.h>
@@ -20,28 +21,72 @@ static uint64_t with_number(uint64_t state, uint64_t number, uint64_t bytes)
     return folded_multiply(state ^ number, MULTIPLIER ^ (2 * bytes));
 }
 
-// A name has twelve letters, each for four bits of the candidate.
-static void write_name(char *letters, uint64_t candidate)
+// Eight letters, each for four bits of the candidate.
+static uint64_t letters_of(uint64_t candidate)
 {
-    for (int place = 0; place < 12; place++)
-        letters[place] = 'a' + (candidate >> 4 * place & 15);
+    uint64_t bits = candidate & 0xffffffff;
+    bits = (bits | bits << 16) & 0x0000ffff0000ffff;
+    bits = (bits | bits << 8) & 0x00ff00ff00ff00ff;
+    bits = (bits | bits << 4) & 0x0f0f0f0f0f0f0f0f;
+    return bits + 0x6161616161616161;
+}
+
+// The last eight letters of a name, which has twelve.
+static uint64_t last_letters_of(uint64_t candidate)
+{
+    return letters_of(candidate >> 16);
 }
 
 // The last byte is the one that ends a text.
 static uint64_t hash_of_name(uint64_t candidate)
 {
-    char letters[12];
-    uint64_t first, last;
-    write_name(letters, candidate);
-    memcpy(&first, letters, 8);
-    memcpy(&last, letters + 4, 8);
+    uint64_t first = letters_of(candidate), last = last_letters_of(candidate);
     return with_number(folded_multiply(first ^ (SEED + 12), last ^ MULTIPLIER), 0xff | 0xff << 8 | 0xff << 16, 1);
+}
+
+static uint64_t rotated(uint64_t word, int bits)
+{
+    return word << bits | word >> (64 - bits);
+}
+
+static void sip_round(uint64_t state[4])
+{
+    state[0] += state[1];
+    state[2] += state[3];
+    state[1] = rotated(state[1], 13) ^ state[0];
+    state[3] = rotated(state[3], 16) ^ state[2];
+    state[0] = rotated(state[0], 32) + state[3];
+    state[2] += state[1];
+    state[1] = rotated(state[1], 17) ^ state[2];
+    state[3] = rotated(state[3], 21) ^ state[0];
+    state[2] = rotated(state[2], 32);
+}
+
+static void sip_word(uint64_t state[4], uint64_t word)
+{
+    state[3] ^= word;
+    sip_round(state);
+    state[0] ^= word;
+}
+
+// The last word has the last letters, the byte that ends a text, and how many bytes there are.
+static uint64_t fixed_hash_of_name(uint64_t candidate)
+{
+    uint64_t state[] = {0x736f6d6570736575, 0x646f72616e646f6d, 0x6c7967656e657261, 0x7465646279746573};
+    sip_word(state, letters_of(candidate));
+    sip_word(state, last_letters_of(candidate) >> 32 | 0xffull << 32 | 13ull << 56);
+    state[2] ^= 0xff;
+    for (int round = 0; round < 3; round++)
+        sip_round(state);
+    return state[0] ^ state[1] ^ state[2] ^ state[3];
 }
 
 static void print_name(uint64_t candidate)
 {
     char letters[13] = {0};
-    write_name(letters, candidate);
+    uint64_t first = letters_of(candidate), last = last_letters_of(candidate);
+    memcpy(letters, &first, 8);
+    memcpy(letters + 4, &last, 8);
     puts(letters);
 }
 
@@ -76,6 +121,7 @@ int main(int count, char **words)
         void (*print)(uint64_t);
     } kinds[] = {
         {"name", hash_of_name, print_name},
+        {"fixed_name", fixed_hash_of_name, print_name},
         {"process", hash_of_process, print_number},
         {"thread", hash_of_thread, print_number},
         {"series", hash_of_series, print_number},

@@ -78,10 +78,10 @@ def write_trace(path, event, size):
 
 
 def measured(command, path):
-    """Seconds, and the peak of memory in bytes, of one run; None where it fails."""
+    """Seconds, the peak of memory in bytes, and seconds of processor time, of one run; None where it fails."""
     with open(path) as trace:
         started = time.monotonic()
         process = subprocess.Popen(command, stdin=trace, stdout=subprocess.DEVNULL)
         _, status, usage = os.wait4(process.pid, 0)
         seconds = time.monotonic() - started
-    return (seconds, usage.ru_maxrss * 1024) if status == 0 else None
+    return (seconds, usage.ru_maxrss * 1024, usage.ru_utime + usage.ru_stime) if status == 0 else None
