@@ -118,12 +118,25 @@ fn two_threads_tell_one_ledger(rt: HostRuntime) -> Result<(), Fail> {
     each_told_three(&rt, &ledger)
 }
 
-// The place and the answer of what was told, or the number of why it wasn't.
+// What came back of an operation that was not taken: a query, or the time of an event.
+fn put_back(line: &mut String, op: &Op) -> Result<(), Fail> {
+    match op {
+        Op::One(Item::Good(event)) => write!(line, "event at {}", event.ts)?,
+        Op::One(item) => write!(line, "{item:?}")?,
+        Op::Ask(query) => write!(line, "{query:?}")?,
+    }
+    Ok(())
+}
+
+// The place and the answer of what was told, or why it wasn't, and what came back.
 fn line_of(alloc: Global, told: Result<Receipt, Back>) -> Result<String, Fail> {
     let mut line = String::new(alloc);
     match told {
         Ok(receipt) => write!(line, "{} {:?}", receipt.place, receipt.answer)?,
-        Err(back) => write!(line, "{} {:?}", back.cause.code(), back.cause)?,
+        Err(back) => {
+            write!(line, "{} {:?}: ", back.cause.code(), back.cause)?;
+            put_back(&mut line, &back.op)?;
+        }
     }
     Ok(line)
 }
@@ -184,7 +197,7 @@ fn a_turn_that_another_seat_has_is_busy(rt: HostRuntime) -> Result<(), Fail> {
     busy_in(&rt, &share, &mut first)
 }
 
-// Tells a share of limit 1 two items, the second with one try.
+// Tells a share of limit 1 two items, the second with one try, and asks it.
 fn tell_past_the_limit(
     rt: &(impl Abort + Wait + AllocGlobal),
     share: &Share,
@@ -199,7 +212,9 @@ fn tell_past_the_limit(
     let told = share.tell(rt, seat, first);
     assert_eq!(rt; line_of(alloc, told)?.as_str(), "0 Opened { depth: 1 }");
     let told = share.try_tell(seat, second);
-    assert_eq!(rt; line_of(alloc, told)?.as_str(), "32 Full");
+    assert_eq!(rt; line_of(alloc, told)?.as_str(), "32 Full: event at 1");
+    let asked = share.ask(rt, seat, Query::Counts);
+    assert_eq!(rt; line_of(alloc, asked)?.as_str(), "32 Full: Counts");
     assert_eq!(rt; share.front(seat), 1);
     Ok(())
 }
@@ -219,7 +234,7 @@ fn a_share_of_no_entry(rt: HostRuntime) -> Result<(), Fail> {
     let item = begin(rt.alloc(), 1, 0).ok_or("no item")?;
     let (share, mut seat) = Share::start(rt.alloc(), 0)?;
     let told = share.tell(&rt, &mut seat, item);
-    assert_eq!(rt; line_of(rt.alloc(), told)?.as_str(), "32 Full");
+    assert_eq!(rt; line_of(rt.alloc(), told)?.as_str(), "32 Full: event at 0");
     Ok(())
 }
 
