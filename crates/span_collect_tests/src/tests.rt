@@ -4,7 +4,7 @@ use span_collect::{
     fault_line_of, fault_lines, fault_word, numbered_text, run,
 };
 use span_event::Text;
-use span_ledger::{Cause, Query};
+use span_ledger::{Cause, Ledger, Query};
 use span_report::{Writer, report};
 use std::alloc::{AllocError, AllocGlobal, Global};
 use std::process::Abort;
@@ -140,27 +140,17 @@ fn two_are_collected(rt: &(impl Abort + AllocGlobal), outcome: &Outcome) -> Resu
     Ok(())
 }
 
-// Collects these files and asks two queries behind this gate.
-fn collect_two_of<G: Gate>(
-    rt: &(impl Threads + Wait + RandomSource + Sync + Abort + AllocGlobal),
-    files: &[Input],
-    gate: &G,
-) -> Result<(), Fail> {
-    let alloc = rt.alloc();
-    let outcome = collect(rt, alloc, files, &[Query::Counts, Query::Counts], gate, 100)?;
-    let told = two_are_collected(rt, &outcome);
-    drop(outcome);
-    told
-}
-
+// Collects two files and asks two queries behind this gate.
 fn collect_two<G: Gate>(
-    rt: &(impl Threads + Wait + RandomSource + Sync + Abort + AllocGlobal),
+    rt: &(impl Threads + Wait + RandomSource + Sync + AllocGlobal),
     gate: &G,
-) -> Result<(), Fail> {
-    let files = files_of(rt.alloc(), 1, 2)?;
-    let told = collect_two_of(rt, &files, gate);
+) -> Result<Outcome, Fail> {
+    let alloc = rt.alloc();
+    let files = files_of(alloc, 1, 2)?;
+    let asks = [Query::Counts, Query::Counts];
+    let collected = collect(rt, alloc, &files, &asks, gate, 100);
     drop(files);
-    told
+    Ok(collected?)
 }
 
 #[test]
@@ -170,11 +160,37 @@ fn workers_read_and_tell_while_the_main_seat_asks(rt: HostRuntime) -> Result<(),
         telling: AtomicU32::new(0),
         late: AtomicBool::new(false),
     };
-    collect_two(&rt, &gate)?;
+    let outcome = collect_two(&rt, &gate)?;
+    let told = two_are_collected(&rt, &outcome);
+    drop(outcome);
+    told?;
     assert!(rt; !gate.late.load(Ordering::SeqCst));
     assert_eq!(rt; gate.reading.load(Ordering::SeqCst), 3);
     assert_eq!(rt; gate.telling.load(Ordering::SeqCst), 7);
     Ok(())
+}
+
+// Where the first entry of a caller stands in the journal.
+fn first_of(ledger: &Ledger, caller: u32) -> Option<u32> {
+    for place in 0..ledger.len() {
+        if ledger.entry(place)?.caller == caller {
+            return Some(place);
+        }
+    }
+    None
+}
+
+// Both files are collected, and the first entry of the held worker stands behind that of the other one.
+fn is_collected_last(
+    rt: &(impl Abort + AllocGlobal),
+    outcome: &Outcome,
+    held: u32,
+) -> Result<(), Fail> {
+    let (held, other) = if held == 0 { (1, 2) } else { (2, 1) };
+    let first = first_of(&outcome.ledger, other).ok_or("nothing told")?;
+    let last = first_of(&outcome.ledger, held).ok_or("nothing told")?;
+    assert!(rt; first < last);
+    two_are_collected(rt, outcome)
 }
 
 fn one_after_the_other(
@@ -186,7 +202,10 @@ fn one_after_the_other(
         told: AtomicU32::new(0),
         late: AtomicBool::new(false),
     };
-    collect_two(rt, &gate)?;
+    let outcome = collect_two(rt, &gate)?;
+    let told = is_collected_last(rt, &outcome, held);
+    drop(outcome);
+    told?;
     assert!(rt; !gate.late.load(Ordering::SeqCst));
     Ok(())
 }
@@ -197,9 +216,9 @@ fn either_worker_may_be_ahead(rt: HostRuntime) -> Result<(), Fail> {
     one_after_the_other(&rt, 1)
 }
 
-fn all_are_read(rt: &impl Abort, outcome: &Outcome) {
-    assert_eq!(rt; outcome.ledger.len(), 128);
-    assert_eq!(rt; outcome.files.len(), 64);
+fn all_are_read(rt: &impl Abort, outcome: &Outcome, count: u32) {
+    assert_eq!(rt; outcome.ledger.len(), count.wrapping_mul(2));
+    assert_eq!(rt; outcome.files.len(), count as usize);
     for (place, end) in outcome.files.iter().enumerate() {
         assert!(rt; is_read(*end, (place as u32).wrapping_add(1)));
     }
@@ -207,20 +226,23 @@ fn all_are_read(rt: &impl Abort, outcome: &Outcome) {
 
 fn collect_all(
     rt: &(impl Threads + Wait + RandomSource + Sync + Abort + AllocGlobal),
-    files: &[Input],
+    count: u32,
 ) -> Result<(), Fail> {
-    let outcome = collect(rt, rt.alloc(), files, &[], &FreeGate, 1000)?;
-    all_are_read(rt, &outcome);
+    let files = files_of(rt.alloc(), 0, count)?;
+    let collected = collect(rt, rt.alloc(), &files, &[], &FreeGate, 1000);
+    drop(files);
+    let outcome = collected?;
+    all_are_read(rt, &outcome, count);
     drop(outcome);
     Ok(())
 }
 
 #[test]
-fn takes_64_files(rt: HostRuntime) -> Result<(), Fail> {
-    let files = files_of(rt.alloc(), 0, 64)?;
-    let told = collect_all(&rt, &files);
-    drop(files);
-    told
+fn takes_1_to_64_files(rt: HostRuntime) -> Result<(), Fail> {
+    for count in 1..65 {
+        collect_all(&rt, count)?;
+    }
+    Ok(())
 }
 
 // The number with which the collection of these files is refused.
