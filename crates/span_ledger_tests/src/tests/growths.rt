@@ -19,6 +19,24 @@ fn seen_at_last(alloc: Global, ledger: &Ledger) -> Result<String, AllocError> {
     }
 }
 
+// The answers that the journal has, one a line.
+fn recorded(alloc: Global, ledger: &Ledger) -> Result<String, AllocError> {
+    let mut lines = String::new(alloc);
+    for place in 0..ledger.len() {
+        if let Some(entry) = ledger.entry(place) {
+            writeln!(lines, "{:?}", entry.answer)?;
+        }
+    }
+    Ok(lines)
+}
+
+fn recorded_at_last(alloc: Global, ledger: &Ledger) -> Result<String, AllocError> {
+    match recorded(alloc, ledger) {
+        Ok(lines) => Ok(lines),
+        Err(_) => recorded(alloc, ledger),
+    }
+}
+
 // Tells an operation, whatever the answer.
 fn tell(ledger: &mut Ledger, op: Op) -> Result<(), Back>
     requires { IsGoodOp op }
@@ -103,6 +121,8 @@ fn tell_example(
     }
     let last = seen_at_last(rt.alloc(), ledger)?;
     assert_eq!(rt; last.as_str(), example.rows, "{}", example.name);
+    let answers = recorded_at_last(rt.alloc(), ledger)?;
+    assert_eq!(rt; answers.as_str(), example.answers, "{}", example.name);
     Ok(())
 }
 
