@@ -63,9 +63,9 @@ fn perform_request<R: Threads + Wait + RandomSource + Sync, S: Source, O: Sink, 
             if shown.is_ok() { 0 } else { FAILED }
         }
         Request::Refuse(text) => {
-            let _ = faults.write_all(text.as_bytes());
+            let status = put_faults(faults, text.as_bytes(), FAILED);
             drop(text);
-            FAILED
+            status
         }
     }
 }
@@ -135,12 +135,17 @@ fn report_faults<F: Write>(alloc: Global, files: &[Input], end: &RunEnd, faults:
         return 0;
     }
     match fault_lines(alloc, files, &end.ends) {
-        Ok(lines) => {
-            let _ = faults.write_all(&lines);
-            end.status
-        }
+        Ok(lines) => put_faults(faults, &lines, end.status),
         Err(_) => fail(alloc, Fault::Memory.code(), faults),
     }
+}
+
+// Writes these lines, and gives the status, which a failed write leaves as it is.
+fn put_faults<F: Write>(faults: &mut F, lines: &[u8], status: u8) -> u8
+    ensures { result ≡ status }
+{
+    let _ = faults.write_all(lines);
+    status
 }
 
 // Says that the program as a whole failed.
@@ -158,10 +163,7 @@ fn fail_at<F: Write>(alloc: Global, name: &Text, faults: &mut F) -> u8
     ensures { result ≡ 2 }
 {
     match fault_line_of(alloc, name, Fault::NotOpened.code()) {
-        Ok(line) => {
-            let _ = faults.write_all(line.as_bytes());
-            FAILED
-        }
+        Ok(line) => put_faults(faults, line.as_bytes(), FAILED),
         Err(_) => fail(alloc, Fault::Memory.code(), faults),
     }
 }
