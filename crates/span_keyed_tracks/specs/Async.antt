@@ -19,9 +19,9 @@ abbrev pub async_cmp : AsyncKey → AsyncKey → Ordering
 async_cmp a b =
     ordering_then (text_cmp a.cat b.cat) (ordering_then (text_cmp a.scope b.scope) (ordering_then (id_cmp a.id b.id) (text_cmp a.name b.name)))
 
--- a begin or an end, at a time, or a point
+-- a begin or an end, at a time, or a point; nothing ends all spans of a key
 abbrev pub AsyncStep : Type 0
-AsyncStep = Step ℤ ℤ (Unit {0})
+AsyncStep = Step ℤ ℤ ⊥ (Unit {0})
 
 -- a step of a key
 abbrev pub AsyncEvent : Type 0
@@ -38,17 +38,21 @@ pub record AsyncSpans : Type 0 where
 abbrev pub length_between : ℤ → ℤ → List ℕ
 length_between begin end = distance begin end ∷ []
 
+-- nothing ends all
+abbrev pub never_sealed : ℤ → ⊥ → ℕ
+never_sealed begin never = absurd never
+
 -- a point closes nothing
 abbrev pub no_length : Unit {0} → List ℕ
 no_length point = []
 
 -- the lengths of the spans that close
 abbrev pub closed_lengths : List AsyncStep → List ℕ
-closed_lengths steps = closed_of length_between no_length steps
+closed_lengths steps = closed_of length_between never_sealed no_length steps
 
 -- the length of the span that a step closes
 abbrev pub length_closed_by : List AsyncStep → AsyncStep → List ℕ
-length_closed_by earlier step = closed_by length_between no_length earlier step
+length_closed_by earlier step = closed_by length_between never_sealed no_length earlier step
 
 -- the step is a point
 abbrev pub is_point : AsyncStep → Bool
