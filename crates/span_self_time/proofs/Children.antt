@@ -5,10 +5,11 @@ use Rattle.std.specs.List.{sum_by, list_any}
 use Rattle.std.proofs.lemmas.Int.{ints}
 use Rattle.std.proofs.lemmas.Bool.{and_parts, and_right}
 use Rattle.std.proofs.lemmas.Bool.Decides.{Decides-and}
-use Rattle.std.proofs.lemmas.List.Elements.{All-head, All-tail, All-nil, All-cons}
+use Rattle.std.proofs.lemmas.List.Elements.{All-head, All-tail}
 use Rattle.std.proofs.lemmas.List.Sums.{sum_by-cons}
 use Rattle.span_self_time.specs.Spans.{Span, covers, outranks, is_outranked, count_from, length_of, self_time}
 use Rattle.span_self_time.specs.Laws.{AreSpans, NestOrAreDisjoint, AreNested, is_child, is_direct_child, direct_children}
+use Rattle.span_self_time.proofs.Apart.{All-lasts}
 use Rattle.span_self_time.proofs.Tops.{one_if, is_below, sum_by-tops, IsRanked, IsConnected}
 use Rattle.span_self_time.proofs.Counts.{count_from-same, count_from-none, count_from-covered, count_from-all, sum_by-count_from, sum_by-nothing, add-distance}
 use Rattle.span_self_time.proofs.Ranks.{Decides-int_lt, IsAbove, Decides-outranks, outranks-itself, outranks-trans, IsRanked-spans}
@@ -136,10 +137,6 @@ module _ {N : Type 0} where
       by_test : (t : Bool) → covers s u ≡ t → sum_by (λ b. one_if (t && (covers b u && is_direct_child spans b s))) spans ≡ one_if (t && is_outranked spans s u)
       by_test true here = direct_children-at spans s u are nested with_s here
       by_test false here = sum_by-nothing spans
-
-  All-lasts : (spans : List (Span N)) → AreSpans spans → All (λ s. s.start ≤ℤ s.until) spans
-  All-lasts [] are = All-nil (λ (s : Span N). s.start ≤ℤ s.until)
-  All-lasts (s ∷ spans) are = All-cons (λ (s : Span N). s.start ≤ℤ s.until) s spans are.0 (All-lasts spans are.2)
 
   length-direct_children : (spans : List (Span N)) (s : Span N) → AreSpans spans → AreNested spans → All (λ x. NestOrAreDisjoint s x) spans → s.start ≤ℤ s.until → sum_by (λ b. length_of b) (direct_children spans s) ≡ count_from s.start (length_of s) (λ u. is_outranked spans s u)
   length-direct_children spans s are nested with_s lasts =

@@ -2,12 +2,11 @@
 use Rattle.std.proofs.Common.{◌≡◌, ℕ, ◌+◌, ◌<◌, ◌≤◌, ◌^◌, ◌≤ℤ◌, Bool, true, false, cond, List, [], ◌∷◌, ◌++◌, length, take, map, get_or, nat_eq, refl, sym, ap, ◌∙◌, subst, arith, All}
 use Rattle.std.specs.List.{sum_by}
 use Rattle.std.proofs.lemmas.List.{take_more, take-map, map_push, get_or-map, length-map}
-use Rattle.std.proofs.lemmas.List.Elements.{All-nil, All-cons}
 use Rattle.std.proofs.lemmas.List.Sums.{sum_by-cons, sum_by_push, sum_by_more_le_part}
 use Rattle.span_self_time.specs.declared.span.ClosedSpan.{ClosedSpan}
 use Rattle.span_self_time.specs.Spans.{Span, named, self_time}
-use Rattle.span_self_time.specs.Laws.{AreSpans}
 use Rattle.span_self_time.specs.Closed.{span_of, IsInTime, AreClosed}
+use Rattle.span_self_time.proofs.Apart.{All-lasts}
 use Rattle.span_self_time.proofs.SelfTimes.{sum_by-self_time}
 use Rattle.span_self_time.proofs.Unbroken.{busy_time-le}
 
@@ -47,10 +46,6 @@ self_sum-le name spans i s closed within read =
     let here : get_or all i (span_of s) ≡ span_of s = get_or-map span_of spans i s (span_of s) within ∙ ap span_of (sym read) in
     let front : take i all ≡ map span_of (take i spans) = take-map span_of i spans in
     omega (arith, rw (here, front) at parts, sum_by-self_time all closed.are, busy_time-le all closed.in_time)
-
-All-lasts : (spans : List (Span ℕ)) → AreSpans spans → All (λ s. s.start ≤ℤ s.until) spans
-All-lasts [] are = All-nil (λ (s : Span ℕ). s.start ≤ℤ s.until)
-All-lasts (s ∷ spans) are = All-cons (λ (s : Span ℕ). s.start ≤ℤ s.until) s spans are.0 (All-lasts spans are.2)
 
 -- what holds of all spans, at one of them
 All-read : (P : Span ℕ → Type 0) (spans : List ClosedSpan) (i : ℕ) (s : ClosedSpan) → All P (map span_of spans) → i < length spans → s ≡ get_or spans i s → P (span_of s)

@@ -1,19 +1,17 @@
 -- That the time of the owners is that of the spans, and that the owners are settled.
-use Rattle.std.proofs.Common.{◌≡◌, ◌≢◌, ◌<◌, ◌+◌, zero, suc, map, take, length, get_or, [], ◌∷◌, ◌++◌, arith, ℕ, nat_eq, Bool, true, false, ◌&&◌, ℤ, ◌≤ℤ◌, List, refl, sym, ap, ◌∙◌, subst, true≢false, All}
+use Rattle.std.proofs.Common.{◌≡◌, ◌≢◌, ◌<◌, ◌+◌, map, take, length, get_or, [], ◌∷◌, ◌++◌, arith, ℕ, nat_eq, Bool, true, false, ◌&&◌, ℤ, ◌≤ℤ◌, List, refl, sym, ap, ◌∙◌, subst, true≢false, All}
 use Rattle.std.specs.Option.{is_some}
 use Rattle.std.proofs.lemmas.Bool.{false_from_ne_true}
 use Rattle.std.proofs.lemmas.List.{take_more, take-map, map_push, get_or-map, length-map}
-use Rattle.std.proofs.lemmas.List.Elements.{All-nil, All-cons}
 use Rattle.std.proofs.lemmas.List.Folds.{list_any_at}
 use Rattle.span_event.specs.Time.{distance}
 use Rattle.span_self_time.specs.Spans.{Span, covers, count_from, self_of, busy_time}
 use Rattle.span_event.specs.Event.{least_time}
 use Rattle.span_self_time.specs.Closed.{greatest_until, span_of, AreClosed}
-use Rattle.span_self_time.specs.Laws.{AreSpans}
 use Rattle.span_self_time.specs.declared.span.ClosedSpan.{ClosedSpan}
 use Rattle.span_self_time.specs.Division.{bare, claims, taken, owners_of, IsNew, AreSettled}
 use Rattle.span_self_time.specs.Division.TimeMap.{has_name, time_of}
-use Rattle.span_self_time.proofs.Apart.{All-apart}
+use Rattle.span_self_time.proofs.Apart.{IsApart-read}
 use Rattle.span_self_time.proofs.OwnTimes.{sum_by-self_times}
 use Rattle.span_self_time.proofs.Owners.{list_any-owners_of, owners_of-All, owners_of-append, owners_of-apart}
 use Rattle.span_self_time.proofs.SelfSums.{self_sum, self_sum-self_of}
@@ -51,16 +49,6 @@ AreSettled-owners_of spans = record {
       let owner = owners_of-All (λ z. (v : ℤ) → covers z v ≡ true → claims (bare z) (owners_of spans v) ≡ false) spans (unclaimed spans) u o is in
       ap (λ (z : Span ℕ). claims z (owners_of spans v)) (sym owner.is) ∙ owner.holds v (ap (λ (z : Span ℕ). covers z v) owner.is ∙ here);
 }
-
--- the positions before the i-th are not its own
-IsApart-read : (spans : List (Span ℕ)) (i : ℕ) (s : Span ℕ) → AreSpans spans → i < length spans → s ≡ get_or spans i s → All (λ x. x.at ≢ s.at) (take i spans)
-IsApart-read [] i s are within read = absurd (omega (arith, within))
-IsApart-read (x ∷ spans) zero s are within read = All-nil (λ (y : Span ℕ). y.at ≢ s.at)
-IsApart-read (x ∷ spans) (suc i) s are within read =
-    let later : i < length spans = omega (arith, within) in
-    let rest = IsApart-read spans i s are.2 later read in
-    let apart = All-apart x.at spans are.1 i s later in
-    All-cons (λ (y : Span ℕ). y.at ≢ s.at) x (take i spans) (λ same. apart (ap (λ (y : Span ℕ). y.at) (sym read) ∙ sym same)) rest
 
 pub IsNew-read : (spans : List ClosedSpan) (i : ℕ) (s : ClosedSpan) → AreClosed (map span_of spans) → i < length spans → s ≡ get_or spans i s → IsNew (bare (span_of s)) (owners_of (map span_of (take i spans)))
 IsNew-read spans i s closed within read =

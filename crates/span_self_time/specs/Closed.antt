@@ -1,5 +1,5 @@
 -- The closed spans that a track keeps, and their totals.
-use Rattle.std.specs.Prelude.{◌≡◌, ℕ, ◌<◌, ◌^◌, ℤ, pos, ◌≤ℤ◌, List, length, All, nat_eq, unwrap_or}
+use Rattle.std.specs.Prelude.{◌≡◌, ◌≢◌, ℕ, ◌+◌, ◌<◌, ◌^◌, ℤ, pos, ◌≤ℤ◌, List, length, All, nat_eq, unwrap_or}
 use Rattle.indexmap.specs.IndexMap.{IndexMap, get, keys}
 use Rattle.std.specs.declared.hash.FoldHasher.{FoldHasher}
 use Rattle.std.specs.declared.hash.BuildHasherDefault.{BuildHasherDefault}
@@ -25,6 +25,13 @@ pub record AreClosed (spans : List (Span ℕ)) : Type 0 where
   pub are : AreSpans spans
   pub in_time : All IsInTime spans
   pub few : length spans < 2 ^ 32
+
+-- these spans can be added to closed ones: their positions are others, and together they are few
+pub record CanJoin (spans more : List (Span ℕ)) : Type 0 where
+  pub are : AreSpans more
+  pub in_time : All IsInTime more
+  pub apart : All (λ s. All (λ x. x.at ≢ s.at) spans) more
+  pub few : length spans + length more < 2 ^ 32
 
 -- the totals that a track keeps of the names of its closed spans
 abbrev pub Totals : Type 0

@@ -1,11 +1,11 @@
 //! The closed spans of a thread, with the totals of their names and the division of time among them.
-ghost use Rattle.std.specs.Prelude.{◌≡◌, ◌≢◌, ◌+◌, ◌<◌, ◌≤◌, ◌*◌, ◌-◌, ◌^◌, ◌==◌, ℕ, [], ◌∷◌, ◌++◌, ◌≤ℤ◌, if◌then◌else◌, List, length, map, nat_eq, slice_get, option_copied, All, IfSome, OnOk, OnErr};
+ghost use Rattle.std.specs.Prelude.{◌≡◌, ◌≢◌, ◌+◌, ◌<◌, ◌≤◌, ◌*◌, ◌-◌, ◌^◌, ◌==◌, ℕ, [], ◌∷◌, ◌++◌, ◌≤ℤ◌, if◌then◌else◌, List, length, map, take, nat_eq, slice_get, option_copied, All, IfSome, OnOk, OnErr};
 ghost use Rattle.std.specs.List.{count_by};
 ghost use Rattle.indexmap.specs.IndexMap.{spare, keys};
 ghost use Rattle.indexmap.specs.IndexSet.{insert_key};
 ghost use Rattle.span_event.specs.Given.{Gives};
 ghost use Rattle.span_self_time.specs.Spans.{self_of, busy_time, names_of};
-ghost use Rattle.span_self_time.specs.Closed.{total_in, total_for, span_of, IsInTime, AreClosed};
+ghost use Rattle.span_self_time.specs.Closed.{total_in, total_for, span_of, CanJoin, IsInTime, AreClosed};
 ghost use Rattle.span_self_time.specs.Segments.{lasts, AreSegments, HasSegments, HasEnds};
 
 use crate::division::Division;
@@ -82,6 +82,43 @@ impl ClosedSpans {
         let length = distance(span.start, span.until);
         add_to_total(&mut self.totals, span.name, length);
         self.list.push_reserved(span);
+        Ok(())
+    }
+
+    /// More spans, in this order, each of which takes the microseconds that are its own from the others. Where memory is refused,
+    /// no reader sees a change, and none of them is added. Two or more cost a copy of the totals and of the division.
+    pub fn add_all(&mut self, spans: Vec<ClosedSpan>) -> Result<(), AllocError>
+        requires { CanJoin self.old (map span_of spans.items) }
+        ensures ok { OnOk result (self.new ≡ self.old ++ map span_of spans.items) }
+        ensures err { OnErr result (self.new ≡ self.old) }
+    {
+        let count = self.list.len();
+        if spans.len() <= 1 {
+            return self.add_each(spans);
+        }
+        let totals = self.totals.clone()?;
+        let division = self.division.try_clone()?;
+        let moves = self.moves;
+        if let Err(refused) = self.add_each(spans) {
+            self.list.truncate(count);
+            self.totals = totals;
+            self.division = division;
+            self.moves = moves;
+            return Err(refused);
+        }
+        Ok(())
+    }
+
+    // One span after the other. Where memory is refused for one, those before it stay.
+    fn add_each(&mut self, spans: Vec<ClosedSpan>) -> Result<(), AllocError>
+        requires { AreClosed (self.old ++ map span_of spans.items) }
+        ensures ok { OnOk result (self.new ≡ self.old ++ map span_of spans.items) }
+        ensures err { OnErr result ((n : ℕ) × (n < length spans.items)
+            × (self.new ≡ self.old ++ map span_of (take n spans.items))) }
+    {
+        for span in spans {
+            self.add(span)?;
+        }
         Ok(())
     }
 

@@ -34,6 +34,16 @@ impl Division {
         Division::Stacked(Stacks::new(alloc))
     }
 
+    /// A copy, which tells the same times and segments.
+    pub(crate) fn try_clone(&self) -> Result<Division, AllocError>
+        ensures { IfOk result (λ copy. KeepsOwners IsDivision self.now copy) }
+    {
+        match self {
+            Division::Stacked(stacks) => Ok(Division::Stacked(stacks.clone()?)),
+            Division::Searched(time_map) => Ok(Division::Searched(time_map.clone()?)),
+        }
+    }
+
     pub(crate) fn self_of(&self, name: u32) -> u64
         ensures { (spans : List (Span ℕ)) → AreClosed spans → IsDivision (owners_of spans) self.now
             → result ≡ self_of nat_eq name spans }

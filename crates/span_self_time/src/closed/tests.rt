@@ -1,5 +1,5 @@
-ghost use Rattle.std.specs.Prelude.{◌≢◌, All, IsTrue};
-ghost use Rattle.span_self_time.specs.Closed.{span_of};
+ghost use Rattle.std.specs.Prelude.{◌≢◌, map, All, IsTrue, IfOk, OnOk};
+ghost use Rattle.span_self_time.specs.Closed.{span_of, CanJoin};
 
 use super::ClosedSpans;
 use crate::span::ClosedSpan;
@@ -38,6 +38,16 @@ fn searched(alloc: Global) -> ClosedSpans {
     spans
 }
 
+fn closed_span(alloc: Global, at: u32, given: &Given) -> ClosedSpan {
+    ClosedSpan {
+        name: given.name,
+        start: given.start,
+        until: given.until,
+        at,
+        args: Args::empty(alloc),
+    }
+}
+
 fn add(
     rt: &impl Abort,
     alloc: Global,
@@ -45,16 +55,60 @@ fn add(
     at: u32,
     given: &Given,
 ) -> Result<(), Fail> {
-    assert!(rt; is_new(spans, at));
+    let span = closed_span(alloc, at, given);
+    assert!(rt; is_new(spans, span.at));
     assert!(rt; spans.list.len() < 1000);
-    assert!(rt; 0 <= given.start && given.start <= given.until && given.until <= 1_000_000);
-    spans.add(ClosedSpan {
-        name: given.name,
-        start: given.start,
-        until: given.until,
-        at,
-        args: Args::empty(alloc),
-    })?;
+    assert!(rt; 0 <= span.start && span.start <= span.until && span.until <= 1_000_000);
+    spans.add(span)?;
+    Ok(())
+}
+
+// Puts a span to those that are added at once to the others.
+fn gather(
+    rt: &impl Abort,
+    spans: &ClosedSpans,
+    gathered: &mut Vec<ClosedSpan>,
+    span: ClosedSpan,
+) -> Result<(), Fail>
+    requires { CanJoin spans.now (map span_of gathered.old.items) }
+    ensures { OnOk result (CanJoin spans.now (map span_of gathered.new.items)) }
+{
+    assert!(rt; is_new(spans, span.at));
+    assert!(rt; are_opened_elsewhere(gathered, span.at));
+    assert!(rt; spans.list.len() + gathered.len() < 1000);
+    assert!(rt; 0 <= span.start);
+    assert!(rt; span.start <= span.until);
+    assert!(rt; span.until <= 1_000_000);
+    gathered.push(span)?;
+    Ok(())
+}
+
+// Each is opened at the next position.
+fn gather_all(
+    rt: &impl Abort,
+    alloc: Global,
+    spans: &ClosedSpans,
+    given: &[Given],
+) -> Result<Vec<ClosedSpan>, Fail>
+    ensures { IfOk result (λ gathered. CanJoin spans.now (map span_of gathered.items)) }
+{
+    let mut gathered = Vec::new(alloc);
+    let mut at = spans.as_slice().len() as u32;
+    for span in given {
+        gather(rt, spans, &mut gathered, closed_span(alloc, at, span))?;
+        at = at.saturating_add(1);
+    }
+    Ok(gathered)
+}
+
+fn add_at_once(
+    rt: &impl Abort,
+    alloc: Global,
+    spans: &mut ClosedSpans,
+    given: &[Given],
+) -> Result<(), Fail> {
+    let gathered = gather_all(rt, alloc, spans, given)?;
+    spans.add_all(gathered)?;
     Ok(())
 }
 
@@ -103,6 +157,19 @@ fn add_all(
         add_to_both(rt, alloc, one, other, at, span)?;
         at = at.saturating_add(1);
     }
+    Ok(())
+}
+
+fn add_at_once_to_both(
+    rt: &impl Abort,
+    alloc: Global,
+    one: &mut ClosedSpans,
+    other: &mut ClosedSpans,
+    given: &[Given],
+) -> Result<(), Fail> {
+    add_at_once(rt, alloc, one, given)?;
+    add_at_once(rt, alloc, other, given)?;
+    expect_same(rt, one, other);
     Ok(())
 }
 
@@ -227,6 +294,43 @@ fn spans_at_random(rt: HostRuntime) -> Result<(), Fail> {
     let mut one = searched(rt.alloc());
     let mut other = ClosedSpans::new(rt.alloc());
     let told = add_at_random(&rt, rt.alloc(), &mut one, &mut other);
+    drop(other);
+    drop(one);
+    told
+}
+
+// Nested spans of one end over some that were closed before, none, and one more.
+fn add_groups(
+    rt: &impl Abort,
+    alloc: Global,
+    one: &mut ClosedSpans,
+    other: &mut ClosedSpans,
+) -> Result<(), Fail> {
+    let before = [
+        span_of_name(0, 2, 5),
+        span_of_name(1, 7, 9),
+        span_of_name(0, 12, 14),
+    ];
+    add_all(rt, alloc, one, other, &before)?;
+    let nested = [
+        span_of_name(2, 10, 20),
+        span_of_name(3, 6, 20),
+        span_of_name(2, 3, 20),
+        span_of_name(4, 0, 20),
+    ];
+    add_at_once_to_both(rt, alloc, one, other, &nested)?;
+    add_at_once_to_both(rt, alloc, one, other, &[])?;
+    add_at_once_to_both(rt, alloc, one, other, &[span_of_name(1, 1, 20)])?;
+    assert_eq!(rt; one.as_slice().len(), 8);
+    assert_eq!(rt; other.as_slice().len(), 8);
+    Ok(())
+}
+
+#[test]
+fn spans_that_end_together(rt: HostRuntime) -> Result<(), Fail> {
+    let mut one = searched(rt.alloc());
+    let mut other = ClosedSpans::new(rt.alloc());
+    let told = add_groups(&rt, rt.alloc(), &mut one, &mut other);
     drop(other);
     drop(one);
     told

@@ -18,7 +18,7 @@ use std::alloc::{AllocError, Global};
 const FEW: usize = 64;
 
 /// The parts of the time in order, with a cursor in between, so that a span that lies near the last one costs no more than what it covers.
-#[derive(Drop)]
+#[derive(Clone, Drop)]
 pub(crate) struct Stacks {
     past: Vec<Part>,
     // The last comes first.

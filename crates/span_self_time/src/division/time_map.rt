@@ -21,7 +21,7 @@ use stretches::Stretches;
 use ties::Ties;
 
 /// The stretches of time, and the running times of the names.
-#[derive(Drop)]
+#[derive(Clone, Drop)]
 pub(crate) struct TimeMap {
     stretches: Stretches,
     ties: Ties,

@@ -16,7 +16,7 @@ use std::collections::BTreeMap;
 use std::ops::Bound;
 
 /// From each time in it up to the next, time is of the span of the part, or of none.
-#[derive(Drop)]
+#[derive(Clone, Drop)]
 pub(crate) struct Stretches {
     map: BTreeMap<i64, Option<Part>>,
 }

@@ -8,7 +8,7 @@ use std::collections::BTreeSet;
 
 /// Starts and ends of spans, of which a new one that starts there and ends later, or starts sooner, gets no time. It is a hint:
 /// where memory is refused, an end is left out, and a walk may have to go from owner to owner.
-#[derive(Drop)]
+#[derive(Clone, Drop)]
 pub(crate) struct Ties {
     ends: BTreeSet<(i64, i64)>,
 }
