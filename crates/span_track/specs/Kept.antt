@@ -2,7 +2,7 @@
 use Rattle.std.specs.Prelude.{ℕ, ◌+◌, ◌<◌, ◌≢◌, ◌^◌, ℤ, ◌≤ℤ◌, List, [], ◌∷◌, length, All, Option, Some, None}
 use Rattle.span_track.specs.declared.thread.OpenSpan.{OpenSpan}
 use Rattle.span_track.specs.Nesting.{Begin}
-use Rattle.span_track.specs.Thread.{ThreadSpans}
+use Rattle.span_track.specs.Thread.{ThreadSpans, IsSealTime}
 use Rattle.span_event.specs.Event.{least_time}
 
 -- an open span of the program, as a begin
@@ -19,10 +19,16 @@ abbrev pub AreRising : List (Begin ℕ) → Type 0
 AreRising [] = Unit {0}
 AreRising (b ∷ bs) = All (λ c. b.at < c.at) bs × AreRising bs
 
--- what holds of the open spans of a track beside its closed ones
+-- the time, if there is one, is one that a thread can have seen
+abbrev pub IsSeen : Option ℤ → Type 0
+IsSeen None = Unit {0}
+IsSeen (Some time) = IsSealTime time
+
+-- what holds of the open spans of a track beside its closed ones, and of its latest time
 pub record IsSound (t : ThreadSpans ℕ) : Type 0 where
   pub from : All (λ b. least_time ≤ℤ b.ts) t.opened
   pub up_to : All (λ b. IsUpTo b.ts t.last) t.opened
   pub apart : All (λ b. All (λ s. s.at ≢ b.at) t.closed) t.opened
   pub rising : AreRising t.opened
   pub few : length t.opened + length t.closed < 2 ^ 32
+  pub seen : IsSeen t.latest

@@ -1,10 +1,10 @@
--- Which begins and ends of one thread belong together.
-use Rattle.std.specs.Prelude.{ℕ, ℤ, List, [], ◌∷◌, length, Option, Some, None}
+-- Which begins and ends of one thread belong together, and what a seal ends.
+use Rattle.std.specs.Prelude.{ℕ, if◌then◌else◌, ℤ, int_lt, List, [], ◌∷◌, length, map, fold, Option, Some, None}
 use Rattle.std.specs.Option.{option_map, option_or}
 use Rattle.span_event.specs.Args.{merged}
 use Rattle.span_self_time.specs.Spans.{Arguments, Span}
 use Rattle.span_keyed_tracks.specs.Matching
-use Rattle.span_keyed_tracks.specs.Matching.{Step, opens, closes, other}
+use Rattle.span_keyed_tracks.specs.Matching.{Step, opens, closes, closes_all, other}
 
 -- a begin: `at` is its position in the journal
 pub record Begin (N : Type 0) : Type 0 where
@@ -17,9 +17,18 @@ pub record Ending : Type 0 where
   pub ts : ℤ
   pub args : Arguments
 
--- an accepted event of the thread that has to do with spans: a begin, an end, or a whole span
+-- what the thread was told of spans: a begin, an end, a seal, which ends all open spans at its time, or a whole span
 abbrev pub ThreadEvent : Type 0 → Type 0
-ThreadEvent N = Step (Begin N) Ending (Span N)
+ThreadEvent N = Step (Begin N) Ending ℤ (Span N)
+
+-- the later of a time, if there is one, and another
+abbrev pub later : Option ℤ → ℤ → Option ℤ
+later None time = Some time
+later (Some earlier) time = if int_lt earlier time then Some time else Some earlier
+
+-- the greatest of some times, if there are any
+abbrev pub greatest : List ℤ → Option ℤ
+greatest times = fold later None times
 
 module _ {N : Type 0} where
   -- a span begins
@@ -30,6 +39,10 @@ module _ {N : Type 0} where
   abbrev pub ended : ℤ → Arguments → ThreadEvent N
   ended ts args = closes (record { ts = ts; args = args })
 
+  -- all open spans end
+  abbrev pub sealed : ℤ → ThreadEvent N
+  sealed ts = closes_all ts
+
   -- a whole span
   abbrev pub completed : Span N → ThreadEvent N
   completed s = other s
@@ -38,13 +51,17 @@ module _ {N : Type 0} where
   abbrev pub span_between : Begin N → Ending → List (Span N)
   span_between b e = record { name = b.name; start = b.ts; until = e.ts; at = b.at; args = merged b.args e.args } ∷ []
 
+  -- the span from a begin to a seal; it has the arguments of the begin
+  abbrev pub span_sealed : Begin N → ℤ → Span N
+  span_sealed b ts = record { name = b.name; start = b.ts; until = ts; at = b.at; args = b.args }
+
   -- a whole span closes as it comes
   abbrev pub whole_span : Span N → List (Span N)
   whole_span s = s ∷ []
 
   -- the span that an end closes, if there is one
   abbrev pub matched_span : Option (Begin N) → Ending → List (Span N)
-  matched_span = Matching.closed_with span_between whole_span
+  matched_span = Matching.closed_with span_between span_sealed whole_span
 
   -- the begin that an end right after these events matches
   abbrev pub opener : List (ThreadEvent N) → Option (Begin N)
@@ -54,7 +71,7 @@ module _ {N : Type 0} where
   abbrev pub opener_args : List (ThreadEvent N) → Option Arguments
   opener_args es = option_map (λ begin. begin.args) (opener es)
 
-  -- the begins that no end matches
+  -- the begins that no end matches and no seal ends
   abbrev pub open_spans : List (ThreadEvent N) → List (Begin N)
   open_spans es = Matching.open_of es
 
@@ -62,17 +79,29 @@ module _ {N : Type 0} where
   abbrev pub depth_of : List (ThreadEvent N) → ℕ
   depth_of es = length (open_spans es)
 
-  -- the span that an event closes, after the events before it
+  -- what an event closes, after the events before it: a seal all open spans, the innermost first
   abbrev pub closed_by : List (ThreadEvent N) → ThreadEvent N → List (Span N)
-  closed_by earlier e = Matching.closed_by span_between whole_span earlier e
+  closed_by earlier e = Matching.closed_by span_between span_sealed whole_span earlier e
 
   -- the closed spans, in the order of the events that close them
   abbrev pub closed_spans : List (ThreadEvent N) → List (Span N)
-  closed_spans es = Matching.closed_of span_between whole_span es
+  closed_spans es = Matching.closed_of span_between span_sealed whole_span es
 
-  -- the time of the last begin or end
+  -- the time of the last begin, end or seal
   abbrev pub last_time : List (ThreadEvent N) → Option ℤ
   last_time [] = None
   last_time (opens b ∷ later) = option_or (last_time later) (Some b.ts)
   last_time (closes e ∷ later) = option_or (last_time later) (Some e.ts)
+  last_time (closes_all ts ∷ later) = option_or (last_time later) (Some ts)
   last_time (other s ∷ later) = last_time later
+
+  -- the time up to which an event has seen its thread: its own, of a whole span its end
+  abbrev pub seen_by : ThreadEvent N → ℤ
+  seen_by (opens b) = b.ts
+  seen_by (closes e) = e.ts
+  seen_by (closes_all ts) = ts
+  seen_by (other s) = s.until
+
+  -- the latest time that the thread has seen, of its begins, ends, seals and closed spans
+  abbrev pub latest_time : List (ThreadEvent N) → Option ℤ
+  latest_time es = greatest (map seen_by es)

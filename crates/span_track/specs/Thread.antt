@@ -1,30 +1,38 @@
 -- What the track of a thread keeps, and when it refuses an event.
-use Rattle.std.specs.Prelude.{◌≡◌, ℕ, ◌+◌, ◌<◌, ◌^◌, ◌-◌, Bool, false, if◌then◌else◌, ℤ, int_lt, List, [], ◌∷◌, ◌++◌, length, All, Option, Some, None, Result, Ok, Err}
+use Rattle.std.specs.Prelude.{◌≡◌, ℕ, ◌+◌, ◌<◌, ◌^◌, ◌-◌, Bool, false, if◌then◌else◌, ℤ, ◌≤ℤ◌, int_lt, List, [], ◌∷◌, ◌++◌, length, All, Option, Some, None, Result, Ok, Err}
 use Rattle.span_event.specs.declared.fault.Fault.TheVariants.{NoOpenSpan, TimeGoesBack}
 use Rattle.span_event.specs.declared.fault.Fault.{Fault}
 use Rattle.span_event.specs.Args.{merged}
+use Rattle.span_event.specs.Event.{least_time}
+use Rattle.span_self_time.specs.Closed.{greatest_until}
 use Rattle.span_self_time.specs.Spans.{Arguments, Span}
 use Rattle.span_keyed_tracks.specs.Fault.{refusal_of}
 use Rattle.span_keyed_tracks.specs.Last.{last_of}
-use Rattle.span_keyed_tracks.specs.Matching.{opens, closes, other}
-use Rattle.span_track.specs.Nesting.{Begin, ThreadEvent, open_spans, closed_spans, last_time}
+use Rattle.span_keyed_tracks.specs.Matching.{opens, closes, closes_all, other}
+use Rattle.span_track.specs.Nesting.{Begin, ThreadEvent, open_spans, closed_spans, last_time, latest_time}
 
--- the open spans, the closed spans, and the time of the last begin or end
+-- the open spans, the closed spans, the time of the last begin, end or seal, and the latest time that the thread has seen
 pub record ThreadSpans (N : Type 0) : Type 0 where
   pub opened : List (Begin N)
   pub closed : List (Span N)
   pub last : Option ℤ
+  pub latest : Option ℤ
 
--- the time is below that of the last begin or end
+-- a seal may have any time that a thread can have seen: that of an event, or the end of a span
+abbrev pub IsSealTime : ℤ → Type 0
+IsSealTime ts = (least_time ≤ℤ ts) × (ts ≤ℤ greatest_until)
+
+-- the time is below that of the last begin, end or seal
 abbrev pub goes_back : ℤ → Option ℤ → Bool
 goes_back ts None = false
 goes_back ts (Some last) = int_lt ts last
 
--- a begin at this time, after a last begin or end: `TimeGoesBack` where it is below the time of that
+-- a begin at this time, after a last begin, end or seal: `TimeGoesBack` where it is below the time of that
 abbrev pub opening : Option ℤ → ℤ → Result (Unit {0}) Fault
 opening last ts = if goes_back ts last then Err TimeGoesBack else Ok tt
 
--- the begin that an end at this time closes, if one is open: `NoOpenSpan` where none is, then `TimeGoesBack` as for a begin
+-- the begin that an end at this time closes, or a seal first, if one is open: `NoOpenSpan` where none is, then `TimeGoesBack` as
+-- for a begin
 abbrev pub closing : {N : Type 0} → Option (Begin N) → Option ℤ → ℤ → Result (Begin N) Fault
 closing None last ts = Err NoOpenSpan
 closing (Some begin) last ts = if goes_back ts last then Err TimeGoesBack else Ok begin
@@ -32,7 +40,12 @@ closing (Some begin) last ts = if goes_back ts last then Err TimeGoesBack else O
 module _ {N : Type 0} where
   -- what the events of a thread give
   abbrev pub thread_spans : List (ThreadEvent N) → ThreadSpans N
-  thread_spans es = record { opened = open_spans es; closed = closed_spans es; last = last_time es }
+  thread_spans es = record {
+    opened = open_spans es;
+    closed = closed_spans es;
+    last = last_time es;
+    latest = latest_time es;
+  }
 
   -- the track keeps what these events give
   abbrev pub StandsFor : ThreadSpans N → List (ThreadEvent N) → Type 0
@@ -54,7 +67,7 @@ module _ {N : Type 0} where
   abbrev pub begin_refusal : ThreadSpans N → ℤ → Option ℕ
   begin_refusal track ts = refusal_of (opening track.last ts)
 
-  -- the number with which an end at this time is refused, if it is
+  -- the number with which an end or a seal at this time is refused, if it is
   abbrev pub end_refusal : ThreadSpans N → ℤ → Option ℕ
   end_refusal track ts = refusal_of (closing (last_of track.opened) track.last ts)
 
@@ -71,10 +84,11 @@ module _ {N : Type 0} where
   abbrev pub AreMerged : ThreadSpans N → Arguments → Type 0
   AreMerged track merged = (args : Arguments) × (merged ≡ merged_args track args)
 
-  -- the event stands before this position; an end opens nothing, and needs none
+  -- the event stands before this position; an end or a seal opens nothing, and needs none
   abbrev pub IsBefore : ℕ → ThreadEvent N → Type 0
   IsBefore at (opens b) = b.at < at
   IsBefore at (closes e) = Unit {0}
+  IsBefore at (closes_all ts) = Unit {0}
   IsBefore at (other s) = s.at < at
 
   -- each of the events stands before this position

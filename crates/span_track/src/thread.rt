@@ -1,14 +1,14 @@
 //! The track of one thread.
-ghost use Rattle.std.specs.Prelude.{◌≡◌, nat_eq, ◌+◌, ◌*◌, ◌-◌, ◌≤◌, ℕ, List, [], ◌∷◌, length, map, slice_get, Some, None, pos, ◌+ℤ◌, option_copied, IfSome, IfOk, OnOk, OnErr};
+ghost use Rattle.std.specs.Prelude.{◌≡◌, nat_eq, ◌+◌, ◌*◌, ◌-◌, ◌≤◌, ℕ, List, [], ◌∷◌, length, map, reverse, slice_get, Some, None, pos, ◌+ℤ◌, option_copied, IfSome, IfOk, OnOk, OnErr};
 ghost use Rattle.std.specs.List.{count_by};
 ghost use Rattle.std.specs.Option.{option_map};
 ghost use Rattle.span_event.specs.Event.{IsTime, greatest_time};
 ghost use Rattle.span_event.specs.Given.{Gives};
 ghost use Rattle.span_keyed_tracks.specs.Fault.{Answers};
-ghost use Rattle.span_track.specs.Nesting.{ThreadEvent, began, ended, completed, closed_by, opener, opener_args};
+ghost use Rattle.span_track.specs.Nesting.{ThreadEvent, began, ended, sealed, completed, closed_by, span_sealed, opener, opener_args, later};
 ghost use Rattle.span_self_time.specs.Segments.{lasts, AreSegments, HasSegments, HasEnds};
 ghost use Rattle.span_self_time.specs.Spans.{Arguments, names_of, self_of, busy_time};
-ghost use Rattle.span_track.specs.Thread.{AreMerged, StandsFor, TakesEvent, HasRoom, IsNext, goes_back, begin_refusal, end_refusal, merged_args};
+ghost use Rattle.span_track.specs.Thread.{AreMerged, StandsFor, TakesEvent, HasRoom, IsNext, IsSealTime, goes_back, begin_refusal, end_refusal, merged_args};
 ghost use Rattle.span_self_time.specs.Closed.{span_of, total_for, AreClosed};
 
 use span_event::{Args, Fault, merge_args};
@@ -32,6 +32,7 @@ pub struct ThreadTrack {
     opened: Vec<OpenSpan>,
     closed: ClosedSpans,
     last: Option<i64>,
+    latest: Option<i64>,
 }
 
 impl Model for ThreadTrack {
@@ -42,10 +43,19 @@ impl Model for ThreadTrack {
 
     ghost use Rattle.span_track.specs.Kept.{begin_of, IsSound};
 
-    ghost view = { λ t. record { opened = map begin_of t.opened.items; closed = t.closed; last = t.last } };
+    ghost view = { λ t. record {
+      opened = map begin_of t.opened.items;
+      closed = t.closed;
+      last = t.last;
+      latest = t.latest;
+    } };
 
-    ghost invariant = { λ t. IsSound
-        (record { opened = map begin_of t.opened.items; closed = t.closed; last = t.last }) };
+    ghost invariant = { λ t. IsSound (record {
+      opened = map begin_of t.opened.items;
+      closed = t.closed;
+      last = t.last;
+      latest = t.latest;
+    }) };
 }
 
 impl ThreadTrack {
@@ -57,11 +67,12 @@ impl ThreadTrack {
             opened: Vec::new(alloc),
             closed: ClosedSpans::new(alloc),
             last: None,
+            latest: None,
         }
     }
 
-    /// A span begins. Answers the depth with it, or 22 where `ts` is below the time of the last begin or end, as the format asks
-    /// for rising times of a thread's begins and ends.
+    /// A span begins. Answers the depth with it, or 22 where `ts` is below the time of the last begin, end or seal, as the format
+    /// asks for rising times of a thread's begins and ends.
     pub fn begin_span(
         &mut self,
         name: u32,
@@ -87,11 +98,12 @@ impl ThreadTrack {
         self.opened.reserve(1).map_err(|_| TrackFault::Memory)?;
         self.opened.push_reserved(OpenSpan { name, ts, at, args });
         self.last = Some(ts);
+        self.latest = later(self.latest, ts);
         Ok(self.opened.len() as u32)
     }
 
     /// The span that began last ends. Answers it with the arguments of both events, or 21 where no span is open,
-    /// or 22 where `ts` is below the time of the last begin or end.
+    /// or 22 where `ts` is below the time of the last begin, end or seal.
     pub fn end_span(&mut self, ts: i64, args: &Args) -> Result<ClosedSpan, TrackFault>
         requires in_time { IsTime ts }
         ensures refusal { Answers result (end_refusal self.old ts) }
@@ -136,7 +148,43 @@ impl ThreadTrack {
         self.closed.add(span)?;
         self.opened.pop();
         self.last = Some(ts);
+        self.latest = later(self.latest, ts);
         Ok(start)
+    }
+
+    /// All open spans end, the innermost first, each with the arguments of its begin. Answers how many they are, or 21 where no
+    /// span is open, or 22 where `ts` is below the time of the last begin, end or seal.
+    pub fn seal_all(&mut self, ts: i64) -> Result<u32, TrackFault>
+        requires in_time { IsSealTime ts }
+        ensures refusal { Answers result (end_refusal self.old ts) }
+        ensures spans { IfOk result (λ spans. spans ≡ length self.old.opened) }
+        ensures stands { OnOk result (TakesEvent self.old self.new (sealed ts)) }
+        ensures err { OnErr result (self.new ≡ self.old) }
+    {
+        if let Some(number) = self.end_refusal(ts) {
+            return Err(TrackFault::Refused(number));
+        }
+        let spans = self.depth();
+        let sealed = self.sealed_at(ts).map_err(|_| TrackFault::Memory)?;
+        self.closed.add_all(sealed).map_err(|_| TrackFault::Memory)?;
+        self.opened.clear();
+        self.last = Some(ts);
+        self.latest = later(self.latest, ts);
+        Ok(spans)
+    }
+
+    // The spans that a seal closes, the innermost first.
+    fn sealed_at(&self, ts: i64) -> Result<Vec<ClosedSpan>, AllocError>
+        ensures { IfOk result (λ sealed. map span_of sealed.items
+            ≡ map (λ begin. span_sealed begin ts) (reverse self.now.opened)) }
+    {
+        let alloc = *self.opened.allocator();
+        let mut sealed = Vec::with_capacity(alloc, self.opened.len())?;
+        for begin in &self.opened {
+            sealed.push(closed_at(begin, ts, begin.args.try_clone(alloc)?))?;
+        }
+        sealed.reverse();
+        Ok(sealed)
     }
 
     /// The arguments of the begin that the next end matches together with these, which are those of the end: of two of one name the
@@ -151,7 +199,7 @@ impl ThreadTrack {
         merge_args(alloc, &last_open.args, args)
     }
 
-    /// The number with which a begin at `ts` is refused: 22 where `ts` is below the time of the last begin or end.
+    /// The number with which a begin at `ts` is refused: 22 where `ts` is below the time of the last begin, end or seal.
     /// None where only want of memory refuses it. Takes no memory.
     pub fn begin_refusal(&self, ts: i64) -> Option<u16>
         ensures { result ≡ begin_refusal self.now ts }
@@ -163,7 +211,7 @@ impl ThreadTrack {
         }
     }
 
-    /// The number with which an end at `ts` is refused: 21 where no span is open, then 22 as for a begin.
+    /// The number with which an end or a seal at `ts` is refused: 21 where no span is open, then 22 as for a begin.
     /// None where only want of memory refuses it. Takes no memory.
     pub fn end_refusal(&self, ts: i64) -> Option<u16>
         ensures { result ≡ end_refusal self.now ts }
@@ -196,15 +244,17 @@ impl ThreadTrack {
         let args = args
             .try_clone(*self.opened.allocator())
             .map_err(|_| TrackFault::Memory)?;
+        let until = ts + dur as i64;
         self.closed
             .add(ClosedSpan {
                 name,
                 start: ts,
-                until: ts + dur as i64,
+                until,
                 at,
                 args,
             })
             .map_err(|_| TrackFault::Memory)?;
+        self.latest = later(self.latest, until);
         Ok(())
     }
 
@@ -234,11 +284,19 @@ impl ThreadTrack {
         self.opened.len() as u32
     }
 
-    /// The time of the last begin or end.
+    /// The time of the last begin, end or seal.
     pub fn last_time(&self) -> Option<i64>
         ensures { result ≡ self.now.last }
     {
         self.last
+    }
+
+    /// The latest time that the thread has seen, of its begins, ends, seals and closed spans. Takes no memory.
+    pub fn latest(&self) -> Option<i64>
+        ensures latest { result ≡ self.now.latest }
+        ensures in_time { IfSome result IsSealTime }
+    {
+        self.latest
     }
 
     /// How many spans have closed.
@@ -313,6 +371,16 @@ impl ThreadTrack {
         ensures closed { AreClosed self.now.closed }
     {
         self.closed.as_slice()
+    }
+}
+
+// The later of a time, if there is one, and another.
+fn later(latest: Option<i64>, time: i64) -> Option<i64>
+    ensures { result ≡ later latest time }
+{
+    match latest {
+        Some(earlier) if earlier >= time => Some(earlier),
+        _ => Some(time),
     }
 }
 

@@ -2,7 +2,7 @@
 use Rattle.std.proofs.Common.{◌≡◌, ◌+◌, List, [], ◌∷◌, ◌++◌, map, Bool, true, false, cond, ◌&&◌, ◌||◌, Option, Some, None, is_none, not, reverse, refl, sym, ap, ap₂, ◌∙◌, nat_eq}
 use Rattle.std.specs.Prelude.{option_map}
 use Rattle.std.specs.Option.{option_or}
-use Rattle.indexmap.proofs.ReorderLemmas.{map-reverse}
+pub use Rattle.indexmap.proofs.ReorderLemmas.{map-reverse}
 use Rattle.std.proofs.lemmas.List.{map-append}
 use Rattle.span_keyed_tracks.specs.Matching.{Step, opens, closes, closes_all, other, begins, ends, has_end_of_all, is_balanced, opener, is_match, is_matched_after, open_of, closed_with, closed_by, closed_after, closed_of, map_step}
 

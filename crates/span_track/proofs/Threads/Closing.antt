@@ -20,10 +20,11 @@ pub opened-last : (items : List OpenSpan) (o : OpenSpan) → Some o ≡ slice_ge
 opened-last items o read = ap (map begin_of) (take-last items o read) ∙ map_push begin_of (take (length items - 1) items) o
 
 -- the track, of which the last open span is taken
-pub sound_with_last : (items : List OpenSpan) (o : OpenSpan) (closed : List (Span ℕ)) (last : Option ℤ) → Some o ≡ slice_get items (length items - 1) → IsSound (record { opened = map begin_of items; closed = closed; last = last }) → IsSound (record { opened = map begin_of (take (length items - 1) items) ++ begin_of o ∷ []; closed = closed; last = last })
-sound_with_last items o closed last read sound = subst (λ (l : List (Begin ℕ)). IsSound (record { opened = l; closed = closed; last = last })) (opened-last items o read) sound
+pub sound_with_last : (items : List OpenSpan) (o : OpenSpan) (closed : List (Span ℕ)) (last latest : Option ℤ) → Some o ≡ slice_get items (length items - 1) → IsSound (record { opened = map begin_of items; closed = closed; last = last; latest = latest }) →
+    IsSound (record { opened = map begin_of (take (length items - 1) items) ++ begin_of o ∷ []; closed = closed; last = last; latest = latest })
+sound_with_last items o closed last latest read sound = subst (λ (l : List (Begin ℕ)). IsSound (record { opened = l; closed = closed; last = last; latest = latest })) (opened-last items o read) sound
 
--- an end is refused where no span is open, and then as a begin is
+-- an end or a seal is refused where no span is open, and then as a begin is
 pub end_refusal-is : {N : Type 0} (opened : List (Begin N)) (last : Option ℤ) (ts : ℤ) →
     refusal_of (closing (last_of opened) last ts) ≡ cond (length opened == 0) (Some 21) (refusal_of (opening last ts))
 end_refusal-is [] last ts = refl
@@ -42,7 +43,7 @@ end_refusal-is {N = N} (b ∷ opened) last ts =
 pub opener_of_last : (es : List (ThreadEvent ℕ)) (opened : List (Begin ℕ)) (b : Begin ℕ) → open_spans es ≡ opened ++ b ∷ [] → opener es ≡ Some b
 opener_of_last es opened b is_open = opener-open_of es ∙ ap last_of is_open ∙ last_of-append opened b
 
--- an end that is not refused is not too early
+-- an end or a seal that is not refused is not too early
 pub goes_back-taken : (t : ThreadSpans ℕ) (ts : ℤ) → end_refusal t ts ≡ None → goes_back ts t.last ≡ false
 goes_back-taken t ts taken = by (length t.opened == 0) (goes_back ts t.last) (sym (end_refusal-is t.opened t.last ts) ∙ taken)
   where

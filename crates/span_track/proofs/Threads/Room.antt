@@ -2,13 +2,14 @@
 use Rattle.std.proofs.Common.{◌≡◌, ℕ, ◌+◌, ◌<◌, ◌≤◌, ◌-◌, ◌^◌, ℤ, List, [], ◌∷◌, ◌++◌, length, Option, Some, None, refl, sym, subst, arith, All, append_assoc, append-nil, length-append}
 use Rattle.std.proofs.lemmas.List.Elements.{All-nil, All-cons, All-push, All-append, All-take}
 use Rattle.span_self_time.specs.Spans.{Span, Arguments}
-use Rattle.span_keyed_tracks.specs.Matching.{opens, closes, other}
-use Rattle.span_track.specs.Nesting.{Begin, ThreadEvent, Ending, matched_span, span_between, whole_span}
+use Rattle.span_keyed_tracks.specs.Matching.{opens, closes, closes_all, other}
+use Rattle.span_track.specs.Nesting.{Begin, ThreadEvent, Ending, matched_span, span_between, span_sealed, whole_span}
 use Rattle.span_track.specs.Thread.{ThreadSpans, thread_spans, HasRoom, IsNext, IsBefore, AreBefore}
 use Rattle.span_keyed_tracks.specs.Last.{last_of}
 use Rattle.span_keyed_tracks.proofs.Lists.Last.{take-without_last, All-last_of}
 use Rattle.span_keyed_tracks.proofs.Matching.Closed.{length-closed_with}
-use Rattle.span_track.proofs.Threads.Spans.{with_end, thread_spans-began, thread_spans-ended, thread_spans-completed}
+use Rattle.span_track.proofs.Threads.Spans.{with_end, thread_spans-began, thread_spans-ended, thread_spans-sealed, thread_spans-completed}
+use Rattle.span_track.proofs.Threads.Sealing.{sealed_spans, All-sealed_spans, length-sealed_spans}
 
 module _ {N : Type 0} where
   All-matched_span : (at : ℕ) (e : Ending) (o : Option (Begin N)) → ((b : Begin N) → o ≡ Some b → b.at < at) → All (λ s. s.at < at) (matched_span o e)
@@ -35,7 +36,16 @@ module _ {N : Type 0} where
   step at es (closes e) next before =
       subst (Grows at (thread_spans es)) (sym (thread_spans-ended es e.ts e.args)) (
         IsNext-with_end at (thread_spans es) e.ts e.args next,
-        omega (arith, length-append (thread_spans es).closed (matched_span (last_of (thread_spans es).opened) e), length-closed_with span_between whole_span e (λ b. refl) (thread_spans es).opened),
+        omega (arith, length-append (thread_spans es).closed (matched_span (last_of (thread_spans es).opened) e), length-closed_with span_between span_sealed whole_span e (λ b. refl) (thread_spans es).opened),
+      )
+  step at es (closes_all ts) next before =
+      let t = thread_spans es in
+      subst (Grows at t) (sym (thread_spans-sealed es ts)) (
+        (
+          All-nil (λ (b : Begin N). b.at < at),
+          All-append (λ (s : Span N). s.at < at) t.closed (sealed_spans ts t.opened) next.1 (All-sealed_spans ts (λ (b : Begin N). b.at < at) (λ (s : Span N). s.at < at) (λ b h. h) t.opened next.0),
+        ),
+        omega (arith, length-append t.closed (sealed_spans ts t.opened), length-sealed_spans ts t.opened),
       )
   step at es (other s) next before =
       subst (Grows at (thread_spans es)) (sym (thread_spans-completed es s)) ((next.0, All-push (λ (x : Span N). x.at < at) (thread_spans es).closed s next.1 before), omega (arith, length-append (thread_spans es).closed (s ∷ [])))
@@ -62,6 +72,7 @@ module _ {N : Type 0} where
   pub IsBefore-later : (at later : ℕ) (e : ThreadEvent N) → at ≤ later → IsBefore at e → IsBefore later e
   IsBefore-later at later (opens b) up before = omega (arith, up, before)
   IsBefore-later at later (closes e) up before = tt
+  IsBefore-later at later (closes_all ts) up before = tt
   IsBefore-later at later (other s) up before = omega (arith, up, before)
 
   -- what stands before a position stands before each later one

@@ -1,11 +1,13 @@
 -- That a track stays sound from event to event.
-use Rattle.std.proofs.Common.{◌≡◌, ℕ, ◌+◌, ◌<◌, ◌^◌, ◌≢◌, ℤ, negsuc, ◌≤ℤ◌, List, [], ◌∷◌, ◌++◌, Option, Some, None, false, refl, arith, All, length-append, get_or, length}
+use Rattle.std.proofs.Common.{◌≡◌, ℕ, ◌+◌, ◌<◌, ◌^◌, ◌≢◌, ℤ, negsuc, ◌≤ℤ◌, List, [], ◌∷◌, ◌++◌, Option, Some, None, true, false, cond, refl, arith, All, length-append, get_or, length}
+use Rattle.std.specs.Prelude.{int_lt}
 use Rattle.std.proofs.lemmas.Int.{ints}
 use Rattle.std.proofs.lemmas.List.Elements.{All-weaker, All-push, All-pop, All-head, All-tail, All-nil, All-cons}
+use Rattle.span_event.specs.Event.{IsTime}
 use Rattle.span_self_time.specs.Spans.{Span}
-use Rattle.span_track.specs.Nesting.{Begin}
-use Rattle.span_track.specs.Thread.{ThreadSpans, HasRoom, IsNext, goes_back}
-use Rattle.span_track.specs.Kept.{IsSound, IsUpTo, AreRising}
+use Rattle.span_track.specs.Nesting.{Begin, later}
+use Rattle.span_track.specs.Thread.{ThreadSpans, HasRoom, IsNext, IsSealTime, goes_back}
+use Rattle.span_track.specs.Kept.{IsSound, IsUpTo, IsSeen, AreRising}
 use Rattle.span_track.proofs.Threads.Spans.{with_begin, with_whole}
 
 AreRising-append : (bs : List (Begin ℕ)) (b : Begin ℕ) → AreRising bs → All (λ c. c.at < b.at) bs → AreRising (bs ++ b ∷ [])
@@ -23,7 +25,7 @@ AreRising-front (c ∷ bs) b rising =
     ((front.0, rest.0), All-cons (λ (d : Begin ℕ). d.at < b.at) c bs front.1 rest.1)
 
 -- a time that is not before the last is no earlier than what was up to it
-IsUpTo-later : (t ts : ℤ) (last : Option ℤ) → IsUpTo t last → goes_back ts last ≡ false → t ≤ℤ ts
+pub IsUpTo-later : (t ts : ℤ) (last : Option ℤ) → IsUpTo t last → goes_back ts last ≡ false → t ≤ℤ ts
 IsUpTo-later t ts None up_to later = absurd up_to
 IsUpTo-later t ts (Some last) up_to later =
     let from : last ≤ℤ ts = grind (arith, ints) in omega (arith, ints)
@@ -32,24 +34,36 @@ All-IsUpTo-later : (ts : ℤ) (last : Option ℤ) (bs : List (Begin ℕ)) → go
 All-IsUpTo-later ts last bs later up_to =
     All-weaker (λ (b : Begin ℕ). IsUpTo b.ts last) (λ (b : Begin ℕ). IsUpTo b.ts (Some ts)) (λ b h. IsUpTo-later b.ts ts last h later) bs up_to
 
+-- of two times that a thread can have seen, so is the later
+IsSeen-later : (latest : Option ℤ) (time : ℤ) → IsSeen latest → IsSealTime time → IsSeen (later latest time)
+IsSeen-later None time seen in_time = in_time
+IsSeen-later (Some earlier) time seen in_time =
+    elim (int_lt earlier time) as (λ b. IsSeen (cond b (Some time) (Some earlier))) [ true ↦ in_time | false ↦ seen ]
+
+-- a time of an event is one that a thread can have seen
+IsSealTime-event : (ts : ℤ) → IsTime ts → IsSealTime ts
+IsSealTime-event ts in_time = (in_time.0, omega (arith, ints, in_time.1))
+
 -- a begin that may be taken keeps the track sound
-pub IsSound-with_begin : (t : ThreadSpans ℕ) (b : Begin ℕ) → IsSound t → HasRoom t → IsNext b.at t → negsuc 9007199254740990 ≤ℤ b.ts → goes_back b.ts t.last ≡ false → IsSound (with_begin t b)
-IsSound-with_begin t b sound room next from later = record {
-  from = All-push (λ (c : Begin ℕ). negsuc 9007199254740990 ≤ℤ c.ts) t.opened b sound.from from;
+pub IsSound-with_begin : (t : ThreadSpans ℕ) (b : Begin ℕ) → IsSound t → HasRoom t → IsNext b.at t → IsTime b.ts → goes_back b.ts t.last ≡ false → IsSound (with_begin t b)
+IsSound-with_begin t b sound room next in_time later = record {
+  from = All-push (λ (c : Begin ℕ). negsuc 9007199254740990 ≤ℤ c.ts) t.opened b sound.from in_time.0;
   up_to = All-push (λ (c : Begin ℕ). IsUpTo c.ts (Some b.ts)) t.opened b (All-IsUpTo-later b.ts t.last t.opened later sound.up_to) (omega (arith, ints));
   apart = All-push (λ (c : Begin ℕ). All (λ s. s.at ≢ c.at) t.closed) t.opened b sound.apart (All-weaker (λ (s : Span ℕ). s.at < b.at) (λ (s : Span ℕ). s.at ≢ b.at) (λ s h same. omega arith) t.closed next.1);
   rising = AreRising-append t.opened b sound.rising next.0;
   few = omega (arith, length-append t.opened (b ∷ []));
+  seen = IsSeen-later t.latest b.ts sound.seen (IsSealTime-event b.ts in_time);
 }
 
 -- a whole span that may be taken keeps the track sound
-pub IsSound-with_whole : (t : ThreadSpans ℕ) (s : Span ℕ) → IsSound t → HasRoom t → IsNext s.at t → IsSound (with_whole t s)
-IsSound-with_whole t s sound room next = record {
+pub IsSound-with_whole : (t : ThreadSpans ℕ) (s : Span ℕ) → IsSound t → HasRoom t → IsNext s.at t → IsSealTime s.until → IsSound (with_whole t s)
+IsSound-with_whole t s sound room next in_time = record {
   from = sound.from;
   up_to = sound.up_to;
   apart = All-weaker-apart t.opened sound.apart next.0;
   rising = sound.rising;
   few = omega (arith, length-append t.closed (s ∷ []));
+  seen = IsSeen-later t.latest s.until sound.seen in_time;
 }
   where
     All-weaker-apart : (bs : List (Begin ℕ)) → All (λ b. All (λ x. x.at ≢ b.at) t.closed) bs → All (λ b. b.at < s.at) bs → All (λ b. All (λ x. x.at ≢ b.at) (t.closed ++ s ∷ [])) bs
@@ -64,8 +78,8 @@ pub record MayClose (b : Begin ℕ) (closed : List (Span ℕ)) (ts : ℤ) : Type
   pub few : length closed + 1 < 2 ^ 32
 
 -- the last open span of a sound track may close
-pub MayClose-sound : (opened : List (Begin ℕ)) (closed : List (Span ℕ)) (last : Option ℤ) (b : Begin ℕ) (ts : ℤ) → IsSound (record { opened = opened ++ b ∷ []; closed = closed; last = last }) → goes_back ts last ≡ false → MayClose b closed ts
-MayClose-sound opened closed last b ts sound later =
+pub MayClose-sound : (opened : List (Begin ℕ)) (closed : List (Span ℕ)) (last latest : Option ℤ) (b : Begin ℕ) (ts : ℤ) → IsSound (record { opened = opened ++ b ∷ []; closed = closed; last = last; latest = latest }) → goes_back ts last ≡ false → MayClose b closed ts
+MayClose-sound opened closed last latest b ts sound later =
     let from = All-pop (λ (c : Begin ℕ). negsuc 9007199254740990 ≤ℤ c.ts) (opened ++ b ∷ []) opened (Some b) refl sound.from in
     let up_to = All-pop (λ (c : Begin ℕ). IsUpTo c.ts last) (opened ++ b ∷ []) opened (Some b) refl sound.up_to in
     let apart = All-pop (λ (c : Begin ℕ). All (λ s. s.at ≢ c.at) closed) (opened ++ b ∷ []) opened (Some b) refl sound.apart in
@@ -77,8 +91,9 @@ MayClose-sound opened closed last b ts sound later =
     }
 
 -- the end of the last open span keeps the track sound
-pub IsSound-with_end : (opened : List (Begin ℕ)) (closed : List (Span ℕ)) (last : Option ℤ) (b : Begin ℕ) (s : Span ℕ) (ts : ℤ) → s.at ≡ b.at → IsSound (record { opened = opened ++ b ∷ []; closed = closed; last = last }) → goes_back ts last ≡ false → IsSound (record { opened = opened; closed = closed ++ s ∷ []; last = Some ts })
-IsSound-with_end opened closed last b s ts same_at sound later =
+pub IsSound-with_end : (opened : List (Begin ℕ)) (closed : List (Span ℕ)) (last latest : Option ℤ) (b : Begin ℕ) (s : Span ℕ) (ts : ℤ) → s.at ≡ b.at → IsTime ts →
+    IsSound (record { opened = opened ++ b ∷ []; closed = closed; last = last; latest = latest }) → goes_back ts last ≡ false → IsSound (record { opened = opened; closed = closed ++ s ∷ []; last = Some ts; latest = later latest ts })
+IsSound-with_end opened closed last latest b s ts same_at in_time sound later =
     let from = All-pop (λ (c : Begin ℕ). negsuc 9007199254740990 ≤ℤ c.ts) (opened ++ b ∷ []) opened (Some b) refl sound.from in
     let up_to = All-pop (λ (c : Begin ℕ). IsUpTo c.ts last) (opened ++ b ∷ []) opened (Some b) refl sound.up_to in
     let apart = All-pop (λ (c : Begin ℕ). All (λ x. x.at ≢ c.at) closed) (opened ++ b ∷ []) opened (Some b) refl sound.apart in
@@ -89,4 +104,5 @@ IsSound-with_end opened closed last b s ts same_at sound later =
       apart = λ k d within. All-push (λ (x : Span ℕ). x.at ≢ (get_or opened k d).at) closed s (apart.0 k d within) (λ same. let h = rising.1 k d within in omega arith);
       rising = rising.0;
       few = omega (arith, length-append opened (b ∷ []), length-append closed (s ∷ []), sound.few);
+      seen = IsSeen-later latest ts sound.seen (IsSealTime-event ts in_time);
     }

@@ -3,7 +3,7 @@ use Rattle.std.specs.Option.{option_map}
 use Rattle.std.proofs.lemmas.Int.{ints}
 use Rattle.span_event.specs.Args.{merged}
 use Rattle.span_self_time.specs.Spans.{Span}
-use Rattle.span_track.specs.Nesting.{Begin}
+use Rattle.span_track.specs.Nesting.{Begin, later}
 use Rattle.span_track.specs.Thread.{ThreadSpans, goes_back}
 use Rattle.span_track.specs.Kept.{begin_of}
 use Rattle.span_self_time.specs.Closed.{span_of}
@@ -16,11 +16,11 @@ use Rattle.span_track.proofs.thread.ThreadTrack.close_span.Goals as goal
 read : (c : In-Some) → Some c.in-Some.last_open.now ≡ slice_get c.self.inside.opened.items (length c.self.inside.opened.items - 1)
 read c = search rules
 
-later : (c : In-Some) → goes_back c.args.ts c.self.inside.last ≡ false
-later c = subst (λ (t : ThreadSpans ℕ). goes_back c.args.ts t.last ≡ false) (sym c.self.view_is) (goes_back-taken c.args.self.now c.args.ts c.requires.taken)
+not_back : (c : In-Some) → goes_back c.args.ts c.self.inside.last ≡ false
+not_back c = subst (λ (t : ThreadSpans ℕ). goes_back c.args.ts t.last ≡ false) (sym c.self.view_is) (goes_back-taken c.args.self.now c.args.ts c.requires.taken)
 
 may : (c : In-Some) → MayClose (begin_of c.in-Some.last_open.now) c.self.inside.closed c.args.ts
-may c = MayClose-sound _ _ _ _ c.args.ts (sound_with_last _ _ _ _ (read c) c.self.invariant) (later c)
+may c = MayClose-sound _ _ _ _ _ c.args.ts (sound_with_last _ _ _ _ _ (read c) c.self.invariant) (not_back c)
 
 pub add-requires-clause-forward : goal.add-requires-clause-forward
 add-requires-clause-forward c = let may = may (goal.at.add-requires-clause-forward c).In-Some in rw c.closed_at-span.ensures (omega (arith, ints, may.lasts))
@@ -43,7 +43,8 @@ invariant_of-self-2 c =
     let ts : to_z w64 (of_z w64 c.args.ts) ≡ c.args.ts = to_z-of_z c.ranges.ts in
     let same_at : c.closed_at-span.result.at ≡ c.in-Some.last_open.now.at = ap (λ s. s.at) c.closed_at-span.ensures in
     let closed : c.add.new.self ≡ c.self.inside.closed ++ span_of c.closed_at-span.result ∷ [] = search rules in
-    rw (closed, popped, ts) (IsSound-with_end _ _ _ _ (span_of c.closed_at-span.result) c.args.ts same_at (sound_with_last _ _ _ _ (read at) c.self.invariant) (later at))
+    let seen : c.later-self-inside.result ≡ later c.self.inside.latest c.args.ts = c.later-self-inside.ensures ∙ ap (later c.self.inside.latest) ts in
+    rw (closed, popped, seen, ts) (IsSound-with_end _ _ _ _ _ (span_of c.closed_at-span.result) c.args.ts same_at c.requires.in_time (sound_with_last _ _ _ _ _ (read at) c.self.invariant) (not_back at))
 
 pub returns-clause-stands : goal.returns-clause-stands
 returns-clause-stands c = λ args both. λ es stands.
@@ -57,7 +58,8 @@ returns-clause-stands c = λ args both. λ es stands.
     let span_is : span_of c.closed_at-span.result ≡ span = rw (c.closed_at-span.ensures, ts, all) refl in
     let added : c.add.new.self ≡ c.self.inside.closed ++ span_of c.closed_at-span.result ∷ [] = search rules in
     let closed : c.add.new.self ≡ c.self.inside.closed ++ span ∷ [] = added ∙ ap (λ (s : Span ℕ). c.self.inside.closed ++ s ∷ []) span_is in
-    rw (closed, popped, ts) (thread_spans-closing es _ _ c.self.inside.closed c.self.inside.last begin c.args.ts args opened (c.self.view_is ∙ stands))
+    let seen : c.later-self-inside.result ≡ later c.self.inside.latest c.args.ts = c.later-self-inside.ensures ∙ ap (later c.self.inside.latest) ts in
+    rw (closed, popped, seen, ts) (thread_spans-closing es _ _ c.self.inside.closed c.self.inside.last c.self.inside.latest begin c.args.ts args opened (c.self.view_is ∙ stands))
 
 pub returns-clause-start : goal.returns-clause-start
 returns-clause-start c = λ es stands.

@@ -1,0 +1,9 @@
+use Rattle.std.proofs.Common.{◌≡◌, map, take}
+use Rattle.span_self_time.specs.Closed.{span_of}
+use Rattle.span_track.specs.Kept.{begin_of}
+use Rattle.span_track.specs.Nesting.{span_sealed}
+use Rattle.span_track.proofs.thread.ThreadTrack.sealed_at.Given as goal
+
+-- the spans of the begins so far
+abbrev pub invariant-loop-begin : goal.invariant-loop-begin
+invariant-loop-begin l = map span_of l.sealed.items ≡ map (λ o. span_sealed (begin_of o) l.ts) (take l.begin-index l.begin-items)
