@@ -26,7 +26,7 @@ module _ (journal : List Entry) where
   group_of-is pid =
       let in_process : Thread → Bool = λ thread. int_eq thread.pid pid in
       ap₂ (λ (ts : List Thread) (rs : List SeriesRow). let group : Grouped = record { threads = ts; series = rs } in group)
-      (filter-ascending thread_cmp-total in_process (λ (a b : Thread) (e : thread_cmp a b ≡ Equal). ap in_process (thread_cmp-same a b e)) (filter_map (λ a. listed_by a.event) (accepted journal)))
+      (filter-ascending thread_cmp-total in_process (λ (a b : Thread) (e : thread_cmp a b ≡ Equal). ap in_process (thread_cmp-same a b e)) (filter_map (λ a. listed_by a.act) (accepted journal)))
       (filter-series_rows pid (counter_events (accepted journal)))
 
   -- the parts of the groups are those of the journal

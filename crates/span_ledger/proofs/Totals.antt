@@ -1,6 +1,6 @@
 -- The totals of a name are those of its number.
 use Rattle.span_event.specs.Text.{Bytes, same_text}
-use Rattle.std.proofs.Common.{◌≡◌, ℕ, ◌+◌, List, [], ◌∷◌, length, map, Bool, true, false, cond, Option, Some, None, refl, sym, ap, ap₂, ◌∙◌, nat_eq, eq-eqb, eqb-true}
+use Rattle.std.proofs.Common.{◌≡◌, ℕ, ◌+◌, ℤ, List, [], ◌∷◌, length, map, Bool, true, false, cond, Option, Some, None, refl, sym, ap, ap₂, ◌∙◌, nat_eq, eq-eqb, eqb-true}
 use Rattle.std.specs.Prelude.{is_some, unwrap_or, sum_by, slice_get}
 use Rattle.std.specs.List.{list_all}
 use Rattle.std.specs.Bool.{one_answer}
@@ -8,7 +8,7 @@ use Rattle.std.specs.Cmp.Lexicographic.{bytes_decides}
 use Rattle.std.proofs.lemmas.List.{length-map}
 use Rattle.std.proofs.lemmas.List.Sums.{sum_by-cons}
 use Rattle.span_self_time.specs.Spans.{Span, length_of, self_time, named, total_of, self_of}
-use Rattle.span_track.specs.Nesting.{Begin, Ending, ThreadEvent, span_between, whole_span, closed_spans}
+use Rattle.span_track.specs.Nesting.{Begin, Ending, ThreadEvent, span_between, span_sealed, whole_span, closed_spans}
 use Rattle.span_keyed_tracks.proofs.Matching.Closed.{both_true, and_true, closed_of-passes}
 use Rattle.span_keyed_tracks.specs.Numbering.{number_in}
 use Rattle.span_keyed_tracks.proofs.Numbers.{slice_get-number_in}
@@ -24,8 +24,9 @@ module _ (names : List Bytes) where
   -- the names of closed spans have numbers where those of the events do
   pub closed_spans-numbered : (es : List (ThreadEvent Bytes)) → list_all (is_numbered names) es ≡ true → list_all (is_numbered_span names) (closed_spans es) ≡ true
   closed_spans-numbered es known =
-      closed_of-passes span_between whole_span (λ b. is_some (number_in names b.name)) (is_numbered_span names) (is_numbered_span names)
+      closed_of-passes span_between span_sealed whole_span (λ b. is_some (number_in names b.name)) (is_numbered_span names) (is_numbered_span names)
       (λ (b : Begin Bytes) (e : Ending) (h : is_some (number_in names b.name) ≡ true). and_true (is_some (number_in names b.name)) true h refl)
+      (λ (b : Begin Bytes) (ts : ℤ) (h : is_some (number_in names b.name) ≡ true). h)
       (λ (s : Span Bytes) (h : is_numbered_span names s ≡ true). and_true (is_numbered_span names s) true h refl) es known
 
   -- two texts are the same just where their numbers are

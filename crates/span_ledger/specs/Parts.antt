@@ -30,7 +30,7 @@ pub record ProcessRows : Type 0 where
 
 -- the threads of a process that are listed for accepted events, in ascending order
 abbrev pub threads_in : ℤ → List Accepted → List Thread
-threads_in pid events = ascending thread_cmp (filter (λ thread. int_eq thread.pid pid) (filter_map (λ a. listed_by a.event) events))
+threads_in pid events = ascending thread_cmp (filter (λ thread. int_eq thread.pid pid) (filter_map (λ a. listed_by a.act) events))
 
 abbrev pub thread_part : List Entry → Thread → ThreadRows
 thread_part journal thread = record {

@@ -18,6 +18,8 @@ pub struct CountRow {
     pub skipped: u32,
     /// Queries.
     pub queries: u32,
+    /// Seals that closed spans.
+    pub seals: u32,
 }
 
 impl CountRow {
@@ -29,6 +31,7 @@ impl CountRow {
             refused: 0,
             skipped: 0,
             queries: 0,
+            seals: 0,
         }
     }
 
@@ -42,6 +45,7 @@ impl CountRow {
             Kind::Refused => self.refused += 1,
             Kind::Skipped => self.skipped += 1,
             Kind::Replied => self.queries += 1,
+            Kind::Sealed => self.seals += 1,
         }
     }
 }
