@@ -1,5 +1,5 @@
 -- The lines of a report.
-use Rattle.std.specs.Prelude.{ℕ, ◌-◌, ℤ, List, [], ◌∷◌, ◌++◌, length, replicate, Option, Some, None, codes, decimal}
+use Rattle.std.specs.Prelude.{ℕ, ◌-◌, ◌==◌, if◌then◌else◌, ℤ, List, [], ◌∷◌, ◌++◌, length, replicate, Option, Some, None, codes, decimal}
 use Rattle.std.specs.Fmt.{signed_decimal}
 use Rattle.std.specs.List.{join_with_byte}
 use Rattle.json.specs.Print.{quoted}
@@ -38,6 +38,10 @@ first_line = line_of (codes "tracebook" ∷ codes "1" ∷ [])
 
 unfoldable pub count_line : CountRow → List ℕ
 count_line row = line_of (codes "events" ∷ decimal row.accepted ∷ codes "refused" ∷ decimal row.refused ∷ codes "skipped" ∷ decimal row.skipped ∷ codes "queries" ∷ decimal row.queries ∷ [])
+
+-- how many seals closed spans, where any did
+unfoldable pub seals_line : ℕ → List ℕ
+seals_line seals = if seals == 0 then [] else line_of (codes "seals" ∷ decimal seals ∷ [])
 
 unfoldable pub process_line : ProcessRow → List ℕ
 process_line row = line_of (codes "process" ∷ signed_decimal row.pid ∷ or_dash json_text_of row.name ∷ [])

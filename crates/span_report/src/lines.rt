@@ -1,6 +1,6 @@
 //! The lines of a report: one for each row, appended to a text.
 ghost use Rattle.std.specs.Prelude.{◌≡◌, ◌++◌, ℕ, List, string_bytes, OnOk, IfOk};
-ghost use Rattle.span_report.specs.Lines.{first_line, count_line, process_line, thread_line, span_line, or_dash, json_text_of, reach_text, instant_line, id_text, counter_line, samples_text, async_line, flow_line};
+ghost use Rattle.span_report.specs.Lines.{first_line, count_line, seals_line, process_line, thread_line, span_line, or_dash, json_text_of, reach_text, instant_line, id_text, counter_line, samples_text, async_line, flow_line};
 
 use serde_json::Value;
 use span_event::{IdKey, Reach, Text};
@@ -50,11 +50,22 @@ pub(crate) fn put_counts(out: &mut String, row: CountRow) -> Result<(), AllocErr
         refused,
         skipped,
         queries,
+        seals: _,
     } = row;
     writeln!(
         out,
         "events {accepted} refused {refused} skipped {skipped} queries {queries}"
     )
+}
+
+#[tactic(auto, unfolding(crate::specs::Lines::seals_line))]
+pub(crate) fn put_seals(out: &mut String, seals: u32) -> Result<(), AllocError>
+    ensures { OnOk result (string_bytes out.new ≡ string_bytes out.old ++ seals_line seals) }
+{
+    if seals == 0 {
+        return Ok(());
+    }
+    writeln!(out, "seals {seals}")
 }
 
 impl Printed for ProcessRow {

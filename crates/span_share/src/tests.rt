@@ -165,7 +165,7 @@ fn one_try_while_another_has_the_turn(
     assert_eq!(rt; back.cause.code(), 33);
     let item = match back.op {
         Op::One(item) => item,
-        Op::Ask(_query) => return Err(Fail::from("another operation came back")),
+        _ => return Err(Fail::from("another operation came back")),
     };
     let told = share.try_tell(second, item);
     assert_eq!(rt; line_of(alloc, told)?.as_str(), "0 Opened { depth: 1 }");
