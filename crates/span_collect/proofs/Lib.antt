@@ -5,3 +5,4 @@ pub mod Settling
 pub mod EndLines
 pub mod Statuses
 pub mod OneFile
+pub mod SealEntries

@@ -14,8 +14,11 @@ use Rattle.span_collect.specs.declared.files.FileEnd.{FileEnd}
 use Rattle.span_collect.specs.declared.files.FileEnd.TheVariants.{Read, Refused, Stopped, NotStarted}
 use Rattle.span_collect.specs.declared.files.Input.{Input}
 use Rattle.span_collect.specs.declared.queries.Asked.{Asked}
+use Rattle.span_collect.specs.declared.sealing.Sealing.{Sealing}
+use Rattle.span_collect.specs.declared.settings.Settings.{Settings}
 use Rattle.span_collect.specs.Account.{Account, Document, EndsAs, IsAsked, asking, callers_named, operations, telling}
 use Rattle.span_collect.specs.Run.{TakesReportOf, journal_by, status_of}
+use Rattle.span_collect.specs.Seals.{SealedAccount, SealsAfter}
 use Rattle.span_report.specs.Report.{report_of}
 use Rattle.span_report.specs.Sink.{SinkState, TakesBytes}
 
@@ -53,14 +56,14 @@ told-by-one c journal ops legal own told =
     legal-sequential journal legal
     ∙ ap sequential (calls_of-one c journal own ∙ ap (map (λ (op : Op). (c, op))) (sym (operations-own c journal own) ∙ told))
 
-by-end : (limit : ℕ) (journal : List Entry) (document : Document) (end : FileEnd) (asked : Asked) → IsLegal journal → operations journal 0 ≡ [] → All (λ e. Contains (0 ∷ callers_named (end ∷ [])) e.caller) journal →
-    EndsAs journal limit document end → status_of (end ∷ []) asked < 2 → (c : ℕ) × (journal ≡ journal_by c document)
-by-end limit journal (Ok items) (Read c count) asked legal none only ended below = (c, told-by-one c journal (telling items) legal (all-of-one c journal none only) ended.1)
-by-end limit journal (Err error) (Read c count) asked legal none only ended below = absurd ended
-by-end limit journal (Ok items) (Refused c code) asked legal none only ended below = absurd ended
-by-end limit journal (Err error) (Refused c code) asked legal none only ended below = (c, told-by-one c journal [] legal (all-of-one c journal none only) ended.1)
-by-end limit journal document (Stopped c done cause) asked legal none only ended below = absurd (omega (arith, below))
-by-end limit journal document NotStarted asked legal none only ended below = absurd (omega (arith, below))
+by-end : (limit : ℕ) (journal : List Entry) (document : Document) (end : FileEnd) (asked : Asked) (sealing : Sealing) → IsLegal journal → operations journal 0 ≡ [] → All (λ e. Contains (0 ∷ callers_named (end ∷ [])) e.caller) journal →
+    EndsAs journal limit document end → status_of (end ∷ []) asked sealing < 2 → (c : ℕ) × (journal ≡ journal_by c document)
+by-end limit journal (Ok items) (Read c count) asked sealing legal none only ended below = (c, told-by-one c journal (telling items) legal (all-of-one c journal none only) ended.1)
+by-end limit journal (Err error) (Read c count) asked sealing legal none only ended below = absurd ended
+by-end limit journal (Ok items) (Refused c code) asked sealing legal none only ended below = absurd ended
+by-end limit journal (Err error) (Refused c code) asked sealing legal none only ended below = (c, told-by-one c journal [] legal (all-of-one c journal none only) ended.1)
+by-end limit journal document (Stopped c done cause) asked sealing legal none only ended below = absurd (omega (arith, below))
+by-end limit journal document NotStarted asked sealing legal none only ended below = absurd (omega (arith, below))
 
 none_asked : (journal : List Entry) (limit : ℕ) (asked : Asked) → IsAsked journal limit [] asked → operations journal 0 ≡ []
 none_asked journal limit asked is = is.recorded ∙ first asked.done
@@ -69,18 +72,22 @@ none_asked journal limit asked is = is.recorded ∙ first asked.done
     first zero = refl
     first (suc n) = refl
 
-one-journal : (file : Input) (limit : ℕ) (ends : List FileEnd) (asked : Asked) (journal : List Entry) → Account (file ∷ []) [] limit ends asked journal → status_of ends asked < 2 → (c : ℕ) × (journal ≡ journal_by c (doc file.bytes.items))
-one-journal file limit [] asked journal account below = absurd account.each_file_once_in_order
-one-journal file limit (end ∷ []) asked journal account below =
-    by-end limit journal (doc file.bytes.items) end asked account.legal (none_asked journal limit asked account.each_query_once_in_order) account.nothing_else account.each_file_once_in_order.0 below
-one-journal file limit (end ∷ next ∷ ends) asked journal account below = absurd account.each_file_once_in_order.1
+one-journal : (file : Input) (limit : ℕ) (ends : List FileEnd) (asked : Asked) (sealing : Sealing) (journal : List Entry) → Account (file ∷ []) [] limit ends asked journal → status_of ends asked sealing < 2 → (c : ℕ) × (journal ≡ journal_by c (doc file.bytes.items))
+one-journal file limit [] asked sealing journal account below = absurd account.each_file_once_in_order
+one-journal file limit (end ∷ []) asked sealing journal account below =
+    by-end limit journal (doc file.bytes.items) end asked sealing account.legal (none_asked journal limit asked account.each_query_once_in_order) account.nothing_else account.each_file_once_in_order.0 below
+one-journal file limit (end ∷ next ∷ ends) asked sealing journal account below = absurd account.each_file_once_in_order.1
 
 -- the report of one file without a query is that of what one caller tells
-pub one_report : (files : List Input) (asks : List Query) (limit : ℕ) (ends : List FileEnd) (asked : Asked) (journal : List Entry) (old new : SinkState) → Account files asks limit ends asked journal → status_of ends asked < 2 →
-    TakesBytes old new (report_of journal) → (file : Input) → files ≡ file ∷ [] → asks ≡ [] → TakesReportOf file old new
-one_report files asks limit ends asked journal old new account below takes file one none =
+pub one_report : (files : List Input) (asks : List Query) (settings : Settings) (ends : List FileEnd) (asked : Asked) (sealing : Sealing) (journal : List Entry) (old new : SinkState) →
+    SealedAccount files asks settings ends asked sealing journal → status_of ends asked sealing < 2 →
+    TakesBytes old new (report_of journal) → settings.seal ≡ false → (file : Input) → files ≡ file ∷ [] → asks ≡ [] → TakesReportOf file old new
+one_report files asks settings ends asked sealing journal old new sealed below takes unsealed file one none =
+    let limit = settings.limit in
+    let kept : SealsAfter false limit sealed.told journal sealing = subst (λ b. SealsAfter b limit sealed.told journal sealing) unsealed sealed.seals in
+    let account : Account files asks limit ends asked journal = subst (λ (j : List Entry). Account files asks limit ends asked j) (sym kept.0) sealed.account in
     let alone : Account (file ∷ []) [] limit ends asked journal = subst (λ qs. Account (file ∷ []) qs limit ends asked journal) none (subst (λ fs. Account fs asks limit ends asked journal) one account) in
-    let same = one-journal file limit ends asked journal alone below in (
+    let same = one-journal file limit ends asked sealing journal alone below in (
       same.0,
       subst (λ (j : List Entry). TakesBytes old new (report_of j)) same.1 takes,
     )

@@ -5,6 +5,7 @@ use Rattle.std.specs.List.{list_any}
 use Rattle.std.specs.Option.{is_some}
 use Rattle.span_collect.specs.declared.files.FileEnd.{FileEnd}
 use Rattle.span_collect.specs.declared.queries.Asked.{Asked}
+use Rattle.span_collect.specs.declared.sealing.Sealing.{Sealing}
 use Rattle.span_collect.specs.Run.{is_cut, is_refused, status_of}
 
 abbrev status : Bool → Bool → ℕ
@@ -16,5 +17,5 @@ status-lt false true none = omega arith
 status-lt false false none = omega arith
 
 -- a status that is not 2 is 0 or 1
-pub status_of-lt : (ends : List FileEnd) (asked : Asked) → (status_of ends asked ≡ 2 → ⊥) → status_of ends asked < 2
-status_of-lt ends asked none = status-lt (list_any is_cut ends || is_some asked.cause) (list_any is_refused ends) none
+pub status_of-lt : (ends : List FileEnd) (asked : Asked) (sealing : Sealing) → (status_of ends asked sealing ≡ 2 → ⊥) → status_of ends asked sealing < 2
+status_of-lt ends asked sealing none = status-lt (list_any is_cut ends || is_some asked.cause || is_some sealing.cause) (list_any is_refused ends) none

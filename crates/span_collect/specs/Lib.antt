@@ -3,4 +3,5 @@ pub mod Work
 pub mod Collection
 pub mod FaultLines
 pub mod Run
+pub mod Seals
 pub mod Words

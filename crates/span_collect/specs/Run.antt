@@ -14,10 +14,13 @@ use Rattle.span_collect.specs.declared.files.FileEnd.{FileEnd}
 use Rattle.span_collect.specs.declared.files.FileEnd.TheVariants.{Refused, Stopped, NotStarted}
 use Rattle.span_collect.specs.declared.files.Input.{Input}
 use Rattle.span_collect.specs.declared.queries.Asked.{Asked}
+use Rattle.span_collect.specs.declared.sealing.Sealing.{Sealing}
+use Rattle.span_collect.specs.declared.settings.Settings.{Settings}
 use Rattle.span_collect.specs.declared.runs.RunEnd.{RunEnd}
 use Rattle.span_collect.specs.declared.runs.RunError.{RunError}
 use Rattle.span_collect.specs.declared.runs.RunError.TheVariants.{FileCount, Memory, Unaccounted, Output}
-use Rattle.span_collect.specs.Account.{Account, Document, telling}
+use Rattle.span_collect.specs.Account.{Document, telling}
+use Rattle.span_collect.specs.Seals.{SealedAccount}
 use Rattle.span_collect.specs.Collection.{AreNoneOrTooMany, HasMore}
 
 abbrev pub run_code : RunError → ℕ
@@ -36,35 +39,36 @@ abbrev pub is_refused : FileEnd → Bool
 is_refused (Refused caller code) = true
 is_refused end = false
 
--- 2 where a file stopped or was not started, or a query was not taken; else 1 where a file was refused, else 0
-abbrev pub status_of : List FileEnd → Asked → ℕ
-status_of ends asked = if list_any is_cut ends || is_some asked.cause then 2 else if list_any is_refused ends then 1 else 0
+-- 2 where a file stopped or was not started, or a query or a seal was not taken; else 1 where a file was refused, else 0
+abbrev pub status_of : List FileEnd → Asked → Sealing → ℕ
+status_of ends asked sealing = if list_any is_cut ends || is_some asked.cause || is_some sealing.cause then 2 else if list_any is_refused ends then 1 else 0
 
--- a journal accounts for the files and the queries; unless the status is 2 its report was written, else nothing
-pub record IsRunOf (files : List Input) (asks : List Query) (limit : ℕ) (run : RunEnd) (old new : SinkState) : Type 0 where
+-- a journal accounts for the files, the queries and the seals; unless the status is 2 its report was written, else nothing
+pub record IsRunOf (files : List Input) (asks : List Query) (settings : Settings) (run : RunEnd) (old new : SinkState) : Type 0 where
   pub journal : List Entry
-  pub account : Account files asks limit run.ends.items run.asked journal
-  pub status : run.status ≡ status_of run.ends.items run.asked
+  pub account : SealedAccount files asks settings run.ends.items run.asked run.sealing journal
+  pub status : run.status ≡ status_of run.ends.items run.asked run.sealing
   pub written : run.status < 2 → TakesBytes old new (report_of journal)
   pub silent : run.status ≡ 2 → new ≡ old
 
--- a journal accounts for the files, each read or refused, and for all queries, and just the first `written` bytes of its report
--- were written
-pub record IsCutShort (files : List Input) (asks : List Query) (limit : ℕ) (written : ℕ) (old new : SinkState) : Type 0 where
+-- a journal accounts for the files, each read or refused, and for all queries and seals, and just the first `written` bytes of its
+-- report were written
+pub record IsCutShort (files : List Input) (asks : List Query) (settings : Settings) (written : ℕ) (old new : SinkState) : Type 0 where
   pub ends : List FileEnd
   pub asked : Asked
+  pub sealing : Sealing
   pub journal : List Entry
-  pub account : Account files asks limit ends asked journal
-  pub status : status_of ends asked < 2
+  pub account : SealedAccount files asks settings ends asked sealing journal
+  pub status : status_of ends asked sealing < 2
   pub within : written ≤ length (report_of journal)
   pub output : Fails old new (take written (report_of journal))
 
 -- why a run is refused, and what it leaves: only a failed output took bytes
-abbrev pub RunLeaves : RunError → List Input → List Query → ℕ → SinkState → SinkState → Type 0
-RunLeaves FileCount files asks limit old new = AreNoneOrTooMany files × (new ≡ old)
-RunLeaves Memory files asks limit old new = new ≡ old
-RunLeaves (Unaccounted entries calls) files asks limit old new = HasMore files asks limit entries calls × (new ≡ old)
-RunLeaves (Output written) files asks limit old new = IsCutShort files asks limit written old new
+abbrev pub RunLeaves : RunError → List Input → List Query → Settings → SinkState → SinkState → Type 0
+RunLeaves FileCount files asks settings old new = AreNoneOrTooMany files × (new ≡ old)
+RunLeaves Memory files asks settings old new = new ≡ old
+RunLeaves (Unaccounted entries calls) files asks settings old new = HasMore files asks settings.limit entries calls × (new ≡ old)
+RunLeaves (Output written) files asks settings old new = IsCutShort files asks settings written old new
 
 -- the journal that one caller makes of a document: of all its items, and of none where it is refused
 abbrev pub journal_by : ℕ → Document → List Entry
@@ -75,6 +79,6 @@ journal_by caller (Err error) = []
 abbrev pub TakesReportOf : Input → SinkState → SinkState → Type 0
 TakesReportOf file old new = (caller : ℕ) × TakesBytes old new (report_of (journal_by caller (doc file.bytes.items)))
 
--- where one file is given, no query, and the status isn't 2, the report of that file was written
-abbrev pub ReportsOneFile : List Input → List Query → ℕ → SinkState → SinkState → Type 0
-ReportsOneFile files asks status old new = status < 2 → (file : Input) → files ≡ file ∷ [] → asks ≡ [] → TakesReportOf file old new
+-- where one file is given, no query and no wish to seal, and the status isn't 2, the report of that file was written
+abbrev pub ReportsOneFile : List Input → List Query → Settings → ℕ → SinkState → SinkState → Type 0
+ReportsOneFile files asks settings status old new = status < 2 → settings.seal ≡ false → (file : Input) → files ≡ file ∷ [] → asks ≡ [] → TakesReportOf file old new

@@ -1,11 +1,13 @@
 //! Collects files into one ledger, and accounts for each of them.
 ghost use Rattle.std.specs.Prelude.{◌≡◌, ◌+◌, ◌^◌, ◌<◌, ◌≤◌, ◌↔◌, Err, length, IfOk, IfErr};
-ghost use Rattle.span_collect.specs.Account.{Account};
+ghost use Rattle.span_collect.specs.Seals.{SealedAccount};
 ghost use Rattle.span_collect.specs.Collection.{AreNoneOrTooMany, IsClosed, IsRefused, collect_code, calls_told, told_by};
 
 use crate::files::{FileEnd, Input};
 use crate::gate::Gate;
 use crate::queries::Asked;
+use crate::sealing::{Sealing, seal_open_spans};
+use crate::settings::Settings;
 use crate::workers::{enrol_all, run_workers};
 use span_event::Fault;
 use span_keyed_tracks::HashKeys;
@@ -26,6 +28,8 @@ pub struct Outcome {
     /// One end for each file, in order.
     pub files: Vec<FileEnd>,
     pub asked: Asked,
+    /// How far the seals came; none done and no cause where nothing was to be sealed.
+    pub sealing: Sealing,
 }
 
 /// Why there is no outcome.
@@ -55,28 +59,30 @@ impl CollectError {
     }
 }
 
-/// Reads 1 to 64 files and tells their items to one ledger of this limit, with one worker for each file, in threads. The queries
-/// are asked while the workers run. Waits until all are done.
+/// Reads 1 to 64 files and tells their items to one ledger of the settings' limit, with one worker for each file, in threads. The
+/// queries are asked while the workers run. Waits until all are done; then the open spans are sealed, if the settings want it.
 ///
-/// The refusals come in this order: 41 `FileCount`; 31 `Memory`, before any worker is started; 43 `Unaccounted`, at the end.
+/// The refusals come in this order: 41 `FileCount`; 31 `Memory`, before any worker is started; 43 `Unaccounted`, before any seal.
 pub fn collect<G: Gate, R: Threads + Wait + RandomSource + Sync>(
     rt: &R,
     alloc: Global,
     files: &[Input],
     asks: &[Query],
     gate: &G,
-    limit: u32,
+    settings: &Settings,
 ) -> Result<Outcome, CollectError>
     ensures accounts { IfOk result
-        (λ outcome. Account files.now asks.now limit outcome.files.items outcome.asked outcome.ledger.journal) }
-    ensures limit { IfOk result (λ outcome. outcome.ledger.limit ≡ limit) }
+        (λ outcome. SealedAccount files.now asks.now settings.now outcome.files.items outcome.asked outcome.sealing
+        outcome.ledger.journal) }
+    ensures limit { IfOk result (λ outcome. outcome.ledger.limit ≡ settings.now.limit) }
     ensures count { (result ≡ Err CollectError.FileCount) ↔ AreNoneOrTooMany files.now }
-    ensures refused { IfErr result (IsRefused files.now asks.now limit) }
+    ensures refused { IfErr result (IsRefused files.now asks.now settings.now.limit) }
 {
     if files.is_empty() || files.len() > MOST_FILES {
         return Err(CollectError::FileCount);
     }
-    let Ok(outcome) = collect_unsettled(rt, alloc, files, asks, gate, limit) else {
+    let Settings { limit, seal } = *settings;
+    let Ok(mut outcome) = collect_unsettled(rt, alloc, files, asks, gate, limit) else {
         return Err(CollectError::Memory);
     };
     let entries = outcome.ledger.len();
@@ -84,6 +90,7 @@ pub fn collect<G: Gate, R: Threads + Wait + RandomSource + Sync>(
     if entries != calls {
         return Err(CollectError::Unaccounted { entries, calls });
     }
+    outcome.sealing = seal_open_spans(alloc, seal, &mut outcome.ledger);
     Ok(outcome)
 }
 
@@ -97,8 +104,9 @@ fn collect_unsettled<G: Gate, R: Threads + Wait + RandomSource + Sync>(
     limit: u32,
 ) -> Result<Outcome, AllocError>
     requires { length files.now ≤ 64 }
-    ensures { IfOk result
+    ensures closed { IfOk result
         (λ outcome. IsClosed files.now asks.now limit outcome.files.items outcome.asked outcome.ledger) }
+    ensures small { limit < 2 ^ 32 }
 {
     let (share, mut main) = Share::start_with_keys(alloc, limit, HashKeys::random(rt))?;
     let ends = Vec::with_capacity(alloc, files.len())?;
@@ -109,6 +117,10 @@ fn collect_unsettled<G: Gate, R: Threads + Wait + RandomSource + Sync>(
         ledger,
         files,
         asked,
+        sealing: Sealing {
+            done: 0,
+            cause: None,
+        },
     })
 }
 

@@ -3,7 +3,7 @@ ghost use Rattle.std.specs.Prelude.{◌≡◌, ◌<◌, ◌↔◌, Err, IfOk, If
 ghost use Rattle.std.specs.List.{list_any};
 ghost use Rattle.span_report.specs.Report.{report_of};
 ghost use Rattle.span_report.specs.Sink.{TakesBytes};
-ghost use Rattle.span_collect.specs.Account.{Account};
+ghost use Rattle.span_collect.specs.Seals.{SealedAccount};
 ghost use Rattle.span_collect.specs.Collection.{AreNoneOrTooMany};
 ghost use Rattle.span_collect.specs.Run.{run_code, is_cut, is_refused, status_of, IsRunOf, RunLeaves, ReportsOneFile};
 
@@ -11,6 +11,8 @@ use crate::collection::{CollectError, collect};
 use crate::files::{FileEnd, Input};
 use crate::gate::FreeGate;
 use crate::queries::Asked;
+use crate::sealing::Sealing;
+use crate::settings::Settings;
 use span_event::Fault;
 use span_ledger::{Ledger, Query};
 use span_report::{Sink, WriteFault, write_report};
@@ -23,12 +25,13 @@ use thiserror::Error;
 /// How a run ended.
 #[derive(Debug, Drop)]
 pub struct RunEnd {
-    /// 0 where every file was read, 1 where one was refused; 2 where one stopped or was not started, or a query was not taken: then
-    /// nothing was written.
+    /// 0 where every file was read, 1 where one was refused; 2 where one stopped or was not started, or a query or a seal was not
+    /// taken: then nothing was written.
     pub status: u8,
     /// One end for each file, in order.
     pub ends: Vec<FileEnd>,
     pub asked: Asked,
+    pub sealing: Sealing,
 }
 
 /// Why there is no run.
@@ -69,23 +72,24 @@ pub struct Collected {
     pub ledger: Ledger,
 }
 
-/// Collects 1 to 64 files, with one worker for each in threads of their own, and writes the report of their journal.
+/// Collects 1 to 64 files, with one worker for each in threads of their own, seals what stays open if the settings want it, and
+/// writes the report of their journal.
 pub fn run<O: Sink, R: Threads + Wait + RandomSource + Sync>(
     rt: &R,
     alloc: Global,
     files: &[Input],
     asks: &[Query],
-    limit: u32,
+    settings: &Settings,
     out: &mut O,
 ) -> Result<RunEnd, RunError>
-    ensures run { IfOk result (λ run. IsRunOf files.now asks.now limit run (O.state out.old) (O.state out.new)) }
+    ensures run { IfOk result (λ run. IsRunOf files.now asks.now settings.now run (O.state out.old) (O.state out.new)) }
     ensures one_file { IfOk result
-        (λ run. ReportsOneFile files.now asks.now run.status (O.state out.old) (O.state out.new)) }
+        (λ run. ReportsOneFile files.now asks.now settings.now run.status (O.state out.old) (O.state out.new)) }
     ensures count { (result ≡ Err RunError.FileCount) ↔ AreNoneOrTooMany files.now }
     ensures error { IfErr result
-        (λ error. RunLeaves error files.now asks.now limit (O.state out.old) (O.state out.new)) }
+        (λ error. RunLeaves error files.now asks.now settings.now (O.state out.old) (O.state out.new)) }
 {
-    let collected = run_to_ledger(rt, alloc, files, asks, limit, out)?;
+    let collected = run_to_ledger(rt, alloc, files, asks, settings, out)?;
     Ok(collected.end)
 }
 
@@ -95,24 +99,24 @@ pub fn run_to_ledger<O: Sink, R: Threads + Wait + RandomSource + Sync>(
     alloc: Global,
     files: &[Input],
     asks: &[Query],
-    limit: u32,
+    settings: &Settings,
     out: &mut O,
 ) -> Result<Collected, RunError>
     ensures run { IfOk result
-        (λ collected. IsRunOf files.now asks.now limit collected.end (O.state out.old) (O.state out.new)) }
+        (λ collected. IsRunOf files.now asks.now settings.now collected.end (O.state out.old) (O.state out.new)) }
     ensures one_file { IfOk result
-        (λ collected. ReportsOneFile files.now asks.now collected.end.status (O.state out.old) (O.state out.new)) }
+        (λ collected. ReportsOneFile files.now asks.now settings.now collected.end.status (O.state out.old) (O.state out.new)) }
     ensures count { (result ≡ Err RunError.FileCount) ↔ AreNoneOrTooMany files.now }
     ensures error { IfErr result
-        (λ error. RunLeaves error files.now asks.now limit (O.state out.old) (O.state out.new)) }
+        (λ error. RunLeaves error files.now asks.now settings.now (O.state out.old) (O.state out.new)) }
     ensures account { IfOk result
-        (λ collected. Account files.now asks.now limit collected.end.ends.items collected.end.asked
-        collected.ledger.journal) }
+        (λ collected. SealedAccount files.now asks.now settings.now collected.end.ends.items collected.end.asked
+        collected.end.sealing collected.ledger.journal) }
     ensures report { IfOk result
         (λ collected. collected.end.status < 2
         → TakesBytes (O.state out.old) (O.state out.new) (report_of collected.ledger.journal)) }
 {
-    let outcome = match collect(rt, alloc, files, asks, &FreeGate, limit) {
+    let outcome = match collect(rt, alloc, files, asks, &FreeGate, settings) {
         Ok(outcome) => outcome,
         Err(CollectError::FileCount) => return Err(RunError::FileCount),
         Err(CollectError::Memory) => return Err(RunError::Memory),
@@ -120,12 +124,13 @@ pub fn run_to_ledger<O: Sink, R: Threads + Wait + RandomSource + Sync>(
             return Err(RunError::Unaccounted { entries, calls });
         }
     };
-    let status = exit_status(&outcome.files, outcome.asked);
+    let status = exit_status(&outcome.files, outcome.asked, outcome.sealing);
     let collected = Collected {
         end: RunEnd {
             status,
             ends: outcome.files,
             asked: outcome.asked,
+            sealing: outcome.sealing,
         },
         ledger: outcome.ledger,
     };
@@ -139,10 +144,10 @@ pub fn run_to_ledger<O: Sink, R: Threads + Wait + RandomSource + Sync>(
     }
 }
 
-fn exit_status(ends: &[FileEnd], asked: Asked) -> u8
-    ensures { result ≡ status_of ends.now asked }
+fn exit_status(ends: &[FileEnd], asked: Asked, sealing: Sealing) -> u8
+    ensures { result ≡ status_of ends.now asked sealing }
 {
-    if any_cut(ends) || asked.cause.is_some() {
+    if any_cut(ends) || asked.cause.is_some() || sealing.cause.is_some() {
         2
     } else if any_refused(ends) {
         1

@@ -1,20 +1,31 @@
-use Rattle.std.proofs.Common.{sym, ◌∙◌, arith}
+use Rattle.std.proofs.Common.{◌≡◌, sym, subst, ◌∙◌, arith}
+use Rattle.span_collect.specs.Seals.{SealsAfter}
 use Rattle.span_collect.proofs.Settling.{IsClosed-few, IsClosed-accounts, IsClosed-more}
 use Rattle.span_collect.proofs.collection.collect.Goals as goal
 
 -- the calls are within the limit
 pub count_calls-calls-requires : goal.count_calls-calls-requires
 count_calls-calls-requires g c =
-    rw c.deref.ensures.value (omega (arith, IsClosed-few _ _ _ _ _ _ c.in-Ok.ensures, c.ranges.limit.fits))
+    rw c.deref.ensures.value (omega (arith, IsClosed-few _ _ _ _ _ _ c.in-Ok.ensures.closed, c.collect_unsettled.ensures.small))
 
 -- as many entries as calls
 pub returns-clause-accounts : goal.returns-clause-accounts
 returns-clause-accounts g c =
     let calls = rw c.deref.ensures.value at c.count_calls-calls.ensures in
-    IsClosed-accounts _ _ _ _ _ _ c.in-Ok.ensures (sym c.len-entries.ensures.length ∙ c.if-entries-calls.false ∙ calls)
+    let closed = c.in-Ok.ensures.closed in
+    let limit_is : c.in-Ok.outcome.ledger.limit ≡ c.args.settings.now.limit = closed.closes.limit ∙ closed.limit_is in
+    let after = c.seal_open_spans-outcome.ensures in
+    let lawful = after.lawful c.len-entries.ensures.lawful in
+    record {
+      told = c.in-Ok.outcome.ledger.journal;
+      account = IsClosed-accounts _ _ _ _ _ _ closed (sym c.len-entries.ensures.length ∙ c.if-entries-calls.false ∙ calls);
+      seals = subst (λ n. SealsAfter c.args.settings.now.seal n c.in-Ok.outcome.ledger.journal c.seal_open_spans-outcome.new.ledger.journal c.seal_open_spans-outcome.result) limit_is after.sealed;
+      legal = lawful.legal;
+      within_limit = omega (arith, lawful.within, after.limit, limit_is);
+    }
 
 -- more entries than calls
 pub returns-then-entries-calls-clause-refused : goal.returns-then-entries-calls-clause-refused
 returns-then-entries-calls-clause-refused g c =
     let calls = rw c.deref.ensures.value at c.count_calls-calls.ensures in
-    rw (c.len-entries.ensures.length, calls) (IsClosed-more _ _ _ _ _ _ c.in-Ok.ensures (λ same. c.if-entries-calls.true (c.len-entries.ensures.length ∙ same ∙ sym calls)))
+    rw (c.len-entries.ensures.length, calls) (IsClosed-more _ _ _ _ _ _ c.in-Ok.ensures.closed (λ same. c.if-entries-calls.true (c.len-entries.ensures.length ∙ same ∙ sym calls)))

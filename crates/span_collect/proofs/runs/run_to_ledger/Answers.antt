@@ -11,9 +11,10 @@ returns-clause-error g c =
     record {
       ends = outcome.files.items;
       asked = outcome.asked;
+      sealing = outcome.sealing;
       journal = outcome.ledger.journal;
       account = c.in-Ok.ensures.accounts;
-      status = status_of-lt outcome.files.items outcome.asked (rw (c.exit_status-status.ensures, c.deref.ensures.value) at c.if-status-eq2.false);
+      status = status_of-lt outcome.files.items outcome.asked outcome.sealing (rw (c.exit_status-status.ensures, c.deref.ensures.value) at c.if-status-eq2.false);
       within = fault.0;
       output = fault.1;
     }
@@ -31,10 +32,11 @@ returns-in-Ok-write_report-clause-run g c =
 
 -- nothing was written
 pub returns-then-status-eq2-clause-one_file : goal.returns-then-status-eq2-clause-one_file
-returns-then-status-eq2-clause-one_file g c = λ below file one none. absurd (omega (arith, below, c.if-status-eq2.true))
+returns-then-status-eq2-clause-one_file g c = λ below unsealed file one none. absurd (omega (arith, below, c.if-status-eq2.true))
 
 -- the report of one file was written
 pub returns-in-Ok-write_report-clause-one_file : goal.returns-in-Ok-write_report-clause-one_file
-returns-in-Ok-write_report-clause-one_file g c = λ below file one none.
+returns-in-Ok-write_report-clause-one_file g c = λ below unsealed file one none.
     let outcome = c.in-Ok.outcome in
-    one_report c.args.files.now c.args.asks.now c.args.limit outcome.files.items outcome.asked outcome.ledger.journal _ _ c.in-Ok.ensures.accounts (rw (c.exit_status-status.ensures, c.deref.ensures.value) at below) c.in-Ok-write_report.ensures.ok file one none
+    one_report c.args.files.now c.args.asks.now c.args.settings.now outcome.files.items outcome.asked outcome.sealing outcome.ledger.journal _ _ c.in-Ok.ensures.accounts
+    (rw (c.exit_status-status.ensures, c.deref.ensures.value) at below) c.in-Ok-write_report.ensures.ok unsealed file one none
