@@ -3,6 +3,7 @@ use Rattle.std.specs.Prelude.{◌≡◌, ℕ, ◌⊎◌, Bool, false, List, [], 
 use Rattle.std.specs.List.{list_any, starts_with}
 use Rattle.span_report.specs.Sink.{SinkState, TakesBytes, Fails}
 use Rattle.span_collect.specs.declared.files.Input.{Input}
+use Rattle.span_collect.specs.declared.settings.Settings.{Settings}
 use Rattle.span_collect.specs.declared.runs.RunEnd.{RunEnd}
 use Rattle.span_collect.specs.declared.runs.RunError.{RunError}
 use Rattle.span_collect.specs.Run.{IsRunOf, RunLeaves}
@@ -19,9 +20,13 @@ is_option word = starts_with nat_eq word (codes "-")
 abbrev pub default_limit : ℕ
 default_limit = 16777216
 
--- the files of these names are to be collected, with the default limit
+-- the settings where it doesn't say
+abbrev pub default_settings : Settings
+default_settings = record { limit = default_limit; seal = false }
+
+-- the files of these names are to be collected, with the default settings
 abbrev pub NamesFiles : List (List ℕ) → Request → Type 0
-NamesFiles words (Collect limit files) = (limit ≡ default_limit) × (files.items ≡ words)
+NamesFiles words (Collect settings files) = (settings ≡ default_settings) × (files.items ≡ words)
 NamesFiles words (Show text) = ⊥
 NamesFiles words (Refuse text) = ⊥
 
@@ -34,35 +39,35 @@ abbrev pub Asked : List (List ℕ) → (Request → Type 0) → Type 0
 Asked words Holds = (request : Request) × AsksFor words request × Holds request
 
 -- a run of these inputs, without queries, ended with this status
-pub record EndsWith (inputs : List Input) (limit status : ℕ) (old new : SinkState) : Type 0 where
+pub record EndsWith (inputs : List Input) (settings : Settings) (status : ℕ) (old new : SinkState) : Type 0 where
   pub run : RunEnd
-  pub is_run : IsRunOf inputs [] limit run old new
+  pub is_run : IsRunOf inputs [] settings run old new
   pub ended : run.status ≡ status
 
 -- What a run of these inputs left where the program ended with 2. The run ended with 2, and wrote nothing; or it was refused, and wrote
 -- nothing unless the output failed; or a file was refused, the report of the run is written, and memory for the file's line was refused.
-abbrev pub LeavesPart : List Input → ℕ → SinkState → SinkState → Type 0
-LeavesPart inputs limit old new =
-    EndsWith inputs limit 2 old new ⊎ (((error : RunError) × RunLeaves error inputs [] limit old new) ⊎ EndsWith inputs limit 1 old new)
+abbrev pub LeavesPart : List Input → Settings → SinkState → SinkState → Type 0
+LeavesPart inputs settings old new =
+    EndsWith inputs settings 2 old new ⊎ (((error : RunError) × RunLeaves error inputs [] settings old new) ⊎ EndsWith inputs settings 1 old new)
 
 -- the files of these names were collected, and their report is written
-pub record Collects (source : SourceBytes) (names : List (List ℕ)) (limit status : ℕ) (old new : SinkState) : Type 0 where
+pub record Collects (source : SourceBytes) (names : List (List ℕ)) (settings : Settings) (status : ℕ) (old new : SinkState) : Type 0 where
   pub inputs : List Input
   pub read : AreInputs source names inputs
-  pub ended : EndsWith inputs limit status old new
+  pub ended : EndsWith inputs settings status old new
 
 -- not all files were read, and nothing was written; or a run of them left this
-abbrev pub CollectsPart : SourceBytes → List (List ℕ) → ℕ → SinkState → SinkState → Type 0
-CollectsPart source names limit old new = (new ≡ old) ⊎ ((inputs : List Input) × AreInputs source names inputs × LeavesPart inputs limit old new)
+abbrev pub CollectsPart : SourceBytes → List (List ℕ) → Settings → SinkState → SinkState → Type 0
+CollectsPart source names settings old new = (new ≡ old) ⊎ ((inputs : List Input) × AreInputs source names inputs × LeavesPart inputs settings old new)
 
 -- what a request did that ended with status 0 or 1: its files were collected, or its text was written
 abbrev pub Performs : SourceBytes → Request → ℕ → SinkState → SinkState → Type 0
-Performs source (Collect limit files) status old new = Collects source files.items limit status old new
+Performs source (Collect settings files) status old new = Collects source files.items settings status old new
 Performs source (Show text) status old new = (status ≡ 0) × TakesBytes old new (string_bytes text)
 Performs source (Refuse text) status old new = ⊥
 
 -- what a request did that ended with status 2: it wrote nothing, or first bytes of what it would have written
 abbrev pub GivesUp : SourceBytes → Request → SinkState → SinkState → Type 0
-GivesUp source (Collect limit files) old new = CollectsPart source files.items limit old new
+GivesUp source (Collect settings files) old new = CollectsPart source files.items settings old new
 GivesUp source (Show text) old new = (written : ℕ) × Fails old new (take written (string_bytes text))
 GivesUp source (Refuse text) old new = new ≡ old

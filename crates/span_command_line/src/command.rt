@@ -5,11 +5,15 @@ ghost use Rattle.span_command_line.specs.Request.{AsksFor, is_option};
 
 use clap::error::ErrorKind;
 use clap::{Arg, ArgAction, ArgMatches, Command};
+use span_collect::Settings;
 use span_event::Text;
 use std::alloc::{AllocError, Global};
 
 /// The most entries of the journal, where the command line does not say.
 pub(crate) const DEFAULT_LIMIT: u32 = 16_777_216;
+
+const SEAL_HELP: &str =
+    "Close the spans that are still open at the end, each at the last time its thread has seen; for a trace that was cut off, and not where a missing end is a fault to look for";
 
 const ABOUT: &str =
     "Reports where the time went in trace event files, of Chrome, clang, node and other tools: for each thread how long the spans of each name took, together and on their own.";
@@ -32,7 +36,10 @@ shows the names that took the most time of their own, each with its process and 
 #[derive(Debug, Drop)]
 pub enum Request {
     /// Collect these files, or standard input where there are none.
-    Collect { limit: u32, files: Vec<Text> },
+    Collect {
+        settings: Settings,
+        files: Vec<Text>,
+    },
     /// Print this help, or the version.
     Show(String),
     /// The words are refused, by this text.
@@ -46,8 +53,12 @@ pub fn request_of(alloc: Global, words: &[Text]) -> Result<Request, AllocError>
     if has_options(words) {
         return parsed_request(alloc, words);
     }
-    Ok(Request::Collect {
+    let settings = Settings {
         limit: DEFAULT_LIMIT,
+        seal: false,
+    };
+    Ok(Request::Collect {
+        settings,
         files: copies_of(alloc, words)?,
     })
 }
@@ -100,6 +111,10 @@ fn command_of<'a>(alloc: Global, limit_help: &'a str) -> Result<Command<'a>, All
         .value_parser(clap::value_parser!(u32).range(1..))
         .action(ArgAction::Set)
         .help(limit_help);
+    let seal = Arg::new(alloc, "seal")
+        .long("seal")
+        .action(ArgAction::SetTrue)
+        .help(SEAL_HELP);
     let files = Arg::new(alloc, "files")
         .value_name("FILE")
         .num_args(0..)
@@ -110,6 +125,7 @@ fn command_of<'a>(alloc: Global, limit_help: &'a str) -> Result<Command<'a>, All
         .about(ABOUT)
         .after_help(AFTER)
         .arg(limit)?
+        .arg(seal)?
         .arg(files)
 }
 
@@ -124,12 +140,15 @@ fn with_program<'a>(alloc: Global, words: &'a [Text]) -> Result<Vec<&'a str>, Al
 }
 
 fn collect_request(alloc: Global, matches: &ArgMatches<'_>) -> Result<Request, AllocError> {
-    let limit = matches.get_one::<u32>("limit").unwrap_or(DEFAULT_LIMIT);
+    let settings = Settings {
+        limit: matches.get_one::<u32>("limit").unwrap_or(DEFAULT_LIMIT),
+        seal: matches.get_flag("seal"),
+    };
     let mut files = Vec::new(alloc);
     if let Some(names) = matches.get_strs("files") {
         for name in names {
             files.push(Text::of(alloc, name)?)?;
         }
     }
-    Ok(Request::Collect { limit, files })
+    Ok(Request::Collect { settings, files })
 }

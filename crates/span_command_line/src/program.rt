@@ -5,7 +5,9 @@ ghost use Rattle.span_command_line.specs.Request.{Asked, EndsWith, LeavesPart, C
 use crate::command::{Request, request_of};
 use crate::inputs::{Unread, inputs_of};
 use crate::source::Source;
-use span_collect::{Input, RunEnd, fault_line_of, fault_lines, numbered_text, run_to_ledger};
+use span_collect::{
+    Input, RunEnd, Settings, fault_line_of, fault_lines, numbered_text, run_to_ledger,
+};
 use span_event::{Fault, Text};
 use span_report::{Sink, write_bytes};
 use std::alloc::Global;
@@ -54,8 +56,8 @@ fn perform_request<R: Threads + Wait + RandomSource + Sync, S: Source, O: Sink, 
     ensures failed { result ≡ 2 → GivesUp (S.bytes source.old) request (O.state out.old) (O.state out.new) }
 {
     match request {
-        Request::Collect { limit, files } => {
-            collect_files(rt, alloc, limit, files, source, out, faults)
+        Request::Collect { settings, files } => {
+            collect_files(rt, alloc, &settings, files, source, out, faults)
         }
         Request::Show(text) => {
             let shown = write_bytes(text.as_bytes(), out);
@@ -73,7 +75,7 @@ fn perform_request<R: Threads + Wait + RandomSource + Sync, S: Source, O: Sink, 
 fn collect_files<R: Threads + Wait + RandomSource + Sync, S: Source, O: Sink, F: Write>(
     rt: &R,
     alloc: Global,
-    limit: u32,
+    settings: &Settings,
     names: Vec<Text>,
     source: &mut S,
     out: &mut O,
@@ -81,14 +83,14 @@ fn collect_files<R: Threads + Wait + RandomSource + Sync, S: Source, O: Sink, F:
 ) -> u8
     ensures status { result ≤ 2 }
     ensures done { result < 2
-        → Collects (S.bytes source.old) names.items limit result (O.state out.old) (O.state out.new) }
+        → Collects (S.bytes source.old) names.items settings.now result (O.state out.old) (O.state out.new) }
     ensures failed { result ≡ 2
-        → CollectsPart (S.bytes source.old) names.items limit (O.state out.old) (O.state out.new) }
+        → CollectsPart (S.bytes source.old) names.items settings.now (O.state out.old) (O.state out.new) }
 {
     match inputs_of(alloc, names, source) {
         Ok(inputs) => {
             source.end();
-            let status = collect(rt, alloc, limit, &inputs, out, faults);
+            let status = collect(rt, alloc, settings, &inputs, out, faults);
             drop(inputs);
             status
         }
@@ -104,16 +106,16 @@ fn collect_files<R: Threads + Wait + RandomSource + Sync, S: Source, O: Sink, F:
 fn collect<R: Threads + Wait + RandomSource + Sync, O: Sink, F: Write>(
     rt: &R,
     alloc: Global,
-    limit: u32,
+    settings: &Settings,
     files: &[Input],
     out: &mut O,
     faults: &mut F,
 ) -> u8
     ensures status { result ≤ 2 }
-    ensures done { result < 2 → EndsWith files.now limit result (O.state out.old) (O.state out.new) }
-    ensures failed { result ≡ 2 → LeavesPart files.now limit (O.state out.old) (O.state out.new) }
+    ensures done { result < 2 → EndsWith files.now settings.now result (O.state out.old) (O.state out.new) }
+    ensures failed { result ≡ 2 → LeavesPart files.now settings.now (O.state out.old) (O.state out.new) }
 {
-    match run_to_ledger(rt, alloc, files, &[], limit, out) {
+    match run_to_ledger(rt, alloc, files, &[], settings, out) {
         Ok(collected) => {
             // The program ends next, and then the system frees all at once, where freeing one by one takes long.
             forget(collected.ledger);
@@ -123,8 +125,8 @@ fn collect<R: Threads + Wait + RandomSource + Sync, O: Sink, F: Write>(
     }
 }
 
-// Writes the lines of files that were not read whole, and gives the status of the run; or 2, where memory for the lines is refused.
-// Where every file was read there is no line.
+// Writes the lines of files that were not read whole, and one where a seal was not taken, and gives the status of the run; or 2,
+// where memory for the lines is refused. Where every file was read and all is sealed there is no line.
 fn report_faults<F: Write>(alloc: Global, files: &[Input], end: &RunEnd, faults: &mut F) -> u8
     requires lines { length files.now ≡ length end.now.ends.items }
     requires status { end.now.status ≤ 2 }
@@ -135,7 +137,14 @@ fn report_faults<F: Write>(alloc: Global, files: &[Input], end: &RunEnd, faults:
         return 0;
     }
     match fault_lines(alloc, files, &end.ends) {
-        Ok(lines) => put_faults(faults, &lines, end.status),
+        Ok(lines) => {
+            let status = put_faults(faults, &lines, end.status);
+            drop(lines);
+            match end.sealing.cause {
+                Some(cause) => fail(alloc, cause.code(), faults),
+                None => status,
+            }
+        }
         Err(_) => fail(alloc, Fault::Memory.code(), faults),
     }
 }

@@ -7,7 +7,7 @@ use Rattle.span_command_line.proofs.program.collect.Goals as goal
 pub report_faults-requires-clause-lines : goal.report_faults-requires-clause-lines
 report_faults-requires-clause-lines g c =
     let run = c.in-Ok.ensures.run in
-    sym (AllZip-long _ c.args.files.now c.in-Ok.collected.end.ends.items run.account.each_file_once_in_order)
+    sym (AllZip-long _ c.args.files.now c.in-Ok.collected.end.ends.items run.account.account.each_file_once_in_order)
 
 pub returns-in-Ok-clause-done : goal.returns-in-Ok-clause-done
 returns-in-Ok-clause-done g c = λ below. elim c.report_faults.ensures.status [
@@ -17,7 +17,7 @@ returns-in-Ok-clause-done g c = λ below. elim c.report_faults.ensures.status [
 
 pub returns-in-Ok-clause-failed : goal.returns-in-Ok-clause-failed
 returns-in-Ok-clause-failed g c = λ two.
-    LeavesPart-ended c.in-Ok.collected.end c.args.files.now c.args.limit _ _ c.in-Ok.ensures.run (λ none. absurd (omega (arith, two, c.report_faults.ensures.whole none)))
+    LeavesPart-ended c.in-Ok.collected.end c.args.files.now c.args.settings.now _ _ c.in-Ok.ensures.run (λ none. absurd (omega (arith, two, c.report_faults.ensures.whole none)))
 
 -- the run was refused
 pub returns-in-Err-clause-failed : goal.returns-in-Err-clause-failed
