@@ -3,7 +3,7 @@
 docs/ledger.md (ledger.py), and prints the report of docs/report.md. It is written from these pages alone and shares nothing with
 the program, so that the two can be compared. It knows no limit of the journal, and no workers.
 
-usage: report.py FILE...
+usage: report.py [--seal] FILE...
 """
 import gc
 import sys
@@ -73,6 +73,8 @@ def flow_line(key, flows):
 def report_lines(ledger):
     yield "tracebook 1"
     yield f"events {ledger.accepted} refused {sum(ledger.refused.values())} skipped {ledger.skipped} queries 0"
+    if ledger.seals:
+        yield f"seals {ledger.seals}"
     for number in sorted(ledger.processes):
         yield from process_lines(number, ledger.processes[number])
     for key in sorted(ledger.async_keys):
@@ -105,7 +107,10 @@ def bytes_of(path):
 
 def main():
     gc.disable()  # Nothing here is let go in rings, and to look for them takes long.
-    ledger, faults = collect((path, bytes_of(path)) for path in sys.argv[1:])
+    words = sys.argv[1:]
+    ledger, faults = collect((path, bytes_of(path)) for path in words if path != "--seal")
+    if "--seal" in words:
+        ledger.seal()
     sys.stdout.buffer.write(report_of(ledger))
     for line in faults:
         print(line, file=sys.stderr)

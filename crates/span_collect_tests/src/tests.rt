@@ -1,6 +1,6 @@
 //! Whole collections of files in memory, by threads that race. Reports and fault lines were written by hand from the format.
 use span_collect::{
-    CollectError, FileEnd, FreeGate, Gate, Input, Outcome, RunEnd, RunError, collect,
+    CollectError, FileEnd, FreeGate, Gate, Input, Outcome, RunEnd, RunError, Settings, collect,
     fault_line_of, fault_lines, fault_word, numbered_text, run,
 };
 use span_event::Text;
@@ -19,6 +19,12 @@ mod cut;
 mod gates;
 mod growths;
 mod outputs;
+mod seals;
+
+// A journal of so many entries, and nothing sealed.
+const fn up_to(limit: u32) -> Settings {
+    Settings { limit, seal: false }
+}
 
 const TURNS: u32 = 50_000_000;
 
@@ -148,7 +154,7 @@ fn collect_two<G: Gate>(
     let alloc = rt.alloc();
     let files = files_of(alloc, 1, 2)?;
     let asks = [Query::Counts, Query::Counts];
-    let collected = collect(rt, alloc, &files, &asks, gate, 100);
+    let collected = collect(rt, alloc, &files, &asks, gate, &up_to(100));
     drop(files);
     Ok(collected?)
 }
@@ -229,7 +235,7 @@ fn collect_all(
     count: u32,
 ) -> Result<(), Fail> {
     let files = files_of(rt.alloc(), 0, count)?;
-    let collected = collect(rt, rt.alloc(), &files, &[], &FreeGate, 1000);
+    let collected = collect(rt, rt.alloc(), &files, &[], &FreeGate, &up_to(1000));
     drop(files);
     let outcome = collected?;
     all_are_read(rt, &outcome, count);
@@ -250,7 +256,7 @@ fn refusal_of(
     rt: &(impl Threads + Wait + RandomSource + Sync + AllocGlobal),
     files: &[Input],
 ) -> Option<u16> {
-    match collect(rt, rt.alloc(), files, &[], &FreeGate, 1000) {
+    match collect(rt, rt.alloc(), files, &[], &FreeGate, &up_to(1000)) {
         Ok(outcome) => {
             drop(outcome);
             None
@@ -292,7 +298,14 @@ fn runs(
 ) -> Result<(), Fail> {
     let alloc = rt.alloc();
     let mut out = Vec::new(alloc);
-    let end = run(rt, alloc, files, &[], 100, &mut Writer::new(&mut out))?;
+    let end = run(
+        rt,
+        alloc,
+        files,
+        &[],
+        &up_to(100),
+        &mut Writer::new(&mut out),
+    )?;
     assert!(rt; out.as_slice() == wanted.as_bytes());
     drop(out);
     let told = ends_with(rt, files, &end, lines);
@@ -304,7 +317,7 @@ fn stops_at_the_limit_of(
     rt: &(impl Threads + Wait + RandomSource + Sync + Abort + AllocGlobal),
     files: &[Input],
 ) -> Result<(), Fail> {
-    let outcome = collect(rt, rt.alloc(), files, &[], &FreeGate, 3)?;
+    let outcome = collect(rt, rt.alloc(), files, &[], &FreeGate, &up_to(3))?;
     let end = FileEnd::Stopped {
         caller: 1,
         done: 3,

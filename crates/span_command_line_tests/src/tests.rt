@@ -1,6 +1,7 @@
 //! What a command line asks for, and what comes of it over files in memory.
 ghost use Rattle.std.specs.Prelude.{◌≤◌, vec_len, IfOk, None};
 
+use span_collect::Settings;
 use span_command_line::{Request, Source, SourceFault, perform, read_up_to, request_of};
 use span_event::Text;
 use span_report::Writer;
@@ -167,11 +168,12 @@ fn orders(
     rt: &(impl Abort + AllocGlobal),
     words: &[Text],
     limit: u32,
+    seal: bool,
     count: usize,
 ) -> Result<(), Fail> {
     match request_of(rt.alloc(), words)? {
-        Request::Collect { limit: own, files } => {
-            assert_eq!(rt; own, limit);
+        Request::Collect { settings, files } => {
+            assert_eq!(rt; settings, Settings { limit, seal });
             assert_eq!(rt; files.len(), count);
             Ok(())
         }
@@ -180,16 +182,18 @@ fn orders(
 }
 
 #[test]
-fn knows_the_limit_and_the_files(rt: HostRuntime) -> Result<(), Fail> {
-    for (words, limit, count) in [
-        ([].as_slice(), 16_777_216u32, 0usize),
-        (["-"].as_slice(), 16_777_216, 1),
-        (["x", "--limit", "1", "y"].as_slice(), 1, 2),
-        (["--limit=4294967295"].as_slice(), 4_294_967_295, 0),
-        (["--", "--limit"].as_slice(), 16_777_216, 1),
+fn knows_the_settings_and_the_files(rt: HostRuntime) -> Result<(), Fail> {
+    for (words, limit, seal, count) in [
+        ([].as_slice(), 16_777_216u32, false, 0usize),
+        (["-"].as_slice(), 16_777_216, false, 1),
+        (["x", "--limit", "1", "y"].as_slice(), 1, false, 2),
+        (["--limit=4294967295"].as_slice(), 4_294_967_295, false, 0),
+        (["--", "--limit"].as_slice(), 16_777_216, false, 1),
+        (["--seal"].as_slice(), 16_777_216, true, 0),
+        (["--limit", "2", "x", "--seal"].as_slice(), 2, true, 1),
     ] {
         let texts = texts_of(rt.alloc(), words)?;
-        orders(&rt, &texts, limit, count)?;
+        orders(&rt, &texts, limit, seal, count)?;
     }
     Ok(())
 }

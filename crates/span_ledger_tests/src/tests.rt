@@ -4,6 +4,7 @@ ghost use Rattle.span_event.specs.Item.{IsGoodItem};
 mod examples;
 mod growths;
 mod queries;
+mod seals;
 
 use examples::{EXAMPLES, Example};
 use span_ledger::{Answer, Cause, Item, Ledger, Op, ProcessPart, ThreadPart};

@@ -124,6 +124,7 @@ fn put_back(line: &mut String, op: &Op) -> Result<(), Fail> {
         Op::One(Item::Good(event)) => write!(line, "event at {}", event.ts)?,
         Op::One(item) => write!(line, "{item:?}")?,
         Op::Ask(query) => write!(line, "{query:?}")?,
+        Op::Seal { .. } => return Err(Fail::from("a seal came back")),
     }
     Ok(())
 }
@@ -172,7 +173,7 @@ fn one_try_while_another_has_the_turn(
     let asked = share.try_ask(second, Query::Counts);
     assert_eq!(rt;
         line_of(alloc, asked)?.as_str(),
-        "1 Reply(Counts(CountRow { accepted: 1, refused: 0, skipped: 0, queries: 0 }))"
+        "1 Reply(Counts(CountRow { accepted: 1, refused: 0, skipped: 0, queries: 0, seals: 0 }))"
     );
     assert_eq!(rt; share.front(first), 2);
     Ok(())

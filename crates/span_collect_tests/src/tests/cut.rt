@@ -1,5 +1,5 @@
 //! What a collection tells where it was cut: by the limit, or where a worker wasn't started.
-use super::{file_of, files_of};
+use super::{file_of, files_of, up_to};
 use span_collect::{FileEnd, FreeGate, Input, Outcome, collect, fault_lines, run};
 use span_ledger::{Cause, Query};
 use span_report::Writer;
@@ -23,11 +23,18 @@ fn asks_up_to_the_limit(
 ) -> Result<(), Fail> {
     let alloc = rt.alloc();
     let asks = [Query::Counts, Query::Counts];
-    let outcome = collect(rt, alloc, files, &asks, &FreeGate, 1)?;
+    let outcome = collect(rt, alloc, files, &asks, &FreeGate, &up_to(1))?;
     one_is_asked(rt, &outcome);
     drop(outcome);
     let mut out = Vec::new(alloc);
-    let end = run(rt, alloc, files, &asks, 1, &mut Writer::new(&mut out))?;
+    let end = run(
+        rt,
+        alloc,
+        files,
+        &asks,
+        &up_to(1),
+        &mut Writer::new(&mut out),
+    )?;
     assert_eq!(rt; end.status, 2);
     drop(end);
     assert!(rt; out.is_empty());

@@ -1,5 +1,5 @@
 //! When a collection calls its gate: each caller in its own order, before its steps.
-use super::{file_of, span_of, wait_until};
+use super::{file_of, span_of, up_to, wait_until};
 use span_collect::{Gate, Input, Outcome, collect};
 use span_ledger::Query;
 use std::alloc::{AllocError, AllocGlobal, Global};
@@ -69,7 +69,7 @@ fn collect_behind<G: Gate>(
     gate: &G,
 ) -> Result<Outcome, Fail> {
     let asks = [Query::Counts, Query::Counts];
-    Ok(collect(rt, rt.alloc(), files, &asks, gate, 100)?)
+    Ok(collect(rt, rt.alloc(), files, &asks, gate, &up_to(100))?)
 }
 
 #[test]

@@ -1,6 +1,6 @@
 //! What a collection tells where a growth is refused. The test runs with each allocation refused in turn, by
 //! tests/refused_allocations.
-use super::{TWO_REPORT, files_of};
+use super::{TWO_REPORT, files_of, up_to};
 use span_collect::{
     CollectError, FileEnd, FreeGate, Input, Outcome, RunEnd, RunError, collect, run,
 };
@@ -52,7 +52,7 @@ fn collect_at_last(
     files: &[Input],
 ) -> Result<(), Fail> {
     let asks = [Query::Counts, Query::Counts];
-    match collect(rt, rt.alloc(), files, &asks, &FreeGate, 100) {
+    match collect(rt, rt.alloc(), files, &asks, &FreeGate, &up_to(100)) {
         Ok(outcome) => {
             is_accounted(rt, &outcome);
             drop(outcome);
@@ -81,7 +81,7 @@ fn run_at_last(
         rt.alloc(),
         files,
         &asks,
-        100,
+        &up_to(100),
         &mut Writer::new(&mut *out),
     );
     match ended {

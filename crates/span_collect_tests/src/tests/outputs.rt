@@ -1,5 +1,5 @@
 //! What a run leaves of its report where the output fails.
-use super::{ONE_REPORT, file_of, span_of};
+use super::{ONE_REPORT, file_of, span_of, up_to};
 use span_collect::{Input, RunError, run};
 use span_report::Writer;
 use std::alloc::{AllocGlobal, Global};
@@ -66,7 +66,14 @@ fn written_to(
     files: &[Input],
     output: &mut Output,
 ) -> Option<u64> {
-    let ended = run(rt, rt.alloc(), files, &[], 100, &mut Writer::new(output));
+    let ended = run(
+        rt,
+        rt.alloc(),
+        files,
+        &[],
+        &up_to(100),
+        &mut Writer::new(output),
+    );
     match ended {
         Err(RunError::Output { written }) => Some(written),
         Err(error) => {

@@ -22,7 +22,7 @@ Closed { start: 0, length: 10, args: Args { pairs: [] } }
 ThreadRow { pid: 1, tid: 1, name: None, unclosed: 0, busy: 10 }
 SpanRow { pid: 1, tid: 1, name: "a", count: 1, total: 10, self_time: 7 }
 SpanRow { pid: 1, tid: 1, name: "b", count: 1, total: 3, self_time: 3 }
-CountRow { accepted: 4, refused: 0, skipped: 0, queries: 0 }
+CountRow { accepted: 4, refused: 0, skipped: 0, queries: 0, seals: 0 }
 "#,
     },
     Example {
@@ -33,7 +33,7 @@ CountRow { accepted: 4, refused: 0, skipped: 0, queries: 0 }
 ThreadRow { pid: 0, tid: 0, name: None, unclosed: 0, busy: 10 }
 SpanRow { pid: 0, tid: 0, name: "c", count: 1, total: 3, self_time: 3 }
 SpanRow { pid: 0, tid: 0, name: "p", count: 1, total: 10, self_time: 7 }
-CountRow { accepted: 2, refused: 0, skipped: 0, queries: 0 }
+CountRow { accepted: 2, refused: 0, skipped: 0, queries: 0, seals: 0 }
 "#,
     },
     Example {
@@ -44,7 +44,7 @@ CountRow { accepted: 2, refused: 0, skipped: 0, queries: 0 }
 ThreadRow { pid: 0, tid: 0, name: None, unclosed: 0, busy: 15 }
 SpanRow { pid: 0, tid: 0, name: "p", count: 1, total: 10, self_time: 5 }
 SpanRow { pid: 0, tid: 0, name: "q", count: 1, total: 10, self_time: 10 }
-CountRow { accepted: 2, refused: 0, skipped: 0, queries: 0 }
+CountRow { accepted: 2, refused: 0, skipped: 0, queries: 0, seals: 0 }
 "#,
     },
     Example {
@@ -56,7 +56,7 @@ ThreadRow { pid: 0, tid: 0, name: None, unclosed: 0, busy: 4 }
 SpanRow { pid: 0, tid: 0, name: "a", count: 1, total: 4, self_time: 0 }
 SpanRow { pid: 0, tid: 0, name: "b", count: 1, total: 4, self_time: 4 }
 SpanRow { pid: 0, tid: 0, name: "z", count: 1, total: 0, self_time: 0 }
-CountRow { accepted: 3, refused: 0, skipped: 0, queries: 0 }
+CountRow { accepted: 3, refused: 0, skipped: 0, queries: 0, seals: 0 }
 "#,
     },
     Example {
@@ -66,7 +66,7 @@ CountRow { accepted: 3, refused: 0, skipped: 0, queries: 0 }
         rows: r#"ProcessRow { pid: 0, name: None }
 ThreadRow { pid: 0, tid: 0, name: None, unclosed: 0, busy: 9007199254740991 }
 SpanRow { pid: 0, tid: 0, name: "m", count: 2, total: 18014398509481982, self_time: 9007199254740991 }
-CountRow { accepted: 2, refused: 0, skipped: 0, queries: 0 }
+CountRow { accepted: 2, refused: 0, skipped: 0, queries: 0, seals: 0 }
 "#,
     },
     Example {
@@ -78,7 +78,7 @@ ThreadRow { pid: 0, tid: 0, name: None, unclosed: 0, busy: 30 }
 SpanRow { pid: 0, tid: 0, name: "a", count: 1, total: 10, self_time: 5 }
 SpanRow { pid: 0, tid: 0, name: "b", count: 1, total: 10, self_time: 10 }
 SpanRow { pid: 0, tid: 0, name: "c", count: 1, total: 20, self_time: 15 }
-CountRow { accepted: 3, refused: 0, skipped: 0, queries: 0 }
+CountRow { accepted: 3, refused: 0, skipped: 0, queries: 0, seals: 0 }
 "#,
     },
     Example {
@@ -87,7 +87,7 @@ CountRow { accepted: 3, refused: 0, skipped: 0, queries: 0 }
         answers: "Refused(21)\nOpened { depth: 1 }\nRefused(11)\nSkipped\nRefused(15)\n",
         rows: r#"ProcessRow { pid: 0, name: None }
 ThreadRow { pid: 0, tid: 0, name: None, unclosed: 1, busy: 0 }
-CountRow { accepted: 1, refused: 3, skipped: 1, queries: 0 }
+CountRow { accepted: 1, refused: 3, skipped: 1, queries: 0, seals: 0 }
 "#,
     },
     Example {
@@ -102,7 +102,7 @@ Refused(22)
         rows: r#"ProcessRow { pid: 0, name: None }
 ThreadRow { pid: 0, tid: 0, name: None, unclosed: 0, busy: 0 }
 SpanRow { pid: 0, tid: 0, name: "a", count: 1, total: 0, self_time: 0 }
-CountRow { accepted: 2, refused: 3, skipped: 0, queries: 0 }
+CountRow { accepted: 2, refused: 3, skipped: 0, queries: 0, seals: 0 }
 "#,
     },
     Example {
@@ -114,7 +114,7 @@ Closed { start: 0, length: 1, args: Args { pairs: [("x", Whole(1)), ("y", Whole(
         rows: r#"ProcessRow { pid: 0, name: None }
 ThreadRow { pid: 0, tid: 0, name: None, unclosed: 0, busy: 1 }
 SpanRow { pid: 0, tid: 0, name: "a", count: 1, total: 1, self_time: 1 }
-CountRow { accepted: 2, refused: 0, skipped: 0, queries: 0 }
+CountRow { accepted: 2, refused: 0, skipped: 0, queries: 0, seals: 0 }
 "#,
     },
     Example {
@@ -124,7 +124,7 @@ CountRow { accepted: 2, refused: 0, skipped: 0, queries: 0 }
         answers: "AsyncOpened\nRefused(23)\nAsyncClosed { length: 4 }\n",
         rows: r#"ProcessRow { pid: 0, name: None }
 AsyncRow { key: AsyncKey { cat: "net", scope: "A", id: IdKey { home: None, id: "5" }, name: "" }, totals: AsyncTotals { closed: 1, total: 4, unclosed: 0, points: 0 } }
-CountRow { accepted: 2, refused: 1, skipped: 0, queries: 0 }
+CountRow { accepted: 2, refused: 1, skipped: 0, queries: 0, seals: 0 }
 "#,
     },
     Example {
@@ -134,7 +134,7 @@ CountRow { accepted: 2, refused: 1, skipped: 0, queries: 0 }
         answers: "AsyncOpened\nRefused(23)\nRefused(24)\nAsyncClosed { length: 2 }\n",
         rows: r#"ProcessRow { pid: 1, name: None }
 AsyncRow { key: AsyncKey { cat: "", scope: "", id: IdKey { home: Some(1), id: "1" }, name: "" }, totals: AsyncTotals { closed: 1, total: 2, unclosed: 0, points: 0 } }
-CountRow { accepted: 2, refused: 2, skipped: 0, queries: 0 }
+CountRow { accepted: 2, refused: 2, skipped: 0, queries: 0, seals: 0 }
 "#,
     },
     Example {
@@ -151,7 +151,7 @@ Refused(22)
 "#,
         rows: r#"ProcessRow { pid: 0, name: None }
 FlowRow { key: FlowKey { cat: "", name: "", id: IdKey { home: None, id: "9" } }, totals: FlowTotals { ended: 1, total: 4, unclosed: 1 } }
-CountRow { accepted: 4, refused: 3, skipped: 0, queries: 0 }
+CountRow { accepted: 4, refused: 3, skipped: 0, queries: 0, seals: 0 }
 "#,
     },
     Example {
@@ -161,7 +161,7 @@ CountRow { accepted: 4, refused: 3, skipped: 0, queries: 0 }
         answers: "Counted\nCounted\nRefused(19)\nCounted\n",
         rows: r#"ProcessRow { pid: 1, name: None }
 SeriesRow { key: SeriesKey { pid: 1, name: "m", id: None, series: "k" }, totals: SeriesTotals { samples: 3, least: 1, greatest: 9, last: 1 } }
-CountRow { accepted: 3, refused: 1, skipped: 0, queries: 0 }
+CountRow { accepted: 3, refused: 1, skipped: 0, queries: 0, seals: 0 }
 "#,
     },
     Example {
@@ -177,7 +177,7 @@ CountRow { accepted: 3, refused: 1, skipped: 0, queries: 0 }
         rows: r#"ProcessRow { pid: 1, name: Some("Renderer") }
 ThreadRow { pid: 1, tid: 2, name: Some("Main"), unclosed: 0, busy: 0 }
 InstantRow { pid: 1, tid: 2, name: "gc", reach: Process, count: 1 }
-CountRow { accepted: 7, refused: 0, skipped: 0, queries: 0 }
+CountRow { accepted: 7, refused: 0, skipped: 0, queries: 0, seals: 0 }
 "#,
     },
 ];

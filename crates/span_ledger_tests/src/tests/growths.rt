@@ -5,6 +5,7 @@ ghost use Rattle.span_ledger.specs.Legal.{IsGoodOp};
 
 use super::examples::{EXAMPLES, Example};
 use super::rows;
+use super::seals::{CUT, SEALED_ROWS};
 use span_ledger::{Back, Cause, Item, Items, Ledger, Op};
 use span_read::read_items;
 use std::alloc::{AllocError, Global};
@@ -110,15 +111,24 @@ fn items_at_last(alloc: Global, text: &str) -> Result<Items, Fail>
     }
 }
 
+fn tell_all(
+    rt: &(impl Abort + AllocGlobal),
+    ledger: &mut Ledger,
+    events: &str,
+) -> Result<(), Fail> {
+    let items = items_at_last(rt.alloc(), events)?;
+    for item in items.into_list() {
+        tell_at_last(rt, ledger, item)?;
+    }
+    Ok(())
+}
+
 fn tell_example(
     rt: &(impl Abort + AllocGlobal),
     ledger: &mut Ledger,
     example: &Example,
 ) -> Result<(), Fail> {
-    let items = items_at_last(rt.alloc(), example.events)?;
-    for item in items.into_list() {
-        tell_at_last(rt, ledger, item)?;
-    }
+    tell_all(rt, ledger, example.events)?;
     let last = seen_at_last(rt.alloc(), ledger)?;
     assert_eq!(rt; last.as_str(), example.rows, "{}", example.name);
     let answers = recorded_at_last(rt.alloc(), ledger)?;
@@ -129,6 +139,38 @@ fn tell_example(
 fn tell_to_a_ledger(rt: &(impl Abort + AllocGlobal), example: &Example) -> Result<(), Fail> {
     let mut ledger = Ledger::new(rt.alloc(), 100);
     let told = tell_example(rt, &mut ledger, example);
+    drop(ledger);
+    told
+}
+
+// Seals the thread, again where memory was refused: then the readers must tell what they told before.
+fn seal_at_last(rt: &(impl Abort + AllocGlobal), ledger: &mut Ledger) -> Result<(), Fail> {
+    let before = seen_at_last(rt.alloc(), ledger)?;
+    let seal = Op::Seal {
+        pid: 1,
+        tid: 1,
+        ts: 14,
+    };
+    let Err(back) = tell(ledger, seal) else {
+        return Ok(());
+    };
+    assert_eq!(rt; back.cause, Cause::Memory);
+    tell_again(rt, ledger, back, before.as_str())
+}
+
+fn tell_and_seal(rt: &(impl Abort + AllocGlobal), ledger: &mut Ledger) -> Result<(), Fail> {
+    tell_all(rt, ledger, CUT)?;
+    seal_at_last(rt, ledger)?;
+    let last = seen_at_last(rt.alloc(), ledger)?;
+    assert_eq!(rt; last.as_str(), SEALED_ROWS);
+    Ok(())
+}
+
+// Runs with each allocation refused in turn, by tests/refused_allocations.
+#[test]
+fn a_refused_seal_changes_nothing(rt: HostRuntime) -> Result<(), Fail> {
+    let mut ledger = Ledger::new(rt.alloc(), 100);
+    let told = tell_and_seal(&rt, &mut ledger);
     drop(ledger);
     told
 }

@@ -102,7 +102,7 @@ fn replies(alloc: Global) -> Result<Vec<(Query, &'static str)>, Fail> {
         ),
         (
             Query::Counts,
-            "Reply(Counts(CountRow { accepted: 15, refused: 0, skipped: 0, queries: 3 }))"
+            "Reply(Counts(CountRow { accepted: 15, refused: 0, skipped: 0, queries: 3, seals: 0 }))"
         ),
         (
             asynchronous(alloc, "A")?,

@@ -1,4 +1,5 @@
 ghost use Rattle.span_event.specs.Event.{IsTime};
+ghost use Rattle.span_track.specs.Thread.{IsSealTime};
 
 mod arguments;
 mod placed;
@@ -72,6 +73,15 @@ fn end(rt: &impl Abort, placed: &mut Placed, ts: i64) -> Result<(u32, i64, i64, 
     expect_plain_times(rt, placed.track());
     let span = ended?;
     Ok((span.name, span.start, span.until, span.at))
+}
+
+// How many spans the seal closes.
+fn seal(rt: &impl Abort, placed: &mut Placed, ts: i64) -> Result<u32, TrackFault>
+    requires { IsSealTime ts }
+{
+    let sealed = placed.seal(rt, ts);
+    expect_plain_times(rt, placed.track());
+    sealed
 }
 
 // The number, the lengths and the self times of a name.
@@ -236,6 +246,55 @@ fn whole_spans_in_any_order(rt: HostRuntime) -> Result<(), Fail> {
         on_track(rt.alloc(), |placed| expect_whole(&rt, placed, whole))?;
     }
     Ok(())
+}
+
+// The spans in the order in which they closed: the name, the start, the end and the place of each.
+fn expect_closed(rt: &impl Abort, track: &ThreadTrack, spans: &[(u32, i64, i64, u32)]) {
+    assert_eq!(rt; track.closed_count() as usize, spans.len());
+    for (i, expected) in spans.iter().enumerate() {
+        let Some(span) = track.closed(i as u32) else {
+            panic!(rt; "no span {i}");
+        };
+        assert_eq!(rt;
+            (span.name, span.start, span.until, span.at),
+            *expected,
+            "span {i}"
+        );
+    }
+}
+
+fn a_seal_closes_all_on(rt: &impl Abort, placed: &mut Placed) -> Result<(), Fail> {
+    assert_eq!(rt; seal(rt, placed, 0), Err(TrackFault::Refused(21)));
+    assert_eq!(rt; placed.track().latest(), None);
+    assert_eq!(rt; begin(rt, placed, 0, 0)?, 1);
+    assert_eq!(rt; begin(rt, placed, 1, 2)?, 2);
+    placed.complete(rt, 2, 4, 10)?;
+    assert_eq!(rt; placed.track().latest(), Some(14));
+    assert_eq!(rt; seal(rt, placed, 14)?, 2);
+    let track = placed.track();
+    assert_eq!(rt; track.depth(), 0);
+    assert_eq!(rt; track.last_time(), Some(14));
+    expect_closed(rt, track, &[(2, 4, 14, 3), (1, 2, 14, 2), (0, 0, 14, 1)]);
+    expect_name(rt, track, 0, 1, 14, 2);
+    expect_name(rt, track, 1, 1, 12, 2);
+    expect_name(rt, track, 2, 1, 10, 10);
+    expect_busy(rt, track, 14);
+    Ok(())
+}
+
+fn times_after_a_seal_on(rt: &impl Abort, placed: &mut Placed) -> Result<(), Fail> {
+    a_seal_closes_all_on(rt, placed)?;
+    assert_eq!(rt; end(rt, placed, 14), Err(TrackFault::Refused(21)));
+    assert_eq!(rt; begin(rt, placed, 3, 13), Err(TrackFault::Refused(22)));
+    assert_eq!(rt; begin(rt, placed, 3, 14)?, 1);
+    assert_eq!(rt; seal(rt, placed, 13), Err(TrackFault::Refused(22)));
+    assert_eq!(rt; seal(rt, placed, 14)?, 1);
+    Ok(())
+}
+
+#[test]
+fn a_seal_closes_all(rt: HostRuntime) -> Result<(), Fail> {
+    on_track(rt.alloc(), |placed| times_after_a_seal_on(&rt, placed))
 }
 
 fn an_end_without_a_begin_on(rt: &impl Abort, placed: &mut Placed) -> Result<(), Fail> {

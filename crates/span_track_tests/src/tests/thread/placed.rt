@@ -1,7 +1,7 @@
 //! A track that is told events at places that rise by one, as those of a journal do.
 ghost use Rattle.std.specs.Prelude.{ℕ, ◌≡◌, ◌<◌, ◌≤◌};
 ghost use Rattle.span_event.specs.Event.{IsTime, greatest_time};
-ghost use Rattle.span_track.specs.Thread.{HasRoom, IsNext, ThreadSpans};
+ghost use Rattle.span_track.specs.Thread.{HasRoom, IsNext, IsSealTime, ThreadSpans};
 ghost use Rattle.span_track_tests.specs.Placed.{IsPlaced};
 
 use span_read::Args;
@@ -67,6 +67,14 @@ impl Placed {
         expect_few(rt, &self.track, self.next);
         self.next += 1;
         self.track.end_span(ts, &self.none)
+    }
+
+    pub(super) fn seal(&mut self, rt: &impl Abort, ts: i64) -> Result<u32, TrackFault>
+        requires { IsSealTime ts }
+    {
+        expect_few(rt, &self.track, self.next);
+        self.next += 1;
+        self.track.seal_all(ts)
     }
 
     pub(super) fn complete(

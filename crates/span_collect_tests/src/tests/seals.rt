@@ -1,0 +1,102 @@
+//! What a collection and a run tell where the open spans are sealed.
+use super::file_of;
+use span_collect::{FreeGate, Input, Outcome, RunEnd, Settings, collect, run};
+use span_ledger::{Cause, Query};
+use span_report::Writer;
+use std::alloc::AllocGlobal;
+use std::process::Abort;
+use std::random::RandomSource;
+use std::sync::Wait;
+use std::test::Fail;
+use std::thread::Threads;
+
+const CUT: &str =
+    r#"[{"ph":"B","name":"a","ts":0,"pid":1,"tid":1},{"ph":"X","name":"x","ts":4,"dur":10,"pid":1,"tid":1}]"#;
+
+const CUT_REPORT: &str = "tracebook 1
+events 2 refused 0 skipped 0 queries 0
+seals 1
+process 1 -
+thread 1 1 - open 0 busy 14
+span        1               14                4 \"a\"
+span        1               10               10 \"x\"
+";
+
+fn sealed_up_to(limit: u32) -> Settings {
+    Settings { limit, seal: true }
+}
+
+fn cut_file(rt: &impl AllocGlobal) -> Result<Vec<Input>, Fail> {
+    let alloc = rt.alloc();
+    Ok(vec![in alloc; file_of(alloc, "cut.json", CUT)?]?)
+}
+
+fn one_is_sealed(rt: &impl Abort, outcome: &Outcome) {
+    assert_eq!(rt; outcome.sealing.done, 1);
+    assert!(rt; outcome.sealing.cause.is_none());
+    assert_eq!(rt; outcome.asked.done, 1);
+    assert_eq!(rt; outcome.ledger.len(), 4);
+    assert_eq!(rt; outcome.ledger.counts().seals, 1);
+    assert_eq!(rt; outcome.ledger.latest(1, 1), Some(14));
+}
+
+#[test]
+fn the_open_spans_are_sealed_behind_all_that_was_told(rt: HostRuntime) -> Result<(), Fail> {
+    let files = cut_file(&rt)?;
+    let asks = [Query::Counts];
+    let outcome = collect(
+        &rt,
+        rt.alloc(),
+        &files,
+        &asks,
+        &FreeGate,
+        &sealed_up_to(100),
+    )?;
+    one_is_sealed(&rt, &outcome);
+    drop(outcome);
+    drop(files);
+    Ok(())
+}
+
+fn run_sealed(
+    rt: &(impl Threads + Wait + RandomSource + Sync + AllocGlobal),
+    files: &[Input],
+    limit: u32,
+    out: &mut Vec<u8>,
+) -> Result<RunEnd, Fail> {
+    let settings = sealed_up_to(limit);
+    Ok(run(
+        rt,
+        rt.alloc(),
+        files,
+        &[],
+        &settings,
+        &mut Writer::new(&mut *out),
+    )?)
+}
+
+#[test]
+fn the_report_accounts_for_the_whole_time(rt: HostRuntime) -> Result<(), Fail> {
+    let files = cut_file(&rt)?;
+    let mut out = Vec::new(rt.alloc());
+    let end = run_sealed(&rt, &files, 3, &mut out)?;
+    assert_eq!(rt; end.status, 0);
+    assert_eq!(rt; out.as_slice(), CUT_REPORT.as_bytes());
+    drop(end);
+    drop(files);
+    Ok(())
+}
+
+#[test]
+fn a_seal_may_meet_the_limit(rt: HostRuntime) -> Result<(), Fail> {
+    let files = cut_file(&rt)?;
+    let mut out = Vec::new(rt.alloc());
+    let end = run_sealed(&rt, &files, 2, &mut out)?;
+    assert_eq!(rt; end.status, 2);
+    assert_eq!(rt; end.sealing.done, 0);
+    assert!(rt; end.sealing.cause == Some(Cause::Full));
+    assert!(rt; out.is_empty());
+    drop(end);
+    drop(files);
+    Ok(())
+}
