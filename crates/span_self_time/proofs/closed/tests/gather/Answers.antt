@@ -18,7 +18,7 @@ returns g c =
     let apart : All (λ x. x.at ≢ span.at) more = All-map (λ (x : Span ℕ). x.at ≢ span.at) span_of c.args.gathered.now.items (rw c.deref.ensures.value at differs) in
     let after : map span_of c.push.new.self.items ≡ more ++ span ∷ [] = ap (map span_of) c.in_ok-push.ensures.items ∙ map_push span_of c.args.gathered.now.items c.args.span in
     let few : length spans + length (more ++ span ∷ []) < 2 ^ 32 =
-        omega (arith, length-append more (span ∷ []), length-map c.args.gathered.now.items span_of, c.args.gathered.now.ok.0, c.spans.inside.list.ok.0, length-map c.spans.inside.list.items span_of, ap length c.spans.view_is) in
+    omega (arith, length-append more (span ∷ []), length-map c.args.gathered.now.items span_of, c.args.gathered.now.ok.0, c.spans.inside.list.ok.0, length-map c.spans.inside.list.items span_of, ap length c.spans.view_is) in
     rw after (record {
       are = AreSpans-append more span c.requires.are apart lasts;
       in_time = All-push IsInTime more span c.requires.in_time in_time;
