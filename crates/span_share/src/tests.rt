@@ -166,7 +166,12 @@ fn one_try_while_another_has_the_turn(
     assert_eq!(rt; back.cause.code(), 33);
     let item = match back.op {
         Op::One(item) => item,
-        _ => return Err(Fail::from("another operation came back")),
+        Op::Ask(_query) => return Err(Fail::from("another operation came back")),
+        Op::Seal {
+            pid: _,
+            tid: _,
+            ts: _,
+        } => return Err(Fail::from("a seal came back")),
     };
     let told = share.try_tell(second, item);
     assert_eq!(rt; line_of(alloc, told)?.as_str(), "0 Opened { depth: 1 }");
