@@ -1,7 +1,7 @@
 -- The faults, each with its number and its word.
 use Rattle.std.specs.Prelude.{ℕ, List, [], ◌∷◌, Option, ◌==◌, find, codes}
 use Rattle.span_event.specs.declared.fault.Fault.{Fault}
-use Rattle.span_event.specs.declared.fault.Fault.TheVariants.{NotJson, NotTrace, TooLarge, TooMany, NotObject, NoPhase, NoTime, NotWhole, NoDuration, BadField, NoId, BadReach, BadSeries, NoOpenSpan, TimeGoesBack, NoOpenAsync, EndBeforeBegin, FlowOpen, NoFlow, Memory, Full, Busy, CallersFull, FileCount, NotStarted, Unaccounted, Output, NotOpened}
+use Rattle.span_event.specs.declared.fault.Fault.TheVariants.{NotJson, NotTrace, TooLarge, TooMany, NotObject, NoPhase, NoTime, NotWhole, NoDuration, BadField, NoId, BadReach, BadSeries, NoOpenSpan, TimeGoesBack, NoOpenAsync, EndBeforeBegin, FlowOpen, NoFlow, NameDiffers, Memory, Full, Busy, CallersFull, FileCount, NotStarted, Unaccounted, Output, NotOpened}
 
 abbrev pub number_of : Fault → ℕ
 number_of NotJson = 1
@@ -23,6 +23,7 @@ number_of NoOpenAsync = 23
 number_of EndBeforeBegin = 24
 number_of FlowOpen = 25
 number_of NoFlow = 26
+number_of NameDiffers = 27
 number_of Memory = 31
 number_of Full = 32
 number_of Busy = 33
@@ -53,6 +54,7 @@ word_of NoOpenAsync = codes "NoOpenAsync"
 word_of EndBeforeBegin = codes "EndBeforeBegin"
 word_of FlowOpen = codes "FlowOpen"
 word_of NoFlow = codes "NoFlow"
+word_of NameDiffers = codes "NameDiffers"
 word_of Memory = codes "Memory"
 word_of Full = codes "Full"
 word_of Busy = codes "Busy"
@@ -67,8 +69,8 @@ abbrev pub faults : List Fault
 faults =
     NotJson ∷ NotTrace ∷ TooLarge ∷ TooMany ∷ NotObject ∷ NoPhase ∷ NoTime ∷ NotWhole ∷
     NoDuration ∷ BadField ∷ NoId ∷ BadReach ∷ BadSeries ∷ NoOpenSpan ∷ TimeGoesBack ∷
-    NoOpenAsync ∷ EndBeforeBegin ∷ FlowOpen ∷ NoFlow ∷ Memory ∷ Full ∷ Busy ∷ CallersFull ∷
-    FileCount ∷ NotStarted ∷ Unaccounted ∷ Output ∷ NotOpened ∷ []
+    NoOpenAsync ∷ EndBeforeBegin ∷ FlowOpen ∷ NoFlow ∷ NameDiffers ∷ Memory ∷ Full ∷ Busy ∷
+    CallersFull ∷ FileCount ∷ NotStarted ∷ Unaccounted ∷ Output ∷ NotOpened ∷ []
 
 -- the fault that has this number, if there is one
 unfoldable pub fault_of : ℕ → Option Fault

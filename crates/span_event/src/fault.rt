@@ -33,7 +33,7 @@ pub enum Fault {
     BadSeries = 19,
     /// 21: an end on a thread without an open span (`E`).
     NoOpenSpan = 21,
-    /// 22: a time below that of the thread's last begin or end (`B`, `E`), or of the last point of the flow chain (`t`, `f`).
+    /// 22: a time below that of the thread's last begin, end or seal (`B`, `E`, a seal), or of the last point of the flow chain (`t`, `f`).
     TimeGoesBack = 22,
     /// 23: an asynchronous end, of which no begin of its key is left (`e`).
     NoOpenAsync = 23,
@@ -43,6 +43,8 @@ pub enum Fault {
     FlowOpen = 25,
     /// 26: a step or an end of a flow chain, of which none is unclosed (`t`, `f`).
     NoFlow = 26,
+    /// 27: an end that names another span than the one it would close, where names are strict (`E`).
+    NameDiffers = 27,
     /// 31: memory was refused.
     Memory = 31,
     /// 32: the ledger has as many entries as its limit allows.
@@ -95,6 +97,7 @@ impl Fault {
             Fault::EndBeforeBegin => "EndBeforeBegin",
             Fault::FlowOpen => "FlowOpen",
             Fault::NoFlow => "NoFlow",
+            Fault::NameDiffers => "NameDiffers",
             Fault::Memory => "Memory",
             Fault::Full => "Full",
             Fault::Busy => "Busy",
@@ -132,6 +135,7 @@ impl Fault {
             24 => Fault::EndBeforeBegin,
             25 => Fault::FlowOpen,
             26 => Fault::NoFlow,
+            27 => Fault::NameDiffers,
             31 => Fault::Memory,
             32 => Fault::Full,
             33 => Fault::Busy,
