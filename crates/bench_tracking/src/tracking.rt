@@ -2,13 +2,13 @@
 ghost use Rattle.std.specs.Prelude.{◌≡◌, IfOk, OnOk, None};
 ghost use Rattle.span_event.specs.Event.{IsTime};
 ghost use Rattle.span_track.specs.Nesting.{ended};
-ghost use Rattle.span_track.specs.Thread.{TakesEvent, end_refusal};
+ghost use Rattle.span_track.specs.Thread.{TakesEvent, any_name, end_refusal};
 ghost use Rattle.bench_tracking.specs.Ready.{IsReady};
 
 use crate::step::Step;
 use span_event::{Event, Phase};
 use span_keyed_tracks::TrackFault;
-use span_track::ThreadTrack;
+use span_track::{ThreadTrack, Wanted};
 use std::alloc::{AllocError, Global};
 
 // Gives the track an event at position `at`, and answers the next position.
@@ -38,7 +38,7 @@ fn end(track: &mut ThreadTrack, event: &Event) -> Result<(), TrackFault>
     requires { IsTime event.now.ts }
     ensures { OnOk result (TakesEvent track.old track.new (ended event.now.ts event.now.args)) }
 {
-    if let Some(code) = track.end_refusal(event.ts) {
+    if let Some(code) = track.end_refusal(event.ts, Wanted::Any) {
         return Err(TrackFault::Refused(code));
     }
     close_last(track, event).map_err(|_| TrackFault::Memory)
@@ -46,7 +46,7 @@ fn end(track: &mut ThreadTrack, event: &Event) -> Result<(), TrackFault>
 
 fn close_last(track: &mut ThreadTrack, event: &Event) -> Result<(), AllocError>
     requires in_time { IsTime event.now.ts }
-    requires taken { end_refusal track.old event.now.ts ≡ None }
+    requires taken { end_refusal any_name track.old event.now.ts ≡ None }
     ensures { OnOk result (TakesEvent track.old track.new (ended event.now.ts event.now.args)) }
 {
     let merged = track.merged_args(&event.args)?;

@@ -1,6 +1,6 @@
 -- What the track of a thread keeps, and when it refuses an event.
-use Rattle.std.specs.Prelude.{◌≡◌, ℕ, ◌+◌, ◌<◌, ◌^◌, ◌-◌, Bool, false, if◌then◌else◌, ℤ, ◌≤ℤ◌, int_lt, List, [], ◌∷◌, ◌++◌, length, All, Option, Some, None, Result, Ok, Err}
-use Rattle.span_event.specs.declared.fault.Fault.TheVariants.{NoOpenSpan, TimeGoesBack}
+use Rattle.std.specs.Prelude.{◌≡◌, ℕ, ◌+◌, ◌<◌, ◌^◌, ◌-◌, Bool, true, false, nat_eq, if◌then◌else◌, ℤ, ◌≤ℤ◌, int_lt, List, [], ◌∷◌, ◌++◌, length, All, Option, Some, None, Result, Ok, Err}
+use Rattle.span_event.specs.declared.fault.Fault.TheVariants.{NoOpenSpan, TimeGoesBack, NameDiffers}
 use Rattle.span_event.specs.declared.fault.Fault.{Fault}
 use Rattle.span_event.specs.Args.{merged}
 use Rattle.span_event.specs.Event.{least_time}
@@ -9,6 +9,8 @@ use Rattle.span_self_time.specs.Spans.{Arguments, Span}
 use Rattle.span_keyed_tracks.specs.Fault.{refusal_of}
 use Rattle.span_keyed_tracks.specs.Last.{last_of}
 use Rattle.span_keyed_tracks.specs.Matching.{opens, closes, closes_all, other}
+use Rattle.span_track.specs.declared.wanted.Wanted.{Wanted}
+use Rattle.span_track.specs.declared.wanted.Wanted.TheVariants.{Any, Name, NoName}
 use Rattle.span_track.specs.Nesting.{Begin, ThreadEvent, open_spans, closed_spans, last_time, latest_time}
 
 -- the open spans, the closed spans, the time of the last begin, end or seal, and the latest time that the thread has seen
@@ -31,11 +33,22 @@ goes_back ts (Some last) = int_lt ts last
 abbrev pub opening : Option ℤ → ℤ → Result (Unit {0}) Fault
 opening last ts = if goes_back ts last then Err TimeGoesBack else Ok tt
 
+-- every name suits a seal, and an end that asks for none
+abbrev pub any_name : {N : Type 0} → N → Bool
+any_name name = true
+
+-- the names of spans that suit an end which wants this
+abbrev pub suits : Wanted → ℕ → Bool
+suits Any = any_name
+suits (Name wanted) = λ name. nat_eq name wanted
+suits NoName = λ name. false
+
 -- the begin that an end at this time closes, or a seal first, if one is open: `NoOpenSpan` where none is, then `TimeGoesBack` as
--- for a begin
-abbrev pub closing : {N : Type 0} → Option (Begin N) → Option ℤ → ℤ → Result (Begin N) Fault
-closing None last ts = Err NoOpenSpan
-closing (Some begin) last ts = if goes_back ts last then Err TimeGoesBack else Ok begin
+-- for a begin, then `NameDiffers` where its name doesn't suit
+abbrev pub closing : {N : Type 0} → (N → Bool) → Option (Begin N) → Option ℤ → ℤ → Result (Begin N) Fault
+closing is_suited None last ts = Err NoOpenSpan
+closing is_suited (Some begin) last ts =
+    if goes_back ts last then Err TimeGoesBack else if is_suited begin.name then Ok begin else Err NameDiffers
 
 module _ {N : Type 0} where
   -- what the events of a thread give
@@ -67,9 +80,9 @@ module _ {N : Type 0} where
   abbrev pub begin_refusal : ThreadSpans N → ℤ → Option ℕ
   begin_refusal track ts = refusal_of (opening track.last ts)
 
-  -- the number with which an end or a seal at this time is refused, if it is
-  abbrev pub end_refusal : ThreadSpans N → ℤ → Option ℕ
-  end_refusal track ts = refusal_of (closing (last_of track.opened) track.last ts)
+  -- the number with which an end at this time is refused, if it is, whose names are those that suit; a seal is, whom any name suits
+  abbrev pub end_refusal : (N → Bool) → ThreadSpans N → ℤ → Option ℕ
+  end_refusal is_suited track ts = refusal_of (closing is_suited (last_of track.opened) track.last ts)
 
   -- the arguments of a begin, if there is one, with those of an end
   abbrev pub merged_with : Option (Begin N) → Arguments → Arguments

@@ -4,6 +4,7 @@
 
 pub mod laws;
 mod thread;
+mod wanted;
 
 pub use span_keyed_tracks::{
     AsyncKey, AsyncRow, AsyncTotals, AsyncTrack, CounterTrack, FlowClosed, FlowKey, FlowRow,
@@ -12,3 +13,4 @@ pub use span_keyed_tracks::{
 };
 pub use span_self_time::{ClosedSpan, NameTotal, Segment};
 pub use thread::ThreadTrack;
+pub use wanted::Wanted;

@@ -8,9 +8,10 @@ ghost use Rattle.span_keyed_tracks.specs.Fault.{Answers};
 ghost use Rattle.span_track.specs.Nesting.{ThreadEvent, began, ended, sealed, completed, closed_by, span_sealed, opener, opener_args, later};
 ghost use Rattle.span_self_time.specs.Segments.{lasts, AreSegments, HasSegments, HasEnds};
 ghost use Rattle.span_self_time.specs.Spans.{Arguments, names_of, self_of, busy_time};
-ghost use Rattle.span_track.specs.Thread.{AreMerged, StandsFor, TakesEvent, HasRoom, IsNext, IsSealTime, goes_back, begin_refusal, end_refusal, merged_args};
+ghost use Rattle.span_track.specs.Thread.{AreMerged, StandsFor, TakesEvent, HasRoom, IsNext, IsSealTime, any_name, suits, goes_back, begin_refusal, end_refusal, merged_args};
 ghost use Rattle.span_self_time.specs.Closed.{span_of, total_for, AreClosed};
 
+use crate::wanted::Wanted;
 use span_event::{Args, Fault, merge_args};
 use span_keyed_tracks::TrackFault;
 use span_self_time::{ClosedSpan, ClosedSpans, NameTotal, Segment};
@@ -103,16 +104,21 @@ impl ThreadTrack {
     }
 
     /// The span that began last ends. Answers it with the arguments of both events, or 21 where no span is open,
-    /// or 22 where `ts` is below the time of the last begin, end or seal.
-    pub fn end_span(&mut self, ts: i64, args: &Args) -> Result<ClosedSpan, TrackFault>
+    /// or 22 where `ts` is below the time of the last begin, end or seal, or 27 where the span has another name than is wanted.
+    pub fn end_span(
+        &mut self,
+        ts: i64,
+        wanted: Wanted,
+        args: &Args,
+    ) -> Result<ClosedSpan, TrackFault>
         requires in_time { IsTime ts }
-        ensures refusal { Answers result (end_refusal self.old ts) }
+        ensures refusal { Answers result (end_refusal (suits wanted) self.old ts) }
         ensures span { IfOk result (λ span. (es : List (ThreadEvent ℕ)) → StandsFor self.old es
             → closed_by es (ended ts args.now) ≡ span_of span ∷ []) }
         ensures stands { OnOk result (TakesEvent self.old self.new (ended ts args.now)) }
         ensures err { OnErr result (self.new ≡ self.old) }
     {
-        if let Some(number) = self.end_refusal(ts) {
+        if let Some(number) = self.end_refusal(ts, wanted) {
             return Err(TrackFault::Refused(number));
         }
         let Some(begin) = self.opened.last() else {
@@ -132,7 +138,7 @@ impl ThreadTrack {
     /// Answers the time of its begin.
     pub fn close_span(&mut self, ts: i64, merged: Args) -> Result<i64, AllocError>
         requires in_time { IsTime ts }
-        requires taken { end_refusal self.old ts ≡ None }
+        requires taken { end_refusal any_name self.old ts ≡ None }
         requires merged { AreMerged self.old merged }
         ensures start { IfOk result (λ start. (es : List (ThreadEvent ℕ)) → StandsFor self.old es
             → option_map (λ begin. begin.ts) (opener es) ≡ Some start) }
@@ -156,12 +162,12 @@ impl ThreadTrack {
     /// span is open, or 22 where `ts` is below the time of the last begin, end or seal.
     pub fn seal_all(&mut self, ts: i64) -> Result<u32, TrackFault>
         requires in_time { IsSealTime ts }
-        ensures refusal { Answers result (end_refusal self.old ts) }
+        ensures refusal { Answers result (end_refusal any_name self.old ts) }
         ensures spans { IfOk result (λ spans. spans ≡ length self.old.opened) }
         ensures stands { OnOk result (TakesEvent self.old self.new (sealed ts)) }
         ensures err { OnErr result (self.new ≡ self.old) }
     {
-        if let Some(number) = self.end_refusal(ts) {
+        if let Some(number) = self.end_refusal(ts, Wanted::Any) {
             return Err(TrackFault::Refused(number));
         }
         let spans = self.depth();
@@ -211,15 +217,22 @@ impl ThreadTrack {
         }
     }
 
-    /// The number with which an end or a seal at `ts` is refused: 21 where no span is open, then 22 as for a begin.
-    /// None where only want of memory refuses it. Takes no memory.
-    pub fn end_refusal(&self, ts: i64) -> Option<u16>
-        ensures { result ≡ end_refusal self.now ts }
+    /// The number with which an end at `ts` is refused, and a seal, which wants any name: 21 where no span is open, then 22 as for
+    /// a begin, then 27 where the innermost span has another name than is wanted. None where only want of memory refuses it.
+    /// Takes no memory.
+    pub fn end_refusal(&self, ts: i64, wanted: Wanted) -> Option<u16>
+        ensures { result ≡ end_refusal (suits wanted) self.now ts }
     {
-        if self.opened.is_empty() {
-            Some(Fault::NoOpenSpan.code())
+        let Some(innermost) = self.opened.last() else {
+            return Some(Fault::NoOpenSpan.code());
+        };
+        if self.goes_back(ts) {
+            return Some(Fault::TimeGoesBack.code());
+        }
+        if wanted.suits(innermost.name) {
+            None
         } else {
-            self.begin_refusal(ts)
+            Some(Fault::NameDiffers.code())
         }
     }
 

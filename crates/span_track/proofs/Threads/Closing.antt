@@ -3,7 +3,7 @@ use Rattle.std.proofs.Common.{◌≡◌, ℕ, ◌-◌, ◌==◌, take, slice_get
 use Rattle.std.specs.Prelude.{Err, Ok}
 use Rattle.std.specs.Option.{option_or}
 use Rattle.std.proofs.lemmas.List.{map_push}
-use Rattle.span_event.specs.declared.fault.Fault.TheVariants.{TimeGoesBack}
+use Rattle.span_event.specs.declared.fault.Fault.TheVariants.{TimeGoesBack, NameDiffers}
 use Rattle.span_keyed_tracks.specs.Fault.{refusal_of}
 use Rattle.span_event.specs.Args.{merged}
 use Rattle.span_self_time.specs.Spans.{Arguments, Span}
@@ -11,7 +11,7 @@ use Rattle.span_track.specs.declared.thread.OpenSpan.{OpenSpan}
 use Rattle.span_track.specs.Kept.{begin_of, IsSound}
 use Rattle.span_keyed_tracks.specs.Last.{last_of}
 use Rattle.span_track.specs.Nesting.{Begin, ThreadEvent, opener, open_spans}
-use Rattle.span_track.specs.Thread.{ThreadSpans, goes_back, opening, closing, end_refusal, merged_args, merged_with}
+use Rattle.span_track.specs.Thread.{ThreadSpans, any_name, goes_back, closing, end_refusal, merged_args, merged_with}
 use Rattle.span_keyed_tracks.proofs.Lists.Last.{last_of-append, take-last}
 use Rattle.span_keyed_tracks.proofs.Matching.Open.{opener-open_of}
 
@@ -24,33 +24,51 @@ pub sound_with_last : (items : List OpenSpan) (o : OpenSpan) (closed : List (Spa
     IsSound (record { opened = map begin_of (take (length items - 1) items) ++ begin_of o ∷ []; closed = closed; last = last; latest = latest })
 sound_with_last items o closed last latest read sound = subst (λ (l : List (Begin ℕ)). IsSound (record { opened = l; closed = closed; last = last; latest = latest })) (opened-last items o read) sound
 
--- an end or a seal is refused where no span is open, and then as a begin is
-pub end_refusal-is : {N : Type 0} (opened : List (Begin N)) (last : Option ℤ) (ts : ℤ) →
-    refusal_of (closing (last_of opened) last ts) ≡ cond (length opened == 0) (Some 21) (refusal_of (opening last ts))
-end_refusal-is [] last ts = refl
-end_refusal-is {N = N} (b ∷ opened) last ts =
-    let some : (length (b ∷ opened) == 0) ≡ false = ne_eqb (length (b ∷ opened)) 0 (λ (z : length (b ∷ opened) ≡ 0). omega (arith, z)) in
-    (by (last_of opened)) ∙ sym (ap (λ t. cond {A = Option ℕ} t (Some 21) (refusal_of (opening last ts))) some)
+-- where a span is open, an end is refused as a begin is, and then where the name of that span doesn't suit
+end_refusal-open : {N : Type 0} (is_suited : N → Bool) (t : ThreadSpans N) (ts : ℤ) (b : Begin N) → last_of t.opened ≡ Some b →
+    end_refusal is_suited t ts ≡ cond (goes_back ts t.last) (Some 22) (cond (is_suited b.name) None (Some 27))
+end_refusal-open {N = N} is_suited t ts b is = ap (λ o. refusal_of (closing is_suited o t.last ts)) is ∙ by (goes_back ts t.last) (is_suited b.name)
   where
-    in_time : (x : Begin N) → refusal_of (closing (Some x) last ts) ≡ refusal_of (opening last ts)
-    in_time x = elim (goes_back ts last) as (λ back. refusal_of {A = Begin N} (cond back (Err TimeGoesBack) (Ok x)) ≡ refusal_of {A = Unit {0}} (cond back (Err TimeGoesBack) (Ok tt))) [ true ↦ refl | false ↦ refl ]
+    by : (back suited : Bool) → refusal_of (cond back (Err TimeGoesBack) (cond suited (Ok b) (Err NameDiffers))) ≡ cond {A = Option ℕ} back (Some 22) (cond suited None (Some 27))
+    by true suited = refl
+    by false true = refl
+    by false false = refl
 
-    by : (o : Option (Begin N)) → refusal_of (closing (option_or o (Some b)) last ts) ≡ refusal_of (opening last ts)
-    by None = in_time b
-    by (Some x) = in_time x
+-- the same by the last of the open spans
+pub end_refusal-last : (is_suited : ℕ → Bool) (t : ThreadSpans ℕ) (ts : ℤ) (items : List OpenSpan) (o : OpenSpan) → t.opened ≡ map begin_of items → Some o ≡ slice_get items (length items - 1) →
+    end_refusal is_suited t ts ≡ cond (goes_back ts t.last) (Some 22) (cond (is_suited o.name) None (Some 27))
+end_refusal-last is_suited t ts items o view read =
+    end_refusal-open is_suited t ts (begin_of o) (ap last_of (view ∙ opened-last items o read) ∙ last_of-append (map begin_of (take (length items - 1) items)) (begin_of o))
 
 -- an end matches the last open span
 pub opener_of_last : (es : List (ThreadEvent ℕ)) (opened : List (Begin ℕ)) (b : Begin ℕ) → open_spans es ≡ opened ++ b ∷ [] → opener es ≡ Some b
 opener_of_last es opened b is_open = opener-open_of es ∙ ap last_of is_open ∙ last_of-append opened b
 
--- an end or a seal that is not refused is not too early
-pub goes_back-taken : (t : ThreadSpans ℕ) (ts : ℤ) → end_refusal t ts ≡ None → goes_back ts t.last ≡ false
-goes_back-taken t ts taken = by (length t.opened == 0) (goes_back ts t.last) (sym (end_refusal-is t.opened t.last ts) ∙ taken)
-  where
-    by : (none back : Bool) → cond {A = Option ℕ} none (Some 21) (refusal_of {A = Unit {0}} (cond back (Err TimeGoesBack) (Ok tt))) ≡ None → back ≡ false
-    by true back taken = cc
-    by false true taken = cc
-    by false false taken = refl
+module _ {N : Type 0} (is_suited : N → Bool) (t : ThreadSpans N) (ts : ℤ) where
+  -- an end or a seal that is not refused is not too early
+  pub goes_back-taken : end_refusal is_suited t ts ≡ None → goes_back ts t.last ≡ false
+  goes_back-taken taken = by (last_of t.opened) taken
+    where
+      in_time : (b : Begin N) (back suited : Bool) → refusal_of (cond back (Err TimeGoesBack) (cond suited (Ok b) (Err NameDiffers))) ≡ None → back ≡ false
+      in_time b true suited taken = cc
+      in_time b false suited taken = refl
+
+      by : (o : Option (Begin N)) → refusal_of (closing is_suited o t.last ts) ≡ None → goes_back ts t.last ≡ false
+      by None taken = cc
+      by (Some b) taken = in_time b (goes_back ts t.last) (is_suited b.name) taken
+
+  -- an end that is not refused for its name is not refused where any name suits
+  pub end_refusal-any_name : end_refusal is_suited t ts ≡ None → end_refusal any_name t ts ≡ None
+  end_refusal-any_name taken = by (last_of t.opened) taken
+    where
+      in_time : (b : Begin N) (back suited : Bool) → refusal_of (cond back (Err TimeGoesBack) (cond suited (Ok b) (Err NameDiffers))) ≡ None
+          → refusal_of {A = Begin N} (cond back (Err TimeGoesBack) (Ok b)) ≡ None
+      in_time b true suited taken = cc
+      in_time b false suited taken = refl
+
+      by : (o : Option (Begin N)) → refusal_of (closing is_suited o t.last ts) ≡ None → refusal_of (closing any_name o t.last ts) ≡ None
+      by None taken = taken
+      by (Some b) taken = in_time b (goes_back ts t.last) (is_suited b.name) taken
 
 -- the arguments with those of the last open span
 pub merged_args-open : (t : ThreadSpans ℕ) (opened : List (Begin ℕ)) (b : Begin ℕ) (args : Arguments) → t.opened ≡ opened ++ b ∷ [] → merged_args t args ≡ merged b.args args

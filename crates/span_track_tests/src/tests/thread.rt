@@ -7,7 +7,7 @@ mod placed;
 use placed::Placed;
 use span_self_time::{NameTotal, Segment};
 use span_track::laws::{busy_plain, self_law, self_plain};
-use span_track::{ThreadTrack, TrackFault};
+use span_track::{ThreadTrack, TrackFault, Wanted};
 use std::alloc::Global;
 use std::process::Abort;
 use std::test::Fail;
@@ -310,12 +310,12 @@ fn an_end_without_a_begin(rt: HostRuntime) -> Result<(), Fail> {
 
 fn times_that_go_back_on(rt: &impl Abort, placed: &mut Placed) -> Result<(), Fail> {
     assert_eq!(rt; placed.track().begin_refusal(-5), None);
-    assert_eq!(rt; placed.track().end_refusal(-5), Some(21));
+    assert_eq!(rt; placed.track().end_refusal(-5, Wanted::Any), Some(21));
     assert_eq!(rt; begin(rt, placed, 0, 10)?, 1);
     assert_eq!(rt; placed.track().begin_refusal(9), Some(22));
-    assert_eq!(rt; placed.track().end_refusal(9), Some(22));
+    assert_eq!(rt; placed.track().end_refusal(9, Wanted::Any), Some(22));
     assert_eq!(rt; placed.track().begin_refusal(10), None);
-    assert_eq!(rt; placed.track().end_refusal(10), None);
+    assert_eq!(rt; placed.track().end_refusal(10, Wanted::Any), None);
     assert_eq!(rt; end(rt, placed, 9), Err(TrackFault::Refused(22)));
     assert_eq!(rt; end(rt, placed, 10)?, (0, 10, 10, 0));
     assert_eq!(rt; end(rt, placed, 9), Err(TrackFault::Refused(21)));
@@ -326,6 +326,31 @@ fn times_that_go_back_on(rt: &impl Abort, placed: &mut Placed) -> Result<(), Fai
 #[test]
 fn times_that_go_back(rt: HostRuntime) -> Result<(), Fail> {
     on_track(rt.alloc(), |placed| times_that_go_back_on(&rt, placed))
+}
+
+// An end that wants another name than that of the open span, 0, and then one that wants it.
+fn an_end_wants_a_name_on(rt: &impl Abort, placed: &mut Placed) -> Result<(), Fail> {
+    assert_eq!(rt; begin(rt, placed, 0, 0)?, 1);
+    for (ts, wanted, number) in [
+        (-1, Wanted::Name(1), 22),
+        (-1, Wanted::NoName, 22),
+        (5, Wanted::Name(1), 27),
+        (5, Wanted::NoName, 27),
+    ] {
+        assert_eq!(rt; placed.track().end_refusal(ts, wanted), Some(number));
+        let refused = placed.end_wanted(rt, ts, wanted);
+        assert!(rt; matches!(refused, Err(TrackFault::Refused(code)) if code == number));
+        assert_eq!(rt; placed.track().depth(), 1);
+    }
+    let span = placed.end_wanted(rt, 5, Wanted::Name(0))?;
+    assert!(rt; span.name == 0 && span.start == 0 && span.until == 5);
+    assert_eq!(rt; placed.track().end_refusal(6, Wanted::Name(1)), Some(21));
+    Ok(())
+}
+
+#[test]
+fn an_end_wants_a_name(rt: HostRuntime) -> Result<(), Fail> {
+    on_track(rt.alloc(), |placed| an_end_wants_a_name_on(&rt, placed))
 }
 
 fn a_stack_200_deep_on(rt: &impl Abort, placed: &mut Placed) -> Result<(), Fail> {

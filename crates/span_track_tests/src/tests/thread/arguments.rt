@@ -1,7 +1,7 @@
 // The arguments of a span are those of its begin and of its end.
 use super::expect_plain_times;
 use span_read::{ArgValue, Args, Item, Items, merge_args, read_items};
-use span_track::{ThreadTrack, TrackFault};
+use span_track::{ThreadTrack, TrackFault, Wanted};
 use std::alloc::Global;
 use std::process::Abort;
 use std::test::Fail;
@@ -33,7 +33,7 @@ fn expect_merged(rt: &impl Abort, args: &Args) {
 
 fn ends_with(rt: &impl Abort, track: &mut ThreadTrack, args: &Args) -> Result<(), Fail> {
     expect_plain_times(rt, track);
-    let span = track.end_span(1, args)?;
+    let span = track.end_span(1, Wanted::Any, args)?;
     expect_plain_times(rt, track);
     expect_merged(rt, &span.args);
     drop(span);
@@ -45,7 +45,7 @@ fn ends_with(rt: &impl Abort, track: &mut ThreadTrack, args: &Args) -> Result<()
 fn closes_with(rt: &impl Abort, track: &mut ThreadTrack, args: &Args) -> Result<(), Fail> {
     let merged = track.merged_args(args)?;
     expect_merged(rt, &merged);
-    let None = track.end_refusal(1) else {
+    let None = track.end_refusal(1, Wanted::Any) else {
         panic!(rt; "the end is refused");
     };
     assert_eq!(rt; track.close_span(1, merged)?, 0);

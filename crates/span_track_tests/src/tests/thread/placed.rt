@@ -6,7 +6,7 @@ ghost use Rattle.span_track_tests.specs.Placed.{IsPlaced};
 
 use span_read::Args;
 use span_self_time::ClosedSpan;
-use span_track::{ThreadTrack, TrackFault};
+use span_track::{ThreadTrack, TrackFault, Wanted};
 use std::alloc::Global;
 use std::marker::Model;
 use std::process::Abort;
@@ -64,9 +64,20 @@ impl Placed {
     pub(super) fn end(&mut self, rt: &impl Abort, ts: i64) -> Result<ClosedSpan, TrackFault>
         requires { IsTime ts }
     {
+        self.end_wanted(rt, ts, Wanted::Any)
+    }
+
+    pub(super) fn end_wanted(
+        &mut self,
+        rt: &impl Abort,
+        ts: i64,
+        wanted: Wanted,
+    ) -> Result<ClosedSpan, TrackFault>
+        requires { IsTime ts }
+    {
         expect_few(rt, &self.track, self.next);
         self.next += 1;
-        self.track.end_span(ts, &self.none)
+        self.track.end_span(ts, wanted, &self.none)
     }
 
     pub(super) fn seal(&mut self, rt: &impl Abort, ts: i64) -> Result<u32, TrackFault>

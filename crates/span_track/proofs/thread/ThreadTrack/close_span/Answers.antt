@@ -4,7 +4,7 @@ use Rattle.std.proofs.lemmas.Int.{ints}
 use Rattle.span_event.specs.Args.{merged}
 use Rattle.span_self_time.specs.Spans.{Span}
 use Rattle.span_track.specs.Nesting.{Begin, later}
-use Rattle.span_track.specs.Thread.{ThreadSpans, goes_back}
+use Rattle.span_track.specs.Thread.{ThreadSpans, any_name, goes_back}
 use Rattle.span_track.specs.Kept.{begin_of}
 use Rattle.span_self_time.specs.Closed.{span_of}
 use Rattle.span_track.proofs.Threads.Sound.{IsSound-with_end, MayClose, MayClose-sound}
@@ -17,7 +17,7 @@ read : (c : In-Some) → Some c.in-Some.last_open.now ≡ slice_get c.self.insid
 read c = search rules
 
 not_back : (c : In-Some) → goes_back c.args.ts c.self.inside.last ≡ false
-not_back c = subst (λ (t : ThreadSpans ℕ). goes_back c.args.ts t.last ≡ false) (sym c.self.view_is) (goes_back-taken c.args.self.now c.args.ts c.requires.taken)
+not_back c = subst (λ (t : ThreadSpans ℕ). goes_back c.args.ts t.last ≡ false) (sym c.self.view_is) (goes_back-taken any_name c.args.self.now c.args.ts c.requires.taken)
 
 may : (c : In-Some) → MayClose (begin_of c.in-Some.last_open.now) c.self.inside.closed c.args.ts
 may c = MayClose-sound _ _ _ _ _ c.args.ts (sound_with_last _ _ _ _ _ (read c) c.self.invariant) (not_back c)

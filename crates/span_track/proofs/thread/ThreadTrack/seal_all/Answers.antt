@@ -2,7 +2,7 @@ use Rattle.std.proofs.Common.{rules, ◌≡◌, ℕ, false, None, [], ◌++◌, 
 use Rattle.span_self_time.specs.Closed.{span_of}
 use Rattle.span_track.specs.Kept.{begin_of}
 use Rattle.span_track.specs.Nesting.{later}
-use Rattle.span_track.specs.Thread.{ThreadSpans, thread_spans, goes_back, end_refusal}
+use Rattle.span_track.specs.Thread.{ThreadSpans, thread_spans, any_name, goes_back, end_refusal}
 use Rattle.span_track.proofs.Threads.Closing.{goes_back-taken}
 use Rattle.span_track.proofs.Threads.Sealing.{sealed_spans, CanJoin-sealed_spans}
 use Rattle.span_track.proofs.Threads.Spans.{with_seal, thread_spans-sealed}
@@ -11,8 +11,8 @@ use Rattle.span_track.proofs.thread.ThreadTrack.seal_all.Goals as goal
 pub add_all-requires : goal.add_all-requires
 add_all-requires c =
     let old : ThreadSpans ℕ = record { opened = map begin_of c.self.inside.opened.items; closed = c.self.inside.closed; last = c.self.inside.last; latest = c.self.inside.latest } in
-    let taken : end_refusal c.args.self.now c.args.ts ≡ None = search rules in
-    let not_back : goes_back c.args.ts c.self.inside.last ≡ false = subst (λ (t : ThreadSpans ℕ). goes_back c.args.ts t.last ≡ false) (sym c.self.view_is) (goes_back-taken c.args.self.now c.args.ts taken) in
+    let taken : end_refusal any_name c.args.self.now c.args.ts ≡ None = search rules in
+    let not_back : goes_back c.args.ts c.self.inside.last ≡ false = subst (λ (t : ThreadSpans ℕ). goes_back c.args.ts t.last ≡ false) (sym c.self.view_is) (goes_back-taken any_name c.args.self.now c.args.ts taken) in
     let made : map span_of c.in_ok-sealed.sealed.items ≡ sealed_spans c.args.ts c.args.self.now.opened = search rules in
     let own : map span_of c.in_ok-sealed.sealed.items ≡ sealed_spans c.args.ts old.opened = made ∙ ap (λ (t : ThreadSpans ℕ). sealed_spans c.args.ts t.opened) (sym c.self.view_is) in
     rw own (CanJoin-sealed_spans old c.args.ts c.self.invariant not_back c.requires.in_time)
