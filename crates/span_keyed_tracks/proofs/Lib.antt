@@ -14,6 +14,8 @@ pub mod Meta
 pub mod Numbers
 pub mod Orders
 pub mod Results
+pub mod SameKeys
+pub mod Selection
 pub mod SeriesCodes
 pub mod SeriesMaps
 pub mod Uses

@@ -1,2 +1,3 @@
+pub mod Filters
 pub mod Last
 pub mod Places
