@@ -1,10 +1,12 @@
 pub mod Apart
 pub mod Children
 pub mod Counts
+pub mod Mapped
 pub mod Names
 pub mod OwnTimes
 pub mod Owners
 pub mod Ranks
+pub mod Renumbering
 pub mod SameSegments
 pub mod SegmentEnds
 pub mod Segments
