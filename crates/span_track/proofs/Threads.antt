@@ -1,4 +1,5 @@
 pub mod Closing
+pub mod Renumbering
 pub mod Room
 pub mod Sealing
 pub mod Sound
