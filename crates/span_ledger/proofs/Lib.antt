@@ -22,3 +22,4 @@ pub mod Threads
 pub mod Totals
 pub mod TrackReplies
 pub mod TrackRows
+pub mod WantedNames

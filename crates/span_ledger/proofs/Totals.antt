@@ -30,7 +30,7 @@ module _ (names : List Bytes) where
       (λ (s : Span Bytes) (h : is_numbered_span names s ≡ true). and_true (is_numbered_span names s) true h refl) es known
 
   -- two texts are the same just where their numbers are
-  nat_eq-number_in : (a b : Bytes) (i n : ℕ) → number_in names a ≡ Some i → number_in names b ≡ Some n → nat_eq i n ≡ same_text a b
+  pub nat_eq-number_in : (a b : Bytes) (i n : ℕ) → number_in names a ≡ Some i → number_in names b ≡ Some n → nat_eq i n ≡ same_text a b
   nat_eq-number_in a b i n p q =
       one_answer {P = a ≡ b} (nat_eq i n) (same_text a b) (
         (λ (e : nat_eq i n ≡ true). let same : i ≡ n = eqb-true i n e in

@@ -5,6 +5,7 @@ mod examples;
 mod growths;
 mod queries;
 mod seals;
+mod strict_names;
 
 use examples::{EXAMPLES, Example};
 use span_ledger::{Answer, Cause, Item, Ledger, Op, ProcessPart, ThreadPart};
@@ -113,7 +114,7 @@ fn expect_example(
 }
 
 fn run_example(rt: &(impl Abort + AllocGlobal), example: &Example) -> Result<(), Fail> {
-    let mut ledger = Ledger::new(rt.alloc(), 100);
+    let mut ledger = Ledger::new(rt.alloc(), 100, false);
     let told = expect_example(rt, &mut ledger, example);
     drop(ledger);
     told
@@ -154,7 +155,7 @@ SeriesRow { key: SeriesKey { pid: 2, name: "m", id: None, series: "k" }, totals:
 
 #[test]
 fn parts_nest(rt: HostRuntime) -> Result<(), Fail> {
-    let mut ledger = Ledger::new(rt.alloc(), 100);
+    let mut ledger = Ledger::new(rt.alloc(), 100, false);
     let told = parts_nest_in(&rt, &mut ledger);
     drop(ledger);
     told
@@ -201,7 +202,7 @@ fn the_journal_can_be_read_in(
 
 #[test]
 fn the_journal_can_be_read(rt: HostRuntime) -> Result<(), Fail> {
-    let mut ledger = Ledger::new(rt.alloc(), 100);
+    let mut ledger = Ledger::new(rt.alloc(), 100, false);
     let told = the_journal_can_be_read_in(&rt, &mut ledger);
     drop(ledger);
     told
@@ -229,7 +230,7 @@ fn a_full_journal_gives_the_operation_back_in(
 
 #[test]
 fn a_full_journal_gives_the_operation_back(rt: HostRuntime) -> Result<(), Fail> {
-    let mut ledger = Ledger::new(rt.alloc(), 3);
+    let mut ledger = Ledger::new(rt.alloc(), 3, false);
     let told = a_full_journal_gives_the_operation_back_in(&rt, &mut ledger);
     drop(ledger);
     told

@@ -137,7 +137,7 @@ fn tell_example(
 }
 
 fn tell_to_a_ledger(rt: &(impl Abort + AllocGlobal), example: &Example) -> Result<(), Fail> {
-    let mut ledger = Ledger::new(rt.alloc(), 100);
+    let mut ledger = Ledger::new(rt.alloc(), 100, false);
     let told = tell_example(rt, &mut ledger, example);
     drop(ledger);
     told
@@ -169,7 +169,7 @@ fn tell_and_seal(rt: &(impl Abort + AllocGlobal), ledger: &mut Ledger) -> Result
 // Runs with each allocation refused in turn, by tests/refused_allocations.
 #[test]
 fn a_refused_seal_changes_nothing(rt: HostRuntime) -> Result<(), Fail> {
-    let mut ledger = Ledger::new(rt.alloc(), 100);
+    let mut ledger = Ledger::new(rt.alloc(), 100, false);
     let told = tell_and_seal(&rt, &mut ledger);
     drop(ledger);
     told

@@ -82,7 +82,7 @@ fn seal_twice(rt: &(impl Abort + AllocGlobal), ledger: &mut Ledger) -> Result<()
 
 #[test]
 fn a_seal_closes_what_is_open(rt: HostRuntime) -> Result<(), Fail> {
-    let mut ledger = Ledger::new(rt.alloc(), 100);
+    let mut ledger = Ledger::new(rt.alloc(), 100, false);
     let told = seal_twice(&rt, &mut ledger);
     drop(ledger);
     told

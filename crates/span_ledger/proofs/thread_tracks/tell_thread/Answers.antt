@@ -6,7 +6,7 @@ use Rattle.span_event.specs.Thread.{thread_of}
 use Rattle.span_event.specs.declared.thread.Thread.{Thread}
 use Rattle.span_event.proofs.Orders.{thread_cmp-same, thread_cmp-total}
 use Rattle.span_keyed_tracks.proofs.Keyed.{kept_at-found}
-use Rattle.span_track.specs.Thread.{ThreadSpans, HasRoom, IsNext, thread_spans}
+use Rattle.span_track.specs.Thread.{ThreadSpans, HasRoom, IsNext, suits, thread_spans}
 use Rattle.span_ledger.specs.Answers.{thread_step_answer}
 use Rattle.span_ledger.specs.Told.{span_step}
 use Rattle.span_ledger.specs.Tracked.{TellsThreads}
@@ -28,8 +28,8 @@ returns-in-Some c =
     let tracks = c.args.tracks.now in
     let after = c.get_mut.follows.lender c.tell_step.new.track in
     let step = span_step c.args.number c.args.at c.args.event.now c.args.event.now.phase in
-    subst (λ (thread : Thread). TellsThreads tracks.entries (record { key = thread; step = step }) c.tell_step.result after.entries) c.of-thread.ensures
-    (Tells-found thread_cmp-total thread_cmp-same thread_spans thread_step_answer tracks.entries after.entries c.of-thread.result step c.in-Some.ensures.ordered c.in-Some.track.now c.tell_step.new.track c.tell_step.result
+    subst (λ (thread : Thread). TellsThreads (suits c.args.wanted) tracks.entries (record { key = thread; step = step }) c.tell_step.result after.entries) c.of-thread.ensures
+    (Tells-found thread_cmp-total thread_cmp-same thread_spans (thread_step_answer (suits c.args.wanted)) tracks.entries after.entries c.of-thread.result step c.in-Some.ensures.ordered c.in-Some.track.now c.tell_step.new.track c.tell_step.result
     (sym c.in-Some.ensures.value) (c.get_mut.follows.holds c.tell_step.new.track).0 c.tell_step.ensures)
 
 pub returns-in-Err : goal.returns-in-Err
@@ -37,8 +37,8 @@ returns-in-Err c =
     let tracks = c.args.tracks.now in
     let after = c.get_mut.follows.lender-at-none in
     let step = span_step c.args.number c.args.at c.args.event.now c.args.event.now.phase in
-    subst (λ (thread : Thread). TellsThreads tracks.entries (record { key = thread; step = step }) (Err c.in-Err.fault) after.entries) c.of-thread.ensures
-    (Tells-first thread_cmp-total thread_cmp-same thread_spans thread_step_answer tracks.entries after.entries c.of-thread.result step c.in_default.ensures.ordered c.new-track.result c.tell_step-2.new.track
+    subst (λ (thread : Thread). TellsThreads (suits c.args.wanted) tracks.entries (record { key = thread; step = step }) (Err c.in-Err.fault) after.entries) c.of-thread.ensures
+    (Tells-first thread_cmp-total thread_cmp-same thread_spans (thread_step_answer (suits c.args.wanted)) tracks.entries after.entries c.of-thread.result step c.in_default.ensures.ordered c.new-track.result c.tell_step-2.new.track
     (sym c.in_default.ensures.value) c.new-track.ensures c.in-Err.fault (ap (λ (m : BTreeMap Thread (ThreadSpans ℕ)). m.entries) c.get_mut.follows.holds-at-none) c.in-Err.ensures)
 
 pub returns-in_ok-keep-in-Ok : goal.returns-in_ok-keep-in-Ok
@@ -46,6 +46,6 @@ returns-in_ok-keep-in-Ok c =
     let tracks = c.args.tracks.now in
     let step = span_step c.args.number c.args.at c.args.event.now c.args.event.now.phase in
     let kept = c.in_ok-keep-in-Ok.ensures.kept ∙ ap (λ (m : BTreeMap Thread (ThreadSpans ℕ)). insert_entry thread_cmp m.entries c.of-thread.result c.tell_step-2.new.track) c.get_mut.follows.holds-at-none in
-    subst (λ (thread : Thread). TellsThreads tracks.entries (record { key = thread; step = step }) (Ok c.in-Ok.answers) c.keep.new.tracks.entries) c.of-thread.ensures
-    (IsToldTo-first thread_cmp-total thread_cmp-same thread_spans thread_step_answer tracks.entries c.keep.new.tracks.entries c.of-thread.result step c.in_default.ensures.ordered c.new-track.result c.tell_step-2.new.track
+    subst (λ (thread : Thread). TellsThreads (suits c.args.wanted) tracks.entries (record { key = thread; step = step }) (Ok c.in-Ok.answers) c.keep.new.tracks.entries) c.of-thread.ensures
+    (IsToldTo-first thread_cmp-total thread_cmp-same thread_spans (thread_step_answer (suits c.args.wanted)) tracks.entries c.keep.new.tracks.entries c.of-thread.result step c.in_default.ensures.ordered c.new-track.result c.tell_step-2.new.track
     (sym c.in_default.ensures.value) c.new-track.ensures c.in-Ok.answers kept c.in-Ok.ensures)
