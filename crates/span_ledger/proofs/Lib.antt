@@ -19,6 +19,7 @@ pub mod Taking
 pub mod ThreadAnswers
 pub mod ThreadTelling
 pub mod Threads
+pub mod Topics
 pub mod Totals
 pub mod TrackReplies
 pub mod TrackRows

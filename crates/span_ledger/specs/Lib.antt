@@ -11,4 +11,5 @@ pub mod Refusal
 pub mod Replies
 pub mod Rows
 pub mod Told
+pub mod Topics
 pub mod Tracked
