@@ -104,7 +104,7 @@ fn told_by_two_threads<R: Threads + Wait + Sync>(
     rt: &R,
     alloc: Global,
 ) -> Option<(Ledger, u32, u32)> {
-    let (share, seat) = Share::start(alloc, 100).ok()?;
+    let (share, seat) = Share::start(alloc, 100, false).ok()?;
     let (seat, front, other) = two_threads_tell(rt, alloc, &share, seat)?;
     let (ledger, _) = share.close(rt, seat);
     Some((ledger, front, other))
@@ -199,7 +199,7 @@ fn busy_in(
 
 #[test]
 fn a_turn_that_another_seat_has_is_busy(rt: HostRuntime) -> Result<(), Fail> {
-    let (share, mut first) = Share::start(rt.alloc(), 100)?;
+    let (share, mut first) = Share::start(rt.alloc(), 100, false)?;
     busy_in(&rt, &share, &mut first)
 }
 
@@ -227,7 +227,7 @@ fn tell_past_the_limit(
 
 #[test]
 fn a_share_of_one_entry(rt: HostRuntime) -> Result<(), Fail> {
-    let (share, mut seat) = Share::start(rt.alloc(), 1)?;
+    let (share, mut seat) = Share::start(rt.alloc(), 1, false)?;
     let told = tell_past_the_limit(&rt, &share, &mut seat);
     let (ledger, seat) = share.close(&rt, seat);
     assert_eq!(rt; ledger.len(), 1);
@@ -238,7 +238,7 @@ fn a_share_of_one_entry(rt: HostRuntime) -> Result<(), Fail> {
 #[test]
 fn a_share_of_no_entry(rt: HostRuntime) -> Result<(), Fail> {
     let item = begin(rt.alloc(), 1, 0).ok_or("no item")?;
-    let (share, mut seat) = Share::start(rt.alloc(), 0)?;
+    let (share, mut seat) = Share::start(rt.alloc(), 0, false)?;
     let told = share.tell(&rt, &mut seat, item);
     assert_eq!(rt; line_of(rt.alloc(), told)?.as_str(), "32 Full: event at 0");
     Ok(())
@@ -282,6 +282,6 @@ fn tell_after_all_are_enrolled(
 
 #[test]
 fn callers_are_limited(rt: HostRuntime) -> Result<(), Fail> {
-    let (share, mut seat) = Share::start(rt.alloc(), 100)?;
+    let (share, mut seat) = Share::start(rt.alloc(), 100, false)?;
     tell_after_all_are_enrolled(&rt, &share, &mut seat)
 }
