@@ -56,7 +56,7 @@ fn reports_in(
 }
 
 fn reports(rt: &(impl Abort + AllocGlobal), events: &str, want: &str) -> Result<(), Fail> {
-    let mut ledger = Ledger::new(rt.alloc(), 100);
+    let mut ledger = Ledger::new(rt.alloc(), 100, false);
     let told = reports_in(rt, &mut ledger, events, want);
     drop(ledger);
     told
@@ -175,7 +175,7 @@ fn short_of(alloc: Global, room: usize) -> Short {
 
 // Writes the report of no events.
 fn write_empty(alloc: Global, short: &mut Short) -> Result<(), WriteFault> {
-    let ledger = Ledger::new(alloc, 1);
+    let ledger = Ledger::new(alloc, 1, false);
     let written = write_report(alloc, &ledger, &mut Writer::new(short));
     drop(ledger);
     written
@@ -268,7 +268,7 @@ fn writes_long_reports_in(
 fn writes_long_reports(rt: HostRuntime) -> Result<(), Fail> {
     let alloc = rt.alloc();
     let name = String::from_str(alloc, "abcdefghij")?.repeat(alloc, 10_000)?;
-    let mut ledger = Ledger::new(alloc, 1);
+    let mut ledger = Ledger::new(alloc, 1, false);
     let told = writes_long_reports_in(&rt, &mut ledger, name.as_str());
     drop(ledger);
     told

@@ -66,7 +66,7 @@ fn reports_in(rt: &(impl Abort + AllocGlobal), ledger: &mut Ledger) -> Result<bo
 }
 
 fn reports_at_last(rt: &(impl Abort + AllocGlobal)) -> Result<bool, Fail> {
-    let mut ledger = Ledger::new(rt.alloc(), 100);
+    let mut ledger = Ledger::new(rt.alloc(), 100, false);
     let told = reports_in(rt, &mut ledger);
     drop(ledger);
     told
