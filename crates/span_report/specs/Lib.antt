@@ -1,3 +1,4 @@
+pub mod Laws
 pub mod Lines
 pub mod Output
 pub mod Report

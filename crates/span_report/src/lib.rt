@@ -1,6 +1,7 @@
 //! The report of a ledger: the lines that its rows make, and the output that takes them.
 #![tactic(auto)]
 
+pub mod laws;
 mod lines;
 mod output;
 mod sink;

@@ -1,0 +1,13 @@
+-- The report of a journal follows from its counts, and from the acts on each topic.
+use Rattle.std.proofs.Common.{◌++◌}
+use Rattle.std.specs.Prelude.{flat_map}
+use Rattle.span_ledger.proofs.Topics.Rows.{rows-follow}
+use Rattle.span_report.specs.Laws.{ReportsFollowFromActs}
+use Rattle.span_report.specs.Lines.{async_line, flow_line}
+use Rattle.span_report.specs.Report.{head_lines, process_lines}
+
+-- journals that are alike have the same report
+pub report_of-alike : ReportsFollowFromActs
+report_of-alike journal other alike =
+    let rows = rows-follow journal other alike in
+    λ i. head_lines (alike.counts i) ++ (flat_map process_lines (rows.parts i) ++ (flat_map async_line (rows.asynchronous i) ++ flat_map flow_line (rows.flows i)))
