@@ -1,0 +1,196 @@
+#!/usr/bin/env python3
+"""Turns a trace into one that tracebook takes whole, and tells on standard error what was changed.
+
+usage: convert_trace.py < trace.json > converted.json
+
+- Times with fractions: each start and each end is rounded down to a whole microsecond, so spans that nest still nest; a
+  duration is what lies between the two.
+- Values of counters are rounded down, and texts that hold a number become it.
+- A process or a thread that is a text gets a number that no other has, and the text as its name, by a metadata event; where
+  the text holds a whole number it becomes that.
+
+All else stays byte for byte. The trace is read and written piece by piece: only the names of processes and threads are kept in
+memory.
+"""
+
+import io
+import json
+import re
+import sys
+from collections import Counter
+from decimal import Decimal, getcontext
+from math import floor
+
+from trace_reader import NoTrace, Source, elements_of, is_whole
+
+# Enough digits that no sum of a start and a duration is rounded.
+getcontext().prec = 60
+
+MOST = 2**63
+# Numbers for texts are given from here on, out of the way of what systems give.
+FIRST = 10**12 + 1
+NUMBER = re.compile(r"\s*[+-]?[0-9]+(\.[0-9]+)?([eE][+-]?[0-9]{1,4})?\s*")
+DECODE = json.JSONDecoder(parse_float=Decimal).raw_decode
+BLANKS = re.compile(r"[ \t\r\n]*")
+
+
+class Member:
+    """A member of an object: its value, and where that stands in the text."""
+
+    def __init__(self, value, start, end):
+        self.value, self.start, self.end = value, start, end
+
+
+def members_at(text, at):
+    """The members of the object that begins there; of two members of one name the last."""
+    members = {}
+    at = BLANKS.match(text, at + 1).end()
+    while text[at] != "}":
+        name, at = DECODE(text, at)
+        start = BLANKS.match(text, BLANKS.match(text, at).end() + 1).end()
+        value, end = DECODE(text, start)
+        members[name] = Member(value, start, end)
+        at = BLANKS.match(text, end).end()
+        if text[at] == ",":
+            at = BLANKS.match(text, at + 1).end()
+    return members
+
+
+def number_in(value):
+    """The number that a member holds, if it holds one of 64 bits."""
+    is_number = isinstance(value, (int, Decimal)) and not isinstance(value, bool)
+    return value if is_number and -MOST <= value < MOST else None
+
+
+def number_of_text(value):
+    """The number that a text holds, if it holds one of 64 bits."""
+    return number_in(Decimal(value.strip())) if isinstance(value, str) and NUMBER.fullmatch(value) else None
+
+
+class Owners:
+    """The numbers of processes, or of threads, that are texts."""
+
+    def __init__(self, what):
+        self.what, self.given, self.taken, self.next = what, {}, set(), FIRST
+        self.numbers = set()
+
+    def number_of(self, name):
+        """The number of a text, which no number that has come is."""
+        if name not in self.given:
+            while self.next in self.taken:
+                self.next += 1
+            self.given[name] = self.next
+            self.numbers.add(self.next)
+            self.next += 1
+        return self.given[name]
+
+    def see(self, number):
+        """Notes a number of the trace's own."""
+        if number >= FIRST:
+            if number in self.numbers:
+                raise NoTrace(f"the {self.what} {number} came after this number was given to a text")
+            self.taken.add(number)
+
+
+class Converter:
+    """What was changed so far, and the numbers that were given."""
+
+    def __init__(self):
+        self.processes, self.threads = Owners("process"), Owners("thread")
+        self.named, self.changes = set(), Counter()
+
+    def converted(self, element, text):
+        """The text of an element as it shall be, with the metadata events before it that it needs; None where it stays."""
+        if not isinstance(element, dict):
+            return None
+        members, edits, heads = members_at(text, 0), [], []
+        phase = element.get("ph")
+        if phase != "M":
+            self.round_times(members, phase, text, edits)
+        if phase == "C" and isinstance(element.get("args"), dict):
+            self.round_values(members_at(text, members["args"].start), text, edits)
+        self.number_owners(members, edits, heads)
+        if not edits:
+            return None
+        for member, new in sorted(edits, key=lambda edit: edit[0].start, reverse=True):
+            text = text[: member.start] + new + text[member.end :]
+        return ",\n".join([*heads, text])
+
+    def edit(self, edits, text, member, number, change):
+        """Puts a number in the place of a member's value, where it isn't written so."""
+        if text[member.start : member.end] != str(number):
+            edits.append((member, str(number)))
+            self.changes[change] += 1
+
+    def round_times(self, members, phase, text, edits):
+        """Rounds the start and the end of an event down."""
+        start, length = members.get("ts"), members.get("dur")
+        begun = number_in(start.value) if start else None
+        if begun is None:
+            return
+        self.edit(edits, text, start, floor(begun), "starts rounded down")
+        lasted = number_in(length.value) if length and phase == "X" else None
+        if lasted is not None:
+            self.edit(edits, text, length, floor(begun + lasted) - floor(begun), "durations rounded")
+
+    def round_values(self, series, text, edits):
+        """Rounds the values of a counter down."""
+        for member in series.values():
+            number, of_text = number_in(member.value), number_of_text(member.value)
+            if number is not None:
+                self.edit(edits, text, member, floor(number), "values of counters rounded down")
+            elif of_text is not None:
+                self.edit(edits, text, member, floor(of_text), "values of counters that were texts")
+
+    def number_owners(self, members, edits, heads):
+        """Makes numbers of a process and a thread that are texts, and names them."""
+        process = self.number_owner(members.get("pid"), self.processes, edits)
+        thread = self.number_owner(members.get("tid"), self.threads, edits)
+        for what, owner, name in ("process", (process,), members.get("pid")), ("thread", (process, thread), members.get("tid")):
+            is_given = name is not None and owner[-1] is not None and owner[-1] != name.value and number_of_text(name.value) is None
+            if is_given and None not in owner and (what, owner) not in self.named:
+                self.named.add((what, owner))
+                ids = dict(zip(("pid", "tid"), owner))
+                heads.append(json.dumps({"ph": "M", "name": f"{what}_name", **ids, "args": {"name": name.value}}))
+
+    def number_owner(self, member, owners, edits):
+        """The number of a process or a thread, if it has or gets one; a missing one is 0."""
+        if member is None:
+            return 0
+        number = number_in(member.value)
+        if is_whole(number):
+            owners.see(number)
+            return number
+        held = number if number is not None else number_of_text(member.value)
+        if held is not None and held == floor(held):
+            owners.see(floor(held))
+            edits.append((member, str(floor(held))))
+            self.changes[f"numbers of a {owners.what} written as whole ones"] += 1
+            return floor(held)
+        if not isinstance(member.value, str):
+            return None
+        edits.append((member, str(owners.number_of(member.value))))
+        self.changes[f"texts for a {owners.what} that got a number"] += 1
+        return owners.number_of(member.value)
+
+
+def main():
+    source_file = io.TextIOWrapper(sys.stdin.buffer, encoding="utf-8", newline="")
+    out = io.TextIOWrapper(sys.stdout.buffer, encoding="utf-8", newline="")
+    source, converter = Source(source_file, out.write, parse_float=Decimal), Converter()
+    try:
+        for element, text in elements_of(source):
+            converted = converter.converted(element, text)
+            if converted is not None:
+                source.replace(converted)
+        out.flush()
+    except (NoTrace, UnicodeDecodeError, OSError) as error:
+        sys.exit(f"convert_trace: {error}")
+    for change, count in sorted(converter.changes.items()):
+        print(f"convert_trace: {count} {change}", file=sys.stderr)
+    if not converter.changes:
+        print("convert_trace: nothing was changed", file=sys.stderr)
+
+
+if __name__ == "__main__":
+    main()
