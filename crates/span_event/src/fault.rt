@@ -31,7 +31,7 @@ pub enum Fault {
     BadReach = 18,
     /// 19: a member of a counter's `args` is no whole number.
     BadSeries = 19,
-    /// 21: an end on a thread without an open span (`E`).
+    /// 21: an end or a seal on a thread without an open span (`E`, a seal).
     NoOpenSpan = 21,
     /// 22: a time below that of the thread's last begin, end or seal (`B`, `E`, a seal), or of the last point of the flow chain (`t`, `f`).
     TimeGoesBack = 22,

@@ -1,7 +1,6 @@
 -- The end of the last open span.
-use Rattle.std.proofs.Common.{◌≡◌, ℕ, ◌-◌, ◌==◌, take, slice_get, Bool, true, false, cond, ℤ, List, [], ◌∷◌, ◌++◌, length, Option, Some, None, map, refl, sym, ap, ◌∙◌, subst, arith, ne_eqb}
+use Rattle.std.proofs.Common.{◌≡◌, ℕ, ◌-◌, take, slice_get, Bool, true, false, cond, ℤ, List, [], ◌∷◌, ◌++◌, length, Option, Some, None, map, refl, ap, ◌∙◌, subst}
 use Rattle.std.specs.Prelude.{Err, Ok}
-use Rattle.std.specs.Option.{option_or}
 use Rattle.std.proofs.lemmas.List.{map_push}
 use Rattle.span_event.specs.declared.fault.Fault.TheVariants.{TimeGoesBack, NameDiffers}
 use Rattle.span_keyed_tracks.specs.Fault.{refusal_of}

@@ -1,5 +1,5 @@
 use Rattle.span_track_tests.proofs.Placed.{IsPlaced-told}
-use Rattle.span_track_tests.proofs.tests.thread.placed.Placed.end.Goals as goal
+use Rattle.span_track_tests.proofs.tests.thread.placed.Placed.end_wanted.Goals as goal
 
 pub invariant_of-self : goal.invariant_of-self
 invariant_of-self g c =
