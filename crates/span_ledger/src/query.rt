@@ -8,7 +8,7 @@ use std::alloc::{AllocError, Global};
 /// A question about the entries before it. It is an entry itself, and changes nothing else.
 #[derive(Debug, Drop, PartialEq, Eq)]
 pub enum Query {
-    /// The open spans and the busy time of a thread, and the time of its last begin or end.
+    /// The open spans and the busy time of a thread, and the time of its last begin, end or seal.
     Thread { pid: i64, tid: i64 },
     /// The closed spans of a name on a thread.
     Name { pid: i64, tid: i64, name: Text },

@@ -9,7 +9,7 @@ use std::alloc::{AllocError, Global};
 /// The reply to a query. Times and lengths are microseconds.
 #[derive(Debug, Drop, PartialEq, Eq)]
 pub enum Reply {
-    /// Of a thread: how many spans are open, the microseconds that closed spans cover, and the time of the last begin or end.
+    /// Of a thread: how many spans are open, the microseconds that closed spans cover, and the time of the last begin, end or seal.
     Thread {
         unclosed: u32,
         busy: u64,
