@@ -1,6 +1,6 @@
 -- How many entries a journal has of some callers.
-use Rattle.std.proofs.Common.{◌≡◌, ℕ, zero, suc, ◌+◌, ◌<◌, ◌≤◌, List, [], ◌∷◌, Bool, true, false, cond, eqb, eqb-true, length, All, Contains, refl, sym, subst, arith}
-use Rattle.std.proofs.lemmas.List.Elements.{All-cons}
+use Rattle.std.proofs.Common.{◌≡◌, ℕ, zero, suc, ◌+◌, ◌<◌, ◌≤◌, List, [], ◌∷◌, Bool, true, false, cond, eqb, eqb-true, eq-eqb, length, All, Contains, refl, sym, subst, arith}
+use Rattle.std.proofs.lemmas.List.Elements.{All-cons, All-head, All-tail}
 use Rattle.span_ledger.specs.declared.entry.Entry.{Entry}
 use Rattle.span_share.specs.Callers.{calls, AreDistinct}
 use Rattle.span_share.specs.Entries.{caller_of}
@@ -23,6 +23,12 @@ hits-contains k (c ∷ cs) some = by (eqb k c) refl some (hits-contains k cs)
     by : (b : Bool) → eqb k c ≡ b → 0 < cond b 1 0 + hits k cs → (0 < hits k cs → Contains cs k) → Contains (c ∷ cs) k
     by true e some rest = subst (λ n. Contains (c ∷ cs) n) (sym (eqb-true k c e)) (Contains-here c cs)
     by false e some rest = Contains-later c cs k (rest (omega (arith, some)))
+
+-- a number that stands in a list is hit
+hits-some : (k : ℕ) (cs : List ℕ) → Contains cs k → 0 < hits k cs
+hits-some k [] has = absurd (omega (arith, has.1))
+hits-some k (c ∷ cs) (zero, lt, is) = let yes : eqb k c ≡ true = eq-eqb k c (sym is) in rw yes (omega arith)
+hits-some k (c ∷ cs) (suc n, lt, is) = omega (arith, hits-some k cs (n, omega (arith, lt), is))
 
 hits-once : (k : ℕ) (cs : List ℕ) → AreDistinct cs → hits k cs ≤ 1
 hits-once k [] distinct = omega arith
@@ -61,3 +67,10 @@ total-all cs (e ∷ journal) distinct all =
     let once = hits-once e.caller cs distinct in
     let most = total-le cs journal distinct in
     All-cons (λ (x : Entry). Contains cs x.caller) e journal (hits-contains e.caller cs (omega (arith, all, split, once, most))) (total-all cs journal distinct (omega (arith, all, split, once, most)))
+
+-- where every entry is of one of some distinct callers, theirs are all
+pub total-length : (cs : List ℕ) (journal : List Entry) → AreDistinct cs → All (λ e. Contains cs e.caller) journal → total cs journal ≡ length journal
+total-length cs [] distinct only = total-nil cs
+total-length cs (e ∷ journal) distinct only =
+    omega (arith, total-cons cs e journal, hits-once e.caller cs distinct, hits-some e.caller cs (All-head (λ (x : Entry). Contains cs x.caller) e journal only),
+    total-length cs journal distinct (All-tail (λ (x : Entry). Contains cs x.caller) e journal only))

@@ -1,8 +1,8 @@
 pub mod Counting
-pub mod Recording
-pub mod Meeting
-pub mod Settling
 pub mod EndLines
-pub mod Statuses
+pub mod Meeting
 pub mod OneFile
+pub mod Recording
 pub mod SealEntries
+pub mod Settling
+pub mod Statuses

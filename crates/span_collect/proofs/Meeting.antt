@@ -79,7 +79,7 @@ callers_named-end NotStarted caller at = absurd cc
 
 -- what a seat that owns 0 has asked, before it meets anybody
 pub HasMet-asked : (share : ShareId) (asks : List Query) (done : ℕ) (cause : Option Cause) (asked : Asked) (seat : Seated) → HasRecorded share (asking (take done asks)) seat → seat.number ≡ 0 → asked ≡ record { done = done; cause = cause } →
-    StopsAsking seat.seen share.limit asks done cause → HasMet share [] asks [] asked seat
+    StopsAsking seat.seen share.terms.limit asks done cause → HasMet share [] asks [] asked seat
 HasMet-asked share asks done cause asked seat has first is stop = subst (λ a. HasMet share [] asks [] a seat) (sym is) (record {
   sound = has.sound;
   owned = has.alone ∙ ap (λ n. n ∷ []) first;
@@ -96,10 +96,10 @@ module _ (share : ShareId) (files : List Input) (asks : List Query) (ends : List
         ∙ ap₂ (λ (a b : List ℕ). a ++ b) met.owned worked.alone
         ∙ ap (λ l. 0 ∷ (callers_named ends ++ l)) (sym (callers_named-end end worker.number worked.named))
         ∙ ap (λ l. 0 ∷ l) (sym (filter_map-append caller_named ends (end ∷ [])));
-    ended = all_zipped_more (λ (f : Input) (e : FileEnd). EndsAs after.seen share.limit (doc f.bytes.items) e) files ends file end
-        (EachEndsAs-later share.limit main.seen after.seen files ends grows (λ c at. kept c (Contains-later 0 (callers_named ends) c at)) met.ended)
-        (EndsAs-later share.limit worker.seen after.seen (doc file.bytes.items) end (BeginsWith-length after.seen worker.seen gathers.seen_other.begins) of_worker worked.ended);
-    queries = IsAsked-later share.limit main.seen after.seen asks asked grows (kept 0 (Contains-here 0 (callers_named ends))) met.queries;
+    ended = all_zipped_more (λ (f : Input) (e : FileEnd). EndsAs after.seen share.terms.limit (doc f.bytes.items) e) files ends file end
+        (EachEndsAs-later share.terms.limit main.seen after.seen files ends grows (λ c at. kept c (Contains-later 0 (callers_named ends) c at)) met.ended)
+        (EndsAs-later share.terms.limit worker.seen after.seen (doc file.bytes.items) end (BeginsWith-length after.seen worker.seen gathers.seen_other.begins) of_worker worked.ended);
+    queries = IsAsked-later share.terms.limit main.seen after.seen asks asked grows (kept 0 (Contains-here 0 (callers_named ends))) met.queries;
   }
     where
       grows : length main.seen ≤ length after.seen
@@ -119,6 +119,6 @@ module _ (share : ShareId) (files : List Input) (asks : List Query) (ends : List
   HasMet-not_started = record {
     sound = met.sound;
     owned = met.owned ∙ ap (λ l. 0 ∷ l) (sym (filter_map-append caller_named ends (NotStarted ∷ []) ∙ append-nil (callers_named ends)));
-    ended = all_zipped_more (λ (f : Input) (e : FileEnd). EndsAs main.seen share.limit (doc f.bytes.items) e) files ends file NotStarted met.ended tt;
+    ended = all_zipped_more (λ (f : Input) (e : FileEnd). EndsAs main.seen share.terms.limit (doc f.bytes.items) e) files ends file NotStarted met.ended tt;
     queries = met.queries;
   }

@@ -51,19 +51,19 @@ operations-own c (e ∷ es) own =
     ∙ ap (λ ops. e.op ∷ ops) (operations-own c es own.1)
 
 -- a legal journal of one caller is what it told
-told-by-one : (c : ℕ) (journal : List Entry) (ops : List Op) → IsLegal journal → AllByRecursion (λ e. e.caller ≡ c) journal → operations journal c ≡ ops → journal ≡ sequential (map (λ op. (c, op)) ops)
-told-by-one c journal ops legal own told =
-    legal-sequential journal legal
-    ∙ ap sequential (calls_of-one c journal own ∙ ap (map (λ (op : Op). (c, op))) (sym (operations-own c journal own) ∙ told))
+told-by-one : (strict : Bool) (c : ℕ) (journal : List Entry) (ops : List Op) → IsLegal strict journal → AllByRecursion (λ e. e.caller ≡ c) journal → operations journal c ≡ ops → journal ≡ sequential strict (map (λ op. (c, op)) ops)
+told-by-one strict c journal ops legal own told =
+    legal-sequential strict journal legal
+    ∙ ap (sequential strict) (calls_of-one c journal own ∙ ap (map (λ (op : Op). (c, op))) (sym (operations-own c journal own) ∙ told))
 
-by-end : (limit : ℕ) (journal : List Entry) (document : Document) (end : FileEnd) (asked : Asked) (sealing : Sealing) → IsLegal journal → operations journal 0 ≡ [] → All (λ e. Contains (0 ∷ callers_named (end ∷ [])) e.caller) journal →
-    EndsAs journal limit document end → status_of (end ∷ []) asked sealing < 2 → (c : ℕ) × (journal ≡ journal_by c document)
-by-end limit journal (Ok items) (Read c count) asked sealing legal none only ended below = (c, told-by-one c journal (telling items) legal (all-of-one c journal none only) ended.1)
-by-end limit journal (Err error) (Read c count) asked sealing legal none only ended below = absurd ended
-by-end limit journal (Ok items) (Refused c code) asked sealing legal none only ended below = absurd ended
-by-end limit journal (Err error) (Refused c code) asked sealing legal none only ended below = (c, told-by-one c journal [] legal (all-of-one c journal none only) ended.1)
-by-end limit journal document (Stopped c done cause) asked sealing legal none only ended below = absurd (omega (arith, below))
-by-end limit journal document NotStarted asked sealing legal none only ended below = absurd (omega (arith, below))
+by-end : (settings : Settings) (journal : List Entry) (document : Document) (end : FileEnd) (asked : Asked) (sealing : Sealing) → IsLegal settings.strict journal → operations journal 0 ≡ [] → All (λ e. Contains (0 ∷ callers_named (end ∷ [])) e.caller) journal →
+    EndsAs journal settings.limit document end → status_of (end ∷ []) asked sealing < 2 → (c : ℕ) × (journal ≡ journal_by settings.strict c document)
+by-end settings journal (Ok items) (Read c count) asked sealing legal none only ended below = (c, told-by-one settings.strict c journal (telling items) legal (all-of-one c journal none only) ended.1)
+by-end settings journal (Err error) (Read c count) asked sealing legal none only ended below = absurd ended
+by-end settings journal (Ok items) (Refused c code) asked sealing legal none only ended below = absurd ended
+by-end settings journal (Err error) (Refused c code) asked sealing legal none only ended below = (c, told-by-one settings.strict c journal [] legal (all-of-one c journal none only) ended.1)
+by-end settings journal document (Stopped c done cause) asked sealing legal none only ended below = absurd (omega (arith, below))
+by-end settings journal document NotStarted asked sealing legal none only ended below = absurd (omega (arith, below))
 
 none_asked : (journal : List Entry) (limit : ℕ) (asked : Asked) → IsAsked journal limit [] asked → operations journal 0 ≡ []
 none_asked journal limit asked is = is.recorded ∙ first asked.done
@@ -72,22 +72,21 @@ none_asked journal limit asked is = is.recorded ∙ first asked.done
     first zero = refl
     first (suc n) = refl
 
-one-journal : (file : Input) (limit : ℕ) (ends : List FileEnd) (asked : Asked) (sealing : Sealing) (journal : List Entry) → Account (file ∷ []) [] limit ends asked journal → status_of ends asked sealing < 2 → (c : ℕ) × (journal ≡ journal_by c (doc file.bytes.items))
-one-journal file limit [] asked sealing journal account below = absurd account.each_file_once_in_order
-one-journal file limit (end ∷ []) asked sealing journal account below =
-    by-end limit journal (doc file.bytes.items) end asked sealing account.legal (none_asked journal limit asked account.each_query_once_in_order) account.nothing_else account.each_file_once_in_order.0 below
-one-journal file limit (end ∷ next ∷ ends) asked sealing journal account below = absurd account.each_file_once_in_order.1
+one-journal : (file : Input) (settings : Settings) (ends : List FileEnd) (asked : Asked) (sealing : Sealing) (journal : List Entry) → Account (file ∷ []) [] settings ends asked journal → status_of ends asked sealing < 2 → (c : ℕ) × (journal ≡ journal_by settings.strict c (doc file.bytes.items))
+one-journal file settings [] asked sealing journal account below = absurd account.each_file_once_in_order
+one-journal file settings (end ∷ []) asked sealing journal account below =
+    by-end settings journal (doc file.bytes.items) end asked sealing account.legal (none_asked journal settings.limit asked account.each_query_once_in_order) account.nothing_else account.each_file_once_in_order.0 below
+one-journal file settings (end ∷ next ∷ ends) asked sealing journal account below = absurd account.each_file_once_in_order.1
 
 -- the report of one file without a query is that of what one caller tells
 pub one_report : (files : List Input) (asks : List Query) (settings : Settings) (ends : List FileEnd) (asked : Asked) (sealing : Sealing) (journal : List Entry) (old new : SinkState) →
     SealedAccount files asks settings ends asked sealing journal → status_of ends asked sealing < 2 →
-    TakesBytes old new (report_of journal) → settings.seal ≡ false → (file : Input) → files ≡ file ∷ [] → asks ≡ [] → TakesReportOf file old new
+    TakesBytes old new (report_of journal) → settings.seal ≡ false → (file : Input) → files ≡ file ∷ [] → asks ≡ [] → TakesReportOf settings.strict file old new
 one_report files asks settings ends asked sealing journal old new sealed below takes unsealed file one none =
-    let limit = settings.limit in
-    let kept : SealsAfter false limit sealed.told journal sealing = subst (λ b. SealsAfter b limit sealed.told journal sealing) unsealed sealed.seals in
-    let account : Account files asks limit ends asked journal = subst (λ (j : List Entry). Account files asks limit ends asked j) (sym kept.0) sealed.account in
-    let alone : Account (file ∷ []) [] limit ends asked journal = subst (λ qs. Account (file ∷ []) qs limit ends asked journal) none (subst (λ fs. Account fs asks limit ends asked journal) one account) in
-    let same = one-journal file limit ends asked sealing journal alone below in (
+    let kept : SealsAfter false settings.strict settings.limit sealed.told journal sealing = subst (λ b. SealsAfter b settings.strict settings.limit sealed.told journal sealing) unsealed sealed.seals in
+    let account : Account files asks settings ends asked journal = subst (λ (j : List Entry). Account files asks settings ends asked j) (sym kept.0) sealed.account in
+    let alone : Account (file ∷ []) [] settings ends asked journal = subst (λ qs. Account (file ∷ []) qs settings ends asked journal) none (subst (λ fs. Account fs asks settings ends asked journal) one account) in
+    let same = one-journal file settings ends asked sealing journal alone below in (
       same.0,
       subst (λ (j : List Entry). TakesBytes old new (report_of j)) same.1 takes,
     )

@@ -80,7 +80,7 @@ module _ (share : ShareId) (caller : ℕ) (seat : Seated) (named : caller ≡ se
 
   -- the first items were told, and the next one was not taken
   pub IsWorked-stopped : (items told rest : List Item) (next : Item) (done : ℕ) (cause : Cause) → HasRecorded share (telling told) seat → told ++ next ∷ rest ≡ items → done ≡ length told →
-      (cause ≡ Full) ⊎ (cause ≡ Memory) → IsCauseAt share.limit (length seat.seen) cause → IsWorked share (Ok items) (Stopped caller done cause) seat
+      (cause ≡ Full) ⊎ (cause ≡ Memory) → IsCauseAt share.terms.limit (length seat.seen) cause → IsWorked share (Ok items) (Stopped caller done cause) seat
   IsWorked-stopped items told rest next done cause has all counted either at = record {
     sound = has.sound;
     alone = has.alone;
@@ -90,7 +90,7 @@ module _ (share : ShareId) (caller : ℕ) (seat : Seated) (named : caller ≡ se
         omega (arith, counted, ap length all, length-append told (next ∷ rest)),
         ap (operations seat.seen) named ∙ has.recorded ∙ ap telling (told-first told (next ∷ rest) items done all counted),
       ),
-      IsCause-at share.limit seat.seen cause either at,
+      IsCause-at share.terms.limit seat.seen cause either at,
     );
   }
 

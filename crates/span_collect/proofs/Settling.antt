@@ -9,7 +9,8 @@ use Rattle.span_ledger.specs.declared.entry.Entry.{Entry}
 use Rattle.span_ledger.specs.declared.entry.Op.{Op}
 use Rattle.span_ledger.specs.declared.entry.Op.TheVariants.{One, Ask}
 use Rattle.span_ledger.specs.declared.query.Query.{Query}
-use Rattle.span_ledger.specs.Legal.{Kept}
+use Rattle.span_ledger.specs.Legal.{IsLegal, Kept}
+use Rattle.span_share.specs.declared.turn.Terms.{Terms}
 use Rattle.span_share.specs.Callers.{calls, AreDistinct}
 use Rattle.span_share.specs.Entries.{caller_of}
 use Rattle.span_share.proofs.CallersLists.{Contains-here, Contains-later}
@@ -17,6 +18,7 @@ use Rattle.span_collect.specs.declared.files.FileEnd.{FileEnd}
 use Rattle.span_collect.specs.declared.files.FileEnd.TheVariants.{Read, Refused, Stopped, NotStarted}
 use Rattle.span_collect.specs.declared.files.Input.{Input}
 use Rattle.span_collect.specs.declared.queries.Asked.{Asked}
+use Rattle.span_collect.specs.declared.settings.Settings.{Settings}
 use Rattle.span_collect.specs.Account.{Account, Document, EndsAs, EachEndsAs, IsAsked, StopsAsking, asking, callers_named, operations, telling}
 use Rattle.span_collect.specs.Collection.{HasMore, IsClosed, calls_told, told_by}
 use Rattle.span_collect.proofs.Counting.{total, total-le, total-all}
@@ -56,38 +58,44 @@ asked-total journal limit asks asked is =
     within None stop = omega (arith, stop)
     within (Some cause) stop = omega (arith, stop.0)
 
-module _ (files : List Input) (asks : List Query) (limit : ℕ) (ends : List FileEnd) (asked : Asked) (ledger : Kept) (closed : IsClosed files asks limit ends asked ledger) where
+module _ (files : List Input) (asks : List Query) (settings : Settings) (ends : List FileEnd) (asked : Asked) (ledger : Kept) (closed : IsClosed files asks settings ends asked ledger) where
+  pub limit_is : closed.share.terms.limit ≡ settings.limit
+  limit_is = ap (λ (t : Terms). t.limit) closed.terms_are
+
+  pub strict_is : ledger.strict ≡ settings.strict
+  strict_is = closed.closes.strict ∙ ap (λ (t : Terms). t.strict) closed.terms_are
+
   kept : (c : ℕ) → Contains (0 ∷ callers_named ends) c → operations ledger.journal c ≡ operations closed.seat.seen c
   kept c at = ap (map (λ (e : Entry). e.op)) (closed.closes.seen.lists c (subst (λ l. Contains l c) (sym closed.met.owned) at))
 
   grows : length closed.seat.seen ≤ length ledger.journal
   grows = BeginsWith-length ledger.journal closed.seat.seen closed.closes.seen.begins
 
-  ended : EachEndsAs ledger.journal limit files ends
-  ended = subst (λ n. EachEndsAs ledger.journal n files ends) closed.limit_is
-      (EachEndsAs-later closed.share.limit closed.seat.seen ledger.journal files ends grows (λ c at. kept c (Contains-later 0 (callers_named ends) c at)) closed.met.ended)
+  ended : EachEndsAs ledger.journal settings.limit files ends
+  ended = subst (λ n. EachEndsAs ledger.journal n files ends) limit_is
+      (EachEndsAs-later closed.share.terms.limit closed.seat.seen ledger.journal files ends grows (λ c at. kept c (Contains-later 0 (callers_named ends) c at)) closed.met.ended)
 
-  queries : IsAsked ledger.journal limit asks asked
-  queries = subst (λ n. IsAsked ledger.journal n asks asked) closed.limit_is
-      (IsAsked-later closed.share.limit closed.seat.seen ledger.journal asks asked grows (kept 0 (Contains-here 0 (callers_named ends))) closed.met.queries)
+  queries : IsAsked ledger.journal settings.limit asks asked
+  queries = subst (λ n. IsAsked ledger.journal n asks asked) limit_is
+      (IsAsked-later closed.share.terms.limit closed.seat.seen ledger.journal asks asked grows (kept 0 (Contains-here 0 (callers_named ends))) closed.met.queries)
 
   distinct : AreDistinct (0 ∷ callers_named ends)
   distinct = subst AreDistinct closed.met.owned closed.met.sound.distinct
 
-  within : length ledger.journal ≤ limit
-  within = omega (arith, closed.closes.lawful.within, closed.closes.limit, closed.limit_is)
+  within : length ledger.journal ≤ settings.limit
+  within = omega (arith, closed.closes.lawful.within, closed.closes.limit, limit_is)
 
   all_calls : calls_told ends asked ≡ total (0 ∷ callers_named ends) ledger.journal
-  all_calls = ap₂ (λ (m n : ℕ). m + n) (asked-total ledger.journal limit asks asked queries) (told-total ledger.journal limit files ends ended)
+  all_calls = ap₂ (λ (m n : ℕ). m + n) (asked-total ledger.journal settings.limit asks asked queries) (told-total ledger.journal settings.limit files ends ended)
 
   -- the calls are no more than the entries, and so within the limit
-  pub IsClosed-few : calls_told ends asked ≤ limit
+  pub IsClosed-few : calls_told ends asked ≤ settings.limit
   IsClosed-few = omega (arith, all_calls, total-le (0 ∷ callers_named ends) ledger.journal distinct, within)
 
   -- where they are as many, nothing else stands in the journal
-  pub IsClosed-accounts : length ledger.journal ≡ calls_told ends asked → Account files asks limit ends asked ledger.journal
+  pub IsClosed-accounts : length ledger.journal ≡ calls_told ends asked → Account files asks settings ends asked ledger.journal
   IsClosed-accounts same = record {
-    legal = closed.closes.lawful.legal;
+    legal = subst (λ b. IsLegal b ledger.journal) strict_is closed.closes.lawful.legal;
     within_limit = within;
     each_file_once_in_order = ended;
     each_query_once_in_order = queries;
@@ -96,12 +104,12 @@ module _ (files : List Input) (asks : List Query) (limit : ℕ) (ends : List Fil
   }
 
   -- where they are fewer, something else does
-  pub IsClosed-more : length ledger.journal ≢ calls_told ends asked → HasMore files asks limit (length ledger.journal) (calls_told ends asked)
+  pub IsClosed-more : length ledger.journal ≢ calls_told ends asked → HasMore files asks settings (length ledger.journal) (calls_told ends asked)
   IsClosed-more differ = record {
     journal = ledger.journal;
     ends = ends;
     asked = asked;
-    legal = closed.closes.lawful.legal;
+    legal = subst (λ b. IsLegal b ledger.journal) strict_is closed.closes.lawful.legal;
     within_limit = within;
     each_file_once_in_order = ended;
     each_query_once_in_order = queries;

@@ -18,6 +18,7 @@ use Rattle.span_collect.specs.declared.files.FileEnd.{FileEnd}
 use Rattle.span_collect.specs.declared.files.FileEnd.TheVariants.{Read, Refused, Stopped, NotStarted}
 use Rattle.span_collect.specs.declared.files.Input.{Input}
 use Rattle.span_collect.specs.declared.queries.Asked.{Asked}
+use Rattle.span_collect.specs.declared.settings.Settings.{Settings}
 
 -- what a file gives: its items, or why it is refused
 abbrev pub Document : Type 0
@@ -88,10 +89,10 @@ callers_named ends = filter_map caller_named ends
 
 -- The journal accounts for the files and the queries. Each file has one end, which says how many of its items stand in the journal,
 -- once and in order; so does each query; nothing else stands there. The files' callers are distinct, and none is 0, which asks.
-pub record Account (files : List Input) (asks : List Query) (limit : ℕ) (ends : List FileEnd) (asked : Asked) (journal : List Entry) : Type 0 where
-  pub legal : IsLegal journal
-  pub within_limit : length journal ≤ limit
-  pub each_file_once_in_order : EachEndsAs journal limit files ends
-  pub each_query_once_in_order : IsAsked journal limit asks asked
+pub record Account (files : List Input) (asks : List Query) (settings : Settings) (ends : List FileEnd) (asked : Asked) (journal : List Entry) : Type 0 where
+  pub legal : IsLegal settings.strict journal
+  pub within_limit : length journal ≤ settings.limit
+  pub each_file_once_in_order : EachEndsAs journal settings.limit files ends
+  pub each_query_once_in_order : IsAsked journal settings.limit asks asked
   pub distinct_callers : AreDistinct (0 ∷ callers_named ends)
   pub nothing_else : All (λ entry. Contains (0 ∷ callers_named ends) entry.caller) journal

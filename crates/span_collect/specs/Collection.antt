@@ -13,6 +13,7 @@ use Rattle.span_collect.specs.declared.files.FileEnd.{FileEnd}
 use Rattle.span_collect.specs.declared.files.FileEnd.TheVariants.{Read, Refused, Stopped, NotStarted}
 use Rattle.span_collect.specs.declared.files.Input.{Input}
 use Rattle.span_collect.specs.declared.queries.Asked.{Asked}
+use Rattle.span_collect.specs.declared.settings.Settings.{Settings}
 use Rattle.span_collect.specs.Account.{EachEndsAs, IsAsked, callers_named}
 use Rattle.span_collect.specs.Work.{HasMet}
 
@@ -37,29 +38,29 @@ abbrev pub calls_told : List FileEnd → Asked → ℕ
 calls_told ends asked = asked.done + sum_by told_by ends
 
 -- The journal has all that the ends and `asked` tell of, and more: so many entries, of which so many calls are told.
-pub record HasMore (files : List Input) (asks : List Query) (limit : ℕ) (entries told : ℕ) : Type 0 where
+pub record HasMore (files : List Input) (asks : List Query) (settings : Settings) (entries told : ℕ) : Type 0 where
   pub journal : List Entry
   pub ends : List FileEnd
   pub asked : Asked
-  pub legal : IsLegal journal
-  pub within_limit : length journal ≤ limit
-  pub each_file_once_in_order : EachEndsAs journal limit files ends
-  pub each_query_once_in_order : IsAsked journal limit asks asked
+  pub legal : IsLegal settings.strict journal
+  pub within_limit : length journal ≤ settings.limit
+  pub each_file_once_in_order : EachEndsAs journal settings.limit files ends
+  pub each_query_once_in_order : IsAsked journal settings.limit asks asked
   pub distinct_callers : AreDistinct (0 ∷ callers_named ends)
   pub entries_are : entries ≡ length journal
   pub told_are : told ≡ calls_told ends asked
   pub more : told < entries
 
 -- why there is no outcome
-abbrev pub IsRefused : List Input → List Query → ℕ → CollectError → Type 0
-IsRefused files asks limit FileCount = AreNoneOrTooMany files
-IsRefused files asks limit Memory = ⊤
-IsRefused files asks limit (Unaccounted entries calls) = HasMore files asks limit entries calls
+abbrev pub IsRefused : List Input → List Query → Settings → CollectError → Type 0
+IsRefused files asks settings FileCount = AreNoneOrTooMany files
+IsRefused files asks settings Memory = ⊤
+IsRefused files asks settings (Unaccounted entries calls) = HasMore files asks settings entries calls
 
--- the main seat met all workers, and closed the share of this limit
-pub record IsClosed (files : List Input) (asks : List Query) (limit : ℕ) (ends : List FileEnd) (asked : Asked) (ledger : Kept) : Type 0 where
+-- the main seat met all workers, and closed the share that these settings started
+pub record IsClosed (files : List Input) (asks : List Query) (settings : Settings) (ends : List FileEnd) (asked : Asked) (ledger : Kept) : Type 0 where
   pub share : ShareId
   pub seat : Seated
   pub met : HasMet share files asks ends asked seat
   pub closes : Closes share seat ledger
-  pub limit_is : share.limit ≡ limit
+  pub terms_are : share.terms ≡ record { limit = settings.limit; strict = settings.strict }

@@ -1,7 +1,7 @@
 pub mod Account
-pub mod Work
 pub mod Collection
 pub mod FaultLines
 pub mod Run
 pub mod Seals
 pub mod Words
+pub mod Work

@@ -67,18 +67,18 @@ pub record IsCutShort (files : List Input) (asks : List Query) (settings : Setti
 abbrev pub RunLeaves : RunError → List Input → List Query → Settings → SinkState → SinkState → Type 0
 RunLeaves FileCount files asks settings old new = AreNoneOrTooMany files × (new ≡ old)
 RunLeaves Memory files asks settings old new = new ≡ old
-RunLeaves (Unaccounted entries calls) files asks settings old new = HasMore files asks settings.limit entries calls × (new ≡ old)
+RunLeaves (Unaccounted entries calls) files asks settings old new = HasMore files asks settings entries calls × (new ≡ old)
 RunLeaves (Output written) files asks settings old new = IsCutShort files asks settings written old new
 
 -- the journal that one caller makes of a document: of all its items, and of none where it is refused
-abbrev pub journal_by : ℕ → Document → List Entry
-journal_by caller (Ok items) = sequential (map (λ op. (caller, op)) (telling items))
-journal_by caller (Err error) = []
+abbrev pub journal_by : Bool → ℕ → Document → List Entry
+journal_by strict caller (Ok items) = sequential strict (map (λ op. (caller, op)) (telling items))
+journal_by strict caller (Err error) = []
 
 -- the report of the journal that one caller makes of the file was written
-abbrev pub TakesReportOf : Input → SinkState → SinkState → Type 0
-TakesReportOf file old new = (caller : ℕ) × TakesBytes old new (report_of (journal_by caller (doc file.bytes.items)))
+abbrev pub TakesReportOf : Bool → Input → SinkState → SinkState → Type 0
+TakesReportOf strict file old new = (caller : ℕ) × TakesBytes old new (report_of (journal_by strict caller (doc file.bytes.items)))
 
 -- where one file is given, no query and no wish to seal, and the status isn't 2, the report of that file was written
 abbrev pub ReportsOneFile : List Input → List Query → Settings → ℕ → SinkState → SinkState → Type 0
-ReportsOneFile files asks settings status old new = status < 2 → settings.seal ≡ false → (file : Input) → files ≡ file ∷ [] → asks ≡ [] → TakesReportOf file old new
+ReportsOneFile files asks settings status old new = status < 2 → settings.seal ≡ false → (file : Input) → files ≡ file ∷ [] → asks ≡ [] → TakesReportOf settings.strict file old new

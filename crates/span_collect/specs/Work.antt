@@ -21,7 +21,7 @@ IsNewSeat share seat = HasRecorded share [] seat
 -- What is needed to start the workers of at most 64 files: the main seat and, for each file, perhaps a seat have recorded nothing; no
 -- file has an end yet, and there is room for that of each.
 pub record IsReadyToWork (share : ShareId) (files : List Input) (seats : List (Option Seated)) (main : Seated) (ends : Vec FileEnd) : Type 0 where
-  pub small : share.limit < 2 ^ 32
+  pub small : share.terms.limit < 2 ^ 32
   pub fresh : IsNewSeat share main
   pub first : main.number ≡ 0
   pub count : length seats ≡ length files
@@ -35,11 +35,11 @@ pub record IsWorked (share : ShareId) (document : Document) (end : FileEnd) (sea
   pub sound : IsSeatOf share seat
   pub alone : seat.owned ≡ seat.number ∷ []
   pub named : caller_named end ≡ Some seat.number
-  pub ended : EndsAs seat.seen share.limit document end
+  pub ended : EndsAs seat.seen share.terms.limit document end
 
 -- a seat that has asked the queries and has met the workers of these files, whose numbers it owns in the files' order
 pub record HasMet (share : ShareId) (files : List Input) (asks : List Query) (ends : List FileEnd) (asked : Asked) (seat : Seated) : Type 0 where
   pub sound : IsSeatOf share seat
   pub owned : seat.owned ≡ 0 ∷ callers_named ends
-  pub ended : EachEndsAs seat.seen share.limit files ends
-  pub queries : IsAsked seat.seen share.limit asks asked
+  pub ended : EachEndsAs seat.seen share.terms.limit files ends
+  pub queries : IsAsked seat.seen share.terms.limit asks asked

@@ -59,7 +59,7 @@ impl CollectError {
     }
 }
 
-/// Reads 1 to 64 files and tells their items to one ledger of the settings' limit, with one worker for each file, in threads. The
+/// Reads 1 to 64 files and tells their items to one ledger of the settings' limit and strictness, with one worker for each file, in threads. The
 /// queries are asked while the workers run. Waits until all are done; then the open spans are sealed, if the settings want it.
 ///
 /// The refusals come in this order: 41 `FileCount`; 31 `Memory`, before any worker is started; 43 `Unaccounted`, before any seal.
@@ -75,14 +75,15 @@ pub fn collect<G: Gate, R: Threads + Wait + RandomSource + Sync>(
         (λ outcome. SealedAccount files.now asks.now settings.now outcome.files.items outcome.asked outcome.sealing
         outcome.ledger.journal) }
     ensures limit { IfOk result (λ outcome. outcome.ledger.limit ≡ settings.now.limit) }
+    ensures strict { IfOk result (λ outcome. outcome.ledger.strict ≡ settings.now.strict) }
     ensures count { (result ≡ Err CollectError.FileCount) ↔ AreNoneOrTooMany files.now }
-    ensures refused { IfErr result (IsRefused files.now asks.now settings.now.limit) }
+    ensures refused { IfErr result (IsRefused files.now asks.now settings.now) }
 {
     if files.is_empty() || files.len() > MOST_FILES {
         return Err(CollectError::FileCount);
     }
-    let Settings { limit, seal } = *settings;
-    let Ok(mut outcome) = collect_unsettled(rt, alloc, files, asks, gate, limit) else {
+    let settings = *settings;
+    let Ok(mut outcome) = collect_unsettled(rt, alloc, files, asks, gate, settings) else {
         return Err(CollectError::Memory);
     };
     let entries = outcome.ledger.len();
@@ -90,7 +91,7 @@ pub fn collect<G: Gate, R: Threads + Wait + RandomSource + Sync>(
     if entries != calls {
         return Err(CollectError::Unaccounted { entries, calls });
     }
-    outcome.sealing = seal_open_spans(alloc, seal, &mut outcome.ledger);
+    outcome.sealing = seal_open_spans(alloc, settings.seal, &mut outcome.ledger);
     Ok(outcome)
 }
 
@@ -101,14 +102,15 @@ fn collect_unsettled<G: Gate, R: Threads + Wait + RandomSource + Sync>(
     files: &[Input],
     asks: &[Query],
     gate: &G,
-    limit: u32,
+    settings: Settings,
 ) -> Result<Outcome, AllocError>
     requires { length files.now ≤ 64 }
     ensures closed { IfOk result
-        (λ outcome. IsClosed files.now asks.now limit outcome.files.items outcome.asked outcome.ledger) }
-    ensures small { limit < 2 ^ 32 }
+        (λ outcome. IsClosed files.now asks.now settings outcome.files.items outcome.asked outcome.ledger) }
+    ensures small { settings.limit < 2 ^ 32 }
 {
-    let (share, mut main) = Share::start_with_keys(alloc, limit, HashKeys::random(rt))?;
+    let Settings { limit, strict, .. } = settings;
+    let (share, mut main) = Share::start_with_keys(alloc, limit, strict, HashKeys::random(rt))?;
     let ends = Vec::with_capacity(alloc, files.len())?;
     let seats = enrol_all(rt, alloc, &share, &mut main, files.len())?;
     let (asked, main, files) = run_workers(rt, alloc, &share, gate, files, asks, seats, main, ends);

@@ -29,7 +29,7 @@ pub(crate) fn ask_all<G: Gate, R: Wait>(
 ) -> Asked
     requires new { IsNewSeat share.now seat.old }
     requires first { seat.old.number ≡ 0 }
-    requires small { share.now.limit < 2 ^ 32 }
+    requires small { share.now.terms.limit < 2 ^ 32 }
     ensures { HasMet share.now [] asks.now [] result seat.new }
 {
     let mut done: u32 = 0;

@@ -23,7 +23,11 @@ mod seals;
 
 // A journal of so many entries, and nothing sealed.
 const fn up_to(limit: u32) -> Settings {
-    Settings { limit, seal: false }
+    Settings {
+        limit,
+        seal: false,
+        strict: false,
+    }
 }
 
 const TURNS: u32 = 50_000_000;
@@ -146,17 +150,25 @@ fn two_are_collected(rt: &(impl Abort + AllocGlobal), outcome: &Outcome) -> Resu
     Ok(())
 }
 
-// Collects two files and asks two queries behind this gate.
+// Collects these files and asks two queries behind this gate.
+fn collect_files<G: Gate>(
+    rt: &(impl Threads + Wait + RandomSource + Sync + AllocGlobal),
+    files: &[Input],
+    gate: &G,
+    settings: &Settings,
+) -> Result<Outcome, Fail> {
+    let asks = [Query::Counts, Query::Counts];
+    Ok(collect(rt, rt.alloc(), files, &asks, gate, settings)?)
+}
+
 fn collect_two<G: Gate>(
     rt: &(impl Threads + Wait + RandomSource + Sync + AllocGlobal),
     gate: &G,
 ) -> Result<Outcome, Fail> {
-    let alloc = rt.alloc();
-    let files = files_of(alloc, 1, 2)?;
-    let asks = [Query::Counts, Query::Counts];
-    let collected = collect(rt, alloc, &files, &asks, gate, &up_to(100));
+    let files = files_of(rt.alloc(), 1, 2)?;
+    let collected = collect_files(rt, &files, gate, &up_to(100));
     drop(files);
-    Ok(collected?)
+    collected
 }
 
 #[test]

@@ -22,13 +22,33 @@ span        1               14                4 \"a\"
 span        1               10               10 \"x\"
 ";
 
+// A begin, and an end that names another span.
+const MISNAMED: &str =
+    r#"[{"ph":"B","name":"a","ts":0,"pid":1,"tid":1},{"ph":"E","name":"b","ts":5,"pid":1,"tid":1}]"#;
+
+const MISNAMED_REPORT: &str = "tracebook 1
+events 1 refused 1 skipped 0 queries 0
+seals 1
+process 1 -
+thread 1 1 - open 0 busy 0
+span        1                0                0 \"a\"
+";
+
 fn sealed_up_to(limit: u32) -> Settings {
-    Settings { limit, seal: true }
+    Settings {
+        limit,
+        seal: true,
+        strict: false,
+    }
+}
+
+fn one_file(rt: &impl AllocGlobal, text: &str) -> Result<Vec<Input>, Fail> {
+    let alloc = rt.alloc();
+    Ok(vec![in alloc; file_of(alloc, "cut.json", text)?]?)
 }
 
 fn cut_file(rt: &impl AllocGlobal) -> Result<Vec<Input>, Fail> {
-    let alloc = rt.alloc();
-    Ok(vec![in alloc; file_of(alloc, "cut.json", CUT)?]?)
+    one_file(rt, CUT)
 }
 
 fn one_is_sealed(rt: &impl Abort, outcome: &Outcome) {
@@ -61,16 +81,15 @@ fn the_open_spans_are_sealed_behind_all_that_was_told(rt: HostRuntime) -> Result
 fn run_sealed(
     rt: &(impl Threads + Wait + RandomSource + Sync + AllocGlobal),
     files: &[Input],
-    limit: u32,
+    settings: &Settings,
     out: &mut Vec<u8>,
 ) -> Result<RunEnd, Fail> {
-    let settings = sealed_up_to(limit);
     Ok(run(
         rt,
         rt.alloc(),
         files,
         &[],
-        &settings,
+        settings,
         &mut Writer::new(&mut *out),
     )?)
 }
@@ -79,7 +98,7 @@ fn run_sealed(
 fn the_report_accounts_for_the_whole_time(rt: HostRuntime) -> Result<(), Fail> {
     let files = cut_file(&rt)?;
     let mut out = Vec::new(rt.alloc());
-    let end = run_sealed(&rt, &files, 3, &mut out)?;
+    let end = run_sealed(&rt, &files, &sealed_up_to(3), &mut out)?;
     assert_eq!(rt; end.status, 0);
     assert_eq!(rt; out.as_slice(), CUT_REPORT.as_bytes());
     drop(end);
@@ -91,11 +110,27 @@ fn the_report_accounts_for_the_whole_time(rt: HostRuntime) -> Result<(), Fail> {
 fn a_seal_may_meet_the_limit(rt: HostRuntime) -> Result<(), Fail> {
     let files = cut_file(&rt)?;
     let mut out = Vec::new(rt.alloc());
-    let end = run_sealed(&rt, &files, 2, &mut out)?;
+    let end = run_sealed(&rt, &files, &sealed_up_to(2), &mut out)?;
     assert_eq!(rt; end.status, 2);
     assert_eq!(rt; end.sealing.done, 0);
     assert!(rt; end.sealing.cause == Some(Cause::Full));
     assert!(rt; out.is_empty());
+    drop(end);
+    drop(files);
+    Ok(())
+}
+
+#[test]
+fn a_seal_closes_what_a_strict_end_left_open(rt: HostRuntime) -> Result<(), Fail> {
+    let files = one_file(&rt, MISNAMED)?;
+    let mut out = Vec::new(rt.alloc());
+    let settings = Settings {
+        strict: true,
+        ..sealed_up_to(3)
+    };
+    let end = run_sealed(&rt, &files, &settings, &mut out)?;
+    assert_eq!(rt; end.status, 0);
+    assert_eq!(rt; out.as_slice(), MISNAMED_REPORT.as_bytes());
     drop(end);
     drop(files);
     Ok(())

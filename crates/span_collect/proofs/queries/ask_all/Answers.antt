@@ -31,7 +31,7 @@ returns-in-Err g c =
     let kept = HasRecorded-keeps c.args.share.now (asking (take c.loop-query.query-index asks)) c.loop-query.seat c.ask.new.seat invariant.recorded told.seat told.kept in
     HasMet-asked c.args.share.now asks c.loop-query.done (Some c.in-Err.back.cause) _ c.ask.new.seat
     (subst (λ k. HasRecorded c.args.share.now (asking (take k asks)) c.ask.new.seat) (sym invariant.done) kept) (told.kept.number ∙ invariant.first) refl
-    (omega (arith, invariant.done, c.loop-query-test.true), IsCause-at c.args.share.now.limit c.ask.new.seat.seen c.in-Err.back.cause c.in-Err.ensures.cause told.cause)
+    (omega (arith, invariant.done, c.loop-query-test.true), IsCause-at c.args.share.now.terms.limit c.ask.new.seat.seen c.in-Err.back.cause c.in-Err.ensures.cause told.cause)
 
 -- the queries so far stand before this one, whose place is below the limit
 pub overflow_add-done : goal.overflow_add-done
