@@ -1,5 +1,6 @@
 pub mod Counting
 pub mod EndLines
+pub mod InTurn
 pub mod Meeting
 pub mod OneFile
 pub mod Recording

@@ -1,5 +1,6 @@
 //! Collects files into one ledger, and accounts for each of them.
 ghost use Rattle.std.specs.Prelude.{◌≡◌, ◌+◌, ◌^◌, ◌<◌, ◌≤◌, ◌↔◌, Err, length, IfOk, IfErr};
+ghost use Rattle.span_collect.specs.InTurn.{AnswersAsInTurn};
 ghost use Rattle.span_collect.specs.Seals.{SealedAccount};
 ghost use Rattle.span_collect.specs.Collection.{AreNoneOrTooMany, IsClosed, IsRefused, collect_code, calls_told, told_by};
 
@@ -61,6 +62,8 @@ impl CollectError {
 
 /// Reads 1 to 64 files and tells their items to one ledger of the settings' limit and strictness, with one worker for each file, in threads. The
 /// queries are asked while the workers run. Waits until all are done; then the open spans are sealed, if the settings want it.
+/// Where no two files have a process or a key in common, and none was cut, the answers to each file's items are those that they get
+/// where the files are read one after another.
 ///
 /// The refusals come in this order: 41 `FileCount`; 31 `Memory`, before any worker is started; 43 `Unaccounted`, before any seal.
 pub fn collect<G: Gate, R: Threads + Wait + RandomSource + Sync>(
@@ -76,6 +79,8 @@ pub fn collect<G: Gate, R: Threads + Wait + RandomSource + Sync>(
         outcome.ledger.journal) }
     ensures limit { IfOk result (λ outcome. outcome.ledger.limit ≡ settings.now.limit) }
     ensures strict { IfOk result (λ outcome. outcome.ledger.strict ≡ settings.now.strict) }
+    ensures in_turn { IfOk result
+        (λ outcome. AnswersAsInTurn files.now asks.now settings.now outcome.files.items outcome.ledger.journal) }
     ensures count { (result ≡ Err CollectError.FileCount) ↔ AreNoneOrTooMany files.now }
     ensures refused { IfErr result (IsRefused files.now asks.now settings.now) }
 {

@@ -3,6 +3,7 @@ ghost use Rattle.std.specs.Prelude.{◌≡◌, ◌<◌, ◌↔◌, Err, IfOk, If
 ghost use Rattle.std.specs.List.{list_any};
 ghost use Rattle.span_report.specs.Report.{report_of};
 ghost use Rattle.span_report.specs.Sink.{TakesBytes};
+ghost use Rattle.span_collect.specs.InTurn.{FailsAsInTurn, ReportsAsInTurn};
 ghost use Rattle.span_collect.specs.Seals.{SealedAccount};
 ghost use Rattle.span_collect.specs.Collection.{AreNoneOrTooMany};
 ghost use Rattle.span_collect.specs.Run.{run_code, is_cut, is_refused, status_of, IsRunOf, RunLeaves, ReportsOneFile};
@@ -73,7 +74,8 @@ pub struct Collected {
 }
 
 /// Collects 1 to 64 files, with one worker for each in threads of their own, seals what stays open if the settings want it, and
-/// writes the report of their journal.
+/// writes the report of their journal. Where no two files have a process or a key in common it is that of the files read one after
+/// another, whatever the order of the workers.
 pub fn run<O: Sink, R: Threads + Wait + RandomSource + Sync>(
     rt: &R,
     alloc: Global,
@@ -85,9 +87,13 @@ pub fn run<O: Sink, R: Threads + Wait + RandomSource + Sync>(
     ensures run { IfOk result (λ run. IsRunOf files.now asks.now settings.now run (O.state out.old) (O.state out.new)) }
     ensures one_file { IfOk result
         (λ run. ReportsOneFile files.now asks.now settings.now run.status (O.state out.old) (O.state out.new)) }
+    ensures in_turn { IfOk result
+        (λ run. ReportsAsInTurn files.now asks.now settings.now run.status (O.state out.old) (O.state out.new)) }
     ensures count { (result ≡ Err RunError.FileCount) ↔ AreNoneOrTooMany files.now }
     ensures error { IfErr result
         (λ error. RunLeaves error files.now asks.now settings.now (O.state out.old) (O.state out.new)) }
+    ensures error_in_turn { IfErr result
+        (λ error. FailsAsInTurn error files.now asks.now settings.now (O.state out.old) (O.state out.new)) }
 {
     let collected = run_to_ledger(rt, alloc, files, asks, settings, out)?;
     Ok(collected.end)
@@ -106,9 +112,13 @@ pub fn run_to_ledger<O: Sink, R: Threads + Wait + RandomSource + Sync>(
         (λ collected. IsRunOf files.now asks.now settings.now collected.end (O.state out.old) (O.state out.new)) }
     ensures one_file { IfOk result
         (λ collected. ReportsOneFile files.now asks.now settings.now collected.end.status (O.state out.old) (O.state out.new)) }
+    ensures in_turn { IfOk result
+        (λ collected. ReportsAsInTurn files.now asks.now settings.now collected.end.status (O.state out.old) (O.state out.new)) }
     ensures count { (result ≡ Err RunError.FileCount) ↔ AreNoneOrTooMany files.now }
     ensures error { IfErr result
         (λ error. RunLeaves error files.now asks.now settings.now (O.state out.old) (O.state out.new)) }
+    ensures error_in_turn { IfErr result
+        (λ error. FailsAsInTurn error files.now asks.now settings.now (O.state out.old) (O.state out.new)) }
     ensures account { IfOk result
         (λ collected. SealedAccount files.now asks.now settings.now collected.end.ends.items collected.end.asked
         collected.end.sealing collected.ledger.journal) }

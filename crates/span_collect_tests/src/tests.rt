@@ -18,6 +18,7 @@ use std::thread::Threads;
 mod cut;
 mod gates;
 mod growths;
+mod in_turn;
 mod outputs;
 mod seals;
 

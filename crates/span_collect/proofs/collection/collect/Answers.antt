@@ -1,6 +1,7 @@
 use Rattle.std.proofs.Common.{◌≡◌, Bool, ℕ, sym, subst, ◌∙◌, arith}
 use Rattle.span_ledger.specs.Legal.{IsLegal}
 use Rattle.span_collect.specs.Seals.{SealsAfter}
+use Rattle.span_collect.proofs.InTurn.Accounted.{SealedAccount-answers}
 use Rattle.span_collect.proofs.Settling.{limit_is, strict_is, IsClosed-few, IsClosed-accounts, IsClosed-more}
 use Rattle.span_collect.proofs.collection.collect.Goals as goal
 
@@ -31,3 +32,7 @@ pub returns-then-entries-calls-clause-refused : goal.returns-then-entries-calls-
 returns-then-entries-calls-clause-refused g c =
     let calls = rw c.deref.ensures.value at c.count_calls-calls.ensures in
     rw (c.len-entries.ensures.length, calls) (IsClosed-more _ _ _ _ _ _ c.in-Ok.ensures.closed (λ same. c.if-entries-calls.true (c.len-entries.ensures.length ∙ same ∙ sym calls)))
+
+-- the answers are those of the files in turn
+pub returns-clause-in_turn : goal.returns-clause-in_turn
+returns-clause-in_turn g c = SealedAccount-answers _ _ _ _ _ _ _ (returns-clause-accounts g c)

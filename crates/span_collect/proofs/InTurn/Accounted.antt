@@ -1,0 +1,165 @@
+-- What a collection of separate files accounts for is what they give one after another.
+use Rattle.std.proofs.Common.{◌≡◌, ◌≢◌, inl, inr, ℕ, ◌<◌, ◌≤◌, List, [], ◌∷◌, ◌++◌, length, take, map, Bool, true, false, cond, ◌||◌, Contains, Option, Some, None, Ok, Err, refl, sym, ap, ap₂, subst, ◌∙◌, arith}
+use Rattle.std.specs.Prelude.{if◌then◌else◌}
+use Rattle.std.specs.List.{AllZip, list_any, range_with_len}
+use Rattle.std.specs.Option.{is_some}
+use Rattle.std.proofs.Math.Seq.{take-length}
+use Rattle.span_read.specs.Document.{doc}
+use Rattle.span_ledger.specs.declared.entry.Answer.{Answer}
+use Rattle.span_ledger.specs.declared.entry.Entry.{Entry}
+use Rattle.span_ledger.specs.declared.entry.Op.{Op}
+use Rattle.span_ledger.specs.declared.query.Query.{Query}
+use Rattle.span_ledger.specs.declared.refusal.Cause.{Cause}
+use Rattle.span_ledger.specs.Legal.{next_entry}
+use Rattle.span_ledger.specs.Topics.{AreAlike}
+use Rattle.span_ledger.proofs.Topics.Answers.{answers-follow}
+use Rattle.span_ledger.proofs.Topics.Rows.{rows-follow}
+use Rattle.span_report.specs.Report.{report_of}
+use Rattle.span_report.specs.Sink.{SinkState, TakesBytes, Fails}
+use Rattle.span_report.proofs.SameReports.{report_of-alike}
+use Rattle.span_share.specs.Callers.{calls}
+use Rattle.span_share.specs.Entries.{caller_of}
+use Rattle.span_share.proofs.CallersLists.{calls-append_other}
+use Rattle.span_collect.specs.declared.files.FileEnd.{FileEnd}
+use Rattle.span_collect.specs.declared.files.FileEnd.TheVariants.{Read, Refused, Stopped, NotStarted}
+use Rattle.span_collect.specs.declared.files.Input.{Input}
+use Rattle.span_collect.specs.declared.queries.Asked.{Asked}
+use Rattle.span_collect.specs.declared.sealing.Sealing.{Sealing}
+use Rattle.span_collect.specs.declared.settings.Settings.{Settings}
+use Rattle.span_collect.specs.Account.{Account, Document, EachEndsAs, IsRead, IsRefused, StopsAsking, callers_named, operations, telling}
+use Rattle.span_collect.specs.InTurn.{AnswersAsInTurn, AreSeparate, answers_of, items_in, journal_in_turn, told_in_turn}
+use Rattle.span_collect.specs.Run.{is_cut, is_refused, status_of}
+use Rattle.span_collect.specs.Seals.{SealedAccount, SealsAfter, StopsSealing, seals_of, with_seals}
+use Rattle.span_collect.proofs.InTurn.Alike.{Contains-place, acts_on-told, exchanges-alone}
+use Rattle.span_collect.proofs.InTurn.Counts.{AllZip-files, count_row-told}
+use Rattle.span_collect.proofs.InTurn.Exchanges.{exchanges}
+use Rattle.span_collect.proofs.InTurn.OneByOne.{told_in_turn-tells}
+use Rattle.span_collect.proofs.InTurn.Sealed.{AreAlike-sealed}
+use Rattle.span_collect.proofs.InTurn.Shared.{TellsFiles}
+
+read-tells : (journal : List Entry) (document : Document) (c count : ℕ) → IsRead journal document c count → operations journal c ≡ telling (items_in document)
+read-tells journal (Ok items) c count is = is.1
+read-tells journal (Err error) c count is = absurd is
+
+refused-tells : (journal : List Entry) (document : Document) (c code : ℕ) → IsRefused journal document c code → operations journal c ≡ telling (items_in document)
+refused-tells journal (Ok items) c code is = absurd is
+refused-tells journal (Err error) c code is = is.1
+
+-- where no file was cut the callers of the ends told all items
+ends-tell : (journal : List Entry) (limit : ℕ) (files : List Input) (ends : List FileEnd) → EachEndsAs journal limit files ends → list_any is_cut ends ≡ false →
+    AllZip (λ file c. operations journal c ≡ telling (items_in (doc file.bytes.items))) files (callers_named ends)
+ends-tell journal limit [] [] each none = tt
+ends-tell journal limit [] (end ∷ ends) each none = absurd each
+ends-tell journal limit (f ∷ fs) [] each none = absurd each
+ends-tell journal limit (f ∷ fs) (Read c count ∷ ends) each none = (read-tells journal (doc f.bytes.items) c count each.0, ends-tell journal limit fs ends each.1 none)
+ends-tell journal limit (f ∷ fs) (Refused c code ∷ ends) each none = (refused-tells journal (doc f.bytes.items) c code each.0, ends-tell journal limit fs ends each.1 none)
+ends-tell journal limit (f ∷ fs) (Stopped c done cause ∷ ends) each none = absurd cc
+ends-tell journal limit (f ∷ fs) (NotStarted ∷ ends) each none = absurd cc
+
+Account-tells : (files : List Input) (asks : List Query) (settings : Settings) (ends : List FileEnd) (asked : Asked) (journal : List Entry) → Account files asks settings ends asked journal → list_any is_cut ends ≡ false →
+    TellsFiles settings.strict files (take asked.done asks) (callers_named ends) journal
+Account-tells files asks settings ends asked journal account none = record {
+  legal = account.legal;
+  told = ends-tell journal settings.limit files ends account.each_file_once_in_order none;
+  asked = account.each_query_once_in_order.recorded;
+  distinct = account.distinct_callers;
+  only = account.nothing_else;
+}
+
+-- seals are nobody's but caller 0's
+calls-with_seals : (c : ℕ) → 0 ≢ c → (strict : Bool) (journal : List Entry) (ops : List Op) → calls caller_of c (with_seals strict journal ops) ≡ calls caller_of c journal
+calls-with_seals c other strict journal [] = refl
+calls-with_seals c other strict journal (op ∷ ops) =
+    calls-with_seals c other strict (journal ++ next_entry strict journal 0 op ∷ []) ops ∙ calls-append_other caller_of c journal (next_entry strict journal 0 op) other
+
+calls-sealed : (c : ℕ) → 0 ≢ c → (seal strict : Bool) (limit : ℕ) (told journal : List Entry) (sealing : Sealing) → SealsAfter seal strict limit told journal sealing → calls caller_of c journal ≡ calls caller_of c told
+calls-sealed c other true strict limit told journal sealing (inl adds) = ap (calls caller_of c) adds.added ∙ calls-with_seals c other strict told (take sealing.done (seals_of told))
+calls-sealed c other true strict limit told journal sealing (inr none) = ap (calls caller_of c) none.same
+calls-sealed c other false strict limit told journal sealing same = ap (calls caller_of c) same.0
+
+answers_of-exchanges : (journal : List Entry) (c : ℕ) → answers_of journal c ≡ map (λ (x : Op × Answer). x.1) (exchanges (calls caller_of c journal))
+answers_of-exchanges journal c = by (calls caller_of c journal)
+  where
+    by : (es : List Entry) → map (λ e. e.answer) es ≡ map (λ (x : Op × Answer). x.1) (exchanges es)
+    by [] = refl
+    by (e ∷ es) = ap (λ l. e.answer ∷ l) (by es)
+
+map-zip : {A : Type 0} (f g : ℕ → A) (cs ds : List ℕ) → AllZip (λ c d. f c ≡ g d) cs ds → map f cs ≡ map g ds
+map-zip f g [] [] zip = refl
+map-zip f g [] (d ∷ ds) zip = absurd zip
+map-zip f g (c ∷ cs) [] zip = absurd zip
+map-zip f g (c ∷ cs) (d ∷ ds) zip = ap₂ (λ x xs. x ∷ xs) zip.0 (map-zip f g cs ds zip.1)
+
+module _ (files : List Input) (asks : List Query) (settings : Settings) (ends : List FileEnd) (asked : Asked) (sealing : Sealing) (journal : List Entry) (sealed : SealedAccount files asks settings ends asked sealing journal) where
+  abbrev in_turn : List Entry
+  in_turn = told_in_turn settings.strict files asks
+
+  -- the answers of the files' callers are those in turn
+  pub SealedAccount-answers : AnswersAsInTurn files asks settings ends journal
+  SealedAccount-answers separate none =
+      let tells = Account-tells files asks settings ends asked sealed.told sealed.account none in
+      map-zip (answers_of journal) (answers_of in_turn) (callers_named ends) (range_with_len 1 (length files))
+      (AllZip-files _ _ (λ c d. answers_of journal c ≡ answers_of in_turn d) files (callers_named ends) (range_with_len 1 (length files)) tells.told (told_in_turn-tells settings.strict files asks).told
+      (λ place file c d at under under'.
+      let other : 0 ≢ c = (λ same. tells.distinct.0 (subst (λ n. Contains (callers_named ends) n) (sym same) (Contains-place (callers_named ends) place c under))) in
+      answers_of-exchanges journal c
+      ∙ ap (map (λ (x : Op × Answer). x.1))
+      (ap exchanges (calls-sealed c other settings.seal settings.strict settings.limit sealed.told journal sealing sealed.seals)
+      ∙ exchanges-alone answers-follow settings.strict files (take asked.done asks) separate (callers_named ends) sealed.told tells place file c at under
+      ∙ sym (exchanges-alone answers-follow settings.strict files asks separate (range_with_len 1 (length files)) in_turn (told_in_turn-tells settings.strict files asks) place file d at under'))
+      ∙ sym (answers_of-exchanges in_turn d)))
+
+  -- a status below 2 has no file cut, and all was asked and sealed
+  status-all : (cut asked_not sealed_not : Bool) (rest : ℕ) → (if cut || asked_not || sealed_not then 2 else rest) < 2 → (cut ≡ false) × (asked_not ≡ false) × (sealed_not ≡ false)
+  status-all true b c rest below = absurd (omega (arith, below))
+  status-all false true c rest below = absurd (omega (arith, below))
+  status-all false false true rest below = absurd (omega (arith, below))
+  status-all false false false rest below = (refl, refl, refl)
+
+  none_of : (o : Option Cause) → is_some o ≡ false → o ≡ None
+  none_of None is = refl
+  none_of (Some cause) is = cc
+
+  module _ (separate : AreSeparate files) (below : status_of ends asked sealing < 2) where
+    all : (list_any is_cut ends ≡ false) × (is_some asked.cause ≡ false) × (is_some sealing.cause ≡ false)
+    all = status-all (list_any is_cut ends) (is_some asked.cause) (is_some sealing.cause) (if list_any is_refused ends then 1 else 0) below
+
+    all_asked : take asked.done asks ≡ asks
+    all_asked =
+        let done : asked.done ≡ length asks = subst (λ cause. StopsAsking sealed.told settings.limit asks asked.done cause) (none_of asked.cause all.1) sealed.account.each_query_once_in_order.stop in
+        ap (λ n. take n asks) done ∙ take-length asks
+
+    AreAlike-told : AreAlike sealed.told in_turn
+    AreAlike-told =
+        let tells : TellsFiles settings.strict files asks (callers_named ends) sealed.told =
+        subst (λ qs. TellsFiles settings.strict files qs (callers_named ends) sealed.told) all_asked (Account-tells files asks settings ends asked sealed.told sealed.account all.0) in
+        let tells' = told_in_turn-tells settings.strict files asks in
+        let callers = range_with_len 1 (length files) in
+        record {
+          counts = count_row-told answers-follow settings.strict files asks separate (callers_named ends) callers sealed.told in_turn tells tells';
+          acts = acts_on-told answers-follow settings.strict files asks separate (callers_named ends) callers sealed.told in_turn tells tells';
+        }
+
+    -- the journal is like that of the files in turn
+    AreAlike-in_turn : AreAlike journal (journal_in_turn settings files asks)
+    AreAlike-in_turn = by settings.seal sealed.seals
+      where
+        by : (seal : Bool) → SealsAfter seal settings.strict settings.limit sealed.told journal sealing → AreAlike journal (cond seal (with_seals settings.strict in_turn (seals_of in_turn)) in_turn)
+        by true (inl adds) =
+            let seals = seals_of sealed.told in
+            let done : sealing.done ≡ length seals = subst (λ cause. StopsSealing journal settings.limit (length seals) (record { done = sealing.done; cause = cause })) (none_of sealing.cause all.2) adds.stop in
+            let whole : with_seals settings.strict sealed.told seals ≡ journal = sym (adds.added ∙ ap (λ n. with_seals settings.strict sealed.told (take n seals)) done ∙ ap (with_seals settings.strict sealed.told) (take-length seals)) in
+            subst (λ j. AreAlike j (with_seals settings.strict in_turn (seals_of in_turn))) whole (AreAlike-sealed answers-follow rows-follow settings.strict sealed.told in_turn AreAlike-told)
+        by true (inr none) = absurd (let memory = sym none.memory ∙ none_of sealing.cause all.2 in cc)
+        by false same = subst (λ j. AreAlike j in_turn) (sym same.0) AreAlike-told
+
+    -- so is its report
+    report_of-in_turn : report_of journal ≡ report_of (journal_in_turn settings files asks)
+    report_of-in_turn = report_of-alike journal (journal_in_turn settings files asks) AreAlike-in_turn
+
+    pub TakesBytes-in_turn : (old new : SinkState) → TakesBytes old new (report_of journal) → TakesBytes old new (report_of (journal_in_turn settings files asks))
+    TakesBytes-in_turn old new takes = subst (λ text. TakesBytes old new text) report_of-in_turn takes
+
+    pub Fails-in_turn : (written : ℕ) (old new : SinkState) → written ≤ length (report_of journal) → Fails old new (take written (report_of journal)) →
+        (written ≤ length (report_of (journal_in_turn settings files asks))) × Fails old new (take written (report_of (journal_in_turn settings files asks)))
+    Fails-in_turn written old new within fails = subst (λ text. (written ≤ length text) × Fails old new (take written text)) report_of-in_turn (within, fails)

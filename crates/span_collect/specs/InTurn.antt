@@ -1,0 +1,92 @@
+-- Files of which no two have a topic in common, and the journal in which they stand one after another.
+use Rattle.std.specs.Prelude.{◌≡◌, ◌≢◌, ℕ, ◌+◌, ◌<◌, ◌≤◌, Bool, true, false, if◌then◌else◌, List, [], ◌∷◌, ◌++◌, length, map, take, filter_map, slice_get, Contains, Option, Some, None, Ok, Err}
+use Rattle.std.specs.List.{list_any, range_with_len}
+use Rattle.span_event.specs.declared.event.Event.{Event}
+use Rattle.span_event.specs.declared.item.Item.{Item}
+use Rattle.span_event.specs.declared.item.Item.TheVariants.{Good}
+use Rattle.span_read.specs.Document.{doc}
+use Rattle.span_ledger.specs.declared.entry.Answer.{Answer}
+use Rattle.span_ledger.specs.declared.entry.Entry.{Entry}
+use Rattle.span_ledger.specs.declared.entry.Op.{Op}
+use Rattle.span_ledger.specs.declared.query.Query.{Query}
+use Rattle.span_ledger.specs.Journal.{an_event}
+use Rattle.span_ledger.specs.Legal.{sequential}
+use Rattle.span_ledger.specs.Topics.{Topic, concerns}
+use Rattle.span_report.specs.Report.{report_of}
+use Rattle.span_report.specs.Sink.{SinkState, TakesBytes, Fails}
+use Rattle.span_share.specs.Callers.{calls}
+use Rattle.span_share.specs.Entries.{caller_of}
+use Rattle.span_collect.specs.declared.files.FileEnd.{FileEnd}
+use Rattle.span_collect.specs.declared.files.Input.{Input}
+use Rattle.span_collect.specs.declared.runs.RunError.{RunError}
+use Rattle.span_collect.specs.declared.runs.RunError.TheVariants.{Output}
+use Rattle.span_collect.specs.declared.settings.Settings.{Settings}
+use Rattle.span_collect.specs.Account.{Document, asking, callers_named, telling}
+use Rattle.span_collect.specs.Run.{is_cut}
+use Rattle.span_collect.specs.Seals.{seals_of, with_seals}
+
+-- the items of a document; none where it is refused
+abbrev pub items_in : Document → List Item
+items_in (Ok items) = items
+items_in (Err error) = []
+
+abbrev pub good_event : Item → Option Event
+good_event (Good event) = Some event
+good_event item = None
+
+-- the good events of a document
+abbrev pub events_in : Document → List Event
+events_in document = filter_map good_event (items_in document)
+
+-- no topic, which is a process, an asynchronous key or a flow key, concerns a good event of both; nor then has both a counter in
+-- common, which belongs to its process
+abbrev pub AreApart : Document → Document → Type 0
+AreApart one other = (topic : Topic) (e f : Event) → Contains (events_in one) e → Contains (events_in other) f →
+    concerns topic (an_event e) ≡ true → concerns topic (an_event f) ≡ false
+
+-- so it is of each two of these files
+abbrev pub AreSeparate : List Input → Type 0
+AreSeparate files = (v w : ℕ) (one other : Input) → v ≢ w → slice_get files v ≡ Some one → slice_get files w ≡ Some other →
+    AreApart (doc one.bytes.items) (doc other.bytes.items)
+
+-- the calls that tell the files one after another, the first under this caller and each other under the next
+abbrev pub calls_from : ℕ → List Input → List (ℕ × Op)
+calls_from caller [] = []
+calls_from caller (file ∷ files) =
+    map (λ op. (caller, op)) (telling (items_in (doc file.bytes.items))) ++ calls_from (caller + 1) files
+
+-- the files one after another, the first under caller 1, and then the queries under caller 0
+abbrev pub calls_in_turn : List Input → List Query → List (ℕ × Op)
+calls_in_turn files asks = calls_from 1 files ++ map (λ op. (0, op)) (asking asks)
+
+-- the sequential journal of these calls
+abbrev pub told_in_turn : Bool → List Input → List Query → List Entry
+told_in_turn strict files asks = sequential strict (calls_in_turn files asks)
+
+-- the same with its seals behind it, where they are wanted
+abbrev pub journal_in_turn : Settings → List Input → List Query → List Entry
+journal_in_turn settings files asks =
+    let told = told_in_turn settings.strict files asks in
+    if settings.seal then with_seals settings.strict told (seals_of told) else told
+
+-- the answers that a caller got, in order
+abbrev pub answers_of : List Entry → ℕ → List Answer
+answers_of journal caller = map (λ entry. entry.answer) (calls caller_of caller journal)
+
+-- where the files are separate and none was cut, their callers, in the files' order, got the answers that the callers 1, 2 and so on
+-- get where the files are read in turn
+abbrev pub AnswersAsInTurn : List Input → List Query → Settings → List FileEnd → List Entry → Type 0
+AnswersAsInTurn files asks settings ends journal = AreSeparate files → list_any is_cut ends ≡ false →
+    map (answers_of journal) (callers_named ends) ≡ map (answers_of (told_in_turn settings.strict files asks)) (range_with_len 1 (length files))
+
+-- where the files are separate, and the status isn't 2, the report was written that they give where they are read in turn
+abbrev pub ReportsAsInTurn : List Input → List Query → Settings → ℕ → SinkState → SinkState → Type 0
+ReportsAsInTurn files asks settings status old new = AreSeparate files → status < 2 →
+    TakesBytes old new (report_of (journal_in_turn settings files asks))
+
+-- where the files are separate, and the output failed, just the first bytes of that report were written
+abbrev pub FailsAsInTurn : RunError → List Input → List Query → Settings → SinkState → SinkState → Type 0
+FailsAsInTurn (Output written) files asks settings old new = AreSeparate files →
+    (written ≤ length (report_of (journal_in_turn settings files asks)))
+    × Fails old new (take written (report_of (journal_in_turn settings files asks)))
+FailsAsInTurn error files asks settings old new = Unit {0}
