@@ -1,10 +1,15 @@
 -- The report of a journal follows from its counts, and from the acts on each topic.
-use Rattle.std.proofs.Common.{◌++◌}
+use Rattle.std.proofs.Common.{◌++◌, ap}
 use Rattle.std.specs.Prelude.{flat_map}
-use Rattle.span_ledger.proofs.Topics.Rows.{rows-follow}
-use Rattle.span_report.specs.Laws.{ReportsFollowFromActs}
+use Rattle.span_ledger.specs.Topics.{of_process}
+use Rattle.span_ledger.proofs.Topics.Rows.{rows-follow, values-follow}
+use Rattle.span_report.specs.Laws.{ProcessLinesFollowFromActs, ReportsFollowFromActs}
 use Rattle.span_report.specs.Lines.{async_line, flow_line}
 use Rattle.span_report.specs.Report.{head_lines, process_lines}
+
+-- journals that have the same acts on a process have the same lines of it
+pub process_lines-alike : ProcessLinesFollowFromActs
+process_lines-alike pid journal other alike = ap process_lines (values-follow (of_process pid) journal other alike).part
 
 -- journals that are alike have the same report
 pub report_of-alike : ReportsFollowFromActs
