@@ -22,7 +22,7 @@ default_limit = 16777216
 
 -- the settings where it doesn't say
 abbrev pub default_settings : Settings
-default_settings = record { limit = default_limit; seal = false }
+default_settings = record { limit = default_limit; seal = false; strict = false }
 
 -- the files of these names are to be collected, with the default settings
 abbrev pub NamesFiles : List (List ℕ) → Request → Type 0

@@ -15,12 +15,18 @@ pub(crate) const DEFAULT_LIMIT: u32 = 16_777_216;
 const SEAL_HELP: &str =
     "Close the spans that are still open at the end, each at the last time its thread has seen; for a trace that was cut off, and not where a missing end is a fault to look for";
 
+const STRICT_HELP: &str =
+    "Refuse an end (27) that names another span than the one it would close, which then stays open; for a trace that may have lost begins";
+
 const ABOUT: &str =
     "Reports where the time went in trace event files, of Chrome, clang, node and other tools: for each thread how long the spans of each name took, together and on their own.";
 
 const AFTER: &str =
     r#"All times are whole microseconds, as Chrome, clang, node and cmake write them. An event with
 a fraction, as Go's build trace has, is refused and counted, and begins and ends may then pair wrongly.
+
+Several files have one report, whatever the order in which their events are taken, where no two of them
+have a process in common, nor the key of an async span or flow whose id is no process's own.
 
 Status:
   0  every file was read, and the report is on standard output
@@ -56,6 +62,7 @@ pub fn request_of(alloc: Global, words: &[Text]) -> Result<Request, AllocError>
     let settings = Settings {
         limit: DEFAULT_LIMIT,
         seal: false,
+        strict: false,
     };
     Ok(Request::Collect {
         settings,
@@ -115,6 +122,10 @@ fn command_of<'a>(alloc: Global, limit_help: &'a str) -> Result<Command<'a>, All
         .long("seal")
         .action(ArgAction::SetTrue)
         .help(SEAL_HELP);
+    let strict = Arg::new(alloc, "strict")
+        .long("strict")
+        .action(ArgAction::SetTrue)
+        .help(STRICT_HELP);
     let files = Arg::new(alloc, "files")
         .value_name("FILE")
         .num_args(0..)
@@ -126,6 +137,7 @@ fn command_of<'a>(alloc: Global, limit_help: &'a str) -> Result<Command<'a>, All
         .after_help(AFTER)
         .arg(limit)?
         .arg(seal)?
+        .arg(strict)?
         .arg(files)
 }
 
@@ -143,6 +155,7 @@ fn collect_request(alloc: Global, matches: &ArgMatches<'_>) -> Result<Request, A
     let settings = Settings {
         limit: matches.get_one::<u32>("limit").unwrap_or(DEFAULT_LIMIT),
         seal: matches.get_flag("seal"),
+        strict: matches.get_flag("strict"),
     };
     let mut files = Vec::new(alloc);
     if let Some(names) = matches.get_strs("files") {

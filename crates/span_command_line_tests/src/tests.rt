@@ -167,13 +167,12 @@ fn a_failed_write_of_faults_changes_no_status(rt: HostRuntime) -> Result<(), Fai
 fn orders(
     rt: &(impl Abort + AllocGlobal),
     words: &[Text],
-    limit: u32,
-    seal: bool,
+    wanted: Settings,
     count: usize,
 ) -> Result<(), Fail> {
     match request_of(rt.alloc(), words)? {
         Request::Collect { settings, files } => {
-            assert_eq!(rt; settings, Settings { limit, seal });
+            assert_eq!(rt; settings, wanted);
             assert_eq!(rt; files.len(), count);
             Ok(())
         }
@@ -183,17 +182,23 @@ fn orders(
 
 #[test]
 fn knows_the_settings_and_the_files(rt: HostRuntime) -> Result<(), Fail> {
-    for (words, limit, seal, count) in [
-        ([].as_slice(), 16_777_216u32, false, 0usize),
-        (["-"].as_slice(), 16_777_216, false, 1),
-        (["x", "--limit", "1", "y"].as_slice(), 1, false, 2),
-        (["--limit=4294967295"].as_slice(), 4_294_967_295, false, 0),
-        (["--", "--limit"].as_slice(), 16_777_216, false, 1),
-        (["--seal"].as_slice(), 16_777_216, true, 0),
-        (["--limit", "2", "x", "--seal"].as_slice(), 2, true, 1),
+    for (words, limit, seal, strict, count) in [
+        ([].as_slice(), 16_777_216u32, false, false, 0usize),
+        (["-"].as_slice(), 16_777_216, false, false, 1),
+        (["x", "--limit", "1", "y"].as_slice(), 1, false, false, 2),
+        (["--limit=4294967295"].as_slice(), 4_294_967_295, false, false, 0),
+        (["--", "--limit"].as_slice(), 16_777_216, false, false, 1),
+        (["--seal"].as_slice(), 16_777_216, true, false, 0),
+        (["--strict"].as_slice(), 16_777_216, false, true, 0),
+        (["--strict", "--limit", "2", "x", "--seal"].as_slice(), 2, true, true, 1),
     ] {
         let texts = texts_of(rt.alloc(), words)?;
-        orders(&rt, &texts, limit, seal, count)?;
+        let wanted = Settings {
+            limit,
+            seal,
+            strict,
+        };
+        orders(&rt, &texts, wanted, count)?;
     }
     Ok(())
 }
