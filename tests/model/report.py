@@ -3,7 +3,7 @@
 docs/ledger.md (ledger.py), and prints the report of docs/report.md. It is written from these pages alone and shares nothing with
 the program, so that the two can be compared. It knows no limit of the journal, and no workers.
 
-usage: report.py [--seal] FILE...
+usage: report.py [--seal] [--strict] FILE...
 """
 import gc
 import sys
@@ -88,9 +88,9 @@ def report_of(ledger):
     return "".join(line + "\n" for line in report_lines(ledger)).encode()
 
 
-def collect(files):
+def collect(files, strict=False):
     """The ledger of files, each a name and its bytes, and the lines of those that are refused."""
-    ledger, faults = Ledger(), []
+    ledger, faults = Ledger(strict), []
     for name, data in files:
         try:
             for element in elements_of(data):
@@ -108,7 +108,8 @@ def bytes_of(path):
 def main():
     gc.disable()  # Nothing here is let go in rings, and to look for them takes long.
     words = sys.argv[1:]
-    ledger, faults = collect((path, bytes_of(path)) for path in words if path != "--seal")
+    paths = [word for word in words if word not in ("--seal", "--strict")]
+    ledger, faults = collect(((path, bytes_of(path)) for path in paths), "--strict" in words)
     if "--seal" in words:
         ledger.seal()
     sys.stdout.buffer.write(report_of(ledger))

@@ -146,6 +146,7 @@ class Thread:
         self.place = self.draw.fraction()
         self.step = (1 - self.place) / count
         self.names = [self.draw.of(trace.names) for _ in range(1 + self.draw.below(30))]
+        self.begun = []  # the names of the begins so far
         self.time = self.draw.below(1_000_000)
 
     def pass_time(self):
@@ -158,10 +159,13 @@ class Thread:
         self.place += self.step
 
     def begin(self, time):
-        self.put("B", time, f',"name":{self.draw.of(self.names)},"cat":"c"')
+        self.begun.append(self.draw.of(self.names))
+        self.put("B", time, f',"name":{self.begun[-1]},"cat":"c"')
 
     def end(self, time):
-        self.put("E", time, "" if self.draw.whether(0.7) else ',"name":"another"')
+        """Ends a span, most often without a name, or with that of the last begin that no end was put for."""
+        name = self.begun.pop() if self.begun and self.draw.whether(0.3) else '"another"'
+        self.put("E", time, "" if self.draw.whether(0.6) else f',"name":{name}')
 
     def complete(self, start, end):
         self.put("X", start, f',"dur":{end - start},"name":{self.draw.of(self.names)}')
