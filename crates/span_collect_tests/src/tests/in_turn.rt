@@ -84,14 +84,20 @@ fn has_one_report(
     Ok(())
 }
 
+fn have_one_report_sealed_or_not(
+    rt: &(impl Threads + Wait + RandomSource + Sync + Abort + AllocGlobal),
+    files: &[Input],
+) -> Result<(), Fail> {
+    has_one_report(rt, files, &UNSEALED, super::TWO_REPORT)?;
+    has_one_report(rt, files, &SEALED, super::TWO_REPORT)
+}
+
 #[test]
 fn separate_files_have_one_report(rt: HostRuntime) -> Result<(), Fail> {
     let files = files_of(rt.alloc(), 1, 2)?;
-    let told = has_one_report(&rt, &files, &UNSEALED, super::TWO_REPORT);
-    let sealed = has_one_report(&rt, &files, &SEALED, super::TWO_REPORT);
+    let told = have_one_report_sealed_or_not(&rt, &files);
     drop(files);
-    told?;
-    sealed
+    told
 }
 
 const CUT: [&str; 2] = [
@@ -149,12 +155,18 @@ fn last_sample_is(
     Ok(())
 }
 
+fn either_sample_may_be_last(
+    rt: &(impl Threads + Wait + RandomSource + Sync + Abort + AllocGlobal),
+    files: &[Input],
+) -> Result<(), Fail> {
+    last_sample_is(rt, files, 0, "1")?;
+    last_sample_is(rt, files, 1, "2")
+}
+
 #[test]
 fn files_with_a_counter_in_common_have_two_reports(rt: HostRuntime) -> Result<(), Fail> {
     let files = two_of(rt.alloc(), SAMPLES)?;
-    let told = last_sample_is(&rt, &files, 0, "1");
-    let other = last_sample_is(&rt, &files, 1, "2");
+    let told = either_sample_may_be_last(&rt, &files);
     drop(files);
-    told?;
-    other
+    told
 }
