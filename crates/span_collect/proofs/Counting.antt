@@ -72,5 +72,10 @@ total-all cs (e ∷ journal) distinct all =
 pub total-length : (cs : List ℕ) (journal : List Entry) → AreDistinct cs → All (λ e. Contains cs e.caller) journal → total cs journal ≡ length journal
 total-length cs [] distinct only = total-nil cs
 total-length cs (e ∷ journal) distinct only =
-    omega (arith, total-cons cs e journal, hits-once e.caller cs distinct, hits-some e.caller cs (All-head (λ (x : Entry). Contains cs x.caller) e journal only),
-    total-length cs journal distinct (All-tail (λ (x : Entry). Contains cs x.caller) e journal only))
+    omega (
+      arith,
+      total-cons cs e journal,
+      hits-once e.caller cs distinct,
+      hits-some e.caller cs (All-head (λ (x : Entry). Contains cs x.caller) e journal only),
+      total-length cs journal distinct (All-tail (λ (x : Entry). Contains cs x.caller) e journal only),
+    )

@@ -186,11 +186,23 @@ fn knows_the_settings_and_the_files(rt: HostRuntime) -> Result<(), Fail> {
         ([].as_slice(), 16_777_216u32, false, false, 0usize),
         (["-"].as_slice(), 16_777_216, false, false, 1),
         (["x", "--limit", "1", "y"].as_slice(), 1, false, false, 2),
-        (["--limit=4294967295"].as_slice(), 4_294_967_295, false, false, 0),
+        (
+            ["--limit=4294967295"].as_slice(),
+            4_294_967_295,
+            false,
+            false,
+            0,
+        ),
         (["--", "--limit"].as_slice(), 16_777_216, false, false, 1),
         (["--seal"].as_slice(), 16_777_216, true, false, 0),
         (["--strict"].as_slice(), 16_777_216, false, true, 0),
-        (["--strict", "--limit", "2", "x", "--seal"].as_slice(), 2, true, true, 1),
+        (
+            ["--strict", "--limit", "2", "x", "--seal"].as_slice(),
+            2,
+            true,
+            true,
+            1,
+        ),
     ] {
         let texts = texts_of(rt.alloc(), words)?;
         let wanted = Settings {

@@ -118,9 +118,9 @@ module _ (answers-follow : AnswersFollowFromActs) (strict : Bool) (files : List 
         let each : Op → ℕ = λ op. cond (same_kind kind replied_kind) 1 0 in
         let queries : AreAsMany test journal other 0 0 = count_by-queries cs journal tells kind ∙ ap (sum_by each) (tells.asked ∙ sym tells'.asked) ∙ sym (count_by-queries ds other tells' kind) in
         let items = AllZip-files _ _ (AreAsMany test journal other) files cs ds tells.told tells'.told
-            (λ place file c d at under under'. count_by-exchanges kind (calls caller_of c journal)
-            ∙ ap (sum_by (λ (x : Op × Answer). cond (is_of kind x.1) 1 0)) (exchanges-alone answers-follow strict files asks separate cs journal tells place file c at under ∙ sym (exchanges-alone answers-follow strict files asks separate ds other tells' place file d at under'))
-            ∙ sym (count_by-exchanges kind (calls caller_of d other))) in
+        (λ place file c d at under under'. count_by-exchanges kind (calls caller_of c journal)
+        ∙ ap (sum_by (λ (x : Op × Answer). cond (is_of kind x.1) 1 0)) (exchanges-alone answers-follow strict files asks separate cs journal tells place file c at under ∙ sym (exchanges-alone answers-follow strict files asks separate ds other tells' place file d at under'))
+        ∙ sym (count_by-exchanges kind (calls caller_of d other))) in
         total-filter test (0 ∷ cs) journal tells.distinct tells.only
         ∙ total-zip test (0 ∷ cs) (0 ∷ ds) journal other (queries, items)
         ∙ sym (total-filter test (0 ∷ ds) other tells'.distinct tells'.only)

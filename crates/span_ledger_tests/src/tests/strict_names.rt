@@ -20,7 +20,8 @@ Closed { start: 0, length: 5, args: Args { pairs: [] } }
 Refused(21)
 "#;
 
-const OTHER_NAME: &str = r#"[{"ph":"B","name":"b","ts":0,"pid":1,"tid":1},{"ph":"B","name":"a","ts":1,"pid":1,"tid":1},
+const OTHER_NAME: &str =
+    r#"[{"ph":"B","name":"b","ts":0,"pid":1,"tid":1},{"ph":"B","name":"a","ts":1,"pid":1,"tid":1},
     {"ph":"E","name":"b","ts":5,"pid":1,"tid":1}]"#;
 
 fn strict_ends_in(rt: &(impl Abort + AllocGlobal), ledger: &mut Ledger) -> Result<(), Fail> {
