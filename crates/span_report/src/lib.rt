@@ -11,5 +11,5 @@ mod writer;
 pub use lines::json_text;
 pub use output::{WriteFault, write_bytes, write_report};
 pub use sink::{Sink, SinkFault};
-pub use text::report;
+pub use text::{head, report};
 pub use writer::Writer;

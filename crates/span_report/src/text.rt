@@ -1,26 +1,28 @@
 //! The text of a report: one walk over the processes of a ledger, their threads, and what each has.
 ghost use Rattle.std.specs.Prelude.{◌≡◌, ◌++◌, string_bytes, flat_map, OnOk, IfOk};
+ghost use Rattle.span_ledger.specs.Rows.{count_row};
 ghost use Rattle.span_report.specs.Report.{head_lines, process_lines, report_of, thread_lines};
 
 use crate::lines::{Printed, put_counts, put_seals, start};
-use span_ledger::{CountRow, Ledger, ProcessPart, ThreadPart};
+use span_ledger::{Ledger, ProcessPart, ThreadPart};
 use std::alloc::{AllocError, Global};
 
 /// The text of the report of the ledger's journal.
 pub fn report(alloc: Global, ledger: &Ledger) -> Result<Vec<u8>, AllocError>
     ensures { IfOk result (λ text. text.items ≡ report_of ledger.now.journal) }
 {
-    let mut out = head(alloc, ledger.counts())?;
+    let mut out = head(alloc, ledger)?;
     put_each(alloc, &mut out, &ledger.parts(alloc)?)?;
     put_each(alloc, &mut out, &ledger.async_rows(alloc)?)?;
     put_each(alloc, &mut out, &ledger.flow_rows(alloc)?)?;
     Ok(out.into_bytes())
 }
 
-// The lines that every report begins with.
-fn head(alloc: Global, counts: CountRow) -> Result<String, AllocError>
-    ensures { IfOk result (λ text. string_bytes text ≡ head_lines counts) }
+/// The lines that every report begins with.
+pub fn head(alloc: Global, ledger: &Ledger) -> Result<String, AllocError>
+    ensures { IfOk result (λ text. string_bytes text ≡ head_lines (count_row ledger.now.journal)) }
 {
+    let counts = ledger.counts();
     let mut out = start(alloc)?;
     put_counts(&mut out, counts)?;
     put_seals(&mut out, counts.seals)?;
