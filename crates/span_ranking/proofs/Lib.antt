@@ -1,0 +1,3 @@
+pub mod DistinctRows
+pub mod SameRankings
+pub mod Sorting
