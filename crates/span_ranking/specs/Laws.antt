@@ -13,6 +13,7 @@ pub record RanksEachRow (by : By) (journal : List Entry) : Type 0 where
   pub rows : IsPermutation (all_ranked (process_parts journal)) (ranked_by by (process_parts journal))
   pub order : IsStrictlySortedBy (rank_order by) (ranked_by by (process_parts journal))
 
+-- this holds of each journal, by whatever number
 abbrev pub RankingsHaveEachRow : Type 0
 RankingsHaveEachRow = (by : By) (journal : List Entry) → RanksEachRow by journal
 

@@ -13,6 +13,7 @@ use Rattle.span_ranking.specs.Ranks.{RankedRow, ranked_by}
 unfoldable pub column_line : List ℕ
 column_line = line_of (right_in 16 (codes "self") ∷ right_in 16 (codes "total") ∷ right_in 8 (codes "count") ∷ codes "pid" ∷ codes "tid" ∷ codes "thread" ∷ codes "name" ∷ [])
 
+-- the line of a row
 unfoldable pub ranked_line : RankedRow → List ℕ
 ranked_line ranked = let row = ranked.row in
     line_of (right_in 16 (decimal row.self_time) ∷ right_in 16 (decimal row.total) ∷ right_in 8 (decimal row.count) ∷ signed_decimal row.pid ∷ signed_decimal row.tid ∷ or_dash json_text_of ranked.thread ∷ json_text_of row.name ∷ [])
