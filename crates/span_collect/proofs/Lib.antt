@@ -2,6 +2,7 @@ pub mod Counting
 pub mod EndLines
 pub mod InTurn
 pub mod Meeting
+pub mod NotCollected
 pub mod OneFile
 pub mod Recording
 pub mod SealEntries

@@ -1,5 +1,5 @@
 -- What a run does.
-use Rattle.std.specs.Prelude.{◌≡◌, ℕ, ◌<◌, ◌≤◌, Bool, true, false, ◌||◌, if◌then◌else◌, List, [], ◌∷◌, length, map, take, Ok, Err}
+use Rattle.std.specs.Prelude.{◌≡◌, ℕ, ◌<◌, ◌≤◌, Bool, true, false, ◌||◌, if◌then◌else◌, ⊤, List, [], ◌∷◌, length, map, take, Ok, Err}
 use Rattle.std.specs.List.{list_any}
 use Rattle.std.specs.Option.{is_some}
 use Rattle.span_event.specs.declared.fault.Fault.TheVariants.{FileCount as FileCountFault, Memory as MemoryFault, Unaccounted as UnaccountedFault, Output as OutputFault}
@@ -43,32 +43,39 @@ is_refused end = false
 abbrev pub status_of : List FileEnd → Asked → Sealing → ℕ
 status_of ends asked sealing = if list_any is_cut ends || is_some asked.cause || is_some sealing.cause then 2 else if list_any is_refused ends then 1 else 0
 
--- a journal accounts for the files, the queries and the seals; unless the status is 2 its report was written, else nothing
-pub record IsRunOf (files : List Input) (asks : List Query) (settings : Settings) (run : RunEnd) (old new : SinkState) : Type 0 where
+-- a journal accounts for the files, the queries and the seals; unless the status is 2 its text was written, as its report is, else nothing
+pub record IsRunOf (text : List Entry → List ℕ) (files : List Input) (asks : List Query) (settings : Settings) (run : RunEnd) (old new : SinkState) : Type 0 where
   pub journal : List Entry
   pub account : SealedAccount files asks settings run.ends.items run.asked run.sealing journal
   pub status : run.status ≡ status_of run.ends.items run.asked run.sealing
-  pub written : run.status < 2 → TakesBytes old new (report_of journal)
+  pub written : run.status < 2 → TakesBytes old new (text journal)
   pub silent : run.status ≡ 2 → new ≡ old
 
 -- a journal accounts for the files, each read or refused, and for all queries and seals, and just the first `written` bytes of its
--- report were written
-pub record IsCutShort (files : List Input) (asks : List Query) (settings : Settings) (written : ℕ) (old new : SinkState) : Type 0 where
+-- text were written
+pub record IsCutShort (text : List Entry → List ℕ) (files : List Input) (asks : List Query) (settings : Settings) (written : ℕ) (old new : SinkState) : Type 0 where
   pub ends : List FileEnd
   pub asked : Asked
   pub sealing : Sealing
   pub journal : List Entry
   pub account : SealedAccount files asks settings ends asked sealing journal
   pub status : status_of ends asked sealing < 2
-  pub within : written ≤ length (report_of journal)
-  pub output : Fails old new (take written (report_of journal))
+  pub within : written ≤ length (text journal)
+  pub output : Fails old new (take written (text journal))
 
--- why a run is refused, and what it leaves: only a failed output took bytes
-abbrev pub RunLeaves : RunError → List Input → List Query → Settings → SinkState → SinkState → Type 0
-RunLeaves FileCount files asks settings old new = AreNoneOrTooMany files × (new ≡ old)
-RunLeaves Memory files asks settings old new = new ≡ old
-RunLeaves (Unaccounted entries calls) files asks settings old new = HasMore files asks settings entries calls × (new ≡ old)
-RunLeaves (Output written) files asks settings old new = IsCutShort files asks settings written old new
+-- why files are not collected
+abbrev pub IsNotCollected : RunError → List Input → List Query → Settings → Type 0
+IsNotCollected FileCount files asks settings = AreNoneOrTooMany files
+IsNotCollected Memory files asks settings = ⊤
+IsNotCollected (Unaccounted entries calls) files asks settings = HasMore files asks settings entries calls
+IsNotCollected (Output written) files asks settings = ⊥
+
+-- why a run that writes this text is refused, and what it leaves: only a failed output took bytes
+abbrev pub RunLeaves : (List Entry → List ℕ) → RunError → List Input → List Query → Settings → SinkState → SinkState → Type 0
+RunLeaves text FileCount files asks settings old new = AreNoneOrTooMany files × (new ≡ old)
+RunLeaves text Memory files asks settings old new = new ≡ old
+RunLeaves text (Unaccounted entries calls) files asks settings old new = HasMore files asks settings entries calls × (new ≡ old)
+RunLeaves text (Output written) files asks settings old new = IsCutShort text files asks settings written old new
 
 -- the journal that one caller makes of a document: of all its items, and of none where it is refused
 abbrev pub journal_by : Bool → ℕ → Document → List Entry

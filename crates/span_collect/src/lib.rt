@@ -19,7 +19,7 @@ pub use faults::{fault_line_of, fault_lines};
 pub use files::{FileEnd, Input};
 pub use gate::{FreeGate, Gate};
 pub use queries::Asked;
-pub use runs::{Collected, RunEnd, RunError, run, run_to_ledger};
+pub use runs::{Collected, RunEnd, RunError, collect_to_ledger, run, run_to_ledger};
 pub use sealing::Sealing;
 pub use settings::Settings;
 pub use words::{fault_word, numbered_text};

@@ -6,7 +6,7 @@ ghost use Rattle.span_report.specs.Sink.{TakesBytes};
 ghost use Rattle.span_collect.specs.InTurn.{FailsAsInTurn, ReportsAsInTurn};
 ghost use Rattle.span_collect.specs.Seals.{SealedAccount};
 ghost use Rattle.span_collect.specs.Collection.{AreNoneOrTooMany};
-ghost use Rattle.span_collect.specs.Run.{run_code, is_cut, is_refused, status_of, IsRunOf, RunLeaves, ReportsOneFile};
+ghost use Rattle.span_collect.specs.Run.{run_code, is_cut, is_refused, status_of, IsNotCollected, IsRunOf, RunLeaves, ReportsOneFile};
 
 use crate::collection::{CollectError, collect};
 use crate::files::{FileEnd, Input};
@@ -84,14 +84,15 @@ pub fn run<O: Sink, R: Threads + Wait + RandomSource + Sync>(
     settings: &Settings,
     out: &mut O,
 ) -> Result<RunEnd, RunError>
-    ensures run { IfOk result (λ run. IsRunOf files.now asks.now settings.now run (O.state out.old) (O.state out.new)) }
+    ensures run { IfOk result
+        (λ run. IsRunOf report_of files.now asks.now settings.now run (O.state out.old) (O.state out.new)) }
     ensures one_file { IfOk result
         (λ run. ReportsOneFile files.now asks.now settings.now run.status (O.state out.old) (O.state out.new)) }
     ensures in_turn { IfOk result
         (λ run. ReportsAsInTurn files.now asks.now settings.now run.status (O.state out.old) (O.state out.new)) }
     ensures count { (result ≡ Err RunError.FileCount) ↔ AreNoneOrTooMany files.now }
     ensures error { IfErr result
-        (λ error. RunLeaves error files.now asks.now settings.now (O.state out.old) (O.state out.new)) }
+        (λ error. RunLeaves report_of error files.now asks.now settings.now (O.state out.old) (O.state out.new)) }
     ensures error_in_turn { IfErr result
         (λ error. FailsAsInTurn error files.now asks.now settings.now (O.state out.old) (O.state out.new)) }
 {
@@ -109,14 +110,14 @@ pub fn run_to_ledger<O: Sink, R: Threads + Wait + RandomSource + Sync>(
     out: &mut O,
 ) -> Result<Collected, RunError>
     ensures run { IfOk result
-        (λ collected. IsRunOf files.now asks.now settings.now collected.end (O.state out.old) (O.state out.new)) }
+        (λ collected. IsRunOf report_of files.now asks.now settings.now collected.end (O.state out.old) (O.state out.new)) }
     ensures one_file { IfOk result
         (λ collected. ReportsOneFile files.now asks.now settings.now collected.end.status (O.state out.old) (O.state out.new)) }
     ensures in_turn { IfOk result
         (λ collected. ReportsAsInTurn files.now asks.now settings.now collected.end.status (O.state out.old) (O.state out.new)) }
     ensures count { (result ≡ Err RunError.FileCount) ↔ AreNoneOrTooMany files.now }
     ensures error { IfErr result
-        (λ error. RunLeaves error files.now asks.now settings.now (O.state out.old) (O.state out.new)) }
+        (λ error. RunLeaves report_of error files.now asks.now settings.now (O.state out.old) (O.state out.new)) }
     ensures error_in_turn { IfErr result
         (λ error. FailsAsInTurn error files.now asks.now settings.now (O.state out.old) (O.state out.new)) }
     ensures account { IfOk result
@@ -125,6 +126,37 @@ pub fn run_to_ledger<O: Sink, R: Threads + Wait + RandomSource + Sync>(
     ensures report { IfOk result
         (λ collected. collected.end.status < 2
         → TakesBytes (O.state out.old) (O.state out.new) (report_of collected.ledger.journal)) }
+{
+    let collected = match collect_to_ledger(rt, alloc, files, asks, settings) {
+        Ok(collected) => collected,
+        Err(error) => return Err(error),
+    };
+    if collected.end.status == 2 {
+        return Ok(collected);
+    }
+    match write_report(alloc, &collected.ledger, out) {
+        Ok(()) => Ok(collected),
+        Err(WriteFault::Memory) => Err(RunError::Memory),
+        Err(WriteFault::Output { written }) => Err(RunError::Output { written }),
+    }
+}
+
+/// Collects as `run` does, and writes nothing: for a caller that prints another text than the report, where the status is below 2.
+pub fn collect_to_ledger<R: Threads + Wait + RandomSource + Sync>(
+    rt: &R,
+    alloc: Global,
+    files: &[Input],
+    asks: &[Query],
+    settings: &Settings,
+) -> Result<Collected, RunError>
+    ensures account { IfOk result
+        (λ collected. SealedAccount files.now asks.now settings.now collected.end.ends.items collected.end.asked
+        collected.end.sealing collected.ledger.journal) }
+    ensures status { IfOk result
+        (λ collected. collected.end.status
+        ≡ status_of collected.end.ends.items collected.end.asked collected.end.sealing) }
+    ensures count { (result ≡ Err RunError.FileCount) ↔ AreNoneOrTooMany files.now }
+    ensures error { IfErr result (λ error. IsNotCollected error files.now asks.now settings.now) }
 {
     let outcome = match collect(rt, alloc, files, asks, &FreeGate, settings) {
         Ok(outcome) => outcome,
@@ -135,7 +167,7 @@ pub fn run_to_ledger<O: Sink, R: Threads + Wait + RandomSource + Sync>(
         }
     };
     let status = exit_status(&outcome.files, outcome.asked, outcome.sealing);
-    let collected = Collected {
+    Ok(Collected {
         end: RunEnd {
             status,
             ends: outcome.files,
@@ -143,15 +175,7 @@ pub fn run_to_ledger<O: Sink, R: Threads + Wait + RandomSource + Sync>(
             sealing: outcome.sealing,
         },
         ledger: outcome.ledger,
-    };
-    if status == 2 {
-        return Ok(collected);
-    }
-    match write_report(alloc, &collected.ledger, out) {
-        Ok(()) => Ok(collected),
-        Err(WriteFault::Memory) => Err(RunError::Memory),
-        Err(WriteFault::Output { written }) => Err(RunError::Output { written }),
-    }
+    })
 }
 
 fn exit_status(ends: &[FileEnd], asked: Asked, sealing: Sealing) -> u8
