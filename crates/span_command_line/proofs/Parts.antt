@@ -9,11 +9,13 @@ use Rattle.span_collect.specs.declared.settings.Settings.{Settings}
 use Rattle.span_collect.specs.declared.runs.RunEnd.{RunEnd}
 use Rattle.span_collect.specs.Run.{IsRunOf}
 use Rattle.span_collect.proofs.Statuses.{status_of-lt}
+use Rattle.span_command_line.specs.declared.view.View.{View}
 use Rattle.span_command_line.specs.Request.{LeavesPart}
+use Rattle.span_command_line.specs.View.{text_of}
 
--- a run that didn't end with 0 wrote nothing, or its whole report
-pub LeavesPart-ended : (run : RunEnd) (inputs : List Input) (settings : Settings) (old new : SinkState) → IsRunOf inputs [] settings run old new → run.status ≢ 0 → LeavesPart inputs settings old new
-LeavesPart-ended run inputs settings old new is_run failed = dite (ℕ_discrete run.status 2)
+-- a run that didn't end with 0 wrote nothing, or its whole text
+pub LeavesPart-ended : (run : RunEnd) (inputs : List Input) (settings : Settings) (view : View) (old new : SinkState) → IsRunOf (text_of view) inputs [] settings run old new → run.status ≢ 0 → LeavesPart inputs settings view old new
+LeavesPart-ended run inputs settings view old new is_run failed = dite (ℕ_discrete run.status 2)
     (λ (two : run.status ≡ 2). inl (record { run = run; is_run = is_run; ended = two }))
     (λ (other : ¬ (run.status ≡ 2)).
     let below : run.status < 2 = rw is_run.status (status_of-lt run.ends.items run.asked run.sealing (λ two. other (is_run.status ∙ two))) in

@@ -1,3 +1,4 @@
-pub mod Source
 pub mod Inputs
 pub mod Request
+pub mod Source
+pub mod View

@@ -9,8 +9,11 @@ use Rattle.span_collect.specs.declared.runs.RunError.{RunError}
 use Rattle.span_collect.specs.Run.{IsRunOf, RunLeaves}
 use Rattle.span_command_line.specs.declared.command.Request.{Request}
 use Rattle.span_command_line.specs.declared.command.Request.TheVariants.{Collect, Show, Refuse}
+use Rattle.span_command_line.specs.declared.view.View.{View}
+use Rattle.span_command_line.specs.declared.view.View.TheVariants.{Report}
 use Rattle.span_command_line.specs.Source.{SourceBytes}
 use Rattle.span_command_line.specs.Inputs.{AreInputs}
+use Rattle.span_command_line.specs.View.{text_of}
 
 -- the word begins with a hyphen
 abbrev pub is_option : List ℕ → Bool
@@ -24,9 +27,9 @@ default_limit = 16777216
 abbrev pub default_settings : Settings
 default_settings = record { limit = default_limit; seal = false; strict = false }
 
--- the files of these names are to be collected, with the default settings
+-- the files of these names are to be collected, with the default settings, and reported
 abbrev pub NamesFiles : List (List ℕ) → Request → Type 0
-NamesFiles words (Collect settings files) = (settings ≡ default_settings) × (files.items ≡ words)
+NamesFiles words (Collect settings view files) = (settings ≡ default_settings) × (view ≡ Report) × (files.items ≡ words)
 NamesFiles words (Show text) = ⊥
 NamesFiles words (Refuse text) = ⊥
 
@@ -38,36 +41,36 @@ AsksFor words request = list_any is_option words ≡ false → NamesFiles words 
 abbrev pub Asked : List (List ℕ) → (Request → Type 0) → Type 0
 Asked words Holds = (request : Request) × AsksFor words request × Holds request
 
--- a run of these inputs, without queries, ended with this status
-pub record EndsWith (inputs : List Input) (settings : Settings) (status : ℕ) (old new : SinkState) : Type 0 where
+-- a run of these inputs, without queries, that prints this view of them ended with this status
+pub record EndsWith (inputs : List Input) (settings : Settings) (view : View) (status : ℕ) (old new : SinkState) : Type 0 where
   pub run : RunEnd
-  pub is_run : IsRunOf inputs [] settings run old new
+  pub is_run : IsRunOf (text_of view) inputs [] settings run old new
   pub ended : run.status ≡ status
 
 -- What a run of these inputs left where the program ended with 2. The run ended with 2, and wrote nothing; or it was refused, and wrote
--- nothing unless the output failed; or a file was refused, the report of the run is written, and memory for the file's line was refused.
-abbrev pub LeavesPart : List Input → Settings → SinkState → SinkState → Type 0
-LeavesPart inputs settings old new =
-    EndsWith inputs settings 2 old new ⊎ (((error : RunError) × RunLeaves error inputs [] settings old new) ⊎ EndsWith inputs settings 1 old new)
+-- nothing unless the output failed; or a file was refused, the view of the run is written, and memory for the file's line was refused.
+abbrev pub LeavesPart : List Input → Settings → View → SinkState → SinkState → Type 0
+LeavesPart inputs settings view old new =
+    EndsWith inputs settings view 2 old new ⊎ (((error : RunError) × RunLeaves (text_of view) error inputs [] settings old new) ⊎ EndsWith inputs settings view 1 old new)
 
--- the files of these names were collected, and their report is written
-pub record Collects (source : SourceBytes) (names : List (List ℕ)) (settings : Settings) (status : ℕ) (old new : SinkState) : Type 0 where
+-- the files of these names were collected, and this view of them is written
+pub record Collects (source : SourceBytes) (names : List (List ℕ)) (settings : Settings) (view : View) (status : ℕ) (old new : SinkState) : Type 0 where
   pub inputs : List Input
   pub read : AreInputs source names inputs
-  pub ended : EndsWith inputs settings status old new
+  pub ended : EndsWith inputs settings view status old new
 
 -- not all files were read, and nothing was written; or a run of them left this
-abbrev pub CollectsPart : SourceBytes → List (List ℕ) → Settings → SinkState → SinkState → Type 0
-CollectsPart source names settings old new = (new ≡ old) ⊎ ((inputs : List Input) × AreInputs source names inputs × LeavesPart inputs settings old new)
+abbrev pub CollectsPart : SourceBytes → List (List ℕ) → Settings → View → SinkState → SinkState → Type 0
+CollectsPart source names settings view old new = (new ≡ old) ⊎ ((inputs : List Input) × AreInputs source names inputs × LeavesPart inputs settings view old new)
 
 -- what a request did that ended with status 0 or 1: its files were collected, or its text was written
 abbrev pub Performs : SourceBytes → Request → ℕ → SinkState → SinkState → Type 0
-Performs source (Collect settings files) status old new = Collects source files.items settings status old new
+Performs source (Collect settings view files) status old new = Collects source files.items settings view status old new
 Performs source (Show text) status old new = (status ≡ 0) × TakesBytes old new (string_bytes text)
 Performs source (Refuse text) status old new = ⊥
 
 -- what a request did that ended with status 2: it wrote nothing, or first bytes of what it would have written
 abbrev pub GivesUp : SourceBytes → Request → SinkState → SinkState → Type 0
-GivesUp source (Collect settings files) old new = CollectsPart source files.items settings old new
+GivesUp source (Collect settings view files) old new = CollectsPart source files.items settings view old new
 GivesUp source (Show text) old new = (written : ℕ) × Fails old new (take written (string_bytes text))
 GivesUp source (Refuse text) old new = new ≡ old

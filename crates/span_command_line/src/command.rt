@@ -3,10 +3,12 @@ ghost use Rattle.std.specs.Prelude.{◌≡◌, codes, nat_eq, IfOk};
 ghost use Rattle.std.specs.List.{list_any, starts_with};
 ghost use Rattle.span_command_line.specs.Request.{AsksFor, is_option};
 
+use crate::view::View;
 use clap::error::ErrorKind;
 use clap::{Arg, ArgAction, ArgMatches, Command};
 use span_collect::Settings;
 use span_event::Text;
+use span_ranking::By;
 use std::alloc::{AllocError, Global};
 
 /// The most entries of the journal, where the command line does not say.
@@ -17,6 +19,14 @@ const SEAL_HELP: &str =
 
 const STRICT_HELP: &str =
     "Refuse an end (27) that names another span than the one it would close, which then stays open; for a trace that may have lost begins";
+
+const BY_WORDS: &[&str] = &["self", "total", "count"];
+
+const TOP_HELP: &str =
+    "Print the first N names of all threads in place of the report, each with its process and thread";
+
+const BY_HELP: &str =
+    "What --top goes by: the time of the spans' own, their whole time, or how many there are [default: self]";
 
 const ABOUT: &str =
     "Reports where the time went in trace event files, of Chrome, clang, node and other tools: for each thread how long the spans of each name took, together and on their own.";
@@ -34,16 +44,16 @@ Status:
   2  a file could not be read, memory ran out or the limit was reached: there is no report
 
 Example:
-  tracebook build.json | awk '/^thread/ {t=$2"/"$3} /^span/ && !/"Total / {
-    s=$4; sub(/^span +[0-9]+ +[0-9]+ +[0-9]+ /, ""); print s, t, $0}' | sort -nr | head
+  tracebook --top 20 build.json | grep -v '"Total '
 shows the names that took the most time of their own, each with its process and thread, but not clang's own sums."#;
 
 /// What a command line asks for.
 #[derive(Debug, Drop)]
 pub enum Request {
-    /// Collect these files, or standard input where there are none.
+    /// Collect these files, or standard input where there are none, and print this of them.
     Collect {
         settings: Settings,
+        view: View,
         files: Vec<Text>,
     },
     /// Print this help, or the version.
@@ -66,6 +76,7 @@ pub fn request_of(alloc: Global, words: &[Text]) -> Result<Request, AllocError>
     };
     Ok(Request::Collect {
         settings,
+        view: View::Report,
         files: copies_of(alloc, words)?,
     })
 }
@@ -126,6 +137,19 @@ fn command_of<'a>(alloc: Global, limit_help: &'a str) -> Result<Command<'a>, All
         .long("strict")
         .action(ArgAction::SetTrue)
         .help(STRICT_HELP);
+    let top = Arg::new(alloc, "top")
+        .long("top")
+        .value_name("N")
+        .value_parser(clap::value_parser!(u32).range(1..))
+        .action(ArgAction::Set)
+        .help(TOP_HELP);
+    let by = Arg::new(alloc, "by")
+        .long("by")
+        .value_name("self|total|count")
+        .value_parser(BY_WORDS)
+        .requires_arg("top")?
+        .action(ArgAction::Set)
+        .help(BY_HELP);
     let files = Arg::new(alloc, "files")
         .value_name("FILE")
         .num_args(0..)
@@ -138,6 +162,8 @@ fn command_of<'a>(alloc: Global, limit_help: &'a str) -> Result<Command<'a>, All
         .arg(limit)?
         .arg(seal)?
         .arg(strict)?
+        .arg(top)?
+        .arg(by)?
         .arg(files)
 }
 
@@ -149,6 +175,19 @@ fn with_program<'a>(alloc: Global, words: &'a [Text]) -> Result<Vec<&'a str>, Al
         all.push(word.as_str())?;
     }
     Ok(all)
+}
+
+// The ranking where `--top` stands, by what `--by` says.
+fn view_of(matches: &ArgMatches<'_>) -> View {
+    let Some(most) = matches.get_one::<u32>("top") else {
+        return View::Report;
+    };
+    let by = match matches.get_str("by") {
+        Some("total") => By::Total,
+        Some("count") => By::Count,
+        _ => By::SelfTime,
+    };
+    View::Ranking { most, by }
 }
 
 fn collect_request(alloc: Global, matches: &ArgMatches<'_>) -> Result<Request, AllocError> {
@@ -163,5 +202,10 @@ fn collect_request(alloc: Global, matches: &ArgMatches<'_>) -> Result<Request, A
             files.push(Text::of(alloc, name)?)?;
         }
     }
-    Ok(Request::Collect { settings, files })
+    let view = view_of(matches);
+    Ok(Request::Collect {
+        settings,
+        view,
+        files,
+    })
 }

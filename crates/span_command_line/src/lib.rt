@@ -6,8 +6,10 @@ mod inputs;
 mod program;
 mod reading;
 mod source;
+mod view;
 
 pub use command::{Request, request_of};
 pub use program::perform;
 pub use reading::read_up_to;
 pub use source::{Source, SourceFault};
+pub use view::View;

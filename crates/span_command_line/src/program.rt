@@ -5,9 +5,8 @@ ghost use Rattle.span_command_line.specs.Request.{Asked, EndsWith, LeavesPart, C
 use crate::command::{Request, request_of};
 use crate::inputs::{Unread, inputs_of};
 use crate::source::Source;
-use span_collect::{
-    Input, RunEnd, Settings, fault_line_of, fault_lines, numbered_text, run_to_ledger,
-};
+use crate::view::{View, run_view};
+use span_collect::{Input, RunEnd, Settings, fault_line_of, fault_lines, numbered_text};
 use span_event::{Fault, Text};
 use span_report::{Sink, write_bytes};
 use std::alloc::Global;
@@ -56,9 +55,11 @@ fn perform_request<R: Threads + Wait + RandomSource + Sync, S: Source, O: Sink, 
     ensures failed { result ≡ 2 → GivesUp (S.bytes source.old) request (O.state out.old) (O.state out.new) }
 {
     match request {
-        Request::Collect { settings, files } => {
-            collect_files(rt, alloc, &settings, files, source, out, faults)
-        }
+        Request::Collect {
+            settings,
+            view,
+            files,
+        } => collect_files(rt, alloc, &settings, view, files, source, out, faults),
         Request::Show(text) => {
             let shown = write_bytes(text.as_bytes(), out);
             drop(text);
@@ -76,6 +77,7 @@ fn collect_files<R: Threads + Wait + RandomSource + Sync, S: Source, O: Sink, F:
     rt: &R,
     alloc: Global,
     settings: &Settings,
+    view: View,
     names: Vec<Text>,
     source: &mut S,
     out: &mut O,
@@ -83,14 +85,14 @@ fn collect_files<R: Threads + Wait + RandomSource + Sync, S: Source, O: Sink, F:
 ) -> u8
     ensures status { result ≤ 2 }
     ensures done { result < 2
-        → Collects (S.bytes source.old) names.items settings.now result (O.state out.old) (O.state out.new) }
+        → Collects (S.bytes source.old) names.items settings.now view result (O.state out.old) (O.state out.new) }
     ensures failed { result ≡ 2
-        → CollectsPart (S.bytes source.old) names.items settings.now (O.state out.old) (O.state out.new) }
+        → CollectsPart (S.bytes source.old) names.items settings.now view (O.state out.old) (O.state out.new) }
 {
     match inputs_of(alloc, names, source) {
         Ok(inputs) => {
             source.end();
-            let status = collect(rt, alloc, settings, &inputs, out, faults);
+            let status = collect(rt, alloc, settings, view, &inputs, out, faults);
             drop(inputs);
             status
         }
@@ -107,15 +109,16 @@ fn collect<R: Threads + Wait + RandomSource + Sync, O: Sink, F: Write>(
     rt: &R,
     alloc: Global,
     settings: &Settings,
+    view: View,
     files: &[Input],
     out: &mut O,
     faults: &mut F,
 ) -> u8
     ensures status { result ≤ 2 }
-    ensures done { result < 2 → EndsWith files.now settings.now result (O.state out.old) (O.state out.new) }
-    ensures failed { result ≡ 2 → LeavesPart files.now settings.now (O.state out.old) (O.state out.new) }
+    ensures done { result < 2 → EndsWith files.now settings.now view result (O.state out.old) (O.state out.new) }
+    ensures failed { result ≡ 2 → LeavesPart files.now settings.now view (O.state out.old) (O.state out.new) }
 {
-    match run_to_ledger(rt, alloc, files, &[], settings, out) {
+    match run_view(rt, alloc, files, settings, view, out) {
         Ok(collected) => {
             // The program ends next, and then the system frees all at once, where freeing one by one takes long.
             forget(collected.ledger);

@@ -2,8 +2,9 @@
 ghost use Rattle.std.specs.Prelude.{◌≤◌, vec_len, IfOk, None};
 
 use span_collect::Settings;
-use span_command_line::{Request, Source, SourceFault, perform, read_up_to, request_of};
+use span_command_line::{Request, Source, SourceFault, View, perform, read_up_to, request_of};
 use span_event::Text;
+use span_ranking::By;
 use span_report::Writer;
 use std::alloc::{AllocError, Global};
 use std::io;
@@ -132,6 +133,9 @@ fn prints_help_and_refuses_wrong_words(rt: HostRuntime) -> Result<(), Fail> {
         ("--wrong", 100_000, 2, false),
         ("--limit=0", 100_000, 2, false),
         ("--limit=4294967296", 100_000, 2, false),
+        ("--top=0", 100_000, 2, false),
+        ("--top=4294967296", 100_000, 2, false),
+        ("--by=self", 100_000, 2, false),
     ] {
         let mut out = Short { room, taken: 0 };
         let mut faults = Short { room, taken: 0 };
@@ -171,8 +175,13 @@ fn orders(
     count: usize,
 ) -> Result<(), Fail> {
     match request_of(rt.alloc(), words)? {
-        Request::Collect { settings, files } => {
+        Request::Collect {
+            settings,
+            view,
+            files,
+        } => {
             assert_eq!(rt; settings, wanted);
+            assert_eq!(rt; view, View::Report);
             assert_eq!(rt; files.len(), count);
             Ok(())
         }
@@ -211,6 +220,38 @@ fn knows_the_settings_and_the_files(rt: HostRuntime) -> Result<(), Fail> {
             strict,
         };
         orders(&rt, &texts, wanted, count)?;
+    }
+    Ok(())
+}
+
+fn prints(rt: &(impl Abort + AllocGlobal), words: &[Text], wanted: View) -> Result<(), Fail> {
+    match request_of(rt.alloc(), words)? {
+        Request::Collect { view, .. } => {
+            assert_eq!(rt; view, wanted);
+            Ok(())
+        }
+        _ => Err(Fail::from("nothing is collected")),
+    }
+}
+
+#[test]
+fn knows_what_to_print(rt: HostRuntime) -> Result<(), Fail> {
+    for (words, most, by) in [
+        (["--top", "3"].as_slice(), 3u32, By::SelfTime),
+        (
+            ["--top=4294967295", "--by", "self", "x"].as_slice(),
+            4_294_967_295,
+            By::SelfTime,
+        ),
+        (["--by=total", "x", "--top", "1"].as_slice(), 1, By::Total),
+        (
+            ["--seal", "--top", "2", "--by", "count"].as_slice(),
+            2,
+            By::Count,
+        ),
+    ] {
+        let texts = texts_of(rt.alloc(), words)?;
+        prints(&rt, &texts, View::Ranking { most, by })?;
     }
     Ok(())
 }

@@ -17,7 +17,7 @@ returns-in-Ok-clause-done g c = λ below. elim c.report_faults.ensures.status [
 
 pub returns-in-Ok-clause-failed : goal.returns-in-Ok-clause-failed
 returns-in-Ok-clause-failed g c = λ two.
-    LeavesPart-ended c.in-Ok.collected.end c.args.files.now c.args.settings.now _ _ c.in-Ok.ensures.run (λ none. absurd (omega (arith, two, c.report_faults.ensures.whole none)))
+    LeavesPart-ended c.in-Ok.collected.end c.args.files.now c.args.settings.now c.args.view _ _ c.in-Ok.ensures.run (λ none. absurd (omega (arith, two, c.report_faults.ensures.whole none)))
 
 -- the run was refused
 pub returns-in-Err-clause-failed : goal.returns-in-Err-clause-failed
