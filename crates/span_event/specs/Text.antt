@@ -1,7 +1,8 @@
 -- Texts as their bytes, and the bytes of a text, however it is held.
-use Rattle.std.specs.Prelude.{ℕ, List, Bool, nat_eq, string_bytes}
+use Rattle.std.specs.Prelude.{ℕ, List, Bool, nat_eq}
 use Rattle.std.specs.declared.cmp.Ordering.{Ordering}
 use Rattle.std.specs.Ordering.{nat_cmp}
+use Rattle.std.specs.Arc.{arc_str_bytes}
 use Rattle.std.specs.Cmp.Lexicographic.{pointwise, slice_cmp}
 use Rattle.span_event.specs.declared.text.Held.{Held}
 use Rattle.span_event.specs.declared.text.Held.TheVariants.{Short, Long}
@@ -18,5 +19,5 @@ abbrev pub same_text : Bytes → Bytes → Bool
 same_text = pointwise nat_eq
 
 abbrev pub held_bytes : Held → Bytes
-held_bytes (Short text) = text.bytes
-held_bytes (Long text) = string_bytes text
+held_bytes (Short text) = text
+held_bytes (Long text) = arc_str_bytes text

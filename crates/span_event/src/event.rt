@@ -131,6 +131,8 @@ impl Ord for Reach {
 #[derive(Debug, Drop)]
 pub struct Event {
     pub phase: Phase,
+    // Fields lie in this order: beside the phase it takes no room of its own.
+    pub reach: Option<Reach>,
     pub name: Text,
     pub cat: Text,
     /// From -9007199254740991 to 9007199254740991.
@@ -141,7 +143,6 @@ pub struct Event {
     pub tid: i64,
     pub key: Option<IdKey>,
     pub scope: Text,
-    pub reach: Option<Reach>,
     pub args: Args,
 }
 
@@ -159,6 +160,7 @@ impl Event {
         let args = self.args.try_clone(alloc)?;
         Ok(Event {
             phase: self.phase,
+            reach: self.reach,
             name,
             cat,
             ts: self.ts,
@@ -167,7 +169,6 @@ impl Event {
             tid: self.tid,
             key,
             scope,
-            reach: self.reach,
             args,
         })
     }

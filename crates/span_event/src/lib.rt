@@ -7,6 +7,7 @@ mod event;
 mod fault;
 mod item;
 mod items;
+mod short;
 mod text;
 mod thread;
 

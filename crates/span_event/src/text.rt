@@ -1,5 +1,5 @@
 //! A text of a trace.
-ghost use Rattle.std.specs.Prelude.{◌≡◌, [], string_bytes, IfOk, Some, refl};
+ghost use Rattle.std.specs.Prelude.{◌≡◌, [], IfOk, Some, refl};
 ghost use Rattle.std.specs.Hash as fed;
 ghost use Rattle.std.specs.Cmp.Lexicographic.{nat_list_eq_equiv, nat_list_cmp_total, texts_ties, texts_po};
 ghost use Rattle.std.specs.Cmp.{partial_equiv_from_equiv};
@@ -7,22 +7,22 @@ ghost use Rattle.std.specs.Cmp.Rules.{hashing};
 ghost use Rattle.std.proofs.Common.{rules};
 ghost use Rattle.span_event.specs.Text.{Bytes, held_bytes, same_text, text_cmp};
 
-use arrayvec::ArrayString;
+use crate::short::{SHORT, Short};
 use std::alloc::{AllocError, Global};
 use std::cmp::Ordering;
 use std::fmt;
 use std::hash::{Hash, Hasher};
 use std::marker::Model;
+use std::sync::ArcStr;
 
-// Names are mostly short. A text of so many bytes lies in the value itself, and takes no memory.
-const SHORT: usize = 16;
-
+// Names are mostly short, and the longer ones are few that stand in many events.
 enum Held {
-    Short(ArrayString<16>),
-    Long(String),
+    Short(Short),
+    Long(ArcStr),
 }
 
-/// A text of a trace: valid UTF-8, kept as it was read. Order and equality are by bytes. Up to 16 bytes take no memory.
+/// A text of a trace: valid UTF-8, kept as it was read. Order and equality are by bytes. Copies share the bytes of
+/// a long text.
 pub struct Text {
     held: Held,
 }
@@ -45,12 +45,15 @@ impl Drop for Text {
 }
 
 impl Text {
+    /// A text of up to so many bytes takes no memory.
+    pub const SHORT: usize = SHORT;
+
     /// The empty text. Takes no memory.
     pub fn empty(_alloc: Global) -> Text
         ensures { result ≡ [] }
     {
         Text {
-            held: Held::Short(ArrayString::new()),
+            held: Held::Short(Short::empty()),
         }
     }
 
@@ -59,13 +62,11 @@ impl Text {
         ensures { IfOk result (λ t. t ≡ text.now) }
     {
         if text.len() <= SHORT {
-            let mut short = ArrayString::new();
-            short.push_str(text);
             return Ok(Text {
-                held: Held::Short(short),
+                held: Held::Short(Short::of(text)),
             });
         }
-        let text = String::from_str(alloc, text)?;
+        let text = ArcStr::from_str(alloc, text)?;
         Ok(Text {
             held: Held::Long(text),
         })
@@ -80,21 +81,15 @@ impl Text {
         }
     }
 
-    pub fn try_clone(&self, alloc: Global) -> Result<Text, AllocError>
+    /// Takes no memory, and fails only where there are 2^63 copies of a long text.
+    pub fn try_clone(&self, _alloc: Global) -> Result<Text, AllocError>
         ensures { IfOk result (λ t. t ≡ self.now) }
     {
-        Text::of(alloc, self.as_str())
-    }
-}
-
-/// The string itself. Takes no memory.
-impl From<String> for Text {
-    ghost from_gives = { λ text t. t ≡ string_bytes text };
-
-    fn from(text: String) -> Text {
-        Text {
-            held: Held::Long(text),
-        }
+        let held = match &self.held {
+            Held::Short(text) => Held::Short(text.copy()),
+            Held::Long(text) => Held::Long(text.clone()?),
+        };
+        Ok(Text { held })
     }
 }
 

@@ -25,7 +25,7 @@ pub enum Query {
 }
 
 impl Query {
-    /// A copy, with texts of its own. It fails where their memory is refused.
+    /// A copy, which shares long texts. It fails where there are 2^63 copies of one.
     pub fn try_clone(&self, alloc: Global) -> Result<Query, AllocError>
         ensures { IfOk result (λ query. query ≡ self.now) }
     {

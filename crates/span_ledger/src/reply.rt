@@ -38,7 +38,7 @@ pub enum Reply {
 }
 
 impl Reply {
-    /// A copy, with texts of its own. It fails where their memory is refused.
+    /// A copy, which shares long texts. It fails where there are 2^63 copies of one.
     pub fn try_clone(&self, alloc: Global) -> Result<Reply, AllocError>
         ensures { IfOk result (λ reply. reply ≡ self.now) }
     {

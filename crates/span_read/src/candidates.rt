@@ -9,6 +9,7 @@ ghost use Rattle.span_read.specs.Ending.{closes_array};
 use crate::document::read_document;
 use crate::error::ReadError;
 use crate::error::stop::Stop;
+use crate::recent::RecentTexts;
 use crate::tokens::Tokens;
 use json::{Reader, Scratch};
 use span_event::Items;
@@ -61,7 +62,14 @@ fn read_text(alloc: Global, text: &str) -> Result<Items, ReadError>
     let Ok(reader) = Reader::new(text, &mut scratch) else {
         return Err(ReadError::Memory);
     };
-    let mut tokens = Tokens { reader, alloc };
+    let Ok(recent) = RecentTexts::new(alloc) else {
+        return Err(ReadError::Memory);
+    };
+    let mut tokens = Tokens {
+        reader,
+        alloc,
+        recent,
+    };
     match read_document(&mut tokens, MAX_DEPTH) {
         Ok(found) => if tokens.reader.next().is_some() {
             Err(ReadError::NotJson)

@@ -9,6 +9,7 @@ mod error;
 mod fields;
 mod file;
 mod phase;
+mod recent;
 mod token_fields;
 mod tokens;
 mod value_fields;

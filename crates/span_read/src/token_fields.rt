@@ -8,7 +8,7 @@ use crate::tokens::Tokens;
 use crate::tokens::head::{Head, next_head};
 use crate::tokens::kept::{KeptMembers, KeptValue, read_object};
 use crate::tokens::pass::{pass_array, pass_object};
-use span_event::{ArgValue, Text};
+use span_event::ArgValue;
 use std::alloc::Global;
 use std::mem::replace;
 
@@ -36,7 +36,7 @@ impl KeptMembers for ArgMap {
 
     #[inline(always)]
     fn keep(&mut self, name: &str, tokens: &mut Tokens<'_>, depth: usize) -> Result<(), Stop> {
-        let name = Text::of(tokens.alloc, name)?;
+        let name = tokens.recent.text(tokens.alloc, name)?;
         let value = ArgValue::read(tokens, depth)?;
         let before = replace(self, ArgMap::new(tokens.alloc));
         *self = before.with(tokens.alloc, name, value)?;
@@ -59,7 +59,7 @@ impl KeptValue for FieldValue {
                 Ok(FieldValue::Plain(ArgValue::Other))
             }
             Head::Words(text) => {
-                let words = Text::of(tokens.alloc, text)?;
+                let words = tokens.recent.text(tokens.alloc, text)?;
                 Ok(FieldValue::Plain(ArgValue::Words(words)))
             }
             Head::Plain(value) => Ok(FieldValue::Plain(value)),
@@ -81,7 +81,10 @@ impl KeptValue for ArgValue {
                 pass_array(&mut tokens.reader, depth)?;
                 Ok(ArgValue::Other)
             }
-            Head::Words(text) => Ok(ArgValue::Words(Text::of(tokens.alloc, text)?)),
+            Head::Words(text) => {
+                let words = tokens.recent.text(tokens.alloc, text)?;
+                Ok(ArgValue::Words(words))
+            }
             Head::Plain(value) => Ok(value),
         }
     }

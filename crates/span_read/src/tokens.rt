@@ -4,12 +4,14 @@ pub(crate) mod kept;
 mod number;
 pub(crate) mod pass;
 
+use crate::recent::RecentTexts;
 use json::Reader;
 use std::alloc::Global;
 
-/// The tokens that are left of a text, and the memory for what is kept of them.
+/// The tokens that are left of a text, and the memory and the recent texts for what is kept of them.
 #[derive(Drop)]
 pub(crate) struct Tokens<'a> {
     pub(crate) reader: Reader<'a>,
     pub(crate) alloc: Global,
+    pub(crate) recent: RecentTexts,
 }

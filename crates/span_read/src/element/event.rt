@@ -34,6 +34,7 @@ pub(crate) fn event_of(alloc: Global, phase: Phase, fields: Fields) -> Result<Ev
     let args = take_args(alloc, phase, fields.args)?;
     Ok(Event {
         phase,
+        reach,
         name,
         cat,
         ts,
@@ -42,7 +43,6 @@ pub(crate) fn event_of(alloc: Global, phase: Phase, fields: Fields) -> Result<Ev
         tid,
         key,
         scope,
-        reach,
         args,
     })
 }

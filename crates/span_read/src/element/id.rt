@@ -70,5 +70,5 @@ fn decimal_text(alloc: Global, whole: i64) -> Result<Text, AllocError>
     ensures { IfOk result (λ text. text ≡ signed_decimal whole) }
 {
     let text = format!(in alloc; "{whole}")?;
-    Ok(Text::from(text))
+    Text::of(alloc, text.as_str())
 }

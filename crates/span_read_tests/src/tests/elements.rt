@@ -70,7 +70,7 @@ fn has_defaults(rt: &(impl Abort + AllocGlobal), event: &Event) -> Result<(), Fa
     let shown = format!(in rt.alloc(); "{event:?}")?;
     assert_eq!(rt;
         shown.as_str(),
-        r#"Event { phase: Instant, name: "", cat: "", ts: 9007199254740991, dur: 0, pid: 0, tid: 0, key: None, scope: "", reach: Some(Thread), args: Args { pairs: [] } }"#
+        r#"Event { phase: Instant, reach: Some(Thread), name: "", cat: "", ts: 9007199254740991, dur: 0, pid: 0, tid: 0, key: None, scope: "", args: Args { pairs: [] } }"#
     );
     Ok(())
 }

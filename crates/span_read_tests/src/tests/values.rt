@@ -25,8 +25,17 @@ fn a_text_equals_its_copy(rt: HostRuntime) -> Result<(), Fail> {
     assert_eq!(rt; text.as_str(), "a");
     assert!(rt; text == text.try_clone(rt.alloc())?);
     assert!(rt; text != Text::empty(rt.alloc()));
-    let made = Text::from(String::from_str(rt.alloc(), "a")?);
-    assert!(rt; text == made);
+    Ok(())
+}
+
+// 14 bytes lie in the value, and 15 don't.
+#[test]
+fn texts_are_kept_whole_at_each_length(rt: HostRuntime) -> Result<(), Fail> {
+    for name in ["", "fourteen bytes", "short text, é", "fifteen bytes.."] {
+        let text = Text::of(rt.alloc(), name)?;
+        assert_eq!(rt; text.as_str(), name);
+        assert_eq!(rt; text.try_clone(rt.alloc())?.as_str(), name);
+    }
     Ok(())
 }
 

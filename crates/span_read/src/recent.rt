@@ -1,0 +1,56 @@
+//! The long texts that were read last.
+ghost use Rattle.std.specs.Prelude.{◌≡◌, IfOk};
+
+use span_event::Text;
+use std::alloc::{AllocError, Global};
+use std::hash::{FoldHasher, Hash, Hasher};
+
+/// A file has few long names, each many times. The last ones are searched at one place each, whatever a file holds.
+const PLACES: usize = 4096;
+
+/// Long texts that were read before, each at a place of its own bytes' choice. Equal texts share their bytes by it.
+#[derive(Drop)]
+pub(crate) struct RecentTexts {
+    places: Vec<Text>,
+}
+
+impl RecentTexts {
+    pub(crate) fn new(alloc: Global) -> Result<RecentTexts, AllocError> {
+        let mut places = Vec::with_capacity(alloc, PLACES)?;
+        for _ in 0..PLACES {
+            places.push(Text::empty(alloc))?;
+        }
+        Ok(RecentTexts { places })
+    }
+
+    /// A text of these bytes: of a long one a copy of that which was read before, if it is still there.
+    #[inline]
+    pub(crate) fn text(&mut self, alloc: Global, text: &str) -> Result<Text, AllocError>
+        ensures { IfOk result (λ t. t ≡ text.now) }
+    {
+        if text.len() <= Text::SHORT {
+            return Text::of(alloc, text);
+        }
+        self.long_text(alloc, text)
+    }
+
+    fn long_text(&mut self, alloc: Global, text: &str) -> Result<Text, AllocError>
+        ensures { IfOk result (λ t. t ≡ text.now) }
+    {
+        match self.places.get_mut(place_of(text)) {
+            Some(recent) => {
+                if recent.as_str() != text {
+                    *recent = Text::of(alloc, text)?;
+                }
+                recent.try_clone(alloc)
+            }
+            None => Text::of(alloc, text),
+        }
+    }
+}
+
+fn place_of(text: &str) -> usize {
+    let mut hasher = FoldHasher::default();
+    text.hash(&mut hasher);
+    hasher.finish() as usize % PLACES
+}
