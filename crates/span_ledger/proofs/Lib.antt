@@ -9,12 +9,14 @@ pub mod KeyedEvents
 pub mod Later
 pub mod LegalJournals
 pub mod Listing
+pub mod NamedSpans
 pub mod PartRows
 pub mod Renaming
 pub mod RowOrder
 pub mod Selected
 pub mod SeriesParts
 pub mod Sorted
+pub mod Sorting
 pub mod Taking
 pub mod ThreadAnswers
 pub mod ThreadTelling

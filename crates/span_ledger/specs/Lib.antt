@@ -4,6 +4,7 @@ pub mod Journal
 pub mod Keys
 pub mod Kind
 pub mod Legal
+pub mod Named
 pub mod Numbered
 pub mod Order
 pub mod Parts

@@ -12,6 +12,7 @@ pub mod laws;
 mod ledger;
 mod listed;
 mod meta_events;
+mod named_spans;
 mod parts;
 mod query;
 mod refusal;
@@ -25,6 +26,7 @@ mod tracks;
 pub use entry::{Answer, Entry, Op};
 pub use kind::Kind;
 pub use ledger::Ledger;
+pub use named_spans::NamedSpan;
 pub use parts::{ProcessPart, ThreadPart};
 pub use query::Query;
 pub use refusal::{Back, Cause};
@@ -37,3 +39,4 @@ pub use span_keyed_tracks::{
     AsyncKey, AsyncRow, AsyncTotals, FlowKey, FlowRow, FlowTotals, HashKeys, InstantRow, SeriesKey,
     SeriesRow, SeriesTotals,
 };
+pub use span_track::ClosedSpan;

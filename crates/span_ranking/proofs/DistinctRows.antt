@@ -26,7 +26,7 @@ use Rattle.span_ledger.proofs.Sorted.{AllByRecursion-append, AllByRecursion-map,
 use Rattle.span_ranking.specs.declared.order.By.{By}
 use Rattle.span_ranking.specs.Laws.{RankingsHaveEachRow}
 use Rattle.span_ranking.specs.Ranks.{RankApart, RankedRow, all_ranked, number_by, rank_order, thread_ranked}
-use Rattle.span_ranking.proofs.Sorting.{ascending-permutation}
+use Rattle.span_ledger.proofs.Sorting.{ascending-permutation}
 
 span_order-total : IsTotalOrder span_order
 span_order-total = then_total (on_total thread_of_span thread_cmp-total) (on_total (λ (row : SpanRow). row.name) nat_list_cmp_total)

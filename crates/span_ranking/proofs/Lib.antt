@@ -1,3 +1,2 @@
 pub mod DistinctRows
 pub mod SameRankings
-pub mod Sorting

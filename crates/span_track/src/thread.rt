@@ -379,7 +379,8 @@ impl ThreadTrack {
         self.closed.segment(i)
     }
 
-    pub(crate) fn spans(&self) -> &[ClosedSpan]
+    /// The closed spans, in the order of the events that closed them. Takes no memory.
+    pub fn spans(&self) -> &[ClosedSpan]
         ensures spans { map span_of result.now ≡ self.now.closed }
         ensures closed { AreClosed self.now.closed }
     {

@@ -3,7 +3,7 @@ use Rattle.std.proofs.lemmas.List.{take_all}
 use Rattle.std.specs.List.Sorted.{IsPermutation}
 use Rattle.span_ranking.specs.Ranks.{all_ranked}
 use Rattle.span_ranking.proofs.DistinctRows.{rank_order-total}
-use Rattle.span_ranking.proofs.Sorting.{IsSorted-from_sort_by, sorted-ascending}
+use Rattle.span_ledger.proofs.Sorting.{IsSorted-from_sort_by, sorted-ascending}
 use Rattle.span_ranking.proofs.order.ranked_rows.Goals as goal
 
 pub returns : goal.returns
