@@ -3,15 +3,19 @@ use Rattle.std.proofs.Common.{◌≡◌, ℕ, zero, suc, ◌+◌, ◌<◌, List,
 use Rattle.std.proofs.lemmas.List.{append-nil}
 use Rattle.span_collect.specs.declared.files.FileEnd.{FileEnd}
 use Rattle.span_collect.specs.declared.files.Input.{Input}
-use Rattle.span_collect.specs.FaultLines.{end_line, end_lines}
+use Rattle.span_collect.specs.FaultLines.{lines_of_ends}
 
-end_lines-take_suc : (files : List Input) (ends : List FileEnd) (i : ℕ) (f : Input) (e : FileEnd) → i < length files → i < length ends → end_lines (take (suc i) files) (take (suc i) ends) ≡ end_lines (take i files) (take i ends) ++ end_line (get_or files i f).name (get_or ends i e)
-end_lines-take_suc [] ends i f e in_files in_ends = absurd (omega arith)
-end_lines-take_suc (file ∷ files) [] i f e in_files in_ends = absurd (omega arith)
-end_lines-take_suc (file ∷ files) (end ∷ ends) zero f e in_files in_ends = append-nil (end_line file.name end)
-end_lines-take_suc (file ∷ files) (end ∷ ends) (suc i) f e in_files in_ends =
-    ap (λ l. end_line file.name end ++ l) (end_lines-take_suc files ends i f e (omega arith) (omega arith))
-    ∙ sym (append_assoc (end_line file.name end) (end_lines (take i files) (take i ends)) (end_line (get_or files i f).name (get_or ends i e)))
+module _ (lines : List ℕ → FileEnd → List ℕ) where
+  lines_of_ends-take_suc : (files : List Input) (ends : List FileEnd) (i : ℕ) (f : Input) (e : FileEnd) → i < length files → i < length ends →
+      lines_of_ends lines (take (suc i) files) (take (suc i) ends) ≡ lines_of_ends lines (take i files) (take i ends) ++ lines (get_or files i f).name (get_or ends i e)
+  lines_of_ends-take_suc [] ends i f e in_files in_ends = absurd (omega arith)
+  lines_of_ends-take_suc (file ∷ files) [] i f e in_files in_ends = absurd (omega arith)
+  lines_of_ends-take_suc (file ∷ files) (end ∷ ends) zero f e in_files in_ends = append-nil (lines file.name end)
+  lines_of_ends-take_suc (file ∷ files) (end ∷ ends) (suc i) f e in_files in_ends =
+      ap (λ l. lines file.name end ++ l) (lines_of_ends-take_suc files ends i f e (omega arith) (omega arith))
+      ∙ sym (append_assoc (lines file.name end) (lines_of_ends lines (take i files) (take i ends)) (lines (get_or files i f).name (get_or ends i e)))
 
-pub end_lines-take_more : (files : List Input) (ends : List FileEnd) (i : ℕ) (f : Input) (e : FileEnd) → i < length files → length files ≡ length ends → end_lines (take (i + 1) files) (take (i + 1) ends) ≡ end_lines (take i files) (take i ends) ++ end_line (get_or files i f).name (get_or ends i e)
-end_lines-take_more files ends i f e in_files same = rw add-one (end_lines-take_suc files ends i f e in_files (omega arith))
+  -- one more file with its end adds what the text says of it
+  pub lines_of_ends-take_more : (files : List Input) (ends : List FileEnd) (i : ℕ) (f : Input) (e : FileEnd) → i < length files → length files ≡ length ends →
+      lines_of_ends lines (take (i + 1) files) (take (i + 1) ends) ≡ lines_of_ends lines (take i files) (take i ends) ++ lines (get_or files i f).name (get_or ends i e)
+  lines_of_ends-take_more files ends i f e in_files same = rw add-one (lines_of_ends-take_suc files ends i f e in_files (omega arith))

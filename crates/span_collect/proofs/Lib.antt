@@ -1,4 +1,5 @@
 pub mod Counting
+pub mod CutShort
 pub mod EndLines
 pub mod InTurn
 pub mod Meeting

@@ -43,25 +43,33 @@ is_refused end = false
 abbrev pub status_of : List FileEnd → Asked → Sealing → ℕ
 status_of ends asked sealing = if list_any is_cut ends || is_some asked.cause || is_some sealing.cause then 2 else if list_any is_refused ends then 1 else 0
 
--- a journal accounts for the files, the queries and the seals; unless the status is 2 its text was written, as its report is, else nothing
-pub record IsRunOf (text : List Entry → List ℕ) (files : List Input) (asks : List Query) (settings : Settings) (run : RunEnd) (old new : SinkState) : Type 0 where
+-- a text of what was collected: of how the files ended, and of their journal
+abbrev pub TextOf : Type 0
+TextOf = List FileEnd → List Entry → List ℕ
+
+-- one of the journal alone, as the report is
+abbrev pub of_journal : (List Entry → List ℕ) → TextOf
+of_journal text ends journal = text journal
+
+-- a journal accounts for the files, the queries and the seals; unless the status is 2 its text was written, else nothing
+pub record IsRunOf (text : TextOf) (files : List Input) (asks : List Query) (settings : Settings) (run : RunEnd) (old new : SinkState) : Type 0 where
   pub journal : List Entry
   pub account : SealedAccount files asks settings run.ends.items run.asked run.sealing journal
   pub status : run.status ≡ status_of run.ends.items run.asked run.sealing
-  pub written : run.status < 2 → TakesBytes old new (text journal)
+  pub written : run.status < 2 → TakesBytes old new (text run.ends.items journal)
   pub silent : run.status ≡ 2 → new ≡ old
 
 -- a journal accounts for the files, each read or refused, and for all queries and seals, and just the first `written` bytes of its
 -- text were written
-pub record IsCutShort (text : List Entry → List ℕ) (files : List Input) (asks : List Query) (settings : Settings) (written : ℕ) (old new : SinkState) : Type 0 where
+pub record IsCutShort (text : TextOf) (files : List Input) (asks : List Query) (settings : Settings) (written : ℕ) (old new : SinkState) : Type 0 where
   pub ends : List FileEnd
   pub asked : Asked
   pub sealing : Sealing
   pub journal : List Entry
   pub account : SealedAccount files asks settings ends asked sealing journal
   pub status : status_of ends asked sealing < 2
-  pub within : written ≤ length (text journal)
-  pub output : Fails old new (take written (text journal))
+  pub within : written ≤ length (text ends journal)
+  pub output : Fails old new (take written (text ends journal))
 
 -- why files are not collected
 abbrev pub IsNotCollected : RunError → List Input → List Query → Settings → Type 0
@@ -71,7 +79,7 @@ IsNotCollected (Unaccounted entries calls) files asks settings = HasMore files a
 IsNotCollected (Output written) files asks settings = ⊥
 
 -- why a run that writes this text is refused, and what it leaves: only a failed output took bytes
-abbrev pub RunLeaves : (List Entry → List ℕ) → RunError → List Input → List Query → Settings → SinkState → SinkState → Type 0
+abbrev pub RunLeaves : TextOf → RunError → List Input → List Query → Settings → SinkState → SinkState → Type 0
 RunLeaves text FileCount files asks settings old new = AreNoneOrTooMany files × (new ≡ old)
 RunLeaves text Memory files asks settings old new = new ≡ old
 RunLeaves text (Unaccounted entries calls) files asks settings old new = HasMore files asks settings entries calls × (new ≡ old)

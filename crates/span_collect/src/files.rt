@@ -1,4 +1,7 @@
 //! The files of a collection, and how each of them ended.
+ghost use Rattle.std.specs.Prelude.{◌≡◌};
+ghost use Rattle.span_collect.specs.Account.{caller_named};
+
 use span_event::Text;
 use span_ledger::Cause;
 
@@ -30,4 +33,18 @@ pub enum FileEnd {
     },
     /// 42: the file was not begun.
     NotStarted,
+}
+
+impl FileEnd {
+    /// The number under which the journal has the file's items; None where the file was not begun.
+    pub fn caller(&self) -> Option<u32>
+        ensures { result ≡ caller_named self.now }
+    {
+        match self {
+            FileEnd::Read { caller, .. }
+            | FileEnd::Refused { caller, .. }
+            | FileEnd::Stopped { caller, .. } => Some(*caller),
+            FileEnd::NotStarted => None,
+        }
+    }
 }

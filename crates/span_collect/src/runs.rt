@@ -6,7 +6,7 @@ ghost use Rattle.span_report.specs.Sink.{TakesBytes};
 ghost use Rattle.span_collect.specs.InTurn.{FailsAsInTurn, ReportsAsInTurn};
 ghost use Rattle.span_collect.specs.Seals.{SealedAccount};
 ghost use Rattle.span_collect.specs.Collection.{AreNoneOrTooMany};
-ghost use Rattle.span_collect.specs.Run.{run_code, is_cut, is_refused, status_of, IsNotCollected, IsRunOf, RunLeaves, ReportsOneFile};
+ghost use Rattle.span_collect.specs.Run.{run_code, is_cut, is_refused, of_journal, status_of, IsNotCollected, IsRunOf, RunLeaves, ReportsOneFile};
 
 use crate::collection::{CollectError, collect};
 use crate::files::{FileEnd, Input};
@@ -85,14 +85,14 @@ pub fn run<O: Sink, R: Threads + Wait + RandomSource + Sync>(
     out: &mut O,
 ) -> Result<RunEnd, RunError>
     ensures run { IfOk result
-        (λ run. IsRunOf report_of files.now asks.now settings.now run (O.state out.old) (O.state out.new)) }
+        (λ run. IsRunOf (of_journal report_of) files.now asks.now settings.now run (O.state out.old) (O.state out.new)) }
     ensures one_file { IfOk result
         (λ run. ReportsOneFile files.now asks.now settings.now run.status (O.state out.old) (O.state out.new)) }
     ensures in_turn { IfOk result
         (λ run. ReportsAsInTurn files.now asks.now settings.now run.status (O.state out.old) (O.state out.new)) }
     ensures count { (result ≡ Err RunError.FileCount) ↔ AreNoneOrTooMany files.now }
     ensures error { IfErr result
-        (λ error. RunLeaves report_of error files.now asks.now settings.now (O.state out.old) (O.state out.new)) }
+        (λ error. RunLeaves (of_journal report_of) error files.now asks.now settings.now (O.state out.old) (O.state out.new)) }
     ensures error_in_turn { IfErr result
         (λ error. FailsAsInTurn error files.now asks.now settings.now (O.state out.old) (O.state out.new)) }
 {
@@ -110,14 +110,14 @@ pub fn run_to_ledger<O: Sink, R: Threads + Wait + RandomSource + Sync>(
     out: &mut O,
 ) -> Result<Collected, RunError>
     ensures run { IfOk result
-        (λ collected. IsRunOf report_of files.now asks.now settings.now collected.end (O.state out.old) (O.state out.new)) }
+        (λ collected. IsRunOf (of_journal report_of) files.now asks.now settings.now collected.end (O.state out.old) (O.state out.new)) }
     ensures one_file { IfOk result
         (λ collected. ReportsOneFile files.now asks.now settings.now collected.end.status (O.state out.old) (O.state out.new)) }
     ensures in_turn { IfOk result
         (λ collected. ReportsAsInTurn files.now asks.now settings.now collected.end.status (O.state out.old) (O.state out.new)) }
     ensures count { (result ≡ Err RunError.FileCount) ↔ AreNoneOrTooMany files.now }
     ensures error { IfErr result
-        (λ error. RunLeaves report_of error files.now asks.now settings.now (O.state out.old) (O.state out.new)) }
+        (λ error. RunLeaves (of_journal report_of) error files.now asks.now settings.now (O.state out.old) (O.state out.new)) }
     ensures error_in_turn { IfErr result
         (λ error. FailsAsInTurn error files.now asks.now settings.now (O.state out.old) (O.state out.new)) }
     ensures account { IfOk result

@@ -1,15 +1,16 @@
 use Rattle.std.proofs.Common.{◌<◌, arith}
 use Rattle.span_report.specs.Report.{report_of}
-use Rattle.span_collect.specs.Run.{status_of}
+use Rattle.span_collect.specs.Run.{of_journal}
 use Rattle.span_collect.proofs.InTurn.Accounted.{TakesBytes-in_turn, Fails-in_turn}
 use Rattle.span_collect.proofs.NotCollected.{RunLeaves-not_collected, FailsAsInTurn-not_collected}
+use Rattle.span_collect.proofs.CutShort.{IsCutShort-failed}
 use Rattle.span_collect.proofs.OneFile.{one_report}
 use Rattle.span_collect.proofs.Statuses.{status_of-lt}
 use Rattle.span_collect.proofs.runs.run_to_ledger.Goals as goal
 
 -- nothing was collected
 pub returns-in-Err-clause-error : goal.returns-in-Err-clause-error
-returns-in-Err-clause-error g c = RunLeaves-not_collected report_of c.in-Err.error c.args.files.now c.args.asks.now c.args.settings.now _ c.in-Err.ensures.error
+returns-in-Err-clause-error g c = RunLeaves-not_collected (of_journal report_of) c.in-Err.error c.args.files.now c.args.asks.now c.args.settings.now _ c.in-Err.ensures.error
 
 pub returns-in-Err-clause-error_in_turn : goal.returns-in-Err-clause-error_in_turn
 returns-in-Err-clause-error_in_turn g c = FailsAsInTurn-not_collected c.in-Err.error c.args.files.now c.args.asks.now c.args.settings.now _ _ c.in-Err.ensures.error
@@ -17,18 +18,8 @@ returns-in-Err-clause-error_in_turn g c = FailsAsInTurn-not_collected c.in-Err.e
 -- the output failed in the report of what was collected
 pub returns-clause-error : goal.returns-clause-error
 returns-clause-error g c =
-    let run = c.in-Ok.collected in
-    let fault = rw c.in-Err-Output.field-0-is at c.in-Err-Output.ensures.fault in
-    record {
-      ends = run.end.ends.items;
-      asked = run.end.asked;
-      sealing = run.end.sealing;
-      journal = run.ledger.journal;
-      account = c.in-Ok.ensures.account;
-      status = status_of-lt run.end.ends.items run.end.asked run.end.sealing (rw c.in-Ok.ensures.status at c.if-collected-eq2.false);
-      within = fault.0;
-      output = fault.1;
-    }
+    IsCutShort-failed (of_journal report_of) c.args.files.now c.args.asks.now c.args.settings.now c.in-Ok.collected.end c.in-Ok.collected.ledger.journal _ _ _
+    c.in-Ok.ensures.account c.in-Ok.ensures.status c.if-collected-eq2.false (rw c.in-Err-Output.field-0-is at c.in-Err-Output.ensures.fault)
 
 -- the report of one file was written
 pub returns-in-Ok-write_report-clause-one_file : goal.returns-in-Ok-write_report-clause-one_file

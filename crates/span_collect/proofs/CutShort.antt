@@ -1,0 +1,29 @@
+-- A run whose output failed.
+use Rattle.std.proofs.Common.{◌≡◌, ℕ, List, ap, sym, ◌∙◌}
+use Rattle.std.specs.Prelude.{◌≢◌}
+use Rattle.span_ledger.specs.declared.entry.Entry.{Entry}
+use Rattle.span_ledger.specs.declared.query.Query.{Query}
+use Rattle.span_report.specs.declared.output.WriteFault.TheVariants.{Output}
+use Rattle.span_report.specs.Output.{WriteLeaves}
+use Rattle.span_report.specs.Sink.{SinkState}
+use Rattle.span_collect.specs.declared.files.Input.{Input}
+use Rattle.span_collect.specs.declared.runs.RunEnd.{RunEnd}
+use Rattle.span_collect.specs.declared.settings.Settings.{Settings}
+use Rattle.span_collect.specs.Run.{IsCutShort, TextOf, status_of}
+use Rattle.span_collect.specs.Seals.{SealedAccount}
+use Rattle.span_collect.proofs.Statuses.{status_of-lt}
+
+-- what the output took of the text of what was collected
+pub IsCutShort-failed : (text : TextOf) (files : List Input) (asks : List Query) (settings : Settings) (run : RunEnd) (journal : List Entry) (written : ℕ) (old new : SinkState) →
+    SealedAccount files asks settings run.ends.items run.asked run.sealing journal → run.status ≡ status_of run.ends.items run.asked run.sealing → run.status ≢ 2 →
+    WriteLeaves (Output written) (text run.ends.items journal) old new → IsCutShort text files asks settings written old new
+IsCutShort-failed text files asks settings run journal written old new account status ended leaves = record {
+  ends = run.ends.items;
+  asked = run.asked;
+  sealing = run.sealing;
+  journal = journal;
+  account = account;
+  status = status_of-lt run.ends.items run.asked run.sealing (λ two. ended (status ∙ two));
+  within = leaves.0;
+  output = leaves.1;
+}
