@@ -1,12 +1,10 @@
 //! The text of a ranking.
 ghost use Rattle.std.specs.Prelude.{◌≡◌, ◌++◌, string_bytes, take, flat_map, OnOk, IfOk};
-ghost use Rattle.span_report.specs.Lines.{json_text_of, or_dash};
 ghost use Rattle.span_ranking.specs.Ranking.{column_line, ranked_line, ranking_of};
 
 use crate::order::{By, Ranked, ranked_rows};
-use span_event::Text;
 use span_ledger::Ledger;
-use span_report::{head, json_text};
+use span_report::{head, json_text, shown_name};
 use std::alloc::{AllocError, Global};
 
 const COLUMNS: &str = "            self            total    count pid tid thread name\n";
@@ -53,13 +51,4 @@ fn put_row(alloc: Global, out: &mut String, ranked: &Ranked) -> Result<(), Alloc
         out,
         "{self_time:>16} {total:>16} {count:>8} {pid} {tid} {thread} {name}"
     )
-}
-
-fn shown_name(alloc: Global, name: &Option<Text>) -> Result<String, AllocError>
-    ensures { IfOk result (λ s. string_bytes s ≡ or_dash json_text_of name.now) }
-{
-    match name {
-        None => String::from_str(alloc, "-"),
-        Some(name) => json_text(alloc, name),
-    }
 }

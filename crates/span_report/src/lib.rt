@@ -8,7 +8,7 @@ mod sink;
 mod text;
 mod writer;
 
-pub use lines::json_text;
+pub use lines::{first_line, json_text, put_counts, put_seals, shown_name};
 pub use output::{WriteFault, write_bytes, write_report};
 pub use sink::{Sink, SinkFault};
 pub use text::{head, report};

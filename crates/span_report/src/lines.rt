@@ -25,7 +25,8 @@ pub fn json_text(alloc: Global, text: &Text) -> Result<String, AllocError>
     Value::try_from_str(alloc, text.as_str())?.to_string(alloc)
 }
 
-fn shown_name(alloc: Global, name: &Option<Text>) -> Result<String, AllocError>
+/// The name as JSON text, or `-` where there is none.
+pub fn shown_name(alloc: Global, name: &Option<Text>) -> Result<String, AllocError>
     ensures { IfOk result (λ s. string_bytes s ≡ or_dash json_text_of name.now) }
 {
     match name {
@@ -34,15 +35,17 @@ fn shown_name(alloc: Global, name: &Option<Text>) -> Result<String, AllocError>
     }
 }
 
+/// The first line of each text that the program prints.
 #[tactic(auto, unfolding(crate::specs::Lines::first_line))]
-pub(crate) fn start(alloc: Global) -> Result<String, AllocError>
+pub fn first_line(alloc: Global) -> Result<String, AllocError>
     ensures { IfOk result (λ s. string_bytes s ≡ first_line) }
 {
     String::from_str(alloc, "tracebook 1\n")
 }
 
+/// Appends the line that counts a journal's entries.
 #[tactic(auto, unfolding(crate::specs::Lines::count_line))]
-pub(crate) fn put_counts(out: &mut String, row: CountRow) -> Result<(), AllocError>
+pub fn put_counts(out: &mut String, row: CountRow) -> Result<(), AllocError>
     ensures { OnOk result (string_bytes out.new ≡ string_bytes out.old ++ count_line row) }
 {
     let CountRow {
@@ -58,8 +61,9 @@ pub(crate) fn put_counts(out: &mut String, row: CountRow) -> Result<(), AllocErr
     )
 }
 
+/// Appends the line of seals, where spans were sealed.
 #[tactic(auto, unfolding(crate::specs::Lines::seals_line))]
-pub(crate) fn put_seals(out: &mut String, seals: u32) -> Result<(), AllocError>
+pub fn put_seals(out: &mut String, seals: u32) -> Result<(), AllocError>
     ensures { OnOk result (string_bytes out.new ≡ string_bytes out.old ++ seals_line seals) }
 {
     if seals == 0 {

@@ -3,7 +3,7 @@ ghost use Rattle.std.specs.Prelude.{◌≡◌, ◌++◌, string_bytes, flat_map,
 ghost use Rattle.span_ledger.specs.Rows.{count_row};
 ghost use Rattle.span_report.specs.Report.{head_lines, process_lines, report_of, thread_lines};
 
-use crate::lines::{Printed, put_counts, put_seals, start};
+use crate::lines::{Printed, first_line, put_counts, put_seals};
 use span_ledger::{Ledger, ProcessPart, ThreadPart};
 use std::alloc::{AllocError, Global};
 
@@ -23,7 +23,7 @@ pub fn head(alloc: Global, ledger: &Ledger) -> Result<String, AllocError>
     ensures { IfOk result (λ text. string_bytes text ≡ head_lines (count_row ledger.now.journal)) }
 {
     let counts = ledger.counts();
-    let mut out = start(alloc)?;
+    let mut out = first_line(alloc)?;
     put_counts(&mut out, counts)?;
     put_seals(&mut out, counts.seals)?;
     Ok(out)
