@@ -1,0 +1,6 @@
+pub mod Compared
+pub mod Kept
+pub mod Lines
+pub mod SameComparisons
+pub mod SumText
+pub mod Within

@@ -1,0 +1,54 @@
+-- The rows of both runs as they are collected, and what is kept for each key.
+use Rattle.std.specs.Prelude.{ℕ, ◌+◌, ◌*◌, ◌≤◌, ◌^◌, List, [], map, fold}
+use Rattle.span_keyed_tracks.specs.Keyed.{Keyed}
+use Rattle.span_ledger.specs.declared.rows.SpanRow.{SpanRow}
+use Rattle.span_comparison.specs.declared.numbers.Both.{Both}
+use Rattle.span_comparison.specs.declared.numbers.Numbers.{Numbers}
+use Rattle.span_comparison.specs.declared.numbers.Run.{Run}
+use Rattle.span_comparison.specs.declared.numbers.Run.TheVariants.{Base, Other}
+use Rattle.span_comparison.specs.Changes.{ComparedRow, KeyedRows}
+use Rattle.span_comparison.specs.Keys.{RowKey}
+use Rattle.span_comparison.specs.Numbers.{numbers_of}
+
+-- a row, and which run it is of
+pub record RunRow : Type 0 where
+  pub run : Run
+  pub row : SpanRow
+
+-- the rows of one run
+abbrev pub of_run : Run → KeyedRows → List (Keyed RowKey RunRow)
+of_run run rows = map (λ (r : Keyed RowKey SpanRow). record { key = r.key; step = record { run = run; row = r.step } }) rows
+
+-- the numbers with those of one row more
+abbrev pub added : Numbers → SpanRow → Numbers
+added numbers row = record {
+  self_time = numbers.self_time + row.self_time;
+  total = numbers.total + row.total;
+  count = numbers.count + row.count;
+}
+
+abbrev pub with_row : Run → SpanRow → Both → Both
+with_row Base row both = record { base = added both.base row; other = both.other }
+with_row Other row both = record { base = both.base; other = added both.other row }
+
+-- the numbers of no rows
+abbrev pub of_none : Both
+of_none = record { base = numbers_of []; other = numbers_of [] }
+
+-- what rows of both runs come to, each added to the numbers of its run
+abbrev pub both_of : List RunRow → Both
+both_of rows = fold (λ both (r : RunRow). with_row r.run r.row both) of_none rows
+
+-- a key with what is kept for it
+abbrev pub compared_entry : RowKey × Both → ComparedRow
+compared_entry (key, both) = record { key = key; both = both }
+
+-- so many rows can come to these numbers
+pub record IsWithin (n : ℕ) (numbers : Numbers) : Type 0 where
+  pub self_time : numbers.self_time ≤ n * 2 ^ 128
+  pub total : numbers.total ≤ n * 2 ^ 128
+  pub count : numbers.count ≤ n * 2 ^ 128
+
+pub record AreWithin (n : ℕ) (both : Both) : Type 0 where
+  pub base : IsWithin n both.base
+  pub other : IsWithin n both.other

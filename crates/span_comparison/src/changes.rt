@@ -1,0 +1,130 @@
+//! Which keys changed between two runs, and in which order they are told.
+ghost use Rattle.std.specs.Prelude.{◌≡◌, ◌++◌, ◌^◌, ◌+◌, [], ◌∷◌, ℕ, List, map, filter, not, count_by, IfOk, OnOk, All};
+ghost use Rattle.std.specs.BTreeMap.{values};
+ghost use Rattle.span_keyed_tracks.specs.Keyed.{Keyed, entries_in};
+ghost use Rattle.span_comparison.specs.Changes.{ComparedRow, all_keyed, change_order, changes_of, compared, same_count, self_gap, total_gap};
+ghost use Rattle.span_comparison.specs.Collected.{AreWithin, RunRow, both_of, compared_entry};
+ghost use Rattle.span_comparison.specs.Keys.{RowKey, key_cmp};
+ghost use Rattle.span_comparison.specs.Numbers.{is_same};
+
+use crate::key::Key;
+use crate::numbers::Both;
+use crate::rows::{Row, rows_of_both};
+use crate::sum::Sum;
+use span_ledger::ProcessPart;
+use std::alloc::{AllocError, Global};
+use std::cmp::Ordering;
+use std::collections::BTreeMap;
+use std::marker::Model;
+
+/// A key, and its numbers in both runs.
+#[derive(Drop)]
+pub(crate) struct Compared<'a> {
+    pub(crate) key: Key<'a>,
+    pub(crate) both: Both,
+}
+
+impl<'a> Model for Compared<'a> {
+    ghost use Rattle.span_comparison.specs.Changes.{ComparedRow};
+
+    ghost Value = { ComparedRow };
+
+    ghost view = { λ c. record { key = c.key; both = c.both } };
+}
+
+impl<'a> Compared<'a> {
+    fn self_gap(&self) -> Sum
+        ensures { result ≡ self_gap self.now }
+    {
+        self.both.base.self_time.gap(&self.both.other.self_time)
+    }
+
+    fn total_gap(&self) -> Sum
+        ensures { result ≡ total_gap self.now }
+    {
+        self.both.base.total.gap(&self.both.other.total)
+    }
+
+    // Which of two comes first.
+    fn compare(&self, other: &Compared<'a>) -> Ordering
+        ensures { result ≡ change_order self.now other.now }
+    {
+        let by_key = self.key.cmp(&other.key);
+        let by_total = other.total_gap().compare(&self.total_gap()).then(by_key);
+        other.self_gap().compare(&self.self_gap()).then(by_total)
+    }
+}
+
+/// What a comparison tells of two runs: the keys of which a number differs, and how many others there are.
+#[derive(Drop)]
+pub(crate) struct Differences<'a> {
+    pub(crate) changes: Vec<Compared<'a>>,
+    pub(crate) same: usize,
+}
+
+// The changes between two runs in the order in which they are told.
+pub(crate) fn compared_runs<'a>(
+    alloc: Global,
+    base: &'a [ProcessPart],
+    other: &'a [ProcessPart],
+) -> Result<Differences<'a>, AllocError>
+    ensures changes { IfOk result
+        (λ d. d.changes.items ≡ changes_of (compared (all_keyed base.now) (all_keyed other.now))) }
+    ensures same { IfOk result (λ d. d.same ≡ same_count (compared (all_keyed base.now) (all_keyed other.now))) }
+{
+    let rows = rows_of_both(alloc, base, other)?;
+    let found = numbers_by_key(alloc, rows)?;
+    let mut differences = separated(alloc, found)?;
+    differences.changes.sort_unstable_by(|a, b| a.compare(b));
+    Ok(differences)
+}
+
+// Each key with what its rows come to in both runs.
+fn numbers_by_key<'a>(
+    alloc: Global,
+    rows: Vec<Row<'a>>,
+) -> Result<BTreeMap<Key<'a>, Both>, AllocError>
+    ensures { IfOk result (λ found. found.entries ≡ entries_in key_cmp both_of rows.entry.items) }
+{
+    let mut found = BTreeMap::new(alloc);
+    for row in rows {
+        add_row(&mut found, row)?;
+    }
+    Ok(found)
+}
+
+fn add_row<'a>(found: &mut BTreeMap<Key<'a>, Both>, row: Row<'a>) -> Result<(), AllocError>
+    requires { All (AreWithin (2 ^ 64)) (values found.old) }
+    ensures added { OnOk result ((rows : List (Keyed RowKey RunRow)) → found.old.entries ≡ entries_in key_cmp both_of rows
+        → found.new.entries ≡ entries_in key_cmp both_of (rows ++ row.entry ∷ [])) }
+    ensures bound { OnOk result
+        ((n : ℕ) → All (AreWithin n) (values found.old) → All (AreWithin (n + 1)) (values found.new)) }
+{
+    let mut both = match found.get(&row.key) {
+        Some(both) => *both,
+        None => Both::of_none(),
+    };
+    both.add(row.run, row.row);
+    found.insert(row.key, both)?;
+    Ok(())
+}
+
+// The keys of which a number differs, in ascending order, and how many others there are.
+fn separated<'a>(
+    alloc: Global,
+    found: BTreeMap<Key<'a>, Both>,
+) -> Result<Differences<'a>, AllocError>
+    ensures changes { IfOk result
+        (λ d. d.changes.items ≡ filter (λ row. not (is_same row.both)) (map compared_entry found.entry.entries)) }
+    ensures same { IfOk result (λ d. d.same ≡ same_count (map compared_entry found.entry.entries)) }
+{
+    let all = found.len();
+    let mut changes = Vec::new(alloc);
+    for (key, both) in found {
+        if !both.is_same() {
+            changes.push(Compared { key, both })?;
+        }
+    }
+    let same = all - changes.len();
+    Ok(Differences { changes, same })
+}
