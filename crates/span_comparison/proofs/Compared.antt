@@ -1,6 +1,6 @@
 -- What is kept for each key is what is compared, and no two changes stand at one place.
 use Rattle.std.proofs.Common.{◌≡◌, ℕ, ◌+◌, Bool, true, false, cond, List, [], ◌∷◌, ◌++◌, length, map, refl, sym, ap, ap₂, ◌∙◌, arith}
-use Rattle.std.specs.Prelude.{filter, fold, not, count_by, sum_by}
+use Rattle.std.specs.Prelude.{filter, fold, count_by, sum_by}
 use Rattle.std.specs.Cmp.{IsTotalOrder}
 use Rattle.std.specs.List.{AllByRecursion, IsDistinct}
 use Rattle.std.specs.List.Sorted.{IsStrictlySortedBy}
@@ -12,15 +12,15 @@ use Rattle.std.proofs.lemmas.List.{map-append}
 use Rattle.std.proofs.lemmas.List.Elements.{filter-append}
 use Rattle.std.proofs.lemmas.List.Filters.{length-filter_both}
 use Rattle.std.proofs.lemmas.List.Sums.{fold-append, length-filter, sum_by-cons}
-use Rattle.span_keyed_tracks.specs.Keyed.{Keyed, ascending, entries_in, entry_of, steps_at}
+use Rattle.span_keyed_tracks.specs.Keyed.{Keyed, ascending, entry_of, steps_at}
 use Rattle.span_ledger.specs.declared.rows.SpanRow.{SpanRow}
 use Rattle.span_ledger.proofs.Sorted.{AllByRecursion-map, ascending-sorted, map-map, map-sorted}
 use Rattle.span_comparison.specs.declared.numbers.Both.{Both}
 use Rattle.span_comparison.specs.declared.numbers.Numbers.{Numbers}
 use Rattle.span_comparison.specs.declared.numbers.Run.{Run}
 use Rattle.span_comparison.specs.declared.numbers.Run.TheVariants.{Base, Other}
-use Rattle.span_comparison.specs.Changes.{ComparedRow, KeyedRows, change_order, compared, compared_at, numbers_at, self_gap, total_gap}
-use Rattle.span_comparison.specs.Collected.{RunRow, added, both_of, compared_entry, of_none, of_run, with_row}
+use Rattle.span_comparison.specs.Changes.{ComparedRow, KeyedRows, change_order, compared_at, compared_rows, is_changed, numbers_at, self_gap, total_gap}
+use Rattle.span_comparison.specs.Collected.{RunRow, added, both_of, compared_entry, kept_of, of_both, of_none, of_run, with_row}
 use Rattle.span_comparison.specs.KeyLaws.{key_cmp_total}
 use Rattle.span_comparison.specs.Keys.{RowKey, key_cmp}
 use Rattle.span_comparison.specs.Numbers.{is_same, numbers_of}
@@ -93,8 +93,9 @@ steps_at-append key xs ys =
     ∙ map-append (λ (e : Keyed RowKey RunRow). e.step) (filter (λ e. is_eq (key_cmp e.key key)) xs) (filter (λ e. is_eq (key_cmp e.key key)) ys)
 
 module _ (base other : KeyedRows) where
+  -- the rows of both
   abbrev all_rows : List (Keyed RowKey RunRow)
-  all_rows = of_run Base base ++ of_run Other other
+  all_rows = of_both base other
 
   both_of-all : (key : RowKey) → both_of (steps_at key_cmp key all_rows) ≡ record { base = numbers_at base key; other = numbers_at other key }
   both_of-all key =
@@ -116,7 +117,7 @@ module _ (base other : KeyedRows) where
       one run rows = map-map (λ (e : Keyed RowKey RunRow). e.key) (λ (r : Keyed RowKey SpanRow). let e : Keyed RowKey RunRow = record { key = r.key; step = in_run run r.step } in e) rows
 
   -- what is kept for the keys of both runs is what is compared
-  pub compared-entries : map compared_entry (entries_in key_cmp both_of all_rows) ≡ compared base other
+  pub compared-entries : map compared_entry (kept_of all_rows) ≡ compared_rows base other
   compared-entries = each (ascending key_cmp (map (λ (e : Keyed RowKey RunRow). e.key) all_rows)) ∙ ap (λ ks. map (compared_at base other) (ascending key_cmp ks)) keys-all
     where
       each : (keys : List RowKey) → map compared_entry (map (entry_of (λ key. both_of (steps_at key_cmp key all_rows))) keys) ≡ map (compared_at base other) keys
@@ -126,7 +127,7 @@ module _ (base other : KeyedRows) where
   by_key : ComparedRow → ComparedRow → Ordering
   by_key a b = key_cmp a.key b.key
 
-  compared-sorted : IsStrictlySortedBy by_key (compared base other)
+  compared-sorted : IsStrictlySortedBy by_key (compared_rows base other)
   unfolding by_key
   compared-sorted =
       let keys = map (λ (e : Keyed RowKey SpanRow). e.key) (base ++ other) in
@@ -171,13 +172,13 @@ IsDistinct-sorted (x ∷ xs) sorted = (
 )
 
 -- no two changes stand at one place
-pub changes-distinct : (base other : KeyedRows) → IsDistinct (eq_by_cmp change_order) (filter (λ (row : ComparedRow). not (is_same row.both)) (compared base other))
+pub changes-distinct : (base other : KeyedRows) → IsDistinct (eq_by_cmp change_order) (filter is_changed (compared_rows base other))
 unfolding by_key
-changes-distinct base other = IsDistinct-sorted _ (filter-sorted _ (λ (row : ComparedRow). not (is_same row.both)) (compared base other) (compared-sorted base other))
+changes-distinct base other = IsDistinct-sorted _ (filter-sorted _ is_changed (compared_rows base other) (compared-sorted base other))
 
 -- each row is a change or not
-pub length-changes : (rows : List ComparedRow) → length (filter (λ row. not (is_same row.both)) rows) + count_by (λ row. is_same row.both) rows ≡ length rows
+pub length-changes : (rows : List ComparedRow) → length (filter is_changed rows) + count_by (λ row. is_same row.both) rows ≡ length rows
 length-changes rows =
-    let both : length (filter (λ (row : ComparedRow). is_same row.both) rows) + length (filter (λ (row : ComparedRow). not (is_same row.both)) rows) ≡ length rows =
-    length-filter_both (λ (row : ComparedRow). is_same row.both) (λ (row : ComparedRow). not (is_same row.both)) (λ row. refl) rows in
+    let both : length (filter (λ (row : ComparedRow). is_same row.both) rows) + length (filter is_changed rows) ≡ length rows =
+    length-filter_both (λ (row : ComparedRow). is_same row.both) is_changed (λ row. refl) rows in
     omega (arith, both, length-filter (λ (row : ComparedRow). is_same row.both) rows)

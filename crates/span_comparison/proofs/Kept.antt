@@ -10,11 +10,11 @@ use Rattle.std.specs.FinMap.{int_cmp-IsAntisymmetric}
 use Rattle.std.proofs.lemmas.List.Sums.{fold-append}
 use Rattle.span_event.proofs.Orders.{both_equal, text_same}
 use Rattle.span_event.specs.Text.{text_cmp}
-use Rattle.span_keyed_tracks.specs.Keyed.{Keyed, entries_in, steps_at}
+use Rattle.span_keyed_tracks.specs.Keyed.{Keyed, steps_at}
 use Rattle.span_keyed_tracks.proofs.Keyed.{entries_in-insert_entry, kept_at-entries_in}
 use Rattle.std.specs.Ordering.{ordering_then}
 use Rattle.span_comparison.specs.declared.numbers.Both.{Both}
-use Rattle.span_comparison.specs.Collected.{AreWithin, RunRow, both_of, of_none, with_row}
+use Rattle.span_comparison.specs.Collected.{AreWithin, RunRow, both_of, kept_of, of_none, with_row}
 use Rattle.span_comparison.specs.KeyLaws.{key_cmp_total}
 use Rattle.span_comparison.specs.Keys.{RowKey, RowLabel, key_cmp, label_cmp, named, numbered}
 use Rattle.span_comparison.proofs.Within.{AreWithin-none}
@@ -36,9 +36,9 @@ key_cmp-same a b e =
     λ i. record { process = process i; thread = thread i; name = name i }
 
 -- a row is added to what was found for its key, or to nothing
-pub entries_in-added : (rows : List (Keyed RowKey RunRow)) (row : Keyed RowKey RunRow) (old new : List (RowKey × Both)) (now : Both) → old ≡ entries_in key_cmp both_of rows → IsStrictlySortedBy key_cmp (keys_of old) →
-    now ≡ with_row row.step.run row.step.row (unwrap_or (lookup (is_at (key_cmp row.key)) old) of_none) → new ≡ insert_entry key_cmp old row.key now → new ≡ entries_in key_cmp both_of (rows ++ row ∷ [])
-entries_in-added rows row old new now kept sorted is written =
+pub kept_of-added : (rows : List (Keyed RowKey RunRow)) (row : Keyed RowKey RunRow) (old new : List (RowKey × Both)) (now : Both) → old ≡ kept_of rows → IsStrictlySortedBy key_cmp (keys_of old) →
+    now ≡ with_row row.step.run row.step.row (unwrap_or (lookup (is_at (key_cmp row.key)) old) of_none) → new ≡ insert_entry key_cmp old row.key now → new ≡ kept_of (rows ++ row ∷ [])
+kept_of-added rows row old new now kept sorted is written =
     let was : unwrap_or (lookup (is_at (key_cmp row.key)) old) of_none ≡ both_of (steps_at key_cmp row.key rows) =
     ap (λ es. unwrap_or (lookup (is_at (key_cmp row.key)) es) of_none) kept ∙ kept_at-entries_in key_cmp_total key_cmp-same both_of rows row.key in
     written ∙ entries_in-insert_entry key_cmp_total key_cmp-same both_of rows row old now kept sorted

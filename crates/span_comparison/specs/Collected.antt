@@ -1,13 +1,13 @@
 -- The rows of both runs as they are collected, and what is kept for each key.
-use Rattle.std.specs.Prelude.{ℕ, ◌+◌, ◌*◌, ◌≤◌, ◌^◌, List, [], map, fold}
-use Rattle.span_keyed_tracks.specs.Keyed.{Keyed}
+use Rattle.std.specs.Prelude.{◌≡◌, ℕ, ◌+◌, ◌*◌, ◌≤◌, ◌^◌, List, [], ◌∷◌, ◌++◌, All, map, fold}
+use Rattle.span_keyed_tracks.specs.Keyed.{Keyed, entries_in}
 use Rattle.span_ledger.specs.declared.rows.SpanRow.{SpanRow}
 use Rattle.span_comparison.specs.declared.numbers.Both.{Both}
 use Rattle.span_comparison.specs.declared.numbers.Numbers.{Numbers}
 use Rattle.span_comparison.specs.declared.numbers.Run.{Run}
 use Rattle.span_comparison.specs.declared.numbers.Run.TheVariants.{Base, Other}
 use Rattle.span_comparison.specs.Changes.{ComparedRow, KeyedRows}
-use Rattle.span_comparison.specs.Keys.{RowKey}
+use Rattle.span_comparison.specs.Keys.{RowKey, key_cmp}
 use Rattle.span_comparison.specs.Numbers.{numbers_of}
 
 -- a row, and which run it is of
@@ -19,6 +19,10 @@ pub record RunRow : Type 0 where
 abbrev pub of_run : Run → KeyedRows → List (Keyed RowKey RunRow)
 of_run run rows = map (λ (r : Keyed RowKey SpanRow). record { key = r.key; step = record { run = run; row = r.step } }) rows
 
+-- the rows of the base, and then the other's
+abbrev pub of_both : KeyedRows → KeyedRows → List (Keyed RowKey RunRow)
+of_both base other = of_run Base base ++ of_run Other other
+
 -- the numbers with those of one row more
 abbrev pub added : Numbers → SpanRow → Numbers
 added numbers row = record {
@@ -27,6 +31,7 @@ added numbers row = record {
   count = numbers.count + row.count;
 }
 
+-- the numbers of both runs, with those of one row more of a run
 abbrev pub with_row : Run → SpanRow → Both → Both
 with_row Base row both = record { base = added both.base row; other = both.other }
 with_row Other row both = record { base = both.base; other = added both.other row }
@@ -39,16 +44,33 @@ of_none = record { base = numbers_of []; other = numbers_of [] }
 abbrev pub both_of : List RunRow → Both
 both_of rows = fold (λ both (r : RunRow). with_row r.run r.row both) of_none rows
 
+-- each key with what its rows come to
+abbrev pub kept_of : List (Keyed RowKey RunRow) → List (RowKey × Both)
+kept_of rows = entries_in key_cmp both_of rows
+
 -- a key with what is kept for it
 abbrev pub compared_entry : RowKey × Both → ComparedRow
 compared_entry (key, both) = record { key = key; both = both }
 
--- so many rows can come to these numbers
+-- what is kept for rows becomes what is kept for them and one more
+abbrev pub KeepsOneMore : Keyed RowKey RunRow → List (RowKey × Both) → List (RowKey × Both) → Type 0
+KeepsOneMore row old new = (rows : List (Keyed RowKey RunRow)) → old ≡ kept_of rows → new ≡ kept_of (rows ++ row ∷ [])
+
+-- n rows can come to these numbers: each row adds less than 2 ^ 128
 pub record IsWithin (n : ℕ) (numbers : Numbers) : Type 0 where
   pub self_time : numbers.self_time ≤ n * 2 ^ 128
   pub total : numbers.total ≤ n * 2 ^ 128
   pub count : numbers.count ≤ n * 2 ^ 128
 
+-- in each run
 pub record AreWithin (n : ℕ) (both : Both) : Type 0 where
   pub base : IsWithin n both.base
   pub other : IsWithin n both.other
+
+-- n rows can come to each of these
+abbrev pub AllWithinRows : ℕ → List Both → Type 0
+AllWithinRows n kept = All (AreWithin n) kept
+
+-- where n rows can come to the old, one more can come to the new
+abbrev pub GrowsByOne : List Both → List Both → Type 0
+GrowsByOne old new = (n : ℕ) → AllWithinRows n old → AllWithinRows (n + 1) new

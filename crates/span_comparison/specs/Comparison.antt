@@ -7,14 +7,14 @@ use Rattle.span_ledger.specs.declared.rows.CountRow.{CountRow}
 use Rattle.span_ledger.specs.Parts.{process_parts}
 use Rattle.span_ledger.specs.Rows.{count_row}
 use Rattle.span_report.specs.Lines.{count_line, first_line, json_text_of, line_of, right_in, seals_line}
-use Rattle.span_comparison.specs.Changes.{ComparedRow, all_keyed, changes_of, compared, same_count}
+use Rattle.span_comparison.specs.Changes.{ComparedRow, changes_of, compared, same_count}
 use Rattle.span_comparison.specs.Keys.{RowLabel, named, numbered}
 
--- the base's head but for its first line: each line has the word before it
+-- the head of the base but for its first line: each line has the word before it
 abbrev pub base_lines : CountRow → List ℕ
 base_lines counts = codes "base " ++ (count_line counts ++ (if counts.seals == 0 then [] else codes "base " ++ seals_line counts.seals))
 
--- the other's
+-- the head of the other but for its first line
 abbrev pub other_lines : CountRow → List ℕ
 other_lines counts = count_line counts ++ seals_line counts.seals
 
@@ -40,11 +40,12 @@ change_line row =
     right_in 16 (difference_text base.total other.total) ∷ right_in 16 (decimal base.total) ∷ right_in 16 (decimal other.total) ∷
     right_in 8 (decimal base.count) ∷ right_in 8 (decimal other.count) ∷ label_text row.key.process ∷ label_text row.key.thread ∷ json_text_of row.key.name ∷ [])
 
+-- how many keys did not change
 unfoldable pub same_line : ℕ → List ℕ
 same_line count = line_of (codes "same" ∷ decimal count ∷ [])
 
 -- both heads, the names of the columns, a line for each change, and then how many keys did not change
 abbrev pub comparison_of : List Entry → List Entry → List ℕ
 comparison_of base other =
-    let rows = compared (all_keyed (process_parts base)) (all_keyed (process_parts other)) in
+    let rows = compared (process_parts base) (process_parts other) in
     first_line ++ (base_lines (count_row base) ++ (other_lines (count_row other) ++ (column_line ++ (flat_map change_line (changes_of rows) ++ same_line (same_count rows)))))

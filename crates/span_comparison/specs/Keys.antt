@@ -10,6 +10,7 @@ pub data RowLabel : Type 0 where
   numbered : ℤ → RowLabel
   named : Bytes → RowLabel
 
+-- the name of a process or a thread, or else its number
 abbrev pub label_of : ℤ → Option Bytes → RowLabel
 label_of number None = numbered number
 label_of number (Some name) = named name

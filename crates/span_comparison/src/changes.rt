@@ -1,11 +1,8 @@
 //! Which keys changed between two runs, and in which order they are told.
-ghost use Rattle.std.specs.Prelude.{◌≡◌, ◌++◌, ◌^◌, ◌+◌, [], ◌∷◌, ℕ, List, map, filter, not, count_by, IfOk, OnOk, All};
+ghost use Rattle.std.specs.Prelude.{◌≡◌, ◌^◌, map, filter, IfOk, OnOk};
 ghost use Rattle.std.specs.BTreeMap.{values};
-ghost use Rattle.span_keyed_tracks.specs.Keyed.{Keyed, entries_in};
-ghost use Rattle.span_comparison.specs.Changes.{ComparedRow, all_keyed, change_order, changes_of, compared, same_count, self_gap, total_gap};
-ghost use Rattle.span_comparison.specs.Collected.{AreWithin, RunRow, both_of, compared_entry};
-ghost use Rattle.span_comparison.specs.Keys.{RowKey, key_cmp};
-ghost use Rattle.span_comparison.specs.Numbers.{is_same};
+ghost use Rattle.span_comparison.specs.Changes.{change_order, changes_of, compared, is_changed, same_count, self_gap, total_gap};
+ghost use Rattle.span_comparison.specs.Collected.{AllWithinRows, GrowsByOne, KeepsOneMore, compared_entry, kept_of};
 
 use crate::key::Key;
 use crate::numbers::Both;
@@ -69,8 +66,8 @@ pub(crate) fn compared_runs<'a>(
     other: &'a [ProcessPart],
 ) -> Result<Differences<'a>, AllocError>
     ensures changes { IfOk result
-        (λ d. d.changes.items ≡ changes_of (compared (all_keyed base.now) (all_keyed other.now))) }
-    ensures same { IfOk result (λ d. d.same ≡ same_count (compared (all_keyed base.now) (all_keyed other.now))) }
+        (λ d. d.changes.items ≡ changes_of (compared base.now other.now)) }
+    ensures same { IfOk result (λ d. d.same ≡ same_count (compared base.now other.now)) }
 {
     let rows = rows_of_both(alloc, base, other)?;
     let found = numbers_by_key(alloc, rows)?;
@@ -84,7 +81,7 @@ fn numbers_by_key<'a>(
     alloc: Global,
     rows: Vec<Row<'a>>,
 ) -> Result<BTreeMap<Key<'a>, Both>, AllocError>
-    ensures { IfOk result (λ found. found.entries ≡ entries_in key_cmp both_of rows.entry.items) }
+    ensures { IfOk result (λ found. found.entries ≡ kept_of rows.entry.items) }
 {
     let mut found = BTreeMap::new(alloc);
     for row in rows {
@@ -94,11 +91,9 @@ fn numbers_by_key<'a>(
 }
 
 fn add_row<'a>(found: &mut BTreeMap<Key<'a>, Both>, row: Row<'a>) -> Result<(), AllocError>
-    requires { All (AreWithin (2 ^ 64)) (values found.old) }
-    ensures added { OnOk result ((rows : List (Keyed RowKey RunRow)) → found.old.entries ≡ entries_in key_cmp both_of rows
-        → found.new.entries ≡ entries_in key_cmp both_of (rows ++ row.entry ∷ [])) }
-    ensures bound { OnOk result
-        ((n : ℕ) → All (AreWithin n) (values found.old) → All (AreWithin (n + 1)) (values found.new)) }
+    requires { AllWithinRows (2 ^ 64) (values found.old) }
+    ensures kept { OnOk result (KeepsOneMore row.entry found.old.entries found.new.entries) }
+    ensures bound { OnOk result (GrowsByOne (values found.old) (values found.new)) }
 {
     let mut both = match found.get(&row.key) {
         Some(both) => *both,
@@ -115,7 +110,7 @@ fn separated<'a>(
     found: BTreeMap<Key<'a>, Both>,
 ) -> Result<Differences<'a>, AllocError>
     ensures changes { IfOk result
-        (λ d. d.changes.items ≡ filter (λ row. not (is_same row.both)) (map compared_entry found.entry.entries)) }
+        (λ d. d.changes.items ≡ filter is_changed (map compared_entry found.entry.entries)) }
     ensures same { IfOk result (λ d. d.same ≡ same_count (map compared_entry found.entry.entries)) }
 {
     let all = found.len();

@@ -1,7 +1,7 @@
 //! The rows of spans of two runs, each under its key.
 ghost use Rattle.std.specs.Prelude.{◌≡◌, ◌++◌, IfOk, OnOk};
 ghost use Rattle.span_comparison.specs.Changes.{all_keyed, process_keyed, thread_keyed};
-ghost use Rattle.span_comparison.specs.Collected.{of_run};
+ghost use Rattle.span_comparison.specs.Collected.{of_both, of_run};
 
 use crate::key::Key;
 use crate::numbers::Run;
@@ -33,8 +33,7 @@ pub(crate) fn rows_of_both<'a>(
     base: &'a [ProcessPart],
     other: &'a [ProcessPart],
 ) -> Result<Vec<Row<'a>>, AllocError>
-    ensures { IfOk result
-        (λ rows. rows.items ≡ of_run Run.Base (all_keyed base.now) ++ of_run Run.Other (all_keyed other.now)) }
+    ensures { IfOk result (λ rows. rows.items ≡ of_both (all_keyed base.now) (all_keyed other.now)) }
 {
     let mut rows = Vec::new(alloc);
     add_rows(&mut rows, base, Run::Base)?;

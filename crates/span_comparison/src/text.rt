@@ -1,6 +1,5 @@
 //! The text of a comparison.
-ghost use Rattle.std.specs.Prelude.{◌≡◌, ◌++◌, ◌∷◌, [], ℕ, string_bytes, flat_map, decimal, OnOk, IfOk};
-ghost use Rattle.span_ledger.specs.Rows.{count_row};
+ghost use Rattle.std.specs.Prelude.{◌≡◌, ◌++◌, string_bytes, flat_map, OnOk, IfOk};
 ghost use Rattle.span_report.specs.Lines.{first_line};
 ghost use Rattle.span_comparison.specs.Comparison.{base_lines, change_line, column_line, comparison_of, difference_text, other_lines, same_line};
 ghost use Rattle.span_comparison.specs.Pieces.{names_text, numbers_text, right_word, times_text};

@@ -3,10 +3,9 @@ use Rattle.std.specs.Prelude.{unwrap_or}
 use Rattle.std.specs.BTreeMap.{is_at}
 use Rattle.std.specs.Map.{lookup}
 use Rattle.std.proofs.lemmas.Map.Views.{All-values-insert_entry}
-use Rattle.span_keyed_tracks.specs.Keyed.{entries_in}
-use Rattle.span_comparison.specs.Collected.{AreWithin, both_of, of_none, with_row}
+use Rattle.span_comparison.specs.Collected.{AreWithin, kept_of, of_none, with_row}
 use Rattle.span_comparison.specs.Keys.{key_cmp}
-use Rattle.span_comparison.proofs.Kept.{entries_in-added, found-within}
+use Rattle.span_comparison.proofs.Kept.{kept_of-added, found-within}
 use Rattle.span_comparison.proofs.Within.{AreWithin-le}
 use Rattle.span_comparison.proofs.changes.add_row.Goals as goal
 use Rattle.span_comparison.proofs.changes.add_row.Goals.{in-Some, in-None}
@@ -19,11 +18,11 @@ so_far c =
       | in-None w ↦ w.both-is ∙ w.of_none-both.ensures ∙ ap (λ o. unwrap_or o of_none) w.in-None.ensures.value
     ]
 
-pub returns-clause-added : goal.returns-clause-added
-returns-clause-added c = λ rows kept.
-    entries_in-added rows (record { key = c.row.inside.key; step = record { run = c.row.inside.run; row = c.row.inside.row.now } }) c.args.found.now.entries c.insert.new.self.entries c.add.new.self kept
+pub returns-clause-kept : goal.returns-clause-kept
+returns-clause-kept c = λ rows kept.
+    kept_of-added rows (record { key = c.row.inside.key; step = record { run = c.row.inside.run; row = c.row.inside.row.now } }) c.args.found.now.entries c.insert.new.self.entries c.add.new.self kept
     c.in_ok-insert.ensures.was_ordered (c.add.ensures.value ∙ ap (with_row c.row.inside.run c.row.inside.row.now) (so_far c)) c.in_ok-insert.ensures.entries
-    ∙ ap (λ row. entries_in key_cmp both_of (rows ++ row ∷ [])) c.row.view_is
+    ∙ ap (λ row. kept_of (rows ++ row ∷ [])) c.row.view_is
 
 pub returns-clause-bound : goal.returns-clause-bound
 returns-clause-bound c = λ n within.

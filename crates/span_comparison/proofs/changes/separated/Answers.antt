@@ -1,9 +1,8 @@
 use Rattle.std.proofs.Common.{◌≡◌, ◌+◌, ◌++◌, length, map, sym, ap, ◌∙◌, append-nil, arith}
-use Rattle.std.specs.Prelude.{filter, not}
+use Rattle.std.specs.Prelude.{filter}
 use Rattle.std.proofs.lemmas.List.{length-map}
-use Rattle.span_comparison.specs.Changes.{same_count}
+use Rattle.span_comparison.specs.Changes.{is_changed, same_count}
 use Rattle.span_comparison.specs.Collected.{compared_entry}
-use Rattle.span_comparison.specs.Numbers.{is_same}
 use Rattle.span_comparison.proofs.Compared.{length-changes}
 use Rattle.span_comparison.proofs.changes.separated.Goals as goal
 
@@ -14,7 +13,7 @@ all_passed c = sym (append-nil c.loop-key.yielded) ∙ ap (λ l. c.loop-key.yiel
 parted : (c : goal.After-len) → c.len.result + same_count (map compared_entry c.args.found.entries) ≡ c.len-all.result
 parted c =
     let rows = map compared_entry c.args.found.entries in
-    let changes = c.loop-key.invariant.changes ∙ ap (λ es. filter (λ row. not (is_same row.both)) (map compared_entry es)) (all_passed c) in
+    let changes = c.loop-key.invariant.changes ∙ ap (λ es. filter is_changed (map compared_entry es)) (all_passed c) in
     omega (arith, length-changes rows, ap length changes, length-map c.args.found.entries compared_entry, c.loop-key.changes.ok.0, c.len.ensures, c.len-all.ensures.len)
 
 pub overflow_sub-same : goal.overflow_sub-same

@@ -1,13 +1,12 @@
 use Rattle.std.proofs.Common.{◌≡◌, ◌++◌, map}
-use Rattle.std.specs.Prelude.{filter, not}
-use Rattle.span_comparison.specs.Changes.{ComparedRow}
+use Rattle.std.specs.Prelude.{filter}
+use Rattle.span_comparison.specs.Changes.{is_changed}
 use Rattle.span_comparison.specs.Collected.{compared_entry}
-use Rattle.span_comparison.specs.Numbers.{is_same}
 use Rattle.span_comparison.proofs.changes.separated.Given as goal
 
 -- the changes among the keys that were passed
 abbrev pub invariant-loop-key : goal.invariant-loop-key
 invariant-loop-key l = record {
-  changes : l.changes.items ≡ filter (λ (row : ComparedRow). not (is_same row.both)) (map compared_entry l.yielded);
+  changes : l.changes.items ≡ filter is_changed (map compared_entry l.yielded);
   left : l.yielded ++ l.key-iterator ≡ l.initial.key-iterator;
 }
