@@ -29,6 +29,7 @@ label_congr (named s) (numbered n) c p = cc
 label_congr (named s) (named t) (numbered o) p = refl
 label_congr (named s) (named t) (named u) p = nat_list_cmp_total.congr s t u p
 
+-- the order of labels is total
 pub label_cmp_total : IsTotalOrder label_cmp
 label_cmp_total = record { antisymm = label_antisymm; trans = label_trans; congr = label_congr }
 

@@ -1,4 +1,4 @@
-//! Sums that may need more than 128 bits.
+//! Sums that may need more than 128 bits: of one row the lengths together have up to 128, and no contract says that they have less.
 ghost use Rattle.std.specs.Prelude.{◌≡◌, ◌==◌, ◌+◌, ◌-◌, ◌<◌, ◌≤◌, ◌^◌, string_bytes, decimal, IfOk};
 ghost use Rattle.std.specs.Ordering.{nat_cmp};
 ghost use Rattle.span_comparison.specs.Numbers.{gap};
