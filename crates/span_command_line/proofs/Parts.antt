@@ -14,7 +14,7 @@ use Rattle.span_command_line.specs.Request.{LeavesPart}
 use Rattle.span_command_line.specs.View.{text_of}
 
 -- a run that didn't end with 0 wrote nothing, or its whole text
-pub LeavesPart-ended : (run : RunEnd) (inputs : List Input) (settings : Settings) (view : View) (old new : SinkState) → IsRunOf (text_of view) inputs [] settings run old new → run.status ≢ 0 → LeavesPart inputs settings view old new
+pub LeavesPart-ended : (run : RunEnd) (inputs : List Input) (settings : Settings) (view : View) (old new : SinkState) → IsRunOf (text_of view inputs) inputs [] settings run old new → run.status ≢ 0 → LeavesPart inputs settings view old new
 LeavesPart-ended run inputs settings view old new is_run failed = dite (ℕ_discrete run.status 2)
     (λ (two : run.status ≡ 2). inl (record { run = run; is_run = is_run; ended = two }))
     (λ (other : ¬ (run.status ≡ 2)).

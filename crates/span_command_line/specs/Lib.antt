@@ -1,3 +1,4 @@
+pub mod Comparison
 pub mod Inputs
 pub mod Request
 pub mod Source

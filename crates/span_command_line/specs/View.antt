@@ -1,11 +1,14 @@
--- What is printed of a journal.
-use Rattle.std.specs.Prelude.{ℕ, List}
-use Rattle.span_ledger.specs.declared.entry.Entry.{Entry}
+-- What is printed of what was collected.
+use Rattle.std.specs.Prelude.{List}
 use Rattle.span_report.specs.Report.{report_of}
 use Rattle.span_ranking.specs.Ranking.{ranking_of}
+use Rattle.span_refusals.specs.Text.{refusals_of}
+use Rattle.span_collect.specs.declared.files.Input.{Input}
+use Rattle.span_collect.specs.Run.{TextOf}
 use Rattle.span_command_line.specs.declared.view.View.{View}
-use Rattle.span_command_line.specs.declared.view.View.TheVariants.{Report, Ranking}
+use Rattle.span_command_line.specs.declared.view.View.TheVariants.{Report, Ranking, Refusals}
 
-abbrev pub text_of : View → List Entry → List ℕ
-text_of Report journal = report_of journal
-text_of (Ranking most by) journal = ranking_of most by journal
+abbrev pub text_of : View → List Input → TextOf
+text_of Report files ends journal = report_of journal
+text_of (Ranking most by) files ends journal = ranking_of most by journal
+text_of Refusals files ends journal = refusals_of files ends journal

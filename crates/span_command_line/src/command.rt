@@ -20,6 +20,9 @@ const SEAL_HELP: &str =
 const STRICT_HELP: &str =
     "Refuse an end (27) that names another span than the one it would close, which then stays open; for a trace that may have lost begins";
 
+// One thing is printed in place of the report.
+const VIEW: &str = "view";
+
 const BY_WORDS: &[&str] = &["self", "total", "count"];
 
 const TOP_HELP: &str =
@@ -27,6 +30,12 @@ const TOP_HELP: &str =
 
 const BY_HELP: &str =
     "What --top goes by: the time of the spans' own, their whole time, or how many there are [default: self]";
+
+const REFUSED_HELP: &str =
+    "Print why items were refused in place of the report: for each file and number how many, and which first";
+
+const BASE_HELP: &str =
+    "Print what changed since a run of these files in place of the report; may be repeated, one FILE each";
 
 const ABOUT: &str =
     "Reports where the time went in trace event files, of Chrome, clang, node and other tools: for each thread how long the spans of each name took, together and on their own.";
@@ -54,6 +63,13 @@ pub enum Request {
     Collect {
         settings: Settings,
         view: View,
+        files: Vec<Text>,
+    },
+    /// Collect the base files as one run and the others, or standard input where there are none, as another, and print what
+    /// changed.
+    Compare {
+        settings: Settings,
+        base: Vec<Text>,
         files: Vec<Text>,
     },
     /// Print this help, or the version.
@@ -137,11 +153,29 @@ fn command_of<'a>(alloc: Global, limit_help: &'a str) -> Result<Command<'a>, All
         .long("strict")
         .action(ArgAction::SetTrue)
         .help(STRICT_HELP);
+    let files = Arg::new(alloc, "files")
+        .value_name("FILE")
+        .num_args(0..)
+        .action(ArgAction::Append)
+        .help("A trace; without one, standard input is read");
+    let command = Command::new(alloc, "tracebook")
+        .version("1")
+        .about(ABOUT)
+        .after_help(AFTER)
+        .arg(limit)?
+        .arg(seal)?
+        .arg(strict)?;
+    with_views(alloc, command)?.arg(files)
+}
+
+// With the flags of what is printed in place of the report.
+fn with_views<'a>(alloc: Global, command: Command<'a>) -> Result<Command<'a>, AllocError> {
     let top = Arg::new(alloc, "top")
         .long("top")
         .value_name("N")
         .value_parser(clap::value_parser!(u32).range(1..))
         .action(ArgAction::Set)
+        .group(VIEW)?
         .help(TOP_HELP);
     let by = Arg::new(alloc, "by")
         .long("by")
@@ -150,21 +184,18 @@ fn command_of<'a>(alloc: Global, limit_help: &'a str) -> Result<Command<'a>, All
         .requires_arg("top")?
         .action(ArgAction::Set)
         .help(BY_HELP);
-    let files = Arg::new(alloc, "files")
+    let refused = Arg::new(alloc, "refused")
+        .long("refused")
+        .action(ArgAction::SetTrue)
+        .group(VIEW)?
+        .help(REFUSED_HELP);
+    let base = Arg::new(alloc, "base")
+        .long("base")
         .value_name("FILE")
-        .num_args(0..)
         .action(ArgAction::Append)
-        .help("A trace; without one, standard input is read");
-    Command::new(alloc, "tracebook")
-        .version("1")
-        .about(ABOUT)
-        .after_help(AFTER)
-        .arg(limit)?
-        .arg(seal)?
-        .arg(strict)?
-        .arg(top)?
-        .arg(by)?
-        .arg(files)
+        .group(VIEW)?
+        .help(BASE_HELP);
+    command.arg(top)?.arg(by)?.arg(refused)?.arg(base)
 }
 
 // The program's name, and then the words.
@@ -177,8 +208,11 @@ fn with_program<'a>(alloc: Global, words: &'a [Text]) -> Result<Vec<&'a str>, Al
     Ok(all)
 }
 
-// The ranking where `--top` stands, by what `--by` says.
+// What is printed in place of the report: the ranking where `--top` stands, by what `--by` says.
 fn view_of(matches: &ArgMatches<'_>) -> View {
+    if matches.get_flag("refused") {
+        return View::Refusals;
+    }
     let Some(most) = matches.get_one::<u32>("top") else {
         return View::Report;
     };
@@ -196,11 +230,14 @@ fn collect_request(alloc: Global, matches: &ArgMatches<'_>) -> Result<Request, A
         seal: matches.get_flag("seal"),
         strict: matches.get_flag("strict"),
     };
-    let mut files = Vec::new(alloc);
-    if let Some(names) = matches.get_strs("files") {
-        for name in names {
-            files.push(Text::of(alloc, name)?)?;
-        }
+    let files = names_of(alloc, matches, "files")?;
+    if matches.contains_id("base") {
+        let base = names_of(alloc, matches, "base")?;
+        return Ok(Request::Compare {
+            settings,
+            base,
+            files,
+        });
     }
     let view = view_of(matches);
     Ok(Request::Collect {
@@ -208,4 +245,15 @@ fn collect_request(alloc: Global, matches: &ArgMatches<'_>) -> Result<Request, A
         view,
         files,
     })
+}
+
+// The values of an argument, which name files.
+fn names_of(alloc: Global, matches: &ArgMatches<'_>, id: &str) -> Result<Vec<Text>, AllocError> {
+    let mut names = Vec::new(alloc);
+    if let Some(values) = matches.get_strs(id) {
+        for value in values {
+            names.push(Text::of(alloc, value)?)?;
+        }
+    }
+    Ok(names)
 }

@@ -1,7 +1,7 @@
 //! The files that a request names, as they are read.
 ghost use Rattle.std.specs.Prelude.{◌≡◌, [], ◌∷◌, ◌++◌, IfOk, OnOk, Ok, codes};
 ghost use Rattle.span_command_line.specs.Source.{AreFirst};
-ghost use Rattle.span_command_line.specs.Inputs.{AreInputs, most_read};
+ghost use Rattle.span_command_line.specs.Inputs.{AreFiles, AreInputs, most_read};
 
 use crate::source::{Source, SourceFault};
 use span_collect::Input;
@@ -26,15 +26,50 @@ pub(crate) fn inputs_of<S: Source>(
 ) -> Result<Vec<Input>, Unread>
     ensures { IfOk result (λ inputs. AreInputs (S.bytes source.old) names.items inputs.items) }
 {
-    let mut inputs = Vec::new(alloc);
     if names.is_empty() {
+        let mut inputs = Vec::new(alloc);
         add_input(&mut inputs, standard_input(alloc, source)?)?;
         return Ok(inputs);
     }
+    files_of(alloc, names, source)
+}
+
+/// The files of these names. The first that cannot be read decides.
+pub(crate) fn files_of<S: Source>(
+    alloc: Global,
+    names: Vec<Text>,
+    source: &mut S,
+) -> Result<Vec<Input>, Unread>
+    ensures files { IfOk result (λ inputs. AreFiles (S.bytes source.old).file names.items inputs.items) }
+    ensures same { OnOk result (S.bytes source.new ≡ S.bytes source.old) }
+{
+    let mut inputs = Vec::new(alloc);
     for name in names {
         add_input(&mut inputs, file_input(name, source)?)?;
     }
     Ok(inputs)
+}
+
+/// The files of two runs.
+#[derive(Drop)]
+pub(crate) struct Pair {
+    pub(crate) base: Vec<Input>,
+    pub(crate) other: Vec<Input>,
+}
+
+/// The files of the base's names, and then those of the other names, which are standard input where there are none.
+pub(crate) fn pair_of<S: Source>(
+    alloc: Global,
+    base: Vec<Text>,
+    names: Vec<Text>,
+    source: &mut S,
+) -> Result<Pair, Unread>
+    ensures base { IfOk result (λ pair. AreFiles (S.bytes source.old).file base.items pair.base.items) }
+    ensures other { IfOk result (λ pair. AreInputs (S.bytes source.old) names.items pair.other.items) }
+{
+    let base = files_of(alloc, base, source)?;
+    let other = inputs_of(alloc, names, source)?;
+    Ok(Pair { base, other })
 }
 
 fn standard_input<S: Source>(alloc: Global, source: &mut S) -> Result<Input, Unread>

@@ -2,6 +2,7 @@
 #![tactic(auto)]
 
 mod command;
+mod comparison;
 mod inputs;
 mod program;
 mod reading;

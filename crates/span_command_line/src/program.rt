@@ -1,9 +1,10 @@
 //! The program, over whatever files and outputs it is given.
 ghost use Rattle.std.specs.Prelude.{◌≡◌, ◌<◌, ◌≤◌, ◌⊎◌, length};
-ghost use Rattle.span_command_line.specs.Request.{Asked, EndsWith, LeavesPart, Collects, CollectsPart, Performs, GivesUp};
+ghost use Rattle.span_command_line.specs.Request.{Asked, EndsWith, LeavesPart, Collects, CollectsPart, Compares, ComparesPart, ComparesWith, ComparisonPart, Performs, GivesUp};
 
 use crate::command::{Request, request_of};
-use crate::inputs::{Unread, inputs_of};
+use crate::comparison::{greater, run_comparison};
+use crate::inputs::{Unread, inputs_of, pair_of};
 use crate::source::Source;
 use crate::view::{View, run_view};
 use span_collect::{Input, RunEnd, Settings, fault_line_of, fault_lines, numbered_text};
@@ -60,6 +61,11 @@ fn perform_request<R: Threads + Wait + RandomSource + Sync, S: Source, O: Sink, 
             view,
             files,
         } => collect_files(rt, alloc, &settings, view, files, source, out, faults),
+        Request::Compare {
+            settings,
+            base,
+            files,
+        } => compare_files(rt, alloc, &settings, base, files, source, out, faults),
         Request::Show(text) => {
             let shown = write_bytes(text.as_bytes(), out);
             drop(text);
@@ -96,12 +102,60 @@ fn collect_files<R: Threads + Wait + RandomSource + Sync, S: Source, O: Sink, F:
             drop(inputs);
             status
         }
-        Err(Unread::Memory) => fail(alloc, Fault::Memory.code(), faults),
-        Err(Unread::NotOpened(name)) => {
-            let status = fail_at(alloc, &name, faults);
-            drop(name);
+        Err(unread) => fail_unread(alloc, unread, faults),
+    }
+}
+
+fn compare_files<R: Threads + Wait + RandomSource + Sync, S: Source, O: Sink, F: Write>(
+    rt: &R,
+    alloc: Global,
+    settings: &Settings,
+    base: Vec<Text>,
+    names: Vec<Text>,
+    source: &mut S,
+    out: &mut O,
+    faults: &mut F,
+) -> u8
+    ensures status { result ≤ 2 }
+    ensures done { result < 2
+        → Compares (S.bytes source.old) base.items names.items settings.now result (O.state out.old) (O.state out.new) }
+    ensures failed { result ≡ 2
+        → ComparesPart (S.bytes source.old) base.items names.items settings.now (O.state out.old) (O.state out.new) }
+{
+    match pair_of(alloc, base, names, source) {
+        Ok(pair) => {
+            source.end();
+            let status = compare(rt, alloc, settings, &pair.base, &pair.other, out, faults);
+            drop(pair);
             status
         }
+        Err(unread) => fail_unread(alloc, unread, faults),
+    }
+}
+
+fn compare<R: Threads + Wait + RandomSource + Sync, O: Sink, F: Write>(
+    rt: &R,
+    alloc: Global,
+    settings: &Settings,
+    base: &[Input],
+    files: &[Input],
+    out: &mut O,
+    faults: &mut F,
+) -> u8
+    ensures status { result ≤ 2 }
+    ensures done { result < 2
+        → ComparesWith base.now files.now settings.now result (O.state out.old) (O.state out.new) }
+    ensures failed { result ≡ 2
+        → ComparisonPart base.now files.now settings.now (O.state out.old) (O.state out.new) }
+{
+    match run_comparison(rt, alloc, base, files, settings, out) {
+        Ok(compared) => {
+            let earlier = report_faults(alloc, base, &compared.base, faults);
+            let later = report_faults(alloc, files, &compared.other, faults);
+            drop(compared);
+            greater(earlier, later)
+        }
+        Err(error) => fail(alloc, error.code(), faults),
     }
 }
 
@@ -168,6 +222,20 @@ fn fail<F: Write>(alloc: Global, code: u16, faults: &mut F) -> u8
         let _ = writeln!(faults, "tracebook: {fault}");
     }
     FAILED
+}
+
+// Says why the files were not all read.
+fn fail_unread<F: Write>(alloc: Global, unread: Unread, faults: &mut F) -> u8
+    ensures { result ≡ 2 }
+{
+    match unread {
+        Unread::Memory => fail(alloc, Fault::Memory.code(), faults),
+        Unread::NotOpened(name) => {
+            let status = fail_at(alloc, &name, faults);
+            drop(name);
+            status
+        }
+    }
 }
 
 // Says that a file could not be read.

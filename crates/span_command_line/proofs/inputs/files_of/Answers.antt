@@ -1,6 +1,6 @@
 use Rattle.std.proofs.Common.{◌∙◌, sym}
 use Rattle.span_command_line.proofs.Files.{AreFiles-push}
-use Rattle.span_command_line.proofs.inputs.inputs_of.Goals as goal
+use Rattle.span_command_line.proofs.inputs.files_of.Goals as goal
 
 pub loop-name-preserved : goal.loop-name-preserved
 loop-name-preserved g c =
@@ -8,4 +8,4 @@ loop-name-preserved g c =
     let known = (g.S.Source.bytes c.args.source.now).file in
     let passed = c.loop-name.invariant in
     let files = AreFiles-push known c.loop-name.yielded c.loop-name.inputs.items c.in-Some.name c.in_ok-file_input.field-0 passed.read read.name (rw (sym passed.same) read.bytes) in
-    record { read = rw c.in_ok-add_input-2.ensures files; same = read.same ∙ passed.same }
+    record { read = rw c.in_ok-add_input.ensures files; same = read.same ∙ passed.same }

@@ -1,6 +1,6 @@
 use Rattle.std.proofs.Common.{◌≡◌}
 use Rattle.span_command_line.specs.Inputs.{AreFiles}
-use Rattle.span_command_line.proofs.inputs.inputs_of.Given as goal
+use Rattle.span_command_line.proofs.inputs.files_of.Given as goal
 
 -- the files of the names so far
 abbrev pub invariant-loop-name : goal.invariant-loop-name
