@@ -1,7 +1,7 @@
 use Rattle.std.proofs.Common.{rules, ◌≡◌, map, ap, subst, ◌∙◌}
 use Rattle.std.specs.Prelude.{filter}
 use Rattle.std.specs.List.Sorted.{IsPermutation}
-use Rattle.span_ranking.proofs.Sorting.{IsSorted-from_sort_by, sorted-ascending}
+use Rattle.span_ledger.proofs.Sorting.{IsSorted-from_sort_by, sorted-ascending}
 use Rattle.span_comparison.specs.Changes.{all_keyed, compared, compared_rows, is_changed, same_count}
 use Rattle.span_comparison.specs.Collected.{compared_entry, kept_of}
 use Rattle.span_comparison.proofs.Compared.{change_order-total, changes-distinct, compared-entries}
