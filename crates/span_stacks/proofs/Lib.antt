@@ -1,0 +1,11 @@
+pub mod Folding
+pub mod NodeTrees
+pub mod Owners
+pub mod Paths
+pub mod Placing
+pub mod RankOrder
+pub mod Starts
+pub mod Stretches
+pub mod Sweeping
+pub mod Tallies
+pub mod Times

@@ -1,0 +1,22 @@
+//! Writes the folded stacks of a ledger to a sink.
+ghost use Rattle.std.specs.Prelude.{IfErr, OnOk};
+ghost use Rattle.span_report.specs.Sink.{TakesBytes};
+ghost use Rattle.span_report.specs.Output.{WriteLeaves};
+ghost use Rattle.span_stacks.specs.Folded.{folded_of};
+
+use crate::text::folded;
+use span_ledger::Ledger;
+use span_report::{Sink, WriteFault, write_bytes};
+use std::alloc::Global;
+
+/// Writes the folded stacks of the ledger's journal. The first fault of the output ends it, and nothing is tried again.
+pub fn write_folded<O: Sink>(alloc: Global, ledger: &Ledger, out: &mut O) -> Result<(), WriteFault>
+    ensures ok { OnOk result (TakesBytes (O.state out.old) (O.state out.new) (folded_of ledger.now.journal)) }
+    ensures fault { IfErr result
+        (λ fault. WriteLeaves fault (folded_of ledger.now.journal) (O.state out.old) (O.state out.new)) }
+{
+    let Ok(text) = folded(alloc, ledger) else {
+        return Err(WriteFault::Memory);
+    };
+    write_bytes(&text, out).map_err(|written| WriteFault::Output { written })
+}
