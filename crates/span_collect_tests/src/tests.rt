@@ -19,6 +19,7 @@ mod cut;
 mod gates;
 mod growths;
 mod in_turn;
+mod lengths;
 mod outputs;
 mod seals;
 
@@ -33,19 +34,29 @@ const fn up_to(limit: u32) -> Settings {
 
 const TURNS: u32 = 50_000_000;
 
-const FOUR: &str =
-    "[{\"ph\":\"B\",\"ts\":1},{\"ph\":\"B\",\"ts\":1},{\"ph\":\"B\",\"ts\":1},{\"ph\":\"B\",\"ts\":1}]";
+const FOUR: &str = r#"[{"ph":"B","ts":1},{"ph":"B","ts":1},{"ph":"B","ts":1},{"ph":"B","ts":1}]"#;
 
-const TWO_REPORT: &str =
-    "tracebook 1\nevents 4 refused 0 skipped 0 queries 2\nprocess 1 -\nthread 1 2 - open 0 busy 10\nspan        1               10               10 \"a\"\nprocess 2 -\nthread 2 2 - open 0 busy 10\nspan        1               10               10 \"a\"\n";
+const TWO_REPORT: &str = r#"tracebook 1
+events 4 refused 0 skipped 0 queries 2
+process 1 -
+thread 1 2 - open 0 busy 10
+span        1               10               10 "a"
+process 2 -
+thread 2 2 - open 0 busy 10
+span        1               10               10 "a"
+"#;
 
-const ONE_REPORT: &str =
-    "tracebook 1\nevents 2 refused 0 skipped 0 queries 0\nprocess 1 -\nthread 1 2 - open 0 busy 10\nspan        1               10               10 \"a\"\n";
+const ONE_REPORT: &str = r#"tracebook 1
+events 2 refused 0 skipped 0 queries 0
+process 1 -
+thread 1 2 - open 0 busy 10
+span        1               10               10 "a"
+"#;
 
 // A span `a` of 10 microseconds on thread 2 of this process.
 fn span_of(alloc: Global, pid: u32) -> Result<String, AllocError> {
     format!(in alloc;
-        "[{{\"ph\":\"B\",\"name\":\"a\",\"ts\":1,\"pid\":{pid},\"tid\":2}},{{\"ph\":\"E\",\"ts\":11,\"pid\":{pid},\"tid\":2}}]"
+        r#"[{{"ph":"B","name":"a","ts":1,"pid":{pid},"tid":2}},{{"ph":"E","ts":11,"pid":{pid},"tid":2}}]"#
     )
 }
 
@@ -356,7 +367,7 @@ fn reports_of_the_other_file_where_one_is_cut(rt: HostRuntime) -> Result<(), Fai
     let good = span_of(alloc, 1)?;
     let files = vec![in alloc;
         file_of(alloc, "good.json", good.as_str())?,
-        file_of(alloc, "cut.json", "[{\"ph\":\"B\",\"na")?,
+        file_of(alloc, "cut.json", r#"[{"ph":"B","na"#)?,
     ]?;
     let line = "tracebook: \"cut.json\": 1 NotJson\n";
     let told = runs(&rt, &files, ONE_REPORT, line);

@@ -6,6 +6,7 @@ use span_collect::{
 };
 use span_ledger::{Cause, Query};
 use span_report::Writer;
+use span_test_support::room_at_last;
 use std::alloc::{AllocError, AllocGlobal, Global};
 use std::process::Abort;
 use std::random::RandomSource;
@@ -95,13 +96,6 @@ fn run_at_last(
             Ok(())
         }
         Err(error) => Err(Fail::from(error)),
-    }
-}
-
-fn room_at_last(alloc: Global) -> Result<Vec<u8>, AllocError> {
-    match Vec::with_capacity(alloc, 1000) {
-        Ok(room) => Ok(room),
-        Err(_) => Vec::with_capacity(alloc, 1000),
     }
 }
 

@@ -2,63 +2,13 @@
 use super::{ONE_REPORT, file_of, span_of, up_to};
 use span_collect::{Input, RunError, run};
 use span_report::Writer;
-use std::alloc::{AllocGlobal, Global};
-use std::io;
-use std::io::{ErrorKind, Write};
+use span_test_support::{End, Output};
+use std::alloc::AllocGlobal;
 use std::process::Abort;
 use std::random::RandomSource;
 use std::sync::Wait;
 use std::test::Fail;
 use std::thread::Threads;
-
-// How an output fails that has taken all for which it has room.
-#[derive(Clone, Copy, Debug, PartialEq, Eq)]
-enum End {
-    Broken,
-    Interrupted,
-    TakesNothing,
-}
-
-#[derive(Drop)]
-struct Output {
-    taken: Vec<u8>,
-    room: usize,
-    end: End,
-    flushes: bool,
-}
-
-impl Write for Output {
-    fn write(&mut self, bytes: &[u8]) -> io::Result<usize> {
-        let count = bytes.len().min(self.room);
-        if count == 0 {
-            return match self.end {
-                End::Broken => Err(io::Error::from(ErrorKind::BrokenPipe)),
-                End::Interrupted => Err(io::Error::from(ErrorKind::Interrupted)),
-                End::TakesNothing => Ok(0),
-            };
-        }
-        self.taken.extend_from_slice(&bytes[..count])?;
-        self.room -= count;
-        Ok(count)
-    }
-
-    fn flush(&mut self) -> io::Result<()> {
-        if self.flushes {
-            Ok(())
-        } else {
-            Err(io::Error::from(ErrorKind::BrokenPipe))
-        }
-    }
-}
-
-fn output_of(alloc: Global, room: usize, end: End, flushes: bool) -> Output {
-    Output {
-        taken: Vec::new(alloc),
-        room,
-        end,
-        flushes,
-    }
-}
 
 // How many bytes a run of these files tells were written before the output failed.
 fn written_to(
@@ -105,12 +55,12 @@ fn fails_wherever(
 ) {
     let alloc = rt.alloc();
     for room in 0..143 {
-        fails_after(rt, files, room, output_of(alloc, room, End::Broken, true));
+        fails_after(rt, files, room, Output::of_room(alloc, room));
     }
     for end in [End::Broken, End::Interrupted, End::TakesNothing] {
-        fails_after(rt, files, 0, output_of(alloc, 0, end, true));
+        fails_after(rt, files, 0, Output::new(alloc, 0, end, true));
     }
-    fails_after(rt, files, 143, output_of(alloc, 143, End::Broken, false));
+    fails_after(rt, files, 143, Output::new(alloc, 143, End::Broken, false));
 }
 
 #[test]

@@ -172,20 +172,6 @@ fn an_unfinished_array_may_fill_a_page(rt: HostRuntime) -> Result<(), Fail> {
     Ok(())
 }
 
-// An opening bracket and blanks, of each length up to one that fills some pages.
-#[test]
-fn no_length_of_a_file_is_refused(rt: HostRuntime) -> Result<(), Fail> {
-    let mut text = Vec::new(rt.alloc());
-    text.push(b'[')?;
-    for blanks in 0..40_000u32 {
-        let items = read_items(rt.alloc(), &text);
-        assert!(rt; items.is_ok(), "{blanks} blanks");
-        drop(items);
-        text.push(b' ')?;
-    }
-    Ok(())
-}
-
 #[test]
 fn refusals_have_their_numbers(rt: HostRuntime) -> Result<(), Fail> {
     let numbers = [
