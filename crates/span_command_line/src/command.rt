@@ -34,6 +34,9 @@ const BY_HELP: &str =
 const REFUSED_HELP: &str =
     "Print why items were refused in place of the report: for each file and number how many, and which first";
 
+const FOLDED_HELP: &str =
+    "Print the stacks of each thread for viewers of flame graphs in place of the report, each with its microseconds";
+
 const BASE_HELP: &str =
     "Print what changed since a run of these files in place of the report; may be repeated, one FILE each";
 
@@ -189,13 +192,23 @@ fn with_views<'a>(alloc: Global, command: Command<'a>) -> Result<Command<'a>, Al
         .action(ArgAction::SetTrue)
         .group(VIEW)?
         .help(REFUSED_HELP);
+    let folded = Arg::new(alloc, "folded")
+        .long("folded")
+        .action(ArgAction::SetTrue)
+        .group(VIEW)?
+        .help(FOLDED_HELP);
     let base = Arg::new(alloc, "base")
         .long("base")
         .value_name("FILE")
         .action(ArgAction::Append)
         .group(VIEW)?
         .help(BASE_HELP);
-    command.arg(top)?.arg(by)?.arg(refused)?.arg(base)
+    command
+        .arg(top)?
+        .arg(by)?
+        .arg(refused)?
+        .arg(folded)?
+        .arg(base)
 }
 
 // The program's name, and then the words.
@@ -212,6 +225,9 @@ fn with_program<'a>(alloc: Global, words: &'a [Text]) -> Result<Vec<&'a str>, Al
 fn view_of(matches: &ArgMatches<'_>) -> View {
     if matches.get_flag("refused") {
         return View::Refusals;
+    }
+    if matches.get_flag("folded") {
+        return View::Folded;
     }
     let Some(most) = matches.get_one::<u32>("top") else {
         return View::Report;

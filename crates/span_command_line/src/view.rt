@@ -9,6 +9,7 @@ use span_collect::{Collected, Input, RunError, Settings, collect_to_ledger, run_
 use span_ranking::{By, write_ranking};
 use span_refusals::write_refusals;
 use span_report::{Sink, WriteFault, write_report};
+use span_stacks::write_folded;
 use std::alloc::Global;
 use std::random::RandomSource;
 use std::sync::Wait;
@@ -22,6 +23,8 @@ pub enum View {
     Ranking { most: u32, by: By },
     /// Which items of each file were refused.
     Refusals,
+    /// The folded stacks of each thread.
+    Folded,
 }
 
 /// Collects files, and writes this view of them.
@@ -87,5 +90,6 @@ fn write_view<O: Sink>(
         View::Report => write_report(alloc, ledger, out),
         View::Ranking { most, by } => write_ranking(alloc, ledger, most, by, out),
         View::Refusals => write_refusals(alloc, ledger, files, &collected.end.ends, out),
+        View::Folded => write_folded(alloc, ledger, out),
     }
 }
