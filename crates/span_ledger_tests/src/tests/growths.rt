@@ -4,9 +4,10 @@ ghost use Rattle.span_event.specs.Item.{IsGoodItem};
 ghost use Rattle.span_ledger.specs.Legal.{IsGoodOp};
 
 use super::examples::{EXAMPLES, Example};
+use super::queries::{EVENTS, replies};
 use super::rows;
 use super::seals::{CUT, SEALED_ROWS};
-use span_ledger::{Back, Cause, Item, Items, Ledger, Op};
+use span_ledger::{Back, Cause, Items, Ledger, Op, Query};
 use span_read::read_items;
 use std::alloc::{AllocError, Global};
 use std::process::Abort;
@@ -78,23 +79,18 @@ fn tell_again(
     }
 }
 
-// Tells an item, again where memory was refused: then the readers must tell what they told before.
-fn tell_at_last(
-    rt: &(impl Abort + AllocGlobal),
-    ledger: &mut Ledger,
-    item: Item,
-) -> Result<(), Fail>
-    requires { IsGoodItem item }
+// Tells an operation, again where memory was refused: then the readers must tell what they told before.
+fn tell_at_last(rt: &(impl Abort + AllocGlobal), ledger: &mut Ledger, op: Op) -> Result<(), Fail>
+    requires { IsGoodOp op }
 {
-    let alloc = rt.alloc();
-    let before = match seen_at_last(alloc, ledger) {
+    let before = match seen_at_last(rt.alloc(), ledger) {
         Ok(before) => before,
         Err(error) => {
-            drop(item);
+            drop(op);
             return Err(Fail::from(error));
         }
     };
-    let Err(back) = tell(ledger, Op::One(item)) else {
+    let Err(back) = tell(ledger, op) else {
         return Ok(());
     };
     assert_eq!(rt; back.cause, Cause::Memory);
@@ -118,7 +114,7 @@ fn tell_all(
 ) -> Result<(), Fail> {
     let items = items_at_last(rt.alloc(), events)?;
     for item in items.into_list() {
-        tell_at_last(rt, ledger, item)?;
+        tell_at_last(rt, ledger, Op::One(item))?;
     }
     Ok(())
 }
@@ -143,24 +139,10 @@ fn tell_to_a_ledger(rt: &(impl Abort + AllocGlobal), example: &Example) -> Resul
     told
 }
 
-// Seals the thread, again where memory was refused: then the readers must tell what they told before.
-fn seal_at_last(rt: &(impl Abort + AllocGlobal), ledger: &mut Ledger) -> Result<(), Fail> {
-    let before = seen_at_last(rt.alloc(), ledger)?;
-    let seal = Op::Seal {
-        pid: 1,
-        tid: 1,
-        ts: 14,
-    };
-    let Err(back) = tell(ledger, seal) else {
-        return Ok(());
-    };
-    assert_eq!(rt; back.cause, Cause::Memory);
-    tell_again(rt, ledger, back, before.as_str())
-}
-
 fn tell_and_seal(rt: &(impl Abort + AllocGlobal), ledger: &mut Ledger) -> Result<(), Fail> {
     tell_all(rt, ledger, CUT)?;
-    seal_at_last(rt, ledger)?;
+    let (pid, tid, ts) = (1, 1, 14);
+    tell_at_last(rt, ledger, Op::Seal { pid, tid, ts })?;
     let last = seen_at_last(rt.alloc(), ledger)?;
     assert_eq!(rt; last.as_str(), SEALED_ROWS);
     Ok(())
@@ -171,6 +153,34 @@ fn tell_and_seal(rt: &(impl Abort + AllocGlobal), ledger: &mut Ledger) -> Result
 fn a_refused_seal_changes_nothing(rt: HostRuntime) -> Result<(), Fail> {
     let mut ledger = Ledger::new(rt.alloc(), 100, false);
     let told = tell_and_seal(&rt, &mut ledger);
+    drop(ledger);
+    told
+}
+
+type Replies = Vec<(Query, &'static str)>;
+
+fn replies_at_last(alloc: Global) -> Result<Replies, AllocError> {
+    match replies(alloc) {
+        Ok(replies) => Ok(replies),
+        Err(_) => replies(alloc),
+    }
+}
+
+fn tell_and_ask(rt: &(impl Abort + AllocGlobal), ledger: &mut Ledger) -> Result<(), Fail> {
+    tell_all(rt, ledger, EVENTS)?;
+    for (query, want) in replies_at_last(rt.alloc())? {
+        tell_at_last(rt, ledger, Op::Ask(query))?;
+        let answers = recorded_at_last(rt.alloc(), ledger)?;
+        assert!(rt; answers.as_str().trim_end().ends_with(want), "{want}");
+    }
+    Ok(())
+}
+
+// Runs with each allocation refused in turn, by tests/refused_allocations.
+#[test]
+fn a_refused_query_changes_nothing(rt: HostRuntime) -> Result<(), Fail> {
+    let mut ledger = Ledger::new(rt.alloc(), 100, false);
+    let told = tell_and_ask(&rt, &mut ledger);
     drop(ledger);
     told
 }

@@ -1,7 +1,7 @@
 //! What the ledger replies to queries.
 use super::{answers, shown};
 use span_ledger::{AsyncKey, FlowKey, IdKey, Ledger, Query, SeriesKey, Text};
-use std::alloc::Global;
+use std::alloc::{AllocError, Global};
 use std::process::Abort;
 use std::test::Fail;
 
@@ -33,7 +33,7 @@ fn expect_reply(
     Ok(())
 }
 
-fn name(alloc: Global, text: &str) -> Result<Query, Fail> {
+fn name(alloc: Global, text: &str) -> Result<Query, AllocError> {
     let name = Text::of(alloc, text)?;
     Ok(Query::Name {
         pid: 1,
@@ -42,12 +42,12 @@ fn name(alloc: Global, text: &str) -> Result<Query, Fail> {
     })
 }
 
-fn id(alloc: Global, text: &str) -> Result<IdKey, Fail> {
+fn id(alloc: Global, text: &str) -> Result<IdKey, AllocError> {
     let id = Text::of(alloc, text)?;
     Ok(IdKey { home: None, id })
 }
 
-fn asynchronous(alloc: Global, scope: &str) -> Result<Query, Fail> {
+fn asynchronous(alloc: Global, scope: &str) -> Result<Query, AllocError> {
     Ok(Query::AsyncOf(AsyncKey {
         cat: Text::of(alloc, "net")?,
         scope: Text::of(alloc, scope)?,
@@ -56,7 +56,7 @@ fn asynchronous(alloc: Global, scope: &str) -> Result<Query, Fail> {
     }))
 }
 
-fn flow(alloc: Global, text: &str) -> Result<Query, Fail> {
+fn flow(alloc: Global, text: &str) -> Result<Query, AllocError> {
     Ok(Query::FlowOf(FlowKey {
         cat: Text::of(alloc, "")?,
         name: Text::of(alloc, "")?,
@@ -64,7 +64,7 @@ fn flow(alloc: Global, text: &str) -> Result<Query, Fail> {
     }))
 }
 
-fn series(alloc: Global, text: &str) -> Result<Query, Fail> {
+fn series(alloc: Global, text: &str) -> Result<Query, AllocError> {
     Ok(Query::Series(SeriesKey {
         pid: 1,
         name: Text::of(alloc, "m")?,
@@ -73,7 +73,7 @@ fn series(alloc: Global, text: &str) -> Result<Query, Fail> {
     }))
 }
 
-const EVENTS: &str =
+pub(super) const EVENTS: &str =
     r#"[{"ph":"B","name":"a","ts":0,"pid":1,"tid":1},{"ph":"B","name":"b","ts":2,"pid":1,"tid":1},
     {"ph":"E","ts":5,"pid":1,"tid":1},{"ph":"E","ts":10,"pid":1,"tid":1},
     {"ph":"b","cat":"net","scope":"A","id":5,"ts":10},{"ph":"e","cat":"net","scope":"A","id":"5","ts":14},
@@ -85,7 +85,7 @@ const EVENTS: &str =
     {"ph":"M","name":"thread_name","pid":1,"tid":1,"args":{"name":"Main"}}]"#;
 
 // What each query is answered, after those before it.
-fn replies(alloc: Global) -> Result<Vec<(Query, &'static str)>, Fail> {
+pub(super) fn replies(alloc: Global) -> Result<Vec<(Query, &'static str)>, AllocError> {
     let pid = 1;
     Ok(vec![in alloc;
         (
