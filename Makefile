@@ -29,6 +29,7 @@ test:
 	tests/flooded_names crates/tracebook/out/tracebook
 	tests/converted_traces
 	tests/documented_words
+	tests/kept_names
 	tests/trusted_definitions
 	tests/refused_allocations
 	tests/terminal_line
