@@ -1,6 +1,7 @@
 //! A ledger that is told worked examples, and what it then tells.
 ghost use Rattle.span_event.specs.Item.{IsGoodItem};
 
+mod closed_spans;
 mod examples;
 mod growths;
 mod queries;
