@@ -72,7 +72,9 @@ pub record ComparesWith (base inputs : List Input) (settings : Settings) (status
   pub is_comparison : IsComparisonOf base inputs settings base_run run old new
   pub ended : greater base_run.status run.status ≡ status
 
--- what comparing left where the program ended with 2, as of one run
+-- What comparing these inputs left where the program ended with 2. A run ended with 2, and nothing was written; or the runs were not
+-- compared, and nothing was written unless the output failed; or a file was refused, what changed is written, and memory for the file's
+-- line was refused.
 abbrev pub ComparisonPart : List Input → List Input → Settings → SinkState → SinkState → Type 0
 ComparisonPart base inputs settings old new =
     ComparesWith base inputs settings 2 old new ⊎ (((error : RunError) × ComparisonLeaves error base inputs settings old new) ⊎ ComparesWith base inputs settings 1 old new)
