@@ -5,6 +5,7 @@ use Rattle.std.specs.List.{list_all, cons_option}
 use Rattle.std.proofs.lemmas.List.{map_push, take_more}
 use Rattle.std.proofs.lemmas.List.Elements.{All-cons, All-head, All-nil, All-tail, filter_map-append}
 use Rattle.span_event.specs.Text.{Bytes}
+use Rattle.span_event.specs.declared.thread.Thread.{Thread}
 use Rattle.span_self_time.specs.declared.span.ClosedSpan.{ClosedSpan}
 use Rattle.span_self_time.specs.Closed.{AreClosed, IsInTime, span_of}
 use Rattle.span_self_time.specs.Laws.{IsApart, AreSpans}
@@ -15,7 +16,10 @@ use Rattle.span_ledger.specs.Named.{AreThreadSpans, IsTimely, named_span, named_
 use Rattle.span_ledger.specs.Numbered.{renamed_span}
 use Rattle.span_track.specs.Nesting.{ThreadEvent, closed_spans}
 use Rattle.span_track.specs.Thread.{ThreadSpans}
-use Rattle.span_ledger.specs.Tracked.{IsTrackOf, number_for}
+use Rattle.span_ledger.specs.declared.entry.Entry.{Entry}
+use Rattle.span_ledger.specs.Told.{thread_events}
+use Rattle.span_ledger.specs.Tracked.{FollowsJournal, IsTrackOf, SpansKept, TracksKept, number_for, track_at}
+use Rattle.span_ledger.proofs.ThreadTelling.{IsTrackOf-journal}
 use Rattle.span_ledger.proofs.Totals.{is_numbered_span, number_for-is}
 use Rattle.span_ledger.proofs.TrackRows.{closed-is, known}
 
@@ -64,3 +68,10 @@ module _ (names : List Bytes) (events : List (ThreadEvent Bytes)) (track : Threa
 
   pub AreThreadSpans-track : AreClosed track.closed → AreThreadSpans (closed_spans events)
   AreThreadSpans-track closed = AreThreadSpans-renamed (number_for names) (closed_spans events) (subst (λ (spans : List (Span ℕ)). AreClosed spans) (closed-is names events track is) closed)
+
+-- what is kept for a thread of a journal
+pub IsTrackOf-kept : (journal : List Entry) (tracks : TracksKept) → FollowsJournal journal tracks → (kept : SpansKept) → kept ≡ tracks.keyed.spans → (thread : Thread) (track : ThreadSpans ℕ) → track_at kept.threads thread ≡ track →
+    IsTrackOf kept.names (thread_events thread journal) track
+IsTrackOf-kept journal tracks follows kept same thread track is =
+    subst (IsTrackOf kept.names (thread_events thread journal)) is
+    (subst (λ (k : SpansKept). IsTrackOf k.names (thread_events thread journal) (track_at k.threads thread)) (sym same) (IsTrackOf-journal journal tracks follows thread))

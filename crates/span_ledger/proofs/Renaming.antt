@@ -1,14 +1,13 @@
 -- What names there are changes no nesting and no time.
-use Rattle.std.proofs.Common.{◌≡◌, ℕ, zero, suc, ◌+◌, List, [], ◌∷◌, map, Bool, cond, not, ◌&&◌, ◌||◌, Some, refl, ap, ap₂, ◌∙◌}
+use Rattle.std.proofs.Common.{◌≡◌, ℕ, zero, suc, ◌+◌, List, [], ◌∷◌, map, Bool, cond, not, ◌&&◌, ◌||◌, refl, ap, ap₂, ◌∙◌}
 use Rattle.std.specs.Prelude.{ℤ, pos, ◌+ℤ◌, option_map}
-use Rattle.std.specs.Option.{option_or}
 use Rattle.std.specs.List.{list_any}
 use Rattle.std.specs.Int.{int_min, int_max}
 use Rattle.span_event.specs.Time.{distance}
 use Rattle.span_self_time.specs.Spans.{Span, covers, outranks, is_outranked, is_covered, earliest, latest, count_from, self_time, busy_time}
-use Rattle.span_keyed_tracks.specs.Matching.{opens, closes, closes_all, other}
-use Rattle.span_track.specs.Nesting.{ThreadEvent, span_between, span_sealed, whole_span, opener, open_spans, closed_spans, last_time, greatest, seen_by, latest_time}
+use Rattle.span_track.specs.Nesting.{ThreadEvent, span_between, span_sealed, whole_span, opener, open_spans, closed_spans, last_time, latest_time}
 use Rattle.span_keyed_tracks.proofs.Matching.Mapped.{opener-map_step, open_of-map_step, closed_of-map_step}
+use Rattle.span_track.proofs.Threads.Mapped.{last_time-map_step, latest_time-map_step}
 use Rattle.span_ledger.specs.Numbered.{renamed_begin, renamed_span, renamed}
 
 list_any-map : {A B : Type 0} (p : B → Bool) (f : A → B) (xs : List A) → list_any p (map f xs) ≡ list_any (λ x. p (f x)) xs
@@ -32,21 +31,10 @@ module _ {N M : Type 0} (f : N → M) where
       (λ b e. refl) (λ b ts. refl) (λ s. refl) es
 
   pub last_time-renamed : (es : List (ThreadEvent N)) → last_time (renamed f es) ≡ last_time es
-  last_time-renamed [] = refl
-  last_time-renamed (opens b ∷ es) = ap (λ o. option_or o (Some b.ts)) (last_time-renamed es)
-  last_time-renamed (closes e ∷ es) = ap (λ o. option_or o (Some e.ts)) (last_time-renamed es)
-  last_time-renamed (closes_all ts ∷ es) = ap (λ o. option_or o (Some ts)) (last_time-renamed es)
-  last_time-renamed (other s ∷ es) = last_time-renamed es
-
-  seen_by-renamed : (es : List (ThreadEvent N)) → map seen_by (renamed f es) ≡ map seen_by es
-  seen_by-renamed [] = refl
-  seen_by-renamed (opens b ∷ es) = ap (λ l. b.ts ∷ l) (seen_by-renamed es)
-  seen_by-renamed (closes e ∷ es) = ap (λ l. e.ts ∷ l) (seen_by-renamed es)
-  seen_by-renamed (closes_all ts ∷ es) = ap (λ l. ts ∷ l) (seen_by-renamed es)
-  seen_by-renamed (other s ∷ es) = ap (λ l. s.until ∷ l) (seen_by-renamed es)
+  last_time-renamed es = last_time-map_step (renamed_begin f) (renamed_span f) (λ b. refl) (λ s. refl) es
 
   pub latest_time-renamed : (es : List (ThreadEvent N)) → latest_time (renamed f es) ≡ latest_time es
-  latest_time-renamed es = ap greatest (seen_by-renamed es)
+  latest_time-renamed es = latest_time-map_step (renamed_begin f) (renamed_span f) (λ b. refl) (λ s. refl) es
 
   earliest-renamed : (spans : List (Span N)) → earliest (map (renamed_span f) spans) ≡ earliest spans
   earliest-renamed [] = refl

@@ -1,4 +1,5 @@
 pub mod Closing
+pub mod Mapped
 pub mod Renumbering
 pub mod Room
 pub mod Sealing

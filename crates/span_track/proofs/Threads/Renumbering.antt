@@ -1,12 +1,12 @@
 -- Positions in the journal change no nesting and no time.
-use Rattle.std.proofs.Common.{◌≡◌, ℕ, List, [], ◌∷◌, map, length, Some, refl, ap, ◌∙◌}
+use Rattle.std.proofs.Common.{◌≡◌, ℕ, List, map, length, refl, ap, ◌∙◌}
 use Rattle.std.specs.Prelude.{option_map}
-use Rattle.std.specs.Option.{option_or}
 use Rattle.std.proofs.lemmas.List.{length-map}
 use Rattle.span_self_time.proofs.Renumbering.{renumbered_span}
-use Rattle.span_keyed_tracks.specs.Matching.{opens, closes, closes_all, other, map_step}
+use Rattle.span_keyed_tracks.specs.Matching.{map_step}
 use Rattle.span_keyed_tracks.proofs.Matching.Mapped.{opener-map_step, open_of-map_step, closed_of-map_step}
-use Rattle.span_track.specs.Nesting.{Begin, ThreadEvent, span_between, span_sealed, whole_span, opener, open_spans, depth_of, closed_spans, last_time, greatest, seen_by, latest_time}
+use Rattle.span_track.specs.Nesting.{Begin, ThreadEvent, span_between, span_sealed, whole_span, opener, open_spans, depth_of, closed_spans, last_time, latest_time}
+use Rattle.span_track.proofs.Threads.Mapped.{last_time-map_step, latest_time-map_step}
 
 -- the begin with its position in place of another
 abbrev pub renumbered_begin : {N : Type 0} → (ℕ → ℕ) → Begin N → Begin N
@@ -32,18 +32,7 @@ module _ {N : Type 0} (f : ℕ → ℕ) where
       (λ b e. refl) (λ b ts. refl) (λ s. refl) es
 
   pub last_time-renumbered : (es : List (ThreadEvent N)) → last_time (renumbered f es) ≡ last_time es
-  last_time-renumbered [] = refl
-  last_time-renumbered (opens b ∷ es) = ap (λ o. option_or o (Some b.ts)) (last_time-renumbered es)
-  last_time-renumbered (closes e ∷ es) = ap (λ o. option_or o (Some e.ts)) (last_time-renumbered es)
-  last_time-renumbered (closes_all ts ∷ es) = ap (λ o. option_or o (Some ts)) (last_time-renumbered es)
-  last_time-renumbered (other s ∷ es) = last_time-renumbered es
-
-  seen_by-renumbered : (es : List (ThreadEvent N)) → map seen_by (renumbered f es) ≡ map seen_by es
-  seen_by-renumbered [] = refl
-  seen_by-renumbered (opens b ∷ es) = ap (λ l. b.ts ∷ l) (seen_by-renumbered es)
-  seen_by-renumbered (closes e ∷ es) = ap (λ l. e.ts ∷ l) (seen_by-renumbered es)
-  seen_by-renumbered (closes_all ts ∷ es) = ap (λ l. ts ∷ l) (seen_by-renumbered es)
-  seen_by-renumbered (other s ∷ es) = ap (λ l. s.until ∷ l) (seen_by-renumbered es)
+  last_time-renumbered es = last_time-map_step (renumbered_begin f) (renumbered_span f) (λ b. refl) (λ s. refl) es
 
   pub latest_time-renumbered : (es : List (ThreadEvent N)) → latest_time (renumbered f es) ≡ latest_time es
-  latest_time-renumbered es = ap greatest (seen_by-renumbered es)
+  latest_time-renumbered es = latest_time-map_step (renumbered_begin f) (renumbered_span f) (λ b. refl) (λ s. refl) es

@@ -6,41 +6,37 @@ use Rattle.span_keyed_tracks.proofs.Results.{if_ok-map}
 use Rattle.span_track.specs.Thread.{ThreadSpans, thread_spans}
 use Rattle.span_ledger.specs.Named.{AreThreadSpans}
 use Rattle.span_ledger.specs.Told.{thread_events}
-use Rattle.span_ledger.specs.Tracked.{IsTrackOf, SpansKept, TracksKept, track_at}
-use Rattle.span_ledger.proofs.NamedSpans.{AreThreadSpans-track, named_spans-track}
-use Rattle.span_ledger.proofs.ThreadTelling.{IsTrackOf-journal}
+use Rattle.span_ledger.specs.Tracked.{SpansKept, TracksKept}
+use Rattle.span_ledger.proofs.NamedSpans.{AreThreadSpans-track, IsTrackOf-kept, named_spans-track}
 use Rattle.span_ledger.proofs.named_spans.closed_spans.Goals as goal
 
 pub returns-in-Some-clause-spans : goal.returns-in-Some-clause-spans
 returns-in-Some-clause-spans c =
     let thread = c.args.thread.now in
-    let events = thread_events thread c.args.journal.now in
+    let track = c.in-Some.track.now in
     let kept : SpansKept = record { names = c.spans.inside.names; threads = c.spans.inside.threads.entries } in
     let same : kept ≡ c.args.tracks.now.keyed.spans = c.spans.view_is ∙ c.spans-spans.ensures ∙ ap (λ (t : TracksKept). t.keyed.spans) c.tracks.view_is in
-    let found : track_at kept.threads thread ≡ c.in-Some.track.now = kept_at-found thread_cmp (thread_spans []) kept.threads thread c.in-Some.track.now (sym c.in-Some.ensures.value) in
-    let all = IsTrackOf-journal c.args.journal.now c.args.tracks.now c.requires thread in
-    let is : IsTrackOf kept.names events c.in-Some.track.now = subst (IsTrackOf kept.names events) found (subst (λ (k : SpansKept). IsTrackOf k.names events (track_at k.threads thread)) (sym same) all) in
-    if_ok-map c.named_spans.result _ _ (λ spans are. are ∙ named_spans-track kept.names events c.in-Some.track.now is) c.named_spans.ensures.spans
+    let found = kept_at-found thread_cmp (thread_spans []) kept.threads thread track (sym c.in-Some.ensures.value) in
+    let is = IsTrackOf-kept c.args.journal.now c.args.tracks.now c.requires kept same thread track found in
+    if_ok-map c.named_spans.result _ _ (λ spans are. are ∙ named_spans-track kept.names (thread_events thread c.args.journal.now) track is) c.named_spans.ensures.spans
 
 pub returns-in-Some-clause-are : goal.returns-in-Some-clause-are
 returns-in-Some-clause-are c =
     let thread = c.args.thread.now in
+    let track = c.in-Some.track.now in
     let events = thread_events thread c.args.journal.now in
     let kept : SpansKept = record { names = c.spans.inside.names; threads = c.spans.inside.threads.entries } in
     let same : kept ≡ c.args.tracks.now.keyed.spans = c.spans.view_is ∙ c.spans-spans.ensures ∙ ap (λ (t : TracksKept). t.keyed.spans) c.tracks.view_is in
-    let found : track_at kept.threads thread ≡ c.in-Some.track.now = kept_at-found thread_cmp (thread_spans []) kept.threads thread c.in-Some.track.now (sym c.in-Some.ensures.value) in
-    let all = IsTrackOf-journal c.args.journal.now c.args.tracks.now c.requires thread in
-    let is : IsTrackOf kept.names events c.in-Some.track.now = subst (IsTrackOf kept.names events) found (subst (λ (k : SpansKept). IsTrackOf k.names events (track_at k.threads thread)) (sym same) all) in
-    let closed = AreThreadSpans-track kept.names events c.in-Some.track.now is c.named_spans.ensures.closed in
-    if_ok-map c.named_spans.result _ _ (λ spans are. subst AreThreadSpans (sym (are ∙ named_spans-track kept.names events c.in-Some.track.now is)) closed) c.named_spans.ensures.spans
+    let found = kept_at-found thread_cmp (thread_spans []) kept.threads thread track (sym c.in-Some.ensures.value) in
+    let is = IsTrackOf-kept c.args.journal.now c.args.tracks.now c.requires kept same thread track found in
+    let closed = AreThreadSpans-track kept.names events track is c.named_spans.ensures.closed in
+    if_ok-map c.named_spans.result _ _ (λ spans are. subst AreThreadSpans (sym (are ∙ named_spans-track kept.names events track is)) closed) c.named_spans.ensures.spans
 
 pub returns-in-None-clause-spans : goal.returns-in-None-clause-spans
 returns-in-None-clause-spans c =
     let thread = c.args.thread.now in
-    let events = thread_events thread c.args.journal.now in
     let kept : SpansKept = record { names = c.spans.inside.names; threads = c.spans.inside.threads.entries } in
     let same : kept ≡ c.args.tracks.now.keyed.spans = c.spans.view_is ∙ c.spans-spans.ensures ∙ ap (λ (t : TracksKept). t.keyed.spans) c.tracks.view_is in
-    let none : track_at kept.threads thread ≡ thread_spans [] = ap (λ (o : Option (ThreadSpans ℕ)). unwrap_or o (thread_spans [])) (sym c.in-None.ensures.value) in
-    let all = IsTrackOf-journal c.args.journal.now c.args.tracks.now c.requires thread in
-    let is : IsTrackOf kept.names events (thread_spans []) = subst (IsTrackOf kept.names events) none (subst (λ (k : SpansKept). IsTrackOf k.names events (track_at k.threads thread)) (sym same) all) in
-    c.new.ensures.items ∙ named_spans-track kept.names events (thread_spans []) is
+    let none = ap (λ (o : Option (ThreadSpans ℕ)). unwrap_or o (thread_spans [])) (sym c.in-None.ensures.value) in
+    let is = IsTrackOf-kept c.args.journal.now c.args.tracks.now c.requires kept same thread (thread_spans []) none in
+    c.new.ensures.items ∙ named_spans-track kept.names (thread_events thread c.args.journal.now) (thread_spans []) is
