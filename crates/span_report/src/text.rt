@@ -11,11 +11,19 @@ use std::alloc::{AllocError, Global};
 pub fn report(alloc: Global, ledger: &Ledger) -> Result<Vec<u8>, AllocError>
     ensures { IfOk result (λ text. text.items ≡ report_of ledger.now.journal) }
 {
+    let text = report_text(alloc, ledger)?;
+    Ok(text.into_bytes())
+}
+
+/// As `report`, for texts that hold it.
+pub fn report_text(alloc: Global, ledger: &Ledger) -> Result<String, AllocError>
+    ensures { IfOk result (λ text. string_bytes text ≡ report_of ledger.now.journal) }
+{
     let mut out = head(alloc, ledger)?;
     put_each(alloc, &mut out, &ledger.parts(alloc)?)?;
     put_each(alloc, &mut out, &ledger.async_rows(alloc)?)?;
     put_each(alloc, &mut out, &ledger.flow_rows(alloc)?)?;
-    Ok(out.into_bytes())
+    Ok(out)
 }
 
 /// The lines that every report begins with.
