@@ -7,4 +7,4 @@ mod tally;
 mod text;
 
 pub use output::write_refusals;
-pub use text::refusals;
+pub use text::{refusals, refusals_text};

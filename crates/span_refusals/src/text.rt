@@ -24,12 +24,26 @@ pub fn refusals(
     requires { length files.now ≡ length ends.now }
     ensures { IfOk result (λ text. text.items ≡ refusals_of files.now ends.now ledger.now.journal) }
 {
+    let text = refusals_text(alloc, ledger, files, ends)?;
+    Ok(text.into_bytes())
+}
+
+/// As `refusals`, for texts that hold it.
+pub fn refusals_text(
+    alloc: Global,
+    ledger: &Ledger,
+    files: &[Input],
+    ends: &[FileEnd],
+) -> Result<String, AllocError>
+    requires { length files.now ≡ length ends.now }
+    ensures { IfOk result (λ text. string_bytes text ≡ refusals_of files.now ends.now ledger.now.journal) }
+{
     let mut out = head(alloc, ledger)?;
     let tallies = tallies(alloc, ledger)?;
     for (place, file) in files.iter().enumerate() {
         put_file(alloc, &mut out, &file.name, ends[place], &tallies)?;
     }
-    Ok(out.into_bytes())
+    Ok(out)
 }
 
 // The lines of a file. A caller of which nothing is kept has no entry.

@@ -3,7 +3,7 @@ use Rattle.span_collect.specs.FaultLines.{lines_of_ends}
 use Rattle.span_ledger.specs.Rows.{count_row}
 use Rattle.span_report.specs.Report.{head_lines}
 use Rattle.span_refusals.specs.Text.{file_lines}
-use Rattle.span_refusals.proofs.text.refusals.Given as goal
+use Rattle.span_refusals.proofs.text.refusals_text.Given as goal
 
 -- the head, and the lines of the files so far
 abbrev pub invariant-loop-place : goal.invariant-loop-place

@@ -5,7 +5,7 @@ use Rattle.span_ledger.specs.Rows.{count_row}
 use Rattle.span_report.specs.Report.{head_lines}
 use Rattle.span_collect.proofs.EndLines.{lines_of_ends-take_more}
 use Rattle.span_refusals.specs.Text.{file_lines}
-use Rattle.span_refusals.proofs.text.refusals.Goals as goal
+use Rattle.span_refusals.proofs.text.refusals_text.Goals as goal
 
 -- the lines that were put are those of the next file
 pub loop-place-preserved : goal.loop-place-preserved
