@@ -27,11 +27,11 @@ stack_lines start stacks = flat_map (stack_line start) stacks
 
 module _ (journal : List Entry) where
   -- the folded stacks of a thread
-  abbrev pub thread_stacks : ThreadRow → List Folded
-  thread_stacks row = let thread : Thread = record { pid = row.pid; tid = row.tid } in folded_stacks (closed_spans (thread_events thread journal))
+  abbrev pub thread_stacks : Thread → List Folded
+  thread_stacks thread = folded_stacks (closed_spans (thread_events thread journal))
 
   abbrev pub thread_lines : ProcessRow → ThreadRows → List ℕ
-  thread_lines process part = stack_lines (thread_frames process part.row) (thread_stacks part.row)
+  thread_lines process part = stack_lines (thread_frames process part.row) (thread_stacks (record { pid = part.row.pid; tid = part.row.tid }))
 
   abbrev pub process_lines : ProcessRows → List ℕ
   process_lines part = flat_map (thread_lines part.row) part.threads

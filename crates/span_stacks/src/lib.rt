@@ -14,4 +14,5 @@ mod text;
 mod tree;
 
 pub use output::write_folded;
+pub use stacks::{FoldedStack, thread_stacks};
 pub use text::folded;

@@ -1,21 +1,22 @@
 //! The folded stacks of a thread.
 ghost use Rattle.std.specs.Prelude.{◌≡◌, IfOk};
 ghost use Rattle.span_ledger.specs.Named.{AreThreadSpans};
+ghost use Rattle.span_stacks.specs.Folded.{thread_stacks};
 ghost use Rattle.span_stacks.specs.Stacks.{folded_order, folded_stacks};
 
 use crate::ranks::sort_by_rank;
 use crate::sweep::{bounds, swept};
 use span_event::Text;
-use span_ledger::NamedSpan;
+use span_ledger::{Ledger, NamedSpan};
 use std::alloc::{AllocError, Global};
 use std::cmp::Ordering;
 use std::marker::Model;
 
-// A stack, and for how many microseconds there is no other.
+/// The names of a stack, and for how many microseconds a thread has it.
 #[derive(Drop)]
-pub(crate) struct FoldedStack<'a> {
-    pub(crate) stack: Vec<&'a Text>,
-    pub(crate) time: u64,
+pub struct FoldedStack<'a> {
+    pub stack: Vec<&'a Text>,
+    pub time: u64,
 }
 
 impl<'a> Model for FoldedStack<'a> {
@@ -35,8 +36,22 @@ impl<'a> FoldedStack<'a> {
     }
 }
 
+/// The folded stacks of a thread of the ledger's journal, in the order of their lists of names.
+pub fn thread_stacks(
+    alloc: Global,
+    ledger: &Ledger,
+    pid: i64,
+    tid: i64,
+) -> Result<Vec<FoldedStack<'_>>, AllocError>
+    ensures { IfOk result
+        (λ stacks. stacks.items ≡ thread_stacks ledger.now.journal (record { pid = pid; tid = tid })) }
+{
+    let spans = ledger.closed_spans(alloc, pid, tid)?;
+    stacks_of(alloc, spans)
+}
+
 // Each stack of the spans once, in order.
-pub(crate) fn thread_stacks<'a>(
+fn stacks_of<'a>(
     alloc: Global,
     mut spans: Vec<NamedSpan<'a>>,
 ) -> Result<Vec<FoldedStack<'a>>, AllocError>

@@ -46,8 +46,7 @@ fn put_thread(
 {
     let row = &part.row;
     let start = thread_frames(alloc, process, row)?;
-    let spans = ledger.closed_spans(alloc, row.pid, row.tid)?;
-    let stacks = thread_stacks(alloc, spans)?;
+    let stacks = thread_stacks(alloc, ledger, row.pid, row.tid)?;
     put_lines(alloc, out, &start, &stacks)
 }
 

@@ -5,7 +5,7 @@ use Rattle.span_ledger.proofs.Sorting.{IsSorted-from_sort_by}
 use Rattle.span_stacks.specs.Stacks.{Folded, ranked}
 use Rattle.span_stacks.proofs.Folding.{folded_stacks-sorted, folded_order-total}
 use Rattle.span_stacks.proofs.Starts.{StartBetween-ranked, latest-le-greatest, least-le-earliest}
-use Rattle.span_stacks.proofs.stacks.thread_stacks.Goals as goal
+use Rattle.span_stacks.proofs.stacks.stacks_of.Goals as goal
 
 pub swept-requires-clause-between : goal.swept-requires-clause-between
 swept-requires-clause-between c =
