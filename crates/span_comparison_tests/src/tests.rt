@@ -1,11 +1,9 @@
 //! Comparisons of worked traces, written by hand from their rules.
-ghost use Rattle.span_event.specs.Item.{IsGoodItem};
 
 use span_comparison::comparison;
-use span_event::Item;
-use span_ledger::{Ledger, Op};
-use span_read::read_items;
-use std::alloc::{AllocGlobal, Global};
+use span_ledger::Ledger;
+use span_test_support::told;
+use std::alloc::{AllocError, AllocGlobal, Global};
 use std::process::Abort;
 use std::test::Fail;
 
@@ -13,33 +11,6 @@ mod growths;
 mod outputs;
 mod seals;
 mod threads;
-
-// Whether the ledger takes the item. (Who lets go of an answer by a call of its own has one way to go on.)
-fn takes(ledger: &mut Ledger, item: Item) -> bool
-    requires { IsGoodItem item }
-{
-    match ledger.apply(1, Op::One(item)) {
-        Ok(answer) => {
-            drop(answer);
-            true
-        }
-        Err(back) => {
-            drop(back);
-            false
-        }
-    }
-}
-
-// Tells the ledger the events of a text.
-fn tell(alloc: Global, ledger: &mut Ledger, text: &str) -> Result<(), Fail> {
-    let items = read_items(alloc, text.as_bytes())?;
-    for item in items.into_list() {
-        if !takes(ledger, item) {
-            return Err(Fail::from("not taken"));
-        }
-    }
-    Ok(())
-}
 
 // The comparison of two ledgers is this text.
 fn compares_to(
@@ -53,26 +24,24 @@ fn compares_to(
     Ok(())
 }
 
-fn compares_in(
-    rt: &(impl Abort + AllocGlobal),
-    base: &mut Ledger,
-    other: &mut Ledger,
-    events: (&str, &str),
-    want: &str,
-) -> Result<(), Fail> {
-    tell(rt.alloc(), base, events.0)?;
-    tell(rt.alloc(), other, events.1)?;
-    compares_to(rt, base, other, want)
-}
-
 // The comparison of the ledgers of two traces is this text.
 fn compares(rt: &(impl Abort + AllocGlobal), events: (&str, &str), want: &str) -> Result<(), Fail> {
-    let mut base = Ledger::new(rt.alloc(), 100, false);
-    let mut other = Ledger::new(rt.alloc(), 100, false);
-    let told = compares_in(rt, &mut base, &mut other, events, want);
+    let base = told(rt.alloc(), events.0).ok_or("not told")?;
+    let compared = compares_with(rt, &base, events.1, want);
     drop(base);
+    compared
+}
+
+fn compares_with(
+    rt: &(impl Abort + AllocGlobal),
+    base: &Ledger,
+    events: &str,
+    want: &str,
+) -> Result<(), Fail> {
+    let other = told(rt.alloc(), events).ok_or("not told")?;
+    let compared = compares_to(rt, base, &other, want);
     drop(other);
-    told
+    compared
 }
 
 // "a" takes longer than before, "gone" is gone, "new" is new, and "same" is as it was.
@@ -183,7 +152,7 @@ fn without_closed_spans_the_columns_stand_alone(rt: HostRuntime) -> Result<(), F
 
 // A span that is about as long as one can be.
 const LONG: &str =
-    r#"[{"ph":"X","name":"a","ts":-9000000000000000,"dur":9000000000000000,"pid":1,"tid":1}]"#;
+    r#"{"ph":"X","name":"a","ts":-9000000000000000,"dur":9000000000000000,"pid":1,"tid":1}"#;
 
 const LONG_ROW: &str = r#"tracebook 1
 base events 2100 refused 0 skipped 0 queries 0
@@ -193,25 +162,20 @@ events 1 refused 0 skipped 0 queries 0
 same 0
 "#;
 
-fn compares_long_spans_in(
-    rt: &(impl Abort + AllocGlobal),
-    base: &mut Ledger,
-    other: &mut Ledger,
-) -> Result<(), Fail> {
-    for _ in 0..2100u32 {
-        tell(rt.alloc(), base, LONG)?;
+// A trace of so many long spans, which are at least one.
+fn long_spans(alloc: Global, count: u32) -> Result<String, AllocError> {
+    let mut text = format!(in alloc; "[{LONG}")?;
+    for _ in 1..count {
+        write!(text, ",{LONG}")?;
     }
-    tell(rt.alloc(), other, LONG)?;
-    compares_to(rt, base, other, LONG_ROW)
+    text.push(']')?;
+    Ok(text)
 }
 
 // The lengths of 2,100 such spans together are more than 64 bits hold.
 #[test]
 fn sums_and_differences_go_beyond_64_bits(rt: HostRuntime) -> Result<(), Fail> {
-    let mut base = Ledger::new(rt.alloc(), 2100, false);
-    let mut other = Ledger::new(rt.alloc(), 1, false);
-    let told = compares_long_spans_in(&rt, &mut base, &mut other);
-    drop(base);
-    drop(other);
-    told
+    let many = long_spans(rt.alloc(), 2100)?;
+    let one = long_spans(rt.alloc(), 1)?;
+    compares(&rt, (many.as_str(), one.as_str()), LONG_ROW)
 }

@@ -1,64 +1,28 @@
 //! Folded stacks of worked traces, written by hand from their rules.
-ghost use Rattle.span_event.specs.Item.{IsGoodItem};
 
-use span_event::Item;
-use span_ledger::{Ledger, Op};
-use span_read::read_items;
+use span_ledger::Ledger;
 use span_stacks::folded;
 use span_stacks::laws::{busy_law, self_law};
-use std::alloc::{AllocGlobal, Global};
+use span_test_support::told;
+use std::alloc::AllocGlobal;
 use std::process::Abort;
 use std::test::Fail;
 
 mod growths;
 mod outputs;
 
-// Whether the ledger takes the item. (Who lets go of an answer by a call of its own has one way to go on.)
-fn takes(ledger: &mut Ledger, item: Item) -> bool
-    requires { IsGoodItem item }
-{
-    match ledger.apply(1, Op::One(item)) {
-        Ok(answer) => {
-            drop(answer);
-            true
-        }
-        Err(back) => {
-            drop(back);
-            false
-        }
-    }
-}
-
-// Tells the ledger the events of a text.
-fn tell(alloc: Global, ledger: &mut Ledger, text: &str) -> Result<(), Fail> {
-    let items = read_items(alloc, text.as_bytes())?;
-    for item in items.into_list() {
-        if !takes(ledger, item) {
-            return Err(Fail::from("not taken"));
-        }
-    }
-    Ok(())
-}
-
-fn folds_in(
-    rt: &(impl Abort + AllocGlobal),
-    ledger: &mut Ledger,
-    events: &str,
-    want: &str,
-) -> Result<(), Fail> {
-    let alloc = rt.alloc();
-    tell(alloc, ledger, events)?;
-    let text = folded(alloc, ledger)?;
+fn folds_to(rt: &(impl Abort + AllocGlobal), ledger: &Ledger, want: &str) -> Result<(), Fail> {
+    let text = folded(rt.alloc(), ledger)?;
     assert!(rt; text.as_slice() == want.as_bytes());
     Ok(())
 }
 
 // The folded stacks of a trace.
 fn folds(rt: &(impl Abort + AllocGlobal), events: &str, want: &str) -> Result<(), Fail> {
-    let mut ledger = Ledger::new(rt.alloc(), 100, false);
-    let told = folds_in(rt, &mut ledger, events, want);
+    let ledger = told(rt.alloc(), events).ok_or("not told")?;
+    let result = folds_to(rt, &ledger, want);
     drop(ledger);
-    told
+    result
 }
 
 // Of `a`'s 10 microseconds `b` has 6, and `c` 4 of these in 3 spans.

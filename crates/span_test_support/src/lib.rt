@@ -4,5 +4,5 @@
 mod output;
 mod telling;
 
-pub use output::{End, Output, room_at_last};
-pub use telling::{told, told_at_last};
+pub use output::{End, Output, is_whole_or_none, room_at_last};
+pub use telling::{seals, told, told_at_last};

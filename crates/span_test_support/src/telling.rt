@@ -1,5 +1,6 @@
 //! Ledgers that are told the elements of a text.
 ghost use Rattle.span_event.specs.Item.{IsGoodItem};
+ghost use Rattle.span_track.specs.Thread.{IsSealTime};
 
 use span_event::Item;
 use span_ledger::{Ledger, Op};
@@ -34,9 +35,9 @@ fn takes_all(alloc: Global, ledger: &mut Ledger, text: &str) -> bool {
     true
 }
 
-/// A ledger that took each element of the text, of which there are at most 100. None where it is no trace, or memory was refused.
+/// A ledger that took each element of the text, of which there are at most 10,000. None where it is no trace, or memory was refused.
 pub fn told(alloc: Global, text: &str) -> Option<Ledger> {
-    let mut ledger = Ledger::new(alloc, 100, false);
+    let mut ledger = Ledger::new(alloc, 10_000, false);
     if takes_all(alloc, &mut ledger, text) {
         Some(ledger)
     } else {
@@ -50,5 +51,21 @@ pub fn told_at_last(alloc: Global, text: &str) -> Option<Ledger> {
     match told(alloc, text) {
         Some(ledger) => Some(ledger),
         None => told(alloc, text),
+    }
+}
+
+/// Whether the ledger takes a seal of thread 1 of process 1.
+pub fn seals(ledger: &mut Ledger, ts: i64) -> bool
+    requires { IsSealTime ts }
+{
+    match ledger.apply(0, Op::Seal { pid: 1, tid: 1, ts }) {
+        Ok(answer) => {
+            drop(answer);
+            true
+        }
+        Err(back) => {
+            drop(back);
+            false
+        }
     }
 }

@@ -1,11 +1,10 @@
 //! Outputs that take a comparison, or fail.
-use super::tell;
+
 use span_comparison::write_comparison;
 use span_ledger::Ledger;
 use span_report::{WriteFault, Writer};
+use span_test_support::{Output, told};
 use std::alloc::{AllocGlobal, Global};
-use std::io;
-use std::io::{ErrorKind, Write};
 use std::process::Abort;
 use std::test::Fail;
 
@@ -21,98 +20,41 @@ events 1 refused 0 skipped 0 queries 0
 same 0
 "#;
 
-// A writer that takes the first bytes, and counts its flushes.
-#[derive(Drop)]
-struct Short {
-    room: usize,
-    taken: Vec<u8>,
-    flushed: u64,
-}
-
-impl Write for Short {
-    fn write(&mut self, bytes: &[u8]) -> io::Result<usize> {
-        let count = bytes.len().min(self.room);
-        if count == 0 {
-            return Err(io::Error::from(ErrorKind::BrokenPipe));
-        }
-        self.taken.extend_from_slice(&bytes[..count])?;
-        self.room -= count;
-        Ok(count)
-    }
-
-    fn flush(&mut self) -> io::Result<()> {
-        self.flushed = self.flushed.wrapping_add(1);
-        Ok(())
-    }
-}
-
-fn short_of(alloc: Global, room: usize) -> Short {
-    Short {
-        room,
-        taken: Vec::new(alloc),
-        flushed: 0,
-    }
-}
-
 fn write_text(
     alloc: Global,
     base: &Ledger,
     other: &Ledger,
-    short: &mut Short,
+    output: &mut Output,
 ) -> Result<(), WriteFault> {
-    write_comparison(alloc, base, other, &mut Writer::new(short))
+    write_comparison(alloc, base, other, &mut Writer::new(output))
 }
 
-fn takes_the_first(
-    rt: &(impl Abort + AllocGlobal),
-    base: &Ledger,
-    other: &Ledger,
-    short: &mut Short,
-    first: &[u8],
-) {
-    let written = first.len() as u64;
-    let result = write_text(rt.alloc(), base, other, short);
-    assert!(rt;
-        result == Err(WriteFault::Output { written }),
-        "at {written}"
-    );
-    assert!(rt; short.taken.as_slice() == first, "at {written}");
-    assert_eq!(rt; short.flushed, 0, "at {written}");
+fn takes_the_first(rt: &(impl Abort + AllocGlobal), base: &Ledger, other: &Ledger, count: usize) {
+    let mut output = Output::of_room(rt.alloc(), count);
+    let written = write_text(rt.alloc(), base, other, &mut output);
+    assert!(rt; output.is_cut_off(written, ONE_ROW, count), "at {count}");
 }
 
-fn takes_all(rt: &(impl Abort + AllocGlobal), base: &Ledger, other: &Ledger, short: &mut Short) {
-    let result = write_text(rt.alloc(), base, other, short);
-    assert!(rt; result == Ok(()));
-    assert!(rt; short.taken.as_slice() == ONE_ROW.as_bytes());
-    assert_eq!(rt; short.flushed, 1);
+fn takes_all(rt: &(impl Abort + AllocGlobal), base: &Ledger, other: &Ledger) {
+    let mut output = Output::of_room(rt.alloc(), ONE_ROW.len());
+    let written = write_text(rt.alloc(), base, other, &mut output);
+    assert!(rt; output.is_whole(written, ONE_ROW));
 }
 
-fn says_how_much_was_taken_in(
-    rt: &(impl Abort + AllocGlobal),
-    base: &mut Ledger,
-    other: &mut Ledger,
-) -> Result<(), Fail> {
-    let alloc = rt.alloc();
-    tell(alloc, base, BASE)?;
-    tell(alloc, other, OTHER)?;
-    let text = ONE_ROW.as_bytes();
-    for room in 0..text.len() {
-        let mut short = short_of(alloc, room);
-        takes_the_first(rt, base, other, &mut short, &text[..room]);
-        drop(short);
+fn says_how_much_was_taken(rt: &(impl Abort + AllocGlobal), base: &Ledger) -> Result<(), Fail> {
+    let other = told(rt.alloc(), OTHER).ok_or("not told")?;
+    for count in 0..ONE_ROW.len() {
+        takes_the_first(rt, base, &other, count);
     }
-    let mut enough = short_of(alloc, text.len());
-    takes_all(rt, base, other, &mut enough);
-    drop(enough);
+    takes_all(rt, base, &other);
+    drop(other);
     Ok(())
 }
 
 #[test]
 fn says_how_much_a_failed_output_took(rt: HostRuntime) -> Result<(), Fail> {
-    let mut base = Ledger::new(rt.alloc(), 100, false);
-    let mut other = Ledger::new(rt.alloc(), 100, false);
-    let told = says_how_much_was_taken_in(&rt, &mut base, &mut other);
+    let base = told(rt.alloc(), BASE).ok_or("not told")?;
+    let result = says_how_much_was_taken(&rt, &base);
     drop(base);
-    drop(other);
-    told
+    result
 }

@@ -1,8 +1,8 @@
 //! The comparison of ledgers of which one has a seal.
-ghost use Rattle.span_track.specs.Thread.{IsSealTime};
 
-use super::{compares_to, tell};
-use span_ledger::{Ledger, Op};
+use super::compares_to;
+use span_ledger::Ledger;
+use span_test_support::{seals, told};
 use std::alloc::AllocGlobal;
 use std::process::Abort;
 use std::test::Fail;
@@ -31,40 +31,27 @@ seals 1
 same 2
 "#;
 
-// Whether the ledger takes a seal of thread 1 of process 1.
-fn seals(ledger: &mut Ledger, ts: i64) -> bool
-    requires { IsSealTime ts }
-{
-    match ledger.apply(0, Op::Seal { pid: 1, tid: 1, ts }) {
-        Ok(answer) => {
-            drop(answer);
-            true
-        }
-        Err(back) => {
-            drop(back);
-            false
-        }
-    }
+fn compares_sealed(rt: &(impl Abort + AllocGlobal), sealed: &Ledger) -> Result<(), Fail> {
+    let closed = told(rt.alloc(), CLOSED).ok_or("not told")?;
+    let compared = compares_both_ways(rt, sealed, &closed);
+    drop(closed);
+    compared
 }
 
-fn compares_sealed_in(
+fn compares_both_ways(
     rt: &(impl Abort + AllocGlobal),
-    sealed: &mut Ledger,
-    closed: &mut Ledger,
+    sealed: &Ledger,
+    closed: &Ledger,
 ) -> Result<(), Fail> {
-    tell(rt.alloc(), sealed, OPEN)?;
-    assert!(rt; seals(sealed, 12));
-    tell(rt.alloc(), closed, CLOSED)?;
     compares_to(rt, sealed, closed, SEALED_BASE)?;
     compares_to(rt, closed, sealed, SEALED_OTHER)
 }
 
 #[test]
 fn tells_the_seals_of_each(rt: HostRuntime) -> Result<(), Fail> {
-    let mut sealed = Ledger::new(rt.alloc(), 100, false);
-    let mut closed = Ledger::new(rt.alloc(), 100, false);
-    let told = compares_sealed_in(&rt, &mut sealed, &mut closed);
+    let mut sealed = told(rt.alloc(), OPEN).ok_or("not told")?;
+    assert!(rt; seals(&mut sealed, 12));
+    let compared = compares_sealed(&rt, &sealed);
     drop(sealed);
-    drop(closed);
-    told
+    compared
 }

@@ -23,25 +23,14 @@ fn write_first(alloc: Global, ledger: &Ledger, output: &mut Output) -> Result<()
 
 fn takes_the_first(rt: &(impl Abort + AllocGlobal), ledger: &Ledger, count: usize) {
     let mut output = Output::of_room(rt.alloc(), count);
-    let result = write_first(rt.alloc(), ledger, &mut output);
-    let written = count as u64;
-    assert!(rt;
-        result == Err(WriteFault::Output { written }),
-        "at {written}"
-    );
-    assert!(rt;
-        Some(output.taken.as_slice()) == ONE_ROW.as_bytes().get(..count),
-        "at {written}"
-    );
-    assert_eq!(rt; output.flushes, 0, "at {written}");
+    let written = write_first(rt.alloc(), ledger, &mut output);
+    assert!(rt; output.is_cut_off(written, ONE_ROW, count), "at {count}");
 }
 
 fn takes_all(rt: &(impl Abort + AllocGlobal), ledger: &Ledger) {
     let mut output = Output::of_room(rt.alloc(), ONE_ROW.len());
-    let result = write_first(rt.alloc(), ledger, &mut output);
-    assert!(rt; result == Ok(()));
-    assert!(rt; output.taken.as_slice() == ONE_ROW.as_bytes());
-    assert_eq!(rt; output.flushes, 1);
+    let written = write_first(rt.alloc(), ledger, &mut output);
+    assert!(rt; output.is_whole(written, ONE_ROW));
 }
 
 #[test]

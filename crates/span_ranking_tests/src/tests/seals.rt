@@ -1,12 +1,8 @@
 //! The ranking of a ledger with a seal.
-ghost use Rattle.span_track.specs.Thread.{IsSealTime};
 
 use super::has_rankings;
-use span_ledger::{Ledger, Op};
 use span_ranking::By;
-use span_test_support::told;
-use std::alloc::AllocGlobal;
-use std::process::Abort;
+use span_test_support::{seals, told};
 use std::test::Fail;
 
 const CUT: &str =
@@ -18,22 +14,6 @@ const SEALED_ROWS: &[&str] = &[
     r#"              10               10        1 1 1 - "b""#,
     r#"               2               12        1 1 1 - "a""#,
 ];
-
-// Whether the ledger takes a seal of thread 1 of process 1.
-fn seals(ledger: &mut Ledger, ts: i64) -> bool
-    requires { IsSealTime ts }
-{
-    match ledger.apply(0, Op::Seal { pid: 1, tid: 1, ts }) {
-        Ok(answer) => {
-            drop(answer);
-            true
-        }
-        Err(back) => {
-            drop(back);
-            false
-        }
-    }
-}
 
 #[test]
 fn ranks_sealed_spans_below_the_line_of_seals(rt: HostRuntime) -> Result<(), Fail> {

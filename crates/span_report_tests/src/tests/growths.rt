@@ -2,8 +2,8 @@
 //! tests/refused_allocations.
 
 use span_ledger::Ledger;
-use span_report::{WriteFault, Writer, report, write_report};
-use span_test_support::{room_at_last, told_at_last};
+use span_report::{Writer, report, write_report};
+use span_test_support::{is_whole_or_none, room_at_last, told_at_last};
 use std::alloc::AllocGlobal;
 use std::process::Abort;
 use std::test::Fail;
@@ -20,27 +20,20 @@ span        1               10                7 "a"
 span        1                3                3 "b"
 "#;
 
-// The whole text, or none where memory is refused.
-fn is_whole_or_none(rt: &(impl Abort + AllocGlobal), ledger: &Ledger) -> Result<(), Fail> {
+fn reports_whole_or_not(rt: &(impl Abort + AllocGlobal), ledger: &Ledger) -> Result<(), Fail> {
     if let Ok(text) = report(rt.alloc(), ledger) {
         assert!(rt; text.as_slice() == NESTED_REPORT.as_bytes());
     }
     let mut out = room_at_last(rt.alloc())?;
     let written = write_report(rt.alloc(), ledger, &mut Writer::new(&mut out));
-    match written {
-        Ok(()) => assert!(rt; out.as_slice() == NESTED_REPORT.as_bytes()),
-        Err(fault) => {
-            assert!(rt; fault == WriteFault::Memory);
-            assert!(rt; out.is_empty());
-        }
-    }
+    assert!(rt; is_whole_or_none(written, &out, NESTED_REPORT));
     Ok(())
 }
 
 #[test]
 fn a_refused_growth_leaves_no_part_of_a_report(rt: HostRuntime) -> Result<(), Fail> {
     let ledger = told_at_last(rt.alloc(), NESTED).ok_or("not told")?;
-    let told = is_whole_or_none(&rt, &ledger);
+    let told = reports_whole_or_not(&rt, &ledger);
     drop(ledger);
     told
 }

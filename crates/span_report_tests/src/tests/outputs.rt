@@ -70,17 +70,11 @@ fn a_failure_to_finish_is_told(rt: HostRuntime) {
     );
 }
 
-fn is_written(rt: &impl Abort, written: Result<(), WriteFault>, output: &Output, want: &str) {
-    assert!(rt; written == Ok(()));
-    assert!(rt; output.taken.as_slice() == want.as_bytes());
-    assert_eq!(rt; output.flushes, 1);
-}
-
 #[test]
 fn finishes_once(rt: HostRuntime) {
     let mut output = Output::of_room(rt.alloc(), 51);
     let result = write_empty(rt.alloc(), &mut output);
-    is_written(&rt, result, &output, EMPTY_REPORT);
+    assert!(rt; output.is_whole(result, EMPTY_REPORT));
     drop(output);
 }
 
@@ -100,7 +94,7 @@ span        1                1                1 \"{name}\"
     )?;
     let mut output = Output::of_room(alloc, 1_000_000);
     let result = write_report(alloc, ledger, &mut Writer::new(&mut output));
-    is_written(rt, result, &output, want.as_str());
+    assert!(rt; output.is_whole(result, want.as_str()));
     drop(output);
     Ok(())
 }
