@@ -1,0 +1,241 @@
+// A flame graph: the frames of a thread, the thread itself on top, drawn and moved through by pointer or keys.
+
+const LEVEL = 20; // the height of a level in CSS pixels
+const MOST_SEEN = 32; // levels; what lies below them is reached by scrolling
+const LETTER = 6.7; // the width of a letter of the frames' font
+const TREE_KEYS = { ArrowUp: "above", ArrowDown: "below", ArrowLeft: "before", ArrowRight: "after", Home: "zoomed" };
+
+/** A hue for a name, the same wherever the name stands. */
+function hueOf(name) {
+  let hash = 7;
+  for (const letter of name.slice(0, 60)) hash = (31 * hash + letter.codePointAt(0)) % 9973;
+  return (hash * 137) % 360;
+}
+
+function framesText(count) {
+  return count === 1 ? "1 frame" : `${grouped(count)} frames`;
+}
+
+class Graph {
+  constructor(thread, stacks, isWidestFirst) {
+    this.frames = framesOf(`thread ${thread.label}`, stacks);
+    this.root = this.zoomed = this.focused = this.frames[0];
+    Object.assign(this, { isWidestFirst, pointed: null, marks: null, history: [], levels: [], width: 0 });
+    this.makeElements(thread);
+    this.listen();
+    this.showUnder();
+  }
+
+  makeElements(thread) {
+    this.told = element("p", { className: "told", ariaLive: "polite" });
+    this.marked = element("p", { className: "status", role: "status" });
+    this.backButton = element("button", { type: "button", onclick: () => this.back() }, "Back");
+    this.wholeButton = element("button", { type: "button", onclick: () => this.zoom(this.root) }, "Whole thread");
+    this.canvas = element("canvas", { ariaHidden: "true" });
+    this.item = element("div", { role: "treeitem", id: `focused-${thread.at}`, className: "unseen" });
+    this.spacer = element("div", { className: "spacer", role: "none" }, this.canvas);
+    const label = `Flame graph of thread ${cut(thread.label, 100)}`;
+    this.view = element("div", { className: "view", role: "tree", tabIndex: 0, ariaLabel: label }, this.spacer, this.item);
+    this.view.setAttribute("aria-activedescendant", this.item.id);
+    this.under = new Table("names", [
+      numberColumn("total, \u00b5s", (frame) => frame.total, { bar: (frame) => fraction(frame.total, frame.parent.total) }),
+      numberColumn("self, \u00b5s", (frame) => frame.self),
+      nameColumn((frame) => frame.name, { fill: (frame) => this.zoomButton(frame) }),
+    ]);
+    this.underTitle = element("summary");
+    this.element = element("div", { className: "graph" },
+      element("div", { className: "steps" }, this.backButton, this.wholeButton, this.told), this.marked, this.view,
+      element("details", { className: "under" }, this.underTitle, this.under.element));
+  }
+
+  zoomButton(frame) {
+    return element("button", { type: "button", className: "name", onclick: () => this.zoom(frame) }, nameElement(frame.name));
+  }
+
+  listen() {
+    const redraw = () => this.draw();
+    this.view.addEventListener("scroll", redraw);
+    this.view.addEventListener("focus", () => this.tell());
+    this.view.addEventListener("keydown", (event) => this.press(event));
+    this.canvas.addEventListener("pointermove", (event) => this.point(this.frameAt(event)));
+    this.canvas.addEventListener("pointerleave", () => this.point(null));
+    this.canvas.addEventListener("click", (event) => this.zoom(this.frameAt(event) ?? this.zoomed));
+    matchMedia("(prefers-color-scheme: dark)").addEventListener("change", redraw);
+    new ResizeObserver(() => this.view.clientWidth !== this.width && this.layOut()).observe(this.view);
+  }
+
+  layOut() {
+    const width = this.view.clientWidth;
+    if (width === 0) return;
+    this.width = width;
+    this.levels = levelsOf(this.zoomed, width, this.isWidestFirst);
+    if (!this.levels[this.focused.level]?.some((box) => box.frame === this.focused)) this.focused = this.zoomed;
+    this.canvas.boxes = this.levels; // for scripts that look at the page: what is drawn, level by level, in CSS pixels
+    const seen = LEVEL * Math.min(this.levels.length, MOST_SEEN);
+    this.spacer.style.height = `${LEVEL * this.levels.length}px`;
+    this.view.style.maxHeight = `${LEVEL * MOST_SEEN}px`;
+    this.canvas.style.height = `${seen}px`;
+    this.canvas.width = Math.round(width * devicePixelRatio);
+    this.canvas.height = Math.round(seen * devicePixelRatio);
+    this.draw();
+    this.tell();
+  }
+
+  draw() {
+    const ink = this.canvas.getContext("2d");
+    const style = getComputedStyle(this.view);
+    const look = ["--text", "--ground", "--lightness", "--focus"].map((property) => style.getPropertyValue(property));
+    const top = this.view.scrollTop;
+    ink.setTransform(devicePixelRatio, 0, 0, devicePixelRatio, 0, -top * devicePixelRatio);
+    ink.clearRect(0, top, this.canvas.width, this.canvas.height);
+    ink.font = "11px ui-monospace, 'DejaVu Sans Mono', Menlo, Consolas, monospace";
+    ink.textBaseline = "middle";
+    const first = Math.floor(top / LEVEL);
+    for (const box of this.levels.slice(first, first + MOST_SEEN + 1).flat()) this.drawBox(ink, box, look);
+  }
+
+  drawBox(ink, { frame, x, width }, [text, ground, lightness, focus]) {
+    const y = LEVEL * frame.level;
+    const isDim = this.marks !== null && !this.marks(frame.name);
+    ink.fillStyle = frame === this.root || isDim ? ground : `hsl(${hueOf(frame.name)} 55% ${lightness})`;
+    ink.fillRect(x, y, width > 3 ? width - 1 : width, LEVEL - 1);
+    ink.fillStyle = text;
+    if (this.marks !== null && !isDim) ink.fillRect(x, y + LEVEL - 3, Math.max(1, width - 1), 2);
+    const letters = Math.floor((width - 8) / LETTER);
+    if (letters >= 2) this.drawName(ink, cut(shown(frame.name), letters), x, y, width);
+    if (frame !== this.focused && frame !== this.pointed) return;
+    ink.strokeStyle = focus;
+    ink.lineWidth = frame === this.focused ? 2 : 1;
+    ink.strokeRect(x + 1, y + 1, Math.max(1, width - 3), LEVEL - 3);
+  }
+
+  drawName(ink, name, x, y, width) {
+    ink.save();
+    ink.beginPath();
+    ink.rect(x, y, width - 2, LEVEL);
+    ink.clip();
+    ink.fillText(name, x + 4, y + LEVEL / 2);
+    ink.restore();
+  }
+
+  frameAt(event) {
+    const level = Math.floor((event.offsetY + this.view.scrollTop) / LEVEL);
+    return this.levels[level]?.find(({ x, width }) => x <= event.offsetX && event.offsetX < x + width)?.frame ?? null;
+  }
+
+  point(frame) {
+    if (frame === this.pointed) return;
+    this.pointed = frame;
+    this.canvas.style.cursor = frame ? "pointer" : "";
+    this.draw();
+    this.tell();
+  }
+
+  /** Tells of the frame under the pointer, or else of the focused one. */
+  tell() {
+    const frame = this.pointed ?? this.focused;
+    this.told.replaceChildren(nameElement(frame.name), element("span", {}, `${this.numbersOf(frame)} of the thread's busy time`));
+    this.describe(this.focused);
+    this.backButton.disabled = this.history.length === 0;
+    this.wholeButton.disabled = this.zoomed === this.root;
+  }
+
+  /** The focused frame as an item of a tree, for those who hear the page. */
+  describe(frame) {
+    const siblings = this.levels[frame.level]?.filter((box) => box.frame.parent === frame.parent) ?? [];
+    this.item.ariaLevel = String(frame.level + 1);
+    this.item.ariaSetSize = String(siblings.length);
+    this.item.ariaPosInSet = String(1 + siblings.findIndex((box) => box.frame === frame));
+    this.item.ariaExpanded = frame.children.length > 0 ? "true" : null;
+    this.item.textContent = `${cut(shown(frame.name), LONGEST_NAME)}: ${this.numbersOf(frame)}, ${frame.children.length} under it`;
+  }
+
+  numbersOf({ self, total }) {
+    return `self ${timeText(self)}, total ${timeText(total)}, ${shareText(total, this.root.total)}`;
+  }
+
+  press(event) {
+    if (event.ctrlKey || event.altKey || event.metaKey) return;
+    if (event.key === "Enter" || event.key === " ") this.zoom(this.focused);
+    else if (event.key === "Escape" || event.key === "Backspace") this.back();
+    else if (event.key in TREE_KEYS) this.focus(this.neighbour(TREE_KEYS[event.key]));
+    else return;
+    event.preventDefault();
+  }
+
+  /** The frame that lies so beside the focused one, or that one itself where there is none. */
+  neighbour(side) {
+    const frame = this.focused;
+    const level = this.levels[frame.level];
+    const at = level.findIndex((box) => box.frame === frame);
+    const found = {
+      above: () => frame.parent,
+      below: () => this.levels[frame.level + 1]?.find((box) => box.frame.parent === frame)?.frame,
+      before: () => level[at - 1]?.frame,
+      after: () => level[at + 1]?.frame,
+      zoomed: () => this.zoomed,
+    };
+    return found[side]() ?? frame;
+  }
+
+  focus(frame) {
+    this.focused = frame;
+    this.pointed = null;
+    const top = LEVEL * frame.level;
+    const { scrollTop, clientHeight } = this.view;
+    if (top < scrollTop) this.view.scrollTop = top;
+    if (top + LEVEL > scrollTop + clientHeight) this.view.scrollTop = top + LEVEL - clientHeight;
+    this.draw();
+    this.tell();
+  }
+
+  zoom(frame) {
+    if (frame !== this.zoomed) this.history.push(this.zoomed);
+    this.open(frame);
+  }
+
+  back() {
+    if (this.history.length > 0) this.open(this.history.pop());
+  }
+
+  open(frame) {
+    this.zoomed = frame;
+    this.pointed = null;
+    this.focused = frame;
+    this.layOut();
+    this.view.scrollTop = LEVEL * Math.max(0, frame.level - 3);
+    this.focus(frame);
+    this.showUnder();
+  }
+
+  showUnder() {
+    const { name, children } = this.zoomed;
+    this.underTitle.replaceChildren("Directly under ", nameElement(name), `: ${framesText(children.length)}`);
+    this.under.show(children);
+  }
+
+  order(isWidestFirst) {
+    this.isWidestFirst = isWidestFirst;
+    this.layOut();
+  }
+
+  /** Marks the frames whose names pass a test, and tells their time; those under one another count once. Null marks none. */
+  mark(marks) {
+    this.marks = marks;
+    this.marked.textContent = marks === null ? "" : this.markedText();
+    this.draw();
+  }
+
+  markedText() {
+    const covered = new Set();
+    let [count, time] = [0, 0n];
+    for (const frame of this.frames.slice(1)) {
+      const isMarked = this.marks(frame.name);
+      if (isMarked) count += 1;
+      if (isMarked && !covered.has(frame.parent)) time += frame.total;
+      if (isMarked || covered.has(frame.parent)) covered.add(frame);
+    }
+    const marked = count === 1 ? "1 frame marked," : `${framesText(count)} marked, together`;
+    return `${marked} ${timeText(time)}, ${shareText(time, this.root.total)} of the thread's busy time`;
+  }
+}

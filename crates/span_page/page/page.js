@@ -1,0 +1,267 @@
+// Puts the page together: counts and warnings, what narrows, the table of names, the flame graphs, and what else was traced.
+
+const FIRST_GRAPHS = 50;
+const MORE_GRAPHS = 200;
+const REASONS = {
+  NotObject: "the element isn't an object",
+  NoPhase: "it has no phase, or one that isn't a text",
+  NoTime: "it has no time",
+  NotWhole: "its time or length isn't a whole number of microseconds, or is out of range",
+  NoDuration: "it has no length",
+  BadField: "its process, thread, name, category, id or scope is of the wrong kind",
+  NoId: "it has no id",
+  BadReach: "it is an instant that is neither global nor of a process or thread",
+  BadSeries: "it has a counter whose value isn't a whole number",
+  NoOpenSpan: "it ends a span where none is open",
+  TimeGoesBack: "its time lies before that of an event before it",
+  NoOpenAsync: "it ends an async span that isn't open",
+  EndBeforeBegin: "it ends an async span before its begin",
+  FlowOpen: "it starts a flow that is open",
+  NoFlow: "it goes on with a flow that isn't open",
+  NameDiffers: "it ends a span of another name than the open one",
+};
+
+const ONE = { events: "event", queries: "query", seals: "seal", processes: "process", threads: "thread" };
+
+const byId = (id) => document.getElementById(id);
+const add = (numbers) => numbers.reduce((sum, number) => sum + number, 0n);
+const data = JSON.parse(byId("data").textContent);
+const report = readReport(data.report);
+const greatest = (values) => values.reduce((most, value) => (value > most ? value : most), 0n);
+
+function showCounts() {
+  const counts = [...report.counts, ["processes", report.processes.length], ["threads", report.threads.length]];
+  const wordOf = (what, count) => (String(count) === "1" ? ONE[what] ?? what : what);
+  const items = counts.map(([what, count]) => element("span", {}, element("b", {}, grouped(count)), ` ${wordOf(what, count)}`));
+  byId("counts").replaceChildren(...items);
+}
+
+function refusalItem({ count, code, word, first, file }) {
+  const reason = REASONS[word] ? `: ${REASONS[word]}` : "";
+  const text = `${grouped(count)} \u00d7 ${code} ${word}${reason}; first at element ${grouped(first)} of `;
+  return element("li", {}, text, nameElement(file));
+}
+
+function warnings() {
+  const refusals = readRefusals(data.refused);
+  const [, refused] = report.counts.find(([what]) => what === "refused");
+  const open = add(report.threads.map((thread) => thread.open));
+  const found = [];
+  if (refused > 0n) {
+    const text = "Events were refused. Times on their threads can be wrong: where a begin is refused, its end closes another span. "
+      + "Elements are counted from 0.";
+    found.push(element("div", { className: "warning" }, element("p", {}, text), element("ul", {}, ...refusals.map(refusalItem))));
+  }
+  if (open > 0n) {
+    const text = `Spans that are still open: ${grouped(open)}. They have no time; --seal closes them where the trace was cut off.`;
+    found.push(element("p", { className: "warning" }, text));
+  }
+  return found;
+}
+
+// What is narrowed to: rows of a process and a thread, whose names have all of some words and none of others. The threads are
+// those that have such rows in the table of names.
+
+const narrowed = { process: null, thread: null, wanted: [], unwanted: [], threads: new Set() };
+
+function isNamed(name) {
+  const low = name.toLowerCase();
+  return narrowed.wanted.every((word) => low.includes(word)) && !narrowed.unwanted.some((word) => low.includes(word));
+}
+
+/** Whether a row is of the process and the thread that are narrowed to; one that belongs to none is of each. */
+function isOfPlace({ process = narrowed.process, thread = narrowed.thread }) {
+  return (narrowed.process === null || process === narrowed.process) && (narrowed.thread === null || thread === narrowed.thread);
+}
+
+function isNarrowedTo(row) {
+  return isOfPlace(row) && isNamed(row.name);
+}
+
+function narrow() {
+  const words = byId("words").value.toLowerCase().split(/\s+/).filter((word) => word !== "" && word !== "-");
+  narrowed.wanted = words.filter((word) => !word.startsWith("-"));
+  narrowed.unwanted = words.filter((word) => word.startsWith("-")).map((word) => word.slice(1));
+  showRows();
+  graphs.show();
+  graphs.mark(narrowed.wanted.length > 0 ? isNamed : null);
+}
+
+function fillChoice(select, all, items) {
+  const options = items.map((item) => element("option", { value: item.at }, cut(item.label, 80)));
+  select.replaceChildren(element("option", { value: "" }, all), ...options);
+}
+
+function choose(what, items) {
+  narrowed[what] = items[byId(what).value] ?? null;
+  narrow();
+}
+
+function chooseProcess() {
+  narrowed.thread = null;
+  choose("process", report.processes);
+  fillChoice(byId("thread"), "all threads", report.threads.filter((thread) => isOfPlace({ process: thread.process })));
+}
+
+// The tables
+
+const processColumn = listedColumn("process", (row) => row.process);
+const threadColumn = listedColumn("thread", (row) => row.thread);
+const plainName = nameColumn((row) => row.name);
+const total = numberColumn("total, \u00b5s", (row) => row.total);
+const open = numberColumn("open", (row) => row.open);
+const id = textColumn("id", (row) => row.id);
+const category = textColumn("category", (row) => row.category);
+
+function namesTable() {
+  const mostSelf = greatest(report.spans.map((span) => span.self));
+  const self = numberColumn("self, \u00b5s", (span) => span.self, { bar: (span) => fraction(span.self, mostSelf) });
+  const share = numberColumn("of busy", (span) => span.self, { fill: (span) => shareText(span.self, span.thread.busy) });
+  const count = numberColumn("count", (span) => span.count);
+  const span = nameColumn((row) => row.name, { fill: graphButton });
+  const table = new Table("names", [self, share, total, count, processColumn, threadColumn, span], [
+    { title: "self", value: self.value, text: timeText },
+    { title: "count", value: count.value, text: grouped },
+  ]);
+  return { table, rows: report.spans, home: byId("names") };
+}
+
+/** The name of a row, which opens the flame graph of its thread where the name is. */
+function graphButton(row) {
+  const button = element("button", { type: "button", className: "name", onclick: () => graphs.find(row) }, nameElement(row.name));
+  button.disabled = data.stacks[row.thread.at].length === 0;
+  return button;
+}
+
+function otherTable(title, rows, columns) {
+  const table = new Table(title.toLowerCase(), columns);
+  const home = element("details", {}, element("summary", {}, `${title} (${grouped(rows.length)})`), table.element);
+  return { table, rows, home };
+}
+
+function otherTables() {
+  const counts = (...names) => names.map((title) => numberColumn(title, (row) => row[title]));
+  return [
+    otherTable("Async spans", report.asyncs, [
+      total, ...counts("closed"), open, ...counts("points"), category, textColumn("scope", (row) => row.scope), id, plainName]),
+    otherTable("Flows", report.flows, [total, ...counts("ended"), open, category, id, plainName]),
+    otherTable("Counters", report.counters, [
+      ...counts("samples", "least", "greatest", "last"), processColumn, id, plainName, textColumn("series", (row) => row.series)]),
+    otherTable("Instants", report.instants, [
+      ...counts("count"), processColumn, threadColumn, textColumn("reach", (row) => row.reach), plainName]),
+  ].filter(({ rows }) => rows.length > 0);
+}
+
+function showRows() {
+  for (const { table, rows } of tables) table.show(rows.filter(isNarrowedTo), rows);
+  narrowed.threads = new Set(tables[0].table.rows.map((row) => row.thread));
+}
+
+// The flame graphs, of which the busiest threads' are listed, in the order of the report
+
+class Graphs {
+  constructor() {
+    this.threads = report.threads.filter((thread) => data.stacks[thread.at].length > 0);
+    this.mostBusy = greatest(this.threads.map((thread) => thread.busy));
+    Object.assign(this, { sections: new Map(), graphs: new Map(), most: FIRST_GRAPHS, marks: null, sought: null });
+    byId("more-graphs").onclick = () => this.show(this.most + MORE_GRAPHS);
+    byId("order").onchange = () => this.graphs.forEach((graph) => graph.order(this.isWidestFirst));
+  }
+
+  get isWidestFirst() {
+    return byId("order").value === "widest";
+  }
+
+  show(most = FIRST_GRAPHS) {
+    this.most = most;
+    const threads = this.threads.filter((thread) => narrowed.threads.has(thread));
+    const busiest = threads.toSorted((one, other) => compare(other.busy, one.busy)).slice(0, most);
+    const listed = threads.filter(isAmong(busiest, this.sought));
+    byId("graphs").replaceChildren(...listed.map((thread) => this.sectionOf(thread)));
+    byId("more-graphs").hidden = listed.length === threads.length;
+    byId("graphs-shown").textContent = this.told(listed.length, threads.length);
+    return busiest;
+  }
+
+  told(listed, narrowedTo) {
+    const all = this.threads.length;
+    const idle = report.threads.length - all;
+    return `${grouped(listed)} of ${grouped(narrowedTo)} threads shown`
+      + (narrowedTo < all ? `, narrowed from ${grouped(all)}` : "")
+      + (idle > 0 ? `; in ${grouped(idle)} more no span covers a microsecond` : "");
+  }
+
+  sectionOf(thread) {
+    if (!this.sections.has(thread)) this.sections.set(thread, this.makeSection(thread));
+    return this.sections.get(thread);
+  }
+
+  makeSection(thread) {
+    const numbers = element("span", { className: "busy" }, `busy ${timeText(thread.busy)}`);
+    setBar(numbers, fraction(thread.busy, this.mostBusy));
+    const open = thread.open > 0n ? `, ${grouped(thread.open)} open` : "";
+    const summary = element("summary", {}, numbers, "thread ", nameElement(thread.label), " of process ",
+      nameElement(thread.process.label), element("span", { className: "hint" }, open));
+    return element("details", { ontoggle: () => this.graphOf(thread) }, summary);
+  }
+
+  graphOf(thread) {
+    if (!this.graphs.has(thread)) {
+      const graph = new Graph(thread, data.stacks[thread.at], this.isWidestFirst);
+      this.graphs.set(thread, graph);
+      this.sectionOf(thread).append(graph.element);
+      graph.mark(this.marks);
+    }
+    return this.graphs.get(thread);
+  }
+
+  mark(marks) {
+    this.marks = marks;
+    this.graphs.forEach((graph) => graph.mark(marks));
+  }
+
+  /** Opens the graph of a row's thread, with the row's name marked. */
+  find({ thread, name }) {
+    const section = this.sectionOf(thread);
+    this.sought = thread;
+    if (!section.isConnected) this.show(this.most);
+    section.open = true;
+    const graph = this.graphOf(thread);
+    graph.mark((other) => other === name);
+    graph.view.focus({ preventScroll: true });
+    section.scrollIntoView({ block: "start" });
+  }
+}
+
+/** Whether a thread is one of some, or is the one that is sought. */
+function isAmong(threads, sought) {
+  const among = new Set([...threads, sought]);
+  return (thread) => among.has(thread);
+}
+function showWarnings() {
+  const found = warnings();
+  byId("warnings").replaceChildren(...found);
+  byId("warnings").hidden = found.length === 0;
+}
+
+const tables = [namesTable(), ...otherTables()];
+const graphs = new Graphs();
+
+function start() {
+  showCounts();
+  showWarnings();
+  byId("names").replaceChildren(tables[0].table.element);
+  byId("others").replaceChildren(...tables.slice(1).map(({ home }) => home));
+  byId("words").addEventListener("input", narrow);
+  byId("process").addEventListener("change", chooseProcess);
+  byId("thread").addEventListener("change", () => choose("thread", report.threads));
+  fillChoice(byId("process"), "all processes", report.processes);
+  fillChoice(byId("thread"), "all threads", report.threads);
+  showRows();
+  const [busiest] = graphs.show();
+  if (busiest) graphs.sectionOf(busiest).open = true;
+  document.querySelector("main").ariaBusy = "false";
+  performance.mark("ready");
+}
+
+start();

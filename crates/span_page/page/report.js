@@ -1,0 +1,141 @@
+// Reads the text of a report and that of refusals, and writes numbers and names for people. Times and counts are BigInts, since
+// they may need more digits than a number has.
+
+/** Where the JSON text ends that begins at a place of a line. */
+function endOfText(line, start) {
+  let at = start + 1;
+  while (line[at] !== '"') at += line[at] === "\\" ? 2 : 1;
+  return at + 1;
+}
+
+/** Where the word ends that begins at a place of a line. Blanks within a JSON text are its own. */
+function endOfWord(line, start) {
+  let at = start;
+  while (at < line.length && line[at] !== " ") at = line[at] === '"' ? endOfText(line, at) : at + 1;
+  return at;
+}
+
+function wordsOf(line) {
+  const words = [];
+  let at = 0;
+  while (at < line.length) {
+    const end = endOfWord(line, at);
+    if (end > at) words.push(line.slice(at, end));
+    at = end + 1;
+  }
+  return words;
+}
+
+/** The name of a process or thread, or null where it has none. */
+function nameOf(word) {
+  return word === "-" ? null : JSON.parse(word);
+}
+
+/** An id as it is shown: a local one with its process. */
+function idOf(word) {
+  const quote = word.indexOf('"');
+  if (quote < 0) return "-";
+  const text = shown(JSON.parse(word.slice(quote)));
+  return quote === 0 ? text : `${text} (process ${word.slice(0, quote - 1)})`;
+}
+
+/** A number with its name, if it has one, as it stands in tables and choices. */
+function labelOf(number, name) {
+  return name === null ? number : `${shown(name)} (${number})`;
+}
+
+/** How each line of a report is read, by its first word; a line stands under the process and the thread that were read last. */
+const READERS = {
+  events: (report, words) => report.counts.push(...pairsOf(words)),
+  seals: (report, words) => report.counts.push(...pairsOf(words)),
+  process: (report, [, number, name]) => report.processes.push({
+    number, at: report.processes.length, label: labelOf(number, nameOf(name)) }),
+  thread: (report, [, , number, name, , open, , busy]) => report.threads.push({
+    number, at: report.threads.length, label: labelOf(number, nameOf(name)),
+    process: report.processes.at(-1), open: BigInt(open), busy: BigInt(busy) }),
+  span: (report, [, count, total, self, name]) => report.spans.push({
+    ...standsUnder(report), name: JSON.parse(name), count: BigInt(count), total: BigInt(total), self: BigInt(self) }),
+  instant: (report, [, reach, count, name]) => report.instants.push({
+    ...standsUnder(report), name: JSON.parse(name), reach: REACHES[reach], count: BigInt(count) }),
+  counter: (report, [, , name, id, series, , samples, , least, , greatest, , last]) => report.counters.push({
+    process: report.processes.at(-1), name: JSON.parse(name), id: idOf(id), series: JSON.parse(series),
+    samples: BigInt(samples), least: BigInt(least), greatest: BigInt(greatest), last: BigInt(last) }),
+  async: (report, [, category, scope, id, name, , closed, , total, , open, , points]) => report.asyncs.push({
+    category: JSON.parse(category), scope: JSON.parse(scope), id: idOf(id), name: JSON.parse(name),
+    closed: BigInt(closed), total: BigInt(total), open: BigInt(open), points: BigInt(points) }),
+  flow: (report, [, category, name, id, , ended, , total, , open]) => report.flows.push({
+    category: JSON.parse(category), name: JSON.parse(name), id: idOf(id),
+    ended: BigInt(ended), total: BigInt(total), open: BigInt(open) }),
+};
+
+const REACHES = { g: "global", p: "process", t: "thread" };
+
+/** The words of a line of counts, two by two. */
+function pairsOf(words) {
+  return words.flatMap((word, at) => (at % 2 === 0 ? [[word, BigInt(words[at + 1])]] : []));
+}
+
+function standsUnder(report) {
+  return { process: report.processes.at(-1), thread: report.threads.at(-1) };
+}
+
+function readReport(text) {
+  const report = { counts: [], processes: [], threads: [], spans: [], instants: [], counters: [], asyncs: [], flows: [] };
+  for (const line of text.split("\n").slice(1, -1)) {
+    const words = wordsOf(line);
+    READERS[words[0]](report, words);
+  }
+  return report;
+}
+
+/** The lines that say why events of a file were refused. */
+function readRefusals(text) {
+  const lines = text.split("\n").map(wordsOf).filter(([word]) => word === "refused");
+  return lines.map(([, count, code, word, , first, file]) => ({
+    count: BigInt(count), code, word, first: BigInt(first), file: JSON.parse(file) }));
+}
+
+/** A number with its digits in groups of three. */
+function grouped(number) {
+  return number.toString().replace(/\B(?=(\d{3})+$)/g, ",");
+}
+
+const UNITS = [["d", 86400000000n], ["h", 3600000000n], ["min", 60000000n], ["s", 1000000n], ["ms", 1000n]];
+
+/** Microseconds, and beside them three digits in the unit that suits them. */
+function timeText(time) {
+  const exact = `${grouped(time)} \u00b5s`;
+  const [unit, length] = UNITS.find(([, least]) => time >= least) ?? [];
+  if (unit === undefined) return exact;
+  const places = time >= 100n * length ? 0 : time >= 10n * length ? 1 : 2;
+  const rounded = (2n * time * 10n ** BigInt(places) + length) / (2n * length);
+  const digits = rounded.toString();
+  const whole = grouped(digits.slice(0, digits.length - places));
+  return `${exact} (${whole}${places > 0 ? "." : ""}${digits.slice(digits.length - places)} ${unit})`;
+}
+
+/** How many hundredths a part is of a whole, to one place. */
+function shareText(part, whole) {
+  if (whole === 0n) return "";
+  const tenths = (2000n * part + whole) / (2n * whole);
+  return part > 0n && tenths === 0n ? "< 0.1 %" : `${grouped(tenths / 10n)}.${tenths % 10n} %`;
+}
+
+/** A part of a whole as a fraction, for what is drawn. */
+function fraction(part, whole) {
+  return whole === 0n ? 0 : Number(part) / Number(whole);
+}
+
+const UNSEEN = /[\u0000-\u001f\u007f-\u009f\u00ad\u061c\u180e\u200b\u200e\u200f\u2028-\u202e\u2060-\u206f\ufeff\ufff9-\ufffb]/g;
+
+/** A name with what would not be seen, or would turn the text around it, as escapes. */
+function shown(name) {
+  return name === "" ? '""' : name.replace(UNSEEN, (letter) => "\\u" + letter.charCodeAt(0).toString(16).padStart(4, "0"));
+}
+
+/** The beginning of a text with an ellipsis where it is longer; a letter of two code units stays whole. */
+function cut(text, most) {
+  if (text.length <= most) return text;
+  const isHalf = /[\ud800-\udbff]/.test(text[most - 2] ?? "");
+  return text.slice(0, Math.max(0, most - (isHalf ? 2 : 1))) + "\u2026";
+}

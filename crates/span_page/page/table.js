@@ -1,0 +1,107 @@
+// Tables that are sorted by a click on a column, and show a bounded number of rows.
+
+const FIRST_ROWS = 20;
+const MORE_ROWS = 200;
+const LONGEST_NAME = 400;
+const LONGEST_TITLE = 4000;
+
+function element(tag, properties = {}, ...children) {
+  const made = Object.assign(document.createElement(tag), properties);
+  made.append(...children);
+  return made;
+}
+
+/** A name as an element that keeps the direction of its letters to itself. */
+function nameElement(name) {
+  const text = shown(name);
+  return element("bdi", { title: cut(text, LONGEST_TITLE) }, cut(text, LONGEST_NAME));
+}
+
+/** Draws a bar behind what an element says, as wide as a fraction of it. */
+function setBar(element, width) {
+  element.classList.add("barred");
+  element.style.setProperty("--bar", `${100 * width}%`);
+}
+
+function compare(one, other) {
+  return one < other ? -1 : one > other ? 1 : 0;
+}
+
+// The kinds of columns: `value` orders the rows, `fill` makes what stands in a cell. Processes and threads keep the report's order.
+
+const numberColumn = (title, value, more) => ({ title, value, kind: "number", fill: (row) => grouped(value(row)), ...more });
+const textColumn = (title, value) => ({ title, value, fill: (row) => nameElement(value(row)) });
+const nameColumn = (value, more) => ({ ...textColumn("name", value), kind: "name", ...more });
+const listedColumn = (title, value) => ({ title, value: (row) => value(row).at, fill: (row) => nameElement(value(row).label) });
+
+class Table {
+  /** `what` is what the rows are, as "names"; `sums` are the columns whose sums are told. The greatest of the first column lead. */
+  constructor(what, columns, sums = []) {
+    Object.assign(this, { what, columns, sums, given: [], rows: [], all: 0, sorted: columns[0], isDescending: true });
+    this.status = element("p", { className: "status", role: "status" });
+    this.head = element("tr", {}, ...columns.map((column) => this.headOf(column)));
+    this.body = element("tbody");
+    this.more = element("button", { type: "button", onclick: () => this.showMore() });
+    const table = element("table", { ariaLabel: what }, element("thead", {}, this.head), this.body);
+    this.element = element("div", { className: "table" }, this.status, element("div", { className: "wide" }, table), this.more);
+  }
+
+  headOf(column) {
+    const button = element("button", { type: "button", onclick: () => this.sortBy(column) }, column.title);
+    return element("th", { scope: "col", ariaSort: "none", className: column.kind ?? "" }, button);
+  }
+
+  /** Shows these of all rows, in the order that was chosen; where that leaves a choice, in the order in which they are given. */
+  show(rows, all = rows) {
+    this.given = rows;
+    this.all = all.length;
+    this.sort();
+  }
+
+  sortBy(column) {
+    this.isDescending = this.sorted === column ? !this.isDescending : column.kind === "number";
+    this.sorted = column;
+    this.sort();
+  }
+
+  sort() {
+    const { sorted, isDescending } = this;
+    this.rows = this.given.toSorted((one, other) => (isDescending ? -1 : 1) * compare(sorted.value(one), sorted.value(other)));
+    this.columns.forEach((column, at) => {
+      this.head.cells[at].ariaSort = column !== sorted ? "none" : isDescending ? "descending" : "ascending";
+    });
+    this.body.replaceChildren();
+    this.showRows(FIRST_ROWS);
+  }
+
+  showMore() {
+    const next = this.body.rows.length;
+    this.showRows(MORE_ROWS);
+    if (this.more.hidden) this.body.rows[next].querySelector("button")?.focus();
+  }
+
+  showRows(count) {
+    const seen = this.body.rows.length;
+    this.body.append(...this.rows.slice(seen, seen + count).map((row) => this.rowOf(row)));
+    this.more.hidden = this.body.rows.length === this.rows.length;
+    this.more.textContent = `Show ${Math.min(MORE_ROWS, this.rows.length - this.body.rows.length)} more`;
+    this.tell();
+  }
+
+  rowOf(row) {
+    return element("tr", {}, ...this.columns.map((column) => {
+      const cell = element("td", { className: column.kind ?? "" }, column.fill(row));
+      if (column.bar) setBar(cell, column.bar(row));
+      return cell;
+    }));
+  }
+
+  /** Tells how many rows are shown, and the sums of all that are narrowed to, shown or not. */
+  tell() {
+    const narrowed = this.rows.length < this.all ? `, narrowed from ${grouped(this.all)}` : "";
+    const sums = this.sums.map(({ title, value, text }) =>
+      `; sum of ${title} ${text(this.rows.reduce((sum, row) => sum + value(row), 0n))}`);
+    this.status.textContent =
+      `${grouped(this.body.rows.length)} of ${grouped(this.rows.length)} ${this.what} shown${narrowed}${sums.join("")}`;
+  }
+}

@@ -1,0 +1,3 @@
+pub mod Coding
+pub mod Joined
+pub mod SafeTexts

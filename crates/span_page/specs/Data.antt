@@ -1,0 +1,53 @@
+-- The data of a page, as a JSON text.
+use Rattle.std.specs.Prelude.{ℕ, List, [], ◌∷◌, ◌++◌, map, flat_map, codes, decimal}
+use Rattle.std.specs.List.{join_with_byte}
+use Rattle.span_event.specs.declared.thread.Thread.{Thread}
+use Rattle.span_ledger.specs.declared.entry.Entry.{Entry}
+use Rattle.span_ledger.specs.Parts.{ProcessRows, ThreadRows, process_parts}
+use Rattle.span_report.specs.Lines.{json_text_of}
+use Rattle.span_report.specs.Report.{report_of}
+use Rattle.span_stacks.specs.Folded.{thread_stacks}
+use Rattle.span_stacks.specs.Stacks.{Folded}
+use Rattle.span_collect.specs.declared.files.FileEnd.{FileEnd}
+use Rattle.span_collect.specs.declared.files.Input.{Input}
+use Rattle.span_refusals.specs.Text.{refusals_of}
+use Rattle.span_page.specs.Coded.{Coded, coded_after}
+
+-- texts of JSON as an array
+abbrev pub array_of : List (List ℕ) → List ℕ
+array_of texts = 91 ∷ (join_with_byte 44 texts ++ 93 ∷ [])
+
+-- digits as a JSON text
+abbrev pub in_quotes : List ℕ → List ℕ
+in_quotes digits = 34 ∷ (digits ++ 34 ∷ [])
+
+-- a stack: how many frames it has from the one before it, its others, and its time as a text
+unfoldable pub stack_json : Coded → List ℕ
+stack_json c = array_of (decimal c.shared ∷ array_of (map json_text_of c.others) ∷ in_quotes (decimal c.time) ∷ [])
+
+-- the stacks of a thread
+unfoldable pub stacks_json : List Folded → List ℕ
+stacks_json stacks = array_of (map stack_json (coded_after [] stacks))
+
+-- the threads of a process
+abbrev pub threads_in : ProcessRows → List Thread
+threads_in process = map (λ (part : ThreadRows). record { pid = part.row.pid; tid = part.row.tid }) process.threads
+
+-- the threads of the report, in its order
+abbrev pub threads_of : List ProcessRows → List Thread
+threads_of parts = flat_map threads_in parts
+
+-- the stacks of a thread of a journal
+abbrev pub thread_json : List Entry → Thread → List ℕ
+thread_json journal thread = stacks_json (thread_stacks journal thread)
+
+-- the stacks of each thread of a journal
+unfoldable pub all_stacks_json : List Entry → List ℕ
+all_stacks_json journal = array_of (map (thread_json journal) (threads_of (process_parts journal)))
+
+-- the text of the report, that of the refusals, and the stacks of each thread
+abbrev pub data_of : List Input → List FileEnd → List Entry → List ℕ
+data_of files ends journal =
+    codes "{\"report\":" ++ (json_text_of (report_of journal)
+    ++ (codes ",\"refused\":" ++ (json_text_of (refusals_of files ends journal)
+    ++ (codes ",\"stacks\":" ++ (all_stacks_json journal ++ codes "}")))))

@@ -1,0 +1,17 @@
+-- The facts that hold of every page.
+use Rattle.std.specs.Prelude.{◌≡◌, nat_eq, false, List, [], All}
+use Rattle.span_ledger.specs.declared.entry.Entry.{Entry}
+use Rattle.span_collect.specs.declared.files.FileEnd.{FileEnd}
+use Rattle.span_collect.specs.declared.files.Input.{Input}
+use Rattle.span_stacks.specs.Stacks.{Folded}
+use Rattle.span_page.specs.Coded.{coded_after, decoded_after}
+use Rattle.span_page.specs.Data.{data_of}
+use Rattle.span_page.specs.Safe.{safe}
+
+-- no byte of the data is `<`, so that nothing in them ends the element in which they stand
+abbrev pub DataEndNoElement : Type 0
+DataEndNoElement = (files : List Input) (ends : List FileEnd) (journal : List Entry) → All (λ byte. nat_eq byte 60 ≡ false) (safe (data_of files ends journal))
+
+-- the stacks that were coded are had back
+abbrev pub StacksAreHadBack : Type 0
+StacksAreHadBack = (stacks : List Folded) → decoded_after [] (coded_after [] stacks) ≡ stacks

@@ -1,0 +1,5 @@
+pub mod Coded
+pub mod Data
+pub mod Laws
+pub mod Page
+pub mod Safe

@@ -1,0 +1,19 @@
+-- A page for a browser.
+use Rattle.std.specs.Prelude.{ℕ, List, ◌++◌}
+use Rattle.span_ledger.specs.declared.entry.Entry.{Entry}
+use Rattle.span_collect.specs.declared.files.FileEnd.{FileEnd}
+use Rattle.span_collect.specs.declared.files.Input.{Input}
+use Rattle.span_page.specs.declared.fixed.TheConstants.{HEAD, TAIL}
+use Rattle.span_page.specs.Data.{data_of}
+use Rattle.span_page.specs.Safe.{safe}
+
+-- the fixed texts, which are too long for a proof to look into
+unfoldable pub head_text : List ℕ
+head_text = HEAD.now
+
+unfoldable pub tail_text : List ℕ
+tail_text = TAIL.now
+
+-- a fixed head, the data, and a fixed tail
+unfoldable pub page_of : List Input → List FileEnd → List Entry → List ℕ
+page_of files ends journal = head_text ++ (safe (data_of files ends journal) ++ tail_text)

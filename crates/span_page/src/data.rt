@@ -1,0 +1,114 @@
+//! The data of a page.
+ghost use Rattle.std.specs.Prelude.{◌≡◌, ◌++◌, ◌∷◌, flat_map, length, map, string_bytes, IfOk, OnOk};
+ghost use Rattle.std.specs.List.{join_with_byte};
+ghost use Rattle.span_report.specs.Lines.{json_text_of};
+ghost use Rattle.span_page.specs.Data.{all_stacks_json, data_of, thread_json, threads_in, threads_of};
+
+use crate::stacks::put_stacks;
+use serde_json::Value;
+use span_collect::{FileEnd, Input};
+use span_event::Thread;
+use span_ledger::{Ledger, ProcessPart};
+use span_refusals::refusals_text;
+use span_report::report_text;
+use span_stacks::thread_stacks;
+use std::alloc::{AllocError, Global};
+
+// The report and the refusals as they are printed, and the folded stacks of each thread.
+pub(crate) fn data_text(
+    alloc: Global,
+    ledger: &Ledger,
+    files: &[Input],
+    ends: &[FileEnd],
+) -> Result<String, AllocError>
+    requires { length files.now ≡ length ends.now }
+    ensures { IfOk result (λ text. string_bytes text ≡ data_of files.now ends.now ledger.now.journal) }
+{
+    let report = report_text(alloc, ledger)?;
+    let refusals = refusals_text(alloc, ledger, files, ends)?;
+    let mut out = String::new(alloc);
+    out.push_str("{\"report\":")?;
+    put_string(alloc, &mut out, report.as_str())?;
+    out.push_str(",\"refused\":")?;
+    put_string(alloc, &mut out, refusals.as_str())?;
+    out.push_str(",\"stacks\":")?;
+    put_all_stacks(alloc, &mut out, ledger)?;
+    out.push('}')?;
+    Ok(out)
+}
+
+// Appends the stacks of each thread.
+#[tactic(auto, unfolding(crate::specs::Data::all_stacks_json), using(std::proofs::Common::append_assoc))]
+fn put_all_stacks(alloc: Global, out: &mut String, ledger: &Ledger) -> Result<(), AllocError>
+    ensures { OnOk result (string_bytes out.new ≡ string_bytes out.old ++ all_stacks_json ledger.now.journal) }
+{
+    let threads = threads_of(alloc, &ledger.parts(alloc)?)?;
+    out.push('[')?;
+    put_threads(alloc, out, ledger, &threads)?;
+    out.push(']')
+}
+
+// Appends the text as a JSON text.
+#[tactic(auto, unfolding(span_report::specs::Lines::json_text_of))]
+pub(crate) fn put_string(alloc: Global, out: &mut String, text: &str) -> Result<(), AllocError>
+    ensures { OnOk result (string_bytes out.new ≡ string_bytes out.old ++ json_text_of text.now) }
+{
+    let json = Value::try_from_str(alloc, text)?.to_string(alloc)?;
+    out.push_str(json.as_str())
+}
+
+// The threads of the report, in its order.
+fn threads_of(alloc: Global, parts: &[ProcessPart]) -> Result<Vec<Thread>, AllocError>
+    ensures { IfOk result (λ threads. threads.items ≡ threads_of parts.now) }
+{
+    let mut threads = Vec::new(alloc);
+    for process in parts {
+        put_threads_in(&mut threads, process)?;
+    }
+    Ok(threads)
+}
+
+fn put_threads_in(threads: &mut Vec<Thread>, process: &ProcessPart) -> Result<(), AllocError>
+    ensures { OnOk result (threads.new.items ≡ threads.old.items ++ threads_in process.now) }
+{
+    for part in &process.threads {
+        threads.push(Thread {
+            pid: part.row.pid,
+            tid: part.row.tid,
+        })?;
+    }
+    Ok(())
+}
+
+// Appends the stacks of each thread, parted by commas.
+fn put_threads(
+    alloc: Global,
+    out: &mut String,
+    ledger: &Ledger,
+    threads: &[Thread],
+) -> Result<(), AllocError>
+    ensures { OnOk result (string_bytes out.new
+        ≡ string_bytes out.old ++ join_with_byte 44 (map (thread_json ledger.now.journal) threads.now)) }
+{
+    let Some((first, later)) = threads.split_first() else {
+        return Ok(());
+    };
+    put_thread(alloc, out, ledger, first)?;
+    for thread in later {
+        out.push(',')?;
+        put_thread(alloc, out, ledger, thread)?;
+    }
+    Ok(())
+}
+
+fn put_thread(
+    alloc: Global,
+    out: &mut String,
+    ledger: &Ledger,
+    thread: &Thread,
+) -> Result<(), AllocError>
+    ensures { OnOk result (string_bytes out.new ≡ string_bytes out.old ++ thread_json ledger.now.journal thread.now) }
+{
+    let stacks = thread_stacks(alloc, ledger, thread.pid, thread.tid)?;
+    put_stacks(alloc, out, &stacks)
+}

@@ -1,0 +1,932 @@
+//! The fixed texts before and behind a page's data. Made by `page/join` of the sources beside it.
+
+pub(crate) const HEAD: &str = r#"<!DOCTYPE html>
+<html lang="en">
+<head>
+<meta charset="utf-8">
+<meta http-equiv="Content-Security-Policy" content="default-src 'none'; script-src 'sha256-nQ24t0K/dCxLE7NWN/ZonsPb1GOtnCwsSTs/fqmU2SE='; style-src 'sha256-8ywDFo4ITRHkT+V0CvoLSE8RxRw9nl4p9UZk/+NlwFM='; base-uri 'none'; form-action 'none'">
+<meta name="viewport" content="width=device-width, initial-scale=1">
+<meta name="color-scheme" content="light dark">
+<title>tracebook</title>
+<style>
+:root {
+  color-scheme: light dark;
+  --text: #1c2024; --quiet: #596169; --paper: #ffffff; --ground: #e6e9ec; --line: #d3d8dd;
+  --bar-color: #f3c9a0; --link: #0b57a4; --warning: #fff3d6; --warning-line: #b76e00; --lightness: 80%; --focus: #0a3f8f;
+}
+@media (prefers-color-scheme: dark) {
+  :root {
+    --text: #e7eaee; --quiet: #a3acb6; --paper: #15181c; --ground: #30363d; --line: #3a4149;
+    --bar-color: #6b4420; --link: #8fc1ff; --warning: #3a2c10; --warning-line: #e0a03a; --lightness: 25%; --focus: #ffffff;
+  }
+}
+html { scroll-padding-top: 4rem; }
+* { box-sizing: border-box; }
+body { margin: 0 auto; max-width: 1500px; padding: 0 1.25rem 3rem; background: var(--paper); color: var(--text);
+  font: 14px/1.45 system-ui, "Segoe UI", "Liberation Sans", "DejaVu Sans", sans-serif; }
+header { display: flex; flex-wrap: wrap; align-items: baseline; gap: 0 1.5rem; padding-top: 1rem; }
+h1 { font-size: 1.3rem; margin: 0; }
+h2 { font-size: 1.1rem; margin: 1.5rem 0 0.25rem; }
+p { margin: 0.25rem 0; }
+#counts { display: flex; flex-wrap: wrap; gap: 0 1.1rem; color: var(--quiet); }
+#counts b { color: var(--text); font-variant-numeric: tabular-nums; }
+.warning { margin: 0.75rem 0; padding: 0.5rem 0.9rem; background: var(--warning); border-left: 4px solid var(--warning-line); }
+.warning ul { margin: 0.25rem 0; padding-left: 1.2rem; }
+#narrowing { position: sticky; top: 0; z-index: 2; display: flex; flex-wrap: wrap; align-items: baseline; gap: 0.4rem 1.2rem;
+  padding: 0.6rem 0; background: var(--paper); border-bottom: 1px solid var(--line); }
+input, select, button { font: inherit; color: inherit; background: var(--paper); border: 1px solid var(--line); border-radius: 4px;
+  padding: 0.15rem 0.5rem; }
+input { width: 21rem; max-width: 100%; }
+select { max-width: 22rem; }
+button { cursor: pointer; }
+button:disabled { cursor: default; color: var(--quiet); }
+:focus-visible { outline: 2px solid var(--focus); outline-offset: 1px; }
+.status, .hint { color: var(--quiet); }
+.status:empty { display: none; }
+.wide { overflow-x: auto; margin: 0.25rem 0; }
+table { border-collapse: collapse; width: 100%; }
+th, td { padding: 0.15rem 0.7rem; text-align: left; vertical-align: top; border-bottom: 1px solid var(--line); white-space: nowrap;
+  line-height: 1.35; }
+th { padding: 0.1rem 0.2rem; }
+th button { border: 0; width: 100%; font-weight: 600; text-align: inherit; }
+th[aria-sort="descending"] button::after { content: " \25BE"; }
+th[aria-sort="ascending"] button::after { content: " \25B4"; }
+.number { text-align: right; font-variant-numeric: tabular-nums; }
+td.number { min-width: 5.5rem; }
+td.barred { min-width: 11rem; }
+.barred { background: linear-gradient(var(--bar-color), var(--bar-color)) left / var(--bar) 100% no-repeat; }
+td { max-width: 22rem; overflow: hidden; text-overflow: ellipsis; }
+td.name { width: 99%; min-width: 18rem; max-width: 40rem; white-space: normal; overflow-wrap: anywhere; }
+td.name bdi { display: -webkit-box; -webkit-box-orient: vertical; -webkit-line-clamp: 3; overflow: hidden; }
+button.name { border: 0; padding: 0; line-height: inherit; vertical-align: top; background: none; text-align: left; color: var(--link); }
+button.name:disabled { color: inherit; }
+button.name:hover:enabled { text-decoration: underline; }
+details { margin: 0.35rem 0; }
+summary { padding: 0.2rem 0.3rem; cursor: pointer; overflow: hidden; text-overflow: ellipsis; }
+#graphs > details, #others > details { border: 1px solid var(--line); border-radius: 6px; padding: 0.2rem 0.6rem; }
+.busy { display: inline-block; min-width: 17rem; margin-right: 0.8rem; padding: 0 0.4rem; font-variant-numeric: tabular-nums; }
+.graph { padding: 0.3rem 0 0.4rem; }
+.steps { display: flex; gap: 0.5rem; align-items: start; min-height: 3rem; }
+.steps button { white-space: nowrap; }
+.told { flex: 1; min-width: 0; margin: 0; font-variant-numeric: tabular-nums; }
+.told bdi { display: block; font-weight: 600; white-space: nowrap; overflow: hidden; text-overflow: ellipsis; }
+.view { overflow-x: hidden; overflow-y: auto; }
+.spacer { position: relative; }
+canvas { position: sticky; top: 0; display: block; width: 100%; }
+.unseen { position: absolute; width: 1px; height: 1px; overflow: hidden; clip-path: inset(50%); white-space: nowrap; }
+</style>
+</head>
+<body>
+<header>
+<h1>tracebook</h1>
+<p id="counts"></p>
+</header>
+<main aria-busy="true">
+<noscript><p class="warning">This page shows its numbers with a script, and scripts are off.</p></noscript>
+<section id="warnings" aria-label="Warnings" hidden></section>
+<div id="narrowing" role="search">
+<label>Name <input id="words" type="search" spellcheck="false" autocomplete="off" placeholder="words, or -word to leave out"></label>
+<label>Process <select id="process"></select></label>
+<label>Thread <select id="thread"></select></label>
+</div>
+<section aria-labelledby="names-title">
+<h2 id="names-title">Names</h2>
+<p class="hint">Times are whole microseconds. A click on a column sorts; a click on a name marks it in its thread's flame graph.</p>
+<div id="names"></div>
+</section>
+<section aria-labelledby="graphs-title">
+<h2 id="graphs-title">Flame graphs</h2>
+<p class="hint"><label>Order
+<select id="order"><option value="widest">widest first</option><option value="name">by name</option></select></label>
+A click or Enter zooms into a frame, Escape or Backspace goes back, arrow keys move.</p>
+<div id="graphs"></div>
+<p id="graphs-shown" class="status" role="status"></p>
+<button id="more-graphs" type="button" hidden>Show more threads</button>
+</section>
+<div id="others"></div>
+</main>
+<script type="application/json" id="data">"#;
+
+pub(crate) const TAIL: &str = r#"</script>
+<script type="module">
+// Reads the text of a report and that of refusals, and writes numbers and names for people. Times and counts are BigInts, since
+// they may need more digits than a number has.
+
+/** Where the JSON text ends that begins at a place of a line. */
+function endOfText(line, start) {
+  let at = start + 1;
+  while (line[at] !== '"') at += line[at] === "\\" ? 2 : 1;
+  return at + 1;
+}
+
+/** Where the word ends that begins at a place of a line. Blanks within a JSON text are its own. */
+function endOfWord(line, start) {
+  let at = start;
+  while (at < line.length && line[at] !== " ") at = line[at] === '"' ? endOfText(line, at) : at + 1;
+  return at;
+}
+
+function wordsOf(line) {
+  const words = [];
+  let at = 0;
+  while (at < line.length) {
+    const end = endOfWord(line, at);
+    if (end > at) words.push(line.slice(at, end));
+    at = end + 1;
+  }
+  return words;
+}
+
+/** The name of a process or thread, or null where it has none. */
+function nameOf(word) {
+  return word === "-" ? null : JSON.parse(word);
+}
+
+/** An id as it is shown: a local one with its process. */
+function idOf(word) {
+  const quote = word.indexOf('"');
+  if (quote < 0) return "-";
+  const text = shown(JSON.parse(word.slice(quote)));
+  return quote === 0 ? text : `${text} (process ${word.slice(0, quote - 1)})`;
+}
+
+/** A number with its name, if it has one, as it stands in tables and choices. */
+function labelOf(number, name) {
+  return name === null ? number : `${shown(name)} (${number})`;
+}
+
+/** How each line of a report is read, by its first word; a line stands under the process and the thread that were read last. */
+const READERS = {
+  events: (report, words) => report.counts.push(...pairsOf(words)),
+  seals: (report, words) => report.counts.push(...pairsOf(words)),
+  process: (report, [, number, name]) => report.processes.push({
+    number, at: report.processes.length, label: labelOf(number, nameOf(name)) }),
+  thread: (report, [, , number, name, , open, , busy]) => report.threads.push({
+    number, at: report.threads.length, label: labelOf(number, nameOf(name)),
+    process: report.processes.at(-1), open: BigInt(open), busy: BigInt(busy) }),
+  span: (report, [, count, total, self, name]) => report.spans.push({
+    ...standsUnder(report), name: JSON.parse(name), count: BigInt(count), total: BigInt(total), self: BigInt(self) }),
+  instant: (report, [, reach, count, name]) => report.instants.push({
+    ...standsUnder(report), name: JSON.parse(name), reach: REACHES[reach], count: BigInt(count) }),
+  counter: (report, [, , name, id, series, , samples, , least, , greatest, , last]) => report.counters.push({
+    process: report.processes.at(-1), name: JSON.parse(name), id: idOf(id), series: JSON.parse(series),
+    samples: BigInt(samples), least: BigInt(least), greatest: BigInt(greatest), last: BigInt(last) }),
+  async: (report, [, category, scope, id, name, , closed, , total, , open, , points]) => report.asyncs.push({
+    category: JSON.parse(category), scope: JSON.parse(scope), id: idOf(id), name: JSON.parse(name),
+    closed: BigInt(closed), total: BigInt(total), open: BigInt(open), points: BigInt(points) }),
+  flow: (report, [, category, name, id, , ended, , total, , open]) => report.flows.push({
+    category: JSON.parse(category), name: JSON.parse(name), id: idOf(id),
+    ended: BigInt(ended), total: BigInt(total), open: BigInt(open) }),
+};
+
+const REACHES = { g: "global", p: "process", t: "thread" };
+
+/** The words of a line of counts, two by two. */
+function pairsOf(words) {
+  return words.flatMap((word, at) => (at % 2 === 0 ? [[word, BigInt(words[at + 1])]] : []));
+}
+
+function standsUnder(report) {
+  return { process: report.processes.at(-1), thread: report.threads.at(-1) };
+}
+
+function readReport(text) {
+  const report = { counts: [], processes: [], threads: [], spans: [], instants: [], counters: [], asyncs: [], flows: [] };
+  for (const line of text.split("\n").slice(1, -1)) {
+    const words = wordsOf(line);
+    READERS[words[0]](report, words);
+  }
+  return report;
+}
+
+/** The lines that say why events of a file were refused. */
+function readRefusals(text) {
+  const lines = text.split("\n").map(wordsOf).filter(([word]) => word === "refused");
+  return lines.map(([, count, code, word, , first, file]) => ({
+    count: BigInt(count), code, word, first: BigInt(first), file: JSON.parse(file) }));
+}
+
+/** A number with its digits in groups of three. */
+function grouped(number) {
+  return number.toString().replace(/\B(?=(\d{3})+$)/g, ",");
+}
+
+const UNITS = [["d", 86400000000n], ["h", 3600000000n], ["min", 60000000n], ["s", 1000000n], ["ms", 1000n]];
+
+/** Microseconds, and beside them three digits in the unit that suits them. */
+function timeText(time) {
+  const exact = `${grouped(time)} \u00b5s`;
+  const [unit, length] = UNITS.find(([, least]) => time >= least) ?? [];
+  if (unit === undefined) return exact;
+  const places = time >= 100n * length ? 0 : time >= 10n * length ? 1 : 2;
+  const rounded = (2n * time * 10n ** BigInt(places) + length) / (2n * length);
+  const digits = rounded.toString();
+  const whole = grouped(digits.slice(0, digits.length - places));
+  return `${exact} (${whole}${places > 0 ? "." : ""}${digits.slice(digits.length - places)} ${unit})`;
+}
+
+/** How many hundredths a part is of a whole, to one place. */
+function shareText(part, whole) {
+  if (whole === 0n) return "";
+  const tenths = (2000n * part + whole) / (2n * whole);
+  return part > 0n && tenths === 0n ? "< 0.1 %" : `${grouped(tenths / 10n)}.${tenths % 10n} %`;
+}
+
+/** A part of a whole as a fraction, for what is drawn. */
+function fraction(part, whole) {
+  return whole === 0n ? 0 : Number(part) / Number(whole);
+}
+
+const UNSEEN = /[\u0000-\u001f\u007f-\u009f\u00ad\u061c\u180e\u200b\u200e\u200f\u2028-\u202e\u2060-\u206f\ufeff\ufff9-\ufffb]/g;
+
+/** A name with what would not be seen, or would turn the text around it, as escapes. */
+function shown(name) {
+  return name === "" ? '""' : name.replace(UNSEEN, (letter) => "\\u" + letter.charCodeAt(0).toString(16).padStart(4, "0"));
+}
+
+/** The beginning of a text with an ellipsis where it is longer; a letter of two code units stays whole. */
+function cut(text, most) {
+  if (text.length <= most) return text;
+  const isHalf = /[\ud800-\udbff]/.test(text[most - 2] ?? "");
+  return text.slice(0, Math.max(0, most - (isHalf ? 2 : 1))) + "\u2026";
+}
+
+// Tables that are sorted by a click on a column, and show a bounded number of rows.
+
+const FIRST_ROWS = 20;
+const MORE_ROWS = 200;
+const LONGEST_NAME = 400;
+const LONGEST_TITLE = 4000;
+
+function element(tag, properties = {}, ...children) {
+  const made = Object.assign(document.createElement(tag), properties);
+  made.append(...children);
+  return made;
+}
+
+/** A name as an element that keeps the direction of its letters to itself. */
+function nameElement(name) {
+  const text = shown(name);
+  return element("bdi", { title: cut(text, LONGEST_TITLE) }, cut(text, LONGEST_NAME));
+}
+
+/** Draws a bar behind what an element says, as wide as a fraction of it. */
+function setBar(element, width) {
+  element.classList.add("barred");
+  element.style.setProperty("--bar", `${100 * width}%`);
+}
+
+function compare(one, other) {
+  return one < other ? -1 : one > other ? 1 : 0;
+}
+
+// The kinds of columns: `value` orders the rows, `fill` makes what stands in a cell. Processes and threads keep the report's order.
+
+const numberColumn = (title, value, more) => ({ title, value, kind: "number", fill: (row) => grouped(value(row)), ...more });
+const textColumn = (title, value) => ({ title, value, fill: (row) => nameElement(value(row)) });
+const nameColumn = (value, more) => ({ ...textColumn("name", value), kind: "name", ...more });
+const listedColumn = (title, value) => ({ title, value: (row) => value(row).at, fill: (row) => nameElement(value(row).label) });
+
+class Table {
+  /** `what` is what the rows are, as "names"; `sums` are the columns whose sums are told. The greatest of the first column lead. */
+  constructor(what, columns, sums = []) {
+    Object.assign(this, { what, columns, sums, given: [], rows: [], all: 0, sorted: columns[0], isDescending: true });
+    this.status = element("p", { className: "status", role: "status" });
+    this.head = element("tr", {}, ...columns.map((column) => this.headOf(column)));
+    this.body = element("tbody");
+    this.more = element("button", { type: "button", onclick: () => this.showMore() });
+    const table = element("table", { ariaLabel: what }, element("thead", {}, this.head), this.body);
+    this.element = element("div", { className: "table" }, this.status, element("div", { className: "wide" }, table), this.more);
+  }
+
+  headOf(column) {
+    const button = element("button", { type: "button", onclick: () => this.sortBy(column) }, column.title);
+    return element("th", { scope: "col", ariaSort: "none", className: column.kind ?? "" }, button);
+  }
+
+  /** Shows these of all rows, in the order that was chosen; where that leaves a choice, in the order in which they are given. */
+  show(rows, all = rows) {
+    this.given = rows;
+    this.all = all.length;
+    this.sort();
+  }
+
+  sortBy(column) {
+    this.isDescending = this.sorted === column ? !this.isDescending : column.kind === "number";
+    this.sorted = column;
+    this.sort();
+  }
+
+  sort() {
+    const { sorted, isDescending } = this;
+    this.rows = this.given.toSorted((one, other) => (isDescending ? -1 : 1) * compare(sorted.value(one), sorted.value(other)));
+    this.columns.forEach((column, at) => {
+      this.head.cells[at].ariaSort = column !== sorted ? "none" : isDescending ? "descending" : "ascending";
+    });
+    this.body.replaceChildren();
+    this.showRows(FIRST_ROWS);
+  }
+
+  showMore() {
+    const next = this.body.rows.length;
+    this.showRows(MORE_ROWS);
+    if (this.more.hidden) this.body.rows[next].querySelector("button")?.focus();
+  }
+
+  showRows(count) {
+    const seen = this.body.rows.length;
+    this.body.append(...this.rows.slice(seen, seen + count).map((row) => this.rowOf(row)));
+    this.more.hidden = this.body.rows.length === this.rows.length;
+    this.more.textContent = `Show ${Math.min(MORE_ROWS, this.rows.length - this.body.rows.length)} more`;
+    this.tell();
+  }
+
+  rowOf(row) {
+    return element("tr", {}, ...this.columns.map((column) => {
+      const cell = element("td", { className: column.kind ?? "" }, column.fill(row));
+      if (column.bar) setBar(cell, column.bar(row));
+      return cell;
+    }));
+  }
+
+  /** Tells how many rows are shown, and the sums of all that are narrowed to, shown or not. */
+  tell() {
+    const narrowed = this.rows.length < this.all ? `, narrowed from ${grouped(this.all)}` : "";
+    const sums = this.sums.map(({ title, value, text }) =>
+      `; sum of ${title} ${text(this.rows.reduce((sum, row) => sum + value(row), 0n))}`);
+    this.status.textContent =
+      `${grouped(this.body.rows.length)} of ${grouped(this.rows.length)} ${this.what} shown${narrowed}${sums.join("")}`;
+  }
+}
+
+// The frames of a thread's stacks, and the boxes as which they are drawn: a frame is as wide as its time.
+
+class Frame {
+  constructor(name, parent) {
+    Object.assign(this, { name, parent, level: parent ? parent.level + 1 : 0, self: 0n, total: 0n, children: [] });
+  }
+}
+
+/** The frames of a thread, parents before their children. Each of its stacks says how many frames it shares with the one before. */
+function framesOf(label, stacks) {
+  const frames = [new Frame(label, null)];
+  const stack = [frames[0]];
+  for (const [shared, names, time] of stacks) {
+    stack.length = shared + 1;
+    for (const name of names) {
+      const frame = new Frame(name, stack.at(-1));
+      frame.parent.children.push(frame);
+      frames.push(frame);
+      stack.push(frame);
+    }
+    stack.at(-1).self += BigInt(time);
+  }
+  addTotals(frames);
+  return frames;
+}
+
+function addTotals(frames) {
+  for (const frame of frames.toReversed()) {
+    frame.total += frame.self;
+    if (frame.parent) frame.parent.total += frame.total;
+  }
+}
+
+/** The boxes of the children of a box, side by side; what is narrower than a pixel has none. */
+function boxesUnder({ frame, x, width }, isWidestFirst) {
+  const children = isWidestFirst ? frame.children.toSorted((one, other) => compare(other.total, one.total)) : frame.children;
+  const boxes = [];
+  let before = 0n;
+  for (const child of children) {
+    const own = width * fraction(child.total, frame.total);
+    if (own >= 1) boxes.push({ frame: child, x: x + width * fraction(before, frame.total), width: own });
+    before += child.total;
+  }
+  return boxes;
+}
+
+/** The boxes of a frame, of those around it and of all under it, level by level. */
+function levelsOf(zoomed, width, isWidestFirst) {
+  const levels = [];
+  for (let frame = zoomed; frame; frame = frame.parent) levels.push([{ frame, x: 0, width }]);
+  levels.reverse();
+  for (;;) {
+    const next = levels.at(-1).flatMap((box) => boxesUnder(box, isWidestFirst));
+    if (next.length === 0) return levels;
+    levels.push(next);
+  }
+}
+
+// A flame graph: the frames of a thread, the thread itself on top, drawn and moved through by pointer or keys.
+
+const LEVEL = 20; // the height of a level in CSS pixels
+const MOST_SEEN = 32; // levels; what lies below them is reached by scrolling
+const LETTER = 6.7; // the width of a letter of the frames' font
+const TREE_KEYS = { ArrowUp: "above", ArrowDown: "below", ArrowLeft: "before", ArrowRight: "after", Home: "zoomed" };
+
+/** A hue for a name, the same wherever the name stands. */
+function hueOf(name) {
+  let hash = 7;
+  for (const letter of name.slice(0, 60)) hash = (31 * hash + letter.codePointAt(0)) % 9973;
+  return (hash * 137) % 360;
+}
+
+function framesText(count) {
+  return count === 1 ? "1 frame" : `${grouped(count)} frames`;
+}
+
+class Graph {
+  constructor(thread, stacks, isWidestFirst) {
+    this.frames = framesOf(`thread ${thread.label}`, stacks);
+    this.root = this.zoomed = this.focused = this.frames[0];
+    Object.assign(this, { isWidestFirst, pointed: null, marks: null, history: [], levels: [], width: 0 });
+    this.makeElements(thread);
+    this.listen();
+    this.showUnder();
+  }
+
+  makeElements(thread) {
+    this.told = element("p", { className: "told", ariaLive: "polite" });
+    this.marked = element("p", { className: "status", role: "status" });
+    this.backButton = element("button", { type: "button", onclick: () => this.back() }, "Back");
+    this.wholeButton = element("button", { type: "button", onclick: () => this.zoom(this.root) }, "Whole thread");
+    this.canvas = element("canvas", { ariaHidden: "true" });
+    this.item = element("div", { role: "treeitem", id: `focused-${thread.at}`, className: "unseen" });
+    this.spacer = element("div", { className: "spacer", role: "none" }, this.canvas);
+    const label = `Flame graph of thread ${cut(thread.label, 100)}`;
+    this.view = element("div", { className: "view", role: "tree", tabIndex: 0, ariaLabel: label }, this.spacer, this.item);
+    this.view.setAttribute("aria-activedescendant", this.item.id);
+    this.under = new Table("names", [
+      numberColumn("total, \u00b5s", (frame) => frame.total, { bar: (frame) => fraction(frame.total, frame.parent.total) }),
+      numberColumn("self, \u00b5s", (frame) => frame.self),
+      nameColumn((frame) => frame.name, { fill: (frame) => this.zoomButton(frame) }),
+    ]);
+    this.underTitle = element("summary");
+    this.element = element("div", { className: "graph" },
+      element("div", { className: "steps" }, this.backButton, this.wholeButton, this.told), this.marked, this.view,
+      element("details", { className: "under" }, this.underTitle, this.under.element));
+  }
+
+  zoomButton(frame) {
+    return element("button", { type: "button", className: "name", onclick: () => this.zoom(frame) }, nameElement(frame.name));
+  }
+
+  listen() {
+    const redraw = () => this.draw();
+    this.view.addEventListener("scroll", redraw);
+    this.view.addEventListener("focus", () => this.tell());
+    this.view.addEventListener("keydown", (event) => this.press(event));
+    this.canvas.addEventListener("pointermove", (event) => this.point(this.frameAt(event)));
+    this.canvas.addEventListener("pointerleave", () => this.point(null));
+    this.canvas.addEventListener("click", (event) => this.zoom(this.frameAt(event) ?? this.zoomed));
+    matchMedia("(prefers-color-scheme: dark)").addEventListener("change", redraw);
+    new ResizeObserver(() => this.view.clientWidth !== this.width && this.layOut()).observe(this.view);
+  }
+
+  layOut() {
+    const width = this.view.clientWidth;
+    if (width === 0) return;
+    this.width = width;
+    this.levels = levelsOf(this.zoomed, width, this.isWidestFirst);
+    if (!this.levels[this.focused.level]?.some((box) => box.frame === this.focused)) this.focused = this.zoomed;
+    this.canvas.boxes = this.levels; // for scripts that look at the page: what is drawn, level by level, in CSS pixels
+    const seen = LEVEL * Math.min(this.levels.length, MOST_SEEN);
+    this.spacer.style.height = `${LEVEL * this.levels.length}px`;
+    this.view.style.maxHeight = `${LEVEL * MOST_SEEN}px`;
+    this.canvas.style.height = `${seen}px`;
+    this.canvas.width = Math.round(width * devicePixelRatio);
+    this.canvas.height = Math.round(seen * devicePixelRatio);
+    this.draw();
+    this.tell();
+  }
+
+  draw() {
+    const ink = this.canvas.getContext("2d");
+    const style = getComputedStyle(this.view);
+    const look = ["--text", "--ground", "--lightness", "--focus"].map((property) => style.getPropertyValue(property));
+    const top = this.view.scrollTop;
+    ink.setTransform(devicePixelRatio, 0, 0, devicePixelRatio, 0, -top * devicePixelRatio);
+    ink.clearRect(0, top, this.canvas.width, this.canvas.height);
+    ink.font = "11px ui-monospace, 'DejaVu Sans Mono', Menlo, Consolas, monospace";
+    ink.textBaseline = "middle";
+    const first = Math.floor(top / LEVEL);
+    for (const box of this.levels.slice(first, first + MOST_SEEN + 1).flat()) this.drawBox(ink, box, look);
+  }
+
+  drawBox(ink, { frame, x, width }, [text, ground, lightness, focus]) {
+    const y = LEVEL * frame.level;
+    const isDim = this.marks !== null && !this.marks(frame.name);
+    ink.fillStyle = frame === this.root || isDim ? ground : `hsl(${hueOf(frame.name)} 55% ${lightness})`;
+    ink.fillRect(x, y, width > 3 ? width - 1 : width, LEVEL - 1);
+    ink.fillStyle = text;
+    if (this.marks !== null && !isDim) ink.fillRect(x, y + LEVEL - 3, Math.max(1, width - 1), 2);
+    const letters = Math.floor((width - 8) / LETTER);
+    if (letters >= 2) this.drawName(ink, cut(shown(frame.name), letters), x, y, width);
+    if (frame !== this.focused && frame !== this.pointed) return;
+    ink.strokeStyle = focus;
+    ink.lineWidth = frame === this.focused ? 2 : 1;
+    ink.strokeRect(x + 1, y + 1, Math.max(1, width - 3), LEVEL - 3);
+  }
+
+  drawName(ink, name, x, y, width) {
+    ink.save();
+    ink.beginPath();
+    ink.rect(x, y, width - 2, LEVEL);
+    ink.clip();
+    ink.fillText(name, x + 4, y + LEVEL / 2);
+    ink.restore();
+  }
+
+  frameAt(event) {
+    const level = Math.floor((event.offsetY + this.view.scrollTop) / LEVEL);
+    return this.levels[level]?.find(({ x, width }) => x <= event.offsetX && event.offsetX < x + width)?.frame ?? null;
+  }
+
+  point(frame) {
+    if (frame === this.pointed) return;
+    this.pointed = frame;
+    this.canvas.style.cursor = frame ? "pointer" : "";
+    this.draw();
+    this.tell();
+  }
+
+  /** Tells of the frame under the pointer, or else of the focused one. */
+  tell() {
+    const frame = this.pointed ?? this.focused;
+    this.told.replaceChildren(nameElement(frame.name), element("span", {}, `${this.numbersOf(frame)} of the thread's busy time`));
+    this.describe(this.focused);
+    this.backButton.disabled = this.history.length === 0;
+    this.wholeButton.disabled = this.zoomed === this.root;
+  }
+
+  /** The focused frame as an item of a tree, for those who hear the page. */
+  describe(frame) {
+    const siblings = this.levels[frame.level]?.filter((box) => box.frame.parent === frame.parent) ?? [];
+    this.item.ariaLevel = String(frame.level + 1);
+    this.item.ariaSetSize = String(siblings.length);
+    this.item.ariaPosInSet = String(1 + siblings.findIndex((box) => box.frame === frame));
+    this.item.ariaExpanded = frame.children.length > 0 ? "true" : null;
+    this.item.textContent = `${cut(shown(frame.name), LONGEST_NAME)}: ${this.numbersOf(frame)}, ${frame.children.length} under it`;
+  }
+
+  numbersOf({ self, total }) {
+    return `self ${timeText(self)}, total ${timeText(total)}, ${shareText(total, this.root.total)}`;
+  }
+
+  press(event) {
+    if (event.ctrlKey || event.altKey || event.metaKey) return;
+    if (event.key === "Enter" || event.key === " ") this.zoom(this.focused);
+    else if (event.key === "Escape" || event.key === "Backspace") this.back();
+    else if (event.key in TREE_KEYS) this.focus(this.neighbour(TREE_KEYS[event.key]));
+    else return;
+    event.preventDefault();
+  }
+
+  /** The frame that lies so beside the focused one, or that one itself where there is none. */
+  neighbour(side) {
+    const frame = this.focused;
+    const level = this.levels[frame.level];
+    const at = level.findIndex((box) => box.frame === frame);
+    const found = {
+      above: () => frame.parent,
+      below: () => this.levels[frame.level + 1]?.find((box) => box.frame.parent === frame)?.frame,
+      before: () => level[at - 1]?.frame,
+      after: () => level[at + 1]?.frame,
+      zoomed: () => this.zoomed,
+    };
+    return found[side]() ?? frame;
+  }
+
+  focus(frame) {
+    this.focused = frame;
+    this.pointed = null;
+    const top = LEVEL * frame.level;
+    const { scrollTop, clientHeight } = this.view;
+    if (top < scrollTop) this.view.scrollTop = top;
+    if (top + LEVEL > scrollTop + clientHeight) this.view.scrollTop = top + LEVEL - clientHeight;
+    this.draw();
+    this.tell();
+  }
+
+  zoom(frame) {
+    if (frame !== this.zoomed) this.history.push(this.zoomed);
+    this.open(frame);
+  }
+
+  back() {
+    if (this.history.length > 0) this.open(this.history.pop());
+  }
+
+  open(frame) {
+    this.zoomed = frame;
+    this.pointed = null;
+    this.focused = frame;
+    this.layOut();
+    this.view.scrollTop = LEVEL * Math.max(0, frame.level - 3);
+    this.focus(frame);
+    this.showUnder();
+  }
+
+  showUnder() {
+    const { name, children } = this.zoomed;
+    this.underTitle.replaceChildren("Directly under ", nameElement(name), `: ${framesText(children.length)}`);
+    this.under.show(children);
+  }
+
+  order(isWidestFirst) {
+    this.isWidestFirst = isWidestFirst;
+    this.layOut();
+  }
+
+  /** Marks the frames whose names pass a test, and tells their time; those under one another count once. Null marks none. */
+  mark(marks) {
+    this.marks = marks;
+    this.marked.textContent = marks === null ? "" : this.markedText();
+    this.draw();
+  }
+
+  markedText() {
+    const covered = new Set();
+    let [count, time] = [0, 0n];
+    for (const frame of this.frames.slice(1)) {
+      const isMarked = this.marks(frame.name);
+      if (isMarked) count += 1;
+      if (isMarked && !covered.has(frame.parent)) time += frame.total;
+      if (isMarked || covered.has(frame.parent)) covered.add(frame);
+    }
+    const marked = count === 1 ? "1 frame marked," : `${framesText(count)} marked, together`;
+    return `${marked} ${timeText(time)}, ${shareText(time, this.root.total)} of the thread's busy time`;
+  }
+}
+
+// Puts the page together: counts and warnings, what narrows, the table of names, the flame graphs, and what else was traced.
+
+const FIRST_GRAPHS = 50;
+const MORE_GRAPHS = 200;
+const REASONS = {
+  NotObject: "the element isn't an object",
+  NoPhase: "it has no phase, or one that isn't a text",
+  NoTime: "it has no time",
+  NotWhole: "its time or length isn't a whole number of microseconds, or is out of range",
+  NoDuration: "it has no length",
+  BadField: "its process, thread, name, category, id or scope is of the wrong kind",
+  NoId: "it has no id",
+  BadReach: "it is an instant that is neither global nor of a process or thread",
+  BadSeries: "it has a counter whose value isn't a whole number",
+  NoOpenSpan: "it ends a span where none is open",
+  TimeGoesBack: "its time lies before that of an event before it",
+  NoOpenAsync: "it ends an async span that isn't open",
+  EndBeforeBegin: "it ends an async span before its begin",
+  FlowOpen: "it starts a flow that is open",
+  NoFlow: "it goes on with a flow that isn't open",
+  NameDiffers: "it ends a span of another name than the open one",
+};
+
+const ONE = { events: "event", queries: "query", seals: "seal", processes: "process", threads: "thread" };
+
+const byId = (id) => document.getElementById(id);
+const add = (numbers) => numbers.reduce((sum, number) => sum + number, 0n);
+const data = JSON.parse(byId("data").textContent);
+const report = readReport(data.report);
+const greatest = (values) => values.reduce((most, value) => (value > most ? value : most), 0n);
+
+function showCounts() {
+  const counts = [...report.counts, ["processes", report.processes.length], ["threads", report.threads.length]];
+  const wordOf = (what, count) => (String(count) === "1" ? ONE[what] ?? what : what);
+  const items = counts.map(([what, count]) => element("span", {}, element("b", {}, grouped(count)), ` ${wordOf(what, count)}`));
+  byId("counts").replaceChildren(...items);
+}
+
+function refusalItem({ count, code, word, first, file }) {
+  const reason = REASONS[word] ? `: ${REASONS[word]}` : "";
+  const text = `${grouped(count)} \u00d7 ${code} ${word}${reason}; first at element ${grouped(first)} of `;
+  return element("li", {}, text, nameElement(file));
+}
+
+function warnings() {
+  const refusals = readRefusals(data.refused);
+  const [, refused] = report.counts.find(([what]) => what === "refused");
+  const open = add(report.threads.map((thread) => thread.open));
+  const found = [];
+  if (refused > 0n) {
+    const text = "Events were refused. Times on their threads can be wrong: where a begin is refused, its end closes another span. "
+      + "Elements are counted from 0.";
+    found.push(element("div", { className: "warning" }, element("p", {}, text), element("ul", {}, ...refusals.map(refusalItem))));
+  }
+  if (open > 0n) {
+    const text = `Spans that are still open: ${grouped(open)}. They have no time; --seal closes them where the trace was cut off.`;
+    found.push(element("p", { className: "warning" }, text));
+  }
+  return found;
+}
+
+// What is narrowed to: rows of a process and a thread, whose names have all of some words and none of others. The threads are
+// those that have such rows in the table of names.
+
+const narrowed = { process: null, thread: null, wanted: [], unwanted: [], threads: new Set() };
+
+function isNamed(name) {
+  const low = name.toLowerCase();
+  return narrowed.wanted.every((word) => low.includes(word)) && !narrowed.unwanted.some((word) => low.includes(word));
+}
+
+/** Whether a row is of the process and the thread that are narrowed to; one that belongs to none is of each. */
+function isOfPlace({ process = narrowed.process, thread = narrowed.thread }) {
+  return (narrowed.process === null || process === narrowed.process) && (narrowed.thread === null || thread === narrowed.thread);
+}
+
+function isNarrowedTo(row) {
+  return isOfPlace(row) && isNamed(row.name);
+}
+
+function narrow() {
+  const words = byId("words").value.toLowerCase().split(/\s+/).filter((word) => word !== "" && word !== "-");
+  narrowed.wanted = words.filter((word) => !word.startsWith("-"));
+  narrowed.unwanted = words.filter((word) => word.startsWith("-")).map((word) => word.slice(1));
+  showRows();
+  graphs.show();
+  graphs.mark(narrowed.wanted.length > 0 ? isNamed : null);
+}
+
+function fillChoice(select, all, items) {
+  const options = items.map((item) => element("option", { value: item.at }, cut(item.label, 80)));
+  select.replaceChildren(element("option", { value: "" }, all), ...options);
+}
+
+function choose(what, items) {
+  narrowed[what] = items[byId(what).value] ?? null;
+  narrow();
+}
+
+function chooseProcess() {
+  narrowed.thread = null;
+  choose("process", report.processes);
+  fillChoice(byId("thread"), "all threads", report.threads.filter((thread) => isOfPlace({ process: thread.process })));
+}
+
+// The tables
+
+const processColumn = listedColumn("process", (row) => row.process);
+const threadColumn = listedColumn("thread", (row) => row.thread);
+const plainName = nameColumn((row) => row.name);
+const total = numberColumn("total, \u00b5s", (row) => row.total);
+const open = numberColumn("open", (row) => row.open);
+const id = textColumn("id", (row) => row.id);
+const category = textColumn("category", (row) => row.category);
+
+function namesTable() {
+  const mostSelf = greatest(report.spans.map((span) => span.self));
+  const self = numberColumn("self, \u00b5s", (span) => span.self, { bar: (span) => fraction(span.self, mostSelf) });
+  const share = numberColumn("of busy", (span) => span.self, { fill: (span) => shareText(span.self, span.thread.busy) });
+  const count = numberColumn("count", (span) => span.count);
+  const span = nameColumn((row) => row.name, { fill: graphButton });
+  const table = new Table("names", [self, share, total, count, processColumn, threadColumn, span], [
+    { title: "self", value: self.value, text: timeText },
+    { title: "count", value: count.value, text: grouped },
+  ]);
+  return { table, rows: report.spans, home: byId("names") };
+}
+
+/** The name of a row, which opens the flame graph of its thread where the name is. */
+function graphButton(row) {
+  const button = element("button", { type: "button", className: "name", onclick: () => graphs.find(row) }, nameElement(row.name));
+  button.disabled = data.stacks[row.thread.at].length === 0;
+  return button;
+}
+
+function otherTable(title, rows, columns) {
+  const table = new Table(title.toLowerCase(), columns);
+  const home = element("details", {}, element("summary", {}, `${title} (${grouped(rows.length)})`), table.element);
+  return { table, rows, home };
+}
+
+function otherTables() {
+  const counts = (...names) => names.map((title) => numberColumn(title, (row) => row[title]));
+  return [
+    otherTable("Async spans", report.asyncs, [
+      total, ...counts("closed"), open, ...counts("points"), category, textColumn("scope", (row) => row.scope), id, plainName]),
+    otherTable("Flows", report.flows, [total, ...counts("ended"), open, category, id, plainName]),
+    otherTable("Counters", report.counters, [
+      ...counts("samples", "least", "greatest", "last"), processColumn, id, plainName, textColumn("series", (row) => row.series)]),
+    otherTable("Instants", report.instants, [
+      ...counts("count"), processColumn, threadColumn, textColumn("reach", (row) => row.reach), plainName]),
+  ].filter(({ rows }) => rows.length > 0);
+}
+
+function showRows() {
+  for (const { table, rows } of tables) table.show(rows.filter(isNarrowedTo), rows);
+  narrowed.threads = new Set(tables[0].table.rows.map((row) => row.thread));
+}
+
+// The flame graphs, of which the busiest threads' are listed, in the order of the report
+
+class Graphs {
+  constructor() {
+    this.threads = report.threads.filter((thread) => data.stacks[thread.at].length > 0);
+    this.mostBusy = greatest(this.threads.map((thread) => thread.busy));
+    Object.assign(this, { sections: new Map(), graphs: new Map(), most: FIRST_GRAPHS, marks: null, sought: null });
+    byId("more-graphs").onclick = () => this.show(this.most + MORE_GRAPHS);
+    byId("order").onchange = () => this.graphs.forEach((graph) => graph.order(this.isWidestFirst));
+  }
+
+  get isWidestFirst() {
+    return byId("order").value === "widest";
+  }
+
+  show(most = FIRST_GRAPHS) {
+    this.most = most;
+    const threads = this.threads.filter((thread) => narrowed.threads.has(thread));
+    const busiest = threads.toSorted((one, other) => compare(other.busy, one.busy)).slice(0, most);
+    const listed = threads.filter(isAmong(busiest, this.sought));
+    byId("graphs").replaceChildren(...listed.map((thread) => this.sectionOf(thread)));
+    byId("more-graphs").hidden = listed.length === threads.length;
+    byId("graphs-shown").textContent = this.told(listed.length, threads.length);
+    return busiest;
+  }
+
+  told(listed, narrowedTo) {
+    const all = this.threads.length;
+    const idle = report.threads.length - all;
+    return `${grouped(listed)} of ${grouped(narrowedTo)} threads shown`
+      + (narrowedTo < all ? `, narrowed from ${grouped(all)}` : "")
+      + (idle > 0 ? `; in ${grouped(idle)} more no span covers a microsecond` : "");
+  }
+
+  sectionOf(thread) {
+    if (!this.sections.has(thread)) this.sections.set(thread, this.makeSection(thread));
+    return this.sections.get(thread);
+  }
+
+  makeSection(thread) {
+    const numbers = element("span", { className: "busy" }, `busy ${timeText(thread.busy)}`);
+    setBar(numbers, fraction(thread.busy, this.mostBusy));
+    const open = thread.open > 0n ? `, ${grouped(thread.open)} open` : "";
+    const summary = element("summary", {}, numbers, "thread ", nameElement(thread.label), " of process ",
+      nameElement(thread.process.label), element("span", { className: "hint" }, open));
+    return element("details", { ontoggle: () => this.graphOf(thread) }, summary);
+  }
+
+  graphOf(thread) {
+    if (!this.graphs.has(thread)) {
+      const graph = new Graph(thread, data.stacks[thread.at], this.isWidestFirst);
+      this.graphs.set(thread, graph);
+      this.sectionOf(thread).append(graph.element);
+      graph.mark(this.marks);
+    }
+    return this.graphs.get(thread);
+  }
+
+  mark(marks) {
+    this.marks = marks;
+    this.graphs.forEach((graph) => graph.mark(marks));
+  }
+
+  /** Opens the graph of a row's thread, with the row's name marked. */
+  find({ thread, name }) {
+    const section = this.sectionOf(thread);
+    this.sought = thread;
+    if (!section.isConnected) this.show(this.most);
+    section.open = true;
+    const graph = this.graphOf(thread);
+    graph.mark((other) => other === name);
+    graph.view.focus({ preventScroll: true });
+    section.scrollIntoView({ block: "start" });
+  }
+}
+
+/** Whether a thread is one of some, or is the one that is sought. */
+function isAmong(threads, sought) {
+  const among = new Set([...threads, sought]);
+  return (thread) => among.has(thread);
+}
+function showWarnings() {
+  const found = warnings();
+  byId("warnings").replaceChildren(...found);
+  byId("warnings").hidden = found.length === 0;
+}
+
+const tables = [namesTable(), ...otherTables()];
+const graphs = new Graphs();
+
+function start() {
+  showCounts();
+  showWarnings();
+  byId("names").replaceChildren(tables[0].table.element);
+  byId("others").replaceChildren(...tables.slice(1).map(({ home }) => home));
+  byId("words").addEventListener("input", narrow);
+  byId("process").addEventListener("change", chooseProcess);
+  byId("thread").addEventListener("change", () => choose("thread", report.threads));
+  fillChoice(byId("process"), "all processes", report.processes);
+  fillChoice(byId("thread"), "all threads", report.threads);
+  showRows();
+  const [busiest] = graphs.show();
+  if (busiest) graphs.sectionOf(busiest).open = true;
+  document.querySelector("main").ariaBusy = "false";
+  performance.mark("ready");
+}
+
+start();
+</script>
+</body>
+</html>
+"#;

@@ -1,0 +1,13 @@
+//! A page for a browser: a run's report, its refusals and its folded stacks as data, and what shows them.
+#![tactic(auto)]
+
+mod data;
+mod fixed;
+pub mod laws;
+mod output;
+mod safe;
+mod stacks;
+mod text;
+
+pub use output::write_page;
+pub use text::page;

@@ -1,0 +1,32 @@
+//! Writes the page of a run to a sink.
+ghost use Rattle.std.specs.Prelude.{◌≡◌, length, IfErr, OnOk};
+ghost use Rattle.span_report.specs.Sink.{TakesBytes};
+ghost use Rattle.span_report.specs.Output.{WriteLeaves};
+ghost use Rattle.span_page.specs.Page.{page_of};
+
+use crate::text::page;
+use span_collect::{FileEnd, Input};
+use span_ledger::Ledger;
+use span_report::{Sink, WriteFault, write_bytes};
+use std::alloc::Global;
+
+/// Writes the page of the ledger's journal and of the files that were told to it. The first fault of the output ends it, and nothing
+/// is tried again.
+pub fn write_page<O: Sink>(
+    alloc: Global,
+    ledger: &Ledger,
+    files: &[Input],
+    ends: &[FileEnd],
+    out: &mut O,
+) -> Result<(), WriteFault>
+    requires { length files.now ≡ length ends.now }
+    ensures ok { OnOk result
+        (TakesBytes (O.state out.old) (O.state out.new) (page_of files.now ends.now ledger.now.journal)) }
+    ensures fault { IfErr result
+        (λ fault. WriteLeaves fault (page_of files.now ends.now ledger.now.journal) (O.state out.old) (O.state out.new)) }
+{
+    let Ok(text) = page(alloc, ledger, files, ends) else {
+        return Err(WriteFault::Memory);
+    };
+    write_bytes(&text, out).map_err(|written| WriteFault::Output { written })
+}

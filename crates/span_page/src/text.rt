@@ -1,0 +1,44 @@
+//! The text of a page.
+ghost use Rattle.std.specs.Prelude.{◌≡◌, length, IfOk};
+ghost use Rattle.span_page.specs.Page.{head_text, page_of, tail_text};
+
+use crate::data::data_text;
+use crate::fixed::{HEAD, TAIL};
+use crate::safe::put_safe;
+use span_collect::{FileEnd, Input};
+use span_ledger::Ledger;
+use std::alloc::{AllocError, Global};
+
+/// The page of the ledger's journal and of the files that were told to it: a fixed head, the data as one JSON text, and a fixed
+/// tail. In the data `<`, `>`, `&` and the two line separators are escapes. There is one end for each file, in order.
+#[tactic(auto, unfolding(crate::specs::Page::page_of), using(std::proofs::Common::append_assoc))]
+pub fn page(
+    alloc: Global,
+    ledger: &Ledger,
+    files: &[Input],
+    ends: &[FileEnd],
+) -> Result<Vec<u8>, AllocError>
+    requires { length files.now ≡ length ends.now }
+    ensures { IfOk result (λ text. text.items ≡ page_of files.now ends.now ledger.now.journal) }
+{
+    let data = data_text(alloc, ledger, files, ends)?;
+    let mut out = Vec::new(alloc);
+    out.extend_from_slice(head().as_bytes())?;
+    put_safe(&mut out, data.as_bytes())?;
+    out.extend_from_slice(tail().as_bytes())?;
+    Ok(out)
+}
+
+#[tactic(auto, unfolding(crate::specs::Page::head_text))]
+fn head() -> &'static str
+    ensures { result.now ≡ head_text }
+{
+    HEAD
+}
+
+#[tactic(auto, unfolding(crate::specs::Page::tail_text))]
+fn tail() -> &'static str
+    ensures { result.now ≡ tail_text }
+{
+    TAIL
+}
