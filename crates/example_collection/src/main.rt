@@ -1,0 +1,87 @@
+//! Collects two traces with a worker for each, asks two questions while the workers run, and prints what was replied, as far as no
+//! schedule can change it, and the report.
+#![tactic(auto)]
+
+use span_collect::{FreeGate, Input, Outcome, Settings, collect};
+use span_event::Text;
+use span_ledger::{Answer, CountRow, Ledger, Query, Reply};
+use span_report::{Writer, write_report};
+use std::alloc::{AllocError, Global};
+use std::io;
+use std::process::ExitCode;
+
+const SERVER: &str = r#"[{"ph":"M","name":"process_name","pid":1,"args":{"name":"server"}},
+    {"ph":"B","name":"request","ts":0,"pid":1,"tid":1},
+    {"ph":"X","name":"query","ts":20,"dur":60,"pid":1,"tid":1},
+    {"ph":"E","ts":100,"pid":1,"tid":1}]"#;
+
+const CLIENT: &str = r#"[{"ph":"M","name":"process_name","pid":2,"args":{"name":"client"}},
+    {"ph":"X","name":"request","ts":-5,"dur":110,"pid":2,"tid":7}]"#;
+
+const SETTINGS: Settings = Settings {
+    limit: 1000,
+    seal: false,
+    strict: false,
+};
+
+fn input(alloc: Global, name: &str, text: &str) -> Result<Input, AllocError> {
+    let mut bytes = Vec::new(alloc);
+    bytes.extend_from_slice(text.as_bytes())?;
+    Ok(Input {
+        name: Text::of(alloc, name)?,
+        bytes,
+    })
+}
+
+// How many entries a reply counts.
+fn entries(counts: &CountRow) -> u64 {
+    u64::from(counts.accepted)
+        + u64::from(counts.refused)
+        + u64::from(counts.skipped)
+        + u64::from(counts.queries)
+        + u64::from(counts.seals)
+}
+
+// How far the workers were is left to chance. But a reply counts the entries before its query: as many as the journal has there.
+fn print_replies(rt: &impl Print, ledger: &Ledger) -> io::Result<()> {
+    for position in 0..ledger.len() {
+        if let Some(entry) = ledger.entry(position) {
+            if let Answer::Reply(Reply::Counts(counts)) = &entry.answer {
+                let is_exact = entries(counts) == u64::from(position);
+                println!(rt; "a reply counts the entries before it: {is_exact}")?;
+            }
+        }
+    }
+    Ok(())
+}
+
+fn print_outcome(rt: &HostRuntime, outcome: &Outcome) -> io::Result<()> {
+    for end in &outcome.files {
+        println!(rt; "{end:?}")?;
+    }
+    println!(rt; "asked {}", outcome.asked.done)?;
+    print_replies(rt, &outcome.ledger)
+}
+
+fn main(rt: HostRuntime) -> Result<ExitCode, io::Error> {
+    let alloc = rt.alloc();
+    let files = [
+        input(alloc, "server.json", SERVER)?,
+        input(alloc, "client.json", CLIENT)?,
+    ];
+    let asks = [Query::Counts, Query::Counts];
+    let outcome = match collect(&rt, alloc, &files, &asks, &FreeGate, &SETTINGS) {
+        Ok(outcome) => outcome,
+        Err(error) => {
+            eprintln!(rt; "{error}")?;
+            return Ok(ExitCode::from(2));
+        }
+    };
+    print_outcome(&rt, &outcome)?;
+    let written = write_report(alloc, &outcome.ledger, &mut Writer::new(rt.stdout()));
+    drop(outcome);
+    Ok(match written {
+        Ok(()) => ExitCode::SUCCESS,
+        Err(_) => ExitCode::from(2),
+    })
+}
