@@ -4,13 +4,15 @@ use Rattle.span_report.specs.Report.{report_of}
 use Rattle.span_ranking.specs.Ranking.{ranking_of}
 use Rattle.span_refusals.specs.Text.{refusals_of}
 use Rattle.span_stacks.specs.Folded.{folded_of}
+use Rattle.span_page.specs.Page.{page_of}
 use Rattle.span_collect.specs.declared.files.Input.{Input}
 use Rattle.span_collect.specs.Run.{TextOf}
 use Rattle.span_command_line.specs.declared.view.View.{View}
-use Rattle.span_command_line.specs.declared.view.View.TheVariants.{Report, Ranking, Refusals, Folded}
+use Rattle.span_command_line.specs.declared.view.View.TheVariants.{Report, Ranking, Refusals, Folded, Page}
 
 abbrev pub text_of : View → List Input → TextOf
 text_of Report files ends journal = report_of journal
 text_of (Ranking most by) files ends journal = ranking_of most by journal
 text_of Refusals files ends journal = refusals_of files ends journal
 text_of Folded files ends journal = folded_of journal
+text_of Page files ends journal = page_of files ends journal

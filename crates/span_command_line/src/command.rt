@@ -15,49 +15,52 @@ use std::alloc::{AllocError, Global};
 pub(crate) const DEFAULT_LIMIT: u32 = 16_777_216;
 
 const SEAL_HELP: &str =
-    "Close the spans that are still open at the end, each at the last time its thread has seen; for a trace that was cut off, and not where a missing end is a fault to look for";
+    "Close the spans that are still open at the end, each at the latest time that its thread has seen; for a trace that was cut off, not where a missing end is an error to look for";
 
 const STRICT_HELP: &str =
-    "Refuse an end (27) that names another span than the one it would close, which then stays open; for a trace that may have lost begins";
+    "Refuse (27) an end that names another span than the one it would close, which then stays open; for a trace that may have lost begins";
 
-// One thing is printed in place of the report.
+// One thing is printed instead of the report.
 const VIEW: &str = "view";
 
 const BY_WORDS: &[&str] = &["self", "total", "count"];
 
 const TOP_HELP: &str =
-    "Print the first N names of all threads in place of the report, each with its process and thread";
+    "Print the first N names of all threads instead of the report, each with its process and thread";
 
 const BY_HELP: &str =
-    "What --top goes by: the time of the spans' own, their whole time, or how many there are [default: self]";
+    "What --top goes by: self time, total time or the number of spans [default: self]";
 
 const REFUSED_HELP: &str =
-    "Print why items were refused in place of the report: for each file and number how many, and which first";
+    "Print why elements were refused instead of the report: for each file and fault how many, and which was the first";
 
 const FOLDED_HELP: &str =
-    "Print the stacks of each thread for viewers of flame graphs in place of the report, each with its microseconds";
+    "Print the stacks of each thread instead of the report, for viewers of flame graphs, each with its microseconds";
+
+const PAGE_HELP: &str =
+    "Print a page for a browser instead of the report, with its numbers as tables and a flame graph of each thread";
 
 const BASE_HELP: &str =
-    "Print what changed since a run of these files in place of the report; may be repeated, one FILE each";
+    "Print what changed since a run of FILE instead of the report; repeat it for several files";
 
 const ABOUT: &str =
-    "Reports where the time went in trace event files, of Chrome, clang, node and other tools: for each thread how long the spans of each name took, together and on their own.";
+    "Reports where the time went in trace event files of Chrome, clang, node and other tools: for each thread and span name the number of spans, their total time and their self time.";
 
 const AFTER: &str =
     r#"All times are whole microseconds, as Chrome, clang, node and cmake write them. An event with
-a fraction, as Go's build trace has, is refused and counted, and begins and ends may then pair wrongly.
+a fraction, as in Go's build traces, is refused and counted; begins and ends may then pair wrongly.
 
-Several files have one report, whatever the order in which their events are taken, where no two of them
-have a process in common, nor the key of an async span or flow whose id is no process's own.
+Several files have one report, whichever worker comes first, if no two of them have a process in
+common, nor the key of an async span or flow whose id is not local to a process.
 
 Status:
   0  every file was read, and the report is on standard output
-  1  a file is no trace, which standard error says; the report is that of the others
-  2  a file could not be read, memory ran out or the limit was reached: there is no report
+  1  a file is not a trace, which standard error says; the report of the others is on standard output
+  2  usage error, a file could not be read, out of memory, or the limit was reached: there is no report
 
 Example:
   tracebook --top 20 build.json | grep -v '"Total '
-shows the names that took the most time of their own, each with its process and thread, but not clang's own sums."#;
+shows the names that took the most self time, each with its process and thread, without clang's own sums."#;
 
 /// What a command line asks for.
 #[derive(Debug, Drop)]
@@ -171,7 +174,7 @@ fn command_of<'a>(alloc: Global, limit_help: &'a str) -> Result<Command<'a>, All
     with_views(alloc, command)?.arg(files)
 }
 
-// With the flags of what is printed in place of the report.
+// With the flags of what is printed instead of the report.
 fn with_views<'a>(alloc: Global, command: Command<'a>) -> Result<Command<'a>, AllocError> {
     let top = Arg::new(alloc, "top")
         .long("top")
@@ -197,6 +200,11 @@ fn with_views<'a>(alloc: Global, command: Command<'a>) -> Result<Command<'a>, Al
         .action(ArgAction::SetTrue)
         .group(VIEW)?
         .help(FOLDED_HELP);
+    let page = Arg::new(alloc, "page")
+        .long("page")
+        .action(ArgAction::SetTrue)
+        .group(VIEW)?
+        .help(PAGE_HELP);
     let base = Arg::new(alloc, "base")
         .long("base")
         .value_name("FILE")
@@ -208,6 +216,7 @@ fn with_views<'a>(alloc: Global, command: Command<'a>) -> Result<Command<'a>, Al
         .arg(by)?
         .arg(refused)?
         .arg(folded)?
+        .arg(page)?
         .arg(base)
 }
 
@@ -221,13 +230,16 @@ fn with_program<'a>(alloc: Global, words: &'a [Text]) -> Result<Vec<&'a str>, Al
     Ok(all)
 }
 
-// What is printed in place of the report: the ranking where `--top` stands, by what `--by` says.
+// What is printed instead of the report: the ranking where `--top` stands, by what `--by` says.
 fn view_of(matches: &ArgMatches<'_>) -> View {
     if matches.get_flag("refused") {
         return View::Refusals;
     }
     if matches.get_flag("folded") {
         return View::Folded;
+    }
+    if matches.get_flag("page") {
+        return View::Page;
     }
     let Some(most) = matches.get_one::<u32>("top") else {
         return View::Report;

@@ -6,6 +6,7 @@ ghost use Rattle.span_collect.specs.Run.{IsRunOf, RunLeaves};
 ghost use Rattle.span_command_line.specs.View.{text_of};
 
 use span_collect::{Collected, Input, RunError, Settings, collect_to_ledger, run_to_ledger};
+use span_page::write_page;
 use span_ranking::{By, write_ranking};
 use span_refusals::write_refusals;
 use span_report::{Sink, WriteFault, write_report};
@@ -25,6 +26,8 @@ pub enum View {
     Refusals,
     /// The folded stacks of each thread.
     Folded,
+    /// A page for a browser.
+    Page,
 }
 
 /// Collects files, and writes this view of them.
@@ -91,5 +94,6 @@ fn write_view<O: Sink>(
         View::Ranking { most, by } => write_ranking(alloc, ledger, most, by, out),
         View::Refusals => write_refusals(alloc, ledger, files, &collected.end.ends, out),
         View::Folded => write_folded(alloc, ledger, out),
+        View::Page => write_page(alloc, ledger, files, &collected.end.ends, out),
     }
 }
