@@ -18,15 +18,18 @@ demo: tracebook
 	./tracebook < examples/page_load.json
 
 # The merge gate, which proves and builds everything from nothing, and then what it built: the program on each case of
-# tests/acceptance, on a large generated trace, on separate files, on the parts of split traces and on names that were chosen to
-# collide, and each allocation refused in turn.
+# tests/acceptance, on a large generated trace, on separate files, on the parts of split traces, on names that were chosen to collide,
+# as pages in a browser, and each allocation refused in turn.
 test:
 	rt ci
 	tests/acceptance/run crates/tracebook/out/tracebook
 	tests/generated_trace crates/tracebook/out/tracebook
 	tests/independent_files crates/tracebook/out/tracebook
 	tests/split_traces crates/tracebook/out/tracebook
+	tests/page_data crates/tracebook/out/tracebook
 	tests/flooded_names crates/tracebook/out/tracebook
+	crates/span_page/page/join --check
+	tests/page crates/tracebook/out/tracebook
 	tests/converted_traces
 	tests/documented_words
 	tests/kept_names
