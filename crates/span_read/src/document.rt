@@ -101,8 +101,8 @@ impl KeptValue for Item {
     fn read(tokens: &mut Tokens<'_>, depth: usize) -> Result<Item, Stop> {
         match next_head(&mut tokens.reader)? {
             Head::Object => {
-                let fields: Fields = read_object(tokens, depth)?;
-                Ok(item_of_fields(tokens.alloc, fields)?)
+                let mut fields: Fields = read_object(tokens, depth)?;
+                Ok(item_of_fields(tokens.alloc, &mut fields)?)
             }
             Head::Array => {
                 pass_array(&mut tokens.reader, depth)?;

@@ -23,15 +23,18 @@ pub fn item_of(alloc: Global, value: &Value) -> Result<Item, AllocError>
     ensures good { IfOk result IsGoodItem }
 {
     match value {
-        Value::Object(members) => item_of_fields(alloc, fields_of_members(alloc, members)?),
+        Value::Object(members) => {
+            let mut fields = fields_of_members(alloc, members)?;
+            item_of_fields(alloc, &mut fields)
+        }
         _ => Ok(Item::Bad(ItemFault::NotObject)),
     }
 }
 
-pub(crate) fn item_of_fields(alloc: Global, fields: Fields) -> Result<Item, AllocError>
-    ensures { IfOk result (λ item. item ≡ item_of_fields fields) }
+/// Texts and arguments are taken out of the fields.
+pub(crate) fn item_of_fields(alloc: Global, fields: &mut Fields) -> Result<Item, AllocError>
+    ensures { IfOk result (λ item. item ≡ item_of_fields fields.old) }
 {
-    let mut fields = fields;
     let letter = match fields.ph.take() {
         Some(value) => value.into_words(),
         None => None,

@@ -14,24 +14,24 @@ use crate::phase::needs_id;
 use span_event::{Event, Field, ItemFault, Phase};
 use std::alloc::Global;
 
-pub(crate) fn event_of(alloc: Global, phase: Phase, fields: Fields) -> Result<Event, Refusal>
-    ensures right { IfOk result (λ event. fault_of phase fields ≡ None) }
-    ensures event { IfOk result (λ event. event ≡ event_of phase fields) }
-    ensures refused { IfErr result (IsForFault (fault_of phase fields)) }
+pub(crate) fn event_of(alloc: Global, phase: Phase, fields: &mut Fields) -> Result<Event, Refusal>
+    ensures right { IfOk result (λ event. fault_of phase fields.old ≡ None) }
+    ensures event { IfOk result (λ event. event ≡ event_of phase fields.old) }
+    ensures refused { IfErr result (IsForFault (fault_of phase fields.old)) }
 {
     let ts = take_time(phase, &fields.ts)?;
     let dur = take_duration(phase, &fields.dur)?;
     let pid = take_whole(Field::Pid, &fields.pid)?;
     let tid = take_whole(Field::Tid, &fields.tid)?;
-    let name = take_text(alloc, Field::Name, fields.name)?;
-    let cat = take_text(alloc, Field::Cat, fields.cat)?;
+    let name = take_text(alloc, Field::Name, fields.name.take())?;
+    let cat = take_text(alloc, Field::Cat, fields.cat.take())?;
     let key = take_key(alloc, phase, pid, &fields.id, &fields.id2)?;
-    let scope = take_scope(alloc, phase, fields.scope)?;
+    let scope = take_scope(alloc, phase, fields.scope.take())?;
     if needs_id(phase) && key.is_none() {
         return Err(Refusal::Fault(ItemFault::NoId));
     }
-    let reach = take_reach(phase, fields.s)?;
-    let args = take_args(alloc, phase, fields.args)?;
+    let reach = take_reach(phase, fields.s.take())?;
+    let args = take_args(alloc, phase, fields.args.take())?;
     Ok(Event {
         phase,
         reach,

@@ -5,7 +5,7 @@ use Rattle.span_event.specs.Item.{IsGoodItem}
 use Rattle.span_read.proofs.Good.{IsGoodItem-item_of_fields}
 use Rattle.span_read.proofs.element.item_of.Goals as goal
 
-pub returns-in_ok-fields_of_members-in-Object-clause-good : goal.returns-in_ok-fields_of_members-in-Object-clause-good
-returns-in_ok-fields_of_members-in-Object-clause-good c =
-    let fields = c.in_ok-fields_of_members-in-Object.field-0 in
+pub returns-in_ok-fields-in-Object-clause-good : goal.returns-in_ok-fields-in-Object-clause-good
+returns-in_ok-fields-in-Object-clause-good c =
+    let fields = c.in_ok-fields-in-Object.fields in
     IfOk-weaker c.item_of_fields.result (λ item. item ≡ item_of_fields fields) IsGoodItem (λ item is. subst IsGoodItem (sym is) (IsGoodItem-item_of_fields fields)) c.item_of_fields.ensures
