@@ -3,7 +3,6 @@ ghost use Rattle.std.specs.Prelude.{◌≡◌, IfOk};
 
 use span_event::Text;
 use std::alloc::{AllocError, Global};
-use std::hash::{FoldHasher, Hash, Hasher};
 
 /// A file has few long names, each many times. The last ones are searched at one place each, whatever a file holds.
 const PLACES: usize = 4096;
@@ -49,8 +48,18 @@ impl RecentTexts {
     }
 }
 
+// Names mostly differ at their ends, and two words are hashed sooner than all bytes.
 fn place_of(text: &str) -> usize {
-    let mut hasher = FoldHasher::default();
-    text.hash(&mut hasher);
-    hasher.finish() as usize % PLACES
+    let bytes = text.as_bytes();
+    let (before, _) = bytes.split_at(bytes.len().saturating_sub(8));
+    let mixed = last_word(bytes) ^ last_word(before).rotate_left(29);
+    (mixed.wrapping_mul(0x9E37_79B9_7F4A_7C15) >> 52) as usize % PLACES
+}
+
+// The last eight bytes as a number, or 0 where there are fewer.
+fn last_word(bytes: &[u8]) -> u64 {
+    match bytes.last_chunk::<8>() {
+        Some(word) => u64::from_le_bytes(*word),
+        None => 0,
+    }
 }
