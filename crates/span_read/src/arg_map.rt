@@ -80,11 +80,7 @@ impl ArgMap {
         ensures { IfOk result (λ args. args ≡ self) }
     {
         match self.kept {
-            ArgPairs::Few(pairs) => {
-                let mut pairs = pairs;
-                pairs.shrink_to_fit();
-                Args::of_pairs(pairs)
-            }
+            ArgPairs::Few(pairs) => Args::of_pairs(pairs),
             ArgPairs::Many(map) => args_of_map(alloc, map),
         }
     }
@@ -96,7 +92,10 @@ fn put(pairs: Vec<Pair>, name: Text, value: ArgValue) -> Result<Vec<Pair>, Alloc
     let mut pairs = pairs;
     match place_of(&pairs, &name) {
         Ok(place) => pairs[place] = (name, value),
-        Err(place) => pairs.insert(place, (name, value))?,
+        Err(place) => {
+            pairs.reserve_exact(1)?;
+            pairs.insert(place, (name, value))?;
+        }
     }
     Ok(pairs)
 }
