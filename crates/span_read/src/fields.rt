@@ -52,25 +52,38 @@ pub(crate) struct Fields {
 impl Fields {
     ghost use Rattle.span_read.specs.Slots.{slots, names, put_at};
 
-    // Inlined, it would have all the fields copied at each member.
+    // Inlined, it would have all the fields copied at each member. By its length a name is told from most others at once.
     #[inline(never)]
     pub(crate) fn put(&mut self, name: &str, value: FieldValue)
         ensures { slots self.new
             ≡ put_at name.now value names (slots self.old) }
     {
-        match name {
-            "ph" => self.ph = Some(value),
-            "ts" => self.ts = Some(value),
-            "dur" => self.dur = Some(value),
-            "pid" => self.pid = Some(value),
-            "tid" => self.tid = Some(value),
-            "name" => self.name = Some(value),
-            "cat" => self.cat = Some(value),
-            "id" => self.id = Some(value),
-            "id2" => self.id2 = Some(value),
-            "scope" => self.scope = Some(value),
-            "s" => self.s = Some(value),
-            "args" => self.args = Some(value),
+        match name.len() {
+            1 => if name == "s" {
+                self.s = Some(value)
+            },
+            2 => match name {
+                "ph" => self.ph = Some(value),
+                "ts" => self.ts = Some(value),
+                "id" => self.id = Some(value),
+                _ => {}
+            },
+            3 => match name {
+                "dur" => self.dur = Some(value),
+                "pid" => self.pid = Some(value),
+                "tid" => self.tid = Some(value),
+                "cat" => self.cat = Some(value),
+                "id2" => self.id2 = Some(value),
+                _ => {}
+            },
+            4 => match name {
+                "name" => self.name = Some(value),
+                "args" => self.args = Some(value),
+                _ => {}
+            },
+            5 => if name == "scope" {
+                self.scope = Some(value)
+            },
             _ => {}
         }
     }
