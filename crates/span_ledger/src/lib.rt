@@ -30,7 +30,7 @@ pub use named_spans::NamedSpan;
 pub use parts::{ProcessPart, ThreadPart};
 pub use query::Query;
 pub use refusal::{Back, Cause};
-pub use reply::Reply;
+pub use reply::{BoxedReply, Reply};
 pub use rows::{CountRow, ProcessRow, SpanRow, ThreadRow};
 pub use span_event::{
     ArgValue, Args, Event, Field, IdKey, Item, ItemFault, Items, Phase, Reach, Text,

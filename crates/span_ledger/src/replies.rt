@@ -10,7 +10,7 @@ ghost use Rattle.span_ledger.specs.Tracked.{FollowsJournal, track_at, track_repl
 use crate::entry::Entry;
 use crate::keyed_tracks::KeyedTracks;
 use crate::query::Query;
-use crate::reply::{Reply, copy_of};
+use crate::reply::{BoxedReply, Reply, copy_of};
 use crate::rows::CountRow;
 use crate::thread_tracks::ThreadTracks;
 use crate::tracks::Tracks;
@@ -18,7 +18,22 @@ use span_event::{Text, Thread};
 use std::alloc::{AllocError, Global};
 
 // The reply to a query that comes after the entries of `journal`.
-pub(crate) fn reply_to(
+pub(crate) fn boxed_reply_to(
+    alloc: Global,
+    journal: &[Entry],
+    counts: CountRow,
+    tracks: &Tracks,
+    query: &Query,
+) -> Result<BoxedReply, AllocError>
+    requires follows { FollowsJournal journal.now tracks.now }
+    requires counted { counts ≡ count_row journal.now }
+    ensures { IfOk result (λ reply. reply ≡ reply_to journal.now query.now) }
+{
+    let reply = reply_to(alloc, journal, counts, tracks, query)?;
+    BoxedReply::new(alloc, reply)
+}
+
+fn reply_to(
     alloc: Global,
     journal: &[Entry],
     counts: CountRow,

@@ -5,6 +5,8 @@ use crate::rows::CountRow;
 use span_event::Text;
 use span_keyed_tracks::{AsyncTotals, FlowTotals, SeriesTotals};
 use std::alloc::{AllocError, Global};
+use std::fmt;
+use std::marker::Model;
 
 /// The reply to a query. Times and lengths are microseconds.
 #[derive(Debug, Drop, PartialEq, Eq)]
@@ -79,6 +81,49 @@ impl Reply {
             }
             Reply::Counts(row) => Ok(Reply::Counts(*row)),
         }
+    }
+}
+
+/// A reply behind a pointer: most answers are none, and are smaller without room for one.
+#[derive(Drop)]
+pub struct BoxedReply {
+    reply: Box<Reply>,
+}
+
+impl Model for BoxedReply {
+    ghost use Rattle.span_ledger.specs.declared.reply.Reply.{Reply};
+
+    ghost Value = { Reply };
+
+    ghost view = { λ b. b.reply.value };
+}
+
+impl BoxedReply {
+    pub fn new(alloc: Global, reply: Reply) -> Result<BoxedReply, AllocError>
+        ensures { IfOk result (λ boxed. boxed ≡ reply) }
+    {
+        let reply = Box::new(alloc, reply)?;
+        Ok(BoxedReply { reply })
+    }
+
+    pub fn as_reply(&self) -> &Reply
+        ensures { result.now ≡ self.now }
+    {
+        &self.reply
+    }
+
+    /// A copy, which shares long texts. It fails where there are 2^63 copies of one, or no memory is left.
+    pub fn try_clone(&self, alloc: Global) -> Result<BoxedReply, AllocError>
+        ensures { IfOk result (λ copy. copy ≡ self.now) }
+    {
+        let reply = self.reply.try_clone(alloc)?;
+        BoxedReply::new(alloc, reply)
+    }
+}
+
+impl fmt::Debug for BoxedReply {
+    fn fmt<W: fmt::Write>(&self, f: &mut fmt::Formatter<W>) -> fmt::Result {
+        fmt::Debug::fmt(self.as_reply(), f)
     }
 }
 
