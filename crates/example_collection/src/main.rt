@@ -42,11 +42,21 @@ fn entries(counts: &CountRow) -> u64 {
         + u64::from(counts.seals)
 }
 
+fn counts_of(answer: &Answer) -> Option<&CountRow> {
+    match answer {
+        Answer::Reply(reply) => match reply.as_reply() {
+            Reply::Counts(counts) => Some(counts),
+            _ => None,
+        },
+        _ => None,
+    }
+}
+
 // How far the workers were is left to chance. But a reply counts the entries before its query: as many as the journal has there.
 fn print_replies(rt: &impl Print, ledger: &Ledger) -> io::Result<()> {
     for position in 0..ledger.len() {
         if let Some(entry) = ledger.entry(position) {
-            if let Answer::Reply(Reply::Counts(counts)) = &entry.answer {
+            if let Some(counts) = counts_of(&entry.answer) {
                 let is_exact = entries(counts) == u64::from(position);
                 println!(rt; "a reply counts the entries before it: {is_exact}")?;
             }
