@@ -13,7 +13,7 @@ use crate::error::stop::Stop;
 use crate::fields::Fields;
 use crate::tokens::Tokens;
 use crate::tokens::head::{Head, next_head};
-use crate::tokens::kept::{KeptMembers, KeptValue, read_object};
+use crate::tokens::kept::{KeptMembers, KeptValue, read_members, read_object};
 use crate::tokens::pass::{pass_array, pass_object, pass_value};
 use span_event::{Item, ItemFault, Items};
 use std::alloc::Global;
@@ -101,7 +101,8 @@ impl KeptValue for Item {
     fn read(tokens: &mut Tokens<'_>, depth: usize) -> Result<Item, Stop> {
         match next_head(&mut tokens.reader)? {
             Head::Object => {
-                let mut fields: Fields = read_object(tokens, depth)?;
+                let mut fields = Fields::none(tokens.alloc);
+                read_members(tokens, depth, &mut fields)?;
                 Ok(item_of_fields(tokens.alloc, &mut fields)?)
             }
             Head::Array => {

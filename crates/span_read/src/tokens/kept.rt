@@ -34,18 +34,34 @@ pub(crate) trait KeptMembers: Drop {
 }
 
 /// The rest of an object whose bracket was taken.
-#[inline(never)]
+#[inline(always)]
 pub(crate) fn read_object<K: KeptMembers>(tokens: &mut Tokens<'_>, depth: usize) -> Result<K, Stop>
     ensures kept { IfOk result (λ kept. TakesObject depth tokens.old.reader tokens.new.reader
         (λ ms. kept ≡ K.of ms)) }
     ensures refused { IsNotJson result → data_at depth (Token.begin_object ∷ tokens.old.reader) ≡ None }
 {
+    let mut kept = K::none(tokens.alloc);
+    read_members(tokens, depth, &mut kept)?;
+    Ok(kept)
+}
+
+/// As `read_object`, into what nothing was kept in, and which is not moved.
+#[inline(never)]
+pub(crate) fn read_members<K: KeptMembers>(
+    tokens: &mut Tokens<'_>,
+    depth: usize,
+    kept: &mut K,
+) -> Result<(), Stop>
+    requires { kept.old ≡ K.of no_members }
+    ensures kept { OnOk result (TakesObject depth tokens.old.reader tokens.new.reader
+        (λ ms. kept.new ≡ K.of ms)) }
+    ensures refused { IsNotJson result → data_at depth (Token.begin_object ∷ tokens.old.reader) ≡ None }
+{
     if depth == 0 {
         return Err(Stop::NotJson);
     }
-    let mut kept = K::none(tokens.alloc);
     'members: while let Some(name) = tokens.reader.next_key()? {
         kept.keep(name, tokens, depth - 1)?;
     }
-    Ok(kept)
+    Ok(())
 }

@@ -5,7 +5,7 @@ use Rattle.span_read.proofs.document.ItemKeptValue.read.Goals as goal
 
 pub returns-in_ok-item_of_fields-in-Object-clause-value : goal.returns-in_ok-item_of_fields-in-Object-clause-value
 returns-in_ok-item_of_fields-in-Object-clause-value c =
-    object_value c.args.depth c.args.tokens.now.reader c.next_head.new.reader _ _ _ (grind arith) (λ ms is. ap item_of_fields (sym is) ∙ sym c.in_ok-item_of_fields-in-Object.ensures) c.in_ok-fields-in-Object.ensures.kept
+    object_value c.args.depth c.args.tokens.now.reader c.next_head.new.reader _ _ _ (grind arith) (λ ms is. ap item_of_fields (sym is) ∙ sym c.in_ok-item_of_fields-in-Object.ensures) c.in_ok-read_members-in-Object.ensures.kept
 
 pub returns-in_ok-pass_array-in-Array-clause-value : goal.returns-in_ok-pass_array-in-Array-clause-value
 returns-in_ok-pass_array-in-Array-clause-value c =

@@ -2,13 +2,13 @@ use Rattle.std.proofs.Common.{◌≡◌, ◌-◌, Some, arith}
 use Rattle.json.specs.Json.{read_key}
 use Rattle.span_read.proofs.Grammar.{data_at-too_deep_object}
 use Rattle.span_read.proofs.Turns.{members_smaller, members_start, members_turn, members_key_refused, members_value_refused, members_finish}
-use Rattle.span_read.proofs.tokens.kept.read_object.Goals as goal
+use Rattle.span_read.proofs.tokens.kept.read_members.Goals as goal
 
 pub returns-then-depth-eq0-clause-refused : goal.returns-then-depth-eq0-clause-refused
 returns-then-depth-eq0-clause-refused g c = λ no. data_at-too_deep_object c.args.depth c.args.tokens.now.reader c.if-depth-eq0.true
 
 pub members-init : goal.members-init
-members-init g c = members_start (c.args.depth - 1) c.args.tokens.now.reader (λ ms. c.none-kept.result ≡ g.K.KeptMembers.of ms) c.none-kept.ensures
+members-init g c = members_start (c.args.depth - 1) c.args.tokens.now.reader (λ ms. c.args.kept.now ≡ g.K.KeptMembers.of ms) c.requires
 
 pub returns-in_err-name-clause-refused : goal.returns-in_err-name-clause-refused
 returns-in_err-name-clause-refused g c = λ no.
