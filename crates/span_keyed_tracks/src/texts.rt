@@ -1,5 +1,5 @@
 //! The numbers of texts.
-ghost use Rattle.std.specs.Prelude.{◌≡◌, List, ℕ, [], Some, length, slice_get, take, option_copied, IfOk, OnOk, OnErr};
+ghost use Rattle.std.specs.Prelude.{◌≡◌, ◌<◌, List, ℕ, [], Some, length, slice_get, take, option_copied, IfOk, IsTrue, OnOk, OnErr};
 ghost use Rattle.span_keyed_tracks.specs.Numbering.{KeepsNumbers, number_in, text_at, with_name};
 
 use crate::hash_keys::HashKeys;
@@ -8,10 +8,16 @@ use span_event::Text;
 use std::alloc::{AllocError, Global};
 use std::marker::Model;
 
+/// How many texts are found without hashing them.
+const RECENT: usize = 64;
+
 // Distinct texts, as many as memory holds, numbered from 0 in the order of their first use.
 #[derive(Drop)]
 pub(crate) struct Texts {
     texts: IndexSet<Text, HashKeys>,
+    // At a place of its bytes' choice, the number of a text that was asked for lately. It is looked up there before it is believed,
+    // so any number may stand here.
+    recent: [usize; RECENT],
 }
 
 impl Model for Texts {
@@ -28,6 +34,7 @@ impl Texts {
     {
         Texts {
             texts: IndexSet::with_hasher(alloc, keys),
+            recent: [0; RECENT],
         }
     }
 
@@ -39,6 +46,32 @@ impl Texts {
 
     // The number of `text`, which gets the next one where it has none. Only a new text takes memory.
     pub(crate) fn number_of(&mut self, text: &Text) -> Result<usize, AllocError>
+        ensures number { IfOk result (λ number. number_in self.new text.now ≡ Some number) }
+        ensures names { OnOk result (self.new ≡ with_name self.old text.now) }
+        ensures keeps { KeepsNumbers self.old self.new }
+        ensures err { OnErr result (self.new ≡ self.old) }
+    {
+        let place = place_of(text);
+        let recent = self.recent[place];
+        if self.has_at(recent, text) {
+            return Ok(recent);
+        }
+        let number = self.add(text)?;
+        self.recent[place] = number;
+        Ok(number)
+    }
+
+    // Whether `text` has that number.
+    fn has_at(&self, number: usize, text: &Text) -> bool
+        ensures { IsTrue result → number_in self.now text.now ≡ Some number }
+    {
+        match self.texts.as_slice().get(number) {
+            Some(found) => found == text,
+            None => false,
+        }
+    }
+
+    fn add(&mut self, text: &Text) -> Result<usize, AllocError>
         ensures number { IfOk result (λ number. number_in self.new text.now ≡ Some number) }
         ensures names { OnOk result (self.new ≡ with_name self.old text.now) }
         ensures keeps { KeepsNumbers self.old self.new }
@@ -80,4 +113,16 @@ impl Texts {
     {
         self.texts.truncate(count);
     }
+}
+
+// Names differ by their lengths and ends, mostly.
+fn place_of(text: &Text) -> usize
+    ensures { result < 64 }
+{
+    let bytes = text.as_str().as_bytes();
+    let end = match bytes.last() {
+        Some(byte) => usize::from(*byte),
+        None => 0,
+    };
+    (bytes.len() % 64 * 7 + end) % 64
 }

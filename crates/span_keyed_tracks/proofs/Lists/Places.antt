@@ -1,8 +1,10 @@
 -- The place of the first element that passes a test.
-use Rattle.std.proofs.Common.{◌≡◌, ℕ, ◌+◌, Bool, true, false, not, cond, nat_lt, List, [], ◌∷◌, ◌++◌, length, Some, None, position, refl, ap, arith, ltb-false, ltb-true, lt-ltb, length-append, ◌≢◌}
-use Rattle.std.specs.List.{position_or_len, list_any}
+use Rattle.std.proofs.Common.{◌≡◌, ℕ, zero, suc, ◌+◌, ◌<◌, get_or, Bool, true, false, not, cond, nat_lt, List, [], ◌∷◌, ◌++◌, length, Some, None, position, refl, sym, ap, ◌∙◌, arith, ltb-false, ltb-true, lt-ltb, length-append, ◌≢◌}
+use Rattle.std.specs.Cmp.{IsEquivalence}
+use Rattle.std.specs.List.{AllByRecursion, IsDistinct, position_or_len, list_any}
 use Rattle.std.proofs.lemmas.List.{length_push}
-use Rattle.std.proofs.lemmas.List.Sums.{prefix_len-le-length}
+use Rattle.std.proofs.lemmas.List.Sums.{position_or_len_is, prefix_len-le-length}
+use Rattle.std.proofs.lemmas.Map.Keys.{IsDistinct-head, IsDistinct-tail}
 
 module _ {A : Type 0} (p : A → Bool) where
   -- where none passes, the place is the length
@@ -60,3 +62,25 @@ module _ {A : Type 0} (p : A → Bool) where
           let stays = position_or_len-front xs ys (λ all. omega arith) in
           let still : nat_lt (position_or_len p xs) (length (xs ++ ys)) ≡ true = lt-ltb _ _ (omega (arith, length-append xs ys)) in
           rw (stays, still) found
+
+AllByRecursion-at : {A : Type 0} (P : A → Type 0) (xs : List A) (i : ℕ) (d : A) → i < length xs → AllByRecursion P xs → P (get_or xs i d)
+AllByRecursion-at P [] i d within all = absurd (omega arith)
+AllByRecursion-at P (x ∷ xs) zero d within all = all.0
+AllByRecursion-at P (x ∷ xs) (suc i) d within all = AllByRecursion-at P xs i d (omega arith) all.1
+
+-- of elements that differ an earlier one isn't a later one
+apart-IsDistinct : {A : Type 0} (e : A → A → Bool) (xs : List A) (k i : ℕ) (d : A) → IsDistinct e xs → k < i → i < length xs → e (get_or xs k d) (get_or xs i d) ≡ false
+apart-IsDistinct e [] k i d distinct less within = absurd (omega arith)
+apart-IsDistinct e (x ∷ xs) k zero d distinct less within = absurd (omega arith)
+apart-IsDistinct e (x ∷ xs) zero (suc i) d distinct less within = AllByRecursion-at _ xs i d (omega arith) (IsDistinct-head e x xs distinct)
+apart-IsDistinct e (x ∷ xs) (suc k) (suc i) d distinct less within = apart-IsDistinct e xs k i d (IsDistinct-tail e x xs distinct) (omega arith) (omega arith)
+
+-- where elements differ, the place of one that is equal to x is the first that passes the test
+pub position-IsDistinct : {A : Type 0} (e : A → A → Bool) → IsEquivalence e → (xs : List A) (n : ℕ) (d x : A) → IsDistinct e xs → n < length xs → e (get_or xs n d) x ≡ true → position (λ y. e y x) xs ≡ Some n
+position-IsDistinct e laws xs n d x distinct within same =
+    let before : (k : ℕ) → k < n → e (get_or xs k d) x ≡ false = λ k less.
+    laws.symm (get_or xs k d) x ∙ sym (laws.congr (get_or xs n d) x (get_or xs k d) same)
+    ∙ laws.symm (get_or xs n d) (get_or xs k d) ∙ apart-IsDistinct e xs k n d distinct less within in
+    let place = position_or_len_is (λ y. e y x) xs n d (omega arith) before (λ less. same) in
+    let inside : nat_lt n (length xs) ≡ true = lt-ltb _ _ within in
+    rw (place, inside) refl
