@@ -89,3 +89,11 @@ has_process-listed processes (t ∷ threads) thread h listed = by (same_thread t
 -- where a thread is listed already, nothing is to be added
 pub add_key-listed : (processes : List ℤ) (threads : List Thread) (thread : Thread) → have_processes processes threads ≡ true → list_any (same_thread thread) threads ≡ true → add_key int_eq processes thread.pid ≡ processes
 add_key-listed processes threads thread h listed = ap (λ b. cond b processes (processes ++ thread.pid ∷ [])) (has_process-listed processes threads thread h listed)
+
+-- a thread that is listed adds nothing
+pub ascending-listed_thread : (threads : List Thread) (thread : Thread) → list_any (same_thread thread) threads ≡ true → ascending thread_cmp threads ≡ insert_key thread_cmp (ascending thread_cmp threads) thread
+ascending-listed_thread threads thread listed = ap (λ b. ascending thread_cmp (cond b threads (threads ++ thread ∷ []))) (sym listed) ∙ ascending-thread threads thread
+
+-- nor does its process
+pub ascending-listed_process : (processes : List ℤ) (threads : List Thread) (thread : Thread) → have_processes processes threads ≡ true → list_any (same_thread thread) threads ≡ true → ascending int_cmp processes ≡ insert_key int_cmp (ascending int_cmp processes) thread.pid
+ascending-listed_process processes threads thread h listed = ap (ascending int_cmp) (sym (add_key-listed processes threads thread h listed)) ∙ ascending-process processes thread.pid

@@ -1,6 +1,6 @@
 //! The processes and threads that a journal lists.
 ghost use Rattle.span_event.specs.Orders.{thread_cmp};
-ghost use Rattle.std.specs.Prelude.{◌≡◌, ◌<◌, [], IfOk, OnOk};
+ghost use Rattle.std.specs.Prelude.{◌≡◌, ◌<◌, [], IfOk, OnOk, IsTrue};
 ghost use Rattle.std.specs.Ordering.{int_cmp};
 ghost use Rattle.std.specs.BTreeSet.{insert_key};
 ghost use Rattle.span_keyed_tracks.specs.Keyed.{ascending};
@@ -12,11 +12,17 @@ use std::alloc::{AllocError, Global};
 use std::collections::BTreeSet;
 use std::marker::Model;
 
+/// How many threads are found without hashing them.
+const RECENT: usize = 16;
+
 // Each once, in the order of the events that listed them.
 #[derive(Drop)]
 pub(crate) struct Listed {
     pub(crate) processes: IndexSet<i64, HashKeys>,
     pub(crate) threads: IndexSet<Thread, HashKeys>,
+    // At a place of its number's choice, where a thread stands that an event was on lately. It is looked up there before it is
+    // believed, so any number may stand here.
+    recent: [usize; RECENT],
 }
 
 impl Model for Listed {
@@ -47,6 +53,7 @@ impl Listed {
         Listed {
             processes: IndexSet::with_hasher(alloc, keys),
             threads: IndexSet::with_hasher(alloc, keys),
+            recent: [0; RECENT],
         }
     }
 
@@ -73,7 +80,7 @@ impl Listed {
         }
     }
 
-    // Lists a thread and its process, which a listed thread has listed already.
+    // Lists a thread and its process.
     pub(crate) fn add(&mut self, thread: Thread)
         requires process_room { 0 < self.old.process_room }
         requires thread_room { 0 < self.old.thread_room }
@@ -82,13 +89,44 @@ impl Listed {
         ensures threads { ascending thread_cmp self.new.threads
             ≡ insert_key thread_cmp (ascending thread_cmp self.old.threads) thread }
     {
-        match self.threads.insert(thread) {
-            Ok(true) => {
+        let place = thread.tid.rem_euclid(16) as usize;
+        if self.has_at(self.recent[place], &thread) {
+            return;
+        }
+        let index = self.list(thread);
+        self.recent[place] = index;
+    }
+
+    // Whether the thread is listed there, so that there is nothing to be listed.
+    fn has_at(&self, index: usize, thread: &Thread) -> bool
+        ensures processes { IsTrue result → ascending int_cmp self.now.processes
+            ≡ insert_key int_cmp (ascending int_cmp self.now.processes) thread.now.pid }
+        ensures threads { IsTrue result → ascending thread_cmp self.now.threads
+            ≡ insert_key thread_cmp (ascending thread_cmp self.now.threads) thread.now }
+    {
+        match self.threads.get_index(index) {
+            Some(listed) => thread == listed,
+            None => false,
+        }
+    }
+
+    // Lists a thread and its process, which a listed thread has listed already, and answers where it stands.
+    fn list(&mut self, thread: Thread) -> usize
+        requires process_room { 0 < self.old.process_room }
+        requires thread_room { 0 < self.old.thread_room }
+        ensures processes { ascending int_cmp self.new.processes
+            ≡ insert_key int_cmp (ascending int_cmp self.old.processes) thread.pid }
+        ensures threads { ascending thread_cmp self.new.threads
+            ≡ insert_key thread_cmp (ascending thread_cmp self.old.threads) thread }
+    {
+        match self.threads.insert_full(thread) {
+            Ok((index, true)) => {
                 if self.processes.insert(thread.pid).is_err() {
                     unreachable!();
                 }
+                index
             }
-            Ok(false) => {}
+            Ok((index, false)) => index,
             Err(_) => unreachable!(),
         }
     }
