@@ -1,10 +1,19 @@
 -- Stacks that were coded are had back.
-use Rattle.std.proofs.Common.{◌≡◌, ℕ, suc, ◌+◌, ◌-◌, ◌<◌, ◌≤◌, Bool, true, false, cond, List, [], ◌∷◌, ◌++◌, length, take, drop, refl, ap, ap₂, ◌∙◌, Bor, map, get_or, zero, arith}
+use Rattle.std.proofs.Common.{◌≡◌, ℕ, zero, suc, ◌+◌, ◌≤◌, Bool, true, false, cond, List, [], ◌∷◌, ◌++◌, length, take, drop, refl, sym, ap, ap₂, ◌∙◌, arith}
 use Rattle.std.specs.Cmp.Lexicographic.{bytes_decides}
-use Rattle.std.specs.List.{common_prefix_len}
-use Rattle.span_event.specs.Text.{Bytes, same_text}
-use Rattle.span_stacks.specs.Stacks.{Folded, Stack}
-use Rattle.span_page.specs.Coded.{coded, coded_after, decoded_after, shared}
+use Rattle.std.specs.Ordering.{nat_cmp, ord_min, ordering_then}
+use Rattle.std.specs.declared.cmp.Ordering.{Ordering}
+use Rattle.std.specs.declared.cmp.Ordering.TheVariants.{Less, Equal, Greater}
+use Rattle.std.proofs.lemmas.Bool.Decides.{nat_tests}
+use Rattle.std.proofs.lemmas.Cmp.{nat_list_cmp_total, tied_itself}
+use Rattle.span_event.specs.Text.{Bytes, same_text, text_cmp}
+use Rattle.span_event.proofs.Orders.{text_same}
+use Rattle.span_stacks.specs.Stacks.{Folded, Stack, stack_order}
+use Rattle.span_stacks.specs.Tree.{folded_if}
+use Rattle.span_stacks.specs.Walk.{AreAscending, Framed, folded_after, stack_after}
+use Rattle.span_stacks.proofs.StackOrders.{irreflexive, none-below-empty, turned-greater}
+use Rattle.span_stacks.proofs.Times.{stack_order-total}
+use Rattle.span_page.specs.Coded.{Coded, coded_after, decoded_after, shared}
 use Rattle.span_page.specs.Laws.{StacksAreHadBack}
 
 -- the frames that a stack shares with another, and its others
@@ -27,26 +36,93 @@ decoded_after-coded_after before (folded ∷ later) =
 pub stacks-had-back : StacksAreHadBack
 stacks-had-back stacks = decoded_after-coded_after [] stacks
 
--- names that are lent
-pub shared-lent : (before stack : List (Bor Bytes))
-    → common_prefix_len (λ a b. same_text a.now b.now) before stack ≡ shared (map (λ name. name.now) before) (map (λ name. name.now) stack)
-shared-lent [] stack = refl
-shared-lent (frame ∷ frames) [] = refl
-shared-lent (frame ∷ frames) (other ∷ others) = ap (λ n. cond (same_text frame.now other.now) (1 + n) 0) (shared-lent frames others)
+-- a stack begins like itself as far as it goes
+shared-itself : (stack : Stack) → shared stack stack ≡ length stack
+shared-itself [] = refl
+shared-itself (frame ∷ frames) = ap₂ (λ b n. cond b (1 + n) 0) ((bytes_decides frame frame).1 refl) (shared-itself frames) ∙ one (length frames)
+  where
+    one : (n : ℕ) → 1 + n ≡ suc n
+    one n = omega arith
 
-pub length-coded_after : (before : Stack) (stacks : List Folded) → length (coded_after before stacks) ≡ length stacks
-length-coded_after before [] = refl
-length-coded_after before (folded ∷ later) = ap suc (length-coded_after folded.stack later)
+ord_min-zero : (n : ℕ) → ord_min nat_cmp n 0 ≡ 0
+ord_min-zero n = grind (arith, nat_tests)
 
--- the stacks from a later one on
-drop-suc : (before : Stack) (stacks : List Folded) (n : ℕ) (d e : Folded) → suc n < length stacks
-    → drop (suc n) (coded_after before stacks) ≡ coded (get_or stacks n d).stack (get_or stacks (suc n) e) ∷ drop (suc (suc n)) (coded_after before stacks)
-drop-suc before [] n d e within = absurd (omega (arith, within))
-drop-suc before (folded ∷ []) n d e within = absurd (omega (arith, within))
-drop-suc before (folded ∷ next ∷ later) zero d e within = refl
-drop-suc before (folded ∷ next ∷ later) (suc n) d e within = drop-suc folded.stack (next ∷ later) n d e (omega (arith, within))
+zero-ord_min : (n : ℕ) → ord_min nat_cmp 0 n ≡ 0
+zero-ord_min n = grind (arith, nat_tests)
 
-pub drop-coded_after : (stacks : List Folded) (place : ℕ) (d e : Folded) → 1 ≤ place → place < length stacks
-    → drop place (coded_after [] stacks) ≡ coded (get_or stacks (place - 1) d).stack (get_or stacks place e) ∷ drop (place + 1) (coded_after [] stacks)
-drop-coded_after stacks zero d e later within = absurd (omega (arith, later))
-drop-coded_after stacks (suc n) d e later within = let one : suc n - 1 ≡ n = omega arith in let next : suc n + 1 ≡ suc (suc n) = omega arith in rw (one, next) (drop-suc [] stacks n d e within)
+one-ord_min : (m n : ℕ) → 1 + ord_min nat_cmp m n ≡ ord_min nat_cmp (1 + m) (suc n)
+one-ord_min m n = grind (arith, nat_tests)
+
+-- of a stack, one no less than it, and one above that with so many of its frames: the first and the last begin alike no further
+pub shared-above : (before stack : Stack) (below : ℕ) (name : Bytes) → below ≤ length stack → (stack_order stack before ≡ Less → ⊥) → stack_order stack (take below stack ++ name ∷ []) ≡ Less →
+    shared before (take below stack ++ name ∷ []) ≡ ord_min nat_cmp (shared before stack) below
+shared-above [] stack below name within from above = sym (zero-ord_min below)
+shared-above (x ∷ xs) [] zero name within from above = absurd (from refl)
+shared-above (x ∷ xs) (y ∷ ys) zero name within from above = ap (λ b. cond b (1 + shared xs []) 0) (apart (text_cmp y x) (text_cmp y name) refl refl from above) ∙ sym (ord_min-zero (shared (x ∷ xs) (y ∷ ys)))
+  where
+    differ : text_cmp x name ≡ Less → same_text x name ≡ false
+    differ less = by (same_text x name) refl
+      where
+        by : (b : Bool) → same_text x name ≡ b → same_text x name ≡ false
+        by true same = let both : Equal ≡ Less = sym (ap (text_cmp x) (sym ((bytes_decides x name).0 same)) ∙ tied_itself nat_list_cmp_total x) ∙ less in absurd cc
+        by false same = same
+
+    -- x is no more than y, and y is less than the name
+    apart : (r s : Ordering) → text_cmp y x ≡ r → text_cmp y name ≡ s → (ordering_then r (stack_order ys xs) ≡ Less → ⊥) → ordering_then s (stack_order ys []) ≡ Less → same_text x name ≡ false
+    apart r Equal first second from above = absurd (none-below-empty ys above)
+    apart r Greater first second from above = absurd cc
+    apart Less Less first second from above = absurd (from refl)
+    apart Equal Less first second from above = differ (ap (λ t. text_cmp t name) (sym (text_same y x first)) ∙ second)
+    apart Greater Less first second from above = differ (nat_list_cmp_total.trans x y name (turned-greater nat_list_cmp_total y x first) second)
+shared-above (x ∷ xs) [] (suc below) name within from above = absurd (omega (arith, within))
+shared-above (x ∷ xs) (y ∷ ys) (suc below) name within from above = by (same_text x y) refl (shared-above xs ys below name (omega (arith, within)))
+  where
+    by : (b : Bool) → same_text x y ≡ b → ((stack_order ys xs ≡ Less → ⊥) → stack_order ys (take below ys ++ name ∷ []) ≡ Less → shared xs (take below ys ++ name ∷ []) ≡ ord_min nat_cmp (shared xs ys) below) →
+        cond b (1 + shared xs (take below ys ++ name ∷ [])) 0 ≡ ord_min nat_cmp (cond b (1 + shared xs ys) 0) (suc below)
+    by true same rest =
+        let equal = (bytes_decides x y).0 same in
+        let tied : text_cmp y x ≡ Equal = ap (text_cmp y) equal ∙ tied_itself nat_list_cmp_total y in
+        ap (λ n. 1 + n) (rest (λ less. from (ap₂ ordering_then tied less)) (sym (ap (λ o. ordering_then o (stack_order ys (take below ys ++ name ∷ []))) (tied_itself nat_list_cmp_total y)) ∙ above))
+        ∙ one-ord_min (shared xs ys) below
+    by false other rest = sym (zero-ord_min (suc below))
+
+-- the stack of a frame, if it has any time
+abbrev pub coded_if : ℕ → Stack → ℕ → List Coded
+coded_if n stack zero = []
+coded_if n stack (suc time) = record { shared = n; others = drop n stack; time = suc time } ∷ []
+
+-- with how many frames the stacks behind a stack may begin like the last that was coded
+abbrev pub shared_if : ℕ → Stack → ℕ → ℕ
+shared_if n stack zero = n
+shared_if n stack (suc time) = length stack
+
+-- the stacks of frames after another stack, which begins with n frames like the last that was coded
+abbrev pub coded_frames : ℕ → Stack → List Framed → List Coded
+coded_frames n stack [] = []
+coded_frames n stack (f ∷ fs) =
+    coded_if (ord_min nat_cmp n f.below) (stack_after stack f) f.time
+    ++ coded_frames (shared_if (ord_min nat_cmp n f.below) (stack_after stack f) f.time) (stack_after stack f) fs
+
+coded_frames-coded_after : (n : ℕ) (before stack : Stack) (frames : List Framed) → n ≡ shared before stack → (stack_order stack before ≡ Less → ⊥) → AreAscending stack frames →
+    coded_frames n stack frames ≡ coded_after before (folded_after stack frames)
+coded_frames-coded_after n before stack [] same from are = refl
+coded_frames-coded_after n before stack (f ∷ fs) same from are =
+    by f.time (coded_frames-coded_after (ord_min nat_cmp n f.below) before (stack_after stack f) fs alike up are.2)
+    (coded_frames-coded_after (length (stack_after stack f)) (stack_after stack f) (stack_after stack f) fs (sym (shared-itself (stack_after stack f))) (irreflexive stack_order-total (stack_after stack f)) are.2)
+  where
+    alike : ord_min nat_cmp n f.below ≡ shared before (stack_after stack f)
+    alike = ap (λ m. ord_min nat_cmp m f.below) same ∙ sym (shared-above before stack f.below f.name are.0 from are.1)
+
+    up : stack_order (stack_after stack f) before ≡ Less → ⊥
+    up less = from (stack_order-total.trans stack (stack_after stack f) before are.1 less)
+
+    by : (time : ℕ) → coded_frames (ord_min nat_cmp n f.below) (stack_after stack f) fs ≡ coded_after before (folded_after (stack_after stack f) fs) →
+        coded_frames (length (stack_after stack f)) (stack_after stack f) fs ≡ coded_after (stack_after stack f) (folded_after (stack_after stack f) fs) →
+        coded_if (ord_min nat_cmp n f.below) (stack_after stack f) time ++ coded_frames (shared_if (ord_min nat_cmp n f.below) (stack_after stack f) time) (stack_after stack f) fs
+        ≡ coded_after before (folded_if (stack_after stack f) time ++ folded_after (stack_after stack f) fs)
+    by zero rest later = rest
+    by (suc time) rest later = ap₂ (λ (m : ℕ) (cs : List Coded). let one : Coded = record { shared = m; others = drop m (stack_after stack f); time = suc time } in one ∷ cs) alike later
+
+-- the stacks of frames, coded one after the other
+pub coded_frames-all : (frames : List Framed) → AreAscending [] frames → coded_frames 0 [] frames ≡ coded_after [] (folded_after [] frames)
+coded_frames-all frames are = coded_frames-coded_after 0 [] [] frames refl (irreflexive stack_order-total []) are

@@ -1,3 +1,4 @@
+pub mod Appending
 pub mod Coding
 pub mod Joined
 pub mod SafeTexts

@@ -11,7 +11,7 @@ use span_event::Thread;
 use span_ledger::{Ledger, ProcessPart};
 use span_refusals::refusals_text;
 use span_report::report_text;
-use span_stacks::thread_stacks;
+use span_stacks::framed_stacks;
 use std::alloc::{AllocError, Global};
 
 // The report and the refusals as they are printed, and the folded stacks of each thread.
@@ -109,6 +109,6 @@ fn put_thread(
 ) -> Result<(), AllocError>
     ensures { OnOk result (string_bytes out.new ≡ string_bytes out.old ++ thread_json ledger.now.journal thread.now) }
 {
-    let stacks = thread_stacks(alloc, ledger, thread.pid, thread.tid)?;
-    put_stacks(alloc, out, &stacks)
+    let frames = framed_stacks(alloc, ledger, thread.pid, thread.tid)?;
+    put_stacks(alloc, out, &frames)
 }

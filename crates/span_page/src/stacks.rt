@@ -1,14 +1,14 @@
 //! Folded stacks as data.
-ghost use Rattle.std.specs.Prelude.{◌≡◌, ◌++◌, ◌∷◌, [], ◌≤◌, length, drop, map, flat_map, string_bytes, OnOk};
-ghost use Rattle.std.specs.List.{common_prefix_len, join_with_byte};
-ghost use Rattle.span_event.specs.Text.{same_text};
+ghost use Rattle.std.specs.Prelude.{◌≡◌, ◌++◌, [], map, string_bytes, OnOk};
+ghost use Rattle.std.specs.List.{join_with_byte};
 ghost use Rattle.span_report.specs.Lines.{json_text_of};
-ghost use Rattle.span_page.specs.Coded.{coded, coded_after};
+ghost use Rattle.span_stacks.specs.Walk.{AreAscending, folded_after};
+ghost use Rattle.span_page.specs.Coded.{coded_after};
 ghost use Rattle.span_page.specs.Data.{stack_json, stacks_json};
 
 use crate::data::put_string;
 use span_event::Text;
-use span_stacks::FoldedStack;
+use span_stacks::StackFrame;
 use std::alloc::{AllocError, Global};
 
 // Appends the stacks, each without the frames with which it begins as the one before it does.
@@ -16,50 +16,38 @@ use std::alloc::{AllocError, Global};
 pub(crate) fn put_stacks(
     alloc: Global,
     out: &mut String,
-    stacks: &[FoldedStack],
+    frames: &[StackFrame],
 ) -> Result<(), AllocError>
-    ensures { OnOk result (string_bytes out.new ≡ string_bytes out.old ++ stacks_json stacks.now) }
+    requires { AreAscending [] frames.now }
+    ensures { OnOk result (string_bytes out.new
+        ≡ string_bytes out.old ++ stacks_json (folded_after [] frames.now)) }
 {
     out.push('[')?;
-    put_each(alloc, out, stacks)?;
+    put_each(alloc, out, frames)?;
     out.push(']')
 }
 
-fn put_each(alloc: Global, out: &mut String, stacks: &[FoldedStack]) -> Result<(), AllocError>
+// Appends the stacks, parted by commas. A stack begins like the last one that was appended with as many frames as are below each
+// frame since then, so no frame is appended twice, and no stack is compared with another.
+fn put_each(alloc: Global, out: &mut String, frames: &[StackFrame]) -> Result<(), AllocError>
+    requires { AreAscending [] frames.now }
     ensures { OnOk result (string_bytes out.new
-        ≡ string_bytes out.old ++ join_with_byte 44 (map stack_json (coded_after [] stacks.now))) }
+        ≡ string_bytes out.old ++ join_with_byte 44 (map stack_json (coded_after [] (folded_after [] frames.now)))) }
 {
-    let Some((first, _)) = stacks.split_first() else {
-        return Ok(());
-    };
-    put_stack(alloc, out, &[], first)?;
-    put_later(alloc, out, stacks)
-}
-
-// Appends all of these stacks but the first, each with a comma before it.
-fn put_later(alloc: Global, out: &mut String, stacks: &[FoldedStack]) -> Result<(), AllocError>
-    ensures { OnOk result (string_bytes out.new
-        ≡ string_bytes out.old ++ flat_map (λ text. 44 ∷ text) (map stack_json (drop 1 (coded_after [] stacks.now)))) }
-{
-    for place in 1..stacks.len() {
-        out.push(',')?;
-        let before = &stacks[place - 1];
-        put_stack(alloc, out, &before.stack, &stacks[place])?;
+    let mut stack = Vec::new(alloc);
+    let mut shared = 0;
+    let mut comma = "";
+    for frame in frames {
+        frame.follow(&mut stack)?;
+        shared = shared.min(frame.below);
+        if frame.time > 0 {
+            out.push_str(comma)?;
+            put_coded(alloc, out, shared, &stack[shared..], frame.time)?;
+            shared = stack.len();
+            comma = ",";
+        }
     }
     Ok(())
-}
-
-fn put_stack(
-    alloc: Global,
-    out: &mut String,
-    before: &[&Text],
-    folded: &FoldedStack,
-) -> Result<(), AllocError>
-    ensures { OnOk result (string_bytes out.new
-        ≡ string_bytes out.old ++ stack_json (coded (map (λ name. name.now) before.now) folded.now)) }
-{
-    let shared = shared(before, &folded.stack);
-    put_coded(alloc, out, shared, &folded.stack[shared..], folded.time)
 }
 
 #[tactic(auto, unfolding(crate::specs::Data::stack_json), using(std::proofs::Common::append_assoc))]
@@ -76,19 +64,6 @@ fn put_coded(
     write!(out, "[{shared},[")?;
     put_names(alloc, out, others)?;
     write!(out, "],\"{time}\"]")
-}
-
-// With how many frames the two begin alike.
-fn shared(before: &[&Text], stack: &[&Text]) -> usize
-    ensures shared { result ≡ common_prefix_len (λ a b. same_text a.now b.now) before.now stack.now }
-    ensures within { result ≤ length stack.now }
-{
-    let most = before.len().min(stack.len());
-    let mut shared = 0;
-    while shared < most && before[shared] == stack[shared] {
-        shared += 1;
-    }
-    shared
 }
 
 // Appends the names, parted by commas.

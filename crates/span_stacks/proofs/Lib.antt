@@ -1,11 +1,14 @@
+pub mod Elders
 pub mod Folding
+pub mod Linking
 pub mod NodeTrees
 pub mod Owners
-pub mod Paths
 pub mod Placing
 pub mod RankOrder
+pub mod StackOrders
 pub mod Starts
 pub mod Stretches
 pub mod Sweeping
 pub mod Tallies
 pub mod Times
+pub mod Walking

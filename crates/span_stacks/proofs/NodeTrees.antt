@@ -18,7 +18,7 @@ use Rattle.span_event.proofs.Orders.{both_equal, option_same, text_same}
 use Rattle.span_stacks.specs.declared.tree.Node.{Node}
 use Rattle.span_stacks.specs.Nodes.{IsSameKey, IsTree, Key, grown, key_of, key_order, place_of, stacks_of_keys, tree_of}
 use Rattle.span_stacks.specs.Stacks.{Stack, has_frames}
-use Rattle.span_stacks.specs.Tree.{AreApart, Extends, IsChild, IsPlace, IsPlaceBefore, Tree, folded_if, stack_of, with_time}
+use Rattle.span_stacks.specs.Tree.{AreApart, Extends, IsChild, IsPlace, IsPlaceBefore, Tree, stack_of, with_time}
 use Rattle.span_stacks.proofs.Placing.{Extends-with_stack, with_stack}
 
 length-fold : (done : List Stack) (keys : List Key) → length (fold grown done keys) ≡ length done + length keys
@@ -42,7 +42,7 @@ length-tree_of nodes = length-stacks (map key_of nodes) ∙ length-map nodes key
 pub times-even : (nodes : List Node) → length (tree_of nodes).times ≡ length (tree_of nodes).stacks
 times-even nodes = length-map nodes (λ (n : Node). n.time) ∙ sym (length-tree_of nodes)
 
-key_order-total : IsTotalOrder key_order
+pub key_order-total : IsTotalOrder key_order
 key_order-total = then_total (on_total (λ (k : Key). k.0) (options_total nat_cmp_total)) (on_total (λ (k : Key). k.1.now) nat_list_cmp_total)
 
 key_order-same : (a b : Key) → key_order a b ≡ Equal → IsSameKey a b
@@ -50,11 +50,12 @@ key_order-same a b tie =
     let parts = both_equal (option_cmp nat_cmp a.0 b.0) (text_cmp a.1.now b.1.now) tie in
     (option_same nat_cmp-IsAntisymmetric a.0 b.0 parts.0, text_same a.1.now b.1.now parts.1)
 
-same-key_order : (a b : Key) → IsSameKey a b → key_order a b ≡ Equal
+-- the same keys tie
+pub same-key_order : (a b : Key) → IsSameKey a b → key_order a b ≡ Equal
 same-key_order a b same = ap₂ (λ p t. ordering_then (option_cmp nat_cmp p b.0) (text_cmp t b.1.now)) same.0 same.1 ∙ tied_itself key_order-total b
 
 -- keys that tie have one place
-place_of-tied : (places : List (Key × ℕ)) (a b : Key) → key_order a b ≡ Equal → place_of places a ≡ place_of places b
+pub place_of-tied : (places : List (Key × ℕ)) (a b : Key) → key_order a b ≡ Equal → place_of places a ≡ place_of places b
 place_of-tied places a b tie = ap (λ (test : Key → Bool). lookup test places) (λ i x. is_eq (key_order-total.congr a b x tie i))
 
 stack_of-append : (stacks : List Stack) (stack : Stack) (place : Option ℕ) → IsPlaceBefore (length stacks) place → stack_of (stacks ++ stack ∷ []) place ≡ stack_of stacks place
@@ -241,6 +242,8 @@ module _ (nodes : List Node) (places : List (Key × ℕ)) (at : ℕ) (node : Nod
 pub node-time : (nodes : List Node) (at : ℕ) (node : Node) → at < length nodes → node ≡ get_or nodes at node → get_or (tree_of nodes).times at 0 ≡ node.time
 node-time nodes at node within read = get_or-map (λ (n : Node). n.time) nodes at node 0 within ∙ ap (λ (n : Node). n.time) (sym read)
 
-pub folded_if-some : (stack : Stack) (time : ℕ) → 0 < time → folded_if stack time ≡ record { stack = stack; time = time } ∷ []
-folded_if-some stack zero some = absurd (omega (arith, some))
-folded_if-some stack (suc time) some = refl
+-- the parent of a node is that of its key
+pub parents-keys : (nodes : List Node) (k : ℕ) (d : Key) → k < length (map key_of nodes) → get_or (map (λ (n : Node). n.parent) nodes) k None ≡ (get_or (map key_of nodes) k d).0
+parents-keys [] k d within = absurd (omega (arith, within))
+parents-keys (node ∷ nodes) zero d within = refl
+parents-keys (node ∷ nodes) (suc k) d within = parents-keys nodes k d (omega (arith, within))

@@ -2,6 +2,8 @@ pub mod Folded
 pub mod Frames
 pub mod Laws
 pub mod Nodes
+pub mod Order
 pub mod Stacks
 pub mod Sweep
 pub mod Tree
+pub mod Walk

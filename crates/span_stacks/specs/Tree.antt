@@ -39,14 +39,6 @@ abbrev pub folded_if : Stack → ℕ → List Folded
 folded_if stack zero = []
 folded_if stack (suc n) = record { stack = stack; time = suc n } ∷ []
 
--- those of the first n places that have any time
-abbrev pub folded_before : Tree → ℕ → List Folded
-folded_before tree zero = []
-folded_before tree (suc n) = folded_before tree n ++ folded_if (slice_index_or tree.stacks n []) (slice_index_or tree.times n 0)
-
-abbrev pub folded_in : Tree → List Folded
-folded_in tree = folded_before tree (length tree.stacks)
-
 -- the tree has the stacks of another and maybe more, and the times of all stacks are the same
 pub record Extends (old new : Tree) : Type 0 where
   pub longer : (place : Option ℕ) → IsPlace old place → IsPlace new place

@@ -2,6 +2,7 @@
 //!
 //! What a thread's spans cost to fold: a sort by rank; and for each span one step for each stretch of time that it covers of those
 //! that the spans before it have parted. Of spans that nest that is one, and of spans that cross at most as many as are open.
+//! The stacks are then told frame by frame, in order: a step and a row for each frame of the tree. Only the text has each stack whole.
 #![tactic(auto)]
 
 mod frames;
@@ -14,5 +15,5 @@ mod text;
 mod tree;
 
 pub use output::write_folded;
-pub use stacks::{FoldedStack, thread_stacks};
+pub use stacks::{StackFrame, framed_stacks};
 pub use text::folded;

@@ -1,67 +1,76 @@
-//! The folded stacks of a thread.
-ghost use Rattle.std.specs.Prelude.{◌≡◌, IfOk};
+//! The stacks of a thread, frame by frame.
+ghost use Rattle.std.specs.Prelude.{◌≡◌, [], map, IfOk, OnErr, OnOk};
 ghost use Rattle.span_ledger.specs.Named.{AreThreadSpans};
 ghost use Rattle.span_stacks.specs.Folded.{thread_stacks};
-ghost use Rattle.span_stacks.specs.Stacks.{folded_order, folded_stacks};
+ghost use Rattle.span_stacks.specs.Stacks.{folded_stacks};
+ghost use Rattle.span_stacks.specs.Walk.{AreAscending, folded_after, stack_after};
 
 use crate::ranks::sort_by_rank;
 use crate::sweep::{bounds, swept};
 use span_event::Text;
 use span_ledger::{Ledger, NamedSpan};
 use std::alloc::{AllocError, Global};
-use std::cmp::Ordering;
 use std::marker::Model;
 
-/// The names of a stack, and for how many microseconds a thread has it.
+/// The last frame of a stack, how many other frames are below it, and for how many microseconds a thread has just this stack. The
+/// others are those with which the stack before it begins, so a list of frames tells many stacks without any frame twice.
 #[derive(Drop)]
-pub struct FoldedStack<'a> {
-    pub stack: Vec<&'a Text>,
+pub struct StackFrame<'a> {
+    pub below: usize,
+    pub name: &'a Text,
     pub time: u64,
 }
 
-impl<'a> Model for FoldedStack<'a> {
-    ghost use Rattle.std.specs.Prelude.{map};
-    ghost use Rattle.span_stacks.specs.Stacks.{Folded};
+impl<'a> Model for StackFrame<'a> {
+    ghost use Rattle.span_stacks.specs.Walk.{Framed};
 
-    ghost Value = { Folded };
+    ghost Value = { Framed };
 
-    ghost view = { λ f. record { stack = map (λ name. name.now) f.stack.items; time = f.time } };
+    ghost view = { λ f. record { below = f.below; name = f.name.now; time = f.time } };
 }
 
-impl<'a> FoldedStack<'a> {
-    fn compare(&self, other: &FoldedStack<'a>) -> Ordering
-        ensures { result ≡ folded_order self.now other.now }
+impl<'a> StackFrame<'a> {
+    /// Makes of the stack before this one the stack of this frame.
+    pub fn follow(&self, stack: &mut Vec<&'a Text>) -> Result<(), AllocError>
+        ensures ok { OnOk result (map (λ name. name.now) stack.new.items
+            ≡ stack_after (map (λ name. name.now) stack.old.items) self.now) }
+        ensures err { OnErr result (stack.new.items ≡ stack.old.items) }
     {
-        self.stack.cmp(&other.stack)
+        stack.reserve(1)?;
+        stack.truncate(self.below);
+        stack.push_reserved(self.name);
+        Ok(())
     }
 }
 
-/// The folded stacks of a thread of the ledger's journal, in the order of their lists of names.
-pub fn thread_stacks(
+/// The folded stacks of a thread of the ledger's journal, frame by frame, in the order of their lists of names. A stack that has no
+/// microsecond of its own is told too, if others begin with it.
+pub fn framed_stacks(
     alloc: Global,
     ledger: &Ledger,
     pid: i64,
     tid: i64,
-) -> Result<Vec<FoldedStack<'_>>, AllocError>
-    ensures { IfOk result
-        (λ stacks. stacks.items ≡ thread_stacks ledger.now.journal (record { pid = pid; tid = tid })) }
+) -> Result<Vec<StackFrame<'_>>, AllocError>
+    ensures stacks { IfOk result (λ frames. folded_after [] frames.items
+        ≡ thread_stacks ledger.now.journal (record { pid = pid; tid = tid })) }
+    ensures ascending { IfOk result (λ frames. AreAscending [] frames.items) }
 {
     let spans = ledger.closed_spans(alloc, pid, tid)?;
-    stacks_of(alloc, spans)
+    frames_of(alloc, spans)
 }
 
 // Each stack of the spans once, in order.
-fn stacks_of<'a>(
+fn frames_of<'a>(
     alloc: Global,
     mut spans: Vec<NamedSpan<'a>>,
-) -> Result<Vec<FoldedStack<'a>>, AllocError>
+) -> Result<Vec<StackFrame<'a>>, AllocError>
     requires { AreThreadSpans spans.items }
-    ensures { IfOk result (λ stacks. stacks.items ≡ folded_stacks spans.entry.items) }
+    ensures stacks { IfOk result
+        (λ frames. folded_after [] frames.items ≡ folded_stacks spans.entry.items) }
+    ensures ascending { IfOk result (λ frames. AreAscending [] frames.items) }
 {
     let (from, until) = bounds(&spans);
     sort_by_rank(&mut spans);
     let tree = swept(alloc, &spans, from, until)?;
-    let mut stacks = tree.folded(alloc)?;
-    stacks.sort_unstable_by(|a, b| a.compare(b));
-    Ok(stacks)
+    tree.frames(alloc)
 }

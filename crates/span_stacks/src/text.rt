@@ -1,9 +1,10 @@
 //! The text of folded stacks.
 ghost use Rattle.std.specs.Prelude.{◌≡◌, ◌++◌, [], ◌∷◌, flat_map, map, decimal, IfOk, OnOk};
 ghost use Rattle.span_stacks.specs.Folded.{folded_of, process_lines, stack_frames, stack_line, stack_lines, thread_frames, thread_lines};
+ghost use Rattle.span_stacks.specs.Walk.{folded_after};
 
 use crate::frames::{put_frame, put_owner};
-use crate::stacks::{FoldedStack, thread_stacks};
+use crate::stacks::{StackFrame, framed_stacks};
 use span_event::Text;
 use span_ledger::{Ledger, ProcessPart, ProcessRow, ThreadPart, ThreadRow};
 use std::alloc::{AllocError, Global};
@@ -46,8 +47,8 @@ fn put_thread(
 {
     let row = &part.row;
     let start = thread_frames(alloc, process, row)?;
-    let stacks = thread_stacks(alloc, ledger, row.pid, row.tid)?;
-    put_lines(alloc, out, &start, &stacks)
+    let frames = framed_stacks(alloc, ledger, row.pid, row.tid)?;
+    put_lines(alloc, out, &start, &frames)
 }
 
 // The process and the thread, with which each line of the thread starts.
@@ -69,12 +70,17 @@ fn put_lines(
     alloc: Global,
     out: &mut Vec<u8>,
     start: &[u8],
-    stacks: &[FoldedStack],
+    frames: &[StackFrame],
 ) -> Result<(), AllocError>
-    ensures { OnOk result (out.new.items ≡ out.old.items ++ stack_lines start.now stacks.now) }
+    ensures { OnOk result (out.new.items
+        ≡ out.old.items ++ stack_lines start.now (folded_after [] frames.now)) }
 {
-    for folded in stacks {
-        put_line(alloc, out, start, folded)?;
+    let mut stack = Vec::new(alloc);
+    for frame in frames {
+        frame.follow(&mut stack)?;
+        if frame.time > 0 {
+            put_line(alloc, out, start, &stack, frame.time)?;
+        }
     }
     Ok(())
 }
@@ -83,13 +89,14 @@ fn put_line(
     alloc: Global,
     out: &mut Vec<u8>,
     start: &[u8],
-    folded: &FoldedStack,
+    stack: &[&Text],
+    time: u64,
 ) -> Result<(), AllocError>
-    ensures { OnOk result (out.new.items ≡ out.old.items ++ stack_line start.now folded.now) }
+    ensures { OnOk result (out.new.items ≡ out.old.items
+        ++ stack_line start.now (record { stack = map (λ name. name.now) stack.now; time = time })) }
 {
     out.extend_from_slice(start)?;
-    put_stack(out, &folded.stack)?;
-    let time = folded.time;
+    put_stack(out, stack)?;
     out.extend_from_slice(format!(in alloc; " {time}\n")?.as_bytes())
 }
 

@@ -1,8 +1,10 @@
 //! Stacks that share what they begin with, each with its time.
-ghost use Rattle.std.specs.Prelude.{◌≡◌, ◌++◌, [], ◌∷◌, ◌+◌, ◌<◌, ◌^◌, length, map, All, IfOk, OnErr, OnOk, Some, slice_index_or};
-ghost use Rattle.span_stacks.specs.Tree.{AreApart, Extends, IsChild, IsPlace, folded_if, folded_in, stack_of, with_time};
+ghost use Rattle.std.specs.Prelude.{◌≡◌, [], ◌+◌, ◌<◌, ◌^◌, length, map, All, IfOk, OnErr, OnOk, Some};
+ghost use Rattle.span_stacks.specs.Order.{AreDepths, IsElder, IsOrder, depth_on, put_after, slot};
+ghost use Rattle.span_stacks.specs.Tree.{AreApart, Extends, IsChild, IsPlace, IsPlaceBefore, with_time};
+ghost use Rattle.span_stacks.specs.Walk.{IsWalk};
 
-use crate::stacks::FoldedStack;
+use crate::stacks::StackFrame;
 use span_event::Text;
 use std::alloc::{AllocError, Global};
 use std::collections::BTreeMap;
@@ -82,49 +84,94 @@ impl<'a> StackTree<'a> {
         }
     }
 
-    // The stacks that have a microsecond or more, each once.
-    pub(crate) fn folded(&self, alloc: Global) -> Result<Vec<FoldedStack<'a>>, AllocError>
-        ensures folded { IfOk result (λ stacks. stacks.items ≡ folded_in self.now) }
+    // The stacks that have a microsecond or more, frame by frame and in order.
+    pub(crate) fn frames(&self, alloc: Global) -> Result<Vec<StackFrame<'a>>, AllocError>
+        ensures walk { IfOk result (λ frames. IsWalk self.now frames.items) }
         ensures apart { OnOk result (AreApart self.now) }
     {
-        let mut stacks = Vec::new(alloc);
-        for place in 0..self.nodes.len() {
-            self.add_folded(alloc, place, &mut stacks)?;
-        }
-        Ok(stacks)
-    }
-
-    fn add_folded(
-        &self,
-        alloc: Global,
-        place: usize,
-        stacks: &mut Vec<FoldedStack<'a>>,
-    ) -> Result<(), AllocError>
-        requires { place < length self.now.stacks }
-        ensures { OnOk result (stacks.new.items
-            ≡ stacks.old.items ++ folded_if (stack_of self.now.stacks (Some place)) (slice_index_or self.now.times place 0)) }
-    {
-        let time = self.nodes[place].time;
-        if time > 0 {
-            let stack = self.stack(alloc, place)?;
-            stacks.push(FoldedStack { stack, time })?;
-        }
-        Ok(())
-    }
-
-    // The frames of a place, those of its parents first.
-    fn stack(&self, alloc: Global, top: usize) -> Result<Vec<&'a Text>, AllocError>
-        requires { top < length self.now.stacks }
-        ensures { IfOk result (λ stack. map (λ name. name.now) stack.items ≡ stack_of self.now.stacks (Some top)) }
-    {
-        let mut stack = Vec::new(alloc);
-        let mut place = Some(top);
+        let depths = self.depths(alloc)?;
+        let next = self.order(alloc)?;
+        let mut frames = Vec::new(alloc);
+        let mut place = next[0];
         while let Some(at) = place {
             let node = &self.nodes[at];
-            stack.push(node.name)?;
-            place = node.parent;
+            frames.push(StackFrame {
+                below: depths[at],
+                name: node.name,
+                time: node.time,
+            })?;
+            place = next[at + 1];
         }
-        stack.reverse();
-        Ok(stack)
+        Ok(frames)
+    }
+
+    // How many frames are below that of each place.
+    fn depths(&self, alloc: Global) -> Result<Vec<usize>, AllocError>
+        ensures { IfOk result (λ depths. AreDepths self.now.stacks depths.items) }
+    {
+        let mut depths = Vec::new(alloc);
+        for node in &self.nodes {
+            let depth = depth_on(&depths, node.parent);
+            depths.push(depth)?;
+        }
+        Ok(depths)
+    }
+
+    // For the empty stack and then for each place, which place has the stack behind its own.
+    fn order(&self, alloc: Global) -> Result<Vec<Option<usize>>, AllocError>
+        ensures { IfOk result (λ next. IsOrder self.now.stacks next.items) }
+    {
+        let mut next = vec![in alloc; None; self.nodes.len() + 1]?;
+        let mut last = None;
+        for (key, place) in &self.places {
+            put_after(&mut next, elder(&self.nodes, last, key.0), *place);
+            last = Some(*place);
+        }
+        Ok(next)
+    }
+}
+
+// How many frames are below one that stands on a place.
+fn depth_on(depths: &[usize], parent: Option<usize>) -> usize
+    requires place { IsPlaceBefore (length depths.now) parent }
+    requires room { All (λ depth. depth + 1 < 2 ^ 64) depths.now }
+    ensures { result ≡ depth_on depths.now parent }
+{
+    match parent {
+        Some(parent) => depths[parent] + 1,
+        None => 0,
+    }
+}
+
+// Behind which place a new child comes: the last place, if that is a child of the same parent, and else the parent.
+fn elder(nodes: &[Node], last: Option<usize>, parent: Option<usize>) -> Option<usize>
+    requires { IsPlaceBefore (length nodes.now) last }
+    ensures { IsElder (map (λ node. node.parent) nodes.now) last parent result }
+{
+    match last {
+        Some(last) if nodes[last].parent == parent => Some(last),
+        _ => parent,
+    }
+}
+
+// Puts a place behind another one, and before those that are behind that.
+fn put_after(next: &mut [Option<usize>], before: Option<usize>, place: usize)
+    requires before { slot before < length next.old }
+    requires place { slot (Some place) < length next.old }
+    ensures { next.new ≡ put_after before place next.old }
+{
+    let slot = slot(before);
+    next[place + 1] = next[slot];
+    next[slot] = Some(place);
+}
+
+// Where a list tells of a place: first of the empty stack, and then of each place.
+fn slot(place: Option<usize>) -> usize
+    requires { slot place < 2 ^ 64 }
+    ensures { result ≡ slot place }
+{
+    match place {
+        Some(place) => place + 1,
+        None => 0,
     }
 }

@@ -1,8 +1,9 @@
-use Rattle.std.proofs.Common.{◌≡◌, ◌++◌, List, string_bytes, ap, ap₂, ◌∙◌, rules, to_z, of_z, w64}
+use Rattle.std.proofs.Common.{◌≡◌, ◌++◌, [], List, string_bytes, ap, ap₂, ◌∙◌, rules, to_z, of_z, w64}
 use Rattle.span_event.specs.declared.thread.Thread.{Thread}
 use Rattle.span_keyed_tracks.proofs.Results.{on_ok-map}
 use Rattle.span_stacks.specs.Folded.{thread_stacks}
 use Rattle.span_stacks.specs.Stacks.{Folded}
+use Rattle.span_stacks.specs.Walk.{Framed, folded_after}
 use Rattle.span_page.specs.Data.{stacks_json}
 use Rattle.span_page.proofs.data.put_thread.Goals as goal
 
@@ -13,7 +14,8 @@ returns c =
     let thread = c.args.thread.now in
     let pid : to_z w64 (of_z w64 thread.pid) ≡ thread.pid = search rules in
     let tid : to_z w64 (of_z w64 thread.tid) ≡ thread.tid = search rules in
-    let stacks = c.deref.ensures.value ∙ c.in_ok-stacks.ensures ∙ ap₂ (λ pid tid. let thread : Thread = record { pid = pid; tid = tid } in thread_stacks journal thread) pid tid in
+    let stacks = ap (λ (frames : List Framed). folded_after [] frames) c.deref.ensures.value ∙ c.in_ok-frames.ensures.stacks
+    ∙ ap₂ (λ pid tid. let thread : Thread = record { pid = pid; tid = tid } in thread_stacks journal thread) pid tid in
     on_ok-map c.put_stacks.result _ _
     (λ put. put ∙ ap (λ (stacks : List Folded). string_bytes c.args.out.now ++ stacks_json stacks) stacks)
     c.put_stacks.ensures

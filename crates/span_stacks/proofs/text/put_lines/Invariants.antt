@@ -1,8 +1,10 @@
-use Rattle.std.proofs.Common.{◌≡◌, ◌++◌, take}
-use Rattle.std.specs.Prelude.{flat_map}
-use Rattle.span_stacks.specs.Folded.{stack_line}
+use Rattle.std.proofs.Common.{◌≡◌, ◌++◌, [], drop, map}
+use Rattle.span_stacks.specs.Folded.{stack_lines}
+use Rattle.span_stacks.specs.Walk.{folded_after}
 use Rattle.span_stacks.proofs.text.put_lines.Given as goal
 
--- the lines so far
-abbrev pub invariant-loop-folded : goal.invariant-loop-folded
-invariant-loop-folded l = l.out.items ≡ l.fn.out.items ++ flat_map (stack_line l.start) (take l.folded-index l.stacks)
+-- the lines so far, and those that the rest gives after the last stack
+abbrev pub invariant-loop-frame : goal.invariant-loop-frame
+invariant-loop-frame l =
+    l.out.items ++ stack_lines l.start (folded_after (map (λ name. name.now) l.stack.items) (drop l.frame-index l.frames))
+    ≡ l.fn.out.items ++ stack_lines l.start (folded_after [] l.frames)
