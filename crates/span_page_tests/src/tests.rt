@@ -10,6 +10,7 @@ use std::alloc::{AllocError, AllocGlobal, Global};
 use std::process::Abort;
 use std::test::Fail;
 
+mod deep;
 mod growths;
 mod outputs;
 
