@@ -5,8 +5,8 @@ use span_collect::Input;
 use span_ledger::Ledger;
 use span_page::write_page;
 use span_report::{WriteFault, Writer};
-use span_test_support::{room_at_last, told_at_last};
-use std::alloc::{AllocGlobal, Global};
+use span_test_support::told_at_last;
+use std::alloc::{AllocError, AllocGlobal, Global};
 use std::process::Abort;
 use std::test::Fail;
 
@@ -15,6 +15,17 @@ fn file_at_last(alloc: Global) -> Result<Input, Fail> {
     match file(alloc) {
         Ok(file) => Ok(file),
         Err(_) => Ok(file(alloc)?),
+    }
+}
+
+/// More bytes than the page has, so that the output doesn't grow.
+const ROOM: usize = 65_536;
+
+// Room for the page, asked for once more where it was refused.
+fn room_for_the_page(alloc: Global) -> Result<Vec<u8>, AllocError> {
+    match Vec::with_capacity(alloc, ROOM) {
+        Ok(room) => Ok(room),
+        Err(_) => Vec::with_capacity(alloc, ROOM),
     }
 }
 
@@ -28,7 +39,7 @@ fn is_whole_or_none(written: Result<(), WriteFault>, out: &[u8]) -> bool {
 
 fn writes_whole_or_not(rt: &(impl Abort + AllocGlobal), ledger: &Ledger) -> Result<(), Fail> {
     let files = [file_at_last(rt.alloc())?];
-    let mut out = room_at_last(rt.alloc())?;
+    let mut out = room_for_the_page(rt.alloc())?;
     let written = write_page(
         rt.alloc(),
         ledger,
