@@ -1,5 +1,5 @@
 //! The data of a page.
-ghost use Rattle.std.specs.Prelude.{◌≡◌, ◌++◌, ◌∷◌, flat_map, length, map, string_bytes, IfOk, OnOk};
+ghost use Rattle.std.specs.Prelude.{◌≡◌, ◌++◌, length, map, string_bytes, IfOk, OnOk};
 ghost use Rattle.std.specs.List.{join_with_byte};
 ghost use Rattle.span_report.specs.Lines.{json_text_of};
 ghost use Rattle.span_page.specs.Data.{all_stacks_json, data_of, thread_json, threads_in, threads_of};
