@@ -1,17 +1,20 @@
 -- The orders of ids, of reaches and of threads.
-use Rattle.std.specs.Prelude.{ℕ}
-use Rattle.std.specs.Option.{option_cmp}
-use Rattle.std.specs.Ordering.{nat_cmp, int_cmp, on, ordering_then, then_cmp}
+use Rattle.std.specs.Prelude.{ℕ, Bool, ◌&&◌}
+use Rattle.std.specs.Option.{option_cmp, option_eq}
+use Rattle.std.specs.Ordering.{nat_cmp, int_cmp, int_eq, on, ordering_then, then_cmp}
 use Rattle.std.specs.declared.cmp.Ordering.{Ordering}
 use Rattle.span_event.specs.declared.event.IdKey.{IdKey}
 use Rattle.span_event.specs.declared.event.Reach.{Reach}
 use Rattle.span_event.specs.declared.event.Reach.TheVariants.{Global, Process, Thread as OneThread}
 use Rattle.span_event.specs.declared.thread.Thread.{Thread}
-use Rattle.span_event.specs.Text.{text_cmp}
+use Rattle.span_event.specs.Text.{text_cmp, same_text}
 
 -- by home, none before any and then by number; and then by the bytes of the id
 abbrev pub id_cmp : IdKey → IdKey → Ordering
 id_cmp = then_cmp (on (λ k. k.home) (option_cmp int_cmp)) (on (λ k. k.id) text_cmp)
+
+abbrev pub same_id : IdKey → IdKey → Bool
+same_id a b = option_eq int_eq a.home b.home && same_text a.id b.id
 
 abbrev pub place_of : Reach → ℕ
 place_of Global = 0

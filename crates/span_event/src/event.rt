@@ -6,6 +6,7 @@ ghost use Rattle.std.specs.Cmp.Rules.{comparing};
 ghost use Rattle.std.proofs.Common.{rules};
 
 use crate::args::Args;
+use crate::boxed_id::BoxedId;
 use crate::text::Text;
 use std::alloc::{AllocError, Global};
 use std::cmp::Ordering;
@@ -141,7 +142,7 @@ pub struct Event {
     pub dur: u64,
     pub pid: i64,
     pub tid: i64,
-    pub key: Option<IdKey>,
+    pub key: Option<BoxedId>,
     pub scope: Text,
     pub args: Args,
 }

@@ -3,6 +3,7 @@
 #![tactic(auto)]
 
 mod args;
+mod boxed_id;
 mod event;
 mod fault;
 mod item;
@@ -12,6 +13,7 @@ mod text;
 mod thread;
 
 pub use args::{ArgValue, Args, merge_args};
+pub use boxed_id::BoxedId;
 pub use event::{Event, IdKey, Phase, Reach};
 pub use fault::Fault;
 pub use item::{Field, Item, ItemFault};

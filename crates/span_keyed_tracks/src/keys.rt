@@ -2,7 +2,7 @@
 ghost use Rattle.std.specs.Prelude.{◌≡◌, IfOk};
 
 use crate::key_change::Key;
-use span_event::{IdKey, Text, Thread};
+use span_event::{BoxedId, Text, Thread};
 use std::alloc::{AllocError, Global};
 
 /// What asynchronous events that belong together share. Ordered by its fields in their order.
@@ -10,7 +10,7 @@ use std::alloc::{AllocError, Global};
 pub struct AsyncKey {
     pub cat: Text,
     pub scope: Text,
-    pub id: IdKey,
+    pub id: BoxedId,
     pub name: Text,
 }
 
@@ -43,7 +43,7 @@ impl Key for AsyncKey {
 pub struct FlowKey {
     pub cat: Text,
     pub name: Text,
-    pub id: IdKey,
+    pub id: BoxedId,
 }
 
 impl FlowKey {
@@ -70,7 +70,7 @@ impl Key for FlowKey {
 pub struct SeriesKey {
     pub pid: i64,
     pub name: Text,
-    pub id: Option<IdKey>,
+    pub id: Option<BoxedId>,
     pub series: Text,
 }
 

@@ -10,13 +10,13 @@ mod meta_track;
 mod names;
 
 use span_keyed_tracks::TrackFault;
-use span_read::{Event, IdKey, Item, Items, Text};
+use span_read::{BoxedId, Event, IdKey, Item, Items, Text};
 use std::alloc::{AllocError, Global};
 use std::process::Abort;
 
-fn id_key(alloc: Global, home: Option<i64>, text: &str) -> Result<IdKey, AllocError> {
+fn id_key(alloc: Global, home: Option<i64>, text: &str) -> Result<BoxedId, AllocError> {
     let id = Text::of(alloc, text)?;
-    Ok(IdKey { home, id })
+    BoxedId::new(alloc, IdKey { home, id })
 }
 
 // What a track says to an event that it refuses.

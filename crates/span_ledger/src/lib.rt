@@ -33,7 +33,7 @@ pub use refusal::{Back, Cause};
 pub use reply::{BoxedReply, Reply};
 pub use rows::{CountRow, ProcessRow, SpanRow, ThreadRow};
 pub use span_event::{
-    ArgValue, Args, Event, Field, IdKey, Item, ItemFault, Items, Phase, Reach, Text,
+    ArgValue, Args, BoxedId, Event, Field, IdKey, Item, ItemFault, Items, Phase, Reach, Text,
 };
 pub use span_keyed_tracks::{
     AsyncKey, AsyncRow, AsyncTotals, FlowKey, FlowRow, FlowTotals, HashKeys, InstantRow, SeriesKey,

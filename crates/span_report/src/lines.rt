@@ -3,7 +3,7 @@ ghost use Rattle.std.specs.Prelude.{◌≡◌, ◌++◌, ℕ, List, string_bytes
 ghost use Rattle.span_report.specs.Lines.{first_line, count_line, seals_line, process_line, thread_line, span_line, or_dash, json_text_of, reach_text, instant_line, id_text, counter_line, samples_text, async_line, flow_line};
 
 use serde_json::Value;
-use span_event::{IdKey, Reach, Text};
+use span_event::{BoxedId, Reach, Text};
 use span_keyed_tracks::{AsyncRow, FlowRow, InstantRow, SeriesRow, SeriesTotals};
 use span_ledger::{CountRow, ProcessRow, SpanRow, ThreadRow};
 use std::alloc::{AllocError, Global};
@@ -127,9 +127,10 @@ impl Printed for InstantRow {
 }
 
 #[tactic(auto, unfolding(crate::specs::Lines::id_text))]
-fn shown_id(alloc: Global, key: &IdKey) -> Result<String, AllocError>
-    ensures { IfOk result (λ s. string_bytes s ≡ id_text key.now) }
+fn shown_id(alloc: Global, id: &BoxedId) -> Result<String, AllocError>
+    ensures { IfOk result (λ s. string_bytes s ≡ id_text id.now) }
 {
+    let key = id.as_key();
     let id = json_text(alloc, &key.id)?;
     match key.home {
         None => Ok(id),
@@ -137,12 +138,12 @@ fn shown_id(alloc: Global, key: &IdKey) -> Result<String, AllocError>
     }
 }
 
-fn shown_any_id(alloc: Global, key: &Option<IdKey>) -> Result<String, AllocError>
-    ensures { IfOk result (λ s. string_bytes s ≡ or_dash id_text key.now) }
+fn shown_any_id(alloc: Global, id: &Option<BoxedId>) -> Result<String, AllocError>
+    ensures { IfOk result (λ s. string_bytes s ≡ or_dash id_text id.now) }
 {
-    match key {
+    match id {
         None => String::from_str(alloc, "-"),
-        Some(key) => shown_id(alloc, key),
+        Some(id) => shown_id(alloc, id),
     }
 }
 

@@ -21,7 +21,7 @@ use crate::hash_keys::HashKeys;
 use crate::keys::SeriesKey;
 use crate::texts::Texts;
 use indexmap::IndexMap;
-use span_event::{ArgValue, Event, IdKey, Text};
+use span_event::{ArgValue, BoxedId, Event, IdKey, Text};
 use std::alloc::{AllocError, Global};
 use std::collections::BTreeMap;
 
@@ -157,13 +157,14 @@ fn code_counter(texts: &mut Texts, event: &Event) -> Result<CounterCode, AllocEr
     })
 }
 
-fn code_id(texts: &mut Texts, id: &Option<IdKey>) -> Result<Option<IdCode>, AllocError>
+fn code_id(texts: &mut Texts, id: &Option<BoxedId>) -> Result<Option<IdCode>, AllocError>
     ensures keeps { KeepsNumbers texts.old texts.new }
     ensures code { IfOk result (λ code. IsIdCode texts.new id.now code) }
 {
     let Some(id) = id else {
         return Ok(None);
     };
+    let id = id.as_key();
     let number = texts.number_of(&id.id)?;
     Ok(Some(IdCode {
         home: id.home,
@@ -187,13 +188,14 @@ fn find_code(texts: &Texts, key: &SeriesKey) -> Option<SeriesCode>
     Some(SeriesCode { counter, series })
 }
 
-fn find_id(texts: &Texts, id: &Option<IdKey>) -> Option<Option<IdCode>>
+fn find_id(texts: &Texts, id: &Option<BoxedId>) -> Option<Option<IdCode>>
     ensures some { IfSome result (λ code. IsIdCode texts.now id.now code) }
     ensures none { IfNone result ((code : Option IdCode) → IsIdCode texts.now id.now code → ⊥) }
 {
     let Some(id) = id else {
         return Some(None);
     };
+    let id = id.as_key();
     let number = texts.find(&id.id)?;
     Some(Some(IdCode {
         home: id.home,
@@ -216,15 +218,16 @@ fn key_of(alloc: Global, texts: &Texts, code: &SeriesCode) -> Result<SeriesKey, 
     })
 }
 
-fn id_of(alloc: Global, texts: &Texts, code: &Option<IdCode>) -> Result<Option<IdKey>, AllocError>
+fn id_of(alloc: Global, texts: &Texts, code: &Option<IdCode>) -> Result<Option<BoxedId>, AllocError>
     ensures { IfOk result (λ id. id ≡ id_at texts.now code.now) }
 {
     let Some(code) = code else {
         return Ok(None);
     };
     let id = texts.copy_of(alloc, code.id)?;
-    Ok(Some(IdKey {
+    let key = IdKey {
         home: code.home,
         id,
-    }))
+    };
+    Ok(Some(BoxedId::new(alloc, key)?))
 }

@@ -1,6 +1,6 @@
 //! What the ledger replies to queries.
 use super::{answers, shown};
-use span_ledger::{AsyncKey, FlowKey, IdKey, Ledger, Query, SeriesKey, Text};
+use span_ledger::{AsyncKey, BoxedId, FlowKey, IdKey, Ledger, Query, SeriesKey, Text};
 use std::alloc::{AllocError, Global};
 use std::process::Abort;
 use std::test::Fail;
@@ -42,9 +42,9 @@ fn name(alloc: Global, text: &str) -> Result<Query, AllocError> {
     })
 }
 
-fn id(alloc: Global, text: &str) -> Result<IdKey, AllocError> {
+fn id(alloc: Global, text: &str) -> Result<BoxedId, AllocError> {
     let id = Text::of(alloc, text)?;
-    Ok(IdKey { home: None, id })
+    BoxedId::new(alloc, IdKey { home: None, id })
 }
 
 fn asynchronous(alloc: Global, scope: &str) -> Result<Query, AllocError> {

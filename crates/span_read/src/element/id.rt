@@ -9,7 +9,7 @@ ghost use Rattle.span_read.specs.Refusal.{IsForFault};
 use crate::error::refusal::Refusal;
 use crate::fields::FieldValue;
 use crate::phase::reads_id;
-use span_event::{ArgValue, Field, IdKey, ItemFault, Phase, Text};
+use span_event::{ArgValue, BoxedId, Field, IdKey, ItemFault, Phase, Text};
 use std::alloc::{AllocError, Global};
 
 /// The key that `id` or `id2` gives, where the phase reads one and one of them is there.
@@ -19,7 +19,7 @@ pub(crate) fn take_key(
     pid: i64,
     id: &Option<FieldValue>,
     id2: &Option<FieldValue>,
-) -> Result<Option<IdKey>, Refusal>
+) -> Result<Option<BoxedId>, Refusal>
     ensures key { IfOk result (λ key. key ≡ (if reads_id phase then key_of pid id.now id2.now else None)) }
     ensures right { IfOk result (λ key. where_read (reads_id phase) (id_fault id.now id2.now) ≡ None) }
     ensures refused { IfErr result
@@ -39,7 +39,7 @@ fn key_of(
     pid: i64,
     id: &Option<FieldValue>,
     id2: &Option<FieldValue>,
-) -> Result<Option<IdKey>, AllocError>
+) -> Result<Option<BoxedId>, AllocError>
     ensures { IfOk result (λ key. key ≡ key_of pid id.now id2.now) }
 {
     match (id, id2) {
@@ -55,7 +55,7 @@ fn key_of(
     }
 }
 
-fn key_with(alloc: Global, home: Option<i64>, id: &ArgValue) -> Result<Option<IdKey>, AllocError>
+fn key_with(alloc: Global, home: Option<i64>, id: &ArgValue) -> Result<Option<BoxedId>, AllocError>
     ensures { IfOk result (λ key. key ≡ key_with home id.now) }
 {
     let id = match id {
@@ -63,7 +63,7 @@ fn key_with(alloc: Global, home: Option<i64>, id: &ArgValue) -> Result<Option<Id
         ArgValue::Whole(number) => decimal_text(alloc, *number)?,
         _ => return Ok(None),
     };
-    Ok(Some(IdKey { home, id }))
+    Ok(Some(BoxedId::new(alloc, IdKey { home, id })?))
 }
 
 fn decimal_text(alloc: Global, whole: i64) -> Result<Text, AllocError>

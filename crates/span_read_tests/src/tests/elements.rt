@@ -131,7 +131,7 @@ fn shared_fields_of(alloc: Global, event: &Event) -> Result<String, AllocError> 
 // The fields that only some phases read: ts, dur, id, scope and reach.
 fn fields_of(alloc: Global, event: &Event) -> Result<String, AllocError> {
     let id = match &event.key {
-        Some(key) => key.id.as_str(),
+        Some(id) => id.as_key().id.as_str(),
         None => "-",
     };
     let scope = if event.scope.as_str().is_empty() {
@@ -382,7 +382,7 @@ fn has_key(
     id: &str,
     members: &str,
 ) -> Result<(), Fail> {
-    let key = event.key.as_ref().ok_or("a key")?;
+    let key = event.key.as_ref().ok_or("a key")?.as_key();
     assert_eq!(rt; key.home, home, "{members}");
     assert_eq!(rt; key.id.as_str(), id, "{members}");
     Ok(())

@@ -1,6 +1,6 @@
 // Texts and arguments, their copies, and two arguments merged.
 use serde_json::Value;
-use span_read::{ArgValue, Args, Event, IdKey, Item, Reach, Text, item_of, merge_args};
+use span_read::{ArgValue, Args, BoxedId, Event, IdKey, Item, Reach, Text, item_of, merge_args};
 use std::alloc::{AllocError, AllocGlobal, Global};
 use std::process::Abort;
 use std::test::Fail;
@@ -194,9 +194,9 @@ fn ids_are_ordered_by_home_and_then_by_bytes(rt: HostRuntime) -> Result<(), Fail
     Ok(())
 }
 
-fn key_of(alloc: Global, parts: &(Option<i64>, &str)) -> Result<IdKey, AllocError> {
+fn key_of(alloc: Global, parts: &(Option<i64>, &str)) -> Result<BoxedId, AllocError> {
     let id = Text::of(alloc, parts.1)?;
-    Ok(IdKey { home: parts.0, id })
+    BoxedId::new(alloc, IdKey { home: parts.0, id })
 }
 
 #[test]

@@ -1,4 +1,4 @@
-use Rattle.std.proofs.Common.{◌≡◌, ◌<◌, ℕ, List, length, get_or, true, Some, rules, sym, ap, ◌∙◌, ltb-true}
+use Rattle.std.proofs.Common.{◌<◌, length, rules, sym, ap, ◌∙◌, ltb-true}
 use Rattle.std.specs.Cmp.Lexicographic.{nat_list_eq_equiv}
 use Rattle.span_event.specs.Text.{same_text}
 use Rattle.span_keyed_tracks.proofs.Lists.Places.{position-IsDistinct}
