@@ -6,6 +6,7 @@ mod faults;
 mod files;
 mod gate;
 mod queries;
+mod reading_places;
 mod remaining;
 mod runs;
 mod sealing;

@@ -6,6 +6,7 @@ ghost use Rattle.span_collect.specs.Work.{IsNewSeat, IsWorked};
 
 use crate::files::{FileEnd, Input};
 use crate::gate::Gate;
+use crate::reading_places::ReadingPlaces;
 use crate::remaining::Remaining;
 use span_event::Items;
 use span_ledger::Cause;
@@ -20,6 +21,7 @@ pub(crate) fn work<G: Gate, R: Wait>(
     alloc: Global,
     share: &Share,
     gate: &G,
+    places: &ReadingPlaces,
     worker: u32,
     file: &Input,
     seat: &mut Seat,
@@ -29,7 +31,10 @@ pub(crate) fn work<G: Gate, R: Wait>(
 {
     let caller = seat.number();
     gate.read(worker);
-    match read_items(alloc, &file.bytes) {
+    let place = places.take(rt, worker);
+    let read = read_items(alloc, &file.bytes);
+    drop(place);
+    match read {
         Ok(items) => tell_all(rt, share, gate, worker, items, seat),
         Err(ReadError::Memory) => FileEnd::Stopped {
             caller,

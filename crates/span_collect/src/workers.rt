@@ -7,6 +7,7 @@ ghost use Rattle.span_collect.specs.Work.{IsNewSeat, IsWorked, HasMet, IsReadyTo
 use crate::files::{FileEnd, Input};
 use crate::gate::Gate;
 use crate::queries::{Asked, ask_all};
+use crate::reading_places::ReadingPlaces;
 use crate::worker::work;
 use span_ledger::Query;
 use span_share::{Seat, Share};
@@ -54,6 +55,7 @@ fn start_worker<'s, E, G: Gate, R: Wait + Sync>(
     scope: &Scope<'s, E>,
     share: &'s Share,
     gate: &'s G,
+    places: &'s ReadingPlaces,
     worker: u32,
     file: &'s Input,
     seat: Option<Seat>,
@@ -75,7 +77,7 @@ fn start_worker<'s, E, G: Gate, R: Wait + Sync>(
                 ensures { IsWorked share.entry.now (doc file.entry.now.bytes.items) result.0 result.1 }
             {
                 let mut seat = seat;
-                let end = work(rt, alloc, share, gate, worker, file, &mut seat);
+                let end = work(rt, alloc, share, gate, places, worker, file, &mut seat);
                 (end, seat)
             },
         )
@@ -90,6 +92,7 @@ fn work_all<'s, E, G: Gate, R: Threads + Wait + Sync>(
     scope: &Scope<'s, E>,
     share: &'s Share,
     gate: &'s G,
+    places: &'s ReadingPlaces,
     workers: u32,
     files: &'s [Input],
     asks: &[Query],
@@ -106,9 +109,9 @@ fn work_all<'s, E, G: Gate, R: Threads + Wait + Sync>(
     };
     let place = others.len() as u32;
     let seat = seats.pop().flatten();
-    let handle = start_worker(rt, alloc, scope, share, gate, place, file, seat);
+    let handle = start_worker(rt, alloc, scope, share, gate, places, place, file, seat);
     let asked = work_all(
-        rt, alloc, scope, share, gate, workers, others, asks, seats, main, ends,
+        rt, alloc, scope, share, gate, places, workers, others, asks, seats, main, ends,
     );
     let end = match handle {
         Some(handle) => {
@@ -137,6 +140,8 @@ pub(crate) fn run_workers<G: Gate, R: Threads + Wait + Sync>(
     requires { IsReadyToWork share.now files.now seats.items main ends }
     ensures { HasMet share.now files.now asks.now result.2.items result.0 result.1 }
 {
+    let places = ReadingPlaces::new();
+    let reading = &places;
     thread::scope(
         thread::scope_env(),
         rt,
@@ -149,7 +154,7 @@ pub(crate) fn run_workers<G: Gate, R: Threads + Wait + Sync>(
             let mut ends = ends;
             let workers = files.len() as u32;
             let asked = work_all(
-                rt, alloc, scope, share, gate, workers, files, asks, &mut seats, &mut main,
+                rt, alloc, scope, share, gate, reading, workers, files, asks, &mut seats, &mut main,
                 &mut ends,
             );
             (asked, main, ends)
