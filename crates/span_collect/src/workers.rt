@@ -154,8 +154,8 @@ pub(crate) fn run_workers<G: Gate, R: Threads + Wait + Sync>(
             let mut ends = ends;
             let workers = files.len() as u32;
             let asked = work_all(
-                rt, alloc, scope, share, gate, reading, workers, files, asks, &mut seats, &mut main,
-                &mut ends,
+                rt, alloc, scope, share, gate, reading, workers, files, asks, &mut seats,
+                &mut main, &mut ends,
             );
             (asked, main, ends)
         },

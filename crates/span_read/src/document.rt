@@ -13,7 +13,7 @@ use crate::error::stop::Stop;
 use crate::fields::Fields;
 use crate::tokens::Tokens;
 use crate::tokens::head::{Head, next_head};
-use crate::tokens::kept::{KeptMembers, KeptValue, read_members, read_object};
+use crate::tokens::kept::{KeptMembers, read_members, read_object};
 use crate::tokens::pass::{pass_array, pass_object, pass_value};
 use span_event::{Item, ItemFault, Items};
 use std::alloc::Global;
@@ -79,13 +79,14 @@ fn read_elements(tokens: &mut Tokens<'_>, depth: usize) -> Result<Found, Stop>
         return Err(Stop::NotJson);
     }
     let mut items = Vec::new(tokens.alloc);
+    let mut fields = Fields::default();
     let mut too_many = false;
     'elements: while !tokens.reader.take_end_array() {
         if items.len() == MOST_ITEMS {
             pass_value(&mut tokens.reader, depth - 1)?;
             too_many = true;
         } else {
-            let item = Item::read(tokens, depth - 1)?;
+            let item = read_item(tokens, depth - 1, &mut fields)?;
             items.push(item)?;
         }
     }
@@ -95,22 +96,24 @@ fn read_elements(tokens: &mut Tokens<'_>, depth: usize) -> Result<Found, Stop>
     Ok(Ok(Items::of_list(items)))
 }
 
-impl KeptValue for Item {
-    ghost of = { item_of_data };
-
-    fn read(tokens: &mut Tokens<'_>, depth: usize) -> Result<Item, Stop> {
-        match next_head(&mut tokens.reader)? {
-            Head::Object => {
-                let mut fields = Fields::none(tokens.alloc);
-                read_members(tokens, depth, &mut fields)?;
-                Ok(item_of_fields(tokens.alloc, &mut fields)?)
-            }
-            Head::Array => {
-                pass_array(&mut tokens.reader, depth)?;
-                Ok(Item::Bad(ItemFault::NotObject))
-            }
-            Head::Words(_text) => Ok(Item::Bad(ItemFault::NotObject)),
-            Head::Plain(_value) => Ok(Item::Bad(ItemFault::NotObject)),
+/// The item that a value is. An object's fields are kept in `fields`, which are cleared before, so that they aren't made anew for
+/// each element.
+fn read_item(tokens: &mut Tokens<'_>, depth: usize, fields: &mut Fields) -> Result<Item, Stop>
+    ensures item { IfOk result (λ item. TakesValue depth tokens.old.reader tokens.new.reader
+        (λ d. item_of_data d ≡ item)) }
+    ensures refused { IsNotJson result → data_at depth tokens.old.reader ≡ None }
+{
+    match next_head(&mut tokens.reader)? {
+        Head::Object => {
+            fields.clear();
+            read_members(tokens, depth, fields)?;
+            Ok(item_of_fields(tokens.alloc, fields)?)
         }
+        Head::Array => {
+            pass_array(&mut tokens.reader, depth)?;
+            Ok(Item::Bad(ItemFault::NotObject))
+        }
+        Head::Words(_text) => Ok(Item::Bad(ItemFault::NotObject)),
+        Head::Plain(_value) => Ok(Item::Bad(ItemFault::NotObject)),
     }
 }

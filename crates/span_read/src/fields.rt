@@ -50,7 +50,26 @@ pub(crate) struct Fields {
 }
 
 impl Fields {
+    ghost use Rattle.serde_json.specs.Data.{no_members};
+    ghost use Rattle.span_read.specs.Fields.{fields_of};
     ghost use Rattle.span_read.specs.Slots.{slots, names, put_at};
+
+    pub(crate) fn clear(&mut self)
+        ensures { self.new ≡ fields_of no_members }
+    {
+        self.ph = None;
+        self.ts = None;
+        self.dur = None;
+        self.pid = None;
+        self.tid = None;
+        self.name = None;
+        self.cat = None;
+        self.id = None;
+        self.id2 = None;
+        self.scope = None;
+        self.s = None;
+        self.args = None;
+    }
 
     // Inlined, it would have all the fields copied at each member. By its length a name is told from most others at once.
     #[inline(never)]

@@ -18,5 +18,6 @@ pub use element::item_of;
 pub use error::ReadError;
 pub use file::read_items;
 pub use span_event::{
-    ArgValue, Args, BoxedId, Event, Field, IdKey, Item, ItemFault, Items, Phase, Reach, Text, merge_args,
+    ArgValue, Args, BoxedId, Event, Field, IdKey, Item, ItemFault, Items, Phase, Reach, Text,
+    merge_args,
 };

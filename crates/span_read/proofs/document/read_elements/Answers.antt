@@ -29,15 +29,15 @@ elements-preserved-then-len-eq-MOST_ITEMS c =
 
 pub returns-in_err-item-clause-refused : goal.returns-in_err-item-clause-refused
 returns-in_err-item-clause-refused c = λ no.
-    items_refused c.args.depth (omega arith) _ c.args.tokens.now.reader c.elements.tokens.reader c.elements.invariant c.take_end_array.new.self (grind arith) (c.read.ensures.refused (grind arith))
+    items_refused c.args.depth (omega arith) _ c.args.tokens.now.reader c.elements.tokens.reader c.elements.invariant c.take_end_array.new.self (grind arith) (c.read_item.ensures.refused (grind arith))
 
 pub elements-smaller : goal.elements-smaller
-elements-smaller c = items_smaller (c.args.depth - 1) c.elements.tokens.reader c.take_end_array.new.self _ _ (grind arith) c.in_ok-item.ensures.value
+elements-smaller c = items_smaller (c.args.depth - 1) c.elements.tokens.reader c.take_end_array.new.self _ _ (grind arith) c.in_ok-item.ensures.item
 
 pub elements-preserved : goal.elements-preserved
 elements-preserved c =
     let s = c.elements.invariant in
-    let taken = c.in_ok-item.ensures.value in
+    let taken = c.in_ok-item.ensures.item in
     let pushed : c.elements.items.items ++ item_of_data taken.0 ∷ [] ≡ c.push.new.self.items = ap (λ i. c.elements.items.items ++ i ∷ []) taken.2 ∙ sym c.in_ok-push.ensures.items in
     items_turn c.args.depth (omega arith) _ c.args.tokens.now.reader c.elements.tokens.reader s _ c.take_end_array.new.self _ (grind arith)
     (taken.0, taken.1, rw (← pushed) (AreCollected-push _ _ s.before taken.0 (omega (arith, s.holds.within)) s.holds))
