@@ -1,5 +1,5 @@
 -- What the calls that take tokens promise; for private clauses.
-use Rattle.std.specs.Prelude.{◌≡◌, ℕ, ◌≤◌, List, [], ◌∷◌, length, Bool, true, false, Option, Some, Result, Err}
+use Rattle.std.specs.Prelude.{◌≡◌, ℕ, ◌≤◌, List, [], ◌∷◌, length, Bool, true, false, Option, Some, None, Result, Err}
 use Rattle.json.specs.Token.{Token}
 use Rattle.json.specs.Json.{value, items, members, parse_map}
 use Rattle.serde_json.specs.Data.{Data, array, object, Items, item, Members, no_members}
@@ -7,7 +7,9 @@ use Rattle.serde_json.specs.Read.{of_json, of_items, of_members, converted}
 use Rattle.span_event.specs.declared.args.ArgValue.{ArgValue}
 use Rattle.span_event.specs.declared.args.ArgValue.TheVariants as arg
 use Rattle.span_read.specs.declared.tokens.head.Head.{Head}
-use Rattle.span_read.specs.declared.tokens.head.Head.TheVariants.{Object, Array, Words, Plain}
+use Rattle.span_read.specs.declared.tokens.head.Head.TheVariants.{Object, Array, Words, Whole, Flag, Nil, Other}
+use Rattle.span_read.specs.declared.tokens.number.Number.{Number}
+use Rattle.span_read.specs.declared.tokens.number.Number.TheVariants as number
 use Rattle.span_read.specs.declared.error.stop.Stop.{Stop}
 use Rattle.span_read.specs.declared.error.stop.Stop.TheVariants.{NotJson}
 use Rattle.span_read.specs.Fields.{arg_value}
@@ -49,7 +51,16 @@ abbrev pub TakesHead : Head → List Token → List Token → Type 0
 TakesHead Object old new = old ≡ Token.begin_object ∷ new
 TakesHead Array old new = old ≡ Token.begin_array ∷ new
 TakesHead (Words s) old new = TakesLeaf (arg.Words s.now) old new
-TakesHead (Plain v) old new = TakesLeaf v old new
+TakesHead (Whole n) old new = TakesLeaf (arg.Whole n) old new
+TakesHead (Flag b) old new = TakesLeaf (arg.Flag b) old new
+TakesHead Nil old new = TakesLeaf arg.Nil old new
+TakesHead Other old new = TakesLeaf arg.Other old new
+
+-- what a number is read as; nothing where it is too large for a float
+abbrev pub kind_of : Number → Option ArgValue
+kind_of (number.Whole n) = Some (arg.Whole n)
+kind_of number.Other = Some arg.Other
+kind_of number.TooLarge = None
 
 -- ---- loops
 

@@ -31,8 +31,7 @@ pub(crate) fn read_document(tokens: &mut Tokens<'_>, depth: usize) -> Result<Fou
     match next_head(&mut tokens.reader)? {
         Head::Object => read_object(tokens, depth),
         Head::Array => read_elements(tokens, depth),
-        Head::Words(_text) => Ok(Err(ReadError::NotTrace)),
-        Head::Plain(_value) => Ok(Err(ReadError::NotTrace)),
+        _ => Ok(Err(ReadError::NotTrace)),
     }
 }
 
@@ -64,8 +63,7 @@ fn read_trace_events(tokens: &mut Tokens<'_>, depth: usize) -> Result<Found, Sto
             Ok(Err(ReadError::NotTrace))
         }
         Head::Array => read_elements(tokens, depth),
-        Head::Words(_text) => Ok(Err(ReadError::NotTrace)),
-        Head::Plain(_value) => Ok(Err(ReadError::NotTrace)),
+        _ => Ok(Err(ReadError::NotTrace)),
     }
 }
 
@@ -113,7 +111,6 @@ fn read_item(tokens: &mut Tokens<'_>, depth: usize, fields: &mut Fields) -> Resu
             pass_array(&mut tokens.reader, depth)?;
             Ok(Item::Bad(ItemFault::NotObject))
         }
-        Head::Words(_text) => Ok(Item::Bad(ItemFault::NotObject)),
-        Head::Plain(_value) => Ok(Item::Bad(ItemFault::NotObject)),
+        _ => Ok(Item::Bad(ItemFault::NotObject)),
     }
 }

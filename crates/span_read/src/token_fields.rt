@@ -62,7 +62,10 @@ impl KeptValue for FieldValue {
                 let words = tokens.recent.text(tokens.alloc, text)?;
                 Ok(FieldValue::Plain(ArgValue::Words(words)))
             }
-            Head::Plain(value) => Ok(FieldValue::Plain(value)),
+            Head::Whole(number) => Ok(FieldValue::Plain(ArgValue::Whole(number))),
+            Head::Flag(flag) => Ok(FieldValue::Plain(ArgValue::Flag(flag))),
+            Head::Nil => Ok(FieldValue::Plain(ArgValue::Nil)),
+            Head::Other => Ok(FieldValue::Plain(ArgValue::Other)),
         }
     }
 }
@@ -85,7 +88,10 @@ impl KeptValue for ArgValue {
                 let words = tokens.recent.text(tokens.alloc, text)?;
                 Ok(ArgValue::Words(words))
             }
-            Head::Plain(value) => Ok(value),
+            Head::Whole(number) => Ok(ArgValue::Whole(number)),
+            Head::Flag(flag) => Ok(ArgValue::Flag(flag)),
+            Head::Nil => Ok(ArgValue::Nil),
+            Head::Other => Ok(ArgValue::Other),
         }
     }
 }

@@ -2,9 +2,8 @@
 ghost use Rattle.std.specs.Prelude.{◌≡◌, ℕ, None, IfOk, OnErr};
 ghost use Rattle.span_read.specs.Tokens.{data_at, TakesHead};
 
-use crate::tokens::number::number_value;
+use crate::tokens::number::{Number, number_of};
 use json::{Invalid, Reader, Token};
-use span_event::ArgValue;
 
 /// The bracket of an array or an object, or else the whole value.
 #[derive(Drop)]
@@ -12,7 +11,10 @@ pub(crate) enum Head<'a> {
     Object,
     Array,
     Words(&'a str),
-    Plain(ArgValue),
+    Whole(i64),
+    Flag(bool),
+    Nil,
+    Other,
 }
 
 #[inline(always)]
@@ -25,12 +27,13 @@ pub(crate) fn next_head<'a>(reader: &mut Reader<'a>) -> Result<Head<'a>, Invalid
         Token::BeginObject => Ok(Head::Object),
         Token::BeginArray => Ok(Head::Array),
         Token::String(text) => Ok(Head::Words(text)),
-        Token::Number(text) => match number_value(text) {
-            Some(value) => Ok(Head::Plain(value)),
-            None => Err(Invalid),
+        Token::Number(text) => match number_of(text) {
+            Number::Whole(number) => Ok(Head::Whole(number)),
+            Number::Other => Ok(Head::Other),
+            Number::TooLarge => Err(Invalid),
         },
-        Token::Bool(flag) => Ok(Head::Plain(ArgValue::Flag(flag))),
-        Token::Null => Ok(Head::Plain(ArgValue::Nil)),
+        Token::Bool(flag) => Ok(Head::Flag(flag)),
+        Token::Null => Ok(Head::Nil),
         Token::EndObject | Token::EndArray | Token::Key(_) | Token::Bad => Err(Invalid),
     }
 }

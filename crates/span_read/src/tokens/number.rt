@@ -3,14 +3,21 @@ ghost use Rattle.std.specs.Prelude.{◌≡◌, ◌==◌, ◌<◌, IsTrue, length
 ghost use Rattle.serde_json.specs.Data.{number};
 ghost use Rattle.serde_json.specs.Read.{number_of, number_from, float_of};
 ghost use Rattle.span_read.specs.Fields.{arg_value};
+ghost use Rattle.span_read.specs.Tokens.{kind_of};
 
 use fast_float::Numeral;
-use span_event::ArgValue;
 
-/// None where the number is too large for a float, so that the text that it stands in is refused.
+/// A number in a text, by its kind.
+pub(crate) enum Number {
+    Whole(i64),
+    Other,
+    /// Too large for a float, so that the text that it stands in is refused.
+    TooLarge,
+}
+
 #[inline(always)]
-pub(crate) fn number_value(text: &str) -> Option<ArgValue>
-    ensures { result ≡ option_map (λ n. arg_value (number n)) (number_of text.now) }
+pub(crate) fn number_of(text: &str) -> Number
+    ensures { kind_of result ≡ option_map (λ n. arg_value (number n)) (number_of text.now) }
 {
     let bytes = text.as_bytes();
     if has_minus(bytes) {
@@ -29,37 +36,37 @@ fn has_minus(bytes: &[u8]) -> bool
 }
 
 #[inline(always)]
-fn unsigned_value(numeral: &Numeral<'_>) -> Option<ArgValue>
-    ensures { result ≡ option_map (λ n. arg_value (number n)) (number_from false numeral.now) }
+fn unsigned_value(numeral: &Numeral<'_>) -> Number
+    ensures { kind_of result ≡ option_map (λ n. arg_value (number n)) (number_from false numeral.now) }
 {
     match numeral.to_u64() {
         Some(n) => if n <= i64::MAX as u64 {
-            Some(ArgValue::Whole(n as i64))
+            Number::Whole(n as i64)
         } else {
-            Some(ArgValue::Other)
+            Number::Other
         },
         None => float_value(false, numeral),
     }
 }
 
 #[inline(always)]
-fn negative_value(numeral: &Numeral<'_>) -> Option<ArgValue>
-    ensures { result ≡ option_map (λ n. arg_value (number n)) (number_from true numeral.now) }
+fn negative_value(numeral: &Numeral<'_>) -> Number
+    ensures { kind_of result ≡ option_map (λ n. arg_value (number n)) (number_from true numeral.now) }
 {
     if let Some(n) = numeral.to_i64(true) {
         if n < 0 {
-            return Some(ArgValue::Whole(n));
+            return Number::Whole(n);
         }
     }
     float_value(true, numeral)
 }
 
-fn float_value(negative: bool, numeral: &Numeral<'_>) -> Option<ArgValue>
-    ensures { result ≡ option_map (λ n. arg_value (number n)) (float_of negative numeral.now) }
+fn float_value(negative: bool, numeral: &Numeral<'_>) -> Number
+    ensures { kind_of result ≡ option_map (λ n. arg_value (number n)) (float_of negative numeral.now) }
 {
     if numeral.to_float::<f64>(negative).is_finite() {
-        Some(ArgValue::Other)
+        Number::Other
     } else {
-        None
+        Number::TooLarge
     }
 }

@@ -15,8 +15,7 @@ pub(crate) fn pass_value(reader: &mut Reader<'_>, depth: usize) -> Result<(), In
     match next_head(reader)? {
         Head::Array => pass_array(reader, depth),
         Head::Object => pass_object(reader, depth),
-        Head::Words(_text) => Ok(()),
-        Head::Plain(_value) => Ok(()),
+        _ => Ok(()),
     }
 }
 

@@ -20,18 +20,6 @@ returns-in-String-clause-head c =
     let is : c.args.reader.now ≡ Token.string c.in-String.text.now ∷ c.next.new.self = grind (arith, first) in
     record { found = string c.in-String.text.now; reads = λ depth. ap (data_at depth) is ∙ ap (converted of_json) (value_is depth _); leaf = refl; kind = refl }
 
-pub returns-in-Some-clause-head : goal.returns-in-Some-clause-head
-returns-in-Some-clause-head c =
-    let first : c.args.reader.now ≡ token_of c.in_ok-token.token ∷ c.next.new.self = grind arith in
-    let is : c.args.reader.now ≡ Token.number c.in-Number.text.now ∷ c.next.new.self = grind (arith, first) in
-    number_taken c.in-Number.text.now c.args.reader.now c.next.new.self is (number_of c.in-Number.text.now) c.in-Some.value refl (sym c.in-Some.ensures)
-
-pub returns-in-None-clause-refused : goal.returns-in-None-clause-refused
-returns-in-None-clause-refused c =
-    let first : c.args.reader.now ≡ token_of c.in_ok-token.token ∷ c.next.new.self = grind arith in
-    let is : c.args.reader.now ≡ Token.number c.in-Number.text.now ∷ c.next.new.self = grind (arith, first) in
-    number_refused c.in-Number.text.now c.args.reader.now c.next.new.self is (number_of c.in-Number.text.now) refl (sym c.in-None.ensures)
-
 pub returns-in-Bool-clause-head : goal.returns-in-Bool-clause-head
 returns-in-Bool-clause-head c =
     let first : c.args.reader.now ≡ token_of c.in_ok-token.token ∷ c.next.new.self = grind arith in
@@ -49,3 +37,22 @@ returns-in-EndObject-clause-refused c = λ depth.
     let first : c.args.reader.now ≡ token_of c.in_ok-token.token ∷ c.next.new.self = grind arith in
     let none : value depth c.args.reader.now ≡ None = rw (value_is depth c.args.reader.now, first) (grind arith) in
     ap (converted of_json) none
+
+pub returns-in-Whole-clause-head : goal.returns-in-Whole-clause-head
+returns-in-Whole-clause-head c =
+    let first : c.args.reader.now ≡ token_of c.in_ok-token.token ∷ c.next.new.self = grind arith in
+    let is : c.args.reader.now ≡ Token.number c.in-Number.text.now ∷ c.next.new.self = grind (arith, first) in
+    let leaf = number_taken c.in-Number.text.now c.args.reader.now c.next.new.self is (number_of c.in-Number.text.now) _ refl (sym c.in-Whole.ensures) in
+    grind (arith, leaf)
+
+pub returns-in-Other-clause-head : goal.returns-in-Other-clause-head
+returns-in-Other-clause-head c =
+    let first : c.args.reader.now ≡ token_of c.in_ok-token.token ∷ c.next.new.self = grind arith in
+    let is : c.args.reader.now ≡ Token.number c.in-Number.text.now ∷ c.next.new.self = grind (arith, first) in
+    number_taken c.in-Number.text.now c.args.reader.now c.next.new.self is (number_of c.in-Number.text.now) _ refl (sym c.in-Other.ensures)
+
+pub returns-in-TooLarge-clause-refused : goal.returns-in-TooLarge-clause-refused
+returns-in-TooLarge-clause-refused c =
+    let first : c.args.reader.now ≡ token_of c.in_ok-token.token ∷ c.next.new.self = grind arith in
+    let is : c.args.reader.now ≡ Token.number c.in-Number.text.now ∷ c.next.new.self = grind (arith, first) in
+    number_refused c.in-Number.text.now c.args.reader.now c.next.new.self is (number_of c.in-Number.text.now) refl (sym c.in-TooLarge.ensures)

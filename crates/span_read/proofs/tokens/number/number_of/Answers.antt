@@ -4,7 +4,7 @@ use Rattle.serde_json.specs.Data.{Num, number}
 use Rattle.serde_json.specs.Read.{number_of, number_from}
 use Rattle.span_event.specs.declared.args.ArgValue.{ArgValue}
 use Rattle.span_read.specs.Fields.{arg_value}
-use Rattle.span_read.proofs.tokens.number.number_value.Goals as goal
+use Rattle.span_read.proofs.tokens.number.number_of.Goals as goal
 
 abbrev kind : Num → ArgValue
 kind n = arg_value (number n)
