@@ -1,5 +1,5 @@
 //! The arguments of one object while its members are read.
-ghost use Rattle.std.specs.Prelude.{◌≡◌, ◌<◌, ◌≤◌, [], length, set, IfOk, IfErr};
+ghost use Rattle.std.specs.Prelude.{◌≡◌, ◌<◌, ◌≤◌, [], length, set, IfOk, IfErr, OnOk, OnErr};
 ghost use Rattle.std.specs.List.{insert};
 ghost use Rattle.std.specs.BTreeMap.{insert_entry};
 ghost use Rattle.span_event.specs.declared.args.ArgValue.{ArgValue};
@@ -12,11 +12,13 @@ use std::alloc::{AllocError, Global};
 use std::cmp::Ordering;
 use std::collections::BTreeMap;
 use std::marker::Model;
+use std::mem::replace;
 
 /// To put pairs of a list in order takes time that grows with the square of their number, so more than these go to a map.
 const FEW: usize = 16;
 
-type Pair = (Text, ArgValue);
+/// An argument: its name and its value.
+pub(crate) type Pair = (Text, ArgValue);
 
 // Most objects have few, for which a list costs less than a map.
 #[derive(Drop)]
@@ -49,55 +51,83 @@ impl ArgMap {
         }
     }
 
-    /// With one pair more. Of two pairs of one name the last stays.
-    pub(crate) fn with(
-        self,
+    /// No pairs, in the room of a list whose pairs are dropped.
+    pub(crate) fn over(pairs: Vec<Pair>) -> ArgMap
+        ensures { result ≡ [] }
+    {
+        let mut pairs = pairs;
+        pairs.clear();
+        ArgMap {
+            kept: ArgPairs::Few(pairs),
+        }
+    }
+
+    /// Puts one pair more. Of two pairs of one name the last stays.
+    pub(crate) fn put(
+        &mut self,
         alloc: Global,
         name: Text,
         value: ArgValue,
-    ) -> Result<ArgMap, AllocError>
-        ensures { IfOk result (λ map. map ≡ insert_entry text_cmp self name value) }
+    ) -> Result<(), AllocError>
+        ensures { OnOk result (self.new ≡ insert_entry text_cmp self.old name value) }
     {
-        let mut map = match self.kept {
-            ArgPairs::Few(pairs) => {
-                if pairs.len() < FEW {
-                    let pairs = put(pairs, name, value)?;
-                    return Ok(ArgMap {
-                        kept: ArgPairs::Few(pairs),
-                    });
-                }
-                map_of(alloc, pairs)?
+        if let ArgPairs::Few(pairs) = &mut self.kept {
+            if pairs.len() < FEW {
+                return put(pairs, name, value);
             }
+        }
+        self.put_past_few(alloc, name, value)
+    }
+
+    // The same, in a map.
+    fn put_past_few(&mut self, alloc: Global, name: Text, value: ArgValue) -> Result<(), AllocError>
+        ensures { OnOk result (self.new ≡ insert_entry text_cmp self.old name value) }
+    {
+        let before = replace(self, ArgMap::new(alloc));
+        let mut map = match before.kept {
+            ArgPairs::Few(pairs) => map_of(alloc, pairs)?,
             ArgPairs::Many(map) => map,
         };
         drop(map.insert(name, value)?);
-        Ok(ArgMap {
+        let many = ArgMap {
             kept: ArgPairs::Many(map),
-        })
+        };
+        *self = many;
+        Ok(())
     }
 
-    pub(crate) fn into_args(self, alloc: Global) -> Result<Args, AllocError>
+    /// The arguments, in just their room. The room of the pairs is left in `spare`.
+    pub(crate) fn into_args(self, alloc: Global, spare: &mut Vec<Pair>) -> Result<Args, AllocError>
         ensures { IfOk result (λ args. args ≡ self) }
     {
         match self.kept {
-            ArgPairs::Few(pairs) => Args::of_pairs(pairs),
+            ArgPairs::Few(pairs) => {
+                *spare = pairs;
+                args_of_list(alloc, spare)
+            }
             ArgPairs::Many(map) => args_of_map(alloc, map),
         }
     }
 }
 
-fn put(pairs: Vec<Pair>, name: Text, value: ArgValue) -> Result<Vec<Pair>, AllocError>
-    ensures { IfOk result (λ put. put.items ≡ insert_entry text_cmp pairs.items name value) }
+fn args_of_list(alloc: Global, pairs: &mut Vec<Pair>) -> Result<Args, AllocError>
+    requires { IsInNameOrder pairs.old.items }
+    ensures { IfOk result (λ args. args ≡ pairs.old.items) }
 {
-    let mut pairs = pairs;
-    match place_of(&pairs, &name) {
+    let mut exact = Vec::with_capacity(alloc, pairs.len())?;
+    exact.append(pairs)?;
+    Args::of_pairs(exact)
+}
+
+fn put(pairs: &mut Vec<Pair>, name: Text, value: ArgValue) -> Result<(), AllocError>
+    ensures ok { OnOk result (pairs.new.items ≡ insert_entry text_cmp pairs.old.items name value) }
+    ensures err { OnErr result (pairs.new.items ≡ pairs.old.items) }
+{
+    match place_of(pairs, &name) {
         Ok(place) => pairs[place] = (name, value),
-        Err(place) => {
-            pairs.reserve_exact(1)?;
-            pairs.insert(place, (name, value))?;
-        }
+        Err(place) => pairs.insert(place, (name, value))?,
     }
-    Ok(pairs)
+    Ok(())
 }
 
 // Where the name stands, or else where it belongs.

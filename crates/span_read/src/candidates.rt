@@ -69,6 +69,7 @@ fn read_text(alloc: Global, text: &str) -> Result<Items, ReadError>
         reader,
         alloc,
         recent,
+        pairs: Vec::new(alloc),
     };
     match read_document(&mut tokens, MAX_DEPTH) {
         Ok(found) => if tokens.reader.next().is_some() {

@@ -6,7 +6,7 @@ use crate::error::stop::Stop;
 use crate::fields::{FieldValue, Fields};
 use crate::tokens::Tokens;
 use crate::tokens::head::{Head, next_head};
-use crate::tokens::kept::{KeptMembers, KeptValue, read_object};
+use crate::tokens::kept::{KeptMembers, KeptValue, read_members};
 use crate::tokens::pass::{pass_array, pass_object};
 use span_event::ArgValue;
 use std::alloc::Global;
@@ -38,8 +38,7 @@ impl KeptMembers for ArgMap {
     fn keep(&mut self, name: &str, tokens: &mut Tokens<'_>, depth: usize) -> Result<(), Stop> {
         let name = tokens.recent.text(tokens.alloc, name)?;
         let value = ArgValue::read(tokens, depth)?;
-        let before = replace(self, ArgMap::new(tokens.alloc));
-        *self = before.with(tokens.alloc, name, value)?;
+        self.put(tokens.alloc, name, value)?;
         Ok(())
     }
 }
@@ -51,8 +50,10 @@ impl KeptValue for FieldValue {
     fn read(tokens: &mut Tokens<'_>, depth: usize) -> Result<FieldValue, Stop> {
         match next_head(&mut tokens.reader)? {
             Head::Object => {
-                let pairs: ArgMap = read_object(tokens, depth)?;
-                Ok(FieldValue::Pairs(pairs.into_args(tokens.alloc)?))
+                let mut map = ArgMap::over(replace(&mut tokens.pairs, Vec::new(tokens.alloc)));
+                read_members(tokens, depth, &mut map)?;
+                let pairs = map.into_args(tokens.alloc, &mut tokens.pairs)?;
+                Ok(FieldValue::Pairs(pairs))
             }
             Head::Array => {
                 pass_array(&mut tokens.reader, depth)?;

@@ -4,6 +4,7 @@ pub(crate) mod kept;
 mod number;
 pub(crate) mod pass;
 
+use crate::arg_map::Pair;
 use crate::recent::RecentTexts;
 use json::Reader;
 use std::alloc::Global;
@@ -14,4 +15,6 @@ pub(crate) struct Tokens<'a> {
     pub(crate) reader: Reader<'a>,
     pub(crate) alloc: Global,
     pub(crate) recent: RecentTexts,
+    // Room for the arguments of one event, which then get just the room that they need.
+    pub(crate) pairs: Vec<Pair>,
 }

@@ -13,6 +13,6 @@ returns-clause-kept c =
       taken.0,
       taken.1,
       λ ms before.
-          c.in_ok-self.ensures ∙ ap (λ ps. insert_entry text_cmp ps c.in_ok-name.name c.in_ok-value.value) (c.replace-before.ensures.value ∙ before)
+          c.in_ok-put.ensures ∙ ap (λ ps. insert_entry text_cmp ps c.in_ok-name.name c.in_ok-value.value) before
           ∙ ap₂ (λ (n : List ℕ) v. insert_entry text_cmp (pairs_of ms) n v) copied (sym taken.2) ∙ sym (pairs_of-put name taken.0 ms),
     )

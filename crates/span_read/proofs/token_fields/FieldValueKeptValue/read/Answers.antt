@@ -3,9 +3,9 @@ use Rattle.span_read.specs.declared.fields.FieldValue.TheVariants.{Pairs}
 use Rattle.span_read.proofs.Turns.{array_value, object_value}
 use Rattle.span_read.proofs.token_fields.FieldValueKeptValue.read.Goals as goal
 
-pub returns-in_ok-into_args-in-Object-clause-value : goal.returns-in_ok-into_args-in-Object-clause-value
-returns-in_ok-into_args-in-Object-clause-value c =
-    object_value c.args.depth c.args.tokens.now.reader c.next_head.new.reader _ _ _ (grind arith) (λ ms is. ap Pairs (sym (c.in_ok-into_args-in-Object.ensures ∙ is))) c.in_ok-pairs-in-Object.ensures.kept
+pub returns-in_ok-pairs-in-Object-clause-value : goal.returns-in_ok-pairs-in-Object-clause-value
+returns-in_ok-pairs-in-Object-clause-value c =
+    object_value c.args.depth c.args.tokens.now.reader c.next_head.new.reader _ _ _ (grind arith) (λ ms is. ap Pairs (sym (c.in_ok-pairs-in-Object.ensures ∙ is))) c.in_ok-read_members-in-Object.ensures.kept
 
 pub returns-in_ok-pass_array-in-Array-clause-value : goal.returns-in_ok-pass_array-in-Array-clause-value
 returns-in_ok-pass_array-in-Array-clause-value c =
