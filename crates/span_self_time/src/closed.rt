@@ -197,12 +197,16 @@ fn add_to_total(totals: &mut IndexMap<u32, NameTotal>, name: u32, length: u64)
         then record { count = (total_in totals.old name).count + 1; total = (total_in totals.old name).total + length }
         else total_in totals.old other) }
 {
-    let held = total_in(totals, name);
-    let more = NameTotal {
-        count: held.count + 1,
-        total: held.total + u128::from(length),
+    if let Some(held) = totals.get_mut(&name) {
+        held.count += 1;
+        held.total += u128::from(length);
+        return;
+    }
+    let first = NameTotal {
+        count: 1,
+        total: u128::from(length),
     };
-    if totals.insert(name, more).is_err() {
+    if totals.insert(name, first).is_err() {
         unreachable!();
     }
 }

@@ -14,24 +14,16 @@ pub(crate) fn own_in(own: &IndexMap<u32, u64>, name: u32) -> u64
     }
 }
 
-fn set_own(own: &mut IndexMap<u32, u64>, name: u32, time: u64)
-    requires { IsSome (get nat_eq own.old name) }
-    ensures { (other : ℕ) → get nat_eq own.new other
-        ≡ (if name == other then Some time else get nat_eq own.old other) }
-{
-    if own.insert(name, time).is_err() {
-        unreachable!();
-    }
-}
-
 /// From now on the name has a time of its own, if only 0.
 pub(crate) fn keep_name(own: &mut IndexMap<u32, u64>, name: u32)
     requires { 0 < spare own.old }
     ensures kept { IsSome (get nat_eq own.new name) }
     ensures same { (other : ℕ) → own_in own.new other ≡ own_in own.old other }
 {
-    let held = own_in(own, name);
-    if own.insert(name, held).is_err() {
+    if own.contains_key(&name) {
+        return;
+    }
+    if own.insert(name, 0).is_err() {
         unreachable!();
     }
 }
@@ -43,8 +35,10 @@ pub(crate) fn gain_own(own: &mut IndexMap<u32, u64>, name: u32, length: u64)
         ≡ own_in own.old other + (if name == other then length else 0) }
     ensures kept { (other : ℕ) → IsSome (get nat_eq own.old other) → IsSome (get nat_eq own.new other) }
 {
-    let held = own_in(own, name);
-    set_own(own, name, held + length);
+    let Some(held) = own.get_mut(&name) else {
+        unreachable!();
+    };
+    *held += length;
 }
 
 pub(crate) fn lose_own(own: &mut IndexMap<u32, u64>, name: u32, length: u64)
@@ -54,6 +48,8 @@ pub(crate) fn lose_own(own: &mut IndexMap<u32, u64>, name: u32, length: u64)
         ≡ own_in own.old other }
     ensures kept { (other : ℕ) → IsSome (get nat_eq own.old other) → IsSome (get nat_eq own.new other) }
 {
-    let held = own_in(own, name);
-    set_own(own, name, held - length);
+    let Some(held) = own.get_mut(&name) else {
+        unreachable!();
+    };
+    *held -= length;
 }
