@@ -57,7 +57,8 @@ pub struct ProcessRow {
     pub name: Option<Text>,
 }
 
-/// A thread that has an accepted event. `busy` is in microseconds.
+/// A thread that has an accepted begin, end, complete event or instant, or that a metadata event names or sorts. `busy` is in
+/// microseconds.
 #[derive(Debug, Drop, PartialEq, Eq)]
 pub struct ThreadRow {
     pub pid: i64,
