@@ -9,8 +9,13 @@ SOURCES := crates.txt HANDLES $(shell find crates -name out -prune -o -type f -p
 
 all: tracebook
 
-# Proves every crate, which takes minutes the first time, and prints each function as it is proved.
+# The libraries that the program stands on, lowest first.
+LIBRARIES := $(shell sed '/^tracebook:/,$$d; s/:.*//' crates.txt)
+
+# Proves every crate, which takes minutes the first time, and prints each function as it is proved. From below, because the program's
+# own check would read all sources once more before it builds a library.
 tracebook: $(SOURCES)
+	set -e; for crate in $(LIBRARIES); do (cd crates/$$crate && rt lib); done
 	cd crates/tracebook && rt run < stdin
 	cp crates/tracebook/out/tracebook $@
 
