@@ -1,5 +1,6 @@
 //! A ledger that is told worked examples, and what it then tells.
 ghost use Rattle.span_event.specs.Item.{IsGoodItem};
+ghost use Rattle.span_ledger.specs.Legal.{IsGoodOp};
 
 mod closed_spans;
 mod examples;
@@ -24,7 +25,14 @@ fn shown(alloc: Global, answer: &Answer) -> Result<String, AllocError> {
 fn answer(alloc: Global, ledger: &mut Ledger, item: Item) -> Result<String, AllocError>
     requires { IsGoodItem item }
 {
-    match ledger.apply(1, Op::One(item)) {
+    answer_to(alloc, ledger, 1, Op::One(item))
+}
+
+// What the ledger answers to an operation of a caller.
+fn answer_to(alloc: Global, ledger: &mut Ledger, caller: u32, op: Op) -> Result<String, AllocError>
+    requires { IsGoodOp op }
+{
+    match ledger.apply(caller, op) {
         Ok(answer) => {
             let text = shown(alloc, &answer);
             drop(answer);

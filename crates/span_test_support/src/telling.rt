@@ -1,17 +1,16 @@
 //! Ledgers that are told the elements of a text.
-ghost use Rattle.span_event.specs.Item.{IsGoodItem};
+ghost use Rattle.span_ledger.specs.Legal.{IsGoodOp};
 ghost use Rattle.span_track.specs.Thread.{IsSealTime};
 
-use span_event::Item;
 use span_ledger::{Ledger, Op};
 use span_read::read_items;
 use std::alloc::Global;
 
-// Whether the ledger takes the item. (Who lets go of an answer by a call of its own has one way to go on.)
-fn takes(ledger: &mut Ledger, item: Item) -> bool
-    requires { IsGoodItem item }
+// Whether the ledger takes the operation. (Who lets go of an answer by a call of its own has one way to go on.)
+fn takes(ledger: &mut Ledger, caller: u32, op: Op) -> bool
+    requires { IsGoodOp op }
 {
-    match ledger.apply(1, Op::One(item)) {
+    match ledger.apply(caller, op) {
         Ok(answer) => {
             drop(answer);
             true
@@ -28,7 +27,7 @@ fn takes_all(alloc: Global, ledger: &mut Ledger, text: &str) -> bool {
         return false;
     };
     for item in items.into_list() {
-        if !takes(ledger, item) {
+        if !takes(ledger, 1, Op::One(item)) {
             return false;
         }
     }
@@ -58,14 +57,5 @@ pub fn told_at_last(alloc: Global, text: &str) -> Option<Ledger> {
 pub fn seals(ledger: &mut Ledger, ts: i64) -> bool
     requires { IsSealTime ts }
 {
-    match ledger.apply(0, Op::Seal { pid: 1, tid: 1, ts }) {
-        Ok(answer) => {
-            drop(answer);
-            true
-        }
-        Err(back) => {
-            drop(back);
-            false
-        }
-    }
+    takes(ledger, 0, Op::Seal { pid: 1, tid: 1, ts })
 }

@@ -1,7 +1,7 @@
 //! Seals, which close what is open on a thread.
 ghost use Rattle.span_track.specs.Thread.{IsSealTime};
 
-use super::{answers, rows, shown};
+use super::{answer_to, answers, rows};
 use span_ledger::{Ledger, Op};
 use std::alloc::{AllocError, AllocGlobal, Global};
 use std::process::Abort;
@@ -24,18 +24,7 @@ CountRow { accepted: 3, refused: 0, skipped: 0, queries: 0, seals: 1 }
 fn sealed(alloc: Global, ledger: &mut Ledger, tid: i64, ts: i64) -> Result<String, AllocError>
     requires { IsSealTime ts }
 {
-    match ledger.apply(0, Op::Seal { pid: 1, tid, ts }) {
-        Ok(answer) => {
-            let text = shown(alloc, &answer);
-            drop(answer);
-            text
-        }
-        Err(back) => {
-            let text = format!(in alloc; "{:?}", back.cause);
-            drop(back);
-            text
-        }
-    }
+    answer_to(alloc, ledger, 0, Op::Seal { pid: 1, tid, ts })
 }
 
 fn a_thread_is_sealed_in(rt: &(impl Abort + AllocGlobal), ledger: &mut Ledger) -> Result<(), Fail> {
