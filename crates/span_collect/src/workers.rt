@@ -92,8 +92,8 @@ fn work_all<'s, E, G: Gate, R: Threads + Wait + Sync>(
     scope: &Scope<'s, E>,
     share: &'s Share,
     gate: &'s G,
-    places: &'s ReadingPlaces,
     workers: u32,
+    places: &'s ReadingPlaces,
     files: &'s [Input],
     asks: &[Query],
     seats: &mut Vec<Option<Seat>>,
@@ -111,7 +111,7 @@ fn work_all<'s, E, G: Gate, R: Threads + Wait + Sync>(
     let seat = seats.pop().flatten();
     let handle = start_worker(rt, alloc, scope, share, gate, places, place, file, seat);
     let asked = work_all(
-        rt, alloc, scope, share, gate, places, workers, others, asks, seats, main, ends,
+        rt, alloc, scope, share, gate, workers, places, others, asks, seats, main, ends,
     );
     let end = match handle {
         Some(handle) => {
@@ -154,7 +154,7 @@ pub(crate) fn run_workers<G: Gate, R: Threads + Wait + Sync>(
             let mut ends = ends;
             let workers = files.len() as u32;
             let asked = work_all(
-                rt, alloc, scope, share, gate, reading, workers, files, asks, &mut seats,
+                rt, alloc, scope, share, gate, workers, reading, files, asks, &mut seats,
                 &mut main, &mut ends,
             );
             (asked, main, ends)
