@@ -44,25 +44,9 @@ pub(crate) fn run_view<O: Sink, R: Threads + Wait + RandomSource + Sync>(
     ensures error { IfErr result
         (λ error. RunLeaves (text_of view files.now) error files.now [] settings.now (O.state out.old) (O.state out.new)) }
 {
-    match view {
-        View::Report => run_to_ledger(rt, alloc, files, &[], settings, out),
-        _ => run_text(rt, alloc, files, settings, view, out),
+    if let View::Report = view {
+        return run_to_ledger(rt, alloc, files, &[], settings, out);
     }
-}
-
-fn run_text<O: Sink, R: Threads + Wait + RandomSource + Sync>(
-    rt: &R,
-    alloc: Global,
-    files: &[Input],
-    settings: &Settings,
-    view: View,
-    out: &mut O,
-) -> Result<Collected, RunError>
-    ensures run { IfOk result
-        (λ collected. IsRunOf (text_of view files.now) files.now [] settings.now collected.end (O.state out.old) (O.state out.new)) }
-    ensures error { IfErr result
-        (λ error. RunLeaves (text_of view files.now) error files.now [] settings.now (O.state out.old) (O.state out.new)) }
-{
     let collected = collect_to_ledger(rt, alloc, files, &[], settings)?;
     if collected.end.status == 2 {
         return Ok(collected);
