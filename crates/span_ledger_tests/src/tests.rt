@@ -10,10 +10,11 @@ mod seals;
 mod strict_names;
 
 use examples::{EXAMPLES, Example};
-use span_ledger::{Answer, Cause, Item, Ledger, Op, ProcessPart, ThreadPart};
+use span_ledger::{Answer, Cause, Entry, Item, Ledger, Op, ProcessPart, ThreadPart};
 use span_read::read_items;
 use std::alloc::{AllocError, Global};
 use std::fmt::Debug;
+use std::mem::size_of;
 use std::process::Abort;
 use std::test::Fail;
 
@@ -243,4 +244,14 @@ fn a_full_journal_gives_the_operation_back(rt: HostRuntime) -> Result<(), Fail> 
     let told = a_full_journal_gives_the_operation_back_in(&rt, &mut ledger);
     drop(ledger);
     told
+}
+
+// An event costs as many bytes as these, in a file's list of items and then in the journal.
+#[test]
+fn events_take_little_room(rt: HostRuntime) -> Result<(), Fail> {
+    let (item, entry) = (size_of::<Item>(), size_of::<Entry>());
+    println!(rt; "an item has {item} bytes, an entry {entry}")?;
+    assert!(rt; item <= 128);
+    assert!(rt; entry <= 184);
+    Ok(())
 }
