@@ -13,6 +13,7 @@ use Rattle.span_event.specs.Text.{text_cmp, same_text}
 abbrev pub id_cmp : IdKey → IdKey → Ordering
 id_cmp = then_cmp (on (λ k. k.home) (option_cmp int_cmp)) (on (λ k. k.id) text_cmp)
 
+-- of one home, or of none, and of the same bytes
 abbrev pub same_id : IdKey → IdKey → Bool
 same_id a b = option_eq int_eq a.home b.home && same_text a.id b.id
 
