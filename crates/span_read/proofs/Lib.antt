@@ -1,4 +1,5 @@
 pub mod ArgMaps
+pub mod Bracket
 pub mod Documents
 pub mod Elements
 pub mod Ends

@@ -1,6 +1,5 @@
 //! The texts that are tried in turn: the text itself, and of an array also the text cut at its end, and closed.
-ghost use Rattle.std.specs.Prelude.{◌≡◌, ◌≢◌, ◌∷◌, ◌++◌, [], Err, IfOk};
-ghost use Rattle.std.specs.String.{string_bytes};
+ghost use Rattle.std.specs.Prelude.{◌≡◌, ◌≢◌, ◌∷◌, ◌++◌, [], Err, if◌then◌else◌};
 ghost use Rattle.serde_json.specs.Read.{read};
 ghost use Rattle.span_read.specs.Document.{is_blank, opens_array, without_trailing_blanks, without_trailing_comma, cut_text, candidates, first_read, doc_of_document};
 ghost use Rattle.span_read.specs.declared.error.ReadError.TheVariants.{Memory};
@@ -11,14 +10,15 @@ use crate::error::ReadError;
 use crate::error::stop::Stop;
 use crate::recent::RecentTexts;
 use crate::tokens::Tokens;
-use json::{Reader, Scratch};
+use crate::tokens::closed_reader::ClosedReader;
+use json::Scratch;
 use span_event::Items;
-use std::alloc::{AllocError, Global};
+use std::alloc::Global;
 
 /// How deep arrays and objects may nest.
 const MAX_DEPTH: usize = 127;
 
-/// What the first candidate that reads is. Only the last candidate is a copy.
+/// What the first candidate that reads is. None is a copy.
 pub(crate) fn read_first(alloc: Global, text: &str) -> Result<Items, ReadError>
     ensures { result ≢ Err Memory → result ≡ doc_of_document (first_read (candidates text.now)) }
 {
@@ -34,12 +34,7 @@ fn read_unfinished(alloc: Global, text: &str) -> Result<Items, ReadError>
 {
     let cut = cut_text(text);
     match read_closed(alloc, cut) {
-        Err(ReadError::NotJson) => {
-            let Ok(closed) = closed_text(alloc, cut) else {
-                return Err(ReadError::Memory);
-            };
-            read_closed(alloc, closed.as_str())
-        }
+        Err(ReadError::NotJson) => read_text(alloc, cut, true),
         answer => answer,
     }
 }
@@ -51,15 +46,17 @@ fn read_closed(alloc: Global, text: &str) -> Result<Items, ReadError>
     if opens_array(text) && !closes_array(text) {
         Err(ReadError::NotJson)
     } else {
-        read_text(alloc, text)
+        read_text(alloc, text, false)
     }
 }
 
-fn read_text(alloc: Global, text: &str) -> Result<Items, ReadError>
-    ensures { result ≢ Err Memory → result ≡ doc_of_document (read text.now) }
+/// Reads the text, or the text and a closing bracket behind it.
+fn read_text(alloc: Global, text: &str, bracket: bool) -> Result<Items, ReadError>
+    ensures { result ≢ Err Memory
+        → result ≡ doc_of_document (read (if bracket then text.now ++ 93 ∷ [] else text.now)) }
 {
     let mut scratch = Scratch::new(alloc);
-    let Ok(reader) = Reader::new(text, &mut scratch) else {
+    let Ok(reader) = ClosedReader::new(text, bracket, &mut scratch) else {
         return Err(ReadError::Memory);
     };
     let Ok(recent) = RecentTexts::new(alloc) else {
@@ -132,14 +129,4 @@ fn without_trailing_blanks(text: &str) -> &str
         end -= 1;
     }
     &text[..end]
-}
-
-// The text with a closing bracket at its end.
-fn closed_text(alloc: Global, text: &str) -> Result<String, AllocError>
-    ensures { IfOk result (λ closed. string_bytes closed ≡ text.now ++ 93 ∷ []) }
-{
-    let mut closed = String::with_capacity(alloc, text.len().saturating_add(1))?;
-    closed.push_str(text)?;
-    closed.push(']')?;
-    Ok(closed)
 }

@@ -2,8 +2,9 @@
 ghost use Rattle.std.specs.Prelude.{◌≡◌, ℕ, None, IfOk, OnErr};
 ghost use Rattle.span_read.specs.Tokens.{data_at, TakesHead};
 
+use crate::tokens::closed_reader::ClosedReader;
 use crate::tokens::number::{Number, number_of};
-use json::{Invalid, Reader, Token};
+use json::{Invalid, Token};
 
 /// The bracket of an array or an object, or else the whole value.
 #[derive(Drop)]
@@ -18,7 +19,7 @@ pub(crate) enum Head<'a> {
 }
 
 #[inline(always)]
-pub(crate) fn next_head<'a>(reader: &mut Reader<'a>) -> Result<Head<'a>, Invalid>
+pub(crate) fn next_head<'a>(reader: &mut ClosedReader<'a>) -> Result<Head<'a>, Invalid>
     ensures head { IfOk result (λ head. TakesHead head reader.old reader.new) }
     ensures refused { OnErr result ((depth : ℕ) → data_at depth reader.old ≡ None) }
 {

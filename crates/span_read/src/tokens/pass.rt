@@ -3,12 +3,13 @@ ghost use Rattle.std.specs.Prelude.{◌≡◌, ◌∷◌, None, OnOk, OnErr, ⊤
 ghost use Rattle.json.specs.Token.{Token};
 ghost use Rattle.span_read.specs.Tokens.{data_at, TakesValue, TakesArray, TakesObject};
 
+use crate::tokens::closed_reader::ClosedReader;
 use crate::tokens::head::{Head, next_head};
-use json::{Invalid, Reader};
+use json::Invalid;
 
 #[cycle(pass)]
 #[inline(always)]
-pub(crate) fn pass_value(reader: &mut Reader<'_>, depth: usize) -> Result<(), Invalid>
+pub(crate) fn pass_value(reader: &mut ClosedReader<'_>, depth: usize) -> Result<(), Invalid>
     ensures taken { OnOk result (TakesValue depth reader.old reader.new (λ d. ⊤)) }
     ensures refused { OnErr result (data_at depth reader.old ≡ None) }
 {
@@ -22,7 +23,7 @@ pub(crate) fn pass_value(reader: &mut Reader<'_>, depth: usize) -> Result<(), In
 /// The rest of an array whose bracket was taken.
 #[cycle(pass)]
 #[inline(never)]
-pub(crate) fn pass_array(reader: &mut Reader<'_>, depth: usize) -> Result<(), Invalid>
+pub(crate) fn pass_array(reader: &mut ClosedReader<'_>, depth: usize) -> Result<(), Invalid>
     ensures taken { OnOk result (TakesArray depth reader.old reader.new (λ ds. ⊤)) }
     ensures refused { OnErr result (data_at depth (Token.begin_array ∷ reader.old) ≡ None) }
 {
@@ -38,7 +39,7 @@ pub(crate) fn pass_array(reader: &mut Reader<'_>, depth: usize) -> Result<(), In
 /// The rest of an object whose bracket was taken.
 #[cycle(pass)]
 #[inline(never)]
-pub(crate) fn pass_object(reader: &mut Reader<'_>, depth: usize) -> Result<(), Invalid>
+pub(crate) fn pass_object(reader: &mut ClosedReader<'_>, depth: usize) -> Result<(), Invalid>
     ensures taken { OnOk result (TakesObject depth reader.old reader.new (λ ms. ⊤)) }
     ensures refused { OnErr result (data_at depth (Token.begin_object ∷ reader.old) ≡ None) }
 {

@@ -35,7 +35,7 @@ pass_object-members-init t c = members_start (c.args.depth - 1) c.args.reader.no
 
 pub pass_object-returns-in_err-_name-clause-refused : goal.pass_object-returns-in_err-_name-clause-refused
 pass_object-returns-in_err-_name-clause-refused t c =
-    on_err c.from_residual.result (members_key_refused c.args.depth (omega arith) (λ ms. ⊤) c.args.reader.now c.members.reader c.members.invariant c.in_err-_name.ensures.value)
+    on_err c.from_residual.result (members_key_refused c.args.depth (omega arith) (λ ms. ⊤) c.args.reader.now c.members.reader c.members.invariant c.in_err-_name.ensures)
 
 pub pass_object-members-smaller : goal.pass_object-members-smaller
 pass_object-members-smaller t c =
