@@ -4,8 +4,8 @@ ghost use Rattle.std.specs.List.{list_any, starts_with};
 ghost use Rattle.span_command_line.specs.Request.{AsksFor, is_option};
 
 use crate::view::View;
-use clap::error::ErrorKind;
-use clap::{Arg, ArgAction, ArgMatches, Command};
+use clap::error::{Error, ErrorKind};
+use clap::{Arg, ArgAction, ArgGroup, ArgMatches, Command};
 use span_collect::Settings;
 use span_event::Text;
 use span_ranking::By;
@@ -19,9 +19,6 @@ const SEAL_HELP: &str =
 
 const STRICT_HELP: &str =
     "Refuse (27) an end that names another span than the one it would close, which then stays open; for a trace that may have lost begins";
-
-// One thing is printed instead of the report.
-const VIEW: &str = "view";
 
 const BY_WORDS: &[&str] = &["self", "total", "count"];
 
@@ -130,94 +127,99 @@ fn parsed_request(alloc: Global, words: &[Text]) -> Result<Request, AllocError> 
     let limit_help = format!(in alloc;
         "The most entries of the journal, 1 to 4294967295 [default: {DEFAULT_LIMIT}]"
     )?;
-    let command = command_of(alloc, limit_help.as_str())?;
     let all = with_program(alloc, words)?;
+    let command = command_of(alloc, limit_help.as_str())?;
     match command.try_get_matches_from(all.as_slice()) {
         Ok(matches) => collect_request(alloc, &matches),
-        Err(error) => match error.kind() {
-            ErrorKind::OutOfMemory => Err(AllocError),
-            ErrorKind::DisplayHelp | ErrorKind::DisplayVersion => {
-                Ok(Request::Show(format!(in alloc; "{error}")?))
-            }
-            _ => Ok(Request::Refuse(format!(in alloc; "{error}")?)),
-        },
+        Err(error) => request_without_matches(alloc, &error),
     }
 }
 
+// What is asked for where the words name no files: this text, or help.
+fn request_without_matches(alloc: Global, error: &Error) -> Result<Request, AllocError> {
+    let kind = error.kind();
+    if let ErrorKind::OutOfMemory = kind {
+        return Err(AllocError);
+    }
+    let text = format!(in alloc; "{error}")?;
+    Ok(match kind {
+        ErrorKind::DisplayHelp | ErrorKind::DisplayVersion => Request::Show(text),
+        _ => Request::Refuse(text),
+    })
+}
+
 fn command_of<'a>(alloc: Global, limit_help: &'a str) -> Result<Command<'a>, AllocError> {
-    let limit = Arg::new(alloc, "limit")
-        .long("limit")
-        .value_name("N")
-        .value_parser(clap::value_parser!(u32).range(1..))
-        .action(ArgAction::Set)
-        .help(limit_help);
-    let seal = Arg::new(alloc, "seal")
-        .long("seal")
-        .action(ArgAction::SetTrue)
-        .help(SEAL_HELP);
-    let strict = Arg::new(alloc, "strict")
-        .long("strict")
-        .action(ArgAction::SetTrue)
-        .help(STRICT_HELP);
-    let files = Arg::new(alloc, "files")
-        .value_name("FILE")
-        .num_args(0..)
-        .action(ArgAction::Append)
-        .help("A trace; without one, standard input is read");
-    let command = Command::new(alloc, "tracebook")
+    let arguments = arguments_of(alloc, limit_help)?;
+    Command::new(alloc, "tracebook")
         .version("1")
         .about(ABOUT)
         .after_help(AFTER)
-        .arg(limit)?
-        .arg(seal)?
-        .arg(strict)?;
-    with_views(alloc, command)?.arg(files)
+        .group(views(alloc)?)?
+        .args(arguments)
 }
 
-// With the flags of what is printed instead of the report.
-fn with_views<'a>(alloc: Global, command: Command<'a>) -> Result<Command<'a>, AllocError> {
-    let top = Arg::new(alloc, "top")
-        .long("top")
+// At most one of these is printed instead of the report.
+fn views(alloc: Global) -> Result<ArgGroup<'static>, AllocError> {
+    ArgGroup::new(alloc, "view").args(&["top", "refused", "folded", "page", "base"])
+}
+
+// In the order in which the help has them.
+fn arguments_of<'a>(alloc: Global, limit_help: &'a str) -> Result<Vec<Arg<'a>>, AllocError> {
+    let mut arguments = Vec::new(alloc);
+    arguments.push(number_option(alloc, "limit", limit_help))?;
+    arguments.push(switch(alloc, "seal", SEAL_HELP))?;
+    arguments.push(switch(alloc, "strict", STRICT_HELP))?;
+    arguments.push(number_option(alloc, "top", TOP_HELP))?;
+    arguments.push(by_option(alloc)?)?;
+    arguments.push(switch(alloc, "refused", REFUSED_HELP))?;
+    arguments.push(switch(alloc, "folded", FOLDED_HELP))?;
+    arguments.push(switch(alloc, "page", PAGE_HELP))?;
+    arguments.push(base_option(alloc))?;
+    arguments.push(files_argument(alloc))?;
+    Ok(arguments)
+}
+
+// An option without a value.
+fn switch<'a>(alloc: Global, name: &'a str, help: &'a str) -> Arg<'a> {
+    Arg::new(alloc, name)
+        .long(name)
+        .action(ArgAction::SetTrue)
+        .help(help)
+}
+
+fn number_option<'a>(alloc: Global, name: &'a str, help: &'a str) -> Arg<'a> {
+    Arg::new(alloc, name)
+        .long(name)
         .value_name("N")
         .value_parser(clap::value_parser!(u32).range(1..))
         .action(ArgAction::Set)
-        .group(VIEW)?
-        .help(TOP_HELP);
-    let by = Arg::new(alloc, "by")
+        .help(help)
+}
+
+fn by_option(alloc: Global) -> Result<Arg<'static>, AllocError> {
+    let option = Arg::new(alloc, "by")
         .long("by")
         .value_name("self|total|count")
         .value_parser(BY_WORDS)
-        .requires_arg("top")?
         .action(ArgAction::Set)
         .help(BY_HELP);
-    let refused = Arg::new(alloc, "refused")
-        .long("refused")
-        .action(ArgAction::SetTrue)
-        .group(VIEW)?
-        .help(REFUSED_HELP);
-    let folded = Arg::new(alloc, "folded")
-        .long("folded")
-        .action(ArgAction::SetTrue)
-        .group(VIEW)?
-        .help(FOLDED_HELP);
-    let page = Arg::new(alloc, "page")
-        .long("page")
-        .action(ArgAction::SetTrue)
-        .group(VIEW)?
-        .help(PAGE_HELP);
-    let base = Arg::new(alloc, "base")
+    option.requires_arg("top")
+}
+
+fn base_option(alloc: Global) -> Arg<'static> {
+    Arg::new(alloc, "base")
         .long("base")
         .value_name("FILE")
         .action(ArgAction::Append)
-        .group(VIEW)?
-        .help(BASE_HELP);
-    command
-        .arg(top)?
-        .arg(by)?
-        .arg(refused)?
-        .arg(folded)?
-        .arg(page)?
-        .arg(base)
+        .help(BASE_HELP)
+}
+
+fn files_argument(alloc: Global) -> Arg<'static> {
+    Arg::new(alloc, "files")
+        .value_name("FILE")
+        .num_args(0..)
+        .action(ArgAction::Append)
+        .help("A trace; without one, standard input is read")
 }
 
 // The program's name, and then the words.
