@@ -10,7 +10,7 @@ use Rattle.span_collect.specs.declared.runs.RunError.TheVariants.{FileCount, Mem
 use Rattle.span_collect.specs.Collection.{AreNoneOrTooMany, HasMore}
 use Rattle.span_collect.specs.Run.{status_of}
 use Rattle.span_collect.specs.Seals.{SealedAccount}
-use Rattle.span_comparison.specs.Comparison.{comparison_of}
+use Rattle.span_report.specs.Comparisons.Comparison.{comparison_of}
 
 -- a run of these files, without queries, ended so, and this journal accounts for them
 pub record HasEnded (files : List Input) (settings : Settings) (run : RunEnd) (journal : List Entry) : Type 0 where

@@ -1,7 +1,7 @@
 -- What is printed of what was collected.
 use Rattle.std.specs.Prelude.{List}
 use Rattle.span_report.specs.Report.{report_of}
-use Rattle.span_ranking.specs.Ranking.{ranking_of}
+use Rattle.span_report.specs.Rankings.Ranking.{ranking_of}
 use Rattle.span_refusals.specs.Text.{refusals_of}
 use Rattle.span_stacks.specs.Folded.{folded_of}
 use Rattle.span_page.specs.Page.{page_of}

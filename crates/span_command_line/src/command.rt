@@ -8,7 +8,7 @@ use clap::error::{Error, ErrorKind};
 use clap::{Arg, ArgAction, ArgGroup, ArgMatches, Command};
 use span_collect::Settings;
 use span_event::Text;
-use span_ranking::By;
+use span_report::rankings::By;
 use std::alloc::{AllocError, Global};
 
 /// The most entries of the journal, where the command line does not say.

@@ -3,7 +3,7 @@ ghost use Rattle.std.specs.Prelude.{◌≡◌, IfOk, IfErr};
 ghost use Rattle.span_command_line.specs.Comparison.{ComparisonLeaves, IsComparisonOf, greater};
 
 use span_collect::{Collected, Input, RunEnd, RunError, Settings, collect_to_ledger};
-use span_comparison::write_comparison;
+use span_report::comparisons::write_comparison;
 use span_report::{Sink, WriteFault};
 use std::alloc::Global;
 use std::mem::forget;

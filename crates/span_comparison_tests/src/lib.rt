@@ -1,4 +1,4 @@
-//! What `span_comparison` promises, tried through its public calls.
+//! What `span_report::comparisons` promises, tried through its public calls.
 #![tactic(auto)]
 
 #[cfg(test)]

@@ -1,7 +1,7 @@
 //! Comparisons of worked traces, written by hand from their rules.
 
-use span_comparison::comparison;
 use span_ledger::Ledger;
+use span_report::comparisons::comparison;
 use span_test_support::told;
 use std::alloc::{AllocError, AllocGlobal, Global};
 use std::process::Abort;

@@ -1,4 +1,4 @@
-//! What `span_ranking` promises, tried through its public calls.
+//! What `span_report::rankings` promises, tried through its public calls.
 #![tactic(auto)]
 
 #[cfg(test)]

@@ -1,7 +1,7 @@
 //! Rankings of worked traces, written by hand from their rules.
 
 use span_ledger::Ledger;
-use span_ranking::{By, ranking};
+use span_report::rankings::{By, ranking};
 use span_test_support::told;
 use std::alloc::{AllocError, AllocGlobal, Global};
 use std::process::Abort;

@@ -1,3 +1,5 @@
+pub mod ComparisonLemmas
 pub mod Padding
+pub mod RankingLemmas
 pub mod SameReports
 pub mod Taking

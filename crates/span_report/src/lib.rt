@@ -1,9 +1,11 @@
-//! The report of a ledger: the lines that its rows make, and the output that takes them.
+//! The report of a ledger: the lines that its rows make, and the output that takes them. So are rankings and comparisons made.
 #![tactic(auto)]
 
+pub mod comparisons;
 pub mod laws;
 mod lines;
 mod output;
+pub mod rankings;
 mod sink;
 mod text;
 mod writer;

@@ -2,9 +2,9 @@
 //! tests/refused_allocations.
 
 use super::{AFTER, BEFORE, CHANGED};
-use span_comparison::{comparison, write_comparison};
 use span_ledger::Ledger;
 use span_report::Writer;
+use span_report::comparisons::{comparison, write_comparison};
 use span_test_support::{is_whole_or_none, room_at_last, told_at_last};
 use std::alloc::AllocGlobal;
 use std::process::Abort;

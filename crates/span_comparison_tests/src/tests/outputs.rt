@@ -1,7 +1,7 @@
 //! Outputs that take a comparison, or fail.
 
-use span_comparison::write_comparison;
 use span_ledger::Ledger;
+use span_report::comparisons::write_comparison;
 use span_report::{WriteFault, Writer};
 use span_test_support::{Output, told};
 use std::alloc::{AllocGlobal, Global};

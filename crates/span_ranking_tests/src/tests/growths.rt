@@ -3,8 +3,8 @@
 
 use super::{A, B, C, NESTED, NESTED_HEAD, text_of};
 use span_ledger::Ledger;
-use span_ranking::{By, ranking, write_ranking};
 use span_report::Writer;
+use span_report::rankings::{By, ranking, write_ranking};
 use span_test_support::{is_whole_or_none, room_at_last, told_at_last};
 use std::alloc::{AllocError, AllocGlobal, Global};
 use std::process::Abort;

@@ -1,7 +1,7 @@
 //! Outputs that take a ranking, or fail.
 
 use span_ledger::Ledger;
-use span_ranking::{By, write_ranking};
+use span_report::rankings::{By, write_ranking};
 use span_report::{WriteFault, Writer};
 use span_test_support::{Output, told};
 use std::alloc::{AllocGlobal, Global};

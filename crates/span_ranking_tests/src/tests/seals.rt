@@ -1,7 +1,7 @@
 //! The ranking of a ledger with a seal.
 
 use super::has_rankings;
-use span_ranking::By;
+use span_report::rankings::By;
 use span_test_support::{seals, told};
 use std::test::Fail;
 

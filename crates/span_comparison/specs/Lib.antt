@@ -1,9 +1,0 @@
-pub mod Changes
-pub mod Collected
-pub mod Comparison
-pub mod KeyLaws
-pub mod Keys
-pub mod Laws
-pub mod Numbers
-pub mod Pieces
-pub mod SumLaws
