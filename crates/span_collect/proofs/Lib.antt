@@ -6,6 +6,7 @@ pub mod Meeting
 pub mod NotCollected
 pub mod OneFile
 pub mod Recording
+pub mod RefusalLemmas
 pub mod SealEntries
 pub mod Settling
 pub mod Statuses

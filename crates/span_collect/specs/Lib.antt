@@ -2,6 +2,7 @@ pub mod Account
 pub mod Collection
 pub mod FaultLines
 pub mod InTurn
+pub mod Refusals
 pub mod Run
 pub mod Seals
 pub mod Words

@@ -1,4 +1,4 @@
-//! Collects the files of traces into one ledger, with one worker for each file, and reports on it.
+//! Collects the files of traces into one ledger, with one worker for each file, and reports on it and on what was refused.
 #![tactic(auto)]
 
 mod collection;
@@ -7,6 +7,7 @@ mod files;
 mod gate;
 mod queries;
 mod reading_places;
+pub mod refusals;
 mod remaining;
 mod runs;
 mod sealing;

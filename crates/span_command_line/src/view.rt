@@ -5,9 +5,9 @@ ghost use Rattle.span_report.specs.Sink.{TakesBytes};
 ghost use Rattle.span_collect.specs.Run.{IsRunOf, RunLeaves};
 ghost use Rattle.span_command_line.specs.View.{text_of};
 
+use span_collect::refusals::write_refusals;
 use span_collect::{Collected, Input, RunError, Settings, collect_to_ledger, run_to_ledger};
 use span_page::write_page;
-use span_refusals::write_refusals;
 use span_report::rankings::{By, write_ranking};
 use span_report::{Sink, WriteFault, write_report};
 use span_stacks::write_folded;

@@ -10,7 +10,7 @@ use Rattle.span_stacks.specs.Folded.{thread_stacks}
 use Rattle.span_stacks.specs.Stacks.{Folded}
 use Rattle.span_collect.specs.declared.files.FileEnd.{FileEnd}
 use Rattle.span_collect.specs.declared.files.Input.{Input}
-use Rattle.span_refusals.specs.Text.{refusals_of}
+use Rattle.span_collect.specs.Refusals.Text.{refusals_of}
 use Rattle.span_page.specs.Coded.{Coded, coded_after}
 
 -- texts of JSON as an array

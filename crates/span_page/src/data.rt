@@ -6,10 +6,10 @@ ghost use Rattle.span_page.specs.Data.{all_stacks_json, data_of, thread_json, th
 
 use crate::stacks::put_stacks;
 use serde_json::Value;
+use span_collect::refusals::refusals_text;
 use span_collect::{FileEnd, Input};
 use span_event::Thread;
 use span_ledger::{Ledger, ProcessPart};
-use span_refusals::refusals_text;
 use span_report::report_text;
 use span_stacks::framed_stacks;
 use std::alloc::{AllocError, Global};

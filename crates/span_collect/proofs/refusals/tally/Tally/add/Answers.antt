@@ -1,0 +1,24 @@
+use Rattle.std.proofs.Common.{◌-◌, ◌^◌, ◌+◌, ◌<◌, ◌∙◌, [], sym, ap, subst}
+use Rattle.std.specs.Ordering.{nat_cmp}
+use Rattle.span_keyed_tracks.specs.Keyed.{kept_at}
+use Rattle.span_collect.specs.declared.refusals.tally.Refused.{Refused}
+use Rattle.span_collect.specs.declared.refusals.tally.Tally.TheInside.{Inside}
+use Rattle.span_collect.specs.Refusals.{refused_at}
+use Rattle.span_collect.specs.Refusals.Tallies.{Tallied}
+use Rattle.span_collect.proofs.RefusalLemmas.Tallying.{Takes-other, Takes-refusal, count-kept_at}
+use Rattle.span_collect.proofs.refusals.tally.Tally.add.Goals as goal
+use Rattle.span_collect.proofs.refusals.tally.Tally.add.Goals.{in-Some+in_ok-insert, in_default}
+
+pub and-refused-requires : goal.and-refused-requires
+and-refused-requires c = subst (λ (r : Refused). r.count < 2 ^ 32 - 1) (sym c.refused_with.ensures) (count-kept_at c.args.self.now _ c.requires)
+
+pub returns : goal.returns
+returns c = λ answers is. elim c.match-number_in.branch [
+  | in-Some+in_ok-insert w ↦ Takes-refusal answers c.args.answer.now _ _ w.in-Some.code w.and-refused.result (sym c.number_in.ensures ∙ w.in-Some.is) (c.self.view_is ∙ is) w.in_ok-insert.ensures.was_ordered
+      (λ places kept. w.and-refused.ensures places (w.refused_with.ensures ∙ ap (λ (t : Tallied). kept_at nat_cmp (refused_at []) t.refused w.in-Some.code) (sym c.self.view_is) ∙ kept))
+      (ap (λ (inside : Inside). inside.items + 1) w.self-inside-is)
+      (ap (λ (inside : Inside). inside.refused.entries) w.self-inside-is ∙ w.in_ok-insert.ensures.entries)
+  | in_default w ↦ Takes-other answers c.args.answer.now _ _ (sym c.number_in.ensures ∙ w.in_default.is) (c.self.view_is ∙ is)
+      (ap (λ (inside : Inside). inside.items + 1) w.self-inside-is)
+      (ap (λ (inside : Inside). inside.refused.entries) w.self-inside-is)
+]

@@ -1,0 +1,19 @@
+use Rattle.std.proofs.Common.{◌∙◌, append_assoc, get_or, take}
+use Rattle.span_collect.specs.declared.files.FileEnd.TheVariants.{Read}
+use Rattle.span_collect.specs.FaultLines.{lines_of_ends}
+use Rattle.span_ledger.specs.Rows.{count_row}
+use Rattle.span_report.specs.Report.{head_lines}
+use Rattle.span_collect.proofs.EndLines.{lines_of_ends-take_more}
+use Rattle.span_collect.specs.Refusals.Text.{file_lines}
+use Rattle.span_collect.proofs.refusals.text.refusals_text.Goals as goal
+
+-- the lines that were put are those of the next file
+pub loop-place-preserved : goal.loop-place-preserved
+loop-place-preserved c =
+    let journal = c.args.ledger.now.journal in
+    let place = c.loop-place.place in
+    let more = lines_of_ends-take_more (file_lines journal) c.args.files.now c.args.ends.now place c.index-files-place.result (Read 0 0) c.loop-place-test.true c.requires in
+    let passed = lines_of_ends (file_lines journal) (take place c.args.files.now) (take place c.args.ends.now) in
+    let added = file_lines journal c.index-files-place.result.name (get_or c.args.ends.now place (Read 0 0)) in
+    let put = rw c.loop-place.invariant at (c.in_ok-put_file.ensures journal c.in_ok-tallies.ensures) in
+    rw (more, ← c.index-files-place.is) (put ∙ append_assoc (head_lines (count_row journal)) passed added)

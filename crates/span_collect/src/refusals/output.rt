@@ -1,0 +1,31 @@
+//! Writes what was refused of a run's files to a sink.
+ghost use Rattle.std.specs.Prelude.{◌≡◌, length, IfErr, OnOk};
+ghost use Rattle.span_report.specs.Sink.{TakesBytes};
+ghost use Rattle.span_report.specs.Output.{WriteLeaves};
+ghost use Rattle.span_collect.specs.Refusals.Text.{refusals_of};
+
+use super::text::refusals;
+use crate::files::{FileEnd, Input};
+use span_ledger::Ledger;
+use span_report::{Sink, WriteFault, write_bytes};
+use std::alloc::Global;
+
+/// Writes which items of each file the ledger's journal refused. The first fault of the output ends it, and nothing is tried again.
+pub fn write_refusals<O: Sink>(
+    alloc: Global,
+    ledger: &Ledger,
+    files: &[Input],
+    ends: &[FileEnd],
+    out: &mut O,
+) -> Result<(), WriteFault>
+    requires { length files.now ≡ length ends.now }
+    ensures ok { OnOk result
+        (TakesBytes (O.state out.old) (O.state out.new) (refusals_of files.now ends.now ledger.now.journal)) }
+    ensures fault { IfErr result
+        (λ fault. WriteLeaves fault (refusals_of files.now ends.now ledger.now.journal) (O.state out.old) (O.state out.new)) }
+{
+    let Ok(text) = refusals(alloc, ledger, files, ends) else {
+        return Err(WriteFault::Memory);
+    };
+    write_bytes(&text, out).map_err(|written| WriteFault::Output { written })
+}

@@ -1,2 +1,0 @@
-pub mod Refused
-mod Tallying
