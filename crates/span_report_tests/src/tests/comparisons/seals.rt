@@ -1,6 +1,6 @@
 //! The comparison of ledgers of which one has a seal.
 
-use super::compares_to;
+use crate::tests::printed::Printed;
 use span_ledger::Ledger;
 use span_test_support::{seals, told};
 use std::alloc::AllocGlobal;
@@ -43,8 +43,8 @@ fn compares_both_ways(
     sealed: &Ledger,
     closed: &Ledger,
 ) -> Result<(), Fail> {
-    compares_to(rt, sealed, closed, SEALED_BASE)?;
-    compares_to(rt, closed, sealed, SEALED_OTHER)
+    Printed::Comparison(sealed, closed).has_text(rt, SEALED_BASE)?;
+    Printed::Comparison(closed, sealed).has_text(rt, SEALED_OTHER)
 }
 
 #[test]

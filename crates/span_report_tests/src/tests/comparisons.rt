@@ -1,28 +1,14 @@
 //! Comparisons of worked traces, written by hand from their rules.
 
+use super::printed::Printed;
 use span_ledger::Ledger;
-use span_report::comparisons::comparison;
-use span_test_support::told;
+use span_test_support::{told, told_at_last};
 use std::alloc::{AllocError, AllocGlobal, Global};
 use std::process::Abort;
 use std::test::Fail;
 
-mod growths;
-mod outputs;
 mod seals;
 mod threads;
-
-// The comparison of two ledgers is this text.
-fn compares_to(
-    rt: &(impl Abort + AllocGlobal),
-    base: &Ledger,
-    other: &Ledger,
-    want: &str,
-) -> Result<(), Fail> {
-    let text = comparison(rt.alloc(), base, other)?;
-    assert!(rt; text.as_slice() == want.as_bytes());
-    Ok(())
-}
 
 // The comparison of the ledgers of two traces is this text.
 fn compares(rt: &(impl Abort + AllocGlobal), events: (&str, &str), want: &str) -> Result<(), Fail> {
@@ -39,7 +25,7 @@ fn compares_with(
     want: &str,
 ) -> Result<(), Fail> {
     let other = told(rt.alloc(), events).ok_or("not told")?;
-    let compared = compares_to(rt, base, &other, want);
+    let compared = Printed::Comparison(base, &other).has_text(rt, want);
     drop(other);
     compared
 }
@@ -178,4 +164,46 @@ fn sums_and_differences_go_beyond_64_bits(rt: HostRuntime) -> Result<(), Fail> {
     let many = long_spans(rt.alloc(), 2100)?;
     let one = long_spans(rt.alloc(), 1)?;
     compares(&rt, (many.as_str(), one.as_str()), LONG_ROW)
+}
+
+const BASE: &str = r#"[{"ph":"X","name":"a","ts":0,"dur":5,"pid":1,"tid":2}]"#;
+
+const OTHER: &str = r#"[{"ph":"X","name":"a","ts":0,"dur":8,"pid":1,"tid":2}]"#;
+
+const ONE_ROW: &str = r#"tracebook 1
+base events 1 refused 0 skipped 0 queries 0
+events 1 refused 0 skipped 0 queries 0
+           dself            self0            self1           dtotal           total0           total1   count0   count1 process thread name
+              +3                5                8               +3                5                8        1        1 1 2 "a"
+same 0
+"#;
+
+fn says_how_much_was_taken(rt: &(impl Abort + AllocGlobal), base: &Ledger) -> Result<(), Fail> {
+    let other = told(rt.alloc(), OTHER).ok_or("not told")?;
+    Printed::Comparison(base, &other).fills_outputs(rt, ONE_ROW);
+    drop(other);
+    Ok(())
+}
+
+#[test]
+fn says_how_much_a_failed_output_took(rt: HostRuntime) -> Result<(), Fail> {
+    let base = told(rt.alloc(), BASE).ok_or("not told")?;
+    let result = says_how_much_was_taken(&rt, &base);
+    drop(base);
+    result
+}
+
+fn compares_whole_or_not(rt: &(impl Abort + AllocGlobal), base: &Ledger) -> Result<(), Fail> {
+    let other = told_at_last(rt.alloc(), AFTER).ok_or("not told")?;
+    let compared = Printed::Comparison(base, &other).is_whole_or_none(rt, CHANGED);
+    drop(other);
+    compared
+}
+
+#[test]
+fn a_refused_growth_leaves_no_part_of_a_comparison(rt: HostRuntime) -> Result<(), Fail> {
+    let base = told_at_last(rt.alloc(), BEFORE).ok_or("not told")?;
+    let compared = compares_whole_or_not(&rt, &base);
+    drop(base);
+    compared
 }

@@ -1,14 +1,13 @@
 //! Rankings of worked traces, written by hand from their rules.
 
+use super::printed::Printed;
 use span_ledger::Ledger;
-use span_report::rankings::{By, ranking};
-use span_test_support::told;
+use span_report::rankings::By;
+use span_test_support::{told, told_at_last};
 use std::alloc::{AllocError, AllocGlobal, Global};
 use std::process::Abort;
 use std::test::Fail;
 
-mod growths;
-mod outputs;
 mod seals;
 
 // The text of a ranking with these lines after its first, and these rows.
@@ -33,8 +32,7 @@ fn has_rankings(
 ) -> Result<(), Fail> {
     for (most, by, rows) in wants {
         let want = text_of(rt.alloc(), head, rows)?;
-        let text = ranking(rt.alloc(), ledger, *most, *by)?;
-        assert!(rt; text.as_slice() == want.as_bytes(), "{most} by {by:?}");
+        Printed::Ranking(ledger, *most, *by).has_text(rt, want.as_str())?;
     }
     Ok(())
 }
@@ -163,4 +161,44 @@ const LONG_ROW: &[&str] = &[r#"10000000000000000 19000000000000000        3 1 0 
 fn long_numbers_take_the_places_that_they_need(rt: HostRuntime) -> Result<(), Fail> {
     let head = "events 3 refused 0 skipped 0 queries 0";
     ranks(&rt, LONG, head, &[(1, By::Total, LONG_ROW)])
+}
+
+const ONE: &str = r#"[{"ph":"X","name":"a","ts":0,"dur":5,"pid":1,"tid":2}]"#;
+
+const ONE_ROW: &str = r#"tracebook 1
+events 1 refused 0 skipped 0 queries 0
+            self            total    count pid tid thread name
+               5                5        1 1 2 - "a"
+"#;
+
+#[test]
+fn says_how_much_a_failed_output_took(rt: HostRuntime) -> Result<(), Fail> {
+    let ledger = told(rt.alloc(), ONE).ok_or("not told")?;
+    Printed::Ranking(&ledger, 1, By::Total).fills_outputs(&rt, ONE_ROW);
+    drop(ledger);
+    Ok(())
+}
+
+fn wanted(alloc: Global) -> Result<String, AllocError> {
+    text_of(alloc, NESTED_HEAD, &[A, B, C])
+}
+
+fn wanted_at_last(alloc: Global) -> Result<String, AllocError> {
+    match wanted(alloc) {
+        Ok(text) => Ok(text),
+        Err(_) => wanted(alloc),
+    }
+}
+
+fn ranks_whole_or_not(rt: &(impl Abort + AllocGlobal), ledger: &Ledger) -> Result<(), Fail> {
+    let want = wanted_at_last(rt.alloc())?;
+    Printed::Ranking(ledger, 3, By::Total).is_whole_or_none(rt, want.as_str())
+}
+
+#[test]
+fn a_refused_growth_leaves_no_part_of_a_ranking(rt: HostRuntime) -> Result<(), Fail> {
+    let ledger = told_at_last(rt.alloc(), NESTED).ok_or("not told")?;
+    let told = ranks_whole_or_not(&rt, &ledger);
+    drop(ledger);
+    told
 }

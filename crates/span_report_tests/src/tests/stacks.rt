@@ -1,26 +1,16 @@
 //! Folded stacks of worked traces, written by hand from their rules.
 
-use span_ledger::Ledger;
-use span_stacks::folded;
+use super::printed::Printed;
 use span_stacks::laws::{busy_law, self_law};
-use span_test_support::told;
+use span_test_support::{told, told_at_last};
 use std::alloc::AllocGlobal;
 use std::process::Abort;
 use std::test::Fail;
 
-mod growths;
-mod outputs;
-
-fn folds_to(rt: &(impl Abort + AllocGlobal), ledger: &Ledger, want: &str) -> Result<(), Fail> {
-    let text = folded(rt.alloc(), ledger)?;
-    assert!(rt; text.as_slice() == want.as_bytes());
-    Ok(())
-}
-
 // The folded stacks of a trace.
 fn folds(rt: &(impl Abort + AllocGlobal), events: &str, want: &str) -> Result<(), Fail> {
     let ledger = told(rt.alloc(), events).ok_or("not told")?;
-    let result = folds_to(rt, &ledger, want);
+    let result = Printed::Stacks(&ledger).has_text(rt, want);
     drop(ledger);
     result
 }
@@ -111,6 +101,26 @@ fn without_a_closed_microsecond_there_is_no_line(rt: HostRuntime) -> Result<(), 
         r#"[{"ph":"i","name":"gc","ts":3,"pid":1,"tid":2},{"ph":"B","name":"a","ts":4,"pid":1,"tid":3},
         {"ph":"X","name":"a","ts":4,"dur":0,"pid":1,"tid":4}]"#;
     folds(&rt, events, "")
+}
+
+const ONE: &str = r#"[{"ph":"X","name":"a","ts":0,"dur":5,"pid":1,"tid":2}]"#;
+
+const ONE_LINE: &str = "1;2;a 5\n";
+
+#[test]
+fn says_how_much_a_failed_output_took(rt: HostRuntime) -> Result<(), Fail> {
+    let ledger = told(rt.alloc(), ONE).ok_or("not told")?;
+    Printed::Stacks(&ledger).fills_outputs(&rt, ONE_LINE);
+    drop(ledger);
+    Ok(())
+}
+
+#[test]
+fn a_refused_growth_leaves_no_part_of_the_stacks(rt: HostRuntime) -> Result<(), Fail> {
+    let ledger = told_at_last(rt.alloc(), NESTED).ok_or("not told")?;
+    let folded = Printed::Stacks(&ledger).is_whole_or_none(&rt, NESTED_STACKS);
+    drop(ledger);
+    folded
 }
 
 #[test]

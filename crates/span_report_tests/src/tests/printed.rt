@@ -1,0 +1,84 @@
+//! The texts, and what tests of several of them ask.
+
+use span_ledger::Ledger;
+use span_report::comparisons::{comparison, write_comparison};
+use span_report::rankings::{By, ranking, write_ranking};
+use span_report::{WriteFault, Writer, report, write_report};
+use span_stacks::{folded, write_folded};
+use span_test_support::{Output, is_whole_or_none, room_at_last};
+use std::alloc::{AllocError, AllocGlobal, Global};
+use std::io::Write;
+use std::process::Abort;
+use std::test::Fail;
+
+/// A text of one ledger, or of two.
+#[derive(Drop)]
+pub(crate) enum Printed<'a> {
+    Report(&'a Ledger),
+    Ranking(&'a Ledger, u32, By),
+    Comparison(&'a Ledger, &'a Ledger),
+    Stacks(&'a Ledger),
+}
+
+impl<'a> Printed<'a> {
+    fn text(&self, alloc: Global) -> Result<Vec<u8>, AllocError> {
+        match self {
+            Printed::Report(ledger) => report(alloc, ledger),
+            Printed::Ranking(ledger, most, by) => ranking(alloc, ledger, *most, *by),
+            Printed::Comparison(base, other) => comparison(alloc, base, other),
+            Printed::Stacks(ledger) => folded(alloc, ledger),
+        }
+    }
+
+    fn write<W: Write>(&self, alloc: Global, output: &mut W) -> Result<(), WriteFault> {
+        match self {
+            Printed::Report(ledger) => write_report(alloc, ledger, &mut Writer::new(output)),
+            Printed::Ranking(ledger, most, by) => {
+                write_ranking(alloc, ledger, *most, *by, &mut Writer::new(output))
+            }
+            Printed::Comparison(base, other) => {
+                write_comparison(alloc, base, other, &mut Writer::new(output))
+            }
+            Printed::Stacks(ledger) => write_folded(alloc, ledger, &mut Writer::new(output)),
+        }
+    }
+
+    /// The text is this one.
+    pub(crate) fn has_text(&self, rt: &(impl Abort + AllocGlobal), want: &str) -> Result<(), Fail> {
+        let text = self.text(rt.alloc())?;
+        assert!(rt; text.as_slice() == want.as_bytes(), "{want}");
+        Ok(())
+    }
+
+    /// The text is this one; outputs that are too short take its first bytes, and one that is not takes all.
+    pub(crate) fn fills_outputs(&self, rt: &(impl Abort + AllocGlobal), want: &str) {
+        for count in 0..want.len() {
+            self.is_cut_off(rt, want, count);
+        }
+        let mut output = Output::of_room(rt.alloc(), want.len());
+        let written = self.write(rt.alloc(), &mut output);
+        assert!(rt; output.is_whole(written, want));
+    }
+
+    fn is_cut_off(&self, rt: &(impl Abort + AllocGlobal), want: &str, count: usize) {
+        let mut output = Output::of_room(rt.alloc(), count);
+        let written = self.write(rt.alloc(), &mut output);
+        assert!(rt; output.is_cut_off(written, want, count), "at {count}");
+    }
+
+    /// The text is this one, or memory was refused and there is no part of it. The tests that ask this run with each allocation
+    /// refused in turn, by tests/refused_allocations.
+    pub(crate) fn is_whole_or_none(
+        &self,
+        rt: &(impl Abort + AllocGlobal),
+        want: &str,
+    ) -> Result<(), Fail> {
+        if let Ok(text) = self.text(rt.alloc()) {
+            assert!(rt; text.as_slice() == want.as_bytes());
+        }
+        let mut out = room_at_last(rt.alloc())?;
+        let written = self.write(rt.alloc(), &mut out);
+        assert!(rt; is_whole_or_none(written, &out, want));
+        Ok(())
+    }
+}
