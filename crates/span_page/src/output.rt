@@ -7,7 +7,7 @@ ghost use Rattle.span_page.specs.Page.{page_of};
 use crate::text::page;
 use span_collect::{FileEnd, Input};
 use span_ledger::Ledger;
-use span_report::{Sink, WriteFault, write_bytes};
+use span_report::{Sink, WriteFault, write_made};
 use std::alloc::Global;
 
 /// Writes the page of the ledger's journal and of the files that were told to it. The first fault of the output ends it, and nothing
@@ -25,8 +25,5 @@ pub fn write_page<O: Sink>(
     ensures fault { IfErr result
         (λ fault. WriteLeaves fault (page_of files.now ends.now ledger.now.journal) (O.state out.old) (O.state out.new)) }
 {
-    let Ok(text) = page(alloc, ledger, files, ends) else {
-        return Err(WriteFault::Memory);
-    };
-    write_bytes(&text, out).map_err(|written| WriteFault::Output { written })
+    write_made(page(alloc, ledger, files, ends), out)
 }

@@ -11,7 +11,7 @@ mod text;
 mod writer;
 
 pub use lines::{first_line, json_text, put_counts, put_seals, shown_name};
-pub use output::{WriteFault, write_bytes, write_report};
+pub use output::{WriteFault, write_bytes, write_made, write_report};
 pub use sink::{Sink, SinkFault};
 pub use text::{head, report, report_text};
 pub use writer::Writer;

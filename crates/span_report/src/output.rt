@@ -1,5 +1,5 @@
 //! Writes the report of a ledger to a sink.
-ghost use Rattle.std.specs.Prelude.{◌≡◌, ◌≤◌, length, take, IfErr, OnOk};
+ghost use Rattle.std.specs.Prelude.{◌≡◌, ◌≤◌, ℕ, List, length, take, IfErr, IfOk, OnOk};
 ghost use Rattle.span_report.specs.Report.{report_of};
 ghost use Rattle.span_report.specs.Sink.{TakesBytes, Fails};
 ghost use Rattle.span_report.specs.Output.{write_code, WriteLeaves};
@@ -8,7 +8,7 @@ use crate::sink::Sink;
 use crate::text::report;
 use span_event::Fault;
 use span_ledger::Ledger;
-use std::alloc::Global;
+use std::alloc::{AllocError, Global};
 
 /// Why a report was not written whole.
 #[derive(Clone, Copy, Debug, PartialEq, Eq)]
@@ -36,7 +36,17 @@ pub fn write_report<O: Sink>(alloc: Global, ledger: &Ledger, out: &mut O) -> Res
     ensures fault { IfErr result
         (λ fault. WriteLeaves fault (report_of ledger.now.journal) (O.state out.old) (O.state out.new)) }
 {
-    let Ok(text) = report(alloc, ledger) else {
+    write_made(report(alloc, ledger), out)
+}
+
+/// Writes a text, if there was memory to make it. The first fault of the output ends it, and nothing is tried again.
+pub fn write_made<O: Sink>(made: Result<Vec<u8>, AllocError>, out: &mut O) -> Result<(), WriteFault>
+    ensures ok { (text : List ℕ) → IfOk made (λ bytes. bytes.items ≡ text)
+        → OnOk result (TakesBytes (O.state out.old) (O.state out.new) text) }
+    ensures fault { (text : List ℕ) → IfOk made (λ bytes. bytes.items ≡ text)
+        → IfErr result (λ fault. WriteLeaves fault text (O.state out.old) (O.state out.new)) }
+{
+    let Ok(text) = made else {
         return Err(WriteFault::Memory);
     };
     write_bytes(&text, out).map_err(|written| WriteFault::Output { written })

@@ -6,7 +6,7 @@ ghost use Rattle.span_stacks.specs.Folded.{folded_of};
 
 use crate::text::folded;
 use span_ledger::Ledger;
-use span_report::{Sink, WriteFault, write_bytes};
+use span_report::{Sink, WriteFault, write_made};
 use std::alloc::Global;
 
 /// Writes the folded stacks of the ledger's journal. The first fault of the output ends it, and nothing is tried again.
@@ -15,8 +15,5 @@ pub fn write_folded<O: Sink>(alloc: Global, ledger: &Ledger, out: &mut O) -> Res
     ensures fault { IfErr result
         (λ fault. WriteLeaves fault (folded_of ledger.now.journal) (O.state out.old) (O.state out.new)) }
 {
-    let Ok(text) = folded(alloc, ledger) else {
-        return Err(WriteFault::Memory);
-    };
-    write_bytes(&text, out).map_err(|written| WriteFault::Output { written })
+    write_made(folded(alloc, ledger), out)
 }

@@ -7,7 +7,7 @@ ghost use Rattle.span_collect.specs.Refusals.Text.{refusals_of};
 use super::text::refusals;
 use crate::files::{FileEnd, Input};
 use span_ledger::Ledger;
-use span_report::{Sink, WriteFault, write_bytes};
+use span_report::{Sink, WriteFault, write_made};
 use std::alloc::Global;
 
 /// Writes which items of each file the ledger's journal refused. The first fault of the output ends it, and nothing is tried again.
@@ -24,8 +24,5 @@ pub fn write_refusals<O: Sink>(
     ensures fault { IfErr result
         (λ fault. WriteLeaves fault (refusals_of files.now ends.now ledger.now.journal) (O.state out.old) (O.state out.new)) }
 {
-    let Ok(text) = refusals(alloc, ledger, files, ends) else {
-        return Err(WriteFault::Memory);
-    };
-    write_bytes(&text, out).map_err(|written| WriteFault::Output { written })
+    write_made(refusals(alloc, ledger, files, ends), out)
 }

@@ -5,7 +5,7 @@ ghost use Rattle.span_report.specs.Output.{WriteLeaves};
 ghost use Rattle.span_report.specs.Comparisons.Comparison.{comparison_of};
 
 use super::text::comparison;
-use crate::output::{WriteFault, write_bytes};
+use crate::output::{WriteFault, write_made};
 use crate::sink::Sink;
 use span_ledger::Ledger;
 use std::alloc::Global;
@@ -22,8 +22,5 @@ pub fn write_comparison<O: Sink>(
     ensures fault { IfErr result (λ fault. WriteLeaves fault
         (comparison_of base.now.journal other.now.journal) (O.state out.old) (O.state out.new)) }
 {
-    let Ok(text) = comparison(alloc, base, other) else {
-        return Err(WriteFault::Memory);
-    };
-    write_bytes(&text, out).map_err(|written| WriteFault::Output { written })
+    write_made(comparison(alloc, base, other), out)
 }

@@ -6,7 +6,7 @@ ghost use Rattle.span_report.specs.Rankings.Ranking.{ranking_of};
 
 use super::order::By;
 use super::text::ranking;
-use crate::output::{WriteFault, write_bytes};
+use crate::output::{WriteFault, write_made};
 use crate::sink::Sink;
 use span_ledger::Ledger;
 use std::alloc::Global;
@@ -23,8 +23,5 @@ pub fn write_ranking<O: Sink>(
     ensures fault { IfErr result
         (λ fault. WriteLeaves fault (ranking_of most by ledger.now.journal) (O.state out.old) (O.state out.new)) }
 {
-    let Ok(text) = ranking(alloc, ledger, most, by) else {
-        return Err(WriteFault::Memory);
-    };
-    write_bytes(&text, out).map_err(|written| WriteFault::Output { written })
+    write_made(ranking(alloc, ledger, most, by), out)
 }
