@@ -1,4 +1,4 @@
-//! The tests of each text.
+//! Each text where an output or memory cuts it off. What the texts say is tried by the cases of tests/acceptance.
 
 mod comparisons;
 mod printed;

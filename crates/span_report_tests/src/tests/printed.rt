@@ -43,21 +43,21 @@ impl<'a> Printed<'a> {
         }
     }
 
-    /// The text is this one.
-    pub(crate) fn has_text(&self, rt: &(impl Abort + AllocGlobal), want: &str) -> Result<(), Fail> {
-        let text = self.text(rt.alloc())?;
-        assert!(rt; text.as_slice() == want.as_bytes(), "{want}");
-        Ok(())
-    }
-
     /// The text is this one; outputs that are too short take its first bytes, and one that is not takes all.
-    pub(crate) fn fills_outputs(&self, rt: &(impl Abort + AllocGlobal), want: &str) {
+    pub(crate) fn fills_outputs(
+        &self,
+        rt: &(impl Abort + AllocGlobal),
+        want: &str,
+    ) -> Result<(), Fail> {
+        let text = self.text(rt.alloc())?;
+        assert!(rt; text.as_slice() == want.as_bytes());
         for count in 0..want.len() {
             self.is_cut_off(rt, want, count);
         }
         let mut output = Output::of_room(rt.alloc(), want.len());
         let written = self.write(rt.alloc(), &mut output);
         assert!(rt; output.is_whole(written, want));
+        Ok(())
     }
 
     fn is_cut_off(&self, rt: &(impl Abort + AllocGlobal), want: &str, count: usize) {
