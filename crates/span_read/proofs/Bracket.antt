@@ -1,5 +1,8 @@
 -- The tokens of a text with a closing bracket behind it.
 pub mod Strings
+pub mod Turns
+pub mod Values
+pub mod Whole
 pub mod Words
 use Rattle.std.proofs.Common.{◌≡◌, ℕ, List, [], ◌∷◌, ◌++◌, Bool, true, false, refl, sym, ap, ◌∙◌, subst, subst₂}
 use Rattle.json.specs.Token.{Token, begin_object, end_object, begin_array, end_array, key, string, number, boolean, null, bad}

@@ -1,5 +1,5 @@
 -- The elements of a document, against the limit; and the member `traceEvents` as members are put into an object.
-use Rattle.std.proofs.Common.{◌≡◌, ℕ, ◌+◌, ◌<◌, ◌≤◌, List, [], ◌∷◌, ◌++◌, length, Bool, true, false, Some, Ok, Err, map, codes, option_and_then, refl, sym, ap, ◌∙◌, arith, rules, tests}
+use Rattle.std.proofs.Common.{◌≡◌, ℕ, ◌+◌, ◌<◌, ◌≤◌, List, [], ◌∷◌, ◌++◌, length, Bool, true, false, Some, Ok, Err, map, codes, option_and_then, if◌then◌else◌, refl, sym, ap, ◌∙◌, arith, rules, tests}
 use Rattle.std.proofs.lemmas.List.{length-append, length-map, map_push}
 use Rattle.serde_json.specs.Data.{Data, object, Items, no_items, Members, put}
 use Rattle.serde_json.specs.Events.{items_len}
@@ -43,16 +43,21 @@ AreCollected-over too_many is ds d full are = record {
     as_many true h = omega (arith, (are.over h).1)
     as_many false h = omega (arith, ap length (are.all h), length-map ds item_of_data)
 
-pub doc_of_elements-over : (too_many : Bool) (is : List Item) (ds : List Data) → AreCollected too_many is ds → too_many ≡ true → Err TooMany ≡ doc_of_elements (Some (items_before ds no_items))
+doc_of_elements-over : (too_many : Bool) (is : List Item) (ds : List Data) → AreCollected too_many is ds → too_many ≡ true → Err TooMany ≡ doc_of_elements (Some (items_before ds no_items))
 doc_of_elements-over too_many is ds are more =
     let over : most_items < items_len (items_before ds no_items) = omega (arith, items_len-items_before ds no_items, (are.over more).1) in
     search (rules, tests)
 
-pub doc_of_elements-all : (too_many : Bool) (is : List Item) (ds : List Data) → AreCollected too_many is ds → too_many ≡ false → doc_of_elements (Some (items_before ds no_items)) ≡ Ok is
+doc_of_elements-all : (too_many : Bool) (is : List Item) (ds : List Data) → AreCollected too_many is ds → too_many ≡ false → doc_of_elements (Some (items_before ds no_items)) ≡ Ok is
 doc_of_elements-all too_many is ds are whole =
     let within : items_len (items_before ds no_items) ≤ most_items = omega (arith, items_len-items_before ds no_items, are.within, ap length (are.all whole), length-map ds item_of_data) in
     let kept : doc_of_elements (Some (items_before ds no_items)) ≡ Ok (items_of (items_before ds no_items)) = search (rules, tests) in
     kept ∙ ap Ok (items_of-items_before ds ∙ are.all whole)
+
+-- what is found of the items, with the limit
+pub doc_of_elements-collected : (too_many : Bool) (is : List Item) (ds : List Data) → AreCollected too_many is ds → (if too_many then Err TooMany else Ok is) ≡ doc_of_elements (Some (items_before ds no_items))
+doc_of_elements-collected true is ds are = doc_of_elements-over true is ds are refl
+doc_of_elements-collected false is ds are = sym (doc_of_elements-all false is ds are refl)
 
 -- the last member of the name counts
 pub elements_of-put : (k : List ℕ) (d : Data) (ms : Members) → k ≡ codes "traceEvents" → elements_of (object (put k d ms)) ≡ as_array d

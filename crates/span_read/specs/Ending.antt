@@ -1,10 +1,7 @@
 -- How a text ends; for private clauses.
-use Rattle.std.specs.Prelude.{ℕ, ◌-◌, ◌==◌, List, [], ◌∷◌, length, slice_index, Bool, Option, Some, None, if◌then◌else◌}
+use Rattle.std.specs.Prelude.{ℕ, ◌-◌, ◌==◌, List, [], ◌∷◌, length, slice_index, Bool, true, false}
 use Rattle.json.specs.Token.{Token}
-use Rattle.json.specs.Reads.{token_of}
-use Rattle.json.specs.declared.token.Token.{Token as ReadToken}
 use Rattle.span_read.specs.Document.{without_trailing_blanks}
-use Rattle.span_read.specs.declared.tokens.closed_reader.Closing.{Closing}
 
 -- the last byte that is no blank is a closing bracket
 abbrev pub closes_array : List ℕ → Bool
@@ -24,14 +21,7 @@ with_bracket (Token.boolean b ∷ ts) = Token.boolean b ∷ with_bracket ts
 with_bracket (Token.null ∷ ts) = Token.null ∷ with_bracket ts
 with_bracket (Token.bad ∷ ts) = Token.bad ∷ ts
 
-abbrev pub after_first : Option ReadToken → List Token → List Token
-after_first None ts = ts
-after_first (Some t) ts = token_of t ∷ ts
-
--- what is still to come, where the text lacks its bracket and its reader has the tokens `ts`
-abbrev pub closing_tokens : Closing → List Token → List Token
-closing_tokens c ts = after_first c.first (if c.bracket then with_bracket ts else ts)
-
-abbrev pub tokens_left : Option Closing → List Token → List Token
-tokens_left None ts = ts
-tokens_left (Some c) ts = closing_tokens c ts
+-- the tokens of a text, with or without a closing bracket behind it
+abbrev pub ended : Bool → List Token → List Token
+ended true ts = with_bracket ts
+ended false ts = ts

@@ -1,22 +1,29 @@
 -- What the calls that take tokens promise; for private clauses.
-use Rattle.std.specs.Prelude.{◌≡◌, ℕ, ◌≤◌, List, [], ◌∷◌, length, Bool, true, false, Option, Some, None, Result, Err}
+use Rattle.std.specs.Prelude.{◌≡◌, ℕ, ◌≤◌, List, [], ◌∷◌, length, Bool, true, false, Option, Some, None, option_and_then, Result, Err}
 use Rattle.json.specs.Token.{Token}
-use Rattle.json.specs.Json.{value, items, members, parse_map}
+use Rattle.json.specs.Json.{value, items, members, parse_map, if_last}
 use Rattle.serde_json.specs.Data.{Data, array, object, Items, item, Members, no_members}
 use Rattle.serde_json.specs.Read.{of_json, of_items, of_members, converted}
 use Rattle.span_event.specs.declared.args.ArgValue.{ArgValue}
 use Rattle.span_event.specs.declared.args.ArgValue.TheVariants as arg
+use Rattle.span_read.specs.declared.document.End.{End}
+use Rattle.span_read.specs.declared.document.End.TheVariants as end
 use Rattle.span_read.specs.declared.tokens.head.Head.{Head}
 use Rattle.span_read.specs.declared.tokens.head.Head.TheVariants.{Object, Array, Words, Whole, Flag, Nil, Other}
 use Rattle.span_read.specs.declared.tokens.number.Number.{Number}
 use Rattle.span_read.specs.declared.tokens.number.Number.TheVariants as number
 use Rattle.span_read.specs.declared.error.stop.Stop.{Stop}
 use Rattle.span_read.specs.declared.error.stop.Stop.TheVariants.{NotJson}
+use Rattle.span_read.specs.Ending.{with_bracket}
 use Rattle.span_read.specs.Fields.{arg_value}
 
 -- the data of the value that the tokens begin with, and the tokens after it
 abbrev pub data_at : ℕ → List Token → Option (Data × List Token)
 data_at depth ts = converted of_json (value depth ts)
+
+-- the data that all the tokens are
+abbrev pub data_of_all : ℕ → List Token → Option Data
+data_of_all depth ts = option_and_then of_json (option_and_then (λ p. if_last p.0 p.1) (value depth ts))
 
 -- a value with P was taken, and `new` is left
 abbrev pub TakesValue : ℕ → List Token → List Token → (Data → Type 0) → Type 0
@@ -29,6 +36,11 @@ TakesArray depth old new P = (ds : Items) × (data_at depth (Token.begin_array �
 -- the same of an object and its members
 abbrev pub TakesObject : ℕ → List Token → List Token → (Members → Type 0) → Type 0
 TakesObject depth old new P = (ms : Members) × (data_at depth (Token.begin_object ∷ old) ≡ Some (object ms, new)) × P ms
+
+-- of an array, whose bracket was taken before, the rest was taken; or all that is left of the text was, and one bracket behind it would close the array
+abbrev pub TakesElements : End → ℕ → List Token → List Token → (Items → Type 0) → Type 0
+TakesElements end.Bracket depth old new P = TakesArray depth old new P
+TakesElements end.Text depth old new P = (new ≡ []) × (data_at depth (Token.begin_array ∷ old) ≡ None) × TakesArray depth (with_bracket old) [] P
 
 abbrev pub IsNotJson : {A : Type 0} → Result A Stop → Type 0
 IsNotJson r = r ≡ Err NotJson

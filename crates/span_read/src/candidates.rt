@@ -5,13 +5,12 @@ ghost use Rattle.span_read.specs.Document.{is_blank, opens_array, without_traili
 ghost use Rattle.span_read.specs.declared.error.ReadError.TheVariants.{Memory};
 ghost use Rattle.span_read.specs.Ending.{closes_array};
 
-use crate::document::read_document;
+use crate::document::read_all;
 use crate::error::ReadError;
 use crate::error::stop::Stop;
 use crate::recent::RecentTexts;
 use crate::tokens::Tokens;
-use crate::tokens::closed_reader::ClosedReader;
-use json::Scratch;
+use json::{Reader, Scratch};
 use span_event::Items;
 use std::alloc::Global;
 
@@ -56,7 +55,7 @@ fn read_text(alloc: Global, text: &str, bracket: bool) -> Result<Items, ReadErro
         → result ≡ doc_of_document (read (if bracket then text.now ++ 93 ∷ [] else text.now)) }
 {
     let mut scratch = Scratch::new(alloc);
-    let Ok(reader) = ClosedReader::new(text, bracket, &mut scratch) else {
+    let Ok(reader) = Reader::new(text, &mut scratch) else {
         return Err(ReadError::Memory);
     };
     let Ok(recent) = RecentTexts::new(alloc) else {
@@ -68,12 +67,8 @@ fn read_text(alloc: Global, text: &str, bracket: bool) -> Result<Items, ReadErro
         recent,
         pairs: Vec::new(alloc),
     };
-    match read_document(&mut tokens, MAX_DEPTH) {
-        Ok(found) => if tokens.reader.next().is_some() {
-            Err(ReadError::NotJson)
-        } else {
-            found
-        },
+    match read_all(&mut tokens, MAX_DEPTH, bracket) {
+        Ok(found) => found,
         Err(Stop::NotJson) => Err(ReadError::NotJson),
         Err(Stop::Memory) => Err(ReadError::Memory),
     }

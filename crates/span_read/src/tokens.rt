@@ -1,5 +1,4 @@
 //! The tokens of a text: the head of a value, its number, what is kept of values and objects, and values that are passed over.
-pub(crate) mod closed_reader;
 pub(crate) mod head;
 pub(crate) mod kept;
 mod number;
@@ -7,13 +6,13 @@ pub(crate) mod pass;
 
 use crate::arg_map::Pair;
 use crate::recent::RecentTexts;
-use crate::tokens::closed_reader::ClosedReader;
+use json::Reader;
 use std::alloc::Global;
 
 /// The tokens that are left of a text, and the memory and the recent texts for what is kept of them.
 #[derive(Drop)]
 pub(crate) struct Tokens<'a> {
-    pub(crate) reader: ClosedReader<'a>,
+    pub(crate) reader: Reader<'a>,
     pub(crate) alloc: Global,
     pub(crate) recent: RecentTexts,
     // Room for the arguments of one event, which then get just the room that they need.

@@ -1,10 +1,11 @@
 //! The beginning of a value.
-ghost use Rattle.std.specs.Prelude.{◌≡◌, ℕ, None, IfOk, OnErr};
+ghost use Rattle.std.specs.Prelude.{◌≡◌, ◌∷◌, ℕ, List, None, IfOk, OnErr};
+ghost use Rattle.json.specs.Reads.{token_of};
+ghost use Rattle.json.specs.Token.{Token as SpecToken};
 ghost use Rattle.span_read.specs.Tokens.{data_at, TakesHead};
 
-use crate::tokens::closed_reader::ClosedReader;
 use crate::tokens::number::{Number, number_of};
-use json::{Invalid, Token};
+use json::{Invalid, Reader, Token};
 
 /// The bracket of an array or an object, or else the whole value.
 #[derive(Drop)]
@@ -19,11 +20,20 @@ pub(crate) enum Head<'a> {
 }
 
 #[inline(always)]
-pub(crate) fn next_head<'a>(reader: &mut ClosedReader<'a>) -> Result<Head<'a>, Invalid>
+pub(crate) fn next_head<'a>(reader: &mut Reader<'a>) -> Result<Head<'a>, Invalid>
     ensures head { IfOk result (λ head. TakesHead head reader.old reader.new) }
     ensures refused { OnErr result ((depth : ℕ) → data_at depth reader.old ≡ None) }
 {
     let token = reader.next().ok_or(Invalid)?;
+    head_of(token)
+}
+
+/// The beginning of a value whose first token was taken.
+#[inline(always)]
+pub(crate) fn head_of<'a>(token: Token<'a>) -> Result<Head<'a>, Invalid>
+    ensures head { IfOk result (λ head. (ts : List SpecToken) → TakesHead head (token_of token.entry ∷ ts) ts) }
+    ensures refused { OnErr result ((depth : ℕ) (ts : List SpecToken) → data_at depth (token_of token.entry ∷ ts) ≡ None) }
+{
     match token {
         Token::BeginObject => Ok(Head::Object),
         Token::BeginArray => Ok(Head::Array),

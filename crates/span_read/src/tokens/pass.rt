@@ -1,19 +1,34 @@
 //! Values that are passed over. They are checked all the same.
 ghost use Rattle.std.specs.Prelude.{◌≡◌, ◌∷◌, None, OnOk, OnErr, ⊤};
-ghost use Rattle.json.specs.Token.{Token};
+ghost use Rattle.json.specs.Reads.{token_of};
+ghost use Rattle.json.specs.Token as spec;
 ghost use Rattle.span_read.specs.Tokens.{data_at, TakesValue, TakesArray, TakesObject};
 
-use crate::tokens::closed_reader::ClosedReader;
-use crate::tokens::head::{Head, next_head};
-use json::Invalid;
+use crate::tokens::head::{Head, head_of};
+use json::{Invalid, Reader, Token};
 
 #[cycle(pass)]
 #[inline(always)]
-pub(crate) fn pass_value(reader: &mut ClosedReader<'_>, depth: usize) -> Result<(), Invalid>
+pub(crate) fn pass_value(reader: &mut Reader<'_>, depth: usize) -> Result<(), Invalid>
     ensures taken { OnOk result (TakesValue depth reader.old reader.new (λ d. ⊤)) }
     ensures refused { OnErr result (data_at depth reader.old ≡ None) }
 {
-    match next_head(reader)? {
+    let token = reader.next().ok_or(Invalid)?;
+    pass_begun(reader, token, depth)
+}
+
+/// The rest of a value whose first token was taken.
+#[cycle(pass)]
+#[inline(always)]
+pub(crate) fn pass_begun(
+    reader: &mut Reader<'_>,
+    token: Token<'_>,
+    depth: usize,
+) -> Result<(), Invalid>
+    ensures taken { OnOk result (TakesValue depth (token_of token.entry ∷ reader.old) reader.new (λ d. ⊤)) }
+    ensures refused { OnErr result (data_at depth (token_of token.entry ∷ reader.old) ≡ None) }
+{
+    match head_of(token)? {
         Head::Array => pass_array(reader, depth),
         Head::Object => pass_object(reader, depth),
         _ => Ok(()),
@@ -23,9 +38,9 @@ pub(crate) fn pass_value(reader: &mut ClosedReader<'_>, depth: usize) -> Result<
 /// The rest of an array whose bracket was taken.
 #[cycle(pass)]
 #[inline(never)]
-pub(crate) fn pass_array(reader: &mut ClosedReader<'_>, depth: usize) -> Result<(), Invalid>
+pub(crate) fn pass_array(reader: &mut Reader<'_>, depth: usize) -> Result<(), Invalid>
     ensures taken { OnOk result (TakesArray depth reader.old reader.new (λ ds. ⊤)) }
-    ensures refused { OnErr result (data_at depth (Token.begin_array ∷ reader.old) ≡ None) }
+    ensures refused { OnErr result (data_at depth (spec.begin_array ∷ reader.old) ≡ None) }
 {
     if depth == 0 {
         return Err(Invalid);
@@ -39,9 +54,9 @@ pub(crate) fn pass_array(reader: &mut ClosedReader<'_>, depth: usize) -> Result<
 /// The rest of an object whose bracket was taken.
 #[cycle(pass)]
 #[inline(never)]
-pub(crate) fn pass_object(reader: &mut ClosedReader<'_>, depth: usize) -> Result<(), Invalid>
+pub(crate) fn pass_object(reader: &mut Reader<'_>, depth: usize) -> Result<(), Invalid>
     ensures taken { OnOk result (TakesObject depth reader.old reader.new (λ ms. ⊤)) }
-    ensures refused { OnErr result (data_at depth (Token.begin_object ∷ reader.old) ≡ None) }
+    ensures refused { OnErr result (data_at depth (spec.begin_object ∷ reader.old) ≡ None) }
 {
     if depth == 0 {
         return Err(Invalid);

@@ -12,7 +12,7 @@ members-init g c = members_start (c.args.depth - 1) c.args.tokens.now.reader (λ
 
 pub returns-in_err-name-clause-refused : goal.returns-in_err-name-clause-refused
 returns-in_err-name-clause-refused g c = λ no.
-    members_key_refused c.args.depth (omega arith) _ c.args.tokens.now.reader c.members.tokens.reader c.members.invariant c.in_err-name.ensures
+    members_key_refused c.args.depth (omega arith) _ c.args.tokens.now.reader c.members.tokens.reader c.members.invariant c.in_err-name.ensures.value
 
 pub members-smaller : goal.members-smaller
 members-smaller g c =

@@ -1,8 +1,11 @@
-use Rattle.std.proofs.Common.{◌≡◌, ◌-◌, Some, arith}
+use Rattle.std.proofs.Common.{◌≡◌, ◌-◌, [], ◌∷◌, Some, ap, ◌∙◌, arith}
 use Rattle.std.specs.Prelude.{⊤}
 use Rattle.std.proofs.lemmas.Result.{on_ok_weaker}
+use Rattle.json.specs.Token.{Token}
 use Rattle.json.specs.Json.{read_key}
-use Rattle.span_read.proofs.Grammar.{data_at-too_deep_array, data_at-too_deep_object}
+use Rattle.json.specs.Reads.{token_of}
+use Rattle.span_read.specs.Tokens.{data_at}
+use Rattle.span_read.proofs.Grammar.{data_at-nothing, data_at-too_deep_array, data_at-too_deep_object}
 use Rattle.span_read.proofs.Leaves.{on_err}
 use Rattle.span_read.proofs.Turns.{items_smaller, items_start, items_turn, items_refused, items_finish, members_smaller, members_start, members_turn, members_key_refused, members_value_refused, members_finish, array_value, object_value}
 use Rattle.span_read.proofs.tokens.pass.+pass.Goals as goal
@@ -35,7 +38,7 @@ pass_object-members-init t c = members_start (c.args.depth - 1) c.args.reader.no
 
 pub pass_object-returns-in_err-_name-clause-refused : goal.pass_object-returns-in_err-_name-clause-refused
 pass_object-returns-in_err-_name-clause-refused t c =
-    on_err c.from_residual.result (members_key_refused c.args.depth (omega arith) (λ ms. ⊤) c.args.reader.now c.members.reader c.members.invariant c.in_err-_name.ensures)
+    on_err c.from_residual.result (members_key_refused c.args.depth (omega arith) (λ ms. ⊤) c.args.reader.now c.members.reader c.members.invariant c.in_err-_name.ensures.value)
 
 pub pass_object-members-smaller : goal.pass_object-members-smaller
 pass_object-members-smaller t c =
@@ -56,10 +59,34 @@ pass_object-returns-in_err-pass_value-clause-refused t c =
 pub pass_object-returns-clause-taken : goal.pass_object-returns-clause-taken
 pass_object-returns-clause-taken t c = members_finish c.args.depth (omega arith) (λ ms. ⊤) c.args.reader.now c.members.reader c.members.invariant c.next_key.new.self (grind arith)
 
-pub pass_value-returns-in-Array-clause-taken : goal.pass_value-returns-in-Array-clause-taken
-pass_value-returns-in-Array-clause-taken t c =
-    on_ok_weaker c.pass_array.result (array_value c.args.depth c.args.reader.now c.next_head.new.reader c.pass_array.new.reader (λ d. ⊤) (λ ds. ⊤) (grind arith) (λ ds h. tt)) c.pass_array.ensures.taken
+pub pass_begun-returns-in-Array-clause-taken : goal.pass_begun-returns-in-Array-clause-taken
+pass_begun-returns-in-Array-clause-taken t c =
+    let ts = c.args.reader.now in
+    let opened : token_of c.args.token ∷ ts ≡ Token.begin_array ∷ ts = grind (arith, c.in_ok-head_of.ensures.head ts) in
+    on_ok_weaker c.pass_array.result (array_value c.args.depth _ ts c.pass_array.new.reader (λ d. ⊤) (λ ds. ⊤) opened (λ ds h. tt)) c.pass_array.ensures.taken
 
-pub pass_value-returns-in-Object-clause-taken : goal.pass_value-returns-in-Object-clause-taken
-pass_value-returns-in-Object-clause-taken t c =
-    on_ok_weaker c.pass_object.result (object_value c.args.depth c.args.reader.now c.next_head.new.reader c.pass_object.new.reader (λ d. ⊤) (λ ms. ⊤) (grind arith) (λ ms h. tt)) c.pass_object.ensures.taken
+pub pass_begun-returns-in-Array-clause-refused : goal.pass_begun-returns-in-Array-clause-refused
+pass_begun-returns-in-Array-clause-refused t c =
+    let ts = c.args.reader.now in
+    let opened : token_of c.args.token ∷ ts ≡ Token.begin_array ∷ ts = grind (arith, c.in_ok-head_of.ensures.head ts) in
+    rw opened c.pass_array.ensures.refused
+
+pub pass_begun-returns-in-Object-clause-taken : goal.pass_begun-returns-in-Object-clause-taken
+pass_begun-returns-in-Object-clause-taken t c =
+    let ts = c.args.reader.now in
+    let opened : token_of c.args.token ∷ ts ≡ Token.begin_object ∷ ts = grind (arith, c.in_ok-head_of.ensures.head ts) in
+    on_ok_weaker c.pass_object.result (object_value c.args.depth _ ts c.pass_object.new.reader (λ d. ⊤) (λ ms. ⊤) opened (λ ms h. tt)) c.pass_object.ensures.taken
+
+pub pass_begun-returns-in-Object-clause-refused : goal.pass_begun-returns-in-Object-clause-refused
+pass_begun-returns-in-Object-clause-refused t c =
+    let ts = c.args.reader.now in
+    let opened : token_of c.args.token ∷ ts ≡ Token.begin_object ∷ ts = grind (arith, c.in_ok-head_of.ensures.head ts) in
+    rw opened c.pass_object.ensures.refused
+
+pub pass_begun-returns-in_default : goal.pass_begun-returns-in_default
+pass_begun-returns-in_default t c = let begun = c.in_ok-head_of.ensures.head c.args.reader.now in grind (arith, begun)
+
+pub pass_value-returns-in_err-token-clause-refused : goal.pass_value-returns-in_err-token-clause-refused
+pass_value-returns-in_err-token-clause-refused t c =
+    let empty : c.args.reader.now ≡ [] = grind arith in
+    on_err c.from_residual.result (ap (data_at c.args.depth) empty ∙ data_at-nothing c.args.depth)

@@ -1,10 +1,10 @@
 use Rattle.std.proofs.Common.{◌-◌, length}
-use Rattle.span_read.specs.Tokens.{ItemsSoFar}
+use Rattle.span_read.proofs.Bracket.Turns.{EndedSoFar}
 use Rattle.span_read.proofs.Elements.{AreCollected}
-use Rattle.span_read.proofs.document.read_elements.Given as goal
+use Rattle.span_read.proofs.document.collect_elements.Given as goal
 
 abbrev pub invariant-elements : goal.invariant-elements
-invariant-elements l = ItemsSoFar (l.depth - 1) l.initial.tokens.reader l.tokens.reader (AreCollected l.too_many l.items.items)
+invariant-elements l = EndedSoFar (l.depth - 1) l.initial.tokens.reader l.tokens.reader (AreCollected l.too_many l.items.items)
 
 abbrev pub decreases-elements : goal.decreases-elements
 decreases-elements l = length l.tokens.reader

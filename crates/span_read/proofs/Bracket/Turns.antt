@@ -1,0 +1,104 @@
+-- The turns of a loop over the items of an array, with and without a closing bracket behind the text.
+use Rattle.std.proofs.Common.{◌≡◌, ℕ, ◌-◌, ◌<◌, List, [], ◌∷◌, ◌++◌, Bool, true, false, Option, Some, None, option_map, refl, ap, ◌∙◌, subst}
+use Rattle.std.specs.Prelude.{⊤}
+use Rattle.json.specs.Token.{Token, begin_array, end_array}
+use Rattle.json.specs.Reads.{token_of}
+use Rattle.json.specs.declared.token.Token.{Token as ReadToken}
+use Rattle.json.specs.declared.token.Token.TheVariants as read
+use Rattle.json.specs.Json.{Json, after_end_array, value}
+use Rattle.json.proofs.Grammar.{left}
+use Rattle.serde_json.specs.Data.{Data, Items, no_items}
+use Rattle.serde_json.specs.Read.{of_json, converted}
+use Rattle.span_read.specs.declared.document.End.TheVariants.{Bracket, Text}
+use Rattle.span_read.specs.Ending.{with_bracket, ended}
+use Rattle.span_read.specs.Tokens.{data_at, TakesValue, TakesElements, items_before, ItemsSoFar}
+use Rattle.span_read.proofs.Grammar.{converted_some, refused, data_at-nothing}
+use Rattle.span_read.proofs.Turns.{items_start, items_turn, items_refused, items_finish}
+use Rattle.span_read.proofs.Bracket.Values.{IsClosed, IsClosed-value, after_end_array-bracket}
+
+value_closed : (o closed : Option (Json × List Token)) (j : Json) (r : List Token) → IsClosed o closed → o ≡ Some (j, r) → closed ≡ Some (j, with_bracket r)
+value_closed None closed j r is e = absurd (cc)
+value_closed (Some p) closed j r is e = is ∙ ap (option_map (λ q. (q.0, with_bracket q.1))) e
+
+-- the same data are taken with the bracket behind what is left
+pub data_at-bracket : (depth : ℕ) (ts r : List Token) (d : Data) → data_at depth ts ≡ Some (d, r) → data_at depth (with_bracket ts) ≡ Some (d, with_bracket r)
+data_at-bracket depth ts r d e =
+    let j = converted_some of_json (value depth ts) d r e in
+    ap (converted of_json) (value_closed _ _ j.0 r (IsClosed-value depth ts) j.1) ∙ ap (option_map (λ x. (x, with_bracket r))) j.2
+
+-- what takes a value takes it with the bracket too
+ended_value : (b : Bool) (depth : ℕ) (old new : List Token) (P : Data → Type 0) → TakesValue depth old new P → TakesValue depth (ended b old) (ended b new) P
+ended_value true depth old new P taken = (taken.0, data_at-bracket depth old new taken.0 taken.1, taken.2)
+ended_value false depth old new P taken = taken
+
+-- what takes no value without the bracket takes all the tokens with it, if it takes any
+nothing_left : (o closed : Option (Json × List Token)) (d : Data) (r : List Token) → IsClosed o closed → converted of_json o ≡ None → converted of_json closed ≡ Some (d, r) → r ≡ []
+nothing_left None closed d r is e f = let j = converted_some of_json closed d r f in is r (ap left j.1)
+nothing_left (Some p) closed d r is e f =
+    let none : of_json p.0 ≡ None = refused p.1 (of_json p.0) e in
+    let gone : converted of_json closed ≡ None = ap (converted of_json) is ∙ ap (option_map (λ x. (x, with_bracket p.1))) none in
+    cc
+
+after_other : (t : ReadToken) (ts : List Token) → (t ≡ read.EndArray → ⊥) → after_end_array (token_of t ∷ ts) ≡ None
+after_other read.BeginObject ts other = refl
+after_other read.EndObject ts other = refl
+after_other read.BeginArray ts other = refl
+after_other read.EndArray ts other = absurd (other refl)
+after_other (read.Key s) ts other = refl
+after_other (read.String s) ts other = refl
+after_other (read.Number s) ts other = refl
+after_other (read.Bool b) ts other = refl
+after_other read.Null ts other = refl
+after_other read.Bad ts other = refl
+
+-- any other token than a closing bracket begins an element
+ended_other : (b : Bool) (t : ReadToken) (ts : List Token) → (t ≡ read.EndArray → ⊥) → after_end_array (ended b (token_of t ∷ ts)) ≡ None
+ended_other true t ts other = after_end_array-bracket (token_of t) ts ∙ ap (option_map with_bracket) (after_other t ts other)
+ended_other false t ts other = after_other t ts other
+
+-- of the items from `start` on some with P were taken, and `left` is left, with and without the bracket
+abbrev pub EndedSoFar : ℕ → List Token → List Token → (List Data → Type 0) → Type 0
+EndedSoFar depth start left P = (b : Bool) → ItemsSoFar depth (ended b start) (ended b left) P
+
+pub ended_start : (depth : ℕ) (start : List Token) (P : List Data → Type 0) → P [] → EndedSoFar depth start start P
+ended_start depth start P holds = λ b. items_start depth (ended b start) P holds
+
+module _ (depth : ℕ) (some : 0 < depth) (start : List Token) where
+  -- nothing is left, so no bracket closes the array
+  cut_off : (P : List Data → Type 0) → ItemsSoFar (depth - 1) start [] P → data_at depth (begin_array ∷ start) ≡ None
+  cut_off P s = items_refused depth some P start [] s [] (refl, refl) (data_at-nothing (depth - 1))
+
+  -- the next element is no value, or takes all that is left
+  last_refused : (P : List Data → Type 0) (ts : List Token) (o : Option (Data × List Token)) → after_end_array ts ≡ None → ItemsSoFar (depth - 1) start ts P → data_at (depth - 1) ts ≡ o → ((d : Data) (r : List Token) → o ≡ Some (d, r) → r ≡ [])
+      → data_at depth (begin_array ∷ start) ≡ None
+  last_refused P ts None goes s e left = items_refused depth some P start ts s ts (goes, refl) e
+  last_refused P ts (Some p) goes s e left =
+      let turned : ItemsSoFar (depth - 1) start p.1 (λ ds. ⊤) = items_turn depth some P start ts s (λ ds. ⊤) ts p.1 (goes, refl) (p.0, e, tt) in
+      cut_off (λ ds. ⊤) (subst (λ r. ItemsSoFar (depth - 1) start r (λ ds. ⊤)) (left p.0 p.1 refl) turned)
+
+module _ (depth : ℕ) (some : 0 < depth) (P : List Data → Type 0) (start ts : List Token) (s : EndedSoFar (depth - 1) start ts P) where
+  -- at a token that is no closing bracket an element is read, or refused
+  module _ (t : ReadToken) (rest : List Token) (is : ts ≡ token_of t ∷ rest) (other : t ≡ read.EndArray → ⊥) where
+    goes_on : (b : Bool) → after_end_array (ended b ts) ≡ None
+    goes_on b = rw is (ended_other b t rest other)
+
+    pub ended_turn : (Q : List Data → Type 0) (r : List Token) → ((b : Bool) → TakesValue (depth - 1) (token_of t ∷ rest) r (λ d. Q ((s b).before ++ d ∷ []))) → EndedSoFar (depth - 1) start r Q
+    ended_turn Q r taken = λ b.
+        items_turn depth some P (ended b start) (ended b ts) (s b) Q (ended b ts) (ended b r) (goes_on b, refl) (rw is (ended_value b (depth - 1) (token_of t ∷ rest) r _ (taken b)))
+
+    pub ended_refused : data_at (depth - 1) (token_of t ∷ rest) ≡ None → (b : Bool) → data_at depth (begin_array ∷ ended b start) ≡ None
+    ended_refused none false = items_refused depth some P start ts (s false) ts (goes_on false, refl) (rw is none)
+    ended_refused none true =
+        let here : data_at (depth - 1) ts ≡ None = rw is none in
+        last_refused depth some (with_bracket start) P (with_bracket ts) _ (goes_on true) (s true) refl (λ d r e. nothing_left _ _ d r (IsClosed-value (depth - 1) ts) here e)
+
+  -- at the array's own bracket, and at the end of the text
+  pub ended_bracket : (Q : Items → Type 0) (r : List Token) → ts ≡ end_array ∷ r → Q (items_before (s false).before no_items) → TakesElements Bracket depth start r Q
+  ended_bracket Q r is holds = items_finish depth some P start ts (s false) Q r (rw is refl) holds
+
+  pub ended_text : (Q : Items → Type 0) (r : List Token) → ts ≡ [] → r ≡ [] → Q (items_before (s true).before no_items) → TakesElements Text depth start r Q
+  ended_text Q r is left holds = (
+    left,
+    cut_off depth some start P (subst (λ us. ItemsSoFar (depth - 1) start us P) is (s false)),
+    items_finish depth some P (with_bracket start) (with_bracket ts) (s true) Q [] (rw is refl) holds,
+  )

@@ -1,0 +1,46 @@
+use Rattle.std.proofs.Common.{◌≡◌, ◌∷◌, None, refl, sym, ap, ◌∙◌, arith}
+use Rattle.json.specs.Token.{Token}
+use Rattle.json.specs.Json.{value}
+use Rattle.json.specs.Reads.{token_of}
+use Rattle.json.proofs.Grammar.{value_is}
+use Rattle.serde_json.specs.Data.{string, boolean, null}
+use Rattle.serde_json.specs.Read.{of_json, number_of, converted}
+use Rattle.span_read.specs.Tokens.{data_at}
+use Rattle.span_read.proofs.Leaves.{number_taken, number_refused}
+use Rattle.span_read.proofs.tokens.head.head_of.Goals as goal
+
+pub returns-in-String-clause-head : goal.returns-in-String-clause-head
+returns-in-String-clause-head c = λ ts.
+    let is : token_of c.args.token ∷ ts ≡ Token.string c.in-String.text.now ∷ ts = grind arith in
+    record { found = string c.in-String.text.now; reads = λ depth. ap (data_at depth) is ∙ ap (converted of_json) (value_is depth _); leaf = refl; kind = refl }
+
+pub returns-in-Bool-clause-head : goal.returns-in-Bool-clause-head
+returns-in-Bool-clause-head c = λ ts.
+    let is : token_of c.args.token ∷ ts ≡ Token.boolean c.in-Bool.flag ∷ ts = grind arith in
+    record { found = boolean c.in-Bool.flag; reads = λ depth. ap (data_at depth) is ∙ ap (converted of_json) (value_is depth _); leaf = refl; kind = refl }
+
+pub returns-in-Null-clause-head : goal.returns-in-Null-clause-head
+returns-in-Null-clause-head c = λ ts.
+    let is : token_of c.args.token ∷ ts ≡ Token.null ∷ ts = grind arith in
+    record { found = null; reads = λ depth. ap (data_at depth) is ∙ ap (converted of_json) (value_is depth _); leaf = refl; kind = refl }
+
+pub returns-in-EndObject-clause-refused : goal.returns-in-EndObject-clause-refused
+returns-in-EndObject-clause-refused c = λ depth ts.
+    let none : value depth (token_of c.args.token ∷ ts) ≡ None = rw value_is (grind arith) in
+    ap (converted of_json) none
+
+pub returns-in-Whole-clause-head : goal.returns-in-Whole-clause-head
+returns-in-Whole-clause-head c = λ ts.
+    let is : token_of c.args.token ∷ ts ≡ Token.number c.in-Number.text.now ∷ ts = grind arith in
+    let leaf = number_taken c.in-Number.text.now _ ts is (number_of c.in-Number.text.now) _ refl (sym c.in-Whole.ensures) in
+    grind (arith, leaf)
+
+pub returns-in-Other-clause-head : goal.returns-in-Other-clause-head
+returns-in-Other-clause-head c = λ ts.
+    let is : token_of c.args.token ∷ ts ≡ Token.number c.in-Number.text.now ∷ ts = grind arith in
+    number_taken c.in-Number.text.now _ ts is (number_of c.in-Number.text.now) _ refl (sym c.in-Other.ensures)
+
+pub returns-in-TooLarge-clause-refused : goal.returns-in-TooLarge-clause-refused
+returns-in-TooLarge-clause-refused c = λ depth ts.
+    let is : token_of c.args.token ∷ ts ≡ Token.number c.in-Number.text.now ∷ ts = grind arith in
+    number_refused c.in-Number.text.now _ ts is (number_of c.in-Number.text.now) refl (sym c.in-TooLarge.ensures) depth
