@@ -3,7 +3,7 @@ use Rattle.std.specs.Prelude.{List}
 use Rattle.span_report.specs.Report.{report_of}
 use Rattle.span_report.specs.Rankings.Ranking.{ranking_of}
 use Rattle.span_collect.specs.Refusals.Text.{refusals_of}
-use Rattle.span_stacks.specs.Folded.{folded_of}
+use Rattle.span_report.specs.Stacks.Folded.{folded_of}
 use Rattle.span_page.specs.Page.{page_of}
 use Rattle.span_collect.specs.declared.files.Input.{Input}
 use Rattle.span_collect.specs.Run.{TextOf}

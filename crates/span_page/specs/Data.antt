@@ -6,8 +6,8 @@ use Rattle.span_ledger.specs.declared.entry.Entry.{Entry}
 use Rattle.span_ledger.specs.Parts.{ProcessRows, ThreadRows, process_parts}
 use Rattle.span_report.specs.Lines.{json_text_of}
 use Rattle.span_report.specs.Report.{report_of}
-use Rattle.span_stacks.specs.Folded.{thread_stacks}
-use Rattle.span_stacks.specs.Stacks.{Folded}
+use Rattle.span_report.specs.Stacks.Folded.{thread_stacks}
+use Rattle.span_report.specs.Stacks.Microseconds.{Folded}
 use Rattle.span_collect.specs.declared.files.FileEnd.{FileEnd}
 use Rattle.span_collect.specs.declared.files.Input.{Input}
 use Rattle.span_collect.specs.Refusals.Text.{refusals_of}

@@ -3,7 +3,7 @@ use Rattle.std.specs.Prelude.{◌≡◌, nat_eq, false, List, [], All}
 use Rattle.span_ledger.specs.declared.entry.Entry.{Entry}
 use Rattle.span_collect.specs.declared.files.FileEnd.{FileEnd}
 use Rattle.span_collect.specs.declared.files.Input.{Input}
-use Rattle.span_stacks.specs.Stacks.{Folded}
+use Rattle.span_report.specs.Stacks.Microseconds.{Folded}
 use Rattle.span_page.specs.Coded.{coded_after, decoded_after}
 use Rattle.span_page.specs.Data.{data_of}
 use Rattle.span_page.specs.Safe.{safe}

@@ -11,7 +11,7 @@ use span_collect::{FileEnd, Input};
 use span_event::Thread;
 use span_ledger::{Ledger, ProcessPart};
 use span_report::report_text;
-use span_stacks::framed_stacks;
+use span_report::stacks::framed_stacks;
 use std::alloc::{AllocError, Global};
 
 // The report and the refusals as they are printed, and the folded stacks of each thread.

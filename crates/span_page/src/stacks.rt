@@ -2,13 +2,13 @@
 ghost use Rattle.std.specs.Prelude.{◌≡◌, ◌++◌, [], map, string_bytes, OnOk};
 ghost use Rattle.std.specs.List.{join_with_byte};
 ghost use Rattle.span_report.specs.Lines.{json_text_of};
-ghost use Rattle.span_stacks.specs.Walk.{AreAscending, folded_after};
+ghost use Rattle.span_report.specs.Stacks.Walk.{AreAscending, folded_after};
 ghost use Rattle.span_page.specs.Coded.{coded_after};
 ghost use Rattle.span_page.specs.Data.{stack_json, stacks_json};
 
 use crate::data::put_string;
 use span_event::Text;
-use span_stacks::StackFrame;
+use span_report::stacks::StackFrame;
 use std::alloc::{AllocError, Global};
 
 // Appends the stacks, each without the frames with which it begins as the one before it does.

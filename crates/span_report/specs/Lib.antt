@@ -5,3 +5,4 @@ pub mod Output
 pub mod Rankings
 pub mod Report
 pub mod Sink
+pub mod Stacks

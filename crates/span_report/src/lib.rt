@@ -1,4 +1,5 @@
-//! The report of a ledger: the lines that its rows make, and the output that takes them. So are rankings and comparisons made.
+//! The texts of a ledger, and the output that takes them: the report, whose lines its rows make, and in modules rankings, comparisons
+//! and folded stacks.
 #![tactic(auto)]
 
 pub mod comparisons;
@@ -7,6 +8,7 @@ mod lines;
 mod output;
 pub mod rankings;
 mod sink;
+pub mod stacks;
 mod text;
 mod writer;
 

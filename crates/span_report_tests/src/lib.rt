@@ -1,4 +1,4 @@
-//! What `span_report` and `span_stacks` promise, tried through their public calls.
+//! What `span_report` promises, tried through its public calls.
 #![tactic(auto)]
 
 #[cfg(test)]

@@ -3,8 +3,8 @@
 use span_ledger::Ledger;
 use span_report::comparisons::{comparison, write_comparison};
 use span_report::rankings::{By, ranking, write_ranking};
+use span_report::stacks::{folded, write_folded};
 use span_report::{WriteFault, Writer, report, write_report};
-use span_stacks::{folded, write_folded};
 use span_test_support::{Output, is_whole_or_none, room_at_last};
 use std::alloc::{AllocError, AllocGlobal, Global};
 use std::io::Write;

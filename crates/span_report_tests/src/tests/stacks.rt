@@ -1,7 +1,7 @@
 //! Folded stacks that an output or memory cuts off, and the laws on their times.
 
 use super::printed::Printed;
-use span_stacks::laws::{busy_law, self_law};
+use span_report::stacks::laws::{busy_law, self_law};
 use span_test_support::{told, told_at_last};
 use std::test::Fail;
 

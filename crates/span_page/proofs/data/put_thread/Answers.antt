@@ -1,9 +1,9 @@
 use Rattle.std.proofs.Common.{◌≡◌, ◌++◌, [], List, string_bytes, ap, ap₂, ◌∙◌, rules, to_z, of_z, w64}
 use Rattle.span_event.specs.declared.thread.Thread.{Thread}
 use Rattle.span_keyed_tracks.proofs.Results.{on_ok-map}
-use Rattle.span_stacks.specs.Folded.{thread_stacks}
-use Rattle.span_stacks.specs.Stacks.{Folded}
-use Rattle.span_stacks.specs.Walk.{Framed, folded_after}
+use Rattle.span_report.specs.Stacks.Folded.{thread_stacks}
+use Rattle.span_report.specs.Stacks.Microseconds.{Folded}
+use Rattle.span_report.specs.Stacks.Walk.{Framed, folded_after}
 use Rattle.span_page.specs.Data.{stacks_json}
 use Rattle.span_page.proofs.data.put_thread.Goals as goal
 

@@ -1,0 +1,41 @@
+-- The folded stacks of a journal as a text.
+use Rattle.std.specs.Prelude.{ℕ, List, [], ◌∷◌, ◌++◌, flat_map, decimal}
+use Rattle.span_event.specs.declared.thread.Thread.{Thread}
+use Rattle.span_track.specs.Nesting.{closed_spans}
+use Rattle.span_ledger.specs.declared.entry.Entry.{Entry}
+use Rattle.span_ledger.specs.declared.rows.ProcessRow.{ProcessRow}
+use Rattle.span_ledger.specs.declared.rows.ThreadRow.{ThreadRow}
+use Rattle.span_ledger.specs.Parts.{ProcessRows, ThreadRows, process_parts}
+use Rattle.span_ledger.specs.Told.{thread_events}
+use Rattle.span_report.specs.Stacks.Frames.{frame, owner_frame}
+use Rattle.span_report.specs.Stacks.Microseconds.{Folded, Stack, folded_stacks}
+
+-- the first two frames of the lines of a thread, which are its process and itself
+abbrev pub thread_frames : ProcessRow → ThreadRow → List ℕ
+thread_frames process thread = owner_frame process.pid process.name ++ (59 ∷ owner_frame thread.tid thread.name)
+
+-- the frames of a stack, each with `;` before it
+abbrev pub stack_frames : Stack → List ℕ
+stack_frames stack = flat_map (λ name. 59 ∷ frame name) stack
+
+-- the line of a stack: all frames, a blank, and how many microseconds have it
+abbrev pub stack_line : List ℕ → Folded → List ℕ
+stack_line start folded = start ++ (stack_frames folded.stack ++ (32 ∷ (decimal folded.time ++ 10 ∷ [])))
+
+abbrev pub stack_lines : List ℕ → List Folded → List ℕ
+stack_lines start stacks = flat_map (stack_line start) stacks
+
+module _ (journal : List Entry) where
+  -- the folded stacks of a thread
+  abbrev pub thread_stacks : Thread → List Folded
+  thread_stacks thread = folded_stacks (closed_spans (thread_events thread journal))
+
+  abbrev pub thread_lines : ProcessRow → ThreadRows → List ℕ
+  thread_lines process part = stack_lines (thread_frames process part.row) (thread_stacks (record { pid = part.row.pid; tid = part.row.tid }))
+
+  abbrev pub process_lines : ProcessRows → List ℕ
+  process_lines part = flat_map (thread_lines part.row) part.threads
+
+  -- a line for each stack of each thread, in the order of the report
+  abbrev pub folded_of : List ℕ
+  folded_of = flat_map process_lines (process_parts journal)

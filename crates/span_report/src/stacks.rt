@@ -1,0 +1,18 @@
+//! The folded stacks of a ledger, as a text for viewers of flame graphs.
+//!
+//! What a thread's spans cost to fold: a sort by rank; and for each span one step for each stretch of time that it covers of those
+//! that the spans before it have parted. Of spans that nest that is one, and of spans that cross at most as many as are open.
+//! The stacks are then told frame by frame, in order: a step and a row for each frame of the tree. Only the text has each stack whole.
+
+mod frames;
+pub mod laws;
+mod output;
+mod ranks;
+mod sweep;
+mod text;
+mod tree;
+mod walk;
+
+pub use output::write_folded;
+pub use text::folded;
+pub use walk::{StackFrame, framed_stacks};

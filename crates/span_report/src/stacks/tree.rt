@@ -1,0 +1,177 @@
+//! Stacks that share what they begin with, each with its time.
+ghost use Rattle.std.specs.Prelude.{◌≡◌, [], ◌+◌, ◌<◌, ◌^◌, length, map, All, IfOk, OnErr, OnOk, Some};
+ghost use Rattle.span_report.specs.Stacks.Order.{AreDepths, IsElder, IsOrder, depth_on, put_after, slot};
+ghost use Rattle.span_report.specs.Stacks.Tree.{AreApart, Extends, IsChild, IsPlace, IsPlaceBefore, with_time};
+ghost use Rattle.span_report.specs.Stacks.Walk.{IsWalk};
+
+use super::walk::StackFrame;
+use span_event::Text;
+use std::alloc::{AllocError, Global};
+use std::collections::BTreeMap;
+use std::marker::Model;
+
+// A frame on the stack of another place, or on none.
+#[derive(Drop)]
+struct Node<'a> {
+    parent: Option<usize>,
+    name: &'a Text,
+    time: u64,
+}
+
+// The tree of stacks. A place in it is the number of a node, or None for the empty stack.
+#[derive(Drop)]
+pub(crate) struct StackTree<'a> {
+    nodes: Vec<Node<'a>>,
+    places: BTreeMap<(Option<usize>, &'a Text), usize>,
+}
+
+impl<'a> Model for StackTree<'a> {
+    ghost use Rattle.std.specs.Prelude.{map};
+    ghost use Rattle.span_report.specs.Stacks.Nodes.{IsTree, key_of, tree_of};
+    ghost use Rattle.span_report.specs.Stacks.Tree.{Tree};
+
+    ghost Value = { Tree };
+
+    ghost view = { λ t. tree_of t.nodes.items };
+
+    ghost invariant = { λ t. IsTree (map key_of t.nodes.items) t.places.entries };
+}
+
+impl<'a> StackTree<'a> {
+    pub(crate) fn new(alloc: Global) -> StackTree<'a>
+        ensures { result ≡ record { stacks = []; times = [] } }
+    {
+        StackTree {
+            nodes: Vec::new(alloc),
+            places: BTreeMap::new(alloc),
+        }
+    }
+
+    // The place of a stack with one more frame, which is made where there was none.
+    pub(crate) fn child(
+        &mut self,
+        parent: Option<usize>,
+        name: &'a Text,
+    ) -> Result<usize, AllocError>
+        requires { IsPlace self.old parent }
+        ensures child { IfOk result (λ place. IsChild self.old self.new parent name.now (Some place)) }
+        ensures extends { OnOk result (Extends self.old self.new) }
+        ensures err { OnErr result (self.new ≡ self.old) }
+    {
+        if let Some(place) = self.places.get(&(parent, name)) {
+            return Ok(*place);
+        }
+        let place = self.nodes.len();
+        self.nodes.reserve(1)?;
+        self.places.insert((parent, name), place)?;
+        self.nodes.push_reserved(Node {
+            parent,
+            name,
+            time: 0,
+        });
+        Ok(place)
+    }
+
+    // The empty stack keeps no time.
+    pub(crate) fn add_time(&mut self, place: Option<usize>, time: u64)
+        requires place { IsPlace self.old place }
+        requires room { All (λ t. t + time < 2 ^ 64) self.old.times }
+        ensures { self.new ≡ with_time place time self.old }
+    {
+        if let Some(place) = place {
+            let node = &mut self.nodes[place];
+            node.time += time;
+        }
+    }
+
+    // The stacks that have a microsecond or more, frame by frame and in order.
+    pub(crate) fn frames(&self, alloc: Global) -> Result<Vec<StackFrame<'a>>, AllocError>
+        ensures walk { IfOk result (λ frames. IsWalk self.now frames.items) }
+        ensures apart { OnOk result (AreApart self.now) }
+    {
+        let depths = self.depths(alloc)?;
+        let next = self.order(alloc)?;
+        let mut frames = Vec::new(alloc);
+        let mut place = next[0];
+        while let Some(at) = place {
+            let node = &self.nodes[at];
+            frames.push(StackFrame {
+                below: depths[at],
+                name: node.name,
+                time: node.time,
+            })?;
+            place = next[at + 1];
+        }
+        Ok(frames)
+    }
+
+    // How many frames are below that of each place.
+    fn depths(&self, alloc: Global) -> Result<Vec<usize>, AllocError>
+        ensures { IfOk result (λ depths. AreDepths self.now.stacks depths.items) }
+    {
+        let mut depths = Vec::new(alloc);
+        for node in &self.nodes {
+            let depth = depth_on(&depths, node.parent);
+            depths.push(depth)?;
+        }
+        Ok(depths)
+    }
+
+    // For the empty stack and then for each place, which place has the stack behind its own.
+    fn order(&self, alloc: Global) -> Result<Vec<Option<usize>>, AllocError>
+        ensures { IfOk result (λ next. IsOrder self.now.stacks next.items) }
+    {
+        let mut next = vec![in alloc; None; self.nodes.len() + 1]?;
+        let mut last = None;
+        for (key, place) in &self.places {
+            put_after(&mut next, elder(&self.nodes, last, key.0), *place);
+            last = Some(*place);
+        }
+        Ok(next)
+    }
+}
+
+// How many frames are below one that stands on a place.
+fn depth_on(depths: &[usize], parent: Option<usize>) -> usize
+    requires place { IsPlaceBefore (length depths.now) parent }
+    requires room { All (λ depth. depth + 1 < 2 ^ 64) depths.now }
+    ensures { result ≡ depth_on depths.now parent }
+{
+    match parent {
+        Some(parent) => depths[parent] + 1,
+        None => 0,
+    }
+}
+
+// Behind which place a new child comes: the last place, if that is a child of the same parent, and else the parent.
+fn elder(nodes: &[Node], last: Option<usize>, parent: Option<usize>) -> Option<usize>
+    requires { IsPlaceBefore (length nodes.now) last }
+    ensures { IsElder (map (λ node. node.parent) nodes.now) last parent result }
+{
+    match last {
+        Some(last) if nodes[last].parent == parent => Some(last),
+        _ => parent,
+    }
+}
+
+// Puts a place behind another one, and before those that are behind that.
+fn put_after(next: &mut [Option<usize>], before: Option<usize>, place: usize)
+    requires before { slot before < length next.old }
+    requires place { slot (Some place) < length next.old }
+    ensures { next.new ≡ put_after before place next.old }
+{
+    let slot = slot(before);
+    next[place + 1] = next[slot];
+    next[slot] = Some(place);
+}
+
+// Where a list tells of a place: first of the empty stack, and then of each place.
+fn slot(place: Option<usize>) -> usize
+    requires { slot place < 2 ^ 64 }
+    ensures { result ≡ slot place }
+{
+    match place {
+        Some(place) => place + 1,
+        None => 0,
+    }
+}

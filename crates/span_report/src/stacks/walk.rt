@@ -1,0 +1,76 @@
+//! The stacks of a thread, frame by frame.
+ghost use Rattle.std.specs.Prelude.{◌≡◌, [], map, IfOk, OnErr, OnOk};
+ghost use Rattle.span_ledger.specs.Named.{AreThreadSpans};
+ghost use Rattle.span_report.specs.Stacks.Folded.{thread_stacks};
+ghost use Rattle.span_report.specs.Stacks.Microseconds.{folded_stacks};
+ghost use Rattle.span_report.specs.Stacks.Walk.{AreAscending, folded_after, stack_after};
+
+use super::ranks::sort_by_rank;
+use super::sweep::{bounds, swept};
+use span_event::Text;
+use span_ledger::{Ledger, NamedSpan};
+use std::alloc::{AllocError, Global};
+use std::marker::Model;
+
+/// The last frame of a stack, how many other frames are below it, and for how many microseconds a thread has just this stack. The
+/// others are those with which the stack before it begins, so a list of frames tells many stacks without any frame twice.
+#[derive(Drop)]
+pub struct StackFrame<'a> {
+    pub below: usize,
+    pub name: &'a Text,
+    pub time: u64,
+}
+
+impl<'a> Model for StackFrame<'a> {
+    ghost use Rattle.span_report.specs.Stacks.Walk.{Framed};
+
+    ghost Value = { Framed };
+
+    ghost view = { λ f. record { below = f.below; name = f.name.now; time = f.time } };
+}
+
+impl<'a> StackFrame<'a> {
+    /// Makes of the stack before this one the stack of this frame.
+    pub fn follow(&self, stack: &mut Vec<&'a Text>) -> Result<(), AllocError>
+        ensures ok { OnOk result (map (λ name. name.now) stack.new.items
+            ≡ stack_after (map (λ name. name.now) stack.old.items) self.now) }
+        ensures err { OnErr result (stack.new.items ≡ stack.old.items) }
+    {
+        stack.reserve(1)?;
+        stack.truncate(self.below);
+        stack.push_reserved(self.name);
+        Ok(())
+    }
+}
+
+/// The folded stacks of a thread of the ledger's journal, frame by frame, in the order of their lists of names. A stack that has no
+/// microsecond of its own is told too, if others begin with it.
+pub fn framed_stacks(
+    alloc: Global,
+    ledger: &Ledger,
+    pid: i64,
+    tid: i64,
+) -> Result<Vec<StackFrame<'_>>, AllocError>
+    ensures stacks { IfOk result (λ frames. folded_after [] frames.items
+        ≡ thread_stacks ledger.now.journal (record { pid = pid; tid = tid })) }
+    ensures ascending { IfOk result (λ frames. AreAscending [] frames.items) }
+{
+    let spans = ledger.closed_spans(alloc, pid, tid)?;
+    frames_of(alloc, spans)
+}
+
+// Each stack of the spans once, in order.
+fn frames_of<'a>(
+    alloc: Global,
+    mut spans: Vec<NamedSpan<'a>>,
+) -> Result<Vec<StackFrame<'a>>, AllocError>
+    requires { AreThreadSpans spans.items }
+    ensures stacks { IfOk result
+        (λ frames. folded_after [] frames.items ≡ folded_stacks spans.entry.items) }
+    ensures ascending { IfOk result (λ frames. AreAscending [] frames.items) }
+{
+    let (from, until) = bounds(&spans);
+    sort_by_rank(&mut spans);
+    let tree = swept(alloc, &spans, from, until)?;
+    tree.frames(alloc)
+}

@@ -1,9 +1,0 @@
-pub mod Folded
-pub mod Frames
-pub mod Laws
-pub mod Nodes
-pub mod Order
-pub mod Stacks
-pub mod Sweep
-pub mod Tree
-pub mod Walk
