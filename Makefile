@@ -24,7 +24,7 @@ demo: tracebook
 
 # The merge gate, which proves and builds everything from nothing, and then what it built: the program on each case of
 # tests/acceptance, on a large generated trace, on separate files, on the parts of split traces, on names that were chosen to collide,
-# as pages in a browser, and each allocation refused in turn.
+# as pages in a browser, and each read failed and each allocation refused in turn.
 test:
 	rt ci
 	tests/acceptance/run crates/tracebook/out/tracebook
@@ -33,6 +33,7 @@ test:
 	tests/split_traces crates/tracebook/out/tracebook
 	tests/page_data crates/tracebook/out/tracebook
 	tests/flooded_names crates/tracebook/out/tracebook
+	tests/failed_reads crates/tracebook/out/tracebook
 	crates/span_page/page/join --check
 	tests/page crates/tracebook/out/tracebook
 	tests/converted_traces

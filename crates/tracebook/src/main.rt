@@ -1,12 +1,21 @@
 //! Reports where the time went in trace event files.
 #![tactic(auto)]
 
+mod command;
+mod comparison;
+mod inputs;
+mod program;
 mod progress;
+mod reading;
+mod source;
+mod view;
 
 ghost use Rattle.std.specs.Prelude.{None};
 
+use program::perform;
 use progress::{Cleared, Progress, Watched};
-use span_command_line::{Source, SourceFault, perform, read_up_to};
+use reading::read_up_to;
+use source::{Source, SourceFault};
 use span_event::Text;
 use span_report::Writer;
 use std::fs::File;

@@ -1,0 +1,107 @@
+-- What the words of a command line ask for, and what a request does.
+use Rattle.std.specs.Prelude.{◌≡◌, ℕ, ◌⊎◌, Bool, false, List, [], take, codes, nat_eq, string_bytes}
+use Rattle.std.specs.List.{list_any, starts_with}
+use Rattle.span_report.specs.Sink.{SinkState, TakesBytes, Fails}
+use Rattle.span_collect.specs.declared.files.Input.{Input}
+use Rattle.span_collect.specs.declared.settings.Settings.{Settings}
+use Rattle.span_collect.specs.declared.runs.RunEnd.{RunEnd}
+use Rattle.span_collect.specs.declared.runs.RunError.{RunError}
+use Rattle.span_collect.specs.Run.{IsRunOf, RunLeaves}
+use Rattle.tracebook.specs.declared.command.Request.{Request}
+use Rattle.tracebook.specs.declared.command.Request.TheVariants.{Collect, Compare, Show, Refuse}
+use Rattle.tracebook.specs.declared.view.View.{View}
+use Rattle.tracebook.specs.declared.view.View.TheVariants.{Report}
+use Rattle.tracebook.specs.Source.{SourceBytes}
+use Rattle.tracebook.specs.Comparison.{ComparisonLeaves, IsComparisonOf, greater}
+use Rattle.tracebook.specs.Inputs.{AreFiles, AreInputs}
+use Rattle.tracebook.specs.View.{text_of}
+
+-- the word begins with a hyphen
+abbrev pub is_option : List ℕ → Bool
+is_option word = starts_with nat_eq word (codes "-")
+
+-- the limit where the command line doesn't say
+abbrev pub default_limit : ℕ
+default_limit = 16777216
+
+-- the settings where it doesn't say
+abbrev pub default_settings : Settings
+default_settings = record { limit = default_limit; seal = false; strict = false }
+
+-- the files of these names are to be collected, with the default settings, and reported
+abbrev pub NamesFiles : List (List ℕ) → Request → Type 0
+NamesFiles words (Collect settings view files) = (settings ≡ default_settings) × (view ≡ Report) × (files.items ≡ words)
+NamesFiles words (Compare settings base files) = ⊥
+NamesFiles words (Show text) = ⊥
+NamesFiles words (Refuse text) = ⊥
+
+-- words without options ask for the files that they name
+abbrev pub AsksFor : List (List ℕ) → Request → Type 0
+AsksFor words request = list_any is_option words ≡ false → NamesFiles words request
+
+-- this holds of a request that the words ask for
+abbrev pub Asked : List (List ℕ) → (Request → Type 0) → Type 0
+Asked words Holds = (request : Request) × AsksFor words request × Holds request
+
+-- a run of these inputs, without queries, that prints this view of them ended with this status
+pub record EndsWith (inputs : List Input) (settings : Settings) (view : View) (status : ℕ) (old new : SinkState) : Type 0 where
+  pub run : RunEnd
+  pub is_run : IsRunOf (text_of view inputs) inputs [] settings run old new
+  pub ended : run.status ≡ status
+
+-- What a run of these inputs left where the program ended with 2. The run ended with 2, and wrote nothing; or it was refused, and wrote
+-- nothing unless the output failed; or a file was refused, the view of the run is written, and memory for the file's line was refused.
+abbrev pub LeavesPart : List Input → Settings → View → SinkState → SinkState → Type 0
+LeavesPart inputs settings view old new =
+    EndsWith inputs settings view 2 old new ⊎ (((error : RunError) × RunLeaves (text_of view inputs) error inputs [] settings old new) ⊎ EndsWith inputs settings view 1 old new)
+
+-- the files of these names were collected, and this view of them is written
+pub record Collects (source : SourceBytes) (names : List (List ℕ)) (settings : Settings) (view : View) (status : ℕ) (old new : SinkState) : Type 0 where
+  pub inputs : List Input
+  pub read : AreInputs source names inputs
+  pub ended : EndsWith inputs settings view status old new
+
+-- not all files were read, and nothing was written; or a run of them left this
+abbrev pub CollectsPart : SourceBytes → List (List ℕ) → Settings → View → SinkState → SinkState → Type 0
+CollectsPart source names settings view old new = (new ≡ old) ⊎ ((inputs : List Input) × AreInputs source names inputs × LeavesPart inputs settings view old new)
+
+-- two runs of these inputs were compared, and the greater of their statuses is this
+pub record ComparesWith (base inputs : List Input) (settings : Settings) (status : ℕ) (old new : SinkState) : Type 0 where
+  pub base_run : RunEnd
+  pub run : RunEnd
+  pub is_comparison : IsComparisonOf base inputs settings base_run run old new
+  pub ended : greater base_run.status run.status ≡ status
+
+-- What comparing these inputs left where the program ended with 2. A run ended with 2, and nothing was written; or the runs were not
+-- compared, and nothing was written unless the output failed; or a file was refused, what changed is written, and memory for the file's
+-- line was refused.
+abbrev pub ComparisonPart : List Input → List Input → Settings → SinkState → SinkState → Type 0
+ComparisonPart base inputs settings old new =
+    ComparesWith base inputs settings 2 old new ⊎ (((error : RunError) × ComparisonLeaves error base inputs settings old new) ⊎ ComparesWith base inputs settings 1 old new)
+
+-- the files of these names were collected, the base's in one run and the others in another, and what changed is written
+pub record Compares (source : SourceBytes) (base_names names : List (List ℕ)) (settings : Settings) (status : ℕ) (old new : SinkState) : Type 0 where
+  pub base : List Input
+  pub inputs : List Input
+  pub base_read : AreFiles source.file base_names base
+  pub read : AreInputs source names inputs
+  pub ended : ComparesWith base inputs settings status old new
+
+-- not all files were read, and nothing was written; or two runs of them left this
+abbrev pub ComparesPart : SourceBytes → List (List ℕ) → List (List ℕ) → Settings → SinkState → SinkState → Type 0
+ComparesPart source base_names names settings old new =
+    (new ≡ old) ⊎ ((base : List Input) × (inputs : List Input) × AreFiles source.file base_names base × AreInputs source names inputs × ComparisonPart base inputs settings old new)
+
+-- what a request did that ended with status 0 or 1: its files were collected, or its text was written
+abbrev pub Performs : SourceBytes → Request → ℕ → SinkState → SinkState → Type 0
+Performs source (Collect settings view files) status old new = Collects source files.items settings view status old new
+Performs source (Compare settings base files) status old new = Compares source base.items files.items settings status old new
+Performs source (Show text) status old new = (status ≡ 0) × TakesBytes old new (string_bytes text)
+Performs source (Refuse text) status old new = ⊥
+
+-- what a request did that ended with status 2: it wrote nothing, or first bytes of what it would have written
+abbrev pub GivesUp : SourceBytes → Request → SinkState → SinkState → Type 0
+GivesUp source (Collect settings view files) old new = CollectsPart source files.items settings view old new
+GivesUp source (Compare settings base files) old new = ComparesPart source base.items files.items settings old new
+GivesUp source (Show text) old new = (written : ℕ) × Fails old new (take written (string_bytes text))
+GivesUp source (Refuse text) old new = new ≡ old

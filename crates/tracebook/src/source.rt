@@ -1,0 +1,33 @@
+//! Where the bytes of files come from.
+ghost use Rattle.std.specs.Prelude.{◌≡◌, ◌≤◌, vec_len, IfOk};
+ghost use Rattle.tracebook.specs.Source.{AreFirst, SourceBytes};
+
+use span_event::Text;
+
+/// Why a file could not be read.
+#[derive(Clone, Copy, Debug, PartialEq, Eq)]
+pub enum SourceFault {
+    /// 52: the file could not be opened, or a read failed or was interrupted.
+    NotOpened,
+    /// 31: memory was refused.
+    Memory,
+}
+
+/// Standard input and the files that a command line names. Contracts see their bytes, where it tells them.
+pub trait Source {
+    ghost bytes: { Self → SourceBytes };
+
+    /// The bytes of standard input, or the first `most` of them.
+    fn standard(&mut self, most: u64) -> Result<Vec<u8>, SourceFault>
+        ensures first { IfOk result (λ read. AreFirst most (bytes self.old).standard read.items) }
+        ensures within { IfOk result (λ read. vec_len read ≤ most) };
+
+    /// The bytes of the file, or the first `most` of them.
+    fn file(&mut self, name: &Text, most: u64) -> Result<Vec<u8>, SourceFault>
+        ensures first { IfOk result (λ read. AreFirst most ((bytes self.old).file name.now) read.items) }
+        ensures within { IfOk result (λ read. vec_len read ≤ most) }
+        ensures same { bytes self.new ≡ bytes self.old };
+
+    /// Called once, after the last file was read.
+    fn end(&mut self) {}
+}
