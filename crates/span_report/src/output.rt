@@ -1,5 +1,5 @@
 //! Writes the report of a ledger to a sink.
-ghost use Rattle.std.specs.Prelude.{◌≡◌, ◌≤◌, ℕ, List, length, take, IfErr, IfOk, OnOk};
+ghost use Rattle.std.specs.Prelude.{◌≡◌, ◌≤◌, ◌↔◌, ℕ, List, Err, length, take, IfErr, IfOk, IsErr, OnOk};
 ghost use Rattle.span_report.specs.Report.{report_of};
 ghost use Rattle.span_report.specs.Sink.{TakesBytes, Fails};
 ghost use Rattle.span_report.specs.Output.{write_code, WriteLeaves};
@@ -45,6 +45,7 @@ pub fn write_made<O: Sink>(made: Result<Vec<u8>, AllocError>, out: &mut O) -> Re
         → OnOk result (TakesBytes (O.state out.old) (O.state out.new) text) }
     ensures fault { (text : List ℕ) → IfOk made (λ bytes. bytes.items ≡ text)
         → IfErr result (λ fault. WriteLeaves fault text (O.state out.old) (O.state out.new)) }
+    ensures memory { (result ≡ Err WriteFault.Memory) ↔ IsErr made }
 {
     let Ok(text) = made else {
         return Err(WriteFault::Memory);
