@@ -190,6 +190,9 @@ fn the_journal_can_be_read_in(
         assert!(rt; told.is_ok());
         drop(told);
     }
+    // More than the limit leaves, and less than there is.
+    ledger.reserve(1_000)?;
+    ledger.reserve(1)?;
     answers(
         alloc,
         ledger,

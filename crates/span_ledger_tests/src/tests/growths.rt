@@ -134,6 +134,8 @@ fn tell_example(
 
 fn tell_to_a_ledger(rt: &(impl Abort + AllocGlobal), example: &Example) -> Result<(), Fail> {
     let mut ledger = Ledger::new(rt.alloc(), 100, false);
+    // Where this is refused, entries still make room for themselves.
+    let _ = ledger.reserve(2);
     let told = tell_example(rt, &mut ledger, example);
     drop(ledger);
     told
