@@ -8,7 +8,7 @@ use crate::files::{FileEnd, Input};
 use crate::gate::Gate;
 use crate::reading_places::ReadingPlaces;
 use crate::remaining::Remaining;
-use span_event::Items;
+use span_event::{Item, Items};
 use span_ledger::Cause;
 use span_read::{ReadError, read_items};
 use span_share::{Seat, Share};
@@ -35,7 +35,7 @@ pub(crate) fn work<G: Gate, R: Wait>(
     let read = read_items(alloc, &file.bytes);
     drop(place);
     match read {
-        Ok(items) => tell_all(rt, share, gate, worker, items, seat),
+        Ok(items) => tell_all(rt, alloc, share, gate, worker, items, seat),
         Err(ReadError::Memory) => FileEnd::Stopped {
             caller,
             done: 0,
@@ -48,9 +48,18 @@ pub(crate) fn work<G: Gate, R: Wait>(
     }
 }
 
+// A span that closes keeps a copy of its arguments. Their count of copies was last written when the file was read, so it is mostly not
+// in a cache any more: waiting for it here, others have the turn.
+fn fetch_args(alloc: Global, item: &Item) {
+    if let Item::Good(event) = item {
+        let _ = event.args.try_clone(alloc);
+    }
+}
+
 // Tells the items in order, until one is not taken.
 fn tell_all<G: Gate, R: Wait>(
     rt: &R,
+    alloc: Global,
     share: &Share,
     gate: &G,
     worker: u32,
@@ -67,6 +76,7 @@ fn tell_all<G: Gate, R: Wait>(
     let mut remaining = Remaining::of(items);
     'items: while let Some(item) = remaining.next() {
         gate.pass(worker, done);
+        fetch_args(alloc, &item);
         if let Err(back) = share.tell(rt, seat, item) {
             return FileEnd::Stopped {
                 caller,
