@@ -9,7 +9,7 @@ use std::alloc::{AllocError, Global};
 use std::marker::Model;
 
 /// How many texts are found without hashing them.
-const RECENT: usize = 64;
+const RECENT: usize = 256;
 
 // Distinct texts, as many as memory holds, numbered from 0 in the order of their first use.
 #[derive(Drop)]
@@ -117,12 +117,13 @@ impl Texts {
 
 // Names differ by their lengths and ends, mostly.
 fn place_of(text: &Text) -> usize
-    ensures { result < 64 }
+    ensures { result < 256 }
 {
     let bytes = text.as_str().as_bytes();
-    let end = match bytes.last() {
-        Some(byte) => usize::from(*byte),
-        None => 0,
+    let ends = match bytes {
+        [] => 0,
+        [only] => usize::from(*only),
+        [.., before, last] => usize::from(*before) * 16 + usize::from(*last),
     };
-    (bytes.len() % 64 * 7 + end) % 64
+    (bytes.len() % RECENT * 31 + ends) % RECENT
 }
