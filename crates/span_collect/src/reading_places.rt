@@ -3,7 +3,7 @@ use std::sync::{Mutex, MutexGuard, Wait};
 
 /// Where many workers read at the same time, all of them are late to tell their first item, and the ledger has nothing to do until
 /// then. A few readers keep it busy, since items are told one after another.
-const PLACES: usize = 3;
+pub(crate) const PLACES: usize = 3;
 
 /// Places for workers that read their files, each for one worker at a time.
 #[derive(Drop)]

@@ -49,7 +49,7 @@ pub(crate) fn work<G: Gate, R: Wait>(
 }
 
 // A span that closes keeps a copy of its arguments. Their count of copies was last written when the file was read, so it is mostly not
-// in a cache any more: waiting for it here, others have the turn.
+// in a cache any more: the worker waits for it here, while others may have the turn.
 fn fetch_args(alloc: Global, item: &Item) {
     if let Item::Good(event) = item {
         let _ = event.args.try_clone(alloc);

@@ -7,7 +7,7 @@ ghost use Rattle.span_collect.specs.Work.{IsNewSeat, IsWorked, HasMet, IsReadyTo
 use crate::files::{FileEnd, Input};
 use crate::gate::Gate;
 use crate::queries::{Asked, ask_all};
-use crate::reading_places::ReadingPlaces;
+use crate::reading_places::{PLACES, ReadingPlaces};
 use crate::worker::work;
 use span_ledger::Query;
 use span_share::{Seat, Share};
@@ -26,7 +26,7 @@ struct Workplace<'s, G> {
     gate: &'s G,
     places: &'s ReadingPlaces,
     workers: u32,
-    // How many entries are reckoned to come.
+    // For how many entries room is made.
     expected: u32,
 }
 
@@ -147,8 +147,12 @@ fn work_all<'s, E, G: Gate, R: Threads + Wait + Sync>(
     asked
 }
 
-// How many entries are reckoned to come of these files.
+// How many entries are reckoned to come of these files; none where all are read at once, which takes as much memory as it may: there
+// the room is made later, entry by entry.
 fn entries_expected(files: &[Input]) -> u32 {
+    if files.len() <= PLACES {
+        return 0;
+    }
     let mut bytes: usize = 0;
     for file in files {
         bytes = bytes.saturating_add(file.bytes.len());
