@@ -213,7 +213,8 @@ fn tell_past_the_limit(
     ensures { IsSeatOf share.now seat.new }
 {
     let alloc = rt.alloc();
-    share.reserve(rt, seat, 2)?;
+    let made = share.reserve(rt, seat, 2);
+    assert!(rt; made.is_ok(), "out of memory");
     assert_eq!(rt; share.front(seat), 0);
     let first = begin(alloc, 1, 0).ok_or("no item")?;
     let second = begin(alloc, 1, 1).ok_or("no item")?;
