@@ -1,18 +1,23 @@
 #!/usr/bin/env python3
 """Turns a trace into one that tracebook takes whole, and tells on standard error what was changed.
 
-usage: convert_trace.py < trace.json > converted.json
+usage: convert_trace.py [--unit s|ms|us|ns] [--cut] < trace.json > converted.json
 
 - Times with fractions: each start and each end is rounded down to a whole microsecond, so spans that nest still nest; a
-  duration is what lies between the two.
+  duration is what lies between the two. With --unit times are taken to be in seconds, milliseconds or nanoseconds instead of
+  microseconds.
 - Values of counters are rounded down, and texts that hold a number become it.
 - A process or a thread that is a text gets a number that no other has, and the text as its name, by a metadata event; where
   the text holds a whole number it becomes that.
+
+With --cut a trace that ends within an element, or within the object around them, is taken up to its last whole element, and closed
+there.
 
 All else stays byte for byte. The trace is read and written piece by piece: only the names of processes and threads are kept in
 memory.
 """
 
+import argparse
 import io
 import json
 import re
@@ -21,12 +26,14 @@ from collections import Counter
 from decimal import Decimal, getcontext
 from math import floor
 
-from trace_reader import NoTrace, Source, elements_of, is_whole
+from trace_reader import Cut, NoTrace, Source, elements_of, is_whole
 
 # Enough digits that no sum of a start and a duration is rounded.
 getcontext().prec = 60
 
 MOST = 2**63
+# Microseconds in a unit of time.
+UNITS = {"s": Decimal(1_000_000), "ms": Decimal(1_000), "us": Decimal(1), "ns": Decimal("0.001")}
 # Numbers for texts are given from here on, out of the way of what systems give.
 FIRST = 10**12 + 1
 NUMBER = re.compile(r"\s*[+-]?[0-9]+(\.[0-9]+)?([eE][+-]?[0-9]{1,4})?\s*")
@@ -95,12 +102,17 @@ class Owners:
 class Converter:
     """What was changed so far, and the numbers that were given."""
 
-    def __init__(self):
+    def __init__(self, unit):
         self.processes, self.threads = Owners("process"), Owners("thread")
         self.named, self.changes = set(), Counter()
+        self.unit, self.elements, self.greatest_start = unit, 0, 0
+        is_whole_unit = unit == 1
+        self.begun = "starts rounded down" if is_whole_unit else "starts made whole microseconds"
+        self.rounded = "durations rounded" if is_whole_unit else "durations made whole microseconds"
 
     def converted(self, element, text):
         """The text of an element as it shall be, with the metadata events before it that it needs; None where it stays."""
+        self.elements += 1
         if not isinstance(element, dict):
             return None
         members, edits, heads = members_at(text, 0), [], []
@@ -123,15 +135,17 @@ class Converter:
             self.changes[change] += 1
 
     def round_times(self, members, phase, text, edits):
-        """Rounds the start and the end of an event down."""
+        """Makes the start and the end of an event whole microseconds."""
         start, length = members.get("ts"), members.get("dur")
         begun = number_in(start.value) if start else None
         if begun is None:
             return
-        self.edit(edits, text, start, floor(begun), "starts rounded down")
+        self.greatest_start = max(self.greatest_start, abs(begun))
+        begun *= self.unit
+        self.edit(edits, text, start, floor(begun), self.begun)
         lasted = number_in(length.value) if length and phase == "X" else None
         if lasted is not None:
-            self.edit(edits, text, length, floor(begun + lasted) - floor(begun), "durations rounded")
+            self.edit(edits, text, length, floor(begun + lasted * self.unit) - floor(begun), self.rounded)
 
     def round_values(self, series, text, edits):
         """Rounds the values of a counter down."""
@@ -174,22 +188,54 @@ class Converter:
         return owners.number_of(member.value)
 
 
-def main():
-    source_file = io.TextIOWrapper(sys.stdin.buffer, encoding="utf-8", newline="")
-    out = io.TextIOWrapper(sys.stdout.buffer, encoding="utf-8", newline="")
-    source, converter = Source(source_file, out.write, parse_float=Decimal), Converter()
+def copy(source, converter, keeps_cut):
+    """Puts the elements as they shall be, and says up to which byte they are whole, if the trace is cut off and that is wanted."""
     try:
         for element, text in elements_of(source):
             converted = converter.converted(element, text)
             if converted is not None:
                 source.replace(converted)
+    except Cut as cut:
+        if source.closers is None:
+            raise NoTrace("not JSON: it is cut off before its elements") from cut
+        if not keeps_cut:
+            raise NoTrace(f"{cut}; --cut keeps the whole elements before that") from cut
+        source.close()
+        return cut.at
+    return None
+
+
+def words():
+    parser = argparse.ArgumentParser(description=__doc__.split("\n")[0], epilog="The trace is read on standard input.")
+    parser.add_argument("--unit", choices=UNITS, default="us", help="of the times [default: us]")
+    parser.add_argument("--cut", action="store_true", help="take a trace that is cut off up to its last whole element")
+    return parser.parse_args()
+
+
+def main():
+    asked = words()
+    source_file = io.TextIOWrapper(sys.stdin.buffer, encoding="utf-8", errors="surrogateescape", newline="")
+    out = io.TextIOWrapper(sys.stdout.buffer, encoding="utf-8", newline="")
+    source, converter = Source(source_file, out.write, parse_float=Decimal), Converter(UNITS[asked.unit])
+    try:
+        cut = copy(source, converter, asked.cut)
         out.flush()
-    except (NoTrace, UnicodeDecodeError, OSError) as error:
+    except (NoTrace, UnicodeError, OSError) as error:
         sys.exit(f"convert_trace: {error}")
+    for line in told(converter, cut):
+        print(f"convert_trace: {line}", file=sys.stderr)
+
+
+def told(converter, cut):
+    """What was changed, line by line."""
     for change, count in sorted(converter.changes.items()):
-        print(f"convert_trace: {count} {change}", file=sys.stderr)
-    if not converter.changes:
-        print("convert_trace: nothing was changed", file=sys.stderr)
+        yield f"{count} {change}"
+    if cut is not None:
+        yield f"cut off behind byte {cut}: {converter.elements} whole elements kept"
+    elif not converter.changes:
+        yield "nothing was changed"
+    if converter.unit == 1 and 0 < converter.greatest_start < 1:
+        yield "all times are below one: if they are seconds, convert with --unit s"
 
 
 if __name__ == "__main__":

@@ -6,12 +6,21 @@ import re
 MOST_BYTES = 67_108_864
 BLOCK = 1 << 20
 BLANKS = re.compile(r"[ \t\r\n]*")
+STRING = re.compile(r'"(?:[^"\\]|\\.)*"', re.DOTALL)
 IN_STRING = re.compile(r'[^"\\]+')
 OUT_OF_STRING = re.compile(r'[^"{}\[\]]+')
 
 
 class NoTrace(Exception):
     """Why a text is not a trace that can be read so."""
+
+
+class Cut(NoTrace):
+    """A text is cut off within an element, or within the object around them. `at` is the byte at which the last whole one ends."""
+
+    def __init__(self, at):
+        super().__init__(f"not JSON: it is cut off behind byte {at}")
+        self.at = at
 
 
 def refuse_constant(name):
@@ -25,12 +34,40 @@ class Source:
     def __init__(self, file, put=lambda text: None, parse_float=None):
         self.file, self.put = file, put
         self.text, self.at, self.told, self.ended = "", 0, 0, False
+        # What was passed since `hold`, until `release`, and how many bytes were read.
+        self.held, self.read = None, 0
+        # What closes the text where it stands, once its elements have begun.
+        self.closers = None
         self.decode = json.JSONDecoder(parse_constant=refuse_constant, parse_float=parse_float).raw_decode
 
     def tell(self):
-        """Puts what was passed since the last time."""
-        self.put(self.text[self.told : self.at])
+        """Puts what was passed since the last time, or holds it."""
+        passed = self.text[self.told : self.at]
+        if self.held is None:
+            self.put(passed)
+        else:
+            self.held.append(passed)
         self.told = self.at
+
+    def hold(self):
+        """From here on nothing is put, until it is known that more comes whole."""
+        self.tell()
+        self.held = []
+
+    def release(self):
+        """Puts what was held."""
+        if self.held is not None:
+            self.put("".join(self.held))
+        self.held = None
+
+    def cut(self):
+        """The text ends where more is meant."""
+        return Cut(self.read - size("".join(self.held or []) + self.text[self.told :]))
+
+    def close(self):
+        """Closes the text behind what was put."""
+        self.held, self.told = None, self.at
+        self.put(self.closers)
 
     def fill(self):
         """Reads on, as much as is still in hand, or a block; false at the end."""
@@ -38,6 +75,7 @@ class Source:
         self.text = self.text[self.at :]
         self.at = self.told = 0
         more = self.file.read(max(BLOCK, len(self.text)))
+        self.read += size(more)
         self.text += more
         self.ended = not more
         return not self.ended
@@ -71,7 +109,8 @@ class Source:
                 value, end = self.decode(self.text, self.at)
             except (ValueError, RecursionError) as error:
                 if len(self.text) - self.at > MOST_BYTES or not self.fill():
-                    raise NoTrace(f"not JSON: {error}") from error
+                    is_cut = self.ended and is_open(self.text, self.at)
+                    raise self.cut() if is_cut else NoTrace(f"not JSON: {error}") from error
                 continue
             if end < len(self.text) or self.ended or not self.fill():
                 text = self.text[self.at : end]
@@ -99,7 +138,7 @@ class Source:
             elif found:
                 self.at = OUT_OF_STRING.match(self.text, self.at).end()
             else:
-                raise NoTrace("not JSON: it ends within a value")
+                raise self.cut()
             if depth == 0:
                 return None
 
@@ -107,7 +146,7 @@ class Source:
         """Passes over the rest of a string."""
         while True:
             if self.at == len(self.text) and not self.fill():
-                raise NoTrace("not JSON: it ends within a text")
+                raise self.cut()
             found = self.text[self.at]
             if found == '"':
                 self.at += 1
@@ -116,46 +155,83 @@ class Source:
                 self.at = IN_STRING.match(self.text, self.at).end()
             elif self.at + 1 < len(self.text) or self.fill():
                 self.at += 2
+            else:
+                raise self.cut()
 
 
-def elements_of_array(source, may_be_cut):
-    """The elements of an array whose bracket was passed, each with its text."""
+def size(text):
+    """How many bytes a text has."""
+    return len(text.encode("utf-8", "surrogateescape"))
+
+
+def is_open(text, at):
+    """Whether the text ends within the value that begins there, by its brackets and quotes alone."""
+    depth = 0
+    while at < len(text):
+        if text[at] == '"':
+            end = STRING.match(text, at)
+            if end is None:
+                return True
+            at = end.end()
+        elif text[at] in "{}[]":
+            depth += 1 if text[at] in "{[" else -1
+            at += 1
+        else:
+            at = OUT_OF_STRING.match(text, at).end()
+        if depth <= 0:
+            return False
+    return True
+
+
+def elements_of_array(source, closers):
+    """The elements of an array whose bracket was passed, each with its text. One that stands alone need not be closed."""
+    source.closers = closers
+    source.tell()
     if source.take("]"):
         return
     separator = ","
     while separator == "," and source.peek():
-        yield source.value()
+        element = source.value()
+        source.release()
+        yield element
+        source.hold()
         separator = source.next()
-    if separator != "]" and not (may_be_cut and separator in ("", ",")):
+    if separator in ("", ",") and closers != "]":
+        raise source.cut()
+    source.release()
+    if separator not in ("", ",", "]"):
         raise NoTrace("not JSON: an array has no end")
 
 
 def elements_of_object(source):
     """The elements of the member `traceEvents` of an object whose brace was passed; its other members are passed over."""
-    found, ended = False, source.take("}")
+    ended = source.take("}")
     while not ended:
-        source.peek()
-        name, _ = source.value()
+        name = source.peek() and source.value()[0]
         if not isinstance(name, str) or not source.take(":"):
-            raise NoTrace("not JSON: a member has no name")
+            raise NoTrace("not JSON: a member has no name") if source.peek() else source.cut()
         if name != "traceEvents":
             source.skip()
-        elif found or not source.take("["):
+        elif source.closers or not source.take("["):
             raise NoTrace("its traceEvents are no array, or stand twice")
         else:
-            found = True
-            yield from elements_of_array(source, may_be_cut=False)
+            yield from elements_of_array(source, "]}")
+        if source.closers:
+            source.closers = "}"
+            source.release()
+            source.hold()
         ended = source.take("}")
         if not ended and not source.take(","):
-            raise NoTrace("not JSON: an object has no end")
-    if not found:
+            raise NoTrace("not JSON: an object has no end") if source.peek() else source.cut()
+    source.release()
+    if not source.closers:
         raise NoTrace("an object without traceEvents")
 
 
 def elements_of(source):
     """The elements of a trace of either form, each with its text, as tracebook reads them."""
     if source.take("["):
-        yield from elements_of_array(source, may_be_cut=True)
+        yield from elements_of_array(source, "]")
         source.take(",")
     elif source.take("{"):
         yield from elements_of_object(source)
