@@ -46,6 +46,13 @@ HasEnded-le run ended = dite (ℕ_discrete run.status 2)
     let below : run.status < 2 = rw ended.status (status_of-lt run.ends.items run.asked run.sealing (λ two. other (ended.status ∙ two))) in
     omega (arith, below))
 
+-- the greater of two that are at most 2
+pub greater-le : (a b : ℕ) → a ≤ 2 → b ≤ 2 → greater a b ≤ 2
+greater-le a b a_le b_le = elim (greater-is a b).2 [
+  | inl is ↦ rw is a_le
+  | inr is ↦ rw is b_le
+]
+
 -- two runs of which neither ended with 2
 pub greater-lt : (a b : ℕ) → a ≤ 2 → b ≤ 2 → (greater a b ≡ 2 → ⊥) → greater a b < 2
 greater-lt a b a_le b_le other = by (greater a b) (greater-is a b).2 other

@@ -1,3 +1,4 @@
 mod Compared
+mod FaultLines
 mod Files
 mod Parts

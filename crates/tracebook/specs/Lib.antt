@@ -1,4 +1,5 @@
 pub mod Comparison
+pub mod FaultLines
 pub mod Inputs
 pub mod Request
 pub mod Source

@@ -2,20 +2,19 @@
 ghost use Rattle.std.specs.Prelude.{◌≡◌, IfOk, IfErr};
 ghost use Rattle.tracebook.specs.Comparison.{ComparisonLeaves, IsComparisonOf, greater};
 
-use span_collect::{Collected, Input, RunEnd, RunError, Settings, collect_to_ledger};
+use span_collect::{Collected, Input, RunError, Settings, collect_to_ledger};
 use span_report::comparisons::write_comparison;
 use span_report::{Sink, WriteFault};
 use std::alloc::Global;
-use std::mem::forget;
 use std::random::RandomSource;
 use std::sync::Wait;
 use std::thread::Threads;
 
-// How the run of the base's files ended, and that of the others.
+// What was collected of the base's files, and of the others.
 #[derive(Drop)]
 pub(crate) struct Compared {
-    pub(crate) base: RunEnd,
-    pub(crate) other: RunEnd,
+    pub(crate) base: Collected,
+    pub(crate) other: Collected,
 }
 
 // The greater of two statuses.
@@ -35,7 +34,7 @@ pub(crate) fn run_comparison<O: Sink, R: Threads + Wait + RandomSource + Sync>(
     out: &mut O,
 ) -> Result<Compared, RunError>
     ensures run { IfOk result
-        (λ compared. IsComparisonOf base.now files.now settings.now compared.base compared.other (O.state out.old) (O.state out.new)) }
+        (λ compared. IsComparisonOf base.now files.now settings.now compared.base.end compared.other.end (O.state out.old) (O.state out.new)) }
     ensures error { IfErr result
         (λ error. ComparisonLeaves error base.now files.now settings.now (O.state out.old) (O.state out.new)) }
 {
@@ -48,24 +47,17 @@ pub(crate) fn run_comparison<O: Sink, R: Threads + Wait + RandomSource + Sync>(
         Err(refusal) => return Err(refusal),
     };
     if greater(earlier.end.status, later.end.status) == 2 {
-        return Ok(ended(earlier, later));
+        return Ok(Compared {
+            base: earlier,
+            other: later,
+        });
     }
     match write_comparison(alloc, &earlier.ledger, &later.ledger, out) {
-        Ok(()) => Ok(ended(earlier, later)),
+        Ok(()) => Ok(Compared {
+            base: earlier,
+            other: later,
+        }),
         Err(WriteFault::Memory) => Err(RunError::Memory),
         Err(WriteFault::Output { written }) => Err(RunError::Output { written }),
-    }
-}
-
-// How two runs ended. The program ends next, and then the system frees all at once, where freeing one by one takes long.
-fn ended(base: Collected, other: Collected) -> Compared
-    ensures base { result.base ≡ base.end }
-    ensures other { result.other ≡ other.end }
-{
-    forget(base.ledger);
-    forget(other.ledger);
-    Compared {
-        base: base.end,
-        other: other.end,
     }
 }

@@ -3,7 +3,7 @@ ghost use Rattle.std.specs.Prelude.{◌≡◌, [], ◌∷◌, ◌++◌, IfOk, On
 ghost use Rattle.tracebook.specs.Source.{AreFirst};
 ghost use Rattle.tracebook.specs.Inputs.{AreFiles, AreInputs, most_read};
 
-use crate::source::{Source, SourceFault};
+use crate::source::{Reason, Source, SourceFault};
 use span_collect::Input;
 use span_event::Text;
 use std::alloc::Global;
@@ -14,7 +14,7 @@ const MOST_READ: u64 = 67_108_865;
 /// Why the files were not all read.
 #[derive(Drop)]
 pub(crate) enum Unread {
-    NotOpened(Text),
+    NotOpened(Text, Reason),
     Memory,
 }
 
@@ -98,7 +98,7 @@ fn input_of(name: Text, read: Result<Vec<u8>, SourceFault>) -> Result<Input, Unr
 {
     match read {
         Ok(bytes) => Ok(Input { name, bytes }),
-        Err(SourceFault::NotOpened) => Err(Unread::NotOpened(name)),
+        Err(SourceFault::NotOpened(reason)) => Err(Unread::NotOpened(name, reason)),
         Err(SourceFault::Memory) => Err(Unread::Memory),
     }
 }

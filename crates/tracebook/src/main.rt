@@ -3,6 +3,8 @@
 
 mod command;
 mod comparison;
+mod faults;
+mod hints;
 mod inputs;
 mod program;
 mod progress;
@@ -12,22 +14,28 @@ mod view;
 
 ghost use Rattle.std.specs.Prelude.{None};
 
+use faults::Faults;
 use program::perform;
 use progress::{Cleared, Progress, Watched};
-use reading::read_up_to;
+use reading::{read_up_to, reason_of};
 use source::{Source, SourceFault};
 use span_event::Text;
-use span_report::Writer;
+use span_report::{Sink, SinkFault, Writer};
 use std::fs::File;
 use std::io::{ErrorKind, IsTerminal};
 use std::process::ExitCode;
 use std::{env, io};
+
+// Said before standard input is read from a terminal.
+const AT_TERMINAL: &str =
+    "hint: reading a trace from the terminal; --help shows how to name a file\n";
 
 // The real files and standard input.
 #[derive(Drop)]
 struct Host<'a> {
     rt: &'a HostRuntime,
     progress: Progress<'a>,
+    takes_hints: bool,
 }
 
 impl<'a> Source for Host<'a> {
@@ -35,17 +43,22 @@ impl<'a> Source for Host<'a> {
     ghost bytes = { λ host. record { standard = None; file = λ name. None } };
 
     fn standard(&mut self, most: u64) -> Result<Vec<u8>, SourceFault> {
+        let stdin = self.rt.stdin();
+        if self.takes_hints && stdin.is_terminal() {
+            let _ = eprint!(self.rt; "{AT_TERMINAL}");
+        }
         self.progress.open(0);
         let mut reader = Watched {
-            inner: self.rt.stdin(),
+            inner: stdin,
             progress: &mut self.progress,
         };
         read_up_to(self.rt.alloc(), &mut reader, most as usize)
     }
 
     fn file(&mut self, name: &Text, most: u64) -> Result<Vec<u8>, SourceFault> {
-        let Ok(file) = File::open(self.rt, name.as_str()) else {
-            return Err(SourceFault::NotOpened);
+        let file = match File::open(self.rt, name.as_str()) {
+            Ok(file) => file,
+            Err(error) => return Err(SourceFault::NotOpened(reason_of(&error))),
         };
         let size = match file.metadata() {
             Ok(metadata) => metadata.len(),
@@ -83,18 +96,61 @@ fn fail_without_words(rt: &HostRuntime, error: io::Error) -> ExitCode {
     ExitCode::from(2)
 }
 
+// Standard error.
+#[derive(Drop)]
+struct Errors<O: Sink> {
+    out: O,
+    is_terminal: bool,
+}
+
+impl<O: Sink> Sink for Errors<O> {
+    ghost state = { λ e. O.state e.out };
+
+    fn put(&mut self, bytes: &[u8]) -> Result<usize, SinkFault> {
+        self.out.put(bytes)
+    }
+
+    fn finish(&mut self) -> Result<(), SinkFault> {
+        self.out.finish()
+    }
+}
+
+impl<O: Sink> Faults for Errors<O> {
+    fn takes_hints(&self) -> bool {
+        self.is_terminal
+    }
+}
+
+// Whether a terminal is to get plain text alone, by the environment's customs.
+fn is_plain(rt: &HostRuntime) -> bool {
+    let is_dumb = match env::var(rt, "TERM") {
+        Ok(name) => name.as_str() == "dumb",
+        Err(_) => false,
+    };
+    let has_no_color = match env::var(rt, "NO_COLOR") {
+        Ok(value) => !value.is_empty(),
+        Err(_) => false,
+    };
+    is_dumb || has_no_color
+}
+
 fn main(rt: HostRuntime) -> ExitCode {
     let words = match words(&rt) {
         Ok(words) => words,
         Err(error) => return fail_without_words(&rt, error),
     };
     let is_terminal = rt.stderr().is_terminal();
+    let shows_progress = is_terminal && !is_plain(&rt);
     let mut source = Host {
         rt: &rt,
-        progress: Progress::new(&rt, is_terminal),
+        progress: Progress::new(&rt, shows_progress),
+        takes_hints: is_terminal,
     };
-    let mut out = Writer::new(Cleared::new(&rt, rt.stdout(), is_terminal));
-    let mut faults = Cleared::new(&rt, rt.stderr(), is_terminal);
+    let mut out = Writer::new(Cleared::new(&rt, rt.stdout(), shows_progress));
+    let mut faults = Errors {
+        out: Writer::new(Cleared::new(&rt, rt.stderr(), shows_progress)),
+        is_terminal,
+    };
     let status = perform(&rt, rt.alloc(), &words, &mut source, &mut out, &mut faults);
     ExitCode::from(status)
 }

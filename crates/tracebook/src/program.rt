@@ -4,25 +4,23 @@ ghost use Rattle.tracebook.specs.Request.{Asked, EndsWith, LeavesPart, Collects,
 
 use crate::command::{Request, request_of};
 use crate::comparison::{greater, run_comparison};
-use crate::inputs::{Unread, inputs_of, pair_of};
+use crate::faults::{FAILED, Faults, fail, fail_run, fail_unread, put_hints, report_faults, say};
+use crate::inputs::{inputs_of, pair_of};
 use crate::source::Source;
 use crate::view::{View, run_view};
-use span_collect::{Input, RunEnd, Settings, fault_line_of, fault_lines, numbered_text};
+use span_collect::{Input, Settings};
 use span_event::{Fault, Text};
 use span_report::{Sink, write_bytes};
 use std::alloc::Global;
-use std::io::Write;
 use std::mem::forget;
 use std::random::RandomSource;
 use std::sync::Wait;
 use std::thread::Threads;
 
-const FAILED: u8 = 2;
-
 /// Does what the words ask for, which leave out the program's own name, and gives the exit status: 0 where all files were read, 1
 /// where one was refused, else 2. Files are read in the order of their names; the first that cannot be read decides. A failed
 /// write to `faults` changes no status. Waits for the workers, of which each file has one.
-pub fn perform<R: Threads + Wait + RandomSource + Sync, S: Source, O: Sink, F: Write>(
+pub fn perform<R: Threads + Wait + RandomSource + Sync, S: Source, O: Sink, F: Faults>(
     rt: &R,
     alloc: Global,
     words: &[Text],
@@ -42,7 +40,7 @@ pub fn perform<R: Threads + Wait + RandomSource + Sync, S: Source, O: Sink, F: W
     }
 }
 
-fn perform_request<R: Threads + Wait + RandomSource + Sync, S: Source, O: Sink, F: Write>(
+fn perform_request<R: Threads + Wait + RandomSource + Sync, S: Source, O: Sink, F: Faults>(
     rt: &R,
     alloc: Global,
     request: Request,
@@ -72,14 +70,14 @@ fn perform_request<R: Threads + Wait + RandomSource + Sync, S: Source, O: Sink, 
             if shown.is_ok() { 0 } else { FAILED }
         }
         Request::Refuse(text) => {
-            let status = put_faults(faults, text.as_bytes(), FAILED);
+            say(text.as_bytes(), faults);
             drop(text);
-            status
+            FAILED
         }
     }
 }
 
-fn collect_files<R: Threads + Wait + RandomSource + Sync, S: Source, O: Sink, F: Write>(
+fn collect_files<R: Threads + Wait + RandomSource + Sync, S: Source, O: Sink, F: Faults>(
     rt: &R,
     alloc: Global,
     settings: &Settings,
@@ -106,7 +104,7 @@ fn collect_files<R: Threads + Wait + RandomSource + Sync, S: Source, O: Sink, F:
     }
 }
 
-fn compare_files<R: Threads + Wait + RandomSource + Sync, S: Source, O: Sink, F: Write>(
+fn compare_files<R: Threads + Wait + RandomSource + Sync, S: Source, O: Sink, F: Faults>(
     rt: &R,
     alloc: Global,
     settings: &Settings,
@@ -133,7 +131,7 @@ fn compare_files<R: Threads + Wait + RandomSource + Sync, S: Source, O: Sink, F:
     }
 }
 
-fn compare<R: Threads + Wait + RandomSource + Sync, O: Sink, F: Write>(
+fn compare<R: Threads + Wait + RandomSource + Sync, O: Sink, F: Faults>(
     rt: &R,
     alloc: Global,
     settings: &Settings,
@@ -150,16 +148,19 @@ fn compare<R: Threads + Wait + RandomSource + Sync, O: Sink, F: Write>(
 {
     match run_comparison(rt, alloc, base, files, settings, out) {
         Ok(compared) => {
-            let earlier = report_faults(alloc, base, &compared.base, faults);
-            let later = report_faults(alloc, files, &compared.other, faults);
-            drop(compared);
+            let earlier = report_faults(alloc, base, &compared.base.end, faults);
+            let later = report_faults(alloc, files, &compared.other.end, faults);
+            put_hints(alloc, base, &compared.base, faults);
+            put_hints(alloc, files, &compared.other, faults);
+            // The program ends next, and then the system frees all at once, where freeing one by one takes long.
+            forget(compared);
             greater(earlier, later)
         }
-        Err(error) => fail(alloc, error.code(), faults),
+        Err(error) => fail_run(alloc, error.code(), faults),
     }
 }
 
-fn collect<R: Threads + Wait + RandomSource + Sync, O: Sink, F: Write>(
+fn collect<R: Threads + Wait + RandomSource + Sync, O: Sink, F: Faults>(
     rt: &R,
     alloc: Global,
     settings: &Settings,
@@ -174,76 +175,12 @@ fn collect<R: Threads + Wait + RandomSource + Sync, O: Sink, F: Write>(
 {
     match run_view(rt, alloc, files, settings, view, out) {
         Ok(collected) => {
+            let status = report_faults(alloc, files, &collected.end, faults);
+            put_hints(alloc, files, &collected, faults);
             // The program ends next, and then the system frees all at once, where freeing one by one takes long.
-            forget(collected.ledger);
-            report_faults(alloc, files, &collected.end, faults)
-        }
-        Err(error) => fail(alloc, error.code(), faults),
-    }
-}
-
-// Writes the lines of files that were not read whole, and one where a seal was not taken, and gives the status of the run; or 2,
-// where memory for the lines is refused. Where every file was read and all is sealed there is no line.
-fn report_faults<F: Write>(alloc: Global, files: &[Input], end: &RunEnd, faults: &mut F) -> u8
-    requires lines { length files.now ≡ length end.now.ends.items }
-    requires status { end.now.status ≤ 2 }
-    ensures status { (result ≡ end.now.status) ⊎ (result ≡ 2) }
-    ensures whole { end.now.status ≡ 0 → result ≡ 0 }
-{
-    if end.status == 0 {
-        return 0;
-    }
-    match fault_lines(alloc, files, &end.ends) {
-        Ok(lines) => {
-            let status = put_faults(faults, &lines, end.status);
-            drop(lines);
-            match end.sealing.cause {
-                Some(cause) => fail(alloc, cause.code(), faults),
-                None => status,
-            }
-        }
-        Err(_) => fail(alloc, Fault::Memory.code(), faults),
-    }
-}
-
-// Writes these lines, and gives the status, which a failed write leaves as it is.
-fn put_faults<F: Write>(faults: &mut F, lines: &[u8], status: u8) -> u8
-    ensures { result ≡ status }
-{
-    let _ = faults.write_all(lines);
-    status
-}
-
-// Says that the program as a whole failed.
-fn fail<F: Write>(alloc: Global, code: u16, faults: &mut F) -> u8
-    ensures { result ≡ 2 }
-{
-    if let Ok(fault) = numbered_text(alloc, code) {
-        let _ = writeln!(faults, "tracebook: {fault}");
-    }
-    FAILED
-}
-
-// Says why the files were not all read.
-fn fail_unread<F: Write>(alloc: Global, unread: Unread, faults: &mut F) -> u8
-    ensures { result ≡ 2 }
-{
-    match unread {
-        Unread::Memory => fail(alloc, Fault::Memory.code(), faults),
-        Unread::NotOpened(name) => {
-            let status = fail_at(alloc, &name, faults);
-            drop(name);
+            forget(collected);
             status
         }
-    }
-}
-
-// Says that a file could not be read.
-fn fail_at<F: Write>(alloc: Global, name: &Text, faults: &mut F) -> u8
-    ensures { result ≡ 2 }
-{
-    match fault_line_of(alloc, name, Fault::NotOpened.code()) {
-        Ok(line) => put_faults(faults, line.as_bytes(), FAILED),
-        Err(_) => fail(alloc, Fault::Memory.code(), faults),
+        Err(error) => fail_run(alloc, error.code(), faults),
     }
 }

@@ -2,9 +2,9 @@
 ghost use Rattle.std.specs.Prelude.{◌≡◌, ◌+◌, ◌<◌, ◌≤◌, length, vec_len, IfOk};
 ghost use Rattle.tracebook.specs.Source.{AreFirst, Brings};
 
-use crate::source::SourceFault;
+use crate::source::{Reason, SourceFault};
 use std::alloc::Global;
-use std::io::Read;
+use std::io::{self, ErrorKind, Read};
 
 const CHUNK: usize = 65_536;
 
@@ -14,6 +14,16 @@ fn chunk_of(alloc: Global, size: usize) -> Result<Vec<u8>, SourceFault>
     match vec![in alloc; 0u8; size] {
         Ok(chunk) => Ok(chunk),
         Err(_) => Err(SourceFault::Memory),
+    }
+}
+
+/// What the error says of a file.
+pub(crate) fn reason_of(error: &io::Error) -> Reason {
+    match error.kind() {
+        ErrorKind::NotFound => Reason::Missing,
+        ErrorKind::PermissionDenied => Reason::Denied,
+        ErrorKind::IsADirectory => Reason::Folder,
+        _ => Reason::Other,
     }
 }
 
@@ -28,8 +38,9 @@ fn read_some<R: Read>(
     ensures within { IfOk result (λ count. count ≤ length chunk.old) }
     ensures count { IfOk result (λ count. vec_len bytes.new ≡ vec_len bytes.old + count) }
 {
-    let Ok(count) = reader.read(chunk) else {
-        return Err(SourceFault::NotOpened);
+    let count = match reader.read(chunk) {
+        Ok(count) => count,
+        Err(error) => return Err(SourceFault::NotOpened(reason_of(&error))),
     };
     match bytes.extend_from_slice(&chunk[..count]) {
         Ok(()) => Ok(count),

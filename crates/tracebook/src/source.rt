@@ -4,11 +4,32 @@ ghost use Rattle.tracebook.specs.Source.{AreFirst, SourceBytes};
 
 use span_event::Text;
 
+/// What the system says of a file that could not be read.
+#[derive(Clone, Copy)]
+pub enum Reason {
+    Missing,
+    Denied,
+    Folder,
+    Other,
+}
+
+impl Reason {
+    /// The reason in words.
+    pub fn text(self) -> &'static str {
+        match self {
+            Reason::Missing => "there is no such file",
+            Reason::Denied => "it may not be read by this user",
+            Reason::Folder => "it is a folder",
+            Reason::Other => "reading it failed",
+        }
+    }
+}
+
 /// Why a file could not be read.
-#[derive(Clone, Copy, Debug, PartialEq, Eq)]
+#[derive(Clone, Copy)]
 pub enum SourceFault {
     /// 52: the file could not be opened, or a read failed or was interrupted.
-    NotOpened,
+    NotOpened(Reason),
     /// 31: memory was refused.
     Memory,
 }

@@ -7,14 +7,14 @@ pub returns-in-Ok-write_comparison-clause-run : goal.returns-in-Ok-write_compari
 returns-in-Ok-write_comparison-clause-run g c =
     let earlier = c.in-Ok in
     let later = c.in-Ok-collect_to_ledger in
-    rw (c.ended-in-Ok-write_comparison.ensures.base, c.ended-in-Ok-write_comparison.ensures.other) (record {
+    record {
       base_journal = earlier.earlier.ledger.journal;
       journal = later.later.ledger.journal;
       base_ended = record { account = earlier.ensures.account; status = earlier.ensures.status };
       ended = record { account = later.ensures.account; status = later.ensures.status };
       written = λ below. c.in-Ok-write_comparison.ensures.ok;
       silent = λ two. absurd (c.if-greater-eq2.false (c.greater.ensures ∙ two));
-    })
+    }
 
 -- the output failed in what changed
 pub returns-clause-error : goal.returns-clause-error

@@ -1,0 +1,24 @@
+-- What is said of runs that failed.
+use Rattle.std.proofs.Common.{◌≡◌, ◌≤◌, ℕ, ◌⊎◌, List, inl, inr, sym, ◌∙◌, arith}
+use mathlib.Core.Logic.{dite}
+use native.Mathlib.Decide.{ℕ_discrete}
+use Rattle.span_report.specs.Sink.{SinkState}
+use Rattle.span_collect.specs.declared.files.Input.{Input}
+use Rattle.span_collect.specs.declared.runs.RunEnd.{RunEnd}
+use Rattle.tracebook.specs.FaultLines.{Reports}
+
+-- the status that is given is the run's, or 2
+pub Reports-status : {files : List Input} {run : RunEnd} {status : ℕ} {old new : SinkState} → Reports files run status old new → (status ≡ run.status) ⊎ (status ≡ 2)
+Reports-status {run = run} {status = status} reports = dite (ℕ_discrete run.status 0)
+    (λ (none : run.status ≡ 0). inl ((reports.silent none).0 ∙ sym none))
+    (λ (some : ¬ (run.status ≡ 0)). elim (reports.said some) [
+      | inl told ↦ inl told.0
+      | inr told ↦ inr told.0
+    ])
+
+-- no more than 2 is given
+pub Reports-le : {files : List Input} {run : RunEnd} {status : ℕ} {old new : SinkState} → Reports files run status old new → run.status ≤ 2 → status ≤ 2
+Reports-le reports le = elim (Reports-status reports) [
+  | inl same ↦ omega (arith, same, le)
+  | inr two ↦ omega (arith, two)
+]

@@ -1,0 +1,42 @@
+-- What is said where files or runs failed.
+use Rattle.std.specs.Prelude.{◌≡◌, ◌≢◌, ℕ, ◌≤◌, ◌⊎◌, List, [], ◌∷◌, ◌++◌, length, take, codes, Option, Some, None}
+use Rattle.span_event.specs.declared.fault.Fault.TheVariants.{Memory, NotOpened}
+use Rattle.span_event.specs.Fault.{number_of}
+use Rattle.span_ledger.specs.Refusal.{code_of}
+use Rattle.span_ledger.specs.declared.refusal.Cause.{Cause}
+use Rattle.span_report.specs.Sink.{SinkState, TakesBytes, Fails}
+use Rattle.span_collect.specs.declared.files.Input.{Input}
+use Rattle.span_collect.specs.declared.runs.RunEnd.{RunEnd}
+use Rattle.span_collect.specs.FaultLines.{end_lines, fault_line}
+use Rattle.span_collect.specs.Words.{numbered}
+
+-- the line of a run as a whole
+abbrev pub run_line : ℕ → List ℕ
+run_line code = codes "tracebook: " ++ (numbered code ++ 10 ∷ [])
+
+-- the line of a seal that was not taken
+abbrev pub seal_line : Option Cause → List ℕ
+seal_line None = []
+seal_line (Some cause) = run_line (code_of cause)
+
+-- the line of a file that could not be read
+abbrev pub unread_line : List ℕ → List ℕ
+unread_line name = fault_line name (number_of NotOpened)
+
+-- the lines of a run's files, and that of a seal
+abbrev pub fault_text : List Input → RunEnd → List ℕ
+fault_text files run = end_lines files run.ends.items ++ seal_line run.sealing.cause
+
+-- the text was written, or the output failed after its first bytes
+abbrev pub Says : List ℕ → SinkState → SinkState → Type 0
+Says text old new = TakesBytes old new text ⊎ ((written : ℕ) × (written ≤ length text) × Fails old new (take written text))
+
+-- the text was written, or memory for it was refused, which is said instead
+abbrev pub SaysOrMemory : List ℕ → SinkState → SinkState → Type 0
+SaysOrMemory text old new = Says text old new ⊎ Says (run_line (number_of Memory)) old new
+
+-- A run with status 0 has nothing to say. The lines of any other are written, and its status is given; or memory for them was
+-- refused, which is said instead, and 2 is given.
+pub record Reports (files : List Input) (run : RunEnd) (status : ℕ) (old new : SinkState) : Type 0 where
+  pub silent : run.status ≡ 0 → (status ≡ 0) × (new ≡ old)
+  pub said : run.status ≢ 0 → ((status ≡ run.status) × Says (fault_text files run) old new) ⊎ ((status ≡ 2) × Says (run_line (number_of Memory)) old new)
