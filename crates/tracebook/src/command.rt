@@ -14,53 +14,61 @@ use std::alloc::{AllocError, Global};
 /// The most entries of the journal, where the command line does not say.
 pub(crate) const DEFAULT_LIMIT: u32 = 16_777_216;
 
-const SEAL_HELP: &str =
-    "Close the spans that are still open at the end, each at the latest time that its thread has seen; for a trace that was cut off, not where a missing end is an error to look for";
+// Lines are broken here, since the library breaks none: each is to end within 80 columns.
+const SEAL_HELP: &str = r#"Close the spans that are still open at the end, each at the latest
+time that its thread has seen; for a trace that was cut off, not
+where a missing end is an error to look for"#;
 
-const STRICT_HELP: &str =
-    "Refuse (27) an end that names another span than the one it would close, which then stays open; for a trace that may have lost begins";
+const STRICT_HELP: &str = r#"Refuse (27) an end that names another span than the one it would
+close, which then stays open; for a trace that may have lost begins"#;
 
 const BY_WORDS: &[&str] = &["self", "total", "count"];
 
-const TOP_HELP: &str =
-    "Print the first N names of all threads instead of the report, each with its process and thread";
+const TOP_HELP: &str = r#"Print the first N names of all threads instead of the report, each
+with its process and thread"#;
 
-const BY_HELP: &str =
-    "What --top goes by: self time, total time or the number of spans [default: self]";
+const BY_HELP: &str = r#"What --top goes by: self time, total time or the number of spans
+[default: self]"#;
 
-const REFUSED_HELP: &str =
-    "Print why elements were refused instead of the report: for each file and fault how many, and which was the first";
+const REFUSED_HELP: &str = r#"Print why elements were refused instead of the report: for each
+file and fault how many, and which was the first"#;
 
-const FOLDED_HELP: &str =
-    "Print the stacks of each thread instead of the report, for viewers of flame graphs, each with its microseconds";
+const FOLDED_HELP: &str = r#"Print the stacks of each thread instead of the report, for viewers
+of flame graphs, each with its microseconds"#;
 
-const PAGE_HELP: &str =
-    "Print a page for a browser instead of the report, with its numbers as tables and a flame graph of each thread";
+const PAGE_HELP: &str = r#"Print a page for a browser instead of the report, with its numbers
+as tables and a flame graph of each thread"#;
 
-const BASE_HELP: &str =
-    "Print what changed since a run of FILE instead of the report; repeat it for several files";
+const BASE_HELP: &str = r#"Print what changed since a run of FILE instead of the report; repeat
+it for several files"#;
 
-const ABOUT: &str =
-    "Reports where the time went in trace event files of Chrome, clang, node and other tools: for each thread and span name the number of spans, their total time and their self time.";
+const ABOUT: &str = r#"Reports where the time went in trace event files of Chrome, clang, node and
+other tools: for each thread and span name the number of spans, their total time
+and their self time."#;
 
 const AFTER: &str =
-    r#"All times are whole microseconds, as Chrome, clang, node and cmake write them. An event with
-a fraction, as in Go's build traces, is refused and counted; begins and ends may then pair wrongly.
+    r#"All times are whole microseconds, as Chrome, clang, node and cmake write them.
+An event with a fraction, as in Go's build traces, is refused and counted;
+begins and ends may then pair wrongly.
 
-Several files have one report, whichever worker comes first, if no two of them have a process in
-common, nor the key of an async span or flow whose id is not local to a process.
+Several files have one report, whichever worker comes first, if no two of them
+have a process in common, nor the key of an async span or flow whose id is not
+local to a process.
 
 Status:
   0  every file was read, and the report is on standard output
-  1  a file is not a trace, which standard error says; the report of the others is on standard output
-  2  usage error, a file could not be read, out of memory, or the limit was reached: there is no report
+  1  a file is not a trace, which standard error says; the report of the others
+     is on standard output
+  2  usage error, a file could not be read, out of memory, or the limit was
+     reached: there is no report
 
 Example:
   tracebook --top 20 build.json | grep -v '"Total '
-shows the names that took the most self time, each with its process and thread, without clang's own sums."#;
+shows the names that took the most self time, each with its process and thread,
+without clang's own sums."#;
 
 /// What a command line asks for.
-#[derive(Debug, Drop)]
+#[derive(Drop)]
 pub enum Request {
     /// Collect these files, or standard input where there are none, and print this of them.
     Collect {
@@ -128,11 +136,57 @@ fn parsed_request(alloc: Global, words: &[Text]) -> Result<Request, AllocError> 
         "The most entries of the journal, 1 to 4294967295 [default: {DEFAULT_LIMIT}]"
     )?;
     let all = with_program(alloc, words)?;
-    let command = command_of(alloc, limit_help.as_str())?;
-    match command.try_get_matches_from(all.as_slice()) {
-        Ok(matches) => collect_request(alloc, &matches),
+    let mut command = command_of(alloc, limit_help.as_str())?;
+    match command.try_get_matches_from_mut(all.as_slice()) {
+        Ok(matches) => match idle_option(&matches) {
+            Some(idle) => refuse_idle(alloc, &mut command, idle),
+            None => collect_request(alloc, &matches),
+        },
         Err(error) => request_without_matches(alloc, &error),
     }
+}
+
+// An option that has an effect with some texts alone.
+#[derive(Clone, Copy)]
+struct Bound {
+    option: &'static str,
+    texts: &'static [&'static str],
+    // Says both.
+    rule: &'static str,
+}
+
+const BOUND: &[Bound] = &[Bound {
+    option: "by",
+    texts: &["top"],
+    rule: "the argument '--by <self|total|count>' goes with '--top <N>' alone",
+}];
+
+// An option that is given, and has no effect with the text that is asked for.
+fn idle_option(matches: &ArgMatches<'_>) -> Option<Bound> {
+    for bound in BOUND {
+        if matches.contains_id(bound.option) && !asks_for_any(matches, bound.texts) {
+            return Some(*bound);
+        }
+    }
+    None
+}
+
+fn asks_for_any(matches: &ArgMatches<'_>, texts: &[&str]) -> bool {
+    for text in texts {
+        if matches.contains_id(text) {
+            return true;
+        }
+    }
+    false
+}
+
+fn refuse_idle(
+    alloc: Global,
+    command: &mut Command<'_>,
+    idle: Bound,
+) -> Result<Request, AllocError> {
+    let error = command.error(ErrorKind::ArgumentConflict, idle.rule)?;
+    request_without_matches(alloc, &error)
 }
 
 // What is asked for where the words name no files: this text, or help.
@@ -152,6 +206,7 @@ fn command_of<'a>(alloc: Global, limit_help: &'a str) -> Result<Command<'a>, All
     let arguments = arguments_of(alloc, limit_help)?;
     Command::new(alloc, "tracebook")
         .version("1")
+        .next_line_help(true)
         .about(ABOUT)
         .after_help(AFTER)
         .group(views(alloc)?)?
@@ -170,7 +225,7 @@ fn arguments_of<'a>(alloc: Global, limit_help: &'a str) -> Result<Vec<Arg<'a>>, 
     arguments.push(switch(alloc, "seal", SEAL_HELP))?;
     arguments.push(switch(alloc, "strict", STRICT_HELP))?;
     arguments.push(number_option(alloc, "top", TOP_HELP))?;
-    arguments.push(by_option(alloc)?)?;
+    arguments.push(by_option(alloc))?;
     arguments.push(switch(alloc, "refused", REFUSED_HELP))?;
     arguments.push(switch(alloc, "folded", FOLDED_HELP))?;
     arguments.push(switch(alloc, "page", PAGE_HELP))?;
@@ -192,18 +247,18 @@ fn number_option<'a>(alloc: Global, name: &'a str, help: &'a str) -> Arg<'a> {
         .long(name)
         .value_name("N")
         .value_parser(clap::value_parser!(u32).range(1..))
+        .allow_negative_numbers(true)
         .action(ArgAction::Set)
         .help(help)
 }
 
-fn by_option(alloc: Global) -> Result<Arg<'static>, AllocError> {
-    let option = Arg::new(alloc, "by")
+fn by_option(alloc: Global) -> Arg<'static> {
+    Arg::new(alloc, "by")
         .long("by")
         .value_name("self|total|count")
         .value_parser(BY_WORDS)
         .action(ArgAction::Set)
-        .help(BY_HELP);
-    option.requires_arg("top")
+        .help(BY_HELP)
 }
 
 fn base_option(alloc: Global) -> Arg<'static> {

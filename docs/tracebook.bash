@@ -1,0 +1,27 @@
+# Completes the command line of tracebook in bash: its options, the words that follow them, and files.
+
+_tracebook_options="--limit --seal --strict --top --by --refused --folded --page --base --help --version"
+
+_tracebook() {
+    local word=${COMP_WORDS[COMP_CWORD]} before=${COMP_WORDS[COMP_CWORD-1]} earlier
+    COMPREPLY=()
+    # An equals sign is a word of its own.
+    if [[ $word == "=" ]]; then
+        word=
+    elif [[ $before == "=" ]]; then
+        before=${COMP_WORDS[COMP_CWORD-2]}
+    fi
+    # Behind -- every word is a file, which bash completes itself where there is no reply.
+    for earlier in "${COMP_WORDS[@]:1:COMP_CWORD-1}"; do
+        [[ $earlier == "--" ]] && return
+    done
+    case $before in
+        --by) mapfile -t COMPREPLY < <(compgen -W "self total count" -- "$word") ;;
+        --limit | --top) compopt +o default 2>/dev/null ;;
+        --base) ;;
+        *) [[ $word == -* ]] && mapfile -t COMPREPLY < <(compgen -W "$_tracebook_options" -- "$word") ;;
+    esac
+    return 0
+}
+
+complete -o default -F _tracebook tracebook
