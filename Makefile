@@ -5,43 +5,27 @@ DESTDIR ?=
 
 SOURCES := crates.txt HANDLES $(shell find crates -name out -prune -o -type f -print)
 
-.PHONY: all demo test bench install clean
+.PHONY: all demo test check bench install clean
 
 all: tracebook
 
-# The libraries that the program stands on, lowest first.
-LIBRARIES := $(shell sed '/^tracebook:/,$$d; s/:.*//' crates.txt)
-
-# Proves every crate, which takes minutes the first time, and prints each function as it is proved. From below, because the program's
-# own check would read all sources once more before it builds a library.
+# Proves every crate, which takes minutes the first time.
 tracebook: $(SOURCES)
-	set -e; for crate in $(LIBRARIES); do (cd crates/$$crate && rt lib); done
-	cd crates/tracebook && rt run < stdin
-	cp crates/tracebook/out/tracebook $@
+	scripts/build
 
-demo: tracebook
-	./tracebook < examples/page_load.json
+demo:
+	scripts/demo
 
-# The merge gate, which proves and builds everything from nothing, and then what it built: the program on each case of
-# tests/acceptance, on a large generated trace, on separate files, on the parts of split traces, on names that were chosen to collide,
-# as pages in a browser, and each read failed and each allocation refused in turn.
+# Every check: the merge gate, which proves and builds everything from nothing, and then what it built. What the checks need is
+# installed first, or said to be missing.
 test:
+	scripts/tools
 	rt ci
-	tests/acceptance/run crates/tracebook/out/tracebook
-	tests/generated_trace crates/tracebook/out/tracebook
-	tests/independent_files crates/tracebook/out/tracebook
-	tests/split_traces crates/tracebook/out/tracebook
-	tests/page_data crates/tracebook/out/tracebook
-	tests/flooded_names crates/tracebook/out/tracebook
-	tests/failed_reads crates/tracebook/out/tracebook
-	crates/span_page/page/join --check
-	tests/page crates/tracebook/out/tracebook
-	tests/converted_traces
-	tests/documented_words
-	tests/kept_names
-	tests/trusted_definitions
-	tests/refused_allocations
-	tests/terminal_line
+	tests/run crates/tracebook/out/tracebook
+
+# What a program does that is built already, without the gate.
+check:
+	tests/run
 
 # Times the reading of traces beside that of other readers, the division of a thread's time, a report beside its reading, names
 # that were chosen to collide beside ordinary ones, folded stacks beside reports, and whole runs over many threads and over several
@@ -61,7 +45,9 @@ install: tracebook
 	install -m 755 tracebook $(DESTDIR)$(PREFIX)/bin/tracebook
 	install -d $(DESTDIR)$(PREFIX)/share/man/man1
 	install -m 644 docs/tracebook.1 $(DESTDIR)$(PREFIX)/share/man/man1/tracebook.1
+	install -d $(DESTDIR)$(PREFIX)/share/bash-completion/completions
+	install -m 644 docs/tracebook.bash $(DESTDIR)$(PREFIX)/share/bash-completion/completions/tracebook
 
 clean:
-	rm -f tracebook
+	rm -f tracebook build.log demo.html
 	rm -rf crates/*/out
