@@ -63,6 +63,8 @@ pub enum Fault {
     Output = 51,
     /// 52: a file could not be opened or read.
     NotOpened = 52,
+    /// 56: the folded stacks have more names than they may.
+    StacksTooLarge = 56,
 }
 
 impl Fault {
@@ -107,6 +109,7 @@ impl Fault {
             Fault::Unaccounted => "Unaccounted",
             Fault::Output => "Output",
             Fault::NotOpened => "NotOpened",
+            Fault::StacksTooLarge => "StacksTooLarge",
         }
     }
 
@@ -145,6 +148,7 @@ impl Fault {
             43 => Fault::Unaccounted,
             51 => Fault::Output,
             52 => Fault::NotOpened,
+            56 => Fault::StacksTooLarge,
             _ => return None,
         };
         Some(fault)
