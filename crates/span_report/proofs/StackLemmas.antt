@@ -1,6 +1,9 @@
+pub mod Beginnings
 pub mod Elders
+pub mod Filling
 pub mod Folding
 pub mod Linking
+pub mod Members
 pub mod NodeTrees
 pub mod Owners
 pub mod Placing
@@ -11,4 +14,5 @@ pub mod Stretches
 pub mod Sweeping
 pub mod Tallies
 pub mod Times
+pub mod Turns
 pub mod Walking

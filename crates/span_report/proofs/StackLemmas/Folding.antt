@@ -136,7 +136,7 @@ folded_stacks-walk spans tree frames has are walk =
     ∙ walk.stacks k
     ∙ ap (nat_lt 0) (time_of-count spans tree has are k)
     ∙ count-any k stacks
-    ∙ sym (list_any-ascending stack_order-total stack_order-same k stacks) in
+    ∙ sym (list_any-ascending stack_order-total stack_order-same (same_stack k) stacks) in
     let keys : map (λ (f : Folded). f.stack) rows ≡ ascending stack_order stacks = sorted-same stack_order-total stack_order-same (map (λ (f : Folded). f.stack) rows) (ascending stack_order stacks) (stacks-sorted [] frames walk.ascending) (ascending-sorted stack_order-total stacks) member in
     let counted = AllByRecursion-map (λ (f : Folded). f.time ≡ time_of tree f.stack) (λ (f : Folded). f.time ≡ count_by (same_stack f.stack) stacks) (λ (f : Folded) (timed : f.time ≡ time_of tree f.stack). timed ∙ time_of-count spans tree has are f.stack) rows walk.times in
     rows-folded stacks rows counted ∙ ap (map (folded stacks)) keys

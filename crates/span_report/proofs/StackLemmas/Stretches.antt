@@ -1,20 +1,23 @@
 -- Which place a microsecond has among stretches, when one is added, taken off, parted or covered.
-use Rattle.std.proofs.Common.{◌≡◌, ℕ, ◌+◌, ◌-◌, ◌<◌, ◌≤◌, ℤ, ◌≤ℤ◌, ◌<ℤ◌, int_lt, Bool, true, false, cond, All, List, [], ◌∷◌, ◌++◌, length, take, drop, get_or, Option, Some, None, refl, sym, ap, subst, ◌∙◌, arith, length-append, append-nil, set}
+use Rattle.std.proofs.Common.{◌≡◌, ℕ, ◌+◌, ◌-◌, ◌<◌, ◌≤◌, ℤ, ◌≤ℤ◌, ◌<ℤ◌, ◌-ℤ◌, pos, int_lt, Bool, true, false, cond, All, List, [], ◌∷◌, ◌++◌, length, map, take, drop, get_or, Option, Some, None, refl, sym, ap, subst, ◌∙◌, arith, length-append, append_assoc, append-nil, set}
 use Rattle.std.specs.Prelude.{fold, slice_get}
 use Rattle.span_keyed_tracks.specs.Last.{last_of}
 use Rattle.std.specs.Option.{option_and_then}
 use borrow.Rule.Slice.PartMut.{post_of}
 use Rattle.std.proofs.lemmas.Int.{ints}
-use Rattle.std.proofs.lemmas.List.{drop-drop, drop-set-lt, drop_all, drop_at, get_or-drop, length-drop, length-take-le, take-append-drop, take_at, take_more, take_more_set}
+use Rattle.std.proofs.lemmas.List.{drop-drop, drop-set-lt, drop_all, drop_at, get_or-drop, get_or-map, length-drop, length-map, length-take-le, map-append, take-append-drop, take_at, take_more, take_more_set}
 use Rattle.std.proofs.lemmas.List.Elements.{All-cons, All-head, All-nil, All-set, All-tail}
 use Rattle.std.proofs.lemmas.List.Sums.{fold-append, fold_push}
 use Rattle.span_event.specs.Text.{Bytes}
 use Rattle.span_keyed_tracks.proofs.Lists.Last.{All-last_of, last_of-append, take-last}
 use Rattle.span_self_time.proofs.Counts.{int_lt-above, int_lt-below}
 use Rattle.span_report.specs.declared.stacks.sweep.Stretch.{Stretch}
-use Rattle.span_report.specs.Stacks.Sweep.{AreCovered, CoversFirst, EndsAt, IsPartedAt, ReachTo, Swept, nearest_place, place_at}
-use Rattle.span_report.specs.Stacks.Tree.{Extends, IsChild, IsPlace, Tree, stack_of}
+use Rattle.span_report.specs.Stacks.Microseconds.{Stack}
+use Rattle.span_report.specs.Stacks.Sweep.{AreCovered, CoversFirst, EndsAt, FallTo, IsPartedAt, LastsBeyond, ReachTo, Swept, covered_stacks, ends_of, nearest_place, place_at, with_covered}
+use Rattle.span_report.specs.Stacks.Tree.{Extends, Has, HasEach, IsChild, IsPlace, Tree, stack_of, with_child}
+use Rattle.span_report.proofs.StackLemmas.Members.{HasEach-append, HasEach-cons, HasEach-none, has-at, has-left, has-right}
 use Rattle.span_report.proofs.StackLemmas.NodeTrees.{Extends-same}
+use Rattle.span_report.proofs.StackLemmas.Turns.{FallTo-back, FallTo-beyond, FallTo-between, FallTo-front, below-all}
 
 -- the place of u after one more stretch
 abbrev place_after : ℤ → Option ℕ → Stretch → Option ℕ
@@ -167,6 +170,9 @@ module _ (xs : List Stretch) (n : ℕ) (s : Stretch) (some : 0 < n) (within : n 
       let next : n ≡ (n - 1) + 1 = omega (arith, some) in
       ap (λ m. take m xs) next ∙ take_more xs (n - 1) s (omega (arith, some, within)) ∙ ap (λ x. take (n - 1) xs ++ x ∷ []) (sym read)
 
+  pub last_of-take : last_of (take n xs) ≡ Some s
+  last_of-take = ap last_of take-last_of ∙ last_of-append (take (n - 1) xs) s
+
   pub nearest_place-take : nearest_place (take n xs) ≡ s.place
   nearest_place-take = ap nearest_place take-last_of ∙ nearest_place-push (take (n - 1) xs) s
 
@@ -192,13 +198,15 @@ IsPartedAt-there sweep until first ends before = record {
   places = λ u. refl;
   time = refl;
   tree = refl;
+  turns = λ falls. falls;
 }
 
 -- and where one is put in, which has the place of that behind it
 pub IsPartedAt-insert : (sweep : Swept) (s : Stretch) (first : ℕ) → first ≤ length sweep.stretches → All (λ t. t.until ≤ℤ s.until) (drop first sweep.stretches) →
     ((u : ℤ) → u <ℤ s.until → place_at (take first sweep.stretches) u ≡ nearest_place (take first sweep.stretches)) → s.place ≡ nearest_place (take first sweep.stretches) →
+    sweep.time <ℤ s.until → LastsBeyond s.until (take first sweep.stretches) → (EndsAt s.until (drop first sweep.stretches) → ⊥) →
     IsPartedAt s.until first sweep (record { time = sweep.time; stretches = take first sweep.stretches ++ s ∷ drop first sweep.stretches; tree = sweep.tree })
-IsPartedAt-insert sweep s first within before beyond own =
+IsPartedAt-insert sweep s first within before beyond own later lasts apart =
     let xs = take first sweep.stretches in
     let ys = drop first sweep.stretches in
     let many = length-take-le first sweep.stretches within in
@@ -208,6 +216,11 @@ IsPartedAt-insert sweep s first within before beyond own =
       places = λ u. place_at-parted xs ys s u own beyond ∙ ap (λ l. place_at l u) (take-append-drop first sweep.stretches);
       time = refl;
       tree = refl;
+      turns = λ falls.
+          let both = subst (FallTo sweep.time) (sym (ap ends_of (take-append-drop first sweep.stretches)) ∙ map-append (λ (t : Stretch). t.until) xs ys) falls in
+          let below = FallTo-back sweep.time (ends_of xs) (ends_of ys) both in
+          subst (FallTo sweep.time) (sym (map-append (λ (t : Stretch). t.until) xs (s ∷ ys)))
+          (FallTo-between sweep.time s.until (ends_of xs) (ends_of ys) later (FallTo-beyond sweep.time s.until xs (FallTo-front sweep.time (ends_of xs) (ends_of ys) both) lasts) (below-all sweep.time s.until ys below before apart) below);
     }
 
 head_left : (xs ys : List Stretch) (n : ℕ) (d : Stretch) → drop n xs ≡ drop n ys → get_or xs n d ≡ get_or ys n d
@@ -217,12 +230,24 @@ head_left xs ys n d same =
 
 -- nothing is covered yet
 pub CoversFirst-none : (tree : Tree) (name : Bytes) (xs : List Stretch) → length tree.times ≡ length tree.stacks → All (λ s. IsPlace tree s.place) xs → CoversFirst 0 tree tree name xs xs
-CoversFirst-none tree name xs even places = record { extends = Extends-same tree even; places = places; covered = tt; others = refl }
+CoversFirst-none tree name xs even places = record { extends = Extends-same tree even; places = places; covered = tt; others = refl; grown = has-left tree.stacks (covered_stacks tree name xs) }
+
+-- what the next of them would be covered with is among all that they are covered with
+pub HasEach-child : (n : ℕ) (old now : Tree) (name : Bytes) (xs ys : List Stretch) (d : Stretch) → n < length xs → All (λ s. IsPlace old s.place) xs → CoversFirst n old now name xs ys →
+    HasEach (with_covered old name xs) (with_child now (get_or ys n d).place name)
+HasEach-child n old now name xs ys d within places first =
+    let all = with_covered old name xs in
+    let cover = λ (s : Stretch). stack_of old.stacks s.place ++ name ∷ [] in
+    let same = ap (λ (s : Stretch). stack_of now.stacks s.place ++ name ∷ []) (head_left ys xs n d first.others) ∙ ap (λ l. l ++ name ∷ []) (first.extends.stacks (get_or xs n d).place (places n d within)) in
+    let here = subst (Has (map cover xs)) (get_or-map cover xs n d [] within) (has-at (map cover xs) n (omega (arith, within, length-map xs cover))) in
+    let own = subst (Has all) (sym same) (has-right old.stacks (map cover xs) (cover (get_or xs n d)) here) in
+    HasEach-append all now.stacks ((stack_of now.stacks (get_or ys n d).place ++ name ∷ []) ∷ []) first.grown
+    (HasEach-cons all (stack_of now.stacks (get_or ys n d).place ++ name ∷ []) [] own (HasEach-none all))
 
 -- one more is
 pub CoversFirst-more : (n : ℕ) (old now new : Tree) (name : Bytes) (xs ys : List Stretch) (place : ℕ) (d : Stretch) → n < length xs → n < length ys → All (λ s. IsPlace old s.place) xs → CoversFirst n old now name xs ys →
-    Extends now new → IsChild now new (get_or ys n d).place name (Some place) → CoversFirst (n + 1) old new name xs (set ys n (record { until = (get_or ys n d).until; place = Some place }))
-CoversFirst-more n old now new name xs ys place d within there places first extends child =
+    Extends now new → IsChild now new (get_or ys n d).place name (Some place) → HasEach (with_child now (get_or ys n d).place name) new.stacks → CoversFirst (n + 1) old new name xs (set ys n (record { until = (get_or ys n d).until; place = Some place }))
+CoversFirst-more n old now new name xs ys place d within there places first extends child grows =
     let y : Stretch = record { until = (get_or ys n d).until; place = Some place } in
     let same = head_left ys xs n d first.others in
     let parent : IsPlace old (get_or xs n d).place = places n d within in
@@ -235,6 +260,7 @@ CoversFirst-more n old now new name xs ys place d within there places first exte
           (ap (λ (s : Stretch). s.until) same)
           (record { is = child.is; stack = child.stack ∙ ap (λ (s : Stretch). stack_of now.stacks s.place ++ name ∷ []) same ∙ ap (λ l. l ++ name ∷ []) (first.extends.stacks (get_or xs n d).place parent) })));
       others = drop-set-lt (n + 1) ys n y (omega arith) ∙ sym (drop-drop 1 n ys) ∙ ap (drop 1) first.others ∙ drop-drop 1 n xs;
+      grown = λ stack has. HasEach-child n old now name xs ys d within places first stack (grows stack has);
     }
 
 -- the stretches behind the first ones, written back
@@ -245,3 +271,35 @@ stitched count xs new items first within many all =
     let whole : take first xs ++ (new ++ post_of first (length xs - first) xs) ≡ take first xs ++ new = ap (λ l. take first xs ++ (new ++ l)) nothing ∙ ap (λ l. take first xs ++ l) (append-nil new) in
     ap (λ w. take count (w ++ drop (length w) items)) whole
     ∙ take_at (take first xs ++ new) (drop (length (take first xs ++ new)) items) count (omega (arith, length-append (take first xs) new, length-take-le first xs within, many, all))
+
+-- the last microsecond of a stretch is its own
+own-place : (xs ys : List Stretch) (y : Stretch) (u : ℤ) → u <ℤ y.until → All (λ s. s.until ≤ℤ u) ys → place_at (xs ++ y ∷ ys) u ≡ y.place
+own-place xs ys y u before all =
+    fold-append (place_after u) None xs (y ∷ ys)
+    ∙ ap (λ b. fold (place_after u) (cond b y.place (place_at xs u)) ys) (int_lt-below u y.until before)
+    ∙ past u y.place ys all
+
+sooner-all : (end u : ℤ) (xs : List Stretch) → ((e : ℤ) → e <ℤ end → e ≤ℤ u) → All (λ e. e <ℤ end) (ends_of xs) → All (λ s. s.until ≤ℤ u) xs
+sooner-all end u [] to all = All-nil (λ (s : Stretch). s.until ≤ℤ u)
+sooner-all end u (x ∷ xs) to all =
+    All-cons (λ (s : Stretch). s.until ≤ℤ u) x xs (to x.until (All-head (λ e. e <ℤ end) x.until (ends_of xs) all)) (sooner-all end u xs to (All-tail (λ e. e <ℤ end) x.until (ends_of xs) all))
+
+pub reach-all : (until : ℤ) (ys : List Stretch) → ReachTo until ys → All (λ s. s.until ≤ℤ until) ys
+reach-all until [] reach = absurd reach
+reach-all until (y ∷ ys) reach = All-cons (λ (s : Stretch). s.until ≤ℤ until) y ys (omega (arith, ints, reach.0)) reach.1
+
+-- so what has the stack of each microsecond with one more frame has that of each stretch
+pub HasEach-covered : (tree : Tree) (name : Bytes) (all : List Stack) (time until : ℤ) (xs ys : List Stretch) → FallTo time (ends_of (xs ++ ys)) → All (λ s. s.until ≤ℤ until) ys →
+    ((u : ℤ) → time ≤ℤ u → u <ℤ until → Has all (stack_of tree.stacks (place_at (xs ++ ys) u) ++ name ∷ [])) → HasEach all (covered_stacks tree name ys)
+HasEach-covered tree name all time until xs [] falls reach has = HasEach-none all
+HasEach-covered tree name all time until xs (y ∷ ys) falls reach has =
+    let ends = FallTo-back time (ends_of xs) (ends_of (y ∷ ys)) (subst (FallTo time) (map-append (λ (t : Stretch). t.until) xs (y ∷ ys)) falls) in
+    let u = y.until -ℤ pos 1 in
+    let before : u <ℤ y.until = omega (arith, ints) in
+    let own = own-place xs ys y u before (sooner-all y.until u ys (λ e sooner. omega (arith, ints, sooner)) ends.1) in
+    let first : y.until ≤ℤ until = All-head (λ (s : Stretch). s.until ≤ℤ until) y ys reach in
+    let again = append_assoc xs (y ∷ []) ys in
+    HasEach-cons all (stack_of tree.stacks y.place ++ name ∷ []) (covered_stacks tree name ys)
+    (subst (λ p. Has all (stack_of tree.stacks p ++ name ∷ [])) own (has u (omega (arith, ints, ends.0)) (omega (arith, ints, first))))
+    (HasEach-covered tree name all time until (xs ++ y ∷ []) ys (subst (λ (l : List Stretch). FallTo time (ends_of l)) (sym again) falls) (All-tail (λ (s : Stretch). s.until ≤ℤ until) y ys reach)
+    (λ v later sooner. subst (λ (l : List Stretch). Has all (stack_of tree.stacks (place_at l v) ++ name ∷ [])) (sym again) (has v later sooner)))

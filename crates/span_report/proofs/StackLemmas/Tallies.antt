@@ -26,21 +26,20 @@ module _ {K : Type 0} {R : K → K → Ordering} (o : IsTotalOrder R) (tied : (a
   or_swap false false c = refl
 
   -- one more key
-  has-insert_key : (k x : K) (ks : List K) → list_any (λ y. eq_by_cmp R k y) (insert_key R ks x) ≡ (eq_by_cmp R k x || list_any (λ y. eq_by_cmp R k y) ks)
-  has-insert_key k x [] = refl
-  has-insert_key k x (y ∷ ys) = by (R x y) refl (has-insert_key k x ys)
+  any-insert_key : (q : K → Bool) (x : K) (ks : List K) → list_any q (insert_key R ks x) ≡ (q x || list_any q ks)
+  any-insert_key q x [] = refl
+  any-insert_key q x (y ∷ ys) = by (R x y) refl (any-insert_key q x ys)
     where
-      by : (r : Ordering) → R x y ≡ r → list_any (λ z. eq_by_cmp R k z) (insert_key R ys x) ≡ (eq_by_cmp R k x || list_any (λ z. eq_by_cmp R k z) ys) →
-          list_any (λ z. eq_by_cmp R k z) (match_ordering r (x ∷ y ∷ ys) (y ∷ ys) (y ∷ insert_key R ys x)) ≡ (eq_by_cmp R k x || (eq_by_cmp R k y || list_any (λ z. eq_by_cmp R k z) ys))
+      by : (r : Ordering) → R x y ≡ r → list_any q (insert_key R ys x) ≡ (q x || list_any q ys) →
+          list_any q (match_ordering r (x ∷ y ∷ ys) (y ∷ ys) (y ∷ insert_key R ys x)) ≡ (q x || (q y || list_any q ys))
       by Less e rest = refl
-      by Equal e rest = sym (ap (λ z. eq_by_cmp R k z || (eq_by_cmp R k y || list_any (λ z. eq_by_cmp R k z) ys)) (tied x y e) ∙ or_twice (eq_by_cmp R k y) (list_any (λ z. eq_by_cmp R k z) ys))
-      by Greater e rest = ap (λ b. eq_by_cmp R k y || b) rest ∙ or_swap (eq_by_cmp R k y) (eq_by_cmp R k x) (list_any (λ z. eq_by_cmp R k z) ys)
+      by Equal e rest = sym (ap (λ z. q z || (q y || list_any q ys)) (tied x y e) ∙ or_twice (q y) (list_any q ys))
+      by Greater e rest = ap (λ b. q y || b) rest ∙ or_swap (q y) (q x) (list_any q ys)
 
-  has-fold : (k : K) (done xs : List K) → list_any (λ y. eq_by_cmp R k y) (fold (insert_key R) done xs) ≡ (list_any (λ y. eq_by_cmp R k y) xs || list_any (λ y. eq_by_cmp R k y) done)
-  has-fold k done [] = refl
-  has-fold k done (x ∷ xs) =
-      has-fold k (insert_key R done x) xs ∙ ap (λ b. list_any (λ y. eq_by_cmp R k y) xs || b) (has-insert_key k x done)
-      ∙ turned (list_any (λ y. eq_by_cmp R k y) xs) (eq_by_cmp R k x) (list_any (λ y. eq_by_cmp R k y) done)
+  any-fold : (q : K → Bool) (done xs : List K) → list_any q (fold (insert_key R) done xs) ≡ (list_any q xs || list_any q done)
+  any-fold q done [] = refl
+  any-fold q done (x ∷ xs) =
+      any-fold q (insert_key R done x) xs ∙ ap (λ b. list_any q xs || b) (any-insert_key q x done) ∙ turned (list_any q xs) (q x) (list_any q done)
     where
       turned : (a b c : Bool) → (a || (b || c)) ≡ ((b || a) || c)
       turned true true c = refl
@@ -49,15 +48,15 @@ module _ {K : Type 0} {R : K → K → Ordering} (o : IsTotalOrder R) (tied : (a
       turned false false c = refl
 
   -- the same keys, in order
-  pub list_any-ascending : (k : K) (xs : List K) → list_any (λ y. eq_by_cmp R k y) (ascending R xs) ≡ list_any (λ y. eq_by_cmp R k y) xs
-  list_any-ascending k xs = has-fold k [] xs ∙ none (list_any (λ y. eq_by_cmp R k y) xs)
+  pub list_any-ascending : (q : K → Bool) (xs : List K) → list_any q (ascending R xs) ≡ list_any q xs
+  list_any-ascending q xs = any-fold q [] xs ∙ none (list_any q xs)
     where
       none : (b : Bool) → (b || false) ≡ b
       none true = refl
       none false = refl
 
   -- a key below all of these is none of them
-  none-below : (k : K) (ks : List K) → AllByRecursion (λ y. R k y ≡ Less) ks → list_any (λ y. eq_by_cmp R k y) ks ≡ false
+  pub none-below : (k : K) (ks : List K) → AllByRecursion (λ y. R k y ≡ Less) ks → list_any (λ y. eq_by_cmp R k y) ks ≡ false
   none-below k [] below = refl
   none-below k (y ∷ ys) below = ap₂ (λ r b. is_eq r || b) below.0 (none-below k ys below.1)
 
@@ -175,7 +174,7 @@ module _ {K : Type 0} {R : K → K → Ordering} (o : IsTotalOrder R) (tied : (a
         parts false m n l e = refl
 
     pub sum_by-ascending : (xs : List K) → IsStrictlySortedBy R (ascending R xs) → sum_by (λ k. cond (p k) (count_by (λ x. eq_by_cmp R k x) xs) 0) (ascending R xs) ≡ count_by p xs
-    sum_by-ascending xs sorted = sum_by-counts (ascending R xs) xs (each xs (λ x among. one-time x (ascending R xs) sorted (list_any-ascending x xs ∙ among)))
+    sum_by-ascending xs sorted = sum_by-counts (ascending R xs) xs (each xs (λ x among. one-time x (ascending R xs) sorted (list_any-ascending (λ y. eq_by_cmp R x y) xs ∙ among)))
       where
         each : (ys : List K) → ((x : K) → list_any (λ y. eq_by_cmp R x y) ys ≡ true → sum_by (λ k. one_if (eq_by_cmp R k x)) (ascending R xs) ≡ 1) → AllByRecursion (λ x. sum_by (λ k. one_if (eq_by_cmp R k x)) (ascending R xs) ≡ 1) ys
         each [] of = tt

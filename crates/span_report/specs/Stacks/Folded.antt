@@ -1,5 +1,5 @@
 -- The folded stacks of a journal as a text.
-use Rattle.std.specs.Prelude.{ℕ, List, [], ◌∷◌, ◌++◌, flat_map, decimal}
+use Rattle.std.specs.Prelude.{ℕ, List, [], ◌∷◌, ◌++◌, flat_map, sum_by, decimal}
 use Rattle.span_event.specs.declared.thread.Thread.{Thread}
 use Rattle.span_track.specs.Nesting.{closed_spans}
 use Rattle.span_ledger.specs.declared.entry.Entry.{Entry}
@@ -7,6 +7,7 @@ use Rattle.span_ledger.specs.declared.rows.ProcessRow.{ProcessRow}
 use Rattle.span_ledger.specs.declared.rows.ThreadRow.{ThreadRow}
 use Rattle.span_ledger.specs.Parts.{ProcessRows, ThreadRows, process_parts}
 use Rattle.span_ledger.specs.Told.{thread_events}
+use Rattle.span_report.specs.Stacks.Bounds.{frame_count, names_in}
 use Rattle.span_report.specs.Stacks.Frames.{frame, owner_frame}
 use Rattle.span_report.specs.Stacks.Microseconds.{Folded, Stack, folded_stacks}
 
@@ -30,6 +31,10 @@ module _ (journal : List Entry) where
   abbrev pub thread_stacks : Thread → List Folded
   thread_stacks thread = folded_stacks (closed_spans (thread_events thread journal))
 
+  -- how many frames they make
+  abbrev pub thread_frame_count : Thread → ℕ
+  thread_frame_count thread = frame_count (closed_spans (thread_events thread journal))
+
   abbrev pub thread_lines : ProcessRow → ThreadRows → List ℕ
   thread_lines process part = stack_lines (thread_frames process part.row) (thread_stacks (record { pid = part.row.pid; tid = part.row.tid }))
 
@@ -39,3 +44,13 @@ module _ (journal : List Entry) where
   -- a line for each stack of each thread, in the order of the report
   abbrev pub folded_of : List ℕ
   folded_of = flat_map process_lines (process_parts journal)
+
+  -- the names of all folded stacks, as many of each stack as it is deep
+  abbrev pub thread_names : ThreadRows → ℕ
+  thread_names part = names_in (thread_stacks (record { pid = part.row.pid; tid = part.row.tid }))
+
+  abbrev pub process_names : ProcessRows → ℕ
+  process_names part = sum_by thread_names part.threads
+
+  abbrev pub names_of : ℕ
+  names_of = sum_by process_names (process_parts journal)

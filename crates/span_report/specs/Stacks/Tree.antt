@@ -1,5 +1,6 @@
 -- The tree of stacks, as the list of its stacks and the list of their times. A place in it is a number, or none for the empty stack.
 use Rattle.std.specs.Prelude.{◌≡◌, ℕ, zero, suc, ◌+◌, ◌<◌, ◌≤◌, All, true, if◌then◌else◌, List, [], ◌∷◌, ◌++◌, length, Option, Some, None, slice_index_or, slice_set}
+use Rattle.std.specs.List.{list_any}
 use Rattle.span_event.specs.Text.{Bytes}
 use Rattle.span_report.specs.Stacks.Microseconds.{Folded, Stack, has_frames, same_stack}
 
@@ -56,3 +57,19 @@ pub record IsChild (old new : Tree) (parent : Option ℕ) (name : Bytes) (place 
 pub record AreApart (tree : Tree) : Type 0 where
   pub framed : (n : ℕ) → n < length tree.stacks → has_frames (slice_index_or tree.stacks n []) ≡ true
   pub apart : (m n : ℕ) → m < length tree.stacks → n < length tree.stacks → slice_index_or tree.stacks m [] ≡ slice_index_or tree.stacks n [] → m ≡ n
+
+-- one of these stacks is this one
+abbrev pub Has : List Stack → Stack → Type 0
+Has stacks stack = list_any (same_stack stack) stacks ≡ true
+
+-- each of these stacks is one of those
+abbrev pub HasEach : List Stack → List Stack → Type 0
+HasEach those these = (stack : Stack) → Has these stack → Has those stack
+
+-- these are more than so many different stacks: a list that has each of them is longer
+abbrev pub AreMoreThan : ℕ → List Stack → Type 0
+AreMoreThan most stacks = (all : List Stack) → HasEach all stacks → most < length all
+
+-- the stacks of a tree, and that of a place in it with one more frame
+abbrev pub with_child : Tree → Option ℕ → Bytes → List Stack
+with_child tree parent name = tree.stacks ++ (stack_of tree.stacks parent ++ name ∷ []) ∷ []

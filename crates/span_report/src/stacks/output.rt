@@ -1,20 +1,51 @@
 //! Writes the folded stacks of a ledger to a sink.
-ghost use Rattle.std.specs.Prelude.{IfErr, OnOk};
+ghost use Rattle.std.specs.Prelude.{◌≡◌, ◌≤◌, IfErr, OnOk};
 ghost use Rattle.span_report.specs.Sink.{TakesBytes};
-ghost use Rattle.span_report.specs.Output.{WriteLeaves};
-ghost use Rattle.span_report.specs.Stacks.Folded.{folded_of};
+ghost use Rattle.span_report.specs.Stacks.Bounds.{most_names};
+ghost use Rattle.span_report.specs.Stacks.Faults.{FoldedLeaves, folded_code};
+ghost use Rattle.span_report.specs.Stacks.Folded.{folded_of, names_of};
 
+use super::fault::StacksFault;
 use super::text::folded;
-use crate::output::{WriteFault, write_made};
+use crate::output::write_bytes;
 use crate::sink::Sink;
+use span_event::Fault;
 use span_ledger::Ledger;
 use std::alloc::Global;
 
+/// Why folded stacks were not written whole.
+#[derive(Clone, Copy, Debug, PartialEq, Eq)]
+pub enum FoldedFault {
+    /// 31: memory was refused, and nothing was written.
+    Memory,
+    /// 56: the stacks have more names than they may, and nothing was written.
+    TooLarge,
+    /// 51: the output failed after this many bytes.
+    Output { written: u64 },
+}
+
+impl FoldedFault {
+    pub fn code(&self) -> u16
+        ensures { result ≡ folded_code self.now }
+    {
+        match self {
+            FoldedFault::Memory => Fault::Memory.code(),
+            FoldedFault::TooLarge => Fault::StacksTooLarge.code(),
+            FoldedFault::Output { .. } => Fault::Output.code(),
+        }
+    }
+}
+
 /// Writes the folded stacks of the ledger's journal. The first fault of the output ends it, and nothing is tried again.
-pub fn write_folded<O: Sink>(alloc: Global, ledger: &Ledger, out: &mut O) -> Result<(), WriteFault>
+pub fn write_folded<O: Sink>(alloc: Global, ledger: &Ledger, out: &mut O) -> Result<(), FoldedFault>
     ensures ok { OnOk result (TakesBytes (O.state out.old) (O.state out.new) (folded_of ledger.now.journal)) }
-    ensures fault { IfErr result
-        (λ fault. WriteLeaves fault (folded_of ledger.now.journal) (O.state out.old) (O.state out.new)) }
+    ensures fits { OnOk result (names_of ledger.now.journal ≤ most_names) }
+    ensures fault { IfErr result (λ fault. FoldedLeaves fault ledger.now.journal (O.state out.old) (O.state out.new)) }
 {
-    write_made(folded(alloc, ledger), out)
+    let text = match folded(alloc, ledger) {
+        Ok(text) => text,
+        Err(StacksFault::Memory) => return Err(FoldedFault::Memory),
+        Err(StacksFault::TooLarge) => return Err(FoldedFault::TooLarge),
+    };
+    write_bytes(&text, out).map_err(|written| FoldedFault::Output { written })
 }

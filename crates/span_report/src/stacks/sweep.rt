@@ -1,14 +1,15 @@
 //! The sweep over the spans of a thread, which finds the stack of each microsecond.
-ghost use Rattle.std.specs.Prelude.{◌≡◌, ◌^◌, ◌≤◌, ◌≤ℤ◌, ◌<ℤ◌, [], ℤ, length, drop, take, IfOk, OnOk, All};
-ghost use Rattle.std.specs.Bool.{OnTrue};
+ghost use Rattle.std.specs.Prelude.{◌≡◌, ◌^◌, ◌≤◌, ◌≤ℤ◌, ◌<ℤ◌, ◌<◌, ◌↔◌, IsTrue, [], ℕ, ℤ, List, Err, length, drop, take, IfOk, OnOk, All};
 ghost use Rattle.span_event.specs.Event.{least_time};
 ghost use Rattle.span_event.specs.Time.{distance};
 ghost use Rattle.span_self_time.specs.Closed.{greatest_until};
 ghost use Rattle.span_self_time.specs.Spans.{earliest, latest};
 ghost use Rattle.span_ledger.specs.Named.{IsTimely};
-ghost use Rattle.span_report.specs.Stacks.Sweep.{AreCovered, Covers, EndsAt, HasTimes, IsPartedAt, IsSound, Stands, StandsOn, StandsWith, StartBetween, TakesOff, nearest_place, place_at, spent};
-ghost use Rattle.span_report.specs.Stacks.Tree.{Extends, IsPlace};
+ghost use Rattle.span_report.specs.Stacks.Microseconds.{Stack};
+ghost use Rattle.span_report.specs.Stacks.Sweep.{AreCovered, Covers, EndsAt, HasBeginnings, HasCovered, HasTimes, IsFullWith, IsPartedAt, IsSound, LastsBeyond, Stands, StandsOn, StandsWith, StartBetween, TakesOff, nearest_place, place_at, spent, with_covered};
+ghost use Rattle.span_report.specs.Stacks.Tree.{AreMoreThan, Extends, HasEach, IsPlace};
 
+use super::fault::StacksFault;
 use super::tree::StackTree;
 use span_event::Text;
 use span_ledger::NamedSpan;
@@ -55,21 +56,24 @@ pub(crate) fn bounds(spans: &[NamedSpan]) -> (i64, i64)
     (from, until)
 }
 
-// The stacks of spans in ascending rank, with the time that each has between two times.
+// The stacks of spans in ascending rank, with the time that each has between two times, unless they have too many frames.
 pub(crate) fn swept<'a>(
     alloc: Global,
     spans: &[NamedSpan<'a>],
     from: i64,
     until: i64,
-) -> Result<StackTree<'a>, AllocError>
+    most: u32,
+) -> Result<StackTree<'a>, StacksFault>
     requires between { StartBetween from until spans.now }
     requires from_in_time { least_time ≤ℤ from }
     requires until_in_time { until ≤ℤ greatest_until }
-    ensures { IfOk result (λ tree. HasTimes from until spans.now tree) }
+    ensures times { IfOk result (λ tree. HasTimes from until spans.now tree) }
+    ensures full { result ≡ Err StacksFault.TooLarge
+        → (all : List Stack) → HasBeginnings all spans.now → most < length all }
 {
     let mut sweep = Sweep::new(alloc, from);
     for named in spans {
-        sweep.take(named)?;
+        sweep.take(named, most)?;
     }
     sweep.pass(until);
     Ok(sweep.tree)
@@ -90,16 +94,17 @@ impl<'a> Sweep<'a> {
     }
 
     // One more span, which starts no sooner than those before it.
-    fn take(&mut self, named: &NamedSpan<'a>) -> Result<(), AllocError>
+    fn take(&mut self, named: &NamedSpan<'a>, most: u32) -> Result<(), StacksFault>
         requires starts { self.old.time ≤ℤ named.now.start }
         requires in_time { named.now.start ≤ℤ greatest_until }
         ensures time { OnOk result (self.new.time ≡ named.now.start) }
         ensures stands { OnOk result (StandsWith named.now self.old self.new) }
+        ensures full { result ≡ Err StacksFault.TooLarge → IsFullWith most named.now self.old }
     {
         let span = named.span;
         self.pass(span.start);
         if span.start < span.until {
-            self.cover(span.until, named.name)?;
+            self.cover(span.until, named.name, most)?;
         }
         Ok(())
     }
@@ -150,15 +155,19 @@ impl<'a> Sweep<'a> {
     }
 
     // From now to `until` each stack has one frame more.
-    fn cover(&mut self, until: i64, name: &'a Text) -> Result<(), AllocError>
-        ensures { OnOk result (Covers until name.now self.old self.new) }
+    fn cover(&mut self, until: i64, name: &'a Text, most: u32) -> Result<(), StacksFault>
+        requires later { self.old.time <ℤ until }
+        ensures covers { OnOk result (Covers until name.now self.old self.new) }
+        ensures full { result ≡ Err StacksFault.TooLarge
+            → (all : List Stack) → HasCovered all until name.now self.old → most < length all }
     {
         let first = self.part_at(until)?;
-        cover_each(&mut self.tree, &mut self.stretches[first..], name)
+        cover_each(&mut self.tree, &mut self.stretches[first..], name, most)
     }
 
     // Parts the stretch that goes on beyond `until`, and answers which is the first of those before it.
     fn part_at(&mut self, until: i64) -> Result<usize, AllocError>
+        requires { self.old.time <ℤ until }
         ensures { IfOk result (λ first. IsPartedAt until first self.old self.new) }
     {
         let first = self.first_within(until);
@@ -171,7 +180,7 @@ impl<'a> Sweep<'a> {
 
     // Whether the stretch behind the first so many ends right there.
     fn has_end(&self, first: usize, until: i64) -> bool
-        ensures { OnTrue result (EndsAt until (drop first self.now.stretches)) }
+        ensures { IsTrue result ↔ EndsAt until (drop first self.now.stretches) }
     {
         first < self.stretches.len() && self.stretches[first].until == until
     }
@@ -182,6 +191,7 @@ impl<'a> Sweep<'a> {
         ensures before { All (λ s. s.until ≤ℤ until) (drop result self.now.stretches) }
         ensures beyond { (u : ℤ) → u <ℤ until
             → place_at (take result self.now.stretches) u ≡ nearest_place (take result self.now.stretches) }
+        ensures lasts { LastsBeyond until (take result self.now.stretches) }
     {
         let mut first = self.stretches.len();
         while first > 0 && self.stretches[first - 1].until <= until {
@@ -219,15 +229,19 @@ fn cover_each<'a>(
     tree: &mut StackTree<'a>,
     stretches: &mut [Stretch],
     name: &'a Text,
-) -> Result<(), AllocError>
+    most: u32,
+) -> Result<(), StacksFault>
     requires places { All (λ s. IsPlace tree.old s.place) stretches.old }
     requires even { length tree.old.times ≡ length tree.old.stacks }
     ensures extends { Extends tree.old tree.new }
     ensures places { All (λ s. IsPlace tree.new s.place) stretches.new }
     ensures covered { OnOk result (AreCovered tree.old tree.new name.now stretches.old stretches.new) }
+    ensures grown { OnOk result (HasEach (with_covered tree.old name.now stretches.old) tree.new.stacks) }
+    ensures full { result ≡ Err StacksFault.TooLarge
+        → AreMoreThan most (with_covered tree.old name.now stretches.old) }
 {
     for stretch in stretches {
-        let place = tree.child(stretch.place, name)?;
+        let place = tree.child(stretch.place, name, most)?;
         stretch.place = Some(place);
     }
     Ok(())

@@ -1,37 +1,49 @@
 //! The text of folded stacks.
-ghost use Rattle.std.specs.Prelude.{◌≡◌, ◌++◌, [], ◌∷◌, flat_map, map, decimal, IfOk, OnOk};
-ghost use Rattle.span_report.specs.Stacks.Folded.{folded_of, process_lines, stack_frames, stack_line, stack_lines, thread_frames, thread_lines};
-ghost use Rattle.span_report.specs.Stacks.Walk.{folded_after};
+ghost use Rattle.std.specs.Prelude.{◌≡◌, ◌++◌, ◌+◌, ◌<◌, ◌≤◌, [], ◌∷◌, flat_map, map, decimal, Err, IfOk, OnOk};
+ghost use Rattle.span_report.specs.Stacks.Bounds.{most_names, names_in};
+ghost use Rattle.span_report.specs.Stacks.Folded.{folded_of, names_of, process_lines, process_names, stack_frames, stack_line, stack_lines, thread_frames, thread_lines, thread_names};
+ghost use Rattle.span_report.specs.Stacks.Walk.{AreAscending, folded_after};
 
+use super::fault::StacksFault;
 use super::frames::{put_frame, put_owner};
 use super::walk::{StackFrame, framed_stacks};
 use span_event::Text;
 use span_ledger::{Ledger, ProcessPart, ProcessRow, ThreadPart, ThreadRow};
 use std::alloc::{AllocError, Global};
 
+// How many names the folded stacks of a ledger may have, each stack as many as it is deep.
+const MOST_NAMES: u32 = 67_108_864;
+
 /// The folded stacks of the ledger's journal: for each thread, in the order of a report, a line for each stack that it has for a
 /// microsecond or more. It says the process and the thread, the names of the spans that cover the microsecond, in ascending rank
-/// and parted by `;`, and then for how many microseconds.
-pub fn folded(alloc: Global, ledger: &Ledger) -> Result<Vec<u8>, AllocError>
-    ensures { IfOk result (λ text. text.items ≡ folded_of ledger.now.journal) }
+/// and parted by `;`, and then for how many microseconds. The process and the thread don't count as names.
+pub fn folded(alloc: Global, ledger: &Ledger) -> Result<Vec<u8>, StacksFault>
+    ensures text { IfOk result (λ text. text.items ≡ folded_of ledger.now.journal) }
+    ensures fits { OnOk result (names_of ledger.now.journal ≤ most_names) }
+    ensures full { result ≡ Err StacksFault.TooLarge → most_names < names_of ledger.now.journal }
 {
     let mut out = Vec::new(alloc);
+    let mut left = MOST_NAMES;
     for part in &ledger.parts(alloc)? {
-        put_process(alloc, ledger, &mut out, part)?;
+        put_process(alloc, ledger, &mut out, &mut left, part)?;
     }
     Ok(out)
 }
 
+// Appends the lines of a process, whose names are taken from those that are left.
 fn put_process(
     alloc: Global,
     ledger: &Ledger,
     out: &mut Vec<u8>,
+    left: &mut u32,
     process: &ProcessPart,
-) -> Result<(), AllocError>
-    ensures { OnOk result (out.new.items ≡ out.old.items ++ process_lines ledger.now.journal process.now) }
+) -> Result<(), StacksFault>
+    ensures text { OnOk result (out.new.items ≡ out.old.items ++ process_lines ledger.now.journal process.now) }
+    ensures fits { OnOk result (left.new + process_names ledger.now.journal process.now ≡ left.old) }
+    ensures full { result ≡ Err StacksFault.TooLarge → left.old < process_names ledger.now.journal process.now }
 {
     for part in &process.threads {
-        put_thread(alloc, ledger, out, &process.row, part)?;
+        put_thread(alloc, ledger, out, left, &process.row, part)?;
     }
     Ok(())
 }
@@ -40,15 +52,37 @@ fn put_thread(
     alloc: Global,
     ledger: &Ledger,
     out: &mut Vec<u8>,
+    left: &mut u32,
     process: &ProcessRow,
     part: &ThreadPart,
-) -> Result<(), AllocError>
-    ensures { OnOk result (out.new.items ≡ out.old.items ++ thread_lines ledger.now.journal process.now part.now) }
+) -> Result<(), StacksFault>
+    ensures text { OnOk result (out.new.items ≡ out.old.items ++ thread_lines ledger.now.journal process.now part.now) }
+    ensures fits { OnOk result (left.new + thread_names ledger.now.journal part.now ≡ left.old) }
+    ensures full { result ≡ Err StacksFault.TooLarge → left.old < thread_names ledger.now.journal part.now }
 {
     let row = &part.row;
+    let frames = framed_stacks(alloc, ledger, row.pid, row.tid, *left)?;
+    take_names(&frames, left)?;
     let start = thread_frames(alloc, process, row)?;
-    let frames = framed_stacks(alloc, ledger, row.pid, row.tid)?;
-    put_lines(alloc, out, &start, &frames)
+    put_lines(alloc, out, &start, &frames)?;
+    Ok(())
+}
+
+// Takes the names of the stacks from those that are left.
+fn take_names(frames: &[StackFrame], left: &mut u32) -> Result<(), StacksFault>
+    requires { AreAscending [] frames.now }
+    ensures fits { OnOk result (left.new + names_in (folded_after [] frames.now) ≡ left.old) }
+    ensures full { result ≡ Err StacksFault.TooLarge → left.old < names_in (folded_after [] frames.now) }
+{
+    for frame in frames {
+        if frame.time > 0 {
+            if frame.below >= *left as usize {
+                return Err(StacksFault::TooLarge);
+            }
+            *left -= frame.below as u32 + 1;
+        }
+    }
+    Ok(())
 }
 
 // The process and the thread, with which each line of the thread starts.

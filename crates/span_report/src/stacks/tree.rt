@@ -1,9 +1,10 @@
 //! Stacks that share what they begin with, each with its time.
-ghost use Rattle.std.specs.Prelude.{◌≡◌, [], ◌+◌, ◌<◌, ◌^◌, length, map, All, IfOk, OnErr, OnOk, Some};
+ghost use Rattle.std.specs.Prelude.{◌≡◌, [], ◌+◌, ◌<◌, ◌^◌, length, map, All, Err, IfOk, OnErr, OnOk, Some};
 ghost use Rattle.span_report.specs.Stacks.Order.{AreDepths, IsElder, IsOrder, depth_on, put_after, slot};
-ghost use Rattle.span_report.specs.Stacks.Tree.{AreApart, Extends, IsChild, IsPlace, IsPlaceBefore, with_time};
+ghost use Rattle.span_report.specs.Stacks.Tree.{AreApart, AreMoreThan, Extends, HasEach, IsChild, IsPlace, IsPlaceBefore, with_child, with_time};
 ghost use Rattle.span_report.specs.Stacks.Walk.{IsWalk};
 
+use super::fault::StacksFault;
 use super::walk::StackFrame;
 use span_event::Text;
 use std::alloc::{AllocError, Global};
@@ -47,21 +48,27 @@ impl<'a> StackTree<'a> {
         }
     }
 
-    // The place of a stack with one more frame, which is made where there was none.
+    // The place of a stack with one more frame, which is made where there was none, unless there are as many as there may be.
     pub(crate) fn child(
         &mut self,
         parent: Option<usize>,
         name: &'a Text,
-    ) -> Result<usize, AllocError>
+        most: u32,
+    ) -> Result<usize, StacksFault>
         requires { IsPlace self.old parent }
         ensures child { IfOk result (λ place. IsChild self.old self.new parent name.now (Some place)) }
         ensures extends { OnOk result (Extends self.old self.new) }
+        ensures grown { OnOk result (HasEach (with_child self.old parent name.now) self.new.stacks) }
+        ensures full { result ≡ Err StacksFault.TooLarge → AreMoreThan most (with_child self.old parent name.now) }
         ensures err { OnErr result (self.new ≡ self.old) }
     {
         if let Some(place) = self.places.get(&(parent, name)) {
             return Ok(*place);
         }
         let place = self.nodes.len();
+        if place >= most as usize {
+            return Err(StacksFault::TooLarge);
+        }
         self.nodes.reserve(1)?;
         self.places.insert((parent, name), place)?;
         self.nodes.push_reserved(Node {

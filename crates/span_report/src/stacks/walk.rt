@@ -1,10 +1,12 @@
 //! The stacks of a thread, frame by frame.
-ghost use Rattle.std.specs.Prelude.{◌≡◌, [], map, IfOk, OnErr, OnOk};
+ghost use Rattle.std.specs.Prelude.{◌≡◌, ◌<◌, [], map, Err, IfOk, OnErr, OnOk};
 ghost use Rattle.span_ledger.specs.Named.{AreThreadSpans};
-ghost use Rattle.span_report.specs.Stacks.Folded.{thread_stacks};
+ghost use Rattle.span_report.specs.Stacks.Bounds.{frame_count};
+ghost use Rattle.span_report.specs.Stacks.Folded.{thread_frame_count, thread_stacks};
 ghost use Rattle.span_report.specs.Stacks.Microseconds.{folded_stacks};
 ghost use Rattle.span_report.specs.Stacks.Walk.{AreAscending, folded_after, stack_after};
 
+use super::fault::StacksFault;
 use super::ranks::sort_by_rank;
 use super::sweep::{bounds, swept};
 use span_event::Text;
@@ -44,33 +46,39 @@ impl<'a> StackFrame<'a> {
 }
 
 /// The folded stacks of a thread of the ledger's journal, frame by frame, in the order of their lists of names. A stack that has no
-/// microsecond of its own is told too, if others begin with it.
+/// microsecond of its own is told too, if others begin with it. If there are more frames than `most`, none is told, and there were
+/// never more in memory.
 pub fn framed_stacks(
     alloc: Global,
     ledger: &Ledger,
     pid: i64,
     tid: i64,
-) -> Result<Vec<StackFrame<'_>>, AllocError>
+    most: u32,
+) -> Result<Vec<StackFrame<'_>>, StacksFault>
     ensures stacks { IfOk result (λ frames. folded_after [] frames.items
         ≡ thread_stacks ledger.now.journal (record { pid = pid; tid = tid })) }
     ensures ascending { IfOk result (λ frames. AreAscending [] frames.items) }
+    ensures full { result ≡ Err StacksFault.TooLarge
+        → most < thread_frame_count ledger.now.journal (record { pid = pid; tid = tid }) }
 {
     let spans = ledger.closed_spans(alloc, pid, tid)?;
-    frames_of(alloc, spans)
+    frames_of(alloc, spans, most)
 }
 
 // Each stack of the spans once, in order.
 fn frames_of<'a>(
     alloc: Global,
     mut spans: Vec<NamedSpan<'a>>,
-) -> Result<Vec<StackFrame<'a>>, AllocError>
+    most: u32,
+) -> Result<Vec<StackFrame<'a>>, StacksFault>
     requires { AreThreadSpans spans.items }
     ensures stacks { IfOk result
         (λ frames. folded_after [] frames.items ≡ folded_stacks spans.entry.items) }
     ensures ascending { IfOk result (λ frames. AreAscending [] frames.items) }
+    ensures full { result ≡ Err StacksFault.TooLarge → most < frame_count spans.entry.items }
 {
     let (from, until) = bounds(&spans);
     sort_by_rank(&mut spans);
-    let tree = swept(alloc, &spans, from, until)?;
-    tree.frames(alloc)
+    let tree = swept(alloc, &spans, from, until, most)?;
+    Ok(tree.frames(alloc)?)
 }

@@ -1,10 +1,12 @@
 use Rattle.std.proofs.Common.{◌≡◌, ◌+◌, ◌∷◌, [], ◌++◌, ℤ, List, arith, drop, rules, take, sym, ap, subst, ◌∙◌, to_z, of_z, w64}
 use Rattle.std.proofs.lemmas.Int.{ints}
-use Rattle.std.proofs.lemmas.List.{drop_more, take_all, take_more}
+use Rattle.std.proofs.lemmas.List.{drop_more, take-append-drop, take_all, take_more}
+use Rattle.std.specs.Prelude.{Err}
 use Rattle.span_event.specs.Text.{Bytes}
 use Rattle.span_self_time.specs.Spans.{Span}
-use Rattle.span_report.specs.Stacks.Sweep.{HasTimes, Stands, StartBetween, Swept}
-use Rattle.span_report.proofs.StackLemmas.Sweeping.{HasTimes-stands, StartBetween-le}
+use Rattle.span_report.specs.declared.stacks.fault.StacksFault.TheVariants.{TooLarge}
+use Rattle.span_report.specs.Stacks.Sweep.{HasBeginnings, HasTimes, Stands, StartBetween, Swept}
+use Rattle.span_report.proofs.StackLemmas.Sweeping.{HasBeginnings-first, HasTimes-stands, StartBetween-le}
 use Rattle.span_report.proofs.stacks.sweep.swept.Goals as goal
 
 pub new-sweep-requires-clause-small : goal.new-sweep-requires-clause-small
@@ -35,8 +37,8 @@ loop-named-preserved c =
       between = subst (λ (t : ℤ). StartBetween t (to_z w64 (of_z w64 c.args.until)) (drop (i + 1) spans)) (sym c.in_ok-take.ensures.time) between.1;
     }
 
-pub returns : goal.returns
-returns c =
+pub returns-clause-times : goal.returns-clause-times
+returns-clause-times c =
     let spans = c.args.spans.now in
     let from : to_z w64 (of_z w64 c.args.from) ≡ c.args.from = search rules in
     let until : to_z w64 (of_z w64 c.args.until) ≡ c.args.until = search rules in
@@ -44,3 +46,14 @@ returns c =
     let stood = subst (λ (l : List (Span Bytes)). Stands c.args.from l c.loop-named.sweep) all (rw from at c.loop-named.invariant.stands) in
     subst (λ (w : Swept). HasTimes c.args.from c.args.until spans w.tree) (sym c.sweep-2.view_is)
     (HasTimes-stands c.args.from c.args.until spans c.pass.new.self (c.pass.ensures.stands c.args.from spans stood) (rw until at c.pass.ensures.time))
+
+pub returns-in_err-take-clause-full : goal.returns-in_err-take-clause-full
+returns-in_err-take-clause-full c = λ large all has.
+    let i = c.loop-named.named-index in
+    let spans = c.args.spans.now in
+    let span = c.named-item.result in
+    let failed : c.take.result ≡ Err TooLarge = search rules in
+    let longer : take (i + 1) spans ≡ take i spans ++ span ∷ [] = take_more spans i span c.loop-named-test.true ∙ ap (λ (s : Span Bytes). take i spans ++ s ∷ []) (sym c.named-item.is) in
+    let whole : spans ≡ (take i spans ++ span ∷ []) ++ drop (i + 1) spans = sym (take-append-drop (i + 1) spans) ∙ ap (λ (l : List (Span Bytes)). l ++ drop (i + 1) spans) longer in
+    c.take.ensures.full failed (to_z w64 (of_z w64 c.args.from)) (take i spans) c.loop-named.invariant.stands all
+    (HasBeginnings-first all (take i spans ++ span ∷ []) (drop (i + 1) spans) (subst (HasBeginnings all) whole has))

@@ -1,8 +1,11 @@
-use Rattle.std.proofs.Common.{◌≡◌, length, rules, sym, ap, ◌∙◌, to_z, of_z, w64}
+use Rattle.std.proofs.Common.{◌≡◌, length, rules, sym, ap, subst, ◌∙◌, to_z, of_z, w64}
 use Rattle.std.proofs.lemmas.List.{take_at}
-use Rattle.std.specs.Prelude.{Result, Ok, Err, IfOk, OnOk}
-use Rattle.span_keyed_tracks.proofs.Results.{if_ok-map}
+use Rattle.std.specs.Prelude.{Err}
+use Rattle.span_report.specs.declared.stacks.fault.StacksFault.TheVariants.{TooLarge}
+use Rattle.span_report.specs.Stacks.Bounds.{frames_of}
 use Rattle.span_report.specs.Stacks.Microseconds.{ranked}
+use Rattle.span_report.specs.Stacks.Sweep.{HasBeginnings}
+use Rattle.span_report.proofs.StackLemmas.Beginnings.{HasBeginnings-frames}
 use Rattle.span_report.proofs.StackLemmas.Folding.{folded_stacks-walk}
 use Rattle.span_report.proofs.StackLemmas.Starts.{StartBetween-ranked, latest-le-greatest, least-le-earliest}
 use Rattle.span_report.proofs.stacks.walk.frames_of.Goals as goal
@@ -27,11 +30,6 @@ swept-requires-clause-until_in_time c =
     let until : to_z w64 (of_z w64 c.bounds-from.result.1) ≡ c.bounds-from.result.1 = search rules in
     rw (until, c.bounds-from.ensures.until, c.deref.ensures.value) (latest-le-greatest c.args.spans.items c.requires.in_time)
 
--- what follows from a fact of the content and one that holds on Ok holds of the content
-both : {T E : Type 0} (r : Result T E) (P R : T → Type 0) (Q : Type 0) → ((x : T) → P x → Q → R x) → IfOk r P → OnOk r Q → IfOk r R
-both (Ok x) P R Q f p q = f x p q
-both (Err e) P R Q f p q = tt
-
 pub returns-clause-stacks : goal.returns-clause-stacks
 returns-clause-stacks c =
     let spans = c.args.spans.items in
@@ -41,8 +39,17 @@ returns-clause-stacks c =
     let count : c.args.spans.len ≡ length spans = search rules in
     let many : length c.sort_by_rank.new.spans ≡ c.args.spans.len = c.sort_by_rank.auto.spans ∙ ap length c.deref_mut.ensures.value ∙ sym count in
     let sorted : c.deref-2.result.now ≡ ranked spans = c.deref-2.ensures.value ∙ take_at c.sort_by_rank.new.spans _ c.args.spans.len many ∙ c.sort_by_rank.ensures ∙ ap ranked c.deref_mut.ensures.value in
-    let has = rw (from, until, sorted, c.bounds-from.ensures.from, c.bounds-from.ensures.until, c.deref.ensures.value) at c.in_ok-tree.ensures in
-    both c.frames.result _ _ _ (λ frames walk are. folded_stacks-walk spans tree frames.items has are walk) c.frames.ensures.walk c.frames.ensures.apart
+    let has = rw (from, until, sorted, c.bounds-from.ensures.from, c.bounds-from.ensures.until, c.deref.ensures.value) at c.in_ok-tree.ensures.times in
+    folded_stacks-walk spans tree c.in_ok-frames.field-0.items has c.in_ok-frames.ensures.apart c.in_ok-frames.ensures.walk
 
 pub returns-clause-ascending : goal.returns-clause-ascending
-returns-clause-ascending c = if_ok-map c.frames.result _ _ (λ frames walk. walk.ascending) c.frames.ensures.walk
+returns-clause-ascending c = c.in_ok-frames.ensures.walk.ascending
+
+pub returns-in_err-tree-clause-full : goal.returns-in_err-tree-clause-full
+returns-in_err-tree-clause-full c = λ large.
+    let spans = c.args.spans.items in
+    let failed : c.swept.result ≡ Err TooLarge = search rules in
+    let count : c.args.spans.len ≡ length spans = search rules in
+    let many : length c.sort_by_rank.new.spans ≡ c.args.spans.len = c.sort_by_rank.auto.spans ∙ ap length c.deref_mut.ensures.value ∙ sym count in
+    let sorted : c.deref-2.result.now ≡ ranked spans = c.deref-2.ensures.value ∙ take_at c.sort_by_rank.new.spans _ c.args.spans.len many ∙ c.sort_by_rank.ensures ∙ ap ranked c.deref_mut.ensures.value in
+    c.swept.ensures.full failed (frames_of spans) (subst (HasBeginnings (frames_of spans)) (sym sorted) (HasBeginnings-frames spans c.requires.are))

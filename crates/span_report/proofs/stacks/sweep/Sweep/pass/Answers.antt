@@ -1,7 +1,8 @@
 use Rattle.std.proofs.Common.{◌≡◌, ◌<ℤ◌, ◌≤ℤ◌, ℤ, rules, sym, ap, subst, ◌∙◌, to_z, of_z, w64}
-use Rattle.span_report.specs.Stacks.Sweep.{Stands, Swept, nearest_place, place_at, spent}
+use Rattle.span_report.specs.Stacks.Sweep.{LastsBeyond, Stands, Swept, nearest_place, place_at, spent}
 use Rattle.span_report.specs.Stacks.Tree.{stack_of}
 use Rattle.span_report.proofs.StackLemmas.Sweeping.{Stands-popped, Stands-spent, time-spent}
+use Rattle.span_report.proofs.StackLemmas.Turns.{FallTo-beyond}
 use Rattle.span_report.proofs.stacks.sweep.Sweep.pass.Goals as goal
 
 pub loop-stretch-preserved : goal.loop-stretch-preserved
@@ -28,6 +29,8 @@ returns-clause-stands c = λ from spans stood.
     let now = subst (Stands from spans) (sym left.0) (c.loop-stretch.invariant.stands from spans stood) in
     let own = subst (λ (w : Swept). (u : ℤ) → u <ℤ c.args.time → place_at w.stretches u ≡ nearest_place w.stretches) (sym left.0) left.1 in
     let passed : c.spend-2.new.self ≡ spent c.args.time place sweep = rw time at c.spend-2.ensures.spent in
+    let lasts = subst (λ (w : Swept). LastsBeyond c.args.time w.stretches) (sym left.0) left.2 in
     subst (Stands from spans) (sym passed)
     (Stands-spent from spans c.args.time place sweep c.spend-2.ensures.sound.even c.nearest_place.ensures.place now
-    (λ u later before. ap (stack_of sweep.tree.stacks) (c.nearest_place.ensures.nearest ∙ sym (own u before)) ∙ now.ahead u later))
+    (λ u later before. ap (stack_of sweep.tree.stacks) (c.nearest_place.ensures.nearest ∙ sym (own u before)) ∙ now.ahead u later)
+    (FallTo-beyond sweep.time c.args.time sweep.stretches now.turns lasts))

@@ -1,9 +1,12 @@
-use Rattle.std.proofs.Common.{◌≡◌, ◌++◌, [], ◌∷◌, List, cond, length, map, Some, refl, rules, sym, ap, subst, ◌∙◌}
+use Rattle.std.proofs.Common.{◌≡◌, ◌++◌, [], ◌∷◌, List, arith, cond, length, map, Some, refl, rules, sym, ap, subst, ◌∙◌}
 use Rattle.std.proofs.lemmas.List.{length-map, map_push}
 use Rattle.std.specs.Ordering.{is_eq}
 use Rattle.span_report.specs.declared.stacks.tree.Node.{Node}
+use Rattle.span_report.specs.Stacks.Microseconds.{Stack}
 use Rattle.span_report.specs.Stacks.Nodes.{IsTree, Key, key_of, key_order, place_of, tree_of}
-use Rattle.span_report.specs.Stacks.Tree.{Extends, IsChild, IsPlace, IsPlaceBefore, Tree}
+use Rattle.span_report.specs.Stacks.Tree.{AreMoreThan, Extends, HasEach, IsChild, IsPlace, IsPlaceBefore, Tree, stack_of, with_child}
+use Rattle.span_report.proofs.StackLemmas.Filling.{AreMoreThan-full, stacks-pushed}
+use Rattle.span_report.proofs.StackLemmas.Members.{has-left}
 use Rattle.span_report.proofs.StackLemmas.NodeTrees.{Extends-push, Extends-same, IsChild-known, IsChild-push, IsTree-push, length-stacks, times-even}
 use Rattle.span_report.proofs.stacks.tree.StackTree.child.Goals as goal
 
@@ -52,3 +55,27 @@ returns-clause-extends c =
     let pushed : c.push_reserved.new.self.items ≡ nodes ++ node ∷ [] = c.push_reserved.ensures.items ∙ ap (λ (ns : List Node). ns ++ node ∷ []) c.in_ok-reserve.ensures.items in
     subst (λ (ns : List Node). Extends c.args.self.now (tree_of ns)) (sym pushed)
     (subst (λ (t : Tree). Extends t (tree_of (nodes ++ node ∷ []))) c.self.view_is (Extends-push nodes node refl))
+
+pub returns-in-Some-clause-grown : goal.returns-in-Some-clause-grown
+returns-in-Some-clause-grown c =
+    let tree = c.args.self.now in
+    has-left tree.stacks ((stack_of tree.stacks c.args.parent ++ c.args.name.now ∷ []) ∷ [])
+
+pub returns-clause-grown : goal.returns-clause-grown
+returns-clause-grown c =
+    let nodes = c.self.inside.nodes.items in
+    let node : Node = record { parent = c.args.parent; name = c.args.name; time = 0 } in
+    let pushed : c.push_reserved.new.self.items ≡ nodes ++ node ∷ [] = c.push_reserved.ensures.items ∙ ap (λ (ns : List Node). ns ++ node ∷ []) c.in_ok-reserve.ensures.items in
+    subst (λ (ns : List Node). HasEach (with_child c.args.self.now c.args.parent c.args.name.now) (tree_of ns).stacks) (sym pushed)
+    (subst (λ (t : Tree). HasEach (with_child t c.args.parent c.args.name.now) (tree_of (nodes ++ node ∷ [])).stacks) c.self.view_is
+    (subst (λ (stacks : List Stack). HasEach stacks (tree_of (nodes ++ node ∷ [])).stacks) (stacks-pushed nodes node refl) (λ stack has. has)))
+
+-- one more node would make more than there may be
+pub returns-then-place-most-clause-full : goal.returns-then-place-most-clause-full
+returns-then-place-most-clause-full c = λ large all each.
+    let nodes = c.self.inside.nodes.items in
+    let node : Node = record { parent = c.args.parent; name = c.args.name; time = 0 } in
+    let many : c.len-place.result ≡ length nodes = search rules in
+    let parent = subst (λ (t : Tree). IsPlace t c.args.parent) (sym c.self.view_is) c.requires in
+    let more = AreMoreThan-full c.args.most nodes c.self.inside.places.entries node refl c.self.invariant parent (sym c.in_default.ensures.value) (omega (arith, c.if-place-most.true, many)) in
+    subst (λ (t : Tree). AreMoreThan c.args.most (with_child t c.args.parent c.args.name.now)) c.self.view_is more all each
