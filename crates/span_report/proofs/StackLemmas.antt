@@ -1,4 +1,5 @@
 pub mod Beginnings
+pub mod Counting
 pub mod Elders
 pub mod Filling
 pub mod Folding

@@ -29,7 +29,7 @@ any-has p x xs has passes =
     let at = any-index (same_stack x) xs has in
     list_any_at p xs at.0 [] at.1 (ap p (sym (same-true x (get_or xs at.0 []) at.2)) ∙ passes)
 
-list_any-flat_map : {A B : Type 0} (p : B → Bool) (f : A → List B) (xs : List A) → list_any p (flat_map f xs) ≡ list_any (λ x. list_any p (f x)) xs
+pub list_any-flat_map : {A B : Type 0} (p : B → Bool) (f : A → List B) (xs : List A) → list_any p (flat_map f xs) ≡ list_any (λ x. list_any p (f x)) xs
 list_any-flat_map p f [] = refl
 list_any-flat_map p f (x ∷ xs) =
     ap (list_any p) (flat_map-cons f x xs) ∙ list_any-append p (f x) (flat_map f xs) ∙ ap (λ b. list_any p (f x) || b) (list_any-flat_map p f xs)

@@ -65,7 +65,7 @@ module _ (tree : Tree) where
             ap₂ (λ a b. a + cond b (get_or tree.times n 0) 0) (rest (omega (arith, before, apart))) (differ i n (omega (arith, before, within)) (omega (arith, within)) apart) ∙ add-zero _
 
 -- a list has what it counts
-count-any : (k : Stack) (xs : List Stack) → nat_lt 0 (count_by (same_stack k) xs) ≡ list_any (same_stack k) xs
+pub count-any : (k : Stack) (xs : List Stack) → nat_lt 0 (count_by (same_stack k) xs) ≡ list_any (same_stack k) xs
 count-any k [] = refl
 count-any k (x ∷ xs) = ap (nat_lt 0) (count_by-cons (same_stack k) x xs) ∙ by (same_stack k x) (count-any k xs)
   where
@@ -80,7 +80,7 @@ count-any k (x ∷ xs) = ap (nat_lt 0) (count_by-cons (same_stack k) x xs) ∙ b
     by false rest = ap (nat_lt 0) (plain (count_by (same_stack k) xs)) ∙ rest
 
 -- the time of a stack in the tree is how many microseconds have it
-time_of-count : (spans : List (Span Bytes)) (tree : Tree) → HasTimes (earliest spans) (latest spans) (ranked spans) tree → AreApart tree → (k : Stack) → time_of tree k ≡ count_by (same_stack k) (stacks_of spans)
+pub time_of-count : (spans : List (Span Bytes)) (tree : Tree) → HasTimes (earliest spans) (latest spans) (ranked spans) tree → AreApart tree → (k : Stack) → time_of tree k ≡ count_by (same_stack k) (stacks_of spans)
 time_of-count spans tree has are [] =
     time_before-none tree [] (length tree.stacks) (λ m within. unframed (get_or tree.stacks m []) (are.framed m within))
     ∙ sym (count_by-stacks_of (same_stack []) spans ∙ count_from-none (λ u. has_frames (stack_at spans u) && same_stack [] (stack_at spans u)) (earliest spans) (distance (earliest spans) (latest spans)) (λ u from before. never (stack_at spans u)))

@@ -18,7 +18,7 @@ use Rattle.span_event.proofs.Orders.{both_equal, option_same, text_same}
 use Rattle.span_report.specs.declared.stacks.tree.Node.{Node}
 use Rattle.span_report.specs.Stacks.Microseconds.{Stack, has_frames}
 use Rattle.span_report.specs.Stacks.Nodes.{IsSameKey, IsTree, Key, grown, key_of, key_order, place_of, stacks_of_keys, tree_of}
-use Rattle.span_report.specs.Stacks.Tree.{AreApart, Extends, IsChild, IsPlace, IsPlaceBefore, Tree, stack_of, with_time}
+use Rattle.span_report.specs.Stacks.Tree.{AreApart, AreRooted, Extends, IsChild, IsPlace, IsPlaceBefore, Tree, stack_of, with_time}
 use Rattle.span_report.proofs.StackLemmas.Placing.{Extends-with_stack, with_stack}
 
 length-fold : (done : List Stack) (keys : List Key) → length (fold grown done keys) ≡ length done + length keys
@@ -200,6 +200,15 @@ AreApart-tree_of (x ∷ nodes) places is =
       framed = λ n within. framed keys places is d n (omega (arith, within, many));
       apart = λ m n first second same. apart_below keys places is d (suc m) m n (omega arith) (omega (arith, first, many)) (omega (arith, second, many)) same;
     }
+
+-- each has the stack of its parent with one more frame
+pub AreRooted-tree_of : (nodes : List Node) (places : List (Key × ℕ)) → IsTree (map key_of nodes) places → AreRooted (tree_of nodes)
+AreRooted-tree_of [] places is = λ n within. absurd (omega (arith, within))
+AreRooted-tree_of (x ∷ nodes) places is = λ n within.
+    let d = key_of x in
+    let there : n < length (map key_of (x ∷ nodes)) = omega (arith, within, length-stacks (map key_of (x ∷ nodes))) in
+    let key = get_or (map key_of (x ∷ nodes)) n d in
+    (key.0, key.1.now, is.earlier n d there, is.grows n d there)
 
 -- the place that is kept for a parent and a name
 pub IsChild-known : (nodes : List Node) (places : List (Key × ℕ)) (key : Key) (place : ℕ) → IsTree (map key_of nodes) places → place_of places key ≡ Some place → IsChild (tree_of nodes) (tree_of nodes) key.0 key.1.now (Some place)

@@ -225,6 +225,14 @@ HasEach-parted first parted old until name is all has =
     (HasEach-covered parted.tree name all parted.time until xs ys (subst (λ (l : List Stretch). FallTo parted.time (ends_of l)) (sym whole) (is.turns has.turns)) (reach-all until ys is.reach)
     (λ u later before. subst (Has all) (sym (same u)) (has.covered u (omega (arith, ints, later, is.time)) before)))
 
+-- and no stack changes
+pub stacks-spent : (until : ℤ) (place : Option ℕ) (sweep : Swept) → (spent until place sweep).tree.stacks ≡ sweep.tree.stacks
+stacks-spent until place sweep = by (int_lt sweep.time until)
+  where
+    by : (b : Bool) → (cond b (record { time = until; stretches = sweep.stretches; tree = with_time place (distance sweep.time until) sweep.tree }) sweep).tree.stacks ≡ sweep.tree.stacks
+    by true = stacks-with_time place (distance sweep.time until) sweep.tree
+    by false = refl
+
 -- the stretches up to where the time was parted are covered
 module _ (first : ℕ) (parted : Swept) (covered : List Stretch) (tree : Tree) (sound : IsSound parted) (extends : Extends parted.tree tree) where
   pub IsSound-covered : All (λ s. IsPlace tree s.place) covered → IsSound (record { time = parted.time; stretches = take first parted.stretches ++ covered; tree = tree })
@@ -265,4 +273,5 @@ module _ (first : ℕ) (parted : Swept) (covered : List Stretch) (tree : Tree) (
 pub HasTimes-stands : (from until : ℤ) (spans : List (Span Bytes)) (sweep : Swept) → Stands from spans sweep → sweep.time ≡ until → HasTimes from until spans sweep.tree
 HasTimes-stands from until spans sweep stands now = record {
   times = λ name names. stands.behind name names ∙ ap (λ t. count_from from (distance from t) (λ u. same_stack (name ∷ names) (names_at spans u))) now;
+  begun = stands.begun;
 }

@@ -148,7 +148,8 @@ abbrev pub StartBetween : ℤ → ℤ → List (Span Bytes) → Type 0
 StartBetween from until [] = from ≤ℤ until
 StartBetween from until (s ∷ spans) = (from ≤ℤ s.start) × StartBetween s.start until spans
 
--- the tree has each stack of the time between these two, for as many microseconds as have it
+-- the tree has each stack of the time between these two, for as many microseconds as have it, and otherwise only what they begin with
 pub record HasTimes (from until : ℤ) (spans : List (Span Bytes)) (tree : Tree) : Type 0 where
   pub times : (name : Bytes) (names : Stack)
       → time_of tree (name ∷ names) ≡ count_from from (distance from until) (λ u. same_stack (name ∷ names) (names_at spans u))
+  pub begun : (all : List Stack) → HasBeginnings all spans → HasEach all tree.stacks

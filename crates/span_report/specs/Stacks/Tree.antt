@@ -58,6 +58,11 @@ pub record AreApart (tree : Tree) : Type 0 where
   pub framed : (n : ℕ) → n < length tree.stacks → has_frames (slice_index_or tree.stacks n []) ≡ true
   pub apart : (m n : ℕ) → m < length tree.stacks → n < length tree.stacks → slice_index_or tree.stacks m [] ≡ slice_index_or tree.stacks n [] → m ≡ n
 
+-- each place has the stack of a place before it, or the empty one, with one more frame
+abbrev pub AreRooted : Tree → Type 0
+AreRooted tree = (n : ℕ) → n < length tree.stacks
+    → (parent : Option ℕ) × (name : Bytes) × IsPlaceBefore n parent × (slice_index_or tree.stacks n [] ≡ stack_of tree.stacks parent ++ name ∷ [])
+
 -- one of these stacks is this one
 abbrev pub Has : List Stack → Stack → Type 0
 Has stacks stack = list_any (same_stack stack) stacks ≡ true

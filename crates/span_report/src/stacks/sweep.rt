@@ -68,6 +68,7 @@ pub(crate) fn swept<'a>(
     requires from_in_time { least_time ≤ℤ from }
     requires until_in_time { until ≤ℤ greatest_until }
     ensures times { IfOk result (λ tree. HasTimes from until spans.now tree) }
+    ensures fits { IfOk result (λ tree. length tree.stacks ≤ most) }
     ensures full { result ≡ Err StacksFault.TooLarge
         → (all : List Stack) → HasBeginnings all spans.now → most < length all }
 {
@@ -85,6 +86,7 @@ impl<'a> Sweep<'a> {
         requires small { from ≤ℤ greatest_until }
         ensures time { result.time ≡ from }
         ensures stands { Stands from [] result }
+        ensures empty { result.tree.stacks ≡ [] }
     {
         Sweep {
             time: from,
@@ -99,6 +101,7 @@ impl<'a> Sweep<'a> {
         requires in_time { named.now.start ≤ℤ greatest_until }
         ensures time { OnOk result (self.new.time ≡ named.now.start) }
         ensures stands { OnOk result (StandsWith named.now self.old self.new) }
+        ensures fits { OnOk result (length self.old.tree.stacks ≤ most → length self.new.tree.stacks ≤ most) }
         ensures full { result ≡ Err StacksFault.TooLarge → IsFullWith most named.now self.old }
     {
         let span = named.span;
@@ -115,6 +118,7 @@ impl<'a> Sweep<'a> {
         requires in_time { time ≤ℤ greatest_until }
         ensures time { self.new.time ≡ time }
         ensures stands { StandsOn self.old self.new }
+        ensures stacks { self.new.tree.stacks ≡ self.old.tree.stacks }
     {
         while let Some(stretch) = self.next_before(time) {
             self.spend(stretch.until, stretch.place);
@@ -158,6 +162,7 @@ impl<'a> Sweep<'a> {
     fn cover(&mut self, until: i64, name: &'a Text, most: u32) -> Result<(), StacksFault>
         requires later { self.old.time <ℤ until }
         ensures covers { OnOk result (Covers until name.now self.old self.new) }
+        ensures fits { OnOk result (length self.old.tree.stacks ≤ most → length self.new.tree.stacks ≤ most) }
         ensures full { result ≡ Err StacksFault.TooLarge
             → (all : List Stack) → HasCovered all until name.now self.old → most < length all }
     {
@@ -237,6 +242,7 @@ fn cover_each<'a>(
     ensures places { All (λ s. IsPlace tree.new s.place) stretches.new }
     ensures covered { OnOk result (AreCovered tree.old tree.new name.now stretches.old stretches.new) }
     ensures grown { OnOk result (HasEach (with_covered tree.old name.now stretches.old) tree.new.stacks) }
+    ensures fits { OnOk result (length tree.old.stacks ≤ most → length tree.new.stacks ≤ most) }
     ensures full { result ≡ Err StacksFault.TooLarge
         → AreMoreThan most (with_covered tree.old name.now stretches.old) }
 {

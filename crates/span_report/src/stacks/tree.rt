@@ -1,7 +1,7 @@
 //! Stacks that share what they begin with, each with its time.
-ghost use Rattle.std.specs.Prelude.{◌≡◌, [], ◌+◌, ◌<◌, ◌^◌, length, map, All, Err, IfOk, OnErr, OnOk, Some};
+ghost use Rattle.std.specs.Prelude.{◌≡◌, [], ◌+◌, ◌<◌, ◌≤◌, ◌^◌, length, map, All, Err, IfOk, OnErr, OnOk, Some};
 ghost use Rattle.span_report.specs.Stacks.Order.{AreDepths, IsElder, IsOrder, depth_on, put_after, slot};
-ghost use Rattle.span_report.specs.Stacks.Tree.{AreApart, AreMoreThan, Extends, HasEach, IsChild, IsPlace, IsPlaceBefore, with_child, with_time};
+ghost use Rattle.span_report.specs.Stacks.Tree.{AreApart, AreMoreThan, AreRooted, Extends, HasEach, IsChild, IsPlace, IsPlaceBefore, with_child, with_time};
 ghost use Rattle.span_report.specs.Stacks.Walk.{IsWalk};
 
 use super::fault::StacksFault;
@@ -59,6 +59,7 @@ impl<'a> StackTree<'a> {
         ensures child { IfOk result (λ place. IsChild self.old self.new parent name.now (Some place)) }
         ensures extends { OnOk result (Extends self.old self.new) }
         ensures grown { OnOk result (HasEach (with_child self.old parent name.now) self.new.stacks) }
+        ensures fits { OnOk result (length self.old.stacks ≤ most → length self.new.stacks ≤ most) }
         ensures full { result ≡ Err StacksFault.TooLarge → AreMoreThan most (with_child self.old parent name.now) }
         ensures err { OnErr result (self.new ≡ self.old) }
     {
@@ -94,7 +95,9 @@ impl<'a> StackTree<'a> {
     // The stacks that have a microsecond or more, frame by frame and in order.
     pub(crate) fn frames(&self, alloc: Global) -> Result<Vec<StackFrame<'a>>, AllocError>
         ensures walk { IfOk result (λ frames. IsWalk self.now frames.items) }
+        ensures count { IfOk result (λ frames. length frames.items ≡ length self.now.stacks) }
         ensures apart { OnOk result (AreApart self.now) }
+        ensures rooted { OnOk result (AreRooted self.now) }
     {
         let depths = self.depths(alloc)?;
         let next = self.order(alloc)?;

@@ -1,5 +1,5 @@
 //! The stacks of a thread, frame by frame.
-ghost use Rattle.std.specs.Prelude.{◌≡◌, ◌<◌, [], map, Err, IfOk, OnErr, OnOk};
+ghost use Rattle.std.specs.Prelude.{◌≡◌, ◌<◌, ◌≤◌, [], length, map, Err, IfOk, OnErr, OnOk};
 ghost use Rattle.span_ledger.specs.Named.{AreThreadSpans};
 ghost use Rattle.span_report.specs.Stacks.Bounds.{frame_count};
 ghost use Rattle.span_report.specs.Stacks.Folded.{thread_frame_count, thread_stacks};
@@ -58,6 +58,9 @@ pub fn framed_stacks(
     ensures stacks { IfOk result (λ frames. folded_after [] frames.items
         ≡ thread_stacks ledger.now.journal (record { pid = pid; tid = tid })) }
     ensures ascending { IfOk result (λ frames. AreAscending [] frames.items) }
+    ensures count { IfOk result (λ frames. length frames.items
+        ≡ thread_frame_count ledger.now.journal (record { pid = pid; tid = tid })) }
+    ensures fits { IfOk result (λ frames. length frames.items ≤ most) }
     ensures full { result ≡ Err StacksFault.TooLarge
         → most < thread_frame_count ledger.now.journal (record { pid = pid; tid = tid }) }
 {
@@ -75,6 +78,8 @@ fn frames_of<'a>(
     ensures stacks { IfOk result
         (λ frames. folded_after [] frames.items ≡ folded_stacks spans.entry.items) }
     ensures ascending { IfOk result (λ frames. AreAscending [] frames.items) }
+    ensures count { IfOk result (λ frames. length frames.items ≡ frame_count spans.entry.items) }
+    ensures fits { IfOk result (λ frames. length frames.items ≤ most) }
     ensures full { result ≡ Err StacksFault.TooLarge → most < frame_count spans.entry.items }
 {
     let (from, until) = bounds(&spans);

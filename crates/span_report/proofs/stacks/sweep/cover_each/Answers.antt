@@ -9,16 +9,19 @@ use Rattle.span_report.proofs.StackLemmas.Stretches.{CoversFirst-more, CoversFir
 use Rattle.span_report.proofs.stacks.sweep.cover_each.Goals as goal
 
 pub loop-stretch-init : goal.loop-stretch-init
-loop-stretch-init c = CoversFirst-none c.args.tree.now c.args.name.now c.args.stretches.now c.requires.even c.requires.places
+loop-stretch-init c = record { covers = CoversFirst-none c.args.tree.now c.args.name.now c.args.stretches.now c.requires.even c.requires.places; fits = λ before. before }
 
 pub child-requires : goal.child-requires
-child-requires c = c.loop-stretch.invariant.places c.loop-stretch.stretch-index _ (omega (arith, c.loop-stretch-test.true, c.loop-stretch.auto.stretch-items))
+child-requires c = c.loop-stretch.invariant.covers.places c.loop-stretch.stretch-index _ (omega (arith, c.loop-stretch-test.true, c.loop-stretch.auto.stretch-items))
 
 pub loop-stretch-preserved : goal.loop-stretch-preserved
 loop-stretch-preserved c =
     let d : Stretch = record { until = pos 0; place = None } in
-    CoversFirst-more c.loop-stretch.stretch-index c.args.tree.now c.loop-stretch.tree c.child.new.self c.args.name.now c.args.stretches.now c.loop-stretch.stretch-items c.in_ok-place.place d
-    c.loop-stretch-test.true (omega (arith, c.loop-stretch-test.true, c.loop-stretch.auto.stretch-items)) c.requires.places c.loop-stretch.invariant c.in_ok-place.ensures.extends c.in_ok-place.ensures.child c.in_ok-place.ensures.grown
+    record {
+      covers = CoversFirst-more c.loop-stretch.stretch-index c.args.tree.now c.loop-stretch.tree c.child.new.self c.args.name.now c.args.stretches.now c.loop-stretch.stretch-items c.in_ok-place.place d
+          c.loop-stretch-test.true (omega (arith, c.loop-stretch-test.true, c.loop-stretch.auto.stretch-items)) c.requires.places c.loop-stretch.invariant.covers c.in_ok-place.ensures.extends c.in_ok-place.ensures.child c.in_ok-place.ensures.grown;
+      fits = λ before. c.in_ok-place.ensures.fits (c.loop-stretch.invariant.fits before);
+    }
 
 pub returns-in_err-place-clause-full : goal.returns-in_err-place-clause-full
 returns-in_err-place-clause-full c = λ large.
@@ -28,4 +31,4 @@ returns-in_err-place-clause-full c = λ large.
     let d : Stretch = record { until = pos 0; place = None } in
     let failed : c.child.result ≡ Err TooLarge = search rules in
     AreMoreThan-more c.args.most (with_covered c.args.tree.now c.args.name.now xs) (with_child c.loop-stretch.tree (get_or ys n d).place c.args.name.now)
-    (HasEach-child n c.args.tree.now c.loop-stretch.tree c.args.name.now xs ys d c.loop-stretch-test.true c.requires.places c.loop-stretch.invariant) (c.child.ensures.full failed)
+    (HasEach-child n c.args.tree.now c.loop-stretch.tree c.args.name.now xs ys d c.loop-stretch-test.true c.requires.places c.loop-stretch.invariant.covers) (c.child.ensures.full failed)

@@ -35,6 +35,7 @@ loop-named-preserved c =
     record {
       stands = subst (λ (l : List (Span Bytes)). Stands (to_z w64 (of_z w64 c.args.from)) l c.take.new.self) (sym longer) (c.in_ok-take.ensures.stands (to_z w64 (of_z w64 c.args.from)) (take i spans) c.loop-named.invariant.stands);
       between = subst (λ (t : ℤ). StartBetween t (to_z w64 (of_z w64 c.args.until)) (drop (i + 1) spans)) (sym c.in_ok-take.ensures.time) between.1;
+      fits = c.in_ok-take.ensures.fits c.loop-named.invariant.fits;
     }
 
 pub returns-clause-times : goal.returns-clause-times

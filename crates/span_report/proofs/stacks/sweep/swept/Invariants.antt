@@ -1,4 +1,4 @@
-use Rattle.std.proofs.Common.{drop, take}
+use Rattle.std.proofs.Common.{◌≤◌, drop, length, take}
 use Rattle.span_report.specs.Stacks.Sweep.{Stands, StartBetween}
 use Rattle.span_report.proofs.stacks.sweep.swept.Given as goal
 
@@ -7,4 +7,5 @@ abbrev pub invariant-loop-named : goal.invariant-loop-named
 invariant-loop-named l = record {
   stands : Stands l.from (take l.named-index l.spans) l.sweep;
   between : StartBetween l.sweep.time l.until (drop l.named-index l.spans);
+  fits : length l.sweep.tree.stacks ≤ l.most;
 }

@@ -3,7 +3,8 @@ use Rattle.std.proofs.lemmas.List.{take_rest}
 use Rattle.std.specs.Prelude.{Result, Ok, Err, OnOk}
 use Rattle.span_report.specs.declared.stacks.sweep.Stretch.{Stretch}
 use Rattle.span_report.specs.Stacks.Sweep.{AreCovered, Covers, IsPartedAt, IsSound, Swept, with_covered}
-use Rattle.span_report.specs.Stacks.Tree.{HasEach}
+use Rattle.span_report.specs.Stacks.Tree.{HasEach, Tree}
+use Rattle.span_keyed_tracks.proofs.Results.{on_ok-map}
 use Rattle.span_report.proofs.StackLemmas.Stretches.{stitched}
 use Rattle.span_report.proofs.StackLemmas.Sweeping.{Covers-parted, HasEach-parted, IsSound-covered}
 use Rattle.span_report.proofs.stacks.sweep.Sweep.cover.Goals as goal
@@ -56,3 +57,10 @@ returns-clause-full c = λ large all has.
     let rest = take_rest xs first ∙ ap (drop first) c.deref_mut.ensures.value in
     let each = HasEach-parted first parted c.args.self.now c.args.until c.args.name.now is all has in
     c.cover_each.ensures.full large all (subst (λ (l : List Stretch). HasEach all (with_covered c.self.inside.tree c.args.name.now l)) (sym rest) each)
+
+pub returns-clause-fits : goal.returns-clause-fits
+returns-clause-fits c =
+    let first = c.in_ok-first.first in
+    let parted : Swept = record { time = c.self.inside.time; stretches = c.self.inside.stretches.items; tree = c.self.inside.tree } in
+    let is = subst (IsPartedAt _ first c.args.self.now) (sym c.self.view_is) c.in_ok-first.ensures in
+    on_ok-map c.cover_each.result _ _ (λ fits before. fits (subst (λ (t : Tree). length t.stacks ≤ c.args.most) (sym is.tree) before)) c.cover_each.ensures.fits

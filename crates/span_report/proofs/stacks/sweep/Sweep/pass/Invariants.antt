@@ -1,4 +1,4 @@
-use Rattle.std.proofs.Common.{◌≤ℤ◌, length}
+use Rattle.std.proofs.Common.{◌≡◌, ◌≤ℤ◌, length}
 use Rattle.span_report.specs.Stacks.Sweep.{StandsOn}
 use Rattle.span_report.proofs.stacks.sweep.Sweep.pass.Given as goal
 
@@ -10,4 +10,5 @@ abbrev pub invariant-loop-stretch : goal.invariant-loop-stretch
 invariant-loop-stretch l = record {
   stands : StandsOn l.fn.self l.self;
   forward : l.self.time ≤ℤ l.time;
+  stacks : l.self.tree.stacks ≡ l.fn.self.tree.stacks;
 }

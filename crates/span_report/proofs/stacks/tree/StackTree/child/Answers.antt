@@ -1,5 +1,5 @@
 use Rattle.std.proofs.Common.{◌≡◌, ◌++◌, [], ◌∷◌, List, arith, cond, length, map, Some, refl, rules, sym, ap, subst, ◌∙◌}
-use Rattle.std.proofs.lemmas.List.{length-map, map_push}
+use Rattle.std.proofs.lemmas.List.{length-map, length_push, map_push}
 use Rattle.std.specs.Ordering.{is_eq}
 use Rattle.span_report.specs.declared.stacks.tree.Node.{Node}
 use Rattle.span_report.specs.Stacks.Microseconds.{Stack}
@@ -7,7 +7,7 @@ use Rattle.span_report.specs.Stacks.Nodes.{IsTree, Key, key_of, key_order, place
 use Rattle.span_report.specs.Stacks.Tree.{AreMoreThan, Extends, HasEach, IsChild, IsPlace, IsPlaceBefore, Tree, stack_of, with_child}
 use Rattle.span_report.proofs.StackLemmas.Filling.{AreMoreThan-full, stacks-pushed}
 use Rattle.span_report.proofs.StackLemmas.Members.{has-left}
-use Rattle.span_report.proofs.StackLemmas.NodeTrees.{Extends-push, Extends-same, IsChild-known, IsChild-push, IsTree-push, length-stacks, times-even}
+use Rattle.span_report.proofs.StackLemmas.NodeTrees.{Extends-push, Extends-same, IsChild-known, IsChild-push, IsTree-push, length-stacks, length-tree_of, times-even}
 use Rattle.span_report.proofs.stacks.tree.StackTree.child.Goals as goal
 
 pub returns-in-Some-clause-child : goal.returns-in-Some-clause-child
@@ -79,3 +79,11 @@ returns-then-place-most-clause-full c = λ large all each.
     let parent = subst (λ (t : Tree). IsPlace t c.args.parent) (sym c.self.view_is) c.requires in
     let more = AreMoreThan-full c.args.most nodes c.self.inside.places.entries node refl c.self.invariant parent (sym c.in_default.ensures.value) (omega (arith, c.if-place-most.true, many)) in
     subst (λ (t : Tree). AreMoreThan c.args.most (with_child t c.args.parent c.args.name.now)) c.self.view_is more all each
+
+pub returns-clause-fits : goal.returns-clause-fits
+returns-clause-fits c = λ before.
+    let nodes = c.self.inside.nodes.items in
+    let node : Node = record { parent = c.args.parent; name = c.args.name; time = 0 } in
+    let pushed : c.push_reserved.new.self.items ≡ nodes ++ node ∷ [] = c.push_reserved.ensures.items ∙ ap (λ (ns : List Node). ns ++ node ∷ []) c.in_ok-reserve.ensures.items in
+    let many : c.len-place.result ≡ length nodes = search rules in
+    omega (arith, length-tree_of c.push_reserved.new.self.items, ap (λ (ns : List Node). length ns) pushed, length_push nodes node, many, c.if-place-most.false)
