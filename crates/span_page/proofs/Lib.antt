@@ -1,4 +1,5 @@
 pub mod Appending
 pub mod Coding
+pub mod Graphs
 pub mod Joined
 pub mod SafeTexts

@@ -1,12 +1,12 @@
 -- The data of a page, as a JSON text.
-use Rattle.std.specs.Prelude.{ℕ, List, [], ◌∷◌, ◌++◌, map, flat_map, codes, decimal}
+use Rattle.std.specs.Prelude.{ℕ, ◌-◌, nat_lt, if◌then◌else◌, List, [], ◌∷◌, ◌++◌, map, flat_map, codes, decimal}
 use Rattle.std.specs.List.{join_with_byte}
 use Rattle.span_event.specs.declared.thread.Thread.{Thread}
 use Rattle.span_ledger.specs.declared.entry.Entry.{Entry}
 use Rattle.span_ledger.specs.Parts.{ProcessRows, ThreadRows, process_parts}
 use Rattle.span_report.specs.Lines.{json_text_of}
 use Rattle.span_report.specs.Report.{report_of}
-use Rattle.span_report.specs.Stacks.Folded.{thread_stacks}
+use Rattle.span_report.specs.Stacks.Folded.{thread_frame_count, thread_stacks}
 use Rattle.span_report.specs.Stacks.Microseconds.{Folded}
 use Rattle.span_collect.specs.declared.files.FileEnd.{FileEnd}
 use Rattle.span_collect.specs.declared.files.Input.{Input}
@@ -41,11 +41,29 @@ threads_of parts = flat_map threads_in parts
 abbrev pub thread_json : List Entry → Thread → List ℕ
 thread_json journal thread = stacks_json (thread_stacks journal thread)
 
--- the stacks of each thread of a journal
-unfoldable pub all_stacks_json : List Entry → List ℕ
-all_stacks_json journal = array_of (map (thread_json journal) (threads_of (process_parts journal)))
+-- the most frames of all graphs of a page
+abbrev pub most_frames : ℕ
+most_frames = 4194304
 
--- the text of the report, that of the refusals, and the stacks of each thread
+module _ (journal : List Entry) where
+  -- the stacks of a thread, if its graph has no more frames than these; and else nothing
+  abbrev pub graph_json : ℕ → Thread → List ℕ
+  graph_json left thread = if nat_lt left (thread_frame_count journal thread) then codes "null" else thread_json journal thread
+
+  -- how many frames are left behind it
+  abbrev pub left_after : ℕ → Thread → ℕ
+  left_after left thread = if nat_lt left (thread_frame_count journal thread) then left else left - thread_frame_count journal thread
+
+  -- the graphs of threads, one after the other, as each fits into what those before it leave
+  abbrev pub graphs_json : ℕ → List Thread → List (List ℕ)
+  graphs_json left [] = []
+  graphs_json left (thread ∷ later) = graph_json left thread ∷ graphs_json (left_after left thread) later
+
+-- the stacks of each thread of a journal whose graph fits
+unfoldable pub all_stacks_json : List Entry → List ℕ
+all_stacks_json journal = array_of (graphs_json journal most_frames (threads_of (process_parts journal)))
+
+-- the text of the report, that of the refusals, and the stacks of the threads
 abbrev pub data_of : List Input → List FileEnd → List Entry → List ℕ
 data_of files ends journal =
     codes "{\"report\":" ++ (json_text_of (report_of journal)

@@ -1,8 +1,8 @@
 //! The data of a page.
-ghost use Rattle.std.specs.Prelude.{◌≡◌, ◌++◌, length, map, string_bytes, IfOk, OnOk};
+ghost use Rattle.std.specs.Prelude.{◌≡◌, ◌++◌, length, string_bytes, IfOk, OnOk};
 ghost use Rattle.std.specs.List.{join_with_byte};
 ghost use Rattle.span_report.specs.Lines.{json_text_of};
-ghost use Rattle.span_page.specs.Data.{all_stacks_json, data_of, thread_json, threads_in, threads_of};
+ghost use Rattle.span_page.specs.Data.{all_stacks_json, data_of, graph_json, graphs_json, left_after, most_frames, threads_in, threads_of};
 
 use crate::stacks::put_stacks;
 use serde_json::Value;
@@ -11,10 +11,13 @@ use span_collect::{FileEnd, Input};
 use span_event::Thread;
 use span_ledger::{Ledger, ProcessPart};
 use span_report::report_text;
-use span_report::stacks::framed_stacks;
+use span_report::stacks::{StacksFault, framed_stacks};
 use std::alloc::{AllocError, Global};
 
-// The report and the refusals as they are printed, and the folded stacks of each thread.
+// How many frames the graphs of a page may have in all.
+const MOST_FRAMES: u32 = 4_194_304;
+
+// The report and the refusals as they are printed, and the folded stacks of the threads.
 pub(crate) fn data_text(
     alloc: Global,
     ledger: &Ledger,
@@ -80,7 +83,7 @@ fn put_threads_in(threads: &mut Vec<Thread>, process: &ProcessPart) -> Result<()
     Ok(())
 }
 
-// Appends the stacks of each thread, parted by commas.
+// Appends the graph of each thread, parted by commas, as long as there are frames left for it.
 fn put_threads(
     alloc: Global,
     out: &mut String,
@@ -88,27 +91,40 @@ fn put_threads(
     threads: &[Thread],
 ) -> Result<(), AllocError>
     ensures { OnOk result (string_bytes out.new
-        ≡ string_bytes out.old ++ join_with_byte 44 (map (thread_json ledger.now.journal) threads.now)) }
+        ≡ string_bytes out.old ++ join_with_byte 44 (graphs_json ledger.now.journal most_frames threads.now)) }
 {
     let Some((first, later)) = threads.split_first() else {
         return Ok(());
     };
-    put_thread(alloc, out, ledger, first)?;
+    let mut left = put_thread(alloc, out, ledger, first, MOST_FRAMES)?;
     for thread in later {
         out.push(',')?;
-        put_thread(alloc, out, ledger, thread)?;
+        left = put_thread(alloc, out, ledger, thread, left)?;
     }
     Ok(())
 }
 
+// Appends the stacks of a thread, or `null` where its graph has more frames than are left. Answers how many are left behind it.
 fn put_thread(
     alloc: Global,
     out: &mut String,
     ledger: &Ledger,
     thread: &Thread,
-) -> Result<(), AllocError>
-    ensures { OnOk result (string_bytes out.new ≡ string_bytes out.old ++ thread_json ledger.now.journal thread.now) }
+    left: u32,
+) -> Result<u32, AllocError>
+    ensures json { OnOk result (string_bytes out.new
+        ≡ string_bytes out.old ++ graph_json ledger.now.journal left thread.now) }
+    ensures left { IfOk result (λ rest. rest ≡ left_after ledger.now.journal left thread.now) }
 {
-    let frames = framed_stacks(alloc, ledger, thread.pid, thread.tid)?;
-    put_stacks(alloc, out, &frames)
+    match framed_stacks(alloc, ledger, thread.pid, thread.tid, left) {
+        Ok(frames) => {
+            put_stacks(alloc, out, &frames)?;
+            Ok(left - frames.len() as u32)
+        }
+        Err(StacksFault::TooLarge) => {
+            out.push_str("null")?;
+            Ok(left)
+        }
+        Err(StacksFault::Memory) => Err(AllocError),
+    }
 }
