@@ -2,6 +2,7 @@
 
 const FIRST_GRAPHS = 50;
 const MORE_GRAPHS = 200;
+const MOST_FRAMES = 4194304;
 const REASONS = {
   NotObject: "the element isn't an object",
   NoPhase: "it has no phase, or one that isn't a text",
@@ -129,7 +130,7 @@ function namesTable() {
 /** The name of a row, which opens the flame graph of its thread where the name is. */
 function graphButton(row) {
   const button = element("button", { type: "button", className: "name", onclick: () => graphs.find(row) }, nameElement(row.name));
-  button.disabled = data.stacks[row.thread.at].length === 0;
+  button.disabled = !hasGraph(row.thread);
   return button;
 }
 
@@ -159,9 +160,18 @@ function showRows() {
 
 // The flame graphs, of which the busiest threads' are listed, in the order of the report
 
+/** Whether the graph of a thread is left out, since with it the page would have too many frames. */
+function isLeftOut(thread) {
+  return data.stacks[thread.at] === null;
+}
+
+function hasGraph(thread) {
+  return !isLeftOut(thread) && data.stacks[thread.at].length > 0;
+}
+
 class Graphs {
   constructor() {
-    this.threads = report.threads.filter((thread) => data.stacks[thread.at].length > 0);
+    this.threads = report.threads.filter((thread) => isLeftOut(thread) || hasGraph(thread));
     this.mostBusy = greatest(this.threads.map((thread) => thread.busy));
     Object.assign(this, { sections: new Map(), graphs: new Map(), most: FIRST_GRAPHS, marks: null, sought: null });
     byId("more-graphs").onclick = () => this.show(this.most + MORE_GRAPHS);
@@ -191,6 +201,13 @@ class Graphs {
       + (idle > 0 ? `; in ${grouped(idle)} more no span covers a microsecond` : "");
   }
 
+  showLeftOut() {
+    const count = this.threads.filter(isLeftOut).length;
+    byId("left-out").hidden = count === 0;
+    byId("left-out").textContent = `${count === 1 ? "1 graph is" : `${grouped(count)} graphs are`} left out: the graphs of a page have `
+      + `at most ${grouped(MOST_FRAMES)} frames in all, and a graph that has more than those before it leave is left out.`;
+  }
+
   sectionOf(thread) {
     if (!this.sections.has(thread)) this.sections.set(thread, this.makeSection(thread));
     return this.sections.get(thread);
@@ -200,8 +217,11 @@ class Graphs {
     const numbers = element("span", { className: "busy" }, `busy ${timeText(thread.busy)}`);
     setBar(numbers, fraction(thread.busy, this.mostBusy));
     const open = thread.open > 0n ? `, ${grouped(thread.open)} open` : "";
-    const summary = element("summary", {}, numbers, "thread ", nameElement(thread.label), " of process ",
-      nameElement(thread.process.label), element("span", { className: "hint" }, open));
+    const parts = [numbers, "thread ", nameElement(thread.label), " of process ", nameElement(thread.process.label)];
+    if (isLeftOut(thread)) {
+      return element("p", { className: "left-out" }, ...parts, element("span", { className: "hint" }, `${open}, left out: too many frames`));
+    }
+    const summary = element("summary", {}, ...parts, element("span", { className: "hint" }, open));
     return element("details", { ontoggle: () => this.graphOf(thread) }, summary);
   }
 
@@ -258,7 +278,8 @@ function start() {
   fillChoice(byId("process"), "all processes", report.processes);
   fillChoice(byId("thread"), "all threads", report.threads);
   showRows();
-  const [busiest] = graphs.show();
+  graphs.showLeftOut();
+  const busiest = graphs.show().find(hasGraph);
   if (busiest) graphs.sectionOf(busiest).open = true;
   document.querySelector("main").ariaBusy = "false";
   performance.mark("ready");

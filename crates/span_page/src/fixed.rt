@@ -4,7 +4,7 @@ pub(crate) const HEAD: &str = r#"<!DOCTYPE html>
 <html lang="en">
 <head>
 <meta charset="utf-8">
-<meta http-equiv="Content-Security-Policy" content="default-src 'none'; script-src 'sha256-nQ24t0K/dCxLE7NWN/ZonsPb1GOtnCwsSTs/fqmU2SE='; style-src 'sha256-8ywDFo4ITRHkT+V0CvoLSE8RxRw9nl4p9UZk/+NlwFM='; base-uri 'none'; form-action 'none'">
+<meta http-equiv="Content-Security-Policy" content="default-src 'none'; script-src 'sha256-iMIgw6P5pPbtwG6w+LvBvj3XIuYSW5LYAkrtzvBRPdI='; style-src 'sha256-pEC+JvRN2YTxjxl5f4aflaLUpIjXWzCXq3bq7EkjD30='; base-uri 'none'; form-action 'none'">
 <meta name="viewport" content="width=device-width, initial-scale=1">
 <meta name="color-scheme" content="light dark">
 <title>tracebook</title>
@@ -61,9 +61,9 @@ td.name bdi { display: -webkit-box; -webkit-box-orient: vertical; -webkit-line-c
 button.name { border: 0; padding: 0; line-height: inherit; vertical-align: top; background: none; text-align: left; color: var(--link); }
 button.name:disabled { color: inherit; }
 button.name:hover:enabled { text-decoration: underline; }
-details { margin: 0.35rem 0; }
+details, .left-out { margin: 0.35rem 0; }
 summary { padding: 0.2rem 0.3rem; cursor: pointer; overflow: hidden; text-overflow: ellipsis; }
-#graphs > details, #others > details { border: 1px solid var(--line); border-radius: 6px; padding: 0.2rem 0.6rem; }
+#graphs > details, #graphs > .left-out, #others > details { border: 1px solid var(--line); border-radius: 6px; padding: 0.2rem 0.6rem; }
 .busy { display: inline-block; min-width: 17rem; margin-right: 0.8rem; padding: 0 0.4rem; font-variant-numeric: tabular-nums; }
 .graph { padding: 0.3rem 0 0.4rem; }
 .steps { display: flex; gap: 0.5rem; align-items: start; min-height: 3rem; }
@@ -99,6 +99,7 @@ canvas { position: sticky; top: 0; display: block; width: 100%; }
 <p class="hint"><label>Order
 <select id="order"><option value="widest">widest first</option><option value="name">by name</option></select></label>
 A click or Enter zooms into a frame, Escape or Backspace goes back, arrow keys move.</p>
+<p id="left-out" class="warning" hidden></p>
 <div id="graphs"></div>
 <p id="graphs-shown" class="status" role="status"></p>
 <button id="more-graphs" type="button" hidden>Show more threads</button>
@@ -663,6 +664,7 @@ class Graph {
 
 const FIRST_GRAPHS = 50;
 const MORE_GRAPHS = 200;
+const MOST_FRAMES = 4194304;
 const REASONS = {
   NotObject: "the element isn't an object",
   NoPhase: "it has no phase, or one that isn't a text",
@@ -790,7 +792,7 @@ function namesTable() {
 /** The name of a row, which opens the flame graph of its thread where the name is. */
 function graphButton(row) {
   const button = element("button", { type: "button", className: "name", onclick: () => graphs.find(row) }, nameElement(row.name));
-  button.disabled = data.stacks[row.thread.at].length === 0;
+  button.disabled = !hasGraph(row.thread);
   return button;
 }
 
@@ -820,9 +822,18 @@ function showRows() {
 
 // The flame graphs, of which the busiest threads' are listed, in the order of the report
 
+/** Whether the graph of a thread is left out, since with it the page would have too many frames. */
+function isLeftOut(thread) {
+  return data.stacks[thread.at] === null;
+}
+
+function hasGraph(thread) {
+  return !isLeftOut(thread) && data.stacks[thread.at].length > 0;
+}
+
 class Graphs {
   constructor() {
-    this.threads = report.threads.filter((thread) => data.stacks[thread.at].length > 0);
+    this.threads = report.threads.filter((thread) => isLeftOut(thread) || hasGraph(thread));
     this.mostBusy = greatest(this.threads.map((thread) => thread.busy));
     Object.assign(this, { sections: new Map(), graphs: new Map(), most: FIRST_GRAPHS, marks: null, sought: null });
     byId("more-graphs").onclick = () => this.show(this.most + MORE_GRAPHS);
@@ -852,6 +863,13 @@ class Graphs {
       + (idle > 0 ? `; in ${grouped(idle)} more no span covers a microsecond` : "");
   }
 
+  showLeftOut() {
+    const count = this.threads.filter(isLeftOut).length;
+    byId("left-out").hidden = count === 0;
+    byId("left-out").textContent = `${count === 1 ? "1 graph is" : `${grouped(count)} graphs are`} left out: the graphs of a page have `
+      + `at most ${grouped(MOST_FRAMES)} frames in all, and a graph that has more than those before it leave is left out.`;
+  }
+
   sectionOf(thread) {
     if (!this.sections.has(thread)) this.sections.set(thread, this.makeSection(thread));
     return this.sections.get(thread);
@@ -861,8 +879,11 @@ class Graphs {
     const numbers = element("span", { className: "busy" }, `busy ${timeText(thread.busy)}`);
     setBar(numbers, fraction(thread.busy, this.mostBusy));
     const open = thread.open > 0n ? `, ${grouped(thread.open)} open` : "";
-    const summary = element("summary", {}, numbers, "thread ", nameElement(thread.label), " of process ",
-      nameElement(thread.process.label), element("span", { className: "hint" }, open));
+    const parts = [numbers, "thread ", nameElement(thread.label), " of process ", nameElement(thread.process.label)];
+    if (isLeftOut(thread)) {
+      return element("p", { className: "left-out" }, ...parts, element("span", { className: "hint" }, `${open}, left out: too many frames`));
+    }
+    const summary = element("summary", {}, ...parts, element("span", { className: "hint" }, open));
     return element("details", { ontoggle: () => this.graphOf(thread) }, summary);
   }
 
@@ -919,7 +940,8 @@ function start() {
   fillChoice(byId("process"), "all processes", report.processes);
   fillChoice(byId("thread"), "all threads", report.threads);
   showRows();
-  const [busiest] = graphs.show();
+  graphs.showLeftOut();
+  const busiest = graphs.show().find(hasGraph);
   if (busiest) graphs.sectionOf(busiest).open = true;
   document.querySelector("main").ariaBusy = "false";
   performance.mark("ready");
