@@ -3,7 +3,7 @@
 use span_ledger::Ledger;
 use span_report::comparisons::{comparison, write_comparison};
 use span_report::rankings::{By, ranking, write_ranking};
-use span_report::stacks::{folded, write_folded};
+use span_report::stacks::{FoldedFault, folded, write_folded};
 use span_report::{WriteFault, Writer, report, write_report};
 use span_test_support::{Output, is_whole_or_none, room_at_last};
 use std::alloc::{AllocError, AllocGlobal, Global};
@@ -26,7 +26,7 @@ impl<'a> Printed<'a> {
             Printed::Report(ledger) => report(alloc, ledger),
             Printed::Ranking(ledger, most, by) => ranking(alloc, ledger, *most, *by),
             Printed::Comparison(base, other) => comparison(alloc, base, other),
-            Printed::Stacks(ledger) => folded(alloc, ledger),
+            Printed::Stacks(ledger) => folded(alloc, ledger).map_err(|_| AllocError),
         }
     }
 
@@ -39,7 +39,13 @@ impl<'a> Printed<'a> {
             Printed::Comparison(base, other) => {
                 write_comparison(alloc, base, other, &mut Writer::new(output))
             }
-            Printed::Stacks(ledger) => write_folded(alloc, ledger, &mut Writer::new(output)),
+            Printed::Stacks(ledger) => {
+                match write_folded(alloc, ledger, &mut Writer::new(output)) {
+                    Ok(()) => Ok(()),
+                    Err(FoldedFault::Output { written }) => Err(WriteFault::Output { written }),
+                    Err(_) => Err(WriteFault::Memory),
+                }
+            }
         }
     }
 

@@ -1,8 +1,13 @@
-//! Folded stacks that an output or memory cuts off, and the laws on their times.
+//! Folded stacks that an output or memory cuts off, those that have too many names, and the laws on their times.
 
 use super::printed::Printed;
+use span_ledger::Ledger;
+use span_report::Writer;
 use span_report::stacks::laws::{busy_law, self_law};
+use span_report::stacks::{FoldedFault, StacksFault, folded, write_folded};
 use span_test_support::{told, told_at_last};
+use std::alloc::{AllocError, AllocGlobal, Global};
+use std::process::Abort;
 use std::test::Fail;
 
 // Of `a`'s 10 microseconds `b` has 6, and `c` 4 of these in 3 spans.
@@ -33,4 +38,51 @@ fn a_refused_growth_leaves_no_part_of_the_stacks(rt: HostRuntime) -> Result<(), 
 fn holds_its_laws(_rt: HostRuntime) {
     busy_law();
     self_law();
+}
+
+// Spans of which each begins a microsecond after the one before, and that end together. So the n-th stack has n names.
+fn ending_together(alloc: Global, count: u64) -> Result<String, AllocError> {
+    let mut events = String::new(alloc);
+    let mut comma = '[';
+    for start in 0..count {
+        let length = count - start;
+        events.push(comma)?;
+        write!(
+            events,
+            r#"{{"ph":"X","name":"a","ts":{start},"dur":{length},"pid":1,"tid":1}}"#
+        )?;
+        comma = ',';
+    }
+    events.push(']')?;
+    Ok(events)
+}
+
+// 1 + 2 + .. + 11,584 names are 67,100,320, fewer than 67,108,864. The n-th line has 2 n + 6 bytes.
+#[test]
+fn has_as_many_names_as_it_may(rt: HostRuntime) -> Result<(), Fail> {
+    let events = ending_together(rt.alloc(), 11_584)?;
+    let ledger = told(rt.alloc(), events.as_str()).ok_or("not told")?;
+    let length = folded(rt.alloc(), &ledger).map(|text| text.len());
+    drop(ledger);
+    assert!(rt; length == Ok(134_270_144));
+    Ok(())
+}
+
+// With one span more they are 67,111,905.
+#[test]
+fn refuses_more_names_than_it_may_have(rt: HostRuntime) -> Result<(), Fail> {
+    let events = ending_together(rt.alloc(), 11_585)?;
+    let ledger = told(rt.alloc(), events.as_str()).ok_or("not told")?;
+    let refused = is_too_large(&rt, &ledger);
+    drop(ledger);
+    refused
+}
+
+fn is_too_large(rt: &(impl Abort + AllocGlobal), ledger: &Ledger) -> Result<(), Fail> {
+    assert!(rt; folded(rt.alloc(), ledger).is_err_and(|fault| fault == StacksFault::TooLarge));
+    let mut out: Vec<u8> = Vec::new(rt.alloc());
+    let written = write_folded(rt.alloc(), ledger, &mut Writer::new(&mut out));
+    assert!(rt; written == Err(FoldedFault::TooLarge) && out.is_empty());
+    assert_eq!(rt; FoldedFault::TooLarge.code(), 56);
+    Ok(())
 }
