@@ -9,7 +9,7 @@ use Rattle.span_self_time.specs.declared.span.NameTotal.{NameTotal}
 use Rattle.span_self_time.specs.Spans.{Span, length_of, named}
 use Rattle.span_self_time.specs.Laws.{AreSpans}
 use Rattle.span_self_time.specs.Closed.{IsInTime, Totals, AreTotals, total_in, total_for}
-use Rattle.indexmap.specs.IndexMap.{keys}
+use Rattle.std.specs.Map.{keys_of}
 use Rattle.indexmap.specs.IndexSet.{insert_key}
 use Rattle.span_self_time.proofs.Names.{names_of-append}
 use Rattle.span_self_time.proofs.Counts.{add-distance}
@@ -43,12 +43,8 @@ total-le (s ∷ spans) name are in_time =
     by_test true here rest = omega (arith, sum_by-cons (λ s. length_of s) s (named nat_eq name spans))
     by_test false here rest = omega arith
 
--- room for one more name leaves the totals
-pub AreTotals-same : (old new : Totals) (spans : List (Span ℕ)) → new.entries ≡ old.entries → AreTotals old spans → AreTotals new spans
-AreTotals-same old new spans same are = record { names = rw same are.names; each = λ name. rw same (are.each name) }
-
 -- one more span adds its length to the total of its name, and its name at the end where it is new
-pub AreTotals-append : (before after : Totals) (spans : List (Span ℕ)) (s : Span ℕ) (more : ℕ) → AreTotals before spans → more ≡ length_of s → keys after ≡ insert_key nat_eq (keys before) s.name → ((other : ℕ) → total_in after other ≡ cond (s.name == other) (record { count = (total_in before s.name).count + 1; total = (total_in before s.name).total + more }) (total_in before other)) → AreTotals after (spans ++ s ∷ [])
+pub AreTotals-append : (before after : Totals) (spans : List (Span ℕ)) (s : Span ℕ) (more : ℕ) → AreTotals before spans → more ≡ length_of s → keys_of after ≡ insert_key nat_eq (keys_of before) s.name → ((other : ℕ) → total_in after other ≡ cond (s.name == other) (record { count = (total_in before s.name).count + 1; total = (total_in before s.name).total + more }) (total_in before other)) → AreTotals after (spans ++ s ∷ [])
 AreTotals-append before after spans s more held length named added = record {
   names = named ∙ ap (λ names. insert_key nat_eq names s.name) held.names ∙ sym (names_of-append spans s);
   each = λ other. added other ∙ by_test other (s.name == other) refl ∙ sym (total_for-append spans s other);

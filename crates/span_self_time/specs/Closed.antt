@@ -1,8 +1,6 @@
 -- The closed spans that a track keeps, and their totals.
 use Rattle.std.specs.Prelude.{◌≡◌, ◌≢◌, ℕ, ◌+◌, ◌<◌, ◌^◌, ℤ, pos, ◌≤ℤ◌, List, length, All, nat_eq, unwrap_or}
-use Rattle.indexmap.specs.IndexMap.{IndexMap, get, keys}
-use Rattle.std.specs.declared.hash.FoldHasher.{FoldHasher}
-use Rattle.std.specs.declared.hash.BuildHasherDefault.{BuildHasherDefault}
+use Rattle.std.specs.Map.{keys_of, lookup}
 use Rattle.span_event.specs.Event.{least_time}
 use Rattle.span_self_time.specs.declared.span.ClosedSpan.{ClosedSpan}
 use Rattle.span_self_time.specs.declared.span.NameTotal.{NameTotal}
@@ -33,12 +31,12 @@ pub record CanJoin (spans more : List (Span ℕ)) : Type 0 where
   pub apart : All (λ s. All (λ x. x.at ≢ s.at) spans) more
   pub few : length spans + length more < 2 ^ 32
 
--- the totals that a track keeps of the names of its closed spans
+-- names with their totals
 abbrev pub Totals : Type 0
-Totals = IndexMap ℕ NameTotal (BuildHasherDefault FoldHasher)
+Totals = List (ℕ × NameTotal)
 
 abbrev pub total_in : Totals → ℕ → NameTotal
-total_in totals name = unwrap_or (get nat_eq totals name) (record { count = 0; total = 0 })
+total_in totals name = unwrap_or (lookup (nat_eq name) totals) (record { count = 0; total = 0 })
 
 -- how many spans have the name, and how long they are together
 abbrev pub total_for : List (Span ℕ) → ℕ → NameTotal
@@ -46,5 +44,5 @@ total_for spans name = record { count = length (named nat_eq name spans); total 
 
 -- the totals are those of the spans' names, one for each
 pub record AreTotals (totals : Totals) (spans : List (Span ℕ)) : Type 0 where
-  pub names : keys totals ≡ names_of nat_eq spans
+  pub names : keys_of totals ≡ names_of nat_eq spans
   pub each : (name : ℕ) → total_in totals name ≡ total_for spans name

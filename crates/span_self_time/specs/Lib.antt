@@ -3,4 +3,5 @@ pub mod Division
 pub mod Laws
 pub mod Segments
 pub mod Spans
+pub mod TotalsKept
 pub mod Walk

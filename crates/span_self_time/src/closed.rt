@@ -1,17 +1,15 @@
 //! The closed spans of a thread, with the totals of their names and the division of time among them.
-ghost use Rattle.std.specs.Prelude.{◌≡◌, ◌≢◌, ◌+◌, ◌<◌, ◌≤◌, ◌*◌, ◌-◌, ◌^◌, ◌==◌, ℕ, [], ◌∷◌, ◌++◌, ◌≤ℤ◌, if◌then◌else◌, List, length, map, take, nat_eq, slice_get, option_copied, All, IfSome, OnOk, OnErr};
+ghost use Rattle.std.specs.Prelude.{◌≡◌, ◌≢◌, ◌+◌, ◌<◌, ◌≤◌, ◌*◌, ◌-◌, ◌^◌, ℕ, [], ◌∷◌, ◌++◌, ◌≤ℤ◌, List, length, map, take, nat_eq, slice_get, vec_len, vec_capacity, option_copied, All, IfSome, OnOk, OnErr};
 ghost use Rattle.std.specs.List.{count_by};
-ghost use Rattle.indexmap.specs.IndexMap.{spare, keys};
-ghost use Rattle.indexmap.specs.IndexSet.{insert_key};
 ghost use Rattle.span_event.specs.Given.{Gives};
 ghost use Rattle.span_self_time.specs.Spans.{self_of, busy_time, names_of};
-ghost use Rattle.span_self_time.specs.Closed.{total_in, total_for, span_of, CanJoin, IsInTime, AreClosed};
+ghost use Rattle.span_self_time.specs.Closed.{total_for, span_of, CanJoin, IsInTime, AreClosed};
 ghost use Rattle.span_self_time.specs.Segments.{lasts, AreSegments, HasSegments, HasEnds};
 
 use crate::division::Division;
+use crate::name_totals::NameTotals;
 use crate::segment::{Part, Segment};
 use crate::span::{ClosedSpan, NameTotal, distance};
-use indexmap::IndexMap;
 use std::alloc::{AllocError, Global};
 use std::marker::Model;
 
@@ -19,7 +17,7 @@ use std::marker::Model;
 #[derive(Drop)]
 pub struct ClosedSpans {
     list: Vec<ClosedSpan>,
-    totals: IndexMap<u32, NameTotal>,
+    totals: NameTotals,
     division: Division,
     // How many parts stacks had to move, about.
     moves: u64,
@@ -32,12 +30,13 @@ impl Model for ClosedSpans {
     ghost use Rattle.span_self_time.specs.Closed.{span_of, AreClosed, AreTotals};
     ghost use Rattle.span_self_time.specs.Division.{owners_of};
     ghost use Rattle.span_self_time.specs.Division.Ways.{IsDivision};
+    ghost use Rattle.span_self_time.specs.TotalsKept.{entries_of};
 
     ghost Value = { List (Span ℕ) };
 
     ghost view = { λ c. map span_of c.list.items };
 
-    ghost invariant = { λ c. AreClosed (map span_of c.list.items) × AreTotals c.totals (map span_of c.list.items)
+    ghost invariant = { λ c. AreClosed (map span_of c.list.items) × AreTotals (entries_of c.totals) (map span_of c.list.items)
         × IsDivision (owners_of (map span_of c.list.items)) c.division };
 }
 
@@ -48,8 +47,8 @@ impl ClosedSpans {
     {
         ClosedSpans {
             list: Vec::new(alloc),
-            totals: IndexMap::new(alloc),
-            division: Division::new(alloc),
+            totals: NameTotals::Empty,
+            division: Division::new(),
             moves: 0,
             alloc,
         }
@@ -72,15 +71,15 @@ impl ClosedSpans {
         ensures ok { OnOk result (self.new ≡ self.old ++ span_of span ∷ []) }
         ensures err { OnErr result (self.new ≡ self.old) }
     {
-        self.list.reserve(1)?;
-        self.totals.reserve(1)?;
+        reserve_one(&mut self.list)?;
+        self.totals.reserve(self.alloc)?;
         let part = Part::whole(&span);
         self.moves = self
             .division
             .suit(&part, self.moves, &self.list, self.alloc)?;
-        self.division.add(&part)?;
+        self.division.add(&part, self.alloc)?;
         let length = distance(span.start, span.until);
-        add_to_total(&mut self.totals, span.name, length);
+        self.totals.add_span(span.name, length);
         self.list.push_reserved(span);
         Ok(())
     }
@@ -96,8 +95,8 @@ impl ClosedSpans {
         if spans.len() <= 1 {
             return self.add_each(spans);
         }
-        let totals = self.totals.clone()?;
-        let division = self.division.try_clone()?;
+        let totals = self.totals.try_clone(self.alloc)?;
+        let division = self.division.try_clone(self.alloc)?;
         let moves = self.moves;
         if let Err(refused) = self.add_each(spans) {
             self.list.truncate(count);
@@ -126,24 +125,21 @@ impl ClosedSpans {
     pub fn name_count(&self) -> u32
         ensures { result ≡ length (names_of nat_eq self.now) }
     {
-        self.totals.len() as u32
+        self.totals.count() as u32
     }
 
     /// A name of the spans, in the order in which each was first added, counted from 0; None from the number of names on.
     pub fn name(&self, i: u32) -> Option<u32>
         ensures { result ≡ slice_get (names_of nat_eq self.now) i }
     {
-        match self.totals.get_index(i as usize) {
-            Some((name, _)) => Some(*name),
-            None => None,
-        }
+        self.totals.name(i as usize)
     }
 
     /// The number and the lengths of the spans of one name.
     pub fn total_of(&self, name: u32) -> NameTotal
         ensures { result ≡ total_for self.now name }
     {
-        total_in(&self.totals, name)
+        self.totals.of(name)
     }
 
     /// The microseconds that belong to the spans of one name, as no span that ranks above covers them.
@@ -178,36 +174,15 @@ impl ClosedSpans {
     }
 }
 
-fn total_in(totals: &IndexMap<u32, NameTotal>, name: u32) -> NameTotal
-    ensures { result ≡ total_in totals.now name }
+// Makes room for one more span; a list of one has no more.
+fn reserve_one(list: &mut Vec<ClosedSpan>) -> Result<(), AllocError>
+    ensures items { list.new.items ≡ list.old.items }
+    ensures room { OnOk result (vec_len list.new < vec_capacity list.new) }
 {
-    match totals.get(&name) {
-        Some(total) => *total,
-        None => NameTotal { count: 0, total: 0 },
-    }
-}
-
-// One more span of this name.
-fn add_to_total(totals: &mut IndexMap<u32, NameTotal>, name: u32, length: u64)
-    requires room { 0 < spare totals.old }
-    requires count { (total_in totals.old name).count + 1 < 2 ^ 32 }
-    requires total { (total_in totals.old name).total + length < 2 ^ 128 }
-    ensures names { keys totals.new ≡ insert_key nat_eq (keys totals.old) name }
-    ensures each { (other : ℕ) → total_in totals.new other ≡ (if name == other
-        then record { count = (total_in totals.old name).count + 1; total = (total_in totals.old name).total + length }
-        else total_in totals.old other) }
-{
-    if let Some(held) = totals.get_mut(&name) {
-        held.count += 1;
-        held.total += u128::from(length);
-        return;
-    }
-    let first = NameTotal {
-        count: 1,
-        total: u128::from(length),
-    };
-    if totals.insert(name, first).is_err() {
-        unreachable!();
+    if list.is_empty() {
+        list.reserve_exact(1)
+    } else {
+        list.reserve(1)
     }
 }
 

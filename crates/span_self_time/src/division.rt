@@ -6,6 +6,7 @@ ghost use Rattle.span_self_time.specs.Division.{Owners, owner_of, owners_of, Has
 ghost use Rattle.span_self_time.specs.Division.TimeMap.{IsTimeMap};
 ghost use Rattle.span_self_time.specs.Division.Ways.{IsDivision};
 
+mod lone;
 mod own_times;
 mod stacks;
 mod time_map;
@@ -19,28 +20,36 @@ use time_map::TimeMap;
 // Where stacks have to move more parts than these for each span, a search is the quicker.
 const MOVES_FOR_A_SPAN: u64 = 128;
 
-/// Stacks are the quicker where each span comes near the last one, and slow down with the parts in between; a map, in which each
-/// span's place is searched for, doesn't.
+/// A single span takes no memory of its own. Of more, stacks are the quicker where each comes near the last one, and slow down with the
+/// parts in between; a map, in which each span's place is searched for, doesn't.
 #[derive(Drop)]
 pub(crate) enum Division {
-    Stacked(Stacks),
-    Searched(TimeMap),
+    Lone(Option<Part>),
+    Stacked(Box<Stacks>),
+    Searched(Box<TimeMap>),
 }
 
 impl Division {
-    pub(crate) fn new(alloc: Global) -> Division
+    pub(crate) fn new() -> Division
         ensures { IsDivision (owners_of []) result }
     {
-        Division::Stacked(Stacks::new(alloc))
+        Division::Lone(None)
     }
 
     /// A copy, which tells the same times and segments.
-    pub(crate) fn try_clone(&self) -> Result<Division, AllocError>
+    pub(crate) fn try_clone(&self, alloc: Global) -> Result<Division, AllocError>
         ensures { IfOk result (λ copy. KeepsOwners IsDivision self.now copy) }
     {
         match self {
-            Division::Stacked(stacks) => Ok(Division::Stacked(stacks.clone()?)),
-            Division::Searched(time_map) => Ok(Division::Searched(time_map.clone()?)),
+            Division::Lone(lone) => Ok(Division::Lone(*lone)),
+            Division::Stacked(stacks) => {
+                let copy = Stacks::clone(stacks)?;
+                Ok(Division::Stacked(Box::new(alloc, copy)?))
+            }
+            Division::Searched(time_map) => {
+                let copy = TimeMap::clone(time_map)?;
+                Ok(Division::Searched(Box::new(alloc, copy)?))
+            }
         }
     }
 
@@ -49,6 +58,7 @@ impl Division {
             → result ≡ self_of nat_eq name spans }
     {
         match self {
+            Division::Lone(lone) => lone::self_of(lone, name),
             Division::Stacked(stacks) => stacks.self_of(name),
             Division::Searched(time_map) => time_map.self_of(name),
         }
@@ -59,6 +69,7 @@ impl Division {
             → result ≡ busy_time spans }
     {
         match self {
+            Division::Lone(lone) => lone::busy(lone),
             Division::Stacked(stacks) => stacks.busy(),
             Division::Searched(time_map) => time_map.busy(),
         }
@@ -69,6 +80,7 @@ impl Division {
             → HasParts owners (λ parts. result ≡ length parts) }
     {
         match self {
+            Division::Lone(lone) => lone::segment_count(lone),
             Division::Stacked(stacks) => stacks.segment_count(),
             Division::Searched(time_map) => time_map.segment_count(),
         }
@@ -79,6 +91,7 @@ impl Division {
             → HasParts owners (λ parts. option_copied result ≡ slice_get (map (λ part. part.segment) parts) i) }
     {
         match self {
+            Division::Lone(lone) => lone::segment(lone, i),
             Division::Stacked(stacks) => stacks.segment(i),
             Division::Searched(time_map) => time_map.segment(i),
         }
@@ -86,12 +99,16 @@ impl Division {
 
     /// The span takes the microseconds that it covers from no one and from the spans that it outranks. Where memory is refused,
     /// no reader sees a change.
-    pub(crate) fn add(&mut self, span: &Part) -> Result<(), AllocError>
+    pub(crate) fn add(&mut self, span: &Part, alloc: Global) -> Result<(), AllocError>
         requires { CanAdd IsDivision (owner_of span.now) self.old }
         ensures ok { OnOk result (Adds IsDivision (owner_of span.now) self.old self.new) }
         ensures err { OnErr result (KeepsOwners IsDivision self.old self.new) }
     {
         match self {
+            Division::Lone(lone) => {
+                *self = lone::with_span(*lone, span, alloc)?;
+                Ok(())
+            }
             Division::Stacked(stacks) => stacks.add(span),
             Division::Searched(time_map) => time_map.add(span),
         }
@@ -121,7 +138,7 @@ impl Division {
     fn moves_for(&self, span: &Part) -> u64 {
         match self {
             Division::Stacked(stacks) => stacks.moves_for(span),
-            Division::Searched(_) => 0,
+            Division::Lone(_) | Division::Searched(_) => 0,
         }
     }
 
@@ -132,8 +149,9 @@ impl Division {
         ensures { IsDivision (owners_of (map span_of spans.now)) self.old
             → IsDivision (owners_of (map span_of spans.now)) self.new }
     {
-        if let Division::Stacked(_) = self {
-            *self = Division::Searched(time_map_of(spans, alloc)?);
+        if !matches!(self, Division::Searched(_)) {
+            let time_map = time_map_of(spans, alloc)?;
+            *self = Division::Searched(Box::new(alloc, time_map)?);
         }
         Ok(())
     }

@@ -4,6 +4,7 @@
 mod closed;
 mod division;
 pub mod laws;
+mod name_totals;
 mod segment;
 mod span;
 pub mod walk;

@@ -24,6 +24,23 @@ pub struct NameTotal {
     pub total: u128,
 }
 
+impl NameTotal {
+    pub(crate) fn of_none() -> NameTotal
+        ensures { result ≡ record { count = 0; total = 0 } }
+    {
+        NameTotal { count: 0, total: 0 }
+    }
+
+    pub(crate) fn of_one(length: u64) -> NameTotal
+        ensures { result ≡ record { count = 1; total = length } }
+    {
+        NameTotal {
+            count: 1,
+            total: u128::from(length),
+        }
+    }
+}
+
 /// How many microseconds there are from one time to another.
 pub(crate) fn distance(from: i64, to: i64) -> u64
     requires forward { from ≤ℤ to }

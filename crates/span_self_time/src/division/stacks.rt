@@ -29,9 +29,7 @@ pub(crate) struct Stacks {
 
 impl Stacks {
     pub(crate) fn new(alloc: Global) -> Stacks
-        ensures parts { parts_of result.past.items result.future.items ≡ [] }
-        ensures own { (name : ℕ) → own_in result.own name ≡ 0 }
-        ensures busy { result.busy ≡ 0 }
+        ensures { AreStacks (λ u. None) result }
     {
         Stacks {
             past: Vec::new(alloc),

@@ -1,13 +1,11 @@
 use Rattle.std.proofs.Common.{◌≡◌, ℕ, List, ◌++◌, map, take, length, sym, ap, ◌∙◌, subst, arith}
 use Rattle.std.proofs.Math.Seq.{take-append_seam}
 use Rattle.std.proofs.lemmas.List.{take-map, length-map}
-use Rattle.std.proofs.lemmas.Map.Entries.{entries_from_clone}
-use Rattle.span_self_time.specs.Closed.{span_of, AreClosed, CanJoin}
+use Rattle.span_self_time.specs.Closed.{Totals, span_of, AreClosed, AreTotals, CanJoin}
 use Rattle.span_self_time.specs.Spans.{Span}
 use Rattle.span_self_time.specs.declared.span.ClosedSpan.{ClosedSpan}
 use Rattle.span_self_time.specs.Division.{owners_of}
 use Rattle.span_self_time.proofs.Apart.{AreClosed-join}
-use Rattle.span_self_time.proofs.Totals.{AreTotals-same}
 use Rattle.span_self_time.proofs.closed.ClosedSpans.add_all.Goals.{After-truncate}
 use Rattle.span_self_time.proofs.closed.ClosedSpans.add_all.Goals as goal
 
@@ -24,10 +22,9 @@ restored c =
 pub invariant_of-self : goal.invariant_of-self
 invariant_of-self c =
     let at = (goal.at.invariant_of-self c).After-truncate in
-    let same = entries_from_clone (λ (x y : ℕ). y ≡ x) _ (λ x y h. h) (λ x y h. h) _ _ c.in_ok-totals.ensures.cases in
     rw (restored at, ← c.self.view_is) (
       c.self.invariant.0,
-      AreTotals-same c.self.inside.totals c.in_ok-totals.totals _ same c.self.invariant.1,
+      subst (λ (t : Totals). AreTotals t (map span_of c.self.inside.list.items)) (sym c.in_ok-totals.ensures) c.self.invariant.1,
       c.in_ok-division.ensures (owners_of (map span_of c.self.inside.list.items)) c.self.invariant.2,
     )
 

@@ -1,6 +1,7 @@
 use Rattle.std.proofs.Common.{ap, length, map, arith}
 use Rattle.std.proofs.lemmas.Map.Entries.{length-keys_of}
 use Rattle.span_self_time.specs.Closed.{span_of}
+use Rattle.span_self_time.specs.TotalsKept.{entries_of}
 use Rattle.span_self_time.proofs.Names.{length-names_of-le}
 use Rattle.span_self_time.proofs.closed.ClosedSpans.name_count.Goals as goal
 
@@ -8,4 +9,4 @@ pub overflow_cast-result : goal.overflow_cast-result
 overflow_cast-result c =
     let spans = map span_of c.self.inside.list.items in
     let names = ap length c.self.invariant.1.names in
-    omega (arith, c.len.ensures.len, length-keys_of c.self.inside.totals.entries, names, length-names_of-le spans, c.self.invariant.0.few)
+    omega (arith, c.count.ensures, length-keys_of (entries_of c.self.inside.totals), names, length-names_of-le spans, c.self.invariant.0.few)

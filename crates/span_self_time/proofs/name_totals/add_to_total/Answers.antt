@@ -3,7 +3,7 @@ use Rattle.std.specs.List.{list_any}
 use Rattle.std.proofs.lemmas.Map.Made.{is_some-lookup}
 use Rattle.indexmap.specs.IndexMap.{keys}
 use Rattle.indexmap.proofs.SetLemmas.{keys_insert_entry}
-use Rattle.span_self_time.proofs.closed.add_to_total.Goals as goal
+use Rattle.span_self_time.proofs.name_totals.add_to_total.Goals as goal
 
 -- a name that has a total is among the names already
 pub returns-in-Some-clause-names : goal.returns-in-Some-clause-names

@@ -1,0 +1,78 @@
+//! The time of at most one span, which has all that it covers.
+ghost use Rattle.std.specs.Prelude.{◌≡◌, ◌≤ℤ◌, map, length, slice_get, option_copied, IfOk};
+ghost use Rattle.span_self_time.specs.Division.{Owners, IsNew, AreSettled, CanAdd, owner_of, taken};
+ghost use Rattle.span_self_time.specs.Division.Lone.{IsForward, IsLone, parts_of_lone};
+ghost use Rattle.span_self_time.specs.Division.Stacks.{named_length, part_length, whole_length};
+ghost use Rattle.span_self_time.specs.Division.Ways.{IsDivision};
+
+use super::Division;
+use super::stacks::Stacks;
+use crate::segment::{Part, Segment};
+use std::alloc::{AllocError, Global};
+
+pub(crate) fn self_of(lone: &Option<Part>, name: u32) -> u64
+    ensures { IsForward lone.now → result ≡ named_length name (parts_of_lone lone.now) }
+{
+    match lone {
+        Some(part) if part.segment.name == name => length_of(part),
+        _ => 0,
+    }
+}
+
+pub(crate) fn busy(lone: &Option<Part>) -> u64
+    ensures { IsForward lone.now → result ≡ whole_length (parts_of_lone lone.now) }
+{
+    match lone {
+        Some(part) => length_of(part),
+        None => 0,
+    }
+}
+
+pub(crate) fn segment_count(lone: &Option<Part>) -> u64
+    ensures { result ≡ length (parts_of_lone lone.now) }
+{
+    match lone {
+        Some(_) => 1,
+        None => 0,
+    }
+}
+
+pub(crate) fn segment(lone: &Option<Part>, i: u64) -> Option<&Segment>
+    ensures { option_copied result ≡ slice_get (map (λ part. part.segment) (parts_of_lone lone.now)) i }
+{
+    match lone {
+        Some(part) if i == 0 => Some(&part.segment),
+        _ => None,
+    }
+}
+
+/// The division once another span has taken its own: stacks, where both last.
+pub(crate) fn with_span(
+    lone: Option<Part>,
+    span: &Part,
+    alloc: Global,
+) -> Result<Division, AllocError>
+    requires { CanAdd IsLone (owner_of span.now) lone }
+    ensures { IfOk result (λ division. (owners : Owners) → IsLone owners lone → IsNew (owner_of span.now) owners
+        → AreSettled owners → IsDivision (taken (owner_of span.now) owners) division) }
+{
+    if span.span_start == span.span_until {
+        return Ok(Division::Lone(lone));
+    }
+    let Some(part) = lone else {
+        let whole = span.between(span.span_start, span.span_until);
+        return Ok(Division::Lone(Some(whole)));
+    };
+    let mut stacks = Stacks::new(alloc);
+    stacks.add(&part)?;
+    stacks.add(span)?;
+    let stacks = Box::new(alloc, stacks)?;
+    Ok(Division::Stacked(stacks))
+}
+
+// The microseconds of a part that ends no earlier than it starts.
+fn length_of(part: &Part) -> u64
+    ensures { part.now.segment.start ≤ℤ part.now.segment.until → result ≡ part_length part.now }
+{
+    part.segment.until.abs_diff(part.segment.start)
+}
