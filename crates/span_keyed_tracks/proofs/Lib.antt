@@ -7,6 +7,7 @@ pub mod FlowRoom
 pub mod Instants
 pub mod KeyChange
 pub mod Keyed
+pub mod KeyOrder
 pub mod Lists
 pub mod Maps
 pub mod Matching
@@ -18,4 +19,6 @@ pub mod SameKeys
 pub mod Selection
 pub mod SeriesCodes
 pub mod SeriesMaps
+pub mod Sorted
+pub mod Sorting
 pub mod Uses

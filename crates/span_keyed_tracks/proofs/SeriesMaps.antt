@@ -7,7 +7,7 @@ use Rattle.span_keyed_tracks.specs.declared.counter_track.SeriesRow.{SeriesRow}
 use Rattle.span_keyed_tracks.specs.declared.counter_track.SeriesTotals.{SeriesTotals}
 use Rattle.std.specs.Option.{option_map}
 use Rattle.std.specs.Ordering.{is_eq, eq_by_cmp, match_ordering}
-use Rattle.std.specs.Map.{lookup}
+use Rattle.std.specs.Map.{keys_of, lookup}
 use Rattle.std.specs.BTreeMap.{is_at, insert_entry}
 use Rattle.std.proofs.lemmas.List.{map-append}
 use Rattle.std.proofs.lemmas.Grind.{take_at_read}
@@ -24,10 +24,10 @@ use Rattle.span_keyed_tracks.specs.Counters.{Series, CountersKept, CounterStands
 use Rattle.span_keyed_tracks.specs.CountersKept.{samples_before, totals_row, with_sample}
 use Rattle.span_keyed_tracks.specs.SeriesCodes.{Texts, code_eq, IsSeriesCode, series_at, AreCodes, decoded, member_at, AreSamples, totals_entry, sorted_totals}
 use Rattle.span_keyed_tracks.proofs.Counters.{with_args, kept_at-CounterStandsFor, samples-before, samples_before-series_of, length-samples_of, uses_in-member, uses_in-no_member, value_of-in_order}
-use Rattle.span_keyed_tracks.proofs.Keyed.{same_from_is_eq}
+use Rattle.span_keyed_tracks.proofs.Keyed.{keys_of-made, same_from_is_eq}
 use Rattle.span_keyed_tracks.proofs.Orders.{series_cmp-total, series_cmp-same}
 use Rattle.span_keyed_tracks.proofs.SeriesCodes.{series_at-IsSeriesCode, Tells-AreCodes}
-use Rattle.span_keyed_tracks.proofs.Uses.{decoded-put_entry, first_uses-ascending, lookup-decoded}
+use Rattle.span_keyed_tracks.proofs.Uses.{AreApart, AreApart-fold, decoded-put_entry, first_uses-ascending, lookup-decoded}
 
 unwrap_or-some : {A : Type 0} (o : Option A) → unwrap_or (option_map (λ (x : A). Some x) o) None ≡ o
 unwrap_or-some None = refl
@@ -178,3 +178,14 @@ series_rows-sorted texts entries es stands =
     ∙ first_uses-ascending series_cmp-total series_cmp-same (λ k. totals_from (series_from es k)) keys
     ∙ sym (made-values series_cmp totals_from (series_from es) (ascending series_cmp keys)))
     ∙ rows-kept (map (entry_of (series_from es)) (ascending series_cmp keys))
+
+keys_of-totals : (texts : Texts) (entries : List (SeriesCode × Series)) → keys_of (map (totals_entry texts) entries) ≡ keys_of (decoded texts entries)
+keys_of-totals texts [] = refl
+keys_of-totals texts (e ∷ es) = ap (λ l. series_at texts e.0 ∷ l) (keys_of-totals texts es)
+
+-- the keys of what is kept are apart
+pub AreApart-kept : (texts : Texts) (entries : List (SeriesCode × Series)) (es : List Event) → CounterStandsFor (decoded texts entries) es → AreApart series_cmp-total (keys_of (map (totals_entry texts) entries))
+AreApart-kept texts entries es stands =
+    let keys = flat_map series_keys es in
+    let made = keys_of-totals texts entries ∙ ap keys_of stands ∙ keys_of-made (series_from es) (first_uses series_cmp keys) in
+    subst (AreApart series_cmp-total) (sym made) (AreApart-fold series_cmp-total [] keys tt)

@@ -24,7 +24,7 @@ module _ {K : Type 0} {cmp : K → K → Ordering} (o : IsTotalOrder cmp) where
   is_eq-turned a b = ap is_eq (o.antisymm a b) ∙ elim (cmp b a) as (λ r. is_eq (ordering_reverse r) ≡ is_eq r) [ Less ↦ refl | Equal ↦ refl | Greater ↦ refl ]
 
   -- no key is among those after it
-  abbrev AreApart : List K → Type 0
+  abbrev pub AreApart : List K → Type 0
   AreApart [] = Unit {0}
   AreApart (k ∷ ks) = (has_key cmp k ks ≡ false) × AreApart ks
 
@@ -47,7 +47,8 @@ module _ {K : Type 0} {cmp : K → K → Ordering} (o : IsTotalOrder cmp) where
       by true h = apart
       by false h = AreApart-push ks k apart h
 
-  AreApart-fold : (done ks : List K) → AreApart done → AreApart (fold (add_key (eq_by_cmp cmp)) done ks)
+  -- the distinct keys in the order of their first use are apart
+  pub AreApart-fold : (done ks : List K) → AreApart done → AreApart (fold (add_key (eq_by_cmp cmp)) done ks)
   AreApart-fold done [] apart = apart
   AreApart-fold done (k ∷ ks) apart = AreApart-fold (add_key (eq_by_cmp cmp) done k) ks (AreApart-add_key done k apart)
 
@@ -123,7 +124,8 @@ module _ {K : Type 0} {cmp : K → K → Ordering} (o : IsTotalOrder cmp) (same 
         by Equal e rest = ap (λ v. (x, v) ∷ map (entry_of f) xs) (ap f (same k x e))
         by Greater e rest = ap (λ l. (x, f x) ∷ l) rest
 
-    made-fold : (done ks : List K) → fold (λ m (e : K × X). insert_entry cmp m e.0 e.1) (map (entry_of f) done) (map (entry_of f) ks) ≡ map (entry_of f) (fold (insert_key cmp) done ks)
+    -- the entries of keys, inserted one after another
+    pub made-fold : (done ks : List K) → fold (λ m (e : K × X). insert_entry cmp m e.0 e.1) (map (entry_of f) done) (map (entry_of f) ks) ≡ map (entry_of f) (fold (insert_key cmp) done ks)
     made-fold done [] = refl
     made-fold done (k ∷ ks) = ap (λ m. fold (λ m (e : K × X). insert_entry cmp m e.0 e.1) m (map (entry_of f) ks)) (made-insert_entry done k) ∙ made-fold (insert_key cmp done k) ks
 

@@ -1,12 +1,11 @@
 //! The track of counters.
-ghost use Rattle.std.specs.Prelude.{◌≡◌, [], None, map, IfOk, OnOk, OnErr};
+ghost use Rattle.std.specs.Prelude.{◌≡◌, [], None, IfOk, OnOk, OnErr};
 ghost use Rattle.span_event.specs.declared.event.Event.{Event};
 ghost use Rattle.span_event.specs.declared.event.Phase.TheVariants.{Counter};
 ghost use Rattle.span_event.specs.Event.{IsGood};
 ghost use Rattle.span_event.specs.Given.{Gives};
 ghost use Rattle.span_keyed_tracks.specs.Fault.{Answers};
 ghost use Rattle.span_keyed_tracks.specs.Counters.{CounterStandsFor, HasCounterRoom, TakesCounter, series_rows, series_totals};
-ghost use Rattle.span_keyed_tracks.specs.CountersKept.{totals_row};
 
 mod coded;
 mod codes;
@@ -18,7 +17,6 @@ use crate::keys::SeriesKey;
 use coded::CodedSeries;
 use span_event::Event;
 use std::alloc::{AllocError, Global};
-use std::collections::BTreeMap;
 use std::marker::Model;
 
 /// The samples of one series.
@@ -102,20 +100,8 @@ impl CounterTrack {
     pub fn rows(&self, alloc: Global) -> Result<Vec<SeriesRow>, AllocError>
         ensures { IfOk result (λ rows. Gives CounterStandsFor self.now series_rows rows.items) }
     {
-        let sorted = self.series.sorted(alloc)?;
-        rows_of(alloc, sorted)
+        let mut rows = self.series.rows(alloc)?;
+        rows.sort_unstable_by(|a, b| a.key.cmp(&b.key));
+        Ok(rows)
     }
-}
-
-fn rows_of(
-    alloc: Global,
-    sorted: BTreeMap<SeriesKey, SeriesTotals>,
-) -> Result<Vec<SeriesRow>, AllocError>
-    ensures { IfOk result (λ rows. rows.items ≡ map totals_row sorted.entries) }
-{
-    let mut rows = Vec::new(alloc);
-    for (key, totals) in sorted {
-        rows.push(SeriesRow { key, totals })?;
-    }
-    Ok(rows)
 }

@@ -9,21 +9,20 @@ ghost use Rattle.indexmap.specs.IndexMap.{insert_entry, spare};
 ghost use Rattle.span_event.specs.Args.{AllWhole};
 ghost use Rattle.span_event.specs.Args.{IsInNameOrder};
 ghost use Rattle.span_keyed_tracks.specs.Counters.{HasCounterRoom, Series, TakesCounter, series_cmp};
-ghost use Rattle.span_keyed_tracks.specs.CountersKept.{samples_before, with_sample};
+ghost use Rattle.span_keyed_tracks.specs.CountersKept.{samples_before, totals_row, with_sample};
 ghost use Rattle.span_keyed_tracks.specs.Numbering.{KeepsNumbers};
-ghost use Rattle.span_keyed_tracks.specs.SeriesCodes.{AreCodes, AreSamples, decoded, IsCounterCode, IsIdCode, IsSeriesCode, code_eq, id_at, member_at, series_at, sorted_totals};
+ghost use Rattle.span_keyed_tracks.specs.SeriesCodes.{AreCodes, AreSamples, decoded, IsCounterCode, IsIdCode, IsSeriesCode, code_eq, id_at, member_at, series_at, totals_entry};
 ghost use Rattle.span_event.specs.declared.args.ArgValue.TheVariants.{Whole};
 
-use super::SeriesTotals;
 use super::codes::{CounterCode, IdCode, SeriesCode};
 use super::running::Running;
+use super::{SeriesRow, SeriesTotals};
 use crate::hash_keys::HashKeys;
 use crate::keys::SeriesKey;
 use crate::texts::Texts;
 use indexmap::IndexMap;
 use span_event::{ArgValue, BoxedId, Event, IdKey, Text};
 use std::alloc::{AllocError, Global};
-use std::collections::BTreeMap;
 
 #[derive(Drop)]
 pub(crate) struct CodedSeries {
@@ -72,18 +71,18 @@ impl CodedSeries {
         Some(running.totals())
     }
 
-    // The totals of each series that has a sample.
-    pub(crate) fn sorted(
-        &self,
-        alloc: Global,
-    ) -> Result<BTreeMap<SeriesKey, SeriesTotals>, AllocError>
-        ensures { IfOk result (λ sorted. sorted.entries ≡ sorted_totals self.now.texts self.now.entries.entries) }
+    // The row of each series that has a sample, in the order of their first samples.
+    pub(crate) fn rows(&self, alloc: Global) -> Result<Vec<SeriesRow>, AllocError>
+        ensures { IfOk result (λ rows. rows.items ≡ map totals_row (map (totals_entry self.now.texts) self.now.entries.entries)) }
     {
-        let mut sorted = BTreeMap::new(alloc);
+        let mut rows = Vec::with_capacity(alloc, self.entries.len())?;
         for (code, running) in &self.entries {
-            sorted.insert(key_of(alloc, &self.texts, code)?, running.totals())?;
+            rows.push(SeriesRow {
+                key: key_of(alloc, &self.texts, code)?,
+                totals: running.totals(),
+            })?;
         }
-        Ok(sorted)
+        Ok(rows)
     }
 
     // The samples of a counter event, for each of which there is room.
