@@ -4,6 +4,7 @@ pub mod AsyncRoom
 pub mod Counters
 pub mod Flow
 pub mod FlowRoom
+pub mod InKeyOrder
 pub mod Instants
 pub mod KeyChange
 pub mod Keyed

@@ -1,9 +1,10 @@
 -- Steps of many keys: those of one key, and what is kept for each key that has one.
 use Rattle.std.specs.Prelude.{List, [], map, filter, fold, unwrap_or}
 use Rattle.std.specs.declared.cmp.Ordering.{Ordering}
-use Rattle.std.specs.Ordering.{is_eq}
-use Rattle.std.specs.Map.{lookup}
-use Rattle.std.specs.BTreeMap.{is_at}
+use Rattle.std.specs.Ordering.{eq_by_cmp, is_eq}
+use Rattle.std.specs.List.{IsDistinct}
+use Rattle.std.specs.Map.{keys_of, lookup}
+use Rattle.std.specs.BTreeMap.{insert_entry, is_at}
 use Rattle.std.specs.BTreeSet.{insert_key}
 
 -- a step of a key
@@ -35,3 +36,11 @@ entries_in cmp give es = map (entry_of (λ key. give (steps_at cmp key es))) (ke
 -- what is kept at a key; `none` where nothing is
 abbrev pub kept_at : {K X : Type 0} → (K → K → Ordering) → X → List (K × X) → K → X
 kept_at cmp none kept key = unwrap_or (lookup (is_at (cmp key)) kept) none
+
+-- entries in ascending order of keys, the last of each key
+abbrev pub in_key_order : {K X : Type 0} → (K → K → Ordering) → List (K × X) → List (K × X)
+in_key_order cmp entries = fold (λ done e. insert_entry cmp done e.0 e.1) [] entries
+
+-- each key has one entry
+abbrev pub AreDistinct : {K X : Type 0} → (K → K → Ordering) → List (K × X) → Type 0
+AreDistinct cmp entries = IsDistinct (eq_by_cmp cmp) (keys_of entries)

@@ -9,11 +9,12 @@ ghost use Rattle.span_keyed_tracks.specs.Async.{AsyncEvent, AsyncStandsFor, HasA
 mod key_spans;
 
 use crate::fault::TrackFault;
-use crate::key_change::change_at;
+use crate::hash_keys::HashKeys;
+use crate::hashed;
 use crate::keys::AsyncKey;
+use indexmap::IndexMap;
 use key_spans::KeySpans;
 use std::alloc::{AllocError, Global};
-use std::collections::BTreeMap;
 use std::marker::Model;
 
 /// The asynchronous spans of one key. Lengths are microseconds.
@@ -40,25 +41,35 @@ pub struct AsyncRow {
 #[derive(Drop)]
 pub struct AsyncTrack {
     alloc: Global,
-    keys: BTreeMap<AsyncKey, KeySpans>,
+    keys: IndexMap<AsyncKey, KeySpans, HashKeys>,
 }
 
 impl Model for AsyncTrack {
-    ghost use Rattle.span_keyed_tracks.specs.Async.{AsyncKept};
+    ghost use Rattle.span_keyed_tracks.specs.Async.{AsyncKept, async_cmp};
+    ghost use Rattle.span_keyed_tracks.specs.Keyed.{AreDistinct, in_key_order};
 
     ghost Value = { AsyncKept };
 
-    ghost view = { λ t. t.keys.entries };
+    ghost view = { λ t. in_key_order async_cmp t.keys.entries };
+
+    ghost invariant = { λ t. AreDistinct async_cmp t.keys.entries };
 }
 
 impl AsyncTrack {
-    /// The track of no events. Takes no memory.
+    /// The track of no events, for input that is trusted. Takes no memory.
     pub fn new(alloc: Global) -> AsyncTrack
+        ensures { AsyncStandsFor result [] }
+    {
+        AsyncTrack::with_keys(alloc, HashKeys::fixed())
+    }
+
+    /// The track of no events, which looks keys up by these. Takes no memory.
+    pub fn with_keys(alloc: Global, keys: HashKeys) -> AsyncTrack
         ensures { AsyncStandsFor result [] }
     {
         AsyncTrack {
             alloc,
-            keys: BTreeMap::new(alloc),
+            keys: IndexMap::with_hasher(alloc, keys),
         }
     }
 
@@ -71,7 +82,7 @@ impl AsyncTrack {
         ensures err { OnErr result (self.new ≡ self.old) }
     {
         let none = KeySpans::new(self.alloc);
-        change_at(
+        hashed::change_at(
             self.alloc,
             &mut self.keys,
             key,
@@ -93,7 +104,7 @@ impl AsyncTrack {
         ensures memory { TakesNoMemory result }
     {
         let none = KeySpans::new(self.alloc);
-        change_at(self.alloc, &mut self.keys, key, none, |spans| spans.end(ts))
+        hashed::change_at(self.alloc, &mut self.keys, key, none, |spans| spans.end(ts))
     }
 
     /// A point of the key. Only want of memory refuses it.
@@ -104,7 +115,7 @@ impl AsyncTrack {
         ensures err { OnErr result (self.new ≡ self.old) }
     {
         let none = KeySpans::new(self.alloc);
-        change_at(self.alloc, &mut self.keys, key, none, |spans| {
+        hashed::change_at(self.alloc, &mut self.keys, key, none, |spans| {
             spans.point();
             Ok(())
         })
@@ -114,7 +125,7 @@ impl AsyncTrack {
     pub fn of(&self, key: &AsyncKey) -> AsyncTotals
         ensures { result ≡ async_totals (async_spans_at self.now key.now) }
     {
-        match self.keys.get(key) {
+        match hashed::find(&self.keys, key) {
             Some(spans) => spans.totals(),
             None => AsyncTotals {
                 closed: 0,
@@ -129,13 +140,25 @@ impl AsyncTrack {
     pub fn rows(&self, alloc: Global) -> Result<Vec<AsyncRow>, AllocError>
         ensures { IfOk result (λ rows. rows.items ≡ map async_row self.now) }
     {
-        let mut rows = Vec::new(alloc);
-        for (key, spans) in &self.keys {
-            rows.push(AsyncRow {
-                key: key.try_clone(alloc)?,
-                totals: spans.totals(),
-            })?;
-        }
+        let mut rows = rows_of(alloc, &self.keys)?;
+        rows.sort_unstable_by(|a, b| a.key.cmp(&b.key));
         Ok(rows)
     }
+}
+
+// The row of each key, in the order of their first events.
+fn rows_of(
+    alloc: Global,
+    keys: &IndexMap<AsyncKey, KeySpans, HashKeys>,
+) -> Result<Vec<AsyncRow>, AllocError>
+    ensures { IfOk result (λ rows. rows.items ≡ map async_row keys.now.entries) }
+{
+    let mut rows = Vec::with_capacity(alloc, keys.len())?;
+    for (key, spans) in keys {
+        rows.push(AsyncRow {
+            key: key.try_clone(alloc)?,
+            totals: spans.totals(),
+        })?;
+    }
+    Ok(rows)
 }

@@ -8,11 +8,12 @@ ghost use Rattle.span_keyed_tracks.specs.Flow.{flow_closed, flow_cmp, flow_point
 mod key_chains;
 
 use crate::fault::TrackFault;
-use crate::key_change::change_at;
+use crate::hash_keys::HashKeys;
+use crate::hashed;
 use crate::keys::FlowKey;
+use indexmap::IndexMap;
 use key_chains::KeyChains;
 use std::alloc::{AllocError, Global};
-use std::collections::BTreeMap;
 use std::marker::Model;
 
 /// The flow chains of one key. Lengths are microseconds.
@@ -46,25 +47,35 @@ pub struct FlowClosed {
 #[derive(Drop)]
 pub struct FlowTrack {
     alloc: Global,
-    keys: BTreeMap<FlowKey, KeyChains>,
+    keys: IndexMap<FlowKey, KeyChains, HashKeys>,
 }
 
 impl Model for FlowTrack {
-    ghost use Rattle.span_keyed_tracks.specs.Flow.{FlowKept};
+    ghost use Rattle.span_keyed_tracks.specs.Flow.{FlowKept, flow_cmp};
+    ghost use Rattle.span_keyed_tracks.specs.Keyed.{AreDistinct, in_key_order};
 
     ghost Value = { FlowKept };
 
-    ghost view = { λ t. t.keys.entries };
+    ghost view = { λ t. in_key_order flow_cmp t.keys.entries };
+
+    ghost invariant = { λ t. AreDistinct flow_cmp t.keys.entries };
 }
 
 impl FlowTrack {
-    /// The track of no events. Takes no memory.
+    /// The track of no events, for input that is trusted. Takes no memory.
     pub fn new(alloc: Global) -> FlowTrack
+        ensures { FlowStandsFor result [] }
+    {
+        FlowTrack::with_keys(alloc, HashKeys::fixed())
+    }
+
+    /// The track of no events, which looks keys up by these. Takes no memory.
+    pub fn with_keys(alloc: Global, keys: HashKeys) -> FlowTrack
         ensures { FlowStandsFor result [] }
     {
         FlowTrack {
             alloc,
-            keys: BTreeMap::new(alloc),
+            keys: IndexMap::with_hasher(alloc, keys),
         }
     }
 
@@ -77,7 +88,7 @@ impl FlowTrack {
         ensures err { OnErr result (self.new ≡ self.old) }
     {
         let none = KeyChains::new();
-        change_at(
+        hashed::change_at(
             self.alloc,
             &mut self.keys,
             key,
@@ -97,7 +108,7 @@ impl FlowTrack {
         ensures memory { TakesNoMemory result }
     {
         let none = KeyChains::new();
-        change_at(
+        hashed::change_at(
             self.alloc,
             &mut self.keys,
             key,
@@ -118,7 +129,7 @@ impl FlowTrack {
         ensures memory { TakesNoMemory result }
     {
         let none = KeyChains::new();
-        change_at(
+        hashed::change_at(
             self.alloc,
             &mut self.keys,
             key,
@@ -131,7 +142,7 @@ impl FlowTrack {
     pub fn of(&self, key: &FlowKey) -> FlowTotals
         ensures { result ≡ flow_totals (flow_chains_at self.now key.now) }
     {
-        match self.keys.get(key) {
+        match hashed::find(&self.keys, key) {
             Some(chains) => chains.totals(),
             None => FlowTotals {
                 ended: 0,
@@ -145,13 +156,25 @@ impl FlowTrack {
     pub fn rows(&self, alloc: Global) -> Result<Vec<FlowRow>, AllocError>
         ensures { IfOk result (λ rows. rows.items ≡ map flow_row self.now) }
     {
-        let mut rows = Vec::new(alloc);
-        for (key, chains) in &self.keys {
-            rows.push(FlowRow {
-                key: key.try_clone(alloc)?,
-                totals: chains.totals(),
-            })?;
-        }
+        let mut rows = rows_of(alloc, &self.keys)?;
+        rows.sort_unstable_by(|a, b| a.key.cmp(&b.key));
         Ok(rows)
     }
+}
+
+// The row of each key, in the order of their first events.
+fn rows_of(
+    alloc: Global,
+    keys: &IndexMap<FlowKey, KeyChains, HashKeys>,
+) -> Result<Vec<FlowRow>, AllocError>
+    ensures { IfOk result (λ rows. rows.items ≡ map flow_row keys.now.entries) }
+{
+    let mut rows = Vec::with_capacity(alloc, keys.len())?;
+    for (key, chains) in keys {
+        rows.push(FlowRow {
+            key: key.try_clone(alloc)?,
+            totals: chains.totals(),
+        })?;
+    }
+    Ok(rows)
 }

@@ -4,7 +4,8 @@ ghost use Rattle.span_keyed_tracks.specs.HashKeys.{hasher_by};
 use std::hash::{BuildHasher, DefaultHasher, RandomState};
 use std::random::RandomSource;
 
-/// The keys by which a map hashes what a file may choose: names, processes, threads and series. No answer depends on them.
+/// The keys by which a map hashes what a file may choose: names, processes, threads, series, and the keys of async spans and flows. No
+/// answer depends on them.
 #[derive(Clone, Copy)]
 pub struct HashKeys {
     random: Option<RandomState>,

@@ -7,6 +7,7 @@ mod counter_track;
 mod fault;
 mod flow_track;
 mod hash_keys;
+mod hashed;
 mod key_change;
 mod keys;
 mod meta_track;

@@ -11,5 +11,8 @@ change_at-requires-clause-can c = λ value is. let room = kept_at-holds async_cm
 
 pub returns-clause-stands : goal.returns-clause-stands
 returns-clause-stands c =
-    ChangesAt-stands async_cmp-total async_cmp-same async_spans c.new-none.ensures c.self.view_is c.change_at.result c.change_at.ensures (other tt)
+    ChangesAt-stands async_cmp-total async_cmp-same async_spans c.new-none.ensures c.self.view_is c.change_at.result c.change_at.ensures.changes (other tt)
     (λ steps answer value called. by_third (async_spans-other steps) (search rules))
+
+pub change_at-requires-clause-same : goal.change_at-requires-clause-same
+change_at-requires-clause-same c = async_cmp-same

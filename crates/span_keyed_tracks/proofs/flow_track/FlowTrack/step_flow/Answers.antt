@@ -10,5 +10,8 @@ change_at-requires-clause-can c = λ value is. let room = kept_at-holds flow_cmp
 
 pub returns-clause-stands : goal.returns-clause-stands
 returns-clause-stands c =
-    ChangesAt-stands flow_cmp-total flow_cmp-same flow_chains c.new-none.ensures c.self.view_is c.change_at.result c.change_at.ensures (stepped c.args.ts)
+    ChangesAt-stands flow_cmp-total flow_cmp-same flow_chains c.new-none.ensures c.self.view_is c.change_at.result c.change_at.ensures.changes (stepped c.args.ts)
     (λ points answer value called. by_third (flow_chains-stepped points c.args.ts) (search rules))
+
+pub change_at-requires-clause-same : goal.change_at-requires-clause-same
+change_at-requires-clause-same c = flow_cmp-same

@@ -1,7 +1,7 @@
 use Rattle.std.proofs.Common.{◌≡◌}
 use Rattle.std.specs.Prelude.{map}
 use Rattle.span_keyed_tracks.specs.Async.{async_row}
-use Rattle.span_keyed_tracks.proofs.async_track.AsyncTrack.rows.Given as goal
+use Rattle.span_keyed_tracks.proofs.async_track.rows_of.Given as goal
 
 -- the rows of the keys that were passed
 abbrev pub invariant-loop-key : goal.invariant-loop-key
