@@ -49,7 +49,7 @@ pub(crate) fn closed_spans<'a>(
 {
     let spans = tracks.keyed.spans();
     match spans.threads.get(thread) {
-        Some(track) => named_spans(alloc, &spans.names, track),
+        Some(track) => named_spans(alloc, &spans.names, track.as_track()),
         None => Ok(Vec::new(alloc)),
     }
 }

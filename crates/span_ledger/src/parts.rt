@@ -84,6 +84,9 @@ impl Group {
     fn add_thread(&mut self, thread: Thread) -> Result<(), AllocError>
         ensures { OnOk result (self.new ≡ with_thread thread self.old) }
     {
+        if self.threads.is_empty() {
+            self.threads.reserve_exact(1)?;
+        }
         self.threads.push(thread)?;
         Ok(())
     }
@@ -118,7 +121,7 @@ fn parts_of(
     requires { FollowsJournal journal.now tracks.now }
     ensures { IfOk result (λ parts. parts.items ≡ map (grouped_part journal.now) groups.entries) }
 {
-    let mut parts = Vec::new(alloc);
+    let mut parts = Vec::with_capacity(alloc, groups.len())?;
     for (pid, group) in groups {
         parts.push(process_part(alloc, journal, tracks, pid, group)?)?;
     }
@@ -154,7 +157,7 @@ fn thread_parts(
     requires { FollowsJournal journal.now tracks.now }
     ensures { IfOk result (λ parts. parts.items ≡ map (thread_part journal.now) threads.now) }
 {
-    let mut parts = Vec::new(alloc);
+    let mut parts = Vec::with_capacity(alloc, threads.len())?;
     for thread in threads {
         parts.push(thread_part(alloc, journal, tracks, thread)?)?;
     }

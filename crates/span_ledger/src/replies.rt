@@ -76,7 +76,10 @@ fn thread_reply(spans: &ThreadTracks, thread: &Thread) -> Reply
     ensures { result ≡ track_reply (track_at spans.now.threads thread.now) }
 {
     let (unclosed, busy, last) = match spans.threads.get(thread) {
-        Some(track) => (track.depth(), track.busy(), track.last_time()),
+        Some(track) => {
+            let track = track.as_track();
+            (track.depth(), track.busy(), track.last_time())
+        }
         None => (0, 0, None),
     };
     Reply::Thread {
@@ -99,6 +102,7 @@ fn name_reply(spans: &ThreadTracks, thread: &Thread, name: &Text) -> Reply
     };
     let (count, total, self_time) = match spans.threads.get(thread) {
         Some(track) => {
+            let track = track.as_track();
             let totals = track.total_of(number);
             (totals.count, totals.total, track.self_of(number))
         }

@@ -82,7 +82,10 @@ fn named_row(spans: &ThreadTracks, thread: &Thread, name: Option<Text>) -> Threa
     ensures { result ≡ track_row spans.now.threads thread.now name }
 {
     match spans.threads.get(thread) {
-        Some(track) => row_of(thread, name, track.depth(), track.busy()),
+        Some(track) => {
+            let track = track.as_track();
+            row_of(thread, name, track.depth(), track.busy())
+        }
         None => row_of(thread, name, 0, 0),
     }
 }
@@ -135,7 +138,7 @@ fn add_span_rows(
     ensures { OnOk result (rows.new.items ≡ rows.old.items ++ track_span_rows spans.now thread.now) }
 {
     match spans.threads.get(thread) {
-        Some(track) => add_rows_of_track(alloc, &spans.names, thread, track, rows),
+        Some(track) => add_rows_of_track(alloc, &spans.names, thread, track.as_track(), rows),
         None => Ok(()),
     }
 }
@@ -150,7 +153,11 @@ fn add_rows_of_track(
     ensures { OnOk result (rows.new.items
         ≡ rows.old.items ++ span_rows_of_track names.now thread.now track.now) }
 {
-    for name in &names_of(alloc, names, track)? {
+    let found = names_of(alloc, names, track)?;
+    if rows.is_empty() {
+        rows.reserve_exact(found.len())?;
+    }
+    for name in &found {
         rows.push(span_row(alloc, names, thread, track, name)?)?;
     }
     Ok(())

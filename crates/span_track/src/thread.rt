@@ -1,5 +1,5 @@
 //! The track of one thread.
-ghost use Rattle.std.specs.Prelude.{◌≡◌, nat_eq, ◌+◌, ◌*◌, ◌-◌, ◌≤◌, ℕ, List, [], ◌∷◌, length, map, reverse, slice_get, Some, None, pos, ◌+ℤ◌, option_copied, IfSome, IfOk, OnOk, OnErr};
+ghost use Rattle.std.specs.Prelude.{◌≡◌, nat_eq, ◌+◌, ◌*◌, ◌-◌, ◌<◌, ◌≤◌, ℕ, List, [], ◌∷◌, length, map, reverse, slice_get, vec_len, vec_capacity, Some, None, pos, ◌+ℤ◌, option_copied, IfSome, IfOk, OnOk, OnErr};
 ghost use Rattle.std.specs.List.{count_by};
 ghost use Rattle.std.specs.Option.{option_map};
 ghost use Rattle.span_event.specs.Event.{IsTime, greatest_time};
@@ -96,7 +96,7 @@ impl ThreadTrack {
         let args = args
             .try_clone(*self.opened.allocator())
             .map_err(|_| TrackFault::Memory)?;
-        self.opened.reserve(1).map_err(|_| TrackFault::Memory)?;
+        reserve_one(&mut self.opened).map_err(|_| TrackFault::Memory)?;
         self.opened.push_reserved(OpenSpan { name, ts, at, args });
         self.last = Some(ts);
         self.latest = later(self.latest, ts);
@@ -385,6 +385,18 @@ impl ThreadTrack {
         ensures closed { AreClosed self.now.closed }
     {
         self.closed.as_slice()
+    }
+}
+
+// Makes room for one more open span; a list of one has no more.
+fn reserve_one(opened: &mut Vec<OpenSpan>) -> Result<(), AllocError>
+    ensures items { opened.new.items ≡ opened.old.items }
+    ensures room { OnOk result (vec_len opened.new < vec_capacity opened.new) }
+{
+    if opened.is_empty() {
+        opened.reserve_exact(1)
+    } else {
+        opened.reserve(1)
     }
 }
 

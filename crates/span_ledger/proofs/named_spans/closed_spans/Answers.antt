@@ -13,21 +13,21 @@ use Rattle.span_ledger.proofs.named_spans.closed_spans.Goals as goal
 pub returns-in-Some-clause-spans : goal.returns-in-Some-clause-spans
 returns-in-Some-clause-spans c =
     let thread = c.args.thread.now in
-    let track = c.in-Some.track.now in
+    let track = c.as_track.result.now in
     let kept : SpansKept = record { names = c.spans.inside.names; threads = c.spans.inside.threads.entries } in
     let same : kept ≡ c.args.tracks.now.keyed.spans = c.spans.view_is ∙ c.spans-spans.ensures ∙ ap (λ (t : TracksKept). t.keyed.spans) c.tracks.view_is in
-    let found = kept_at-found thread_cmp (thread_spans []) kept.threads thread track (sym c.in-Some.ensures.value) in
+    let found = kept_at-found thread_cmp (thread_spans []) kept.threads thread c.in-Some.track.now (sym c.in-Some.ensures.value) ∙ sym c.as_track.ensures in
     let is = IsTrackOf-kept c.args.journal.now c.args.tracks.now c.requires kept same thread track found in
     if_ok-map c.named_spans.result _ _ (λ spans are. are ∙ named_spans-track kept.names (thread_events thread c.args.journal.now) track is) c.named_spans.ensures.spans
 
 pub returns-in-Some-clause-are : goal.returns-in-Some-clause-are
 returns-in-Some-clause-are c =
     let thread = c.args.thread.now in
-    let track = c.in-Some.track.now in
+    let track = c.as_track.result.now in
     let events = thread_events thread c.args.journal.now in
     let kept : SpansKept = record { names = c.spans.inside.names; threads = c.spans.inside.threads.entries } in
     let same : kept ≡ c.args.tracks.now.keyed.spans = c.spans.view_is ∙ c.spans-spans.ensures ∙ ap (λ (t : TracksKept). t.keyed.spans) c.tracks.view_is in
-    let found = kept_at-found thread_cmp (thread_spans []) kept.threads thread track (sym c.in-Some.ensures.value) in
+    let found = kept_at-found thread_cmp (thread_spans []) kept.threads thread c.in-Some.track.now (sym c.in-Some.ensures.value) ∙ sym c.as_track.ensures in
     let is = IsTrackOf-kept c.args.journal.now c.args.tracks.now c.requires kept same thread track found in
     let closed = AreThreadSpans-track kept.names events track is c.named_spans.ensures.closed in
     if_ok-map c.named_spans.result _ _ (λ spans are. subst AreThreadSpans (sym (are ∙ named_spans-track kept.names events track is)) closed) c.named_spans.ensures.spans
