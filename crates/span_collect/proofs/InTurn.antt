@@ -3,6 +3,8 @@ pub mod Alike
 pub mod Alone
 pub mod Counts
 pub mod Exchanges
+pub mod FileLines
 pub mod OneByOne
 pub mod Sealed
 pub mod Shared
+pub mod Texts

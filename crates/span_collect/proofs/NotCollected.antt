@@ -16,9 +16,9 @@ RunLeaves-not_collected text Memory files asks settings state is = refl
 RunLeaves-not_collected text (Unaccounted entries calls) files asks settings state is = (is, refl)
 RunLeaves-not_collected text (Output written) files asks settings state is = absurd is
 
-pub FailsAsInTurn-not_collected : (error : RunError) (files : List Input) (asks : List Query) (settings : Settings) (old new : SinkState) →
-    IsNotCollected error files asks settings → FailsAsInTurn error files asks settings old new
-FailsAsInTurn-not_collected FileCount files asks settings old new is = tt
-FailsAsInTurn-not_collected Memory files asks settings old new is = tt
-FailsAsInTurn-not_collected (Unaccounted entries calls) files asks settings old new is = tt
-FailsAsInTurn-not_collected (Output written) files asks settings old new is = absurd is
+pub FailsAsInTurn-not_collected : (text : TextOf) (error : RunError) (files : List Input) (asks : List Query) (settings : Settings) (old new : SinkState) →
+    IsNotCollected error files asks settings → FailsAsInTurn text error files asks settings old new
+FailsAsInTurn-not_collected text FileCount files asks settings old new is = tt
+FailsAsInTurn-not_collected text Memory files asks settings old new is = tt
+FailsAsInTurn-not_collected text (Unaccounted entries calls) files asks settings old new is = tt
+FailsAsInTurn-not_collected text (Output written) files asks settings old new is = absurd is

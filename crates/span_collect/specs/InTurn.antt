@@ -11,8 +11,7 @@ use Rattle.span_ledger.specs.declared.entry.Op.{Op}
 use Rattle.span_ledger.specs.declared.query.Query.{Query}
 use Rattle.span_ledger.specs.Journal.{an_event}
 use Rattle.span_ledger.specs.Legal.{sequential}
-use Rattle.span_ledger.specs.Topics.{Topic, concerns}
-use Rattle.span_report.specs.Report.{report_of}
+use Rattle.span_ledger.specs.Topics.{AreAlike, Topic, concerns}
 use Rattle.span_report.specs.Sink.{SinkState, TakesBytes, Fails}
 use Rattle.span_share.specs.Callers.{calls}
 use Rattle.span_share.specs.Entries.{caller_of}
@@ -22,7 +21,7 @@ use Rattle.span_collect.specs.declared.runs.RunError.{RunError}
 use Rattle.span_collect.specs.declared.runs.RunError.TheVariants.{Output}
 use Rattle.span_collect.specs.declared.settings.Settings.{Settings}
 use Rattle.span_collect.specs.Account.{Document, asking, callers_named, telling}
-use Rattle.span_collect.specs.Run.{is_cut}
+use Rattle.span_collect.specs.Run.{TextOf, end_by, is_cut}
 use Rattle.span_collect.specs.Seals.{seals_of, with_seals}
 
 -- the items of a document; none where it is refused
@@ -77,16 +76,28 @@ answers_of journal caller = map (λ entry. entry.answer) (calls caller_of caller
 -- get where the files are read in turn
 abbrev pub AnswersAsInTurn : List Input → List Query → Settings → List FileEnd → List Entry → Type 0
 AnswersAsInTurn files asks settings ends journal = AreSeparate files → list_any is_cut ends ≡ false →
-    map (answers_of journal) (callers_named ends) ≡ map (answers_of (told_in_turn settings.strict files asks)) (range_with_len 1 (length files))
+    map (answers_of journal) (callers_named ends) ≡ map (answers_of (journal_in_turn settings files asks)) (range_with_len 1 (length files))
 
--- where the files are separate, and the status isn't 2, the report was written that they give where they are read in turn
-abbrev pub ReportsAsInTurn : List Input → List Query → Settings → ℕ → SinkState → SinkState → Type 0
-ReportsAsInTurn files asks settings status old new = AreSeparate files → status < 2 →
-    TakesBytes old new (report_of (journal_in_turn settings files asks))
+-- where the files are separate, and the status isn't 2, the journal is like the one that they give where they are read in turn: it has
+-- the same accepted acts on each topic, in their order, and as many entries of each kind
+abbrev pub StandsAsInTurn : List Input → List Query → Settings → ℕ → List Entry → Type 0
+StandsAsInTurn files asks settings status journal = AreSeparate files → status < 2 → AreAlike journal (journal_in_turn settings files asks)
 
--- where the files are separate, and the output failed, just the first bytes of that report were written
-abbrev pub FailsAsInTurn : RunError → List Input → List Query → Settings → SinkState → SinkState → Type 0
-FailsAsInTurn (Output written) files asks settings old new = AreSeparate files →
-    (written ≤ length (report_of (journal_in_turn settings files asks)))
-    × Fails old new (take written (report_of (journal_in_turn settings files asks)))
-FailsAsInTurn error files asks settings old new = Unit {0}
+-- how the files end where they are read in turn, the first under this caller and each other under the next
+abbrev pub ends_from : ℕ → List Input → List FileEnd
+ends_from caller [] = []
+ends_from caller (file ∷ files) = end_by caller (doc file.bytes.items) ∷ ends_from (caller + 1) files
+
+-- the text that the files give where they are read in turn
+abbrev pub text_in_turn : TextOf → List Input → List Query → Settings → List ℕ
+text_in_turn text files asks settings = text (ends_from 1 files) (journal_in_turn settings files asks)
+
+-- where the files are separate, and the status isn't 2, that text was written
+abbrev pub WritesAsInTurn : TextOf → List Input → List Query → Settings → ℕ → SinkState → SinkState → Type 0
+WritesAsInTurn text files asks settings status old new = AreSeparate files → status < 2 → TakesBytes old new (text_in_turn text files asks settings)
+
+-- where the files are separate, and the output failed, just the first bytes of that text were written
+abbrev pub FailsAsInTurn : TextOf → RunError → List Input → List Query → Settings → SinkState → SinkState → Type 0
+FailsAsInTurn text (Output written) files asks settings old new = AreSeparate files →
+    (written ≤ length (text_in_turn text files asks settings)) × Fails old new (take written (text_in_turn text files asks settings))
+FailsAsInTurn text error files asks settings old new = Unit {0}

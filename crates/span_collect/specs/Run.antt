@@ -5,13 +5,13 @@ use Rattle.std.specs.Option.{is_some}
 use Rattle.span_event.specs.declared.fault.Fault.TheVariants.{FileCount as FileCountFault, Memory as MemoryFault, Unaccounted as UnaccountedFault, Output as OutputFault}
 use Rattle.span_event.specs.Fault.{number_of}
 use Rattle.span_read.specs.Document.{doc}
+use Rattle.span_read.specs.ReadError.{code_of}
 use Rattle.span_ledger.specs.declared.entry.Entry.{Entry}
 use Rattle.span_ledger.specs.declared.query.Query.{Query}
 use Rattle.span_ledger.specs.Legal.{sequential}
-use Rattle.span_report.specs.Report.{report_of}
 use Rattle.span_report.specs.Sink.{SinkState, TakesBytes, Fails}
 use Rattle.span_collect.specs.declared.files.FileEnd.{FileEnd}
-use Rattle.span_collect.specs.declared.files.FileEnd.TheVariants.{Refused, Stopped, NotStarted}
+use Rattle.span_collect.specs.declared.files.FileEnd.TheVariants.{Read, Refused, Stopped, NotStarted}
 use Rattle.span_collect.specs.declared.files.Input.{Input}
 use Rattle.span_collect.specs.declared.queries.Asked.{Asked}
 use Rattle.span_collect.specs.declared.sealing.Sealing.{Sealing}
@@ -90,10 +90,16 @@ abbrev pub journal_by : Bool → ℕ → Document → List Entry
 journal_by strict caller (Ok items) = sequential strict (map (λ op. (caller, op)) (telling items))
 journal_by strict caller (Err error) = []
 
--- the report of the journal that one caller makes of the file was written
-abbrev pub TakesReportOf : Bool → Input → SinkState → SinkState → Type 0
-TakesReportOf strict file old new = (caller : ℕ) × TakesBytes old new (report_of (journal_by strict caller (doc file.bytes.items)))
+-- how the file ends of which this caller tells the whole document, or which is refused
+abbrev pub end_by : ℕ → Document → FileEnd
+end_by caller (Ok items) = Read caller (length items)
+end_by caller (Err error) = Refused caller (code_of error)
 
--- where one file is given, no query and no wish to seal, and the status isn't 2, the report of that file was written
-abbrev pub ReportsOneFile : List Input → List Query → Settings → ℕ → SinkState → SinkState → Type 0
-ReportsOneFile files asks settings status old new = status < 2 → settings.seal ≡ false → (file : Input) → files ≡ file ∷ [] → asks ≡ [] → TakesReportOf settings.strict file old new
+-- the text of a file that caller 1 alone tells to an empty ledger was written
+abbrev pub TakesTextOf : TextOf → Bool → Input → SinkState → SinkState → Type 0
+TakesTextOf text strict file old new = let document = doc file.bytes.items in TakesBytes old new (text (end_by 1 document ∷ []) (journal_by strict 1 document))
+
+-- where one file is given, no query and no wish to seal, and the status isn't 2, the text of that file was written
+abbrev pub WritesOneFile : TextOf → List Input → List Query → Settings → ℕ → SinkState → SinkState → Type 0
+WritesOneFile text files asks settings status old new =
+    status < 2 → settings.seal ≡ false → (file : Input) → files ≡ file ∷ [] → asks ≡ [] → TakesTextOf text settings.strict file old new

@@ -3,10 +3,10 @@ ghost use Rattle.std.specs.Prelude.{◌≡◌, ◌<◌, ◌↔◌, Err, IfOk, If
 ghost use Rattle.std.specs.List.{list_any};
 ghost use Rattle.span_report.specs.Report.{report_of};
 ghost use Rattle.span_report.specs.Sink.{TakesBytes};
-ghost use Rattle.span_collect.specs.InTurn.{FailsAsInTurn, ReportsAsInTurn};
+ghost use Rattle.span_collect.specs.InTurn.{AnswersAsInTurn, FailsAsInTurn, StandsAsInTurn, WritesAsInTurn};
 ghost use Rattle.span_collect.specs.Seals.{SealedAccount};
 ghost use Rattle.span_collect.specs.Collection.{AreNoneOrTooMany};
-ghost use Rattle.span_collect.specs.Run.{run_code, is_cut, is_refused, of_journal, status_of, IsNotCollected, IsRunOf, RunLeaves, ReportsOneFile};
+ghost use Rattle.span_collect.specs.Run.{run_code, is_cut, is_refused, of_journal, status_of, IsNotCollected, IsRunOf, RunLeaves, WritesOneFile};
 
 use crate::collection::{CollectError, collect};
 use crate::files::{FileEnd, Input};
@@ -84,17 +84,17 @@ pub fn run<O: Sink, R: Threads + Wait + RandomSource + Sync>(
     settings: &Settings,
     out: &mut O,
 ) -> Result<RunEnd, RunError>
-    ensures run { IfOk result
-        (λ run. IsRunOf (of_journal report_of) files.now asks.now settings.now run (O.state out.old) (O.state out.new)) }
-    ensures one_file { IfOk result
-        (λ run. ReportsOneFile files.now asks.now settings.now run.status (O.state out.old) (O.state out.new)) }
-    ensures in_turn { IfOk result
-        (λ run. ReportsAsInTurn files.now asks.now settings.now run.status (O.state out.old) (O.state out.new)) }
+    ensures run { IfOk result (λ run. IsRunOf (of_journal report_of) files.now asks.now settings.now run
+        (O.state out.old) (O.state out.new)) }
+    ensures one_file { IfOk result (λ run. WritesOneFile (of_journal report_of) files.now asks.now settings.now run.status
+        (O.state out.old) (O.state out.new)) }
+    ensures in_turn { IfOk result (λ run. WritesAsInTurn (of_journal report_of) files.now asks.now settings.now run.status
+        (O.state out.old) (O.state out.new)) }
     ensures count { (result ≡ Err RunError.FileCount) ↔ AreNoneOrTooMany files.now }
-    ensures error { IfErr result
-        (λ error. RunLeaves (of_journal report_of) error files.now asks.now settings.now (O.state out.old) (O.state out.new)) }
-    ensures error_in_turn { IfErr result
-        (λ error. FailsAsInTurn error files.now asks.now settings.now (O.state out.old) (O.state out.new)) }
+    ensures error { IfErr result (λ error. RunLeaves (of_journal report_of) error files.now asks.now settings.now
+        (O.state out.old) (O.state out.new)) }
+    ensures error_in_turn { IfErr result (λ error. FailsAsInTurn (of_journal report_of) error files.now asks.now settings.now
+        (O.state out.old) (O.state out.new)) }
 {
     let collected = run_to_ledger(rt, alloc, files, asks, settings, out)?;
     Ok(collected.end)
@@ -109,20 +109,22 @@ pub fn run_to_ledger<O: Sink, R: Threads + Wait + RandomSource + Sync>(
     settings: &Settings,
     out: &mut O,
 ) -> Result<Collected, RunError>
-    ensures run { IfOk result
-        (λ collected. IsRunOf (of_journal report_of) files.now asks.now settings.now collected.end (O.state out.old) (O.state out.new)) }
-    ensures one_file { IfOk result
-        (λ collected. ReportsOneFile files.now asks.now settings.now collected.end.status (O.state out.old) (O.state out.new)) }
-    ensures in_turn { IfOk result
-        (λ collected. ReportsAsInTurn files.now asks.now settings.now collected.end.status (O.state out.old) (O.state out.new)) }
+    ensures run { IfOk result (λ collected. IsRunOf (of_journal report_of) files.now asks.now settings.now collected.end
+        (O.state out.old) (O.state out.new)) }
+    ensures one_file { IfOk result (λ collected. WritesOneFile (of_journal report_of) files.now asks.now settings.now
+        collected.end.status (O.state out.old) (O.state out.new)) }
+    ensures in_turn { IfOk result (λ collected. WritesAsInTurn (of_journal report_of) files.now asks.now settings.now
+        collected.end.status (O.state out.old) (O.state out.new)) }
     ensures count { (result ≡ Err RunError.FileCount) ↔ AreNoneOrTooMany files.now }
-    ensures error { IfErr result
-        (λ error. RunLeaves (of_journal report_of) error files.now asks.now settings.now (O.state out.old) (O.state out.new)) }
-    ensures error_in_turn { IfErr result
-        (λ error. FailsAsInTurn error files.now asks.now settings.now (O.state out.old) (O.state out.new)) }
+    ensures error { IfErr result (λ error. RunLeaves (of_journal report_of) error files.now asks.now settings.now
+        (O.state out.old) (O.state out.new)) }
+    ensures error_in_turn { IfErr result (λ error. FailsAsInTurn (of_journal report_of) error files.now asks.now settings.now
+        (O.state out.old) (O.state out.new)) }
     ensures account { IfOk result
         (λ collected. SealedAccount files.now asks.now settings.now collected.end.ends.items collected.end.asked
         collected.end.sealing collected.ledger.journal) }
+    ensures limit { IfOk result (λ collected. collected.ledger.limit ≡ settings.now.limit) }
+    ensures strict { IfOk result (λ collected. collected.ledger.strict ≡ settings.now.strict) }
     ensures report { IfOk result
         (λ collected. collected.end.status < 2
         → TakesBytes (O.state out.old) (O.state out.new) (report_of collected.ledger.journal)) }
@@ -155,6 +157,12 @@ pub fn collect_to_ledger<R: Threads + Wait + RandomSource + Sync>(
     ensures status { IfOk result
         (λ collected. collected.end.status
         ≡ status_of collected.end.ends.items collected.end.asked collected.end.sealing) }
+    ensures limit { IfOk result (λ collected. collected.ledger.limit ≡ settings.now.limit) }
+    ensures strict { IfOk result (λ collected. collected.ledger.strict ≡ settings.now.strict) }
+    ensures answers { IfOk result (λ collected. AnswersAsInTurn files.now asks.now settings.now
+        collected.end.ends.items collected.ledger.journal) }
+    ensures in_turn { IfOk result (λ collected. StandsAsInTurn files.now asks.now settings.now
+        collected.end.status collected.ledger.journal) }
     ensures count { (result ≡ Err RunError.FileCount) ↔ AreNoneOrTooMany files.now }
     ensures error { IfErr result (λ error. IsNotCollected error files.now asks.now settings.now) }
 {

@@ -1,5 +1,5 @@
 -- What a collection of separate files accounts for is what they give one after another.
-use Rattle.std.proofs.Common.{◌≡◌, ◌≢◌, inl, inr, ℕ, ◌<◌, ◌≤◌, List, [], ◌∷◌, ◌++◌, length, take, map, Bool, true, false, cond, ◌||◌, Contains, Option, Some, None, Ok, Err, refl, sym, ap, ap₂, subst, ◌∙◌, arith}
+use Rattle.std.proofs.Common.{◌≡◌, ◌≢◌, inl, inr, ℕ, ◌<◌, List, [], ◌∷◌, ◌++◌, length, take, map, Bool, true, false, cond, ◌||◌, Contains, Option, Some, None, Ok, Err, refl, sym, ap, ap₂, subst, ◌∙◌, arith}
 use Rattle.std.specs.Prelude.{if◌then◌else◌}
 use Rattle.std.specs.List.{AllZip, list_any, range_with_len}
 use Rattle.std.specs.Option.{is_some}
@@ -14,9 +14,8 @@ use Rattle.span_ledger.specs.Legal.{next_entry}
 use Rattle.span_ledger.specs.Topics.{AreAlike}
 use Rattle.span_ledger.proofs.Topics.Answers.{answers-follow}
 use Rattle.span_ledger.proofs.Topics.Rows.{rows-follow}
-use Rattle.span_report.specs.Report.{report_of}
-use Rattle.span_report.specs.Sink.{SinkState, TakesBytes, Fails}
-use Rattle.span_report.proofs.SameReports.{report_of-alike}
+use Rattle.span_ledger.specs.declared.rows.CountRow.{CountRow}
+use Rattle.span_report.specs.Report.{head_lines}
 use Rattle.span_share.specs.Callers.{calls}
 use Rattle.span_share.specs.Entries.{caller_of}
 use Rattle.span_share.proofs.CallersLists.{calls-append_other}
@@ -27,12 +26,14 @@ use Rattle.span_collect.specs.declared.queries.Asked.{Asked}
 use Rattle.span_collect.specs.declared.sealing.Sealing.{Sealing}
 use Rattle.span_collect.specs.declared.settings.Settings.{Settings}
 use Rattle.span_collect.specs.Account.{Account, Document, EachEndsAs, IsRead, IsRefused, StopsAsking, callers_named, operations, telling}
-use Rattle.span_collect.specs.InTurn.{AnswersAsInTurn, AreSeparate, answers_of, items_in, journal_in_turn, told_in_turn}
+use Rattle.span_collect.specs.InTurn.{AnswersAsInTurn, AreSeparate, answers_of, ends_from, items_in, journal_in_turn, told_in_turn}
+use Rattle.span_collect.specs.Refusals.Text.{refusals_of}
 use Rattle.span_collect.specs.Run.{is_cut, is_refused, status_of}
 use Rattle.span_collect.specs.Seals.{SealedAccount, SealsAfter, StopsSealing, seals_of, with_seals}
 use Rattle.span_collect.proofs.InTurn.Alike.{Contains-place, acts_on-told, exchanges-alone}
 use Rattle.span_collect.proofs.InTurn.Counts.{AllZip-files, count_row-told}
 use Rattle.span_collect.proofs.InTurn.Exchanges.{exchanges}
+use Rattle.span_collect.proofs.InTurn.FileLines.{file_lines-same}
 use Rattle.span_collect.proofs.InTurn.OneByOne.{told_in_turn-tells}
 use Rattle.span_collect.proofs.InTurn.Sealed.{AreAlike-sealed}
 use Rattle.span_collect.proofs.InTurn.Shared.{TellsFiles}
@@ -94,20 +95,32 @@ module _ (files : List Input) (asks : List Query) (settings : Settings) (ends : 
   abbrev in_turn : List Entry
   in_turn = told_in_turn settings.strict files asks
 
+  -- in the journal in turn the seals are nobody's but caller 0's
+  calls-in_turn : (c : ℕ) → 0 ≢ c → calls caller_of c (journal_in_turn settings files asks) ≡ calls caller_of c in_turn
+  calls-in_turn c other = by settings.seal
+    where
+      by : (seal : Bool) → calls caller_of c (cond seal (with_seals settings.strict in_turn (seals_of in_turn)) in_turn) ≡ calls caller_of c in_turn
+      by true = calls-with_seals c other settings.strict in_turn (seals_of in_turn)
+      by false = refl
+
   -- the answers of the files' callers are those in turn
   pub SealedAccount-answers : AnswersAsInTurn files asks settings ends journal
   SealedAccount-answers separate none =
       let tells = Account-tells files asks settings ends asked sealed.told sealed.account none in
-      map-zip (answers_of journal) (answers_of in_turn) (callers_named ends) (range_with_len 1 (length files))
-      (AllZip-files _ _ (λ c d. answers_of journal c ≡ answers_of in_turn d) files (callers_named ends) (range_with_len 1 (length files)) tells.told (told_in_turn-tells settings.strict files asks).told
+      let tells' = told_in_turn-tells settings.strict files asks in
+      let callers = range_with_len 1 (length files) in
+      map-zip (answers_of journal) (answers_of (journal_in_turn settings files asks)) (callers_named ends) callers
+      (AllZip-files _ _ (λ c d. answers_of journal c ≡ answers_of (journal_in_turn settings files asks) d) files (callers_named ends) callers tells.told tells'.told
       (λ place file c d at under under'.
       let other : 0 ≢ c = (λ same. tells.distinct.0 (subst (λ n. Contains (callers_named ends) n) (sym same) (Contains-place (callers_named ends) place c under))) in
+      let other' : 0 ≢ d = (λ same. tells'.distinct.0 (subst (λ n. Contains callers n) (sym same) (Contains-place callers place d under'))) in
       answers_of-exchanges journal c
       ∙ ap (map (λ (x : Op × Answer). x.1))
       (ap exchanges (calls-sealed c other settings.seal settings.strict settings.limit sealed.told journal sealing sealed.seals)
       ∙ exchanges-alone answers-follow settings.strict files (take asked.done asks) separate (callers_named ends) sealed.told tells place file c at under
-      ∙ sym (exchanges-alone answers-follow settings.strict files asks separate (range_with_len 1 (length files)) in_turn (told_in_turn-tells settings.strict files asks) place file d at under'))
-      ∙ sym (answers_of-exchanges in_turn d)))
+      ∙ sym (exchanges-alone answers-follow settings.strict files asks separate callers in_turn tells' place file d at under')
+      ∙ ap exchanges (sym (calls-in_turn d other')))
+      ∙ sym (answers_of-exchanges (journal_in_turn settings files asks) d)))
 
   -- a status below 2 has no file cut, and all was asked and sealed
   status-all : (cut asked_not sealed_not : Bool) (rest : ℕ) → (if cut || asked_not || sealed_not then 2 else rest) < 2 → (cut ≡ false) × (asked_not ≡ false) × (sealed_not ≡ false)
@@ -141,7 +154,7 @@ module _ (files : List Input) (asks : List Query) (settings : Settings) (ends : 
         }
 
     -- the journal is like that of the files in turn
-    AreAlike-in_turn : AreAlike journal (journal_in_turn settings files asks)
+    pub AreAlike-in_turn : AreAlike journal (journal_in_turn settings files asks)
     AreAlike-in_turn = by settings.seal sealed.seals
       where
         by : (seal : Bool) → SealsAfter seal settings.strict settings.limit sealed.told journal sealing → AreAlike journal (cond seal (with_seals settings.strict in_turn (seals_of in_turn)) in_turn)
@@ -153,13 +166,8 @@ module _ (files : List Input) (asks : List Query) (settings : Settings) (ends : 
         by true (inr none) = absurd (let memory = sym none.memory ∙ none_of sealing.cause all.2 in cc)
         by false same = subst (λ j. AreAlike j in_turn) (sym same.0) AreAlike-told
 
-    -- so is its report
-    report_of-in_turn : report_of journal ≡ report_of (journal_in_turn settings files asks)
-    report_of-in_turn = report_of-alike journal (journal_in_turn settings files asks) AreAlike-in_turn
-
-    pub TakesBytes-in_turn : (old new : SinkState) → TakesBytes old new (report_of journal) → TakesBytes old new (report_of (journal_in_turn settings files asks))
-    TakesBytes-in_turn old new takes = subst (λ text. TakesBytes old new text) report_of-in_turn takes
-
-    pub Fails-in_turn : (written : ℕ) (old new : SinkState) → written ≤ length (report_of journal) → Fails old new (take written (report_of journal)) →
-        (written ≤ length (report_of (journal_in_turn settings files asks))) × Fails old new (take written (report_of (journal_in_turn settings files asks)))
-    Fails-in_turn written old new within fails = subst (λ text. (written ≤ length text) × Fails old new (take written text)) report_of-in_turn (within, fails)
+    -- so its text of refusals is that in turn
+    pub refusals_of-in_turn : refusals_of files ends journal ≡ refusals_of files (ends_from 1 files) (journal_in_turn settings files asks)
+    refusals_of-in_turn =
+        ap₂ (λ (counts : CountRow) (lines : List ℕ). head_lines counts ++ lines) AreAlike-in_turn.counts
+        (file_lines-same journal (journal_in_turn settings files asks) sealed.told settings.limit 1 files ends sealed.account.each_file_once_in_order all.0 (SealedAccount-answers separate all.0))
