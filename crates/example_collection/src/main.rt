@@ -1,11 +1,10 @@
-//! Collects two traces with a worker for each, asks two questions while the workers run, and prints what was replied, as far as no
-//! schedule can change it, and the report.
+//! Collects two traces with a worker for each, asks two questions while the workers run, and prints the report, how each file ended,
+//! and what was replied, as far as no schedule can change it.
 #![tactic(auto)]
 
-use span_collect::{FreeGate, Input, Outcome, Settings, collect};
-use span_event::Text;
-use span_ledger::{Answer, CountRow, Ledger, Query, Reply};
-use span_report::{Writer, write_report};
+use span_collect::{
+    Answer, Collected, CountRow, Input, Ledger, Query, Reply, Settings, Text, Writer, run_to_ledger,
+};
 use std::alloc::{AllocError, Global};
 use std::io;
 use std::process::ExitCode;
@@ -65,12 +64,12 @@ fn print_replies(rt: &impl Print, ledger: &Ledger) -> io::Result<()> {
     Ok(())
 }
 
-fn print_outcome(rt: &HostRuntime, outcome: &Outcome) -> io::Result<()> {
-    for end in &outcome.files {
+fn print_collected(rt: &HostRuntime, collected: &Collected) -> io::Result<()> {
+    for end in &collected.end.ends {
         println!(rt; "{end:?}")?;
     }
-    println!(rt; "asked {}", outcome.asked.done)?;
-    print_replies(rt, &outcome.ledger)
+    println!(rt; "asked {}", collected.end.asked.done)?;
+    print_replies(rt, &collected.ledger)
 }
 
 fn main(rt: HostRuntime) -> Result<ExitCode, io::Error> {
@@ -80,18 +79,14 @@ fn main(rt: HostRuntime) -> Result<ExitCode, io::Error> {
         input(alloc, "client.json", CLIENT)?,
     ];
     let asks = [Query::Counts, Query::Counts];
-    let outcome = match collect(&rt, alloc, &files, &asks, &FreeGate, &SETTINGS) {
-        Ok(outcome) => outcome,
+    let out = &mut Writer::new(rt.stdout());
+    let collected = match run_to_ledger(&rt, alloc, &files, &asks, &SETTINGS, out) {
+        Ok(collected) => collected,
         Err(error) => {
             eprintln!(rt; "{error}")?;
             return Ok(ExitCode::from(2));
         }
     };
-    print_outcome(&rt, &outcome)?;
-    let written = write_report(alloc, &outcome.ledger, &mut Writer::new(rt.stdout()));
-    drop(outcome);
-    Ok(match written {
-        Ok(()) => ExitCode::SUCCESS,
-        Err(_) => ExitCode::from(2),
-    })
+    print_collected(&rt, &collected)?;
+    Ok(ExitCode::from(collected.end.status))
 }
