@@ -13,6 +13,11 @@ mod turn;
 pub use book::{Book, Receipt};
 pub use seat::Seat;
 pub use share::{Share, ShareError};
+pub use span_ledger::{
+    Answer, ArgValue, Args, AsyncKey, Back, BoxedId, BoxedReply, Cause, Entry, Event, Field,
+    FlowKey, HashKeys, IdKey, Item, ItemFault, Ledger, Op, Phase, Query, Reach, Reply, SeriesKey,
+    Text,
+};
 
 #[cfg(test)]
 mod tests;
