@@ -2,6 +2,7 @@ ghost use Rattle.span_event.specs.Event.{IsTime};
 ghost use Rattle.span_track.specs.Thread.{IsSealTime};
 
 mod arguments;
+mod growths;
 mod placed;
 
 use placed::Placed;

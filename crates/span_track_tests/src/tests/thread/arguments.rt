@@ -6,7 +6,7 @@ use std::alloc::Global;
 use std::process::Abort;
 use std::test::Fail;
 
-fn args_at(items: &Items, i: usize) -> Option<&Args> {
+pub(super) fn args_at(items: &Items, i: usize) -> Option<&Args> {
     match items.get(i)? {
         Item::Good(event) => Some(&event.args),
         _ => None,

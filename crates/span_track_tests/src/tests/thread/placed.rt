@@ -11,12 +11,12 @@ use std::alloc::Global;
 use std::marker::Model;
 use std::process::Abort;
 
-// A track, the place of its next event, which a refused one takes too, and the arguments of each: none.
+// A track, the place of its next event, which a refused one takes too, and the arguments of each.
 #[derive(Drop)]
 pub(super) struct Placed {
     track: ThreadTrack,
     next: u32,
-    none: Args,
+    args: Args,
 }
 
 impl Model for Placed {
@@ -38,11 +38,16 @@ fn expect_few(rt: &impl Abort, track: &ThreadTrack, next: u32)
 }
 
 impl Placed {
+    // A track whose events have no arguments.
     pub(super) fn new(alloc: Global) -> Placed {
+        Placed::with_args(alloc, Args::empty(alloc))
+    }
+
+    pub(super) fn with_args(alloc: Global, args: Args) -> Placed {
         Placed {
             track: ThreadTrack::new(alloc),
             next: 0,
-            none: Args::empty(alloc),
+            args,
         }
     }
 
@@ -58,7 +63,7 @@ impl Placed {
         let at = self.next;
         expect_few(rt, &self.track, at);
         self.next = at + 1;
-        self.track.begin_span(name, ts, at, &self.none)
+        self.track.begin_span(name, ts, at, &self.args)
     }
 
     pub(super) fn end(&mut self, rt: &impl Abort, ts: i64) -> Result<ClosedSpan, TrackFault>
@@ -77,7 +82,7 @@ impl Placed {
     {
         expect_few(rt, &self.track, self.next);
         self.next += 1;
-        self.track.end_span(ts, wanted, &self.none)
+        self.track.end_span(ts, wanted, &self.args)
     }
 
     pub(super) fn seal(&mut self, rt: &impl Abort, ts: i64) -> Result<u32, TrackFault>
@@ -101,6 +106,6 @@ impl Placed {
         let at = self.next;
         expect_few(rt, &self.track, at);
         self.next = at + 1;
-        self.track.complete(name, ts, dur, at, &self.none)
+        self.track.complete(name, ts, dur, at, &self.args)
     }
 }
