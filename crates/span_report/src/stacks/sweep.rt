@@ -20,7 +20,7 @@ use std::marker::Model;
 #[derive(Clone, Copy)]
 struct Stretch {
     until: i64,
-    place: Option<usize>,
+    place: Option<u32>,
 }
 
 // Spans are swept in ascending rank, so in the order of their starts: before the start of the next one nothing changes any more.
@@ -138,7 +138,7 @@ impl<'a> Sweep<'a> {
         }
     }
 
-    fn nearest_place(&self) -> Option<usize>
+    fn nearest_place(&self) -> Option<u32>
         ensures nearest { result ≡ nearest_place self.now.stretches }
         ensures place { IsPlace self.now.tree result }
     {
@@ -146,7 +146,7 @@ impl<'a> Sweep<'a> {
     }
 
     // The time up to `until`, if there is any, has this place.
-    fn spend(&mut self, until: i64, place: Option<usize>)
+    fn spend(&mut self, until: i64, place: Option<u32>)
         requires place { IsPlace self.old.tree place }
         requires in_time { until ≤ℤ greatest_until }
         ensures spent { self.new ≡ spent until place self.old }
@@ -206,7 +206,7 @@ impl<'a> Sweep<'a> {
     }
 
     // The place of the stretch behind the first so many.
-    fn place_before(&self, first: usize) -> Option<usize>
+    fn place_before(&self, first: usize) -> Option<u32>
         requires { first ≤ length self.now.stretches }
         ensures nearest { result ≡ nearest_place (take first self.now.stretches) }
         ensures place { IsPlace self.now.tree result }

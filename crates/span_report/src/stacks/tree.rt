@@ -14,7 +14,7 @@ use std::marker::Model;
 // A frame on the stack of another place, or on none.
 #[derive(Drop)]
 struct Node<'a> {
-    parent: Option<usize>,
+    parent: Option<u32>,
     name: &'a Text,
     time: u64,
 }
@@ -23,7 +23,7 @@ struct Node<'a> {
 #[derive(Drop)]
 pub(crate) struct StackTree<'a> {
     nodes: Vec<Node<'a>>,
-    places: BTreeMap<(Option<usize>, &'a Text), usize>,
+    places: BTreeMap<(Option<u32>, &'a Text), u32>,
 }
 
 impl<'a> Model for StackTree<'a> {
@@ -51,10 +51,10 @@ impl<'a> StackTree<'a> {
     // The place of a stack with one more frame, which is made where there was none, unless there are as many as there may be.
     pub(crate) fn child(
         &mut self,
-        parent: Option<usize>,
+        parent: Option<u32>,
         name: &'a Text,
         most: u32,
-    ) -> Result<usize, StacksFault>
+    ) -> Result<u32, StacksFault>
         requires { IsPlace self.old parent }
         ensures child { IfOk result (λ place. IsChild self.old self.new parent name.now (Some place)) }
         ensures extends { OnOk result (Extends self.old self.new) }
@@ -66,10 +66,11 @@ impl<'a> StackTree<'a> {
         if let Some(place) = self.places.get(&(parent, name)) {
             return Ok(*place);
         }
-        let place = self.nodes.len();
-        if place >= most as usize {
+        let count = self.nodes.len();
+        if count >= most as usize {
             return Err(StacksFault::TooLarge);
         }
+        let place = count as u32;
         self.nodes.reserve(1)?;
         self.places.insert((parent, name), place)?;
         self.nodes.push_reserved(Node {
@@ -81,13 +82,13 @@ impl<'a> StackTree<'a> {
     }
 
     // The empty stack keeps no time.
-    pub(crate) fn add_time(&mut self, place: Option<usize>, time: u64)
+    pub(crate) fn add_time(&mut self, place: Option<u32>, time: u64)
         requires place { IsPlace self.old place }
         requires room { All (λ t. t + time < 2 ^ 64) self.old.times }
         ensures { self.new ≡ with_time place time self.old }
     {
         if let Some(place) = place {
-            let node = &mut self.nodes[place];
+            let node = &mut self.nodes[place as usize];
             node.time += time;
         }
     }
@@ -101,9 +102,10 @@ impl<'a> StackTree<'a> {
     {
         let depths = self.depths(alloc)?;
         let next = self.order(alloc)?;
-        let mut frames = Vec::new(alloc);
+        let mut frames = Vec::with_capacity(alloc, self.nodes.len())?;
         let mut place = next[0];
         while let Some(at) = place {
+            let at = at as usize;
             let node = &self.nodes[at];
             frames.push(StackFrame {
                 below: depths[at],
@@ -119,7 +121,7 @@ impl<'a> StackTree<'a> {
     fn depths(&self, alloc: Global) -> Result<Vec<usize>, AllocError>
         ensures { IfOk result (λ depths. AreDepths self.now.stacks depths.items) }
     {
-        let mut depths = Vec::new(alloc);
+        let mut depths = Vec::with_capacity(alloc, self.nodes.len())?;
         for node in &self.nodes {
             let depth = depth_on(&depths, node.parent);
             depths.push(depth)?;
@@ -128,7 +130,7 @@ impl<'a> StackTree<'a> {
     }
 
     // For the empty stack and then for each place, which place has the stack behind its own.
-    fn order(&self, alloc: Global) -> Result<Vec<Option<usize>>, AllocError>
+    fn order(&self, alloc: Global) -> Result<Vec<Option<u32>>, AllocError>
         ensures { IfOk result (λ next. IsOrder self.now.stacks next.items) }
     {
         let mut next = vec![in alloc; None; self.nodes.len() + 1]?;
@@ -142,46 +144,45 @@ impl<'a> StackTree<'a> {
 }
 
 // How many frames are below one that stands on a place.
-fn depth_on(depths: &[usize], parent: Option<usize>) -> usize
+fn depth_on(depths: &[usize], parent: Option<u32>) -> usize
     requires place { IsPlaceBefore (length depths.now) parent }
     requires room { All (λ depth. depth + 1 < 2 ^ 64) depths.now }
     ensures { result ≡ depth_on depths.now parent }
 {
     match parent {
-        Some(parent) => depths[parent] + 1,
+        Some(parent) => depths[parent as usize] + 1,
         None => 0,
     }
 }
 
 // Behind which place a new child comes: the last place, if that is a child of the same parent, and else the parent.
-fn elder(nodes: &[Node], last: Option<usize>, parent: Option<usize>) -> Option<usize>
+fn elder(nodes: &[Node], last: Option<u32>, parent: Option<u32>) -> Option<u32>
     requires { IsPlaceBefore (length nodes.now) last }
     ensures { IsElder (map (λ node. node.parent) nodes.now) last parent result }
 {
     match last {
-        Some(last) if nodes[last].parent == parent => Some(last),
+        Some(last) if nodes[last as usize].parent == parent => Some(last),
         _ => parent,
     }
 }
 
 // Puts a place behind another one, and before those that are behind that.
-fn put_after(next: &mut [Option<usize>], before: Option<usize>, place: usize)
+fn put_after(next: &mut [Option<u32>], before: Option<u32>, place: u32)
     requires before { slot before < length next.old }
     requires place { slot (Some place) < length next.old }
     ensures { next.new ≡ put_after before place next.old }
 {
     let slot = slot(before);
-    next[place + 1] = next[slot];
+    next[place as usize + 1] = next[slot];
     next[slot] = Some(place);
 }
 
 // Where a list tells of a place: first of the empty stack, and then of each place.
-fn slot(place: Option<usize>) -> usize
-    requires { slot place < 2 ^ 64 }
+fn slot(place: Option<u32>) -> usize
     ensures { result ≡ slot place }
 {
     match place {
-        Some(place) => place + 1,
+        Some(place) => place as usize + 1,
         None => 0,
     }
 }

@@ -29,7 +29,7 @@ invariant_of-self-2 c =
     let key : Key = (c.args.parent, c.args.name) in
     let node : Node = record { parent = c.args.parent; name = c.args.name; time = 0 } in
     let pushed : c.push_reserved.new.self.items ≡ nodes ++ node ∷ [] = c.push_reserved.ensures.items ∙ ap (λ (ns : List Node). ns ++ node ∷ []) c.in_ok-reserve.ensures.items in
-    let many : c.len-place.result ≡ length nodes = search rules in
+    let many : c.len-count.result ≡ length nodes = search rules in
     let count : length (tree_of nodes).stacks ≡ length (map key_of nodes) = length-stacks (map key_of nodes) in
     let parent : IsPlaceBefore (length (map key_of nodes)) c.args.parent = subst (λ n. IsPlaceBefore n c.args.parent) count (subst (λ (t : Tree). IsPlace t c.args.parent) (sym c.self.view_is) c.requires) in
     let put = λ (q : Key). c.in_ok-insert.ensures.updates.0 q ∙ ap (λ n. cond (is_eq (key_order key q)) (Some n) (place_of c.self.inside.places.entries q)) (many ∙ sym (length-map nodes key_of)) in
@@ -42,10 +42,10 @@ returns-clause-child c =
     let nodes = c.self.inside.nodes.items in
     let node : Node = record { parent = c.args.parent; name = c.args.name; time = 0 } in
     let pushed : c.push_reserved.new.self.items ≡ nodes ++ node ∷ [] = c.push_reserved.ensures.items ∙ ap (λ (ns : List Node). ns ++ node ∷ []) c.in_ok-reserve.ensures.items in
-    let many : c.len-place.result ≡ length nodes = search rules in
+    let many : c.len-count.result ≡ length nodes = search rules in
     let child = IsChild-push nodes node refl (subst (λ (t : Tree). IsPlace t c.args.parent) (sym c.self.view_is) c.requires) in
-    subst (λ (ns : List Node). IsChild c.args.self.now (tree_of ns) c.args.parent c.args.name.now (Some c.len-place.result)) (sym pushed)
-    (subst (λ (t : Tree). IsChild t (tree_of (nodes ++ node ∷ [])) c.args.parent c.args.name.now (Some c.len-place.result)) c.self.view_is
+    subst (λ (ns : List Node). IsChild c.args.self.now (tree_of ns) c.args.parent c.args.name.now (Some c.len-count.result)) (sym pushed)
+    (subst (λ (t : Tree). IsChild t (tree_of (nodes ++ node ∷ [])) c.args.parent c.args.name.now (Some c.len-count.result)) c.self.view_is
     (subst (λ n. IsChild (tree_of nodes) (tree_of (nodes ++ node ∷ [])) c.args.parent c.args.name.now (Some n)) (sym many) child))
 
 pub returns-clause-extends : goal.returns-clause-extends
@@ -71,13 +71,13 @@ returns-clause-grown c =
     (subst (λ (stacks : List Stack). HasEach stacks (tree_of (nodes ++ node ∷ [])).stacks) (stacks-pushed nodes node refl) (λ stack has. has)))
 
 -- one more node would make more than there may be
-pub returns-then-place-most-clause-full : goal.returns-then-place-most-clause-full
-returns-then-place-most-clause-full c = λ large all each.
+pub returns-then-count-most-clause-full : goal.returns-then-count-most-clause-full
+returns-then-count-most-clause-full c = λ large all each.
     let nodes = c.self.inside.nodes.items in
     let node : Node = record { parent = c.args.parent; name = c.args.name; time = 0 } in
-    let many : c.len-place.result ≡ length nodes = search rules in
+    let many : c.len-count.result ≡ length nodes = search rules in
     let parent = subst (λ (t : Tree). IsPlace t c.args.parent) (sym c.self.view_is) c.requires in
-    let more = AreMoreThan-full c.args.most nodes c.self.inside.places.entries node refl c.self.invariant parent (sym c.in_default.ensures.value) (omega (arith, c.if-place-most.true, many)) in
+    let more = AreMoreThan-full c.args.most nodes c.self.inside.places.entries node refl c.self.invariant parent (sym c.in_default.ensures.value) (omega (arith, c.if-count-most.true, many)) in
     subst (λ (t : Tree). AreMoreThan c.args.most (with_child t c.args.parent c.args.name.now)) c.self.view_is more all each
 
 pub returns-clause-fits : goal.returns-clause-fits
@@ -85,5 +85,5 @@ returns-clause-fits c = λ before.
     let nodes = c.self.inside.nodes.items in
     let node : Node = record { parent = c.args.parent; name = c.args.name; time = 0 } in
     let pushed : c.push_reserved.new.self.items ≡ nodes ++ node ∷ [] = c.push_reserved.ensures.items ∙ ap (λ (ns : List Node). ns ++ node ∷ []) c.in_ok-reserve.ensures.items in
-    let many : c.len-place.result ≡ length nodes = search rules in
-    omega (arith, length-tree_of c.push_reserved.new.self.items, ap (λ (ns : List Node). length ns) pushed, length_push nodes node, many, c.if-place-most.false)
+    let many : c.len-count.result ≡ length nodes = search rules in
+    omega (arith, length-tree_of c.push_reserved.new.self.items, ap (λ (ns : List Node). length ns) pushed, length_push nodes node, many, c.if-count-most.false)

@@ -20,8 +20,8 @@ loop-place-init c =
     let read : place ≡ next_of next None = c.index-place.ensures ∙ get_or_default next 0 place None (omega (arith, order.even)) in
     let next = subst (IsNext (λ k. k < length tree.stacks) tree.stacks []) (sym read) (order.linked None tt) in
     record {
-      walk = subst (λ (frames : List Framed). IsWalkTo tree frames place) (sym c.new-frames.ensures.items) (IsWalkTo-none tree are place next);
-      count = omega (arith, ap (λ (frames : List Framed). length frames) c.new-frames.ensures.items, above-next tree.stacks [] place (StandOnce-apart tree.stacks are.apart) next, above-empty tree are);
+      walk = subst (λ (frames : List Framed). IsWalkTo tree frames place) (sym c.in_ok-frames.ensures.items) (IsWalkTo-none tree are place next);
+      count = omega (arith, ap (λ (frames : List Framed). length frames) c.in_ok-frames.ensures.items, above-next tree.stacks [] place (StandOnce-apart tree.stacks are.apart) next, above-empty tree are);
     }
 
 pub index-node-requires : goal.index-node-requires
