@@ -1,10 +1,10 @@
-//! Folded stacks that an output or memory cuts off, those that have too many names, and the laws on their times.
+//! Folded stacks that an output or memory cuts off, those that have too many names or frames, and the laws on their times.
 
 use super::printed::Printed;
 use span_ledger::Ledger;
 use span_report::Writer;
 use span_report::stacks::laws::{busy_law, self_law};
-use span_report::stacks::{FoldedFault, StacksFault, folded, write_folded};
+use span_report::stacks::{FoldedFault, StacksFault, folded, framed_stacks, write_folded};
 use span_test_support::{told, told_at_last};
 use std::alloc::{AllocError, AllocGlobal, Global};
 use std::process::Abort;
@@ -84,5 +84,20 @@ fn is_too_large(rt: &(impl Abort + AllocGlobal), ledger: &Ledger) -> Result<(), 
     let written = write_folded(rt.alloc(), ledger, &mut Writer::new(&mut out));
     assert!(rt; written == Err(FoldedFault::TooLarge) && out.is_empty());
     assert_eq!(rt; FoldedFault::TooLarge.code(), 56);
+    Ok(())
+}
+
+// Spans that all cover a microsecond, begun and ended one after the other: any run of neighbors is the stack of a frame.
+const CROSSING: &str =
+    r#"[{"ph":"X","name":"a","ts":0,"dur":4,"pid":1,"tid":1},{"ph":"X","name":"b","ts":1,"dur":4,"pid":1,"tid":1},
+    {"ph":"X","name":"c","ts":2,"dur":4,"pid":1,"tid":1},{"ph":"X","name":"d","ts":3,"dur":4,"pid":1,"tid":1}]"#;
+
+#[test]
+fn tells_no_more_frames_than_are_taken(rt: HostRuntime) -> Result<(), Fail> {
+    let ledger = told(rt.alloc(), CROSSING).ok_or("not told")?;
+    let all = framed_stacks(rt.alloc(), &ledger, 1, 1, 10).map(|frames| frames.len());
+    let fewer = framed_stacks(rt.alloc(), &ledger, 1, 1, 9).map(|frames| frames.len());
+    drop(ledger);
+    assert!(rt; all == Ok(10) && fewer == Err(StacksFault::TooLarge));
     Ok(())
 }
