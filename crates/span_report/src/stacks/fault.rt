@@ -1,5 +1,4 @@
 //! Why stacks are not made.
-
 ghost use Rattle.std.specs.Prelude.{◌≡◌};
 
 use std::alloc::{AllocError, AllocFailed};
