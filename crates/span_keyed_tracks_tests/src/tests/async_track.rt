@@ -82,10 +82,10 @@ fn expect_apart(
     rt: &(impl Abort + AllocGlobal),
     first: &AsyncKey,
     second: &AsyncKey,
-    (start, end): (i64, i64),
+    (start, end): (u16, u16),
     length: u64,
 ) -> Result<(), Fail> {
-    assert!(rt; 0 < start && start < 1000 && 0 < end && end < 1000);
+    let (start, end) = (i64::from(start), i64::from(end));
     let track = &mut AsyncTrack::new(rt.alloc());
     begin(rt, track, first, start)?;
     expect_end(rt, track, second, start + 1, refused(23));
