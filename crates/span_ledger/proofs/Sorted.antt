@@ -1,13 +1,12 @@
 -- Lists that are made of sorted keys are sorted.
 use Rattle.std.proofs.Common.{◌≡◌, List, [], ◌∷◌, ◌++◌, refl, ap, ap₂, ◌∙◌, map, Option, Some, None}
-use Rattle.std.specs.Prelude.{fold, flat_map, filter_map}
+use Rattle.std.specs.Prelude.{flat_map, filter_map}
 use Rattle.std.specs.List.{AllByRecursion, cons_option}
 use Rattle.std.specs.List.Sorted.{IsStrictlySortedBy}
 use Rattle.std.specs.declared.cmp.Ordering.{Ordering}
-use Rattle.std.specs.declared.cmp.Ordering.TheVariants.{Less, Equal, Greater}
-use Rattle.std.specs.Ordering.{match_ordering, ordering_reverse, ordering_then}
+use Rattle.std.specs.declared.cmp.Ordering.TheVariants.{Less}
+use Rattle.std.specs.Ordering.{ordering_then}
 use Rattle.std.specs.Cmp.{IsTotalOrder, tied_itself}
-use Rattle.std.specs.BTreeSet.{insert_key}
 use Rattle.span_keyed_tracks.specs.Keyed.{entry_of}
 pub use Rattle.span_keyed_tracks.proofs.Sorted.{AllByRecursion-map, insert_key-sorted, ascending-sorted}
 
