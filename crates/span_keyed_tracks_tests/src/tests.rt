@@ -1,5 +1,5 @@
 //! Tracks that are told events, and what they then tell.
-ghost use Rattle.std.specs.Prelude.{All};
+ghost use Rattle.std.specs.Prelude.{All, IfOk};
 ghost use Rattle.span_event.specs.Event.{IsGood};
 ghost use Rattle.span_event.specs.Item.{IsGoodItem};
 
@@ -10,9 +10,10 @@ mod meta_track;
 mod names;
 
 use span_keyed_tracks::TrackFault;
-use span_read::{BoxedId, Event, IdKey, Item, Items, Text};
+use span_read::{BoxedId, Event, IdKey, Item, Items, Text, read_items};
 use std::alloc::{AllocError, Global};
 use std::process::Abort;
+use std::test::Fail;
 
 fn id_key(alloc: Global, home: Option<i64>, text: &str) -> Result<BoxedId, AllocError> {
     let id = Text::of(alloc, text)?;
@@ -33,4 +34,14 @@ fn event_at<'a>(rt: &impl Abort, items: &'a Items, place: usize) -> &'a Event
         panic!(rt; "no good event at {place}");
     };
     event
+}
+
+// The items of a text, read again where memory was refused.
+fn items_at_last(alloc: Global, text: &str) -> Result<Items, Fail>
+    ensures { IfOk result (All IsGoodItem) }
+{
+    match read_items(alloc, text.as_bytes()) {
+        Ok(items) => Ok(items),
+        Err(_) => Ok(read_items(alloc, text.as_bytes())?),
+    }
 }

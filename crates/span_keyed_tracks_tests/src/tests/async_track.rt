@@ -173,3 +173,70 @@ fn rows_are_ordered_by_their_keys(rt: HostRuntime) -> Result<(), Fail> {
     }
     Ok(())
 }
+
+fn key_at_last(alloc: Global, texts: KeyTexts<'_>) -> Result<AsyncKey, AllocError> {
+    match key(alloc, texts) {
+        Ok(key) => Ok(key),
+        Err(_) => key(alloc, texts),
+    }
+}
+
+// How many rows there are, asked again where memory was refused.
+fn count_of_rows(alloc: Global, track: &AsyncTrack) -> Result<usize, AllocError> {
+    match track.rows(alloc) {
+        Ok(rows) => Ok(rows.len()),
+        Err(_) => Ok(track.rows(alloc)?.len()),
+    }
+}
+
+// A begin at a time, or a point.
+fn tell(
+    rt: &impl Abort,
+    track: &mut AsyncTrack,
+    key: &AsyncKey,
+    begins: Option<i64>,
+) -> Result<(), TrackFault> {
+    let Some(ts) = begins else {
+        return point(rt, track, key);
+    };
+    assert!(rt; 0 < ts && ts < 1000);
+    begin(rt, track, key, ts)
+}
+
+// Tells it, again where memory was refused: then the track must tell what it told before.
+fn tell_at_last(
+    rt: &(impl Abort + AllocGlobal),
+    track: &mut AsyncTrack,
+    key: &AsyncKey,
+    begins: Option<i64>,
+) -> Result<(), Fail> {
+    let totals = track.of(key);
+    let rows = count_of_rows(rt.alloc(), track)?;
+    let told = tell(rt, track, key, begins);
+    if told != Err(TrackFault::Memory) {
+        return Ok(told?);
+    }
+    assert_eq!(rt; track.of(key), totals);
+    assert_eq!(rt; count_of_rows(rt.alloc(), track)?, rows);
+    Ok(tell(rt, track, key, begins)?)
+}
+
+// Runs with each allocation refused in turn, by tests/refused_allocations.
+#[test]
+fn a_refused_growth_changes_nothing(rt: HostRuntime) -> Result<(), Fail> {
+    let rt = &rt;
+    let first = &key_at_last(rt.alloc(), ("net", "A", None, "5", ""))?;
+    let second = &key_at_last(
+        rt.alloc(),
+        ("net", "B", Some(1), "an id of many bytes", "n"),
+    )?;
+    let track = &mut AsyncTrack::new(rt.alloc());
+    tell_at_last(rt, track, first, Some(10))?;
+    tell_at_last(rt, track, first, Some(12))?;
+    tell_at_last(rt, track, second, None)?;
+    expect_end(rt, track, first, 14, Ok(2));
+    expect_totals(rt, track, first, totals(1, 2, 1, 0));
+    expect_totals(rt, track, second, totals(0, 0, 0, 1));
+    assert_eq!(rt; count_of_rows(rt.alloc(), track)?, 2);
+    Ok(())
+}

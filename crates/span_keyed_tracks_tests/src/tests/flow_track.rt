@@ -126,3 +126,56 @@ fn rows_are_ordered_by_their_keys(rt: HostRuntime) -> Result<(), Fail> {
     }
     Ok(())
 }
+
+fn key_at_last(alloc: Global, texts: KeyTexts<'_>) -> Result<FlowKey, AllocError> {
+    match key(alloc, texts) {
+        Ok(key) => Ok(key),
+        Err(_) => key(alloc, texts),
+    }
+}
+
+// How many rows there are, asked again where memory was refused.
+fn count_of_rows(alloc: Global, track: &FlowTrack) -> Result<usize, AllocError> {
+    match track.rows(alloc) {
+        Ok(rows) => Ok(rows.len()),
+        Err(_) => Ok(track.rows(alloc)?.len()),
+    }
+}
+
+// Tells a point, again where memory was refused: then the track must tell what it told before.
+fn tell_at_last(
+    rt: &(impl Abort + AllocGlobal),
+    track: &mut FlowTrack,
+    key: &FlowKey,
+    point: Point,
+    ts: i64,
+) -> Result<Option<FlowClosed>, Fail>
+    requires { IsTime ts }
+{
+    let totals = track.of(key);
+    let rows = count_of_rows(rt.alloc(), track)?;
+    let told = tell(rt, track, key, point, ts);
+    if told != Err(TrackFault::Memory) {
+        return Ok(told?);
+    }
+    assert_eq!(rt; track.of(key), totals);
+    assert_eq!(rt; count_of_rows(rt.alloc(), track)?, rows);
+    Ok(tell(rt, track, key, point, ts)?)
+}
+
+// Runs with each allocation refused in turn, by tests/refused_allocations.
+#[test]
+fn a_refused_growth_changes_nothing(rt: HostRuntime) -> Result<(), Fail> {
+    let rt = &rt;
+    let first = &key_at_last(rt.alloc(), ("", "", None, "9"))?;
+    let second = &key_at_last(rt.alloc(), ("net", "n", Some(1), "an id of many bytes"))?;
+    let track = &mut FlowTrack::new(rt.alloc());
+    assert!(rt; tell_at_last(rt, track, first, Point::Start, 1)?.is_none());
+    assert!(rt; tell_at_last(rt, track, first, Point::Step, 3)?.is_none());
+    assert!(rt; tell_at_last(rt, track, second, Point::Start, 2)?.is_none());
+    let closed = tell_at_last(rt, track, first, Point::End, 5)?;
+    assert_eq!(rt; Ok(closed), ended(3, 4));
+    assert_eq!(rt; track.of(second).unclosed, 1);
+    assert_eq!(rt; count_of_rows(rt.alloc(), track)?, 2);
+    Ok(())
+}

@@ -3,10 +3,10 @@ ghost use Rattle.span_event.specs.Event.{IsGood};
 ghost use Rattle.span_event.specs.Item.{IsGoodItem};
 ghost use Rattle.span_keyed_tracks.specs.Meta.{MetaOf};
 
-use super::event_at;
-use span_keyed_tracks::{MetaTrack, names_thread};
+use super::{event_at, items_at_last};
+use span_keyed_tracks::{MetaTrack, TrackFault, names_thread};
 use span_read::{Event, Items, Phase, Reach, Text, read_items};
-use std::alloc::Global;
+use std::alloc::{AllocError, Global};
 use std::process::Abort;
 use std::test::Fail;
 
@@ -81,5 +81,83 @@ fn the_last_name_holds(rt: HostRuntime) -> Result<(), Fail> {
     drop(track);
     drop(items);
     drop(name);
+    Ok(())
+}
+
+// What the readers tell of process 1, its thread 2 and an instant of this name: how long names are, and numbers.
+#[derive(Clone, Copy, Debug, PartialEq, Eq)]
+struct Readings {
+    process: Option<usize>,
+    labels: Option<usize>,
+    sort_index: Option<i64>,
+    thread: Option<usize>,
+    instants: u32,
+}
+
+fn length(text: Option<&Text>) -> Option<usize> {
+    text.map(|text| text.as_str().len())
+}
+
+fn readings_of(track: &MetaTrack, name: &Text) -> Readings {
+    let process = track.process_of(1);
+    Readings {
+        process: length(process.name),
+        labels: length(process.labels),
+        sort_index: process.sort_index,
+        thread: length(track.thread_of(1, 2).name),
+        instants: track.instants_of(1, 2, name, Reach::Process),
+    }
+}
+
+// Takes an event, again where memory was refused: then the track must tell what it told before.
+fn take_at_last(rt: &impl Abort, track: &mut MetaTrack, event: &Event, taken: u32, name: &Text)
+    requires good { IsGood event.now }
+    requires few { taken < 1000 }
+    requires taken { MetaOf taken track.old }
+    ensures { MetaOf (taken + 1) track.new }
+{
+    let before = readings_of(track, name);
+    let told = match event.phase {
+        Phase::Meta => track.name_event(event),
+        Phase::Instant => track.instant(event),
+        _ => panic!(rt; "an event of another track"),
+    };
+    let Err(fault) = told else {
+        return;
+    };
+    assert_eq!(rt; fault, TrackFault::Memory);
+    assert_eq!(rt; readings_of(track, name), before);
+    take(rt, track, event, taken);
+}
+
+fn name_at_last(alloc: Global) -> Result<Text, AllocError> {
+    match Text::of(alloc, "gc") {
+        Ok(name) => Ok(name),
+        Err(_) => Text::of(alloc, "gc"),
+    }
+}
+
+fn follow_at_last(rt: &impl Abort, track: &mut MetaTrack, items: &Items, name: &Text)
+    requires good { All IsGoodItem items.now }
+    requires taken { MetaOf 0 track.old }
+{
+    take_at_last(rt, track, event_at(rt, items, 0), 0, name);
+    take_at_last(rt, track, event_at(rt, items, 1), 1, name);
+    take_at_last(rt, track, event_at(rt, items, 2), 2, name);
+    take_at_last(rt, track, event_at(rt, items, 3), 3, name);
+    take_at_last(rt, track, event_at(rt, items, 4), 4, name);
+}
+
+// Runs with each allocation refused in turn, by tests/refused_allocations.
+#[test]
+fn a_refused_growth_changes_nothing(rt: HostRuntime) -> Result<(), Fail> {
+    let text =
+        r#"[{"ph":"M","pid":1,"name":"process_name","args":{"name":"Renderer"}},{"ph":"M","pid":1,"tid":2,"name":"thread_name","args":{"name":"Main"}},{"ph":"M","pid":1,"name":"process_labels","args":{"labels":"tab"}},{"ph":"M","pid":1,"name":"process_sort_index","args":{"sort_index":-6}},{"ph":"i","pid":1,"tid":2,"name":"gc","ts":3,"s":"p"}]"#;
+    let name = &name_at_last(rt.alloc())?;
+    let items = &items_at_last(rt.alloc(), text)?;
+    let track = &mut MetaTrack::new(rt.alloc());
+    follow_at_last(&rt, track, items, name);
+    expect_names(&rt, track);
+    assert!(rt; track.instants_of(1, 2, name, Reach::Process) == 1);
     Ok(())
 }
