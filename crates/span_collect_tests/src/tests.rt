@@ -21,6 +21,7 @@ mod growths;
 mod in_turn;
 mod lengths;
 mod outputs;
+mod retries;
 mod seals;
 
 // A journal of so many entries, and nothing sealed.

@@ -1,9 +1,7 @@
 //! What a collection tells where a growth is refused. The test runs with each allocation refused in turn, by
 //! tests/refused_allocations.
 use super::{TWO_REPORT, files_of, up_to};
-use span_collect::{
-    CollectError, FileEnd, FreeGate, Input, Outcome, RunEnd, RunError, collect, run,
-};
+use span_collect::{CollectError, FileEnd, Gate, Input, Outcome, RunEnd, RunError, collect, run};
 use span_ledger::{Cause, Query};
 use span_report::Writer;
 use span_test_support::room_at_last;
@@ -11,6 +9,7 @@ use std::alloc::{AllocError, AllocGlobal, Global};
 use std::process::Abort;
 use std::random::RandomSource;
 use std::sync::Wait;
+use std::sync::atomic::{AtomicBool, Ordering};
 use std::test::Fail;
 use std::thread::Threads;
 
@@ -48,18 +47,40 @@ fn is_accounted(rt: &impl Abort, outcome: &Outcome) {
     assert_eq!(rt; outcome.asked.cause.is_none(), outcome.asked.done == 2);
 }
 
+// Notes whether a worker came to its file, or anyone to a step.
+#[derive(Drop)]
+struct Noted {
+    called: AtomicBool,
+}
+
+impl Gate for Noted {
+    fn read(&self, _worker: u32) {
+        self.called.store(true, Ordering::SeqCst);
+    }
+
+    fn pass(&self, _worker: u32, _call: u32) {
+        self.called.store(true, Ordering::SeqCst);
+    }
+}
+
 fn collect_at_last(
     rt: &(impl Threads + Wait + RandomSource + Sync + Abort + AllocGlobal),
     files: &[Input],
 ) -> Result<(), Fail> {
     let asks = [Query::Counts, Query::Counts];
-    match collect(rt, rt.alloc(), files, &asks, &FreeGate, &up_to(100)) {
+    let gate = Noted {
+        called: AtomicBool::new(false),
+    };
+    match collect(rt, rt.alloc(), files, &asks, &gate, &up_to(100)) {
         Ok(outcome) => {
             is_accounted(rt, &outcome);
             drop(outcome);
             Ok(())
         }
-        Err(CollectError::Memory) => Ok(()),
+        Err(CollectError::Memory) => {
+            assert!(rt; !gate.called.load(Ordering::SeqCst));
+            Ok(())
+        }
         Err(error) => Err(Fail::from(error)),
     }
 }

@@ -3,7 +3,7 @@ use super::file_of;
 use span_collect::{FreeGate, Input, Outcome, RunEnd, Settings, collect, run};
 use span_ledger::{Cause, Query};
 use span_report::Writer;
-use std::alloc::AllocGlobal;
+use std::alloc::{AllocError, AllocGlobal, Global};
 use std::process::Abort;
 use std::random::RandomSource;
 use std::sync::Wait;
@@ -131,6 +131,32 @@ fn a_seal_closes_what_a_strict_end_left_open(rt: HostRuntime) -> Result<(), Fail
     let end = run_sealed(&rt, &files, &settings, &mut out)?;
     assert_eq!(rt; end.status, 0);
     assert_eq!(rt; out.as_slice(), MISNAMED_REPORT.as_bytes());
+    drop(end);
+    drop(files);
+    Ok(())
+}
+
+// Begins of so many spans, each on a thread of its own.
+fn begins(alloc: Global, count: u32) -> Result<String, AllocError> {
+    let mut text = String::new(alloc);
+    write!(text, "[")?;
+    for tid in 0..count {
+        write!(text, r#"{{"ph":"B","ts":1,"tid":{tid}}},"#)?;
+    }
+    Ok(text)
+}
+
+const MANY: u32 = 40_000;
+
+#[test]
+fn no_number_of_seals_is_refused(rt: HostRuntime) -> Result<(), Fail> {
+    let text = begins(rt.alloc(), MANY)?;
+    let files = one_file(&rt, text.as_str())?;
+    let mut out = Vec::new(rt.alloc());
+    let end = run_sealed(&rt, &files, &sealed_up_to(80_000), &mut out)?;
+    assert_eq!(rt; end.sealing.done, MANY);
+    assert!(rt; end.sealing.cause.is_none());
+    assert_eq!(rt; end.status, 0);
     drop(end);
     drop(files);
     Ok(())
