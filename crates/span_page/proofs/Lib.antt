@@ -3,3 +3,4 @@ pub mod Coding
 pub mod Graphs
 pub mod Joined
 pub mod SafeTexts
+pub mod SamePages

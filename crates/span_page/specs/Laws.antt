@@ -1,11 +1,14 @@
 -- The facts that hold of every page.
 use Rattle.std.specs.Prelude.{◌≡◌, nat_eq, false, List, [], All}
 use Rattle.span_ledger.specs.declared.entry.Entry.{Entry}
+use Rattle.span_ledger.specs.Topics.{AreAlike}
 use Rattle.span_collect.specs.declared.files.FileEnd.{FileEnd}
 use Rattle.span_collect.specs.declared.files.Input.{Input}
+use Rattle.span_collect.specs.Refusals.Text.{refusals_of}
 use Rattle.span_report.specs.Stacks.Microseconds.{Folded}
 use Rattle.span_page.specs.Coded.{coded_after, decoded_after}
 use Rattle.span_page.specs.Data.{data_of}
+use Rattle.span_page.specs.Page.{page_of}
 use Rattle.span_page.specs.Safe.{safe}
 
 -- no byte of the data is `<`, so that nothing in them ends the element in which they stand
@@ -15,3 +18,9 @@ DataEndNoElement = (files : List Input) (ends : List FileEnd) (journal : List En
 -- the stacks that were coded are had back
 abbrev pub StacksAreHadBack : Type 0
 StacksAreHadBack = (stacks : List Folded) → decoded_after [] (coded_after [] stacks) ≡ stacks
+
+-- journals that have the same accepted acts on each topic, and as many entries of each kind, have the same page, if the same is said of
+-- what was refused
+abbrev pub PagesFollowFromActs : Type 0
+PagesFollowFromActs = (files : List Input) (ends others : List FileEnd) (journal other : List Entry) → AreAlike journal other →
+    refusals_of files ends journal ≡ refusals_of files others other → page_of files ends journal ≡ page_of files others other

@@ -9,6 +9,7 @@ pub mod NodeTrees
 pub mod Owners
 pub mod Placing
 pub mod RankOrder
+pub mod SameStacks
 pub mod StackOrders
 pub mod Starts
 pub mod Stretches

@@ -35,11 +35,11 @@ module _ {N M : Type 0} (f : Span N → Span M) (starts : (s : Span N) → (f s)
   length_of-map : (s : Span N) → length_of (f s) ≡ length_of s
   length_of-map s = ap₂ distance (starts s) (ends s)
 
-  earliest-map : (spans : List (Span N)) → earliest (map f spans) ≡ earliest spans
+  pub earliest-map : (spans : List (Span N)) → earliest (map f spans) ≡ earliest spans
   earliest-map [] = refl
   earliest-map (s ∷ spans) = ap₂ int_min (starts s) (earliest-map spans)
 
-  latest-map : (spans : List (Span N)) → latest (map f spans) ≡ latest spans
+  pub latest-map : (spans : List (Span N)) → latest (map f spans) ≡ latest spans
   latest-map [] = refl
   latest-map (s ∷ spans) = ap₂ int_max (ends s) (latest-map spans)
 

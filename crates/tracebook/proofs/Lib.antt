@@ -1,4 +1,6 @@
 mod Compared
 mod FaultLines
 mod Files
+mod InTurn
 mod Parts
+mod Views

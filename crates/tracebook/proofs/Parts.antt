@@ -7,19 +7,18 @@ use Rattle.span_report.specs.Sink.{SinkState}
 use Rattle.span_collect.specs.declared.files.Input.{Input}
 use Rattle.span_collect.specs.declared.settings.Settings.{Settings}
 use Rattle.span_collect.specs.declared.runs.RunEnd.{RunEnd}
-use Rattle.span_collect.specs.Run.{IsRunOf}
 use Rattle.span_collect.proofs.Statuses.{status_of-lt}
 use Rattle.tracebook.specs.declared.view.View.{View}
 use Rattle.tracebook.specs.Request.{LeavesPart}
-use Rattle.tracebook.specs.View.{text_of}
+use Rattle.tracebook.specs.View.{Prints}
 
 -- a run that didn't end with 0 wrote nothing, or its whole text
-pub LeavesPart-ended : (run : RunEnd) (inputs : List Input) (settings : Settings) (view : View) (old new : SinkState) → IsRunOf (text_of view inputs) inputs [] settings run old new → run.status ≢ 0 → LeavesPart inputs settings view old new
-LeavesPart-ended run inputs settings view old new is_run failed = dite (ℕ_discrete run.status 2)
-    (λ (two : run.status ≡ 2). inl (record { run = run; is_run = is_run; ended = two }))
+pub LeavesPart-ended : (run : RunEnd) (inputs : List Input) (settings : Settings) (view : View) (old new : SinkState) → Prints view inputs settings run old new → run.status ≢ 0 → LeavesPart inputs settings view old new
+LeavesPart-ended run inputs settings view old new prints failed = dite (ℕ_discrete run.status 2)
+    (λ (two : run.status ≡ 2). inl (record { run = run; prints = prints; ended = two }))
     (λ (other : ¬ (run.status ≡ 2)).
-    let below : run.status < 2 = rw is_run.status (status_of-lt run.ends.items run.asked run.sealing (λ two. other (is_run.status ∙ two))) in
-    inr (inr (record { run = run; is_run = is_run; ended = one run.status below failed })))
+    let below : run.status < 2 = rw prints.is_run.status (status_of-lt run.ends.items run.asked run.sealing (λ two. other (prints.is_run.status ∙ two))) in
+    inr (inr (record { run = run; prints = prints; ended = one run.status below failed })))
   where
     one : (n : ℕ) → n < 2 → n ≢ 0 → n ≡ 1
     one n below some = omega (arith, below, some)

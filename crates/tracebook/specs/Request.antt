@@ -6,15 +6,15 @@ use Rattle.span_collect.specs.declared.files.Input.{Input}
 use Rattle.span_collect.specs.declared.settings.Settings.{Settings}
 use Rattle.span_collect.specs.declared.runs.RunEnd.{RunEnd}
 use Rattle.span_collect.specs.declared.runs.RunError.{RunError}
-use Rattle.span_collect.specs.Run.{IsRunOf, RunLeaves}
 use Rattle.tracebook.specs.declared.command.Request.{Request}
 use Rattle.tracebook.specs.declared.command.Request.TheVariants.{Collect, Compare, Show, Refuse}
 use Rattle.tracebook.specs.declared.view.View.{View}
 use Rattle.tracebook.specs.declared.view.View.TheVariants.{Report}
+use Rattle.tracebook.specs.declared.view.ViewFault.{ViewFault}
 use Rattle.tracebook.specs.Source.{SourceBytes}
 use Rattle.tracebook.specs.Comparison.{ComparisonLeaves, IsComparisonOf, greater}
 use Rattle.tracebook.specs.Inputs.{AreFiles, AreInputs}
-use Rattle.tracebook.specs.View.{text_of}
+use Rattle.tracebook.specs.View.{Prints, ViewLeaves}
 
 -- the word begins with a hyphen
 abbrev pub is_option : List ℕ → Bool
@@ -46,14 +46,15 @@ Asked words Holds = (request : Request) × AsksFor words request × Holds reques
 -- a run of these inputs, without queries, that prints this view of them ended with this status
 pub record EndsWith (inputs : List Input) (settings : Settings) (view : View) (status : ℕ) (old new : SinkState) : Type 0 where
   pub run : RunEnd
-  pub is_run : IsRunOf (text_of view inputs) inputs [] settings run old new
+  pub prints : Prints view inputs settings run old new
   pub ended : run.status ≡ status
 
--- What a run of these inputs left where the program ended with 2. The run ended with 2, and wrote nothing; or it was refused, and wrote
--- nothing unless the output failed; or a file was refused, the view of the run is written, and memory for the file's line was refused.
+-- What a run of these inputs left where the program ended with 2. The run ended with 2, and wrote nothing; or it was refused, or its
+-- text is too large, and it wrote nothing unless the output failed; or a file was refused, the view of the run is written, and memory
+-- for the file's line was refused.
 abbrev pub LeavesPart : List Input → Settings → View → SinkState → SinkState → Type 0
 LeavesPart inputs settings view old new =
-    EndsWith inputs settings view 2 old new ⊎ (((error : RunError) × RunLeaves (text_of view inputs) error inputs [] settings old new) ⊎ EndsWith inputs settings view 1 old new)
+    EndsWith inputs settings view 2 old new ⊎ (((fault : ViewFault) × ViewLeaves view fault inputs settings old new) ⊎ EndsWith inputs settings view 1 old new)
 
 -- the files of these names were collected, and this view of them is written
 pub record Collects (source : SourceBytes) (names : List (List ℕ)) (settings : Settings) (view : View) (status : ℕ) (old new : SinkState) : Type 0 where

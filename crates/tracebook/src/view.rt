@@ -1,15 +1,14 @@
 //! What is printed of what was collected.
-ghost use Rattle.std.specs.Prelude.{◌≡◌, [], length, IfOk, IfErr, OnOk};
-ghost use Rattle.span_report.specs.Output.{WriteLeaves};
+ghost use Rattle.std.specs.Prelude.{◌≡◌, length, IfOk, IfErr, OnOk};
 ghost use Rattle.span_report.specs.Sink.{TakesBytes};
-ghost use Rattle.span_collect.specs.Run.{IsRunOf, RunLeaves};
-ghost use Rattle.tracebook.specs.View.{text_of};
+ghost use Rattle.tracebook.specs.View.{Fits, Prints, TextLeaves, ViewLeaves, text_of, unbounded, view_code};
 
 use span_collect::refusals::write_refusals;
 use span_collect::{Collected, Input, RunError, Settings, collect_to_ledger, run_to_ledger};
 use span_page::write_page;
 use span_report::rankings::{By, write_ranking};
-use span_report::stacks::write_folded;
+use span_event::Fault;
+use span_report::stacks::{FoldedFault, write_folded};
 use span_report::{Sink, WriteFault, write_report};
 use std::alloc::Global;
 use std::random::RandomSource;
@@ -30,6 +29,26 @@ pub enum View {
     Page,
 }
 
+/// Why a view of a run was not written whole.
+#[derive(Drop)]
+pub enum ViewFault {
+    /// The run was refused, or the output failed.
+    Run(RunError),
+    /// 56: the folded stacks have more names than they may, and nothing was written.
+    StacksTooLarge,
+}
+
+impl ViewFault {
+    pub(crate) fn code(&self) -> u16
+        ensures { result ≡ view_code self.now }
+    {
+        match self {
+            ViewFault::Run(error) => error.code(),
+            ViewFault::StacksTooLarge => Fault::StacksTooLarge.code(),
+        }
+    }
+}
+
 /// Collects files, and writes this view of them.
 pub(crate) fn run_view<O: Sink, R: Threads + Wait + RandomSource + Sync>(
     rt: &R,
@@ -38,23 +57,30 @@ pub(crate) fn run_view<O: Sink, R: Threads + Wait + RandomSource + Sync>(
     settings: &Settings,
     view: View,
     out: &mut O,
-) -> Result<Collected, RunError>
+) -> Result<Collected, ViewFault>
     ensures run { IfOk result
-        (λ collected. IsRunOf (text_of view files.now) files.now [] settings.now collected.end (O.state out.old) (O.state out.new)) }
-    ensures error { IfErr result
-        (λ error. RunLeaves (text_of view files.now) error files.now [] settings.now (O.state out.old) (O.state out.new)) }
+        (λ collected. Prints view files.now settings.now collected.end (O.state out.old) (O.state out.new)) }
+    ensures fault { IfErr result
+        (λ fault. ViewLeaves view fault files.now settings.now (O.state out.old) (O.state out.new)) }
 {
     if let View::Report = view {
-        return run_to_ledger(rt, alloc, files, &[], settings, out);
+        return match run_to_ledger(rt, alloc, files, &[], settings, out) {
+            Ok(collected) => Ok(collected),
+            Err(error) => Err(ViewFault::Run(error)),
+        };
     }
-    let collected = collect_to_ledger(rt, alloc, files, &[], settings)?;
+    let collected = match collect_to_ledger(rt, alloc, files, &[], settings) {
+        Ok(collected) => collected,
+        Err(error) => return Err(ViewFault::Run(error)),
+    };
     if collected.end.status == 2 {
         return Ok(collected);
     }
     match write_view(alloc, files, &collected, view, out) {
         Ok(()) => Ok(collected),
-        Err(WriteFault::Memory) => Err(RunError::Memory),
-        Err(WriteFault::Output { written }) => Err(RunError::Output { written }),
+        Err(FoldedFault::Memory) => Err(ViewFault::Run(RunError::Memory)),
+        Err(FoldedFault::TooLarge) => Err(ViewFault::StacksTooLarge),
+        Err(FoldedFault::Output { written }) => Err(ViewFault::Run(RunError::Output { written })),
     }
 }
 
@@ -65,19 +91,34 @@ fn write_view<O: Sink>(
     collected: &Collected,
     view: View,
     out: &mut O,
-) -> Result<(), WriteFault>
+) -> Result<(), FoldedFault>
     requires { length files.now ≡ length collected.now.end.ends.items }
     ensures ok { OnOk result (TakesBytes (O.state out.old) (O.state out.new)
         (text_of view files.now collected.now.end.ends.items collected.now.ledger.journal)) }
-    ensures fault { IfErr result (λ fault. WriteLeaves fault
-        (text_of view files.now collected.now.end.ends.items collected.now.ledger.journal) (O.state out.old) (O.state out.new)) }
+    ensures fits { OnOk result (Fits view collected.now.ledger.journal) }
+    ensures fault { IfErr result (λ fault. TextLeaves view fault
+        (text_of view files.now collected.now.end.ends.items collected.now.ledger.journal)
+        collected.now.ledger.journal (O.state out.old) (O.state out.new)) }
 {
     let ledger = &collected.ledger;
+    let ends = &collected.end.ends;
     match view {
-        View::Report => write_report(alloc, ledger, out),
-        View::Ranking { most, by } => write_ranking(alloc, ledger, most, by, out),
-        View::Refusals => write_refusals(alloc, ledger, files, &collected.end.ends, out),
+        View::Report => write_report(alloc, ledger, out).map_err(unbounded),
+        View::Ranking { most, by } => {
+            write_ranking(alloc, ledger, most, by, out).map_err(unbounded)
+        }
+        View::Refusals => write_refusals(alloc, ledger, files, ends, out).map_err(unbounded),
         View::Folded => write_folded(alloc, ledger, out),
-        View::Page => write_page(alloc, ledger, files, &collected.end.ends, out),
+        View::Page => write_page(alloc, ledger, files, ends, out).map_err(unbounded),
+    }
+}
+
+// The fault of a text that has no bound.
+fn unbounded(fault: WriteFault) -> FoldedFault
+    ensures { result ≡ unbounded fault }
+{
+    match fault {
+        WriteFault::Memory => FoldedFault::Memory,
+        WriteFault::Output { written } => FoldedFault::Output { written },
     }
 }

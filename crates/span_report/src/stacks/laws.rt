@@ -1,5 +1,5 @@
-//! The facts that hold of the folded stacks of every list of spans.
-ghost use Rattle.span_report.specs.Stacks.Laws.{TimesAddUpToBusy, TimesAddUpToSelf};
+//! The facts that hold of all folded stacks.
+ghost use Rattle.span_report.specs.Stacks.Laws.{StacksFollowFromActs, TimesAddUpToBusy, TimesAddUpToSelf};
 
 /// The times of the stacks add up to the busy time of the thread. The function does nothing: its contract is the law.
 pub fn busy_law()
@@ -10,4 +10,10 @@ pub fn busy_law()
 /// law.
 pub fn self_law()
     ensures { TimesAddUpToSelf }
+{}
+
+/// The stacks of a journal follow from its accepted acts on each topic, in their order. The function does nothing: its contract is the
+/// law.
+pub fn stacks_law()
+    ensures { StacksFollowFromActs }
 {}

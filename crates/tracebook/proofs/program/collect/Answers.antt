@@ -8,11 +8,11 @@ use Rattle.tracebook.proofs.program.collect.Goals as goal
 pub report_faults-status-requires-clause-lines : goal.report_faults-status-requires-clause-lines
 report_faults-status-requires-clause-lines g c =
     let run = c.in-Ok.ensures.run in
-    sym (AllZip-long _ c.args.files.now c.in-Ok.collected.end.ends.items run.account.account.each_file_once_in_order)
+    sym (AllZip-long _ c.args.files.now c.in-Ok.collected.end.ends.items run.is_run.account.account.each_file_once_in_order)
 
 pub returns-in-Ok-clause-done : goal.returns-in-Ok-clause-done
 returns-in-Ok-clause-done g c = λ below. elim (Reports-status c.report_faults-status.ensures) [
-  | inl same ↦ record { run = c.in-Ok.collected.end; is_run = c.in-Ok.ensures.run; ended = sym same }
+  | inl same ↦ record { run = c.in-Ok.collected.end; prints = c.in-Ok.ensures.run; ended = sym same }
   | inr two ↦ absurd (omega (arith, two, below))
 ]
 
@@ -22,4 +22,4 @@ returns-in-Ok-clause-failed g c = λ two.
 
 -- the run was refused
 pub returns-in-Err-clause-failed : goal.returns-in-Err-clause-failed
-returns-in-Err-clause-failed g c = λ two. inr (inl (c.in-Err.error, c.in-Err.ensures.error))
+returns-in-Err-clause-failed g c = λ two. inr (inl (c.in-Err.error, c.in-Err.ensures.fault))

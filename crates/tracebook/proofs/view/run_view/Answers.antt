@@ -1,21 +1,83 @@
-use Rattle.std.proofs.Common.{[], sym}
+use Rattle.std.proofs.Common.{◌≡◌, ◌<◌, [], sym}
 use Rattle.std.proofs.lemmas.Slice.Zip.{AllZip-long}
+use Rattle.span_collect.specs.InTurn.{WritesAsInTurn}
+use Rattle.span_collect.specs.Run.{status_of}
 use Rattle.span_collect.proofs.CutShort.{IsCutShort-failed}
+use Rattle.span_collect.proofs.InTurn.Texts.{FailsAsInTurn-same, WritesAsInTurn-same}
+use Rattle.span_collect.proofs.OneFile.{WritesOneFile-in_turn}
+use Rattle.span_collect.proofs.Statuses.{status_of-lt}
 use Rattle.tracebook.specs.View.{text_of}
+use Rattle.tracebook.proofs.InTurn.{ExceedsNames-in_turn, text_of-in_turn}
 use Rattle.tracebook.proofs.view.run_view.Goals as goal
 
 -- there is one end for each file
 pub write_view-requires : goal.write_view-requires
 write_view-requires g c =
-    sym (AllZip-long _ c.args.files.now c.in_ok-collected.collected.end.ends.items c.in_ok-collected.ensures.account.account.each_file_once_in_order)
-
--- the output failed in the text of what was collected
-pub returns-clause-error : goal.returns-clause-error
-returns-clause-error g c =
-    let run = c.in_ok-collected.collected in
-    IsCutShort-failed (text_of c.args.view c.args.files.now) c.args.files.now [] c.args.settings.now run.end run.ledger.journal _ _ _
-    c.in_ok-collected.ensures.account c.in_ok-collected.ensures.status c.if-collected-eq2.false (rw c.in-Err-Output.field-0-is at c.in-Err-Output.ensures.fault)
+    sym (AllZip-long _ c.args.files.now c.in-Ok-collect_to_ledger.collected.end.ends.items c.in-Ok-collect_to_ledger.ensures.account.account.each_file_once_in_order)
 
 -- the report is what a ledger's run writes
-pub returns-in-Report-clause-run : goal.returns-in-Report-clause-run
-returns-in-Report-clause-run g c = rw c.in-Report.is c.run_to_ledger.ensures.run
+pub returns-in-Ok-clause-run : goal.returns-in-Ok-clause-run
+returns-in-Ok-clause-run g c =
+    rw c.in-Report.is (record { is_run = c.in-Ok.ensures.run; fits = λ below. tt; in_turn = c.in-Ok.ensures.in_turn; one_file = c.in-Ok.ensures.one_file })
+
+-- the text of what was collected was written
+pub returns-in-Ok-write_view : goal.returns-in-Ok-write_view
+returns-in-Ok-write_view g c =
+    let run = c.in-Ok-collect_to_ledger.collected in
+    let collected = c.in-Ok-collect_to_ledger.ensures in
+    let written = c.in-Ok-write_view.ensures in
+    let text = text_of c.args.view c.args.files.now in
+    let in_turn : WritesAsInTurn text c.args.files.now [] c.args.settings.now run.end.status _ _ =
+    WritesAsInTurn-same text c.args.files.now [] c.args.settings.now run.end.status run.end.ends.items run.ledger.journal
+    (λ separate below. text_of-in_turn c.args.files.now c.args.settings.now run.end.ends.items run.end.asked run.end.sealing run.ledger.journal collected.account separate (rw collected.status at below) c.args.view)
+    _ _ written.ok in
+    record {
+      run = record {
+        is_run = record {
+          journal = run.ledger.journal;
+          account = collected.account;
+          status = collected.status;
+          written = λ below. written.ok;
+          silent = λ two. absurd (c.if-collected-eq2.false two);
+        };
+        fits = λ below. written.fits;
+        in_turn = in_turn;
+        one_file = WritesOneFile-in_turn text c.args.files.now [] c.args.settings.now run.end.status _ _ in_turn;
+      };
+      fault = tt;
+    }
+
+-- the folded stacks have more names than they may
+pub returns-in-Err-TooLarge : goal.returns-in-Err-TooLarge
+returns-in-Err-TooLarge g c =
+    let run = c.in-Ok-collect_to_ledger.collected in
+    let collected = c.in-Ok-collect_to_ledger.ensures in
+    let leaves = rw c.in-Err-TooLarge.field-0-is at c.in-Err-TooLarge.ensures.fault in
+    let below = status_of-lt run.end.ends.items run.end.asked run.end.sealing (rw collected.status at c.if-collected-eq2.false) in
+    record {
+      run = tt;
+      fault = record {
+        run = run.end;
+        journal = run.ledger.journal;
+        account = collected.account;
+        exceeds = leaves.1;
+        in_turn = λ separate. ExceedsNames-in_turn c.args.files.now c.args.settings.now run.end.ends.items run.end.asked run.end.sealing run.ledger.journal collected.account separate below c.args.view leaves.1;
+        silent = leaves.0;
+      };
+    }
+
+-- the output failed in the text of what was collected
+pub returns : goal.returns
+returns g c =
+    let run = c.in-Ok-collect_to_ledger.collected in
+    let collected = c.in-Ok-collect_to_ledger.ensures in
+    let text = text_of c.args.view c.args.files.now in
+    let leaves = rw c.in-Err-Output.field-0-is at c.in-Err-Output.ensures.fault in
+    let below = status_of-lt run.end.ends.items run.end.asked run.end.sealing (rw collected.status at c.if-collected-eq2.false) in
+    record {
+      run = tt;
+      fault = (IsCutShort-failed text c.args.files.now [] c.args.settings.now run.end run.ledger.journal _ _ _ collected.account collected.status c.if-collected-eq2.false leaves,
+        FailsAsInTurn-same text c.args.files.now [] c.args.settings.now run.end.status run.end.ends.items run.ledger.journal
+        (λ separate under. text_of-in_turn c.args.files.now c.args.settings.now run.end.ends.items run.end.asked run.end.sealing run.ledger.journal collected.account separate (rw collected.status at under) c.args.view)
+        _ _ (rw collected.status below) _ leaves);
+    }
