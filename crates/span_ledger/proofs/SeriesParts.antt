@@ -18,7 +18,7 @@ use Rattle.span_keyed_tracks.proofs.Keyed.{same_from_is_eq}
 use Rattle.span_keyed_tracks.proofs.Orders.{series_cmp-same, series_cmp-total}
 use Rattle.span_ledger.proofs.Selected.{filter-ascending}
 
-map-filter : {A B : Type 0} (p : A → Bool) (f g : A → B) → ((x : A) → p x ≡ true → f x ≡ g x) → (xs : List A) → map f (filter p xs) ≡ map g (filter p xs)
+pub map-filter : {A B : Type 0} (p : A → Bool) (f g : A → B) → ((x : A) → p x ≡ true → f x ≡ g x) → (xs : List A) → map f (filter p xs) ≡ map g (filter p xs)
 map-filter p f g same [] = refl
 map-filter {A = A} {B = B} p f g same (x ∷ xs) = by (p x) refl (map-filter p f g same xs)
   where

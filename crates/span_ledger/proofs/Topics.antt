@@ -1,4 +1,5 @@
 pub mod Answers
+pub mod KeyRows
 pub mod Keys
 pub mod Positions
 pub mod Rows

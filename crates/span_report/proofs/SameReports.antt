@@ -3,13 +3,21 @@ use Rattle.std.proofs.Common.{◌++◌, ap}
 use Rattle.std.specs.Prelude.{flat_map}
 use Rattle.span_ledger.specs.Topics.{of_process}
 use Rattle.span_ledger.proofs.Topics.Rows.{rows-follow, values-follow}
-use Rattle.span_report.specs.Laws.{ProcessLinesFollowFromActs, ReportsFollowFromActs}
+use Rattle.span_ledger.proofs.Topics.KeyRows.{async_rows-own, flow_rows-own}
+use Rattle.span_report.specs.Laws.{KeyLinesFollowFromActs, ProcessLinesFollowFromActs, ReportsFollowFromActs}
 use Rattle.span_report.specs.Lines.{async_line, flow_line}
 use Rattle.span_report.specs.Report.{head_lines, process_lines}
 
 -- journals that have the same acts on a process have the same lines of it
 pub process_lines-alike : ProcessLinesFollowFromActs
 process_lines-alike pid journal other alike = ap process_lines (values-follow (of_process pid) journal other alike).part
+
+-- journals that have the same acts on a key have the same line of it
+pub key_lines-alike : KeyLinesFollowFromActs
+key_lines-alike = record {
+  asynchronous = λ key journal other alike. ap (flat_map async_line) (async_rows-own journal other key alike);
+  flows = λ key journal other alike. ap (flat_map flow_line) (flow_rows-own journal other key alike);
+}
 
 -- journals that are alike have the same report
 pub report_of-alike : ReportsFollowFromActs

@@ -1,14 +1,36 @@
 -- What decides a report.
-use Rattle.std.specs.Prelude.{◌≡◌, ℤ, List}
+use Rattle.std.specs.Prelude.{◌≡◌, ℕ, ℤ, List, filter, flat_map}
+use Rattle.std.specs.Ordering.{is_eq}
+use Rattle.span_keyed_tracks.specs.declared.async_track.AsyncRow.{AsyncRow}
+use Rattle.span_keyed_tracks.specs.declared.flow_track.FlowRow.{FlowRow}
+use Rattle.span_keyed_tracks.specs.declared.keys.AsyncKey.{AsyncKey}
+use Rattle.span_keyed_tracks.specs.declared.keys.FlowKey.{FlowKey}
+use Rattle.span_keyed_tracks.specs.Async.{async_cmp}
+use Rattle.span_keyed_tracks.specs.Flow.{flow_cmp}
 use Rattle.span_ledger.specs.declared.entry.Entry.{Entry}
 use Rattle.span_ledger.specs.Parts.{process_part}
-use Rattle.span_ledger.specs.Topics.{AreAlike, acts_on, of_process}
+use Rattle.span_ledger.specs.Rows.{async_rows, flow_rows}
+use Rattle.span_ledger.specs.Topics.{AreAlike, acts_on, of_async, of_flow, of_process}
+use Rattle.span_report.specs.Lines.{async_line, flow_line}
 use Rattle.span_report.specs.Report.{process_lines, report_of}
 
 -- the lines of a process follow from the accepted acts on it
 abbrev pub ProcessLinesFollowFromActs : Type 0
 ProcessLinesFollowFromActs = (pid : ℤ) (journal other : List Entry) → acts_on (of_process pid) journal ≡ acts_on (of_process pid) other →
     process_lines (process_part journal pid) ≡ process_lines (process_part other pid)
+
+-- the line of an asynchronous key, if it has one
+abbrev pub async_lines : AsyncKey → List Entry → List ℕ
+async_lines key journal = flat_map async_line (filter (λ (row : AsyncRow). is_eq (async_cmp row.key key)) (async_rows journal))
+
+-- the line of a flow key, if it has one
+abbrev pub flow_lines : FlowKey → List Entry → List ℕ
+flow_lines key journal = flat_map flow_line (filter (λ (row : FlowRow). is_eq (flow_cmp row.key key)) (flow_rows journal))
+
+-- the line of a key follows from the accepted acts on it
+pub record KeyLinesFollowFromActs : Type 0 where
+  pub asynchronous : (key : AsyncKey) (journal other : List Entry) → acts_on (of_async key) journal ≡ acts_on (of_async key) other → async_lines key journal ≡ async_lines key other
+  pub flows : (key : FlowKey) (journal other : List Entry) → acts_on (of_flow key) journal ≡ acts_on (of_flow key) other → flow_lines key journal ≡ flow_lines key other
 
 -- journals that have the same accepted acts on each topic, and as many entries of each kind, have the same report
 abbrev pub ReportsFollowFromActs : Type 0

@@ -5,17 +5,10 @@ use Rattle.std.specs.Ordering.{int_eq}
 use Rattle.std.proofs.lemmas.List.{length-map}
 use Rattle.std.proofs.lemmas.Simd.{map-map}
 use Rattle.std.proofs.lemmas.Bool.Decides.{nat_tests}
+use Rattle.span_self_time.specs.Positions.{Rises, renumbered_span}
 use Rattle.span_self_time.specs.Spans.{Span, outranks, length_of, self_time, busy_time, named, total_of, self_of}
 use Rattle.span_self_time.proofs.Mapped.{busy_time-map, self_time-map, filter-map, sum_by-map}
 use Rattle.span_self_time.proofs.Tops.{sum_by-same}
-
--- the span with its position in place of another
-abbrev pub renumbered_span : {N : Type 0} → (ℕ → ℕ) → Span N → Span N
-renumbered_span f s = record { name = s.name; start = s.start; until = s.until; at = f s.at; args = s.args }
-
--- earlier positions stay earlier, and later ones later
-abbrev pub Rises : (ℕ → ℕ) → Type 0
-Rises f = (p q : ℕ) → nat_lt (f p) (f q) ≡ nat_lt p q
 
 pub Rises-from_lt : (f : ℕ → ℕ) → ((p q : ℕ) → p < q → f p < f q) → Rises f
 Rises-from_lt f rises p q = grind (arith, nat_tests, rises p q, rises q p)

@@ -13,6 +13,10 @@ pub record Begin (N : Type 0) : Type 0 where
   pub at : ℕ
   pub args : Arguments
 
+-- the begin with its position in place of another
+abbrev pub renumbered_begin : {N : Type 0} → (ℕ → ℕ) → Begin N → Begin N
+renumbered_begin f b = record { name = b.name; ts = b.ts; at = f b.at; args = b.args }
+
 pub record Ending : Type 0 where
   pub ts : ℤ
   pub args : Arguments

@@ -17,9 +17,9 @@ use Rattle.span_keyed_tracks.specs.Async.{async_cmp}
 use Rattle.span_keyed_tracks.specs.Flow.{chain_of, flow_cmp, summary}
 use Rattle.span_keyed_tracks.specs.Matching.{opens, closes, closes_all, other as whole}
 use Rattle.span_keyed_tracks.proofs.Orders.{async_cmp-total, flow_cmp-total}
-use Rattle.span_track.specs.Nesting.{Begin, ThreadEvent, depth_of, last_time, opener, sealed}
+use Rattle.span_track.specs.Nesting.{Begin, ThreadEvent, depth_of, last_time, opener, renumbered_begin, sealed}
 use Rattle.span_track.specs.Thread.{any_name, closing, goes_back, opening}
-use Rattle.span_track.proofs.Threads.Renumbering.{renumbered, renumbered_begin, opener-renumbered, depth_of-renumbered, last_time-renumbered}
+use Rattle.span_track.proofs.Threads.Renumbering.{renumbered, opener-renumbered, depth_of-renumbered, last_time-renumbered}
 use Rattle.span_ledger.specs.declared.entry.Answer.{Answer}
 use Rattle.span_ledger.specs.declared.entry.Answer.TheVariants.{Opened, Closed, Sealed}
 use Rattle.span_ledger.specs.declared.entry.Entry.{Entry}

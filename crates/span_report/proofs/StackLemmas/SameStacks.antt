@@ -10,7 +10,7 @@ use Rattle.span_event.specs.Time.{distance}
 use Rattle.span_event.specs.declared.thread.Thread.{Thread}
 use Rattle.span_self_time.specs.Spans.{Span, covers, earliest, latest, outranks}
 use Rattle.span_self_time.proofs.Mapped.{earliest-map, filter-map, latest-map}
-use Rattle.span_self_time.proofs.Renumbering.{Rises, renumbered_span}
+use Rattle.span_self_time.specs.Positions.{Rises, renumbered_span}
 use Rattle.span_keyed_tracks.specs.Keyed.{ascending}
 use Rattle.span_track.specs.Nesting.{closed_spans}
 use Rattle.span_track.proofs.Threads.Renumbering.{closed_spans-renumbered}
