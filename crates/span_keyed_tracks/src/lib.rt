@@ -22,3 +22,4 @@ pub use hash_keys::HashKeys;
 pub use keys::{AsyncKey, FlowKey, SeriesKey};
 pub use meta_track::{InstantRow, MetaTrack, ProcessNames, ThreadNames, names_thread};
 pub use names::Names;
+pub use span_event::{BoxedId, Event, IdKey, Reach, Text, Thread};

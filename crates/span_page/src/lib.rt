@@ -10,4 +10,5 @@ mod stacks;
 mod text;
 
 pub use output::write_page;
+pub use span_collect::{FileEnd, Input, Ledger, Sink, WriteFault};
 pub use text::page;

@@ -12,3 +12,4 @@ pub mod walk;
 pub use closed::ClosedSpans;
 pub use segment::Segment;
 pub use span::{ClosedSpan, NameTotal};
+pub use span_event::Args;
