@@ -5,9 +5,9 @@ ghost use Rattle.tracebook.specs.View.{Fits, Prints, TextLeaves, ViewLeaves, tex
 
 use span_collect::refusals::write_refusals;
 use span_collect::{Collected, Input, RunError, Settings, collect_to_ledger, run_to_ledger};
+use span_event::Fault;
 use span_page::write_page;
 use span_report::rankings::{By, write_ranking};
-use span_event::Fault;
 use span_report::stacks::{FoldedFault, write_folded};
 use span_report::{Sink, WriteFault, write_report};
 use std::alloc::Global;

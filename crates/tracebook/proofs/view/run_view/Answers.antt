@@ -76,8 +76,10 @@ returns g c =
     let below = status_of-lt run.end.ends.items run.end.asked run.end.sealing (rw collected.status at c.if-collected-eq2.false) in
     record {
       run = tt;
-      fault = (IsCutShort-failed text c.args.files.now [] c.args.settings.now run.end run.ledger.journal _ _ _ collected.account collected.status c.if-collected-eq2.false leaves,
+      fault = (
+        IsCutShort-failed text c.args.files.now [] c.args.settings.now run.end run.ledger.journal _ _ _ collected.account collected.status c.if-collected-eq2.false leaves,
         FailsAsInTurn-same text c.args.files.now [] c.args.settings.now run.end.status run.end.ends.items run.ledger.journal
-        (λ separate under. text_of-in_turn c.args.files.now c.args.settings.now run.end.ends.items run.end.asked run.end.sealing run.ledger.journal collected.account separate (rw collected.status at under) c.args.view)
-        _ _ (rw collected.status below) _ leaves);
+            (λ separate under. text_of-in_turn c.args.files.now c.args.settings.now run.end.ends.items run.end.asked run.end.sealing run.ledger.journal collected.account separate (rw collected.status at under) c.args.view)
+            _ _ (rw collected.status below) _ leaves,
+      );
     }
