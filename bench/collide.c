@@ -1,7 +1,7 @@
 // Prints keys of which all have the same low bits in a hash with its halves joined, so that they meet in one place of a map that
-// hashes by it: in the library's quick hash, whose seed is fixed and public, or, of the kind fixed_name, in SipHash-1-3 by the
-// fixed keys, which are 0. Arguments: the kind of key (name, fixed_name, process, thread or series), how many, and how many bits.
-// Found by trying one after the other.
+// hashes by it: in the library's quick hash, whose seed is fixed and public, or, of a kind that begins with fixed, in SipHash-1-3 by
+// the fixed keys, which are 0. Arguments: the kind of key (name, process, thread or series; fixed_name, fixed_process or
+// fixed_thread), how many, and how many bits. Found by trying one after the other.
 #include <inttypes.h>
 #include <stdio.h>
 #include <stdlib.h>
@@ -69,16 +69,36 @@ static void sip_word(uint64_t state[4], uint64_t word)
     state[0] ^= word;
 }
 
-// The last word has the last letters, the byte that ends a text, and how many bytes there are.
-static uint64_t fixed_hash_of_name(uint64_t candidate)
+// Of whole words, and a last one that has the bytes left and how many there are.
+static uint64_t fixed_hash_of(const uint64_t *words, int count)
 {
     uint64_t state[] = {0x736f6d6570736575, 0x646f72616e646f6d, 0x6c7967656e657261, 0x7465646279746573};
-    sip_word(state, letters_of(candidate));
-    sip_word(state, last_letters_of(candidate) >> 32 | 0xffull << 32 | 13ull << 56);
+    for (int place = 0; place < count; place++)
+        sip_word(state, words[place]);
     state[2] ^= 0xff;
     for (int round = 0; round < 3; round++)
         sip_round(state);
     return state[0] ^ state[1] ^ state[2] ^ state[3];
+}
+
+// The last word has the last letters and the byte that ends a text.
+static uint64_t fixed_hash_of_name(uint64_t candidate)
+{
+    uint64_t words[] = {letters_of(candidate), last_letters_of(candidate) >> 32 | 0xffull << 32 | 13ull << 56};
+    return fixed_hash_of(words, 2);
+}
+
+static uint64_t fixed_hash_of_process(uint64_t candidate)
+{
+    uint64_t words[] = {candidate, 8ull << 56};
+    return fixed_hash_of(words, 2);
+}
+
+// A thread of process 1.
+static uint64_t fixed_hash_of_thread(uint64_t candidate)
+{
+    uint64_t words[] = {1, candidate, 16ull << 56};
+    return fixed_hash_of(words, 3);
 }
 
 static void print_name(uint64_t candidate)
@@ -124,6 +144,8 @@ int main(int count, char **words)
         {"fixed_name", fixed_hash_of_name, print_name},
         {"process", hash_of_process, print_number},
         {"thread", hash_of_thread, print_number},
+        {"fixed_process", fixed_hash_of_process, print_number},
+        {"fixed_thread", fixed_hash_of_thread, print_number},
         {"series", hash_of_series, print_number},
     };
     if (count != 4)

@@ -9,6 +9,18 @@ def named(key):
     return '{"ph":"X","name":"%s","ts":1,"dur":1}' % key
 
 
+def counted(key):
+    return '{"ph":"C","name":"%s","ts":1,"args":{"k":1}}' % key
+
+
+def of_process(key):
+    return '{"ph":"X","name":"a","ts":1,"dur":1,"pid":%s}' % key
+
+
+def of_thread(key):
+    return '{"ph":"X","name":"a","ts":1,"dur":1,"pid":1,"tid":%s}' % key
+
+
 def ordinary(kind, count):
     """Keys of as many letters or digits, one after the other."""
     return ["name%08d" % place if kind.endswith("name") else str(1_000_000_000 + place) for place in range(count)]
