@@ -105,6 +105,7 @@ impl ThreadTrack {
 
     /// The span that began last ends. Answers it with the arguments of both events, or 21 where no span is open,
     /// or 22 where `ts` is below the time of the last begin, end or seal, or 27 where the span has another name than is wanted.
+    /// The ledger keeps the merged arguments itself, so it calls `end_refusal`, `merged_args` and `close_span` instead of this.
     pub fn end_span(
         &mut self,
         ts: i64,
