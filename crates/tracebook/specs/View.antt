@@ -18,7 +18,7 @@ use Rattle.span_collect.specs.declared.files.Input.{Input}
 use Rattle.span_collect.specs.declared.runs.RunEnd.{RunEnd}
 use Rattle.span_collect.specs.declared.settings.Settings.{Settings}
 use Rattle.span_collect.specs.InTurn.{AreSeparate, FailsAsInTurn, WritesAsInTurn, journal_in_turn}
-use Rattle.span_collect.specs.Run.{IsRunOf, RunLeaves, TextOf, WritesOneFile, run_code}
+use Rattle.span_collect.specs.Run.{IsRunOf, RunLeaves, TextOf, WritesOneFile, run_code, status_of}
 use Rattle.span_collect.specs.Seals.{SealedAccount}
 use Rattle.tracebook.specs.declared.view.View.{View}
 use Rattle.tracebook.specs.declared.view.View.TheVariants.{Report, Ranking, Refusals, Folded, Page}
@@ -70,6 +70,7 @@ pub record IsTooLarge (view : View) (inputs : List Input) (settings : Settings) 
   pub run : RunEnd
   pub journal : List Entry
   pub account : SealedAccount inputs [] settings run.ends.items run.asked run.sealing journal
+  pub ended : status_of run.ends.items run.asked run.sealing < 2
   pub exceeds : ExceedsNames view journal
   pub in_turn : AreSeparate inputs → ExceedsNames view (journal_in_turn settings inputs [])
   pub silent : new ≡ old

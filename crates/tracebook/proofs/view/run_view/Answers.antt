@@ -60,6 +60,7 @@ returns-in-Err-TooLarge g c =
         run = run.end;
         journal = run.ledger.journal;
         account = collected.account;
+        ended = below;
         exceeds = leaves.1;
         in_turn = λ separate. ExceedsNames-in_turn c.args.files.now c.args.settings.now run.end.ends.items run.end.asked run.end.sealing run.ledger.journal collected.account separate below c.args.view leaves.1;
         silent = leaves.0;
