@@ -1,2 +1,3 @@
 pub mod Merged
 pub mod Orders
+pub mod Values

@@ -54,6 +54,14 @@ as_text (Flag b) = None
 as_text Nil = None
 as_text Other = None
 
+-- the truth value that a value is, if it is one
+abbrev pub as_flag : ArgValue → Option Bool
+as_flag (Whole n) = None
+as_flag (Words w) = None
+as_flag (Flag b) = Some b
+as_flag Nil = None
+as_flag Other = None
+
 -- each value is a whole number
 abbrev pub all_whole : Arguments → Bool
 all_whole ps = list_all (λ p. is_some (as_whole p.1)) ps

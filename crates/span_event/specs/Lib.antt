@@ -7,3 +7,4 @@ pub mod Orders
 pub mod Text
 pub mod Thread
 pub mod Time
+pub mod ValueLaws

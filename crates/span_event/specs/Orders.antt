@@ -1,12 +1,15 @@
--- The orders of ids, of reaches and of threads.
+-- The orders of ids, of reaches, of threads and of the values of arguments.
 use Rattle.std.specs.Prelude.{ℕ, Bool, ◌&&◌}
 use Rattle.std.specs.Option.{option_cmp, option_eq}
-use Rattle.std.specs.Ordering.{nat_cmp, int_cmp, int_eq, on, ordering_then, then_cmp}
+use Rattle.std.specs.Ordering.{bool_cmp, nat_cmp, int_cmp, int_eq, on, ordering_then, then_cmp}
 use Rattle.std.specs.declared.cmp.Ordering.{Ordering}
+use Rattle.span_event.specs.declared.args.ArgValue.{ArgValue}
+use Rattle.span_event.specs.declared.args.ArgValue.TheVariants.{Nil, Flag, Whole, Words, Other}
 use Rattle.span_event.specs.declared.event.IdKey.{IdKey}
 use Rattle.span_event.specs.declared.event.Reach.{Reach}
 use Rattle.span_event.specs.declared.event.Reach.TheVariants.{Global, Process, Thread as OneThread}
 use Rattle.span_event.specs.declared.thread.Thread.{Thread}
+use Rattle.span_event.specs.Args.{as_flag, as_text, as_whole}
 use Rattle.span_event.specs.Text.{text_cmp, same_text}
 
 -- by home, none before any and then by number; and then by the bytes of the id
@@ -29,3 +32,14 @@ reach_cmp = on place_of nat_cmp
 -- by process, and then by the number of the thread
 abbrev pub thread_cmp : Thread → Thread → Ordering
 thread_cmp a b = ordering_then (int_cmp a.pid b.pid) (int_cmp a.tid b.tid)
+
+abbrev pub kind_place : ArgValue → ℕ
+kind_place Nil = 0
+kind_place (Flag b) = 1
+kind_place (Whole n) = 2
+kind_place (Words w) = 3
+kind_place Other = 4
+
+-- by kind, and then false before true, whole numbers by value, and texts by their bytes
+abbrev pub value_cmp : ArgValue → ArgValue → Ordering
+value_cmp = then_cmp (on kind_place nat_cmp) (then_cmp (on as_flag (option_cmp bool_cmp)) (then_cmp (on as_whole (option_cmp int_cmp)) (on as_text (option_cmp text_cmp))))

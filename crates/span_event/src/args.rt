@@ -11,13 +11,14 @@ use std::fmt::{self, Debug, Formatter, Write};
 use std::marker::Model;
 use std::sync::ArcSlice;
 
-/// A value of an event's arguments. Arrays, objects and numbers that are not whole are kept as `Other`.
-#[derive(Debug, Drop, PartialEq, Eq)]
+/// A value of an event's arguments. Arrays, objects and numbers that are not whole are kept as `Other`. Ordered by the variants in
+/// their order, and then by value; texts by their bytes.
+#[derive(Debug, Drop, PartialEq, Eq, PartialOrd, Ord, Hash)]
 pub enum ArgValue {
+    Nil,
+    Flag(bool),
     Whole(i64),
     Words(Text),
-    Flag(bool),
-    Nil,
     Other,
 }
 
