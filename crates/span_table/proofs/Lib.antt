@@ -1,0 +1,3 @@
+pub mod Substrings
+pub mod SumText
+pub mod Summing

@@ -1,0 +1,50 @@
+-- What is kept of sums by key, once more are added.
+use Rattle.std.proofs.Common.{◌≡◌, ℕ, ◌+◌, ◌≤◌, List, [], ◌∷◌, ◌++◌, map, Option, Some, None, sym, ap, subst, ◌∙◌, arith}
+use Rattle.std.specs.Prelude.{All, IfSome, sum_by, unwrap_or}
+use Rattle.std.specs.List.Sorted.{IsStrictlySortedBy}
+use Rattle.std.specs.Map.{keys_of, lookup, values_of}
+use Rattle.std.proofs.lemmas.Map.Views.{IfSome-lookup_from_All}
+use Rattle.std.specs.BTreeMap.{insert_entry, is_at}
+use Rattle.std.proofs.lemmas.List.Sums.{sum_by_push}
+use Rattle.span_keyed_tracks.specs.Keyed.{Keyed, keys_in, steps_at}
+use Rattle.span_keyed_tracks.proofs.Keyed.{entries_in-insert_entry, keys_of-made, kept_at-entries_in}
+use Rattle.span_keyed_tracks.proofs.Sorted.{ascending-sorted}
+use Rattle.span_table.specs.declared.sums.Sums.{Sums}
+use Rattle.span_table.specs.Collected.{IsWithin, with_sums}
+use Rattle.span_table.specs.KeyLaws.{key_cmp_total, key_cmp-same}
+use Rattle.span_table.specs.Keys.{TableKey, key_cmp}
+use Rattle.span_table.specs.Tables.{KeyedSums, SumsByKey, summed, sums_together}
+
+-- one more is added to the others
+pub sums_together-push : (sums : List Sums) (more : Sums) → sums_together (sums ++ more ∷ []) ≡ with_sums (sums_together sums) more
+sums_together-push sums more =
+    let count = sum_by_push (λ (s : Sums). s.count) sums more in
+    let total = sum_by_push (λ (s : Sums). s.total) sums more in
+    let self_time = sum_by_push (λ (s : Sums). s.self_time) sums more in
+    λ i. record { count = count i; total = total i; self_time = self_time i }
+
+-- keys that are kept rise
+pub summed-sorted : (sums : KeyedSums) → IsStrictlySortedBy key_cmp (keys_of (summed sums))
+summed-sorted sums = rw (keys_of-made (λ key. sums_together (steps_at key_cmp key sums)) (keys_in key_cmp sums)) (ascending-sorted key_cmp_total (map (λ (e : Keyed TableKey Sums). e.key) sums))
+
+-- sums are added to what is kept for their key, or to none
+pub summed-added : (sums : KeyedSums) (key : TableKey) (more now : Sums) (old new : SumsByKey) → old ≡ summed sums → now ≡ with_sums (unwrap_or (lookup (is_at (key_cmp key)) old) (sums_together [])) more →
+    new ≡ insert_entry key_cmp old key now → new ≡ summed (sums ++ record { key = key; step = more } ∷ [])
+summed-added sums key more now old new kept is written =
+    let e : Keyed TableKey Sums = record { key = key; step = more } in
+    let was : unwrap_or (lookup (is_at (key_cmp key)) old) (sums_together []) ≡ sums_together (steps_at key_cmp key sums) =
+    ap (λ es. unwrap_or (lookup (is_at (key_cmp key)) es) (sums_together [])) kept ∙ kept_at-entries_in key_cmp_total key_cmp-same sums_together sums key in
+    written ∙ entries_in-insert_entry key_cmp_total key_cmp-same sums_together sums e old now kept (subst (λ es. IsStrictlySortedBy key_cmp (keys_of es)) (sym kept) (summed-sorted sums))
+    (is ∙ ap (λ s. with_sums s more) was ∙ sym (sums_together-push (steps_at key_cmp key sums) more))
+
+-- what is within some number is within a greater one
+pub IsWithin-le : (m n : ℕ) (sums : Sums) → m ≤ n → IsWithin m sums → IsWithin n sums
+IsWithin-le m n sums low within = record { count = omega (arith, within.count); total = omega (arith, within.total); self_time = omega (arith, within.self_time) }
+
+-- what was found for a key is within what all that is kept is within
+pub found-within : (n : ℕ) (key : TableKey) (es : SumsByKey) → All (IsWithin n) (values_of es) → IsWithin n (unwrap_or (lookup (is_at (key_cmp key)) es) (sums_together []))
+found-within n key es within = by (lookup (is_at (key_cmp key)) es) (IfSome-lookup_from_All (IsWithin n) (is_at (key_cmp key)) es within)
+  where
+    by : (found : Option Sums) → IfSome found (IsWithin n) → IsWithin n (unwrap_or found (sums_together []))
+    by None h = record { count = omega arith; total = omega arith; self_time = omega arith }
+    by (Some sums) h = h

@@ -1,0 +1,48 @@
+-- Tables are added, and lose nothing by it.
+use Rattle.std.specs.Prelude.{◌≡◌, ℕ, List, map, filter_map, flat_map, slice_get}
+use Rattle.std.specs.List.Sorted.{IsPermutation}
+use Rattle.span_keyed_tracks.specs.Keyed.{Keyed}
+use Rattle.span_table.specs.declared.column.Column.{Column}
+use Rattle.span_table.specs.declared.sums.Sums.{Sums}
+use Rattle.span_table.specs.declared.table.Row.{Row}
+use Rattle.span_table.specs.Keys.{TableKey}
+use Rattle.span_table.specs.Tables.{KeyedSums, Run, SpanTable, heads_together, rows_of, table_of}
+
+-- the sums of a row, under its key
+abbrev pub keyed_row : Row → Keyed TableKey Sums
+keyed_row row = record { key = row.key; step = row.sums }
+
+abbrev pub keyed_rows : List Row → KeyedSums
+keyed_rows rows = map keyed_row rows
+
+-- tables of the same columns added: heads added, and for each key that one of them has its sums
+abbrev pub add_tables : List Column → List SpanTable → SpanTable
+add_tables columns tables = record {
+  columns = columns;
+  head = heads_together (map (λ (table : SpanTable). table.head) tables);
+  rows = rows_of (flat_map (λ (table : SpanTable). keyed_rows table.rows) tables);
+}
+
+-- the tables of lists of runs, added, are the table of all these runs together
+abbrev pub AddingLosesNothing : Type 0
+AddingLosesNothing = (columns : List Column) (parts : List (List Run)) → add_tables columns (map (table_of columns) parts) ≡ table_of columns (flat_map (λ part. part) parts)
+
+-- a table is the same for runs in whatever order
+abbrev pub OrderIsNothing : Type 0
+OrderIsNothing = (columns : List Column) (runs other : List Run) → IsPermutation runs other → table_of columns runs ≡ table_of columns other
+
+-- those at these places of a list
+abbrev pub picked : {A : Type 0} → List ℕ → List A → List A
+picked places xs = filter_map (slice_get xs) places
+
+-- the sums of a row, under these values of its key
+abbrev pub keyed_by : List ℕ → Row → Keyed TableKey Sums
+keyed_by places row = record { key = picked places row.key; step = row.sums }
+
+-- a table with fewer columns, or in another order: rows whose keys are then the same are added
+abbrev pub with_columns : List ℕ → SpanTable → SpanTable
+with_columns places table = record { columns = picked places table.columns; head = table.head; rows = rows_of (map (keyed_by places) table.rows) }
+
+-- a table by fewer columns is the table by more, with the others dropped
+abbrev pub DroppingAdds : Type 0
+DroppingAdds = (places : List ℕ) (columns : List Column) (runs : List Run) → with_columns places (table_of columns runs) ≡ table_of (picked places columns) runs

@@ -1,0 +1,66 @@
+-- What changed between two tables of the same columns.
+use Rattle.std.specs.Prelude.{ℕ, ◌+◌, ◌-◌, ◌==◌, ◌&&◌, ◌++◌, Bool, not, List, map, filter, count_by}
+use Rattle.std.specs.declared.cmp.Ordering.{Ordering}
+use Rattle.std.specs.Ordering.{nat_cmp, ordering_then}
+use Rattle.span_keyed_tracks.specs.Keyed.{ascending, steps_at}
+use Rattle.span_table.specs.declared.changes.Both.{Both}
+use Rattle.span_table.specs.declared.changes.Change.{Change}
+use Rattle.span_table.specs.declared.sums.By.{By}
+use Rattle.span_table.specs.declared.sums.By.TheVariants.{SelfTime, Total}
+use Rattle.span_table.specs.declared.sums.Sums.{Sums}
+use Rattle.span_table.specs.declared.table.Row.{Row}
+use Rattle.span_table.specs.Adding.{keyed_rows}
+use Rattle.span_table.specs.Keys.{TableKey, key_cmp}
+use Rattle.span_table.specs.Ranks.{number_by}
+use Rattle.span_table.specs.Shown.{Wanted, is_wanted}
+use Rattle.span_table.specs.Tables.{sums_together}
+
+-- the sums that rows have under a key; zeros where none has it
+abbrev pub sums_at : List Row → TableKey → Sums
+sums_at rows key = sums_together (steps_at key_cmp key (keyed_rows rows))
+
+abbrev pub compared_at : List Row → List Row → TableKey → Change
+compared_at base other key = record { key = key; both = record { base = sums_at base key; other = sums_at other key } }
+
+-- each key that a row of either has, once, in ascending order, with its sums in both
+abbrev pub compared : List Row → List Row → List Change
+compared base other = map (compared_at base other) (ascending key_cmp (map (λ (row : Row). row.key) (base ++ other)))
+
+-- those that are shown
+abbrev pub shown_changes : Wanted → List Change → List Change
+shown_changes wanted changes = filter (λ (change : Change). is_wanted wanted change.key) changes
+
+-- all numbers are equal
+abbrev pub same_sums : Sums → Sums → Bool
+same_sums a b = (a.self_time == b.self_time) && ((a.total == b.total) && (a.count == b.count))
+
+abbrev pub is_same : Both → Bool
+is_same both = same_sums both.base both.other
+
+-- some number differs
+abbrev pub is_changed : Change → Bool
+is_changed change = not (is_same change.both)
+
+-- how far two numbers lie apart
+abbrev pub gap : ℕ → ℕ → ℕ
+gap m n = (m - n) + (n - m)
+
+-- how far a number lies apart in both
+abbrev pub gap_by : By → Change → ℕ
+gap_by by change = gap (number_by by change.both.base) (number_by by change.both.other)
+
+-- the greater gap first
+abbrev pub by_gap : By → Change → Change → Ordering
+by_gap by a b = nat_cmp (gap_by by b) (gap_by by a)
+
+-- by the gap of this number, then of the self times, then of the totals, and then by key
+abbrev pub change_order : By → Change → Change → Ordering
+change_order by a b = ordering_then (by_gap by a b) (ordering_then (by_gap SelfTime a b) (ordering_then (by_gap Total a b) (key_cmp a.key b.key)))
+
+-- those of which some number differs, in this order
+abbrev pub changes_of : By → List Change → List Change
+changes_of by changes = ascending (change_order by) (filter is_changed changes)
+
+-- how many have the same numbers in both
+abbrev pub same_count : List Change → ℕ
+same_count changes = count_by (λ (change : Change). is_same change.both) changes

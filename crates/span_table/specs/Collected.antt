@@ -1,0 +1,45 @@
+-- How the sums of a table are collected: row by row of a ledger's names, or span by span.
+use Rattle.std.specs.Prelude.{◌≡◌, ℕ, ◌+◌, ◌≤◌, List, [], ◌++◌, All, map}
+use Rattle.span_event.specs.declared.thread.Thread.{Thread}
+use Rattle.span_event.specs.Text.{Bytes}
+use Rattle.span_keyed_tracks.specs.Keyed.{Keyed}
+use Rattle.span_ledger.specs.declared.entry.Entry.{Entry}
+use Rattle.span_ledger.specs.declared.rows.SpanRow.{SpanRow}
+use Rattle.span_ledger.specs.Order.{thread_of_span}
+use Rattle.span_ledger.specs.Rows.{span_rows}
+use Rattle.std.specs.Map.{values_of}
+use Rattle.span_table.specs.declared.column.Column.{Column}
+use Rattle.span_table.specs.declared.sums.Sums.{Sums}
+use Rattle.span_table.specs.Columns.{value_at}
+use Rattle.span_table.specs.Keys.{TableKey}
+use Rattle.span_table.specs.Tables.{KeyedSums, SumsByKey, summed}
+
+-- the sums of a row
+abbrev pub sums_of_row : SpanRow → Sums
+sums_of_row row = record { count = row.count; total = row.total; self_time = row.self_time }
+
+-- these sums added
+abbrev pub with_sums : Sums → Sums → Sums
+with_sums a b = record { count = a.count + b.count; total = a.total + b.total; self_time = a.self_time + b.self_time }
+
+-- none is greater than this
+pub record IsWithin (most : ℕ) (sums : Sums) : Type 0 where
+  pub count : sums.count ≤ most
+  pub total : sums.total ≤ most
+  pub self_time : sums.self_time ≤ most
+
+-- the sums of no key are greater than this
+abbrev pub AllWithin : ℕ → SumsByKey → Type 0
+AllWithin most kept = All (IsWithin most) (values_of kept)
+
+-- what is kept of some sums becomes what is kept of them and more
+abbrev pub Takes : SumsByKey → SumsByKey → KeyedSums → Type 0
+Takes old new more = (sums : KeyedSums) → old ≡ summed sums → new ≡ summed (sums ++ more)
+
+-- a row of a thread's names, under the key that its spans have
+abbrev pub keyed_span_row : List Column → List Entry → SpanRow → Keyed TableKey Sums
+keyed_span_row columns journal row = record { key = map (value_at journal (thread_of_span row) row.name []) columns; step = sums_of_row row }
+
+-- all of them
+abbrev pub row_sums : List Column → List Entry → KeyedSums
+row_sums columns journal = map (keyed_span_row columns journal) (span_rows journal)

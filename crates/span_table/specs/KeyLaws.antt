@@ -1,0 +1,73 @@
+-- The order of keys is total, and keys that it does not tell apart are the same.
+use Rattle.std.specs.Prelude.{◌≡◌, true, false, List, [], ◌∷◌, Option, Some, None, refl}
+use Rattle.std.specs.declared.cmp.Ordering.TheVariants.{Less, Equal, Greater}
+use Rattle.std.specs.declared.cmp.Ordering.{Ordering}
+use Rattle.std.specs.Option.{option_cmp}
+use Rattle.std.specs.Cmp.{IsTotalOrder}
+use Rattle.std.specs.Cmp.Lexicographic.{lists_total, options_total}
+use Rattle.std.specs.Ordering.{eq_by_cmp, is_eq, ordering_then}
+use Rattle.span_event.specs.declared.args.ArgValue.{ArgValue}
+use Rattle.span_event.specs.declared.args.ArgValue.TheVariants.{Nil, Flag, Whole, Words, Other}
+use Rattle.span_event.specs.Orders.{value_cmp}
+use Rattle.span_event.specs.ValueLaws.{value_cmp_total}
+use Rattle.span_event.proofs.Orders.{both_equal, text_same}
+use Rattle.std.specs.FinMap.{int_cmp-IsAntisymmetric}
+use Rattle.std.proofs.Common.{ap, ap₂}
+use Rattle.span_table.specs.Columns.{Value}
+use Rattle.span_table.specs.Keys.{TableKey, key_cmp}
+
+-- the order of keys is total
+pub key_cmp_total : IsTotalOrder key_cmp
+key_cmp_total = lists_total (options_total value_cmp_total)
+
+value_cmp-same : (a b : ArgValue) → value_cmp a b ≡ Equal → a ≡ b
+value_cmp-same Nil Nil e = refl
+value_cmp-same Nil (Flag b) e = cc
+value_cmp-same Nil (Whole b) e = cc
+value_cmp-same Nil (Words b) e = cc
+value_cmp-same Nil Other e = cc
+value_cmp-same (Flag a) Nil e = cc
+value_cmp-same (Flag true) (Flag true) e = refl
+value_cmp-same (Flag true) (Flag false) e = cc
+value_cmp-same (Flag false) (Flag true) e = cc
+value_cmp-same (Flag false) (Flag false) e = refl
+value_cmp-same (Flag a) (Whole b) e = cc
+value_cmp-same (Flag a) (Words b) e = cc
+value_cmp-same (Flag a) Other e = cc
+value_cmp-same (Whole a) Nil e = cc
+value_cmp-same (Whole a) (Flag b) e = cc
+value_cmp-same (Whole a) (Whole b) e = ap Whole (int_cmp-IsAntisymmetric a b (both_equal _ Equal e).0)
+value_cmp-same (Whole a) (Words b) e = cc
+value_cmp-same (Whole a) Other e = cc
+value_cmp-same (Words a) Nil e = cc
+value_cmp-same (Words a) (Flag b) e = cc
+value_cmp-same (Words a) (Whole b) e = cc
+value_cmp-same (Words a) (Words b) e = ap Words (text_same a b e)
+value_cmp-same (Words a) Other e = cc
+value_cmp-same Other Nil e = cc
+value_cmp-same Other (Flag b) e = cc
+value_cmp-same Other (Whole b) e = cc
+value_cmp-same Other (Words b) e = cc
+value_cmp-same Other Other e = refl
+
+option_cmp-same : (a b : Value) → option_cmp value_cmp a b ≡ Equal → a ≡ b
+option_cmp-same None None e = refl
+option_cmp-same None (Some b) e = cc
+option_cmp-same (Some a) None e = cc
+option_cmp-same (Some a) (Some b) e = ap Some (value_cmp-same a b e)
+
+-- keys that the order does not tell apart are the same
+pub key_cmp-same : (a b : TableKey) → key_cmp a b ≡ Equal → a ≡ b
+key_cmp-same [] [] e = refl
+key_cmp-same [] (y ∷ ys) e = cc
+key_cmp-same (x ∷ xs) [] e = cc
+key_cmp-same (x ∷ xs) (y ∷ ys) e = let parts = both_equal (option_cmp value_cmp x y) (key_cmp xs ys) e in ap₂ (λ v l. v ∷ l) (option_cmp-same x y parts.0) (key_cmp-same xs ys parts.1)
+
+-- what holds of one of two equal keys holds of the other
+pub key_eq-same : (a b : TableKey) → eq_by_cmp key_cmp a b ≡ true → a ≡ b
+key_eq-same a b h = by (key_cmp a b) refl h
+  where
+    by : (r : Ordering) → key_cmp a b ≡ r → is_eq r ≡ true → a ≡ b
+    by Less e h = cc
+    by Equal e h = key_cmp-same a b e
+    by Greater e h = cc

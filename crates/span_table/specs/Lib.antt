@@ -1,0 +1,10 @@
+pub mod Adding
+pub mod Changes
+pub mod Collected
+pub mod Columns
+pub mod KeyLaws
+pub mod Keys
+pub mod Ranks
+pub mod Shown
+pub mod SumLaws
+pub mod Tables

@@ -1,0 +1,104 @@
+-- Tables: the closed spans of runs, summed by columns.
+use Rattle.std.specs.Prelude.{ℕ, List, map, flat_map, sum_by}
+use Rattle.span_event.specs.declared.thread.Thread.{Thread}
+use Rattle.span_event.specs.Text.{Bytes}
+use Rattle.span_keyed_tracks.specs.Keyed.{Keyed, entries_in}
+use Rattle.span_ledger.specs.declared.entry.Entry.{Entry}
+use Rattle.span_ledger.specs.declared.rows.CountRow.{CountRow}
+use Rattle.span_ledger.specs.Journal.{accepted}
+use Rattle.span_ledger.specs.Rows.{count_row, thread_keys}
+use Rattle.span_ledger.specs.Told.{thread_events}
+use Rattle.span_self_time.specs.Spans.{Span, length_of, self_time}
+use Rattle.span_track.specs.Nesting.{closed_spans}
+use Rattle.span_table.specs.declared.column.Column.{Column}
+use Rattle.span_table.specs.declared.sums.Sums.{Sums}
+use Rattle.span_table.specs.declared.table.Head.{Head}
+use Rattle.span_table.specs.declared.table.Row.{Row}
+use Rattle.span_table.specs.Columns.{value_at}
+use Rattle.span_table.specs.Keys.{TableKey, key_cmp}
+
+-- what one ledger holds once it is closed, the number of its files, and how many of them were refused as a whole
+pub record Run : Type 0 where
+  pub journal : List Entry
+  pub files : ℕ
+  pub unread : ℕ
+
+-- one span, of those of its thread
+abbrev pub sums_of : List (Span Bytes) → Span Bytes → Sums
+sums_of spans s = record { count = 1; total = length_of s; self_time = self_time spans s }
+
+-- all of these added
+abbrev pub sums_together : List Sums → Sums
+sums_together sums = record {
+  count = sum_by (λ (s : Sums). s.count) sums;
+  total = sum_by (λ (s : Sums). s.total) sums;
+  self_time = sum_by (λ (s : Sums). s.self_time) sums;
+}
+
+-- sums, each under its key
+abbrev pub KeyedSums : Type 0
+KeyedSums = List (Keyed TableKey Sums)
+
+-- the key of a closed span of a thread
+abbrev pub key_at : List Column → List Entry → Thread → Span Bytes → TableKey
+key_at columns journal thread s = map (value_at journal thread s.name s.args) columns
+
+-- the closed spans of a thread, each under its key
+abbrev pub thread_sums : List Column → List Entry → Thread → KeyedSums
+thread_sums columns journal thread = let spans = closed_spans (thread_events thread journal) in
+    map (λ (s : Span Bytes). record { key = key_at columns journal thread s; step = sums_of spans s }) spans
+
+-- those of all threads of a journal
+abbrev pub journal_sums : List Column → List Entry → KeyedSums
+journal_sums columns journal = flat_map (thread_sums columns journal) (thread_keys (accepted journal))
+
+-- each key with its sums
+abbrev pub SumsByKey : Type 0
+SumsByKey = List (TableKey × Sums)
+
+-- the keys that occur, once, in ascending order, each with all its sums added
+abbrev pub summed : KeyedSums → SumsByKey
+summed sums = entries_in key_cmp sums_together sums
+
+abbrev pub row_of : TableKey × Sums → Row
+row_of (key, sums) = record { key = key; sums = sums }
+
+abbrev pub rows_of : KeyedSums → List Row
+rows_of sums = map row_of (summed sums)
+
+-- the counts of runs added
+abbrev pub counts_together : List CountRow → CountRow
+counts_together rows = record {
+  accepted = sum_by (λ (row : CountRow). row.accepted) rows;
+  refused = sum_by (λ (row : CountRow). row.refused) rows;
+  skipped = sum_by (λ (row : CountRow). row.skipped) rows;
+  queries = sum_by (λ (row : CountRow). row.queries) rows;
+  seals = sum_by (λ (row : CountRow). row.seals) rows;
+}
+
+-- heads added
+abbrev pub heads_together : List Head → Head
+heads_together heads = record {
+  runs = sum_by (λ (head : Head). head.runs) heads;
+  files = sum_by (λ (head : Head). head.files) heads;
+  unread = sum_by (λ (head : Head). head.unread) heads;
+  counts = counts_together (map (λ (head : Head). head.counts) heads);
+}
+
+-- the head of one run
+abbrev pub head_of : Run → Head
+head_of run = record { runs = 1; files = run.files; unread = run.unread; counts = count_row run.journal }
+
+-- spans summed by columns
+pub record SpanTable : Type 0 where
+  pub columns : List Column
+  pub head : Head
+  pub rows : List Row
+
+-- the table of some runs by columns
+abbrev pub table_of : List Column → List Run → SpanTable
+table_of columns runs = record {
+  columns = columns;
+  head = heads_together (map head_of runs);
+  rows = rows_of (flat_map (λ (run : Run). journal_sums columns run.journal) runs);
+}

@@ -1,0 +1,67 @@
+//! The columns by which spans are summed.
+ghost use Rattle.std.specs.Prelude.{◌≡◌, option_copied, option_map, IfOk};
+ghost use Rattle.span_event.specs.declared.args.ArgValue.TheVariants.{Words};
+ghost use Rattle.span_table.specs.Columns.{is_argument, value_at};
+
+use span_event::{ArgValue, Args, Text, Thread};
+use span_ledger::Ledger;
+use std::alloc::{AllocError, Global};
+
+/// A column of a table. A process or a thread may have no name, and a span not the argument.
+#[derive(Debug, Drop, PartialEq, Eq)]
+pub enum Column {
+    Pid,
+    Tid,
+    Process,
+    Thread,
+    Name,
+    /// An argument of the span, by its key: `args.KEY`.
+    Argument(Text),
+}
+
+impl Column {
+    pub(crate) fn is_argument(&self) -> bool
+        ensures { result ≡ is_argument self.now }
+    {
+        matches!(self, Column::Argument(_))
+    }
+
+    /// The value of the column at a closed span of a thread, by the name and the arguments of the span. Texts are shared.
+    pub(crate) fn value(
+        &self,
+        alloc: Global,
+        ledger: &Ledger,
+        thread: Thread,
+        name: &Text,
+        args: &Args,
+    ) -> Result<Option<ArgValue>, AllocError>
+        ensures { IfOk result (λ value. value ≡ value_at ledger.now.journal thread name.now args.now self.now) }
+    {
+        match self {
+            Column::Pid => Ok(Some(ArgValue::Whole(thread.pid))),
+            Column::Tid => Ok(Some(ArgValue::Whole(thread.tid))),
+            Column::Process => words_of(alloc, ledger.process_name(thread.pid)),
+            Column::Thread => words_of(alloc, ledger.thread_name(thread.pid, thread.tid)),
+            Column::Name => words_of(alloc, Some(name)),
+            Column::Argument(key) => copy_of(alloc, args.get(key.as_str())),
+        }
+    }
+}
+
+fn words_of(alloc: Global, name: Option<&Text>) -> Result<Option<ArgValue>, AllocError>
+    ensures { IfOk result (λ value. value ≡ option_map Words (option_copied name.entry)) }
+{
+    match name {
+        Some(name) => Ok(Some(ArgValue::Words(name.try_clone(alloc)?))),
+        None => Ok(None),
+    }
+}
+
+fn copy_of(alloc: Global, value: Option<&ArgValue>) -> Result<Option<ArgValue>, AllocError>
+    ensures { IfOk result (λ copy. copy ≡ option_copied value.entry) }
+{
+    match value {
+        Some(value) => Ok(Some(value.try_clone(alloc)?)),
+        None => Ok(None),
+    }
+}

@@ -1,0 +1,90 @@
+//! By what the rows of a table are told apart.
+ghost use Rattle.std.specs.Prelude.{◌≡◌, Some, refl, IfOk};
+ghost use Rattle.std.specs.Cmp.{eq_by_cmp_equiv, partial_equiv_from_equiv, partial_order_from_total};
+ghost use Rattle.std.specs.Ordering.{eq_by_cmp};
+ghost use Rattle.std.specs.Hash as fed;
+ghost use Rattle.std.proofs.Common.{ap};
+ghost use Rattle.span_event.specs.contracts.args.ArgValueHash.TheImpl as value_hash;
+ghost use Rattle.span_table.specs.KeyLaws.{key_cmp_total, key_eq-same};
+ghost use Rattle.span_table.specs.Keys.{key_cmp};
+
+use span_event::ArgValue;
+use std::cmp::Ordering;
+use std::hash::{Hash, Hasher};
+use std::marker::Model;
+
+/// A value for each column of a table, None where a span has nothing there. Ordered from the left, None first.
+#[derive(Drop)]
+pub struct Key {
+    values: Vec<Option<ArgValue>>,
+}
+
+impl Model for Key {
+    ghost use Rattle.span_table.specs.Keys.{TableKey};
+
+    ghost Value = { TableKey };
+
+    ghost view = { λ k. k.values.items };
+}
+
+impl Key {
+    pub fn of(values: Vec<Option<ArgValue>>) -> Key
+        ensures { result ≡ values.items }
+    {
+        Key { values }
+    }
+
+    pub fn values(&self) -> &[Option<ArgValue>]
+        ensures { result.now ≡ self.now }
+    {
+        &self.values
+    }
+}
+
+impl PartialEq for Key {
+    ghost eq = { eq_by_cmp key_cmp };
+
+    ghost laws = { partial_equiv_from_equiv (eq_by_cmp_equiv key_cmp_total) };
+
+    fn eq(&self, other: &Key) -> bool {
+        self.cmp(other).is_eq()
+    }
+}
+
+impl Eq for Key {
+    ghost laws = { eq_by_cmp_equiv key_cmp_total };
+}
+
+impl PartialOrd for Key {
+    ghost partial_cmp = { λ x y. Some (key_cmp x y) };
+
+    ghost laws = { partial_order_from_total key_cmp_total };
+
+    fn partial_cmp(&self, other: &Key) -> Option<Ordering> {
+        Some(self.cmp(other))
+    }
+}
+
+impl Ord for Key {
+    ghost cmp = { key_cmp };
+
+    ghost total = { key_cmp_total };
+
+    ghost matches_partial_cmp = { λ x y. refl };
+
+    ghost matches_eq = { λ x y. refl };
+
+    fn cmp(&self, other: &Key) -> Ordering {
+        self.values.cmp(&other.values)
+    }
+}
+
+impl Hash for Key {
+    ghost hash_input = { fed.slice (fed.option (value_hash.ghosts).hash_input) };
+
+    ghost respects_eq = { λ x y e. ap (fed.slice (fed.option (value_hash.ghosts).hash_input)) (key_eq-same x y e) };
+
+    fn hash<H: Hasher>(&self, state: &mut H) {
+        self.values.hash(state);
+    }
+}

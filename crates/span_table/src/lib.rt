@@ -1,0 +1,21 @@
+//! Tables: the closed spans of a run summed by columns, and the texts that show them: a ranking, a comparison with another run, and
+//! JSON Lines for machines.
+#![tactic(auto)]
+
+mod changes;
+mod collected;
+mod column;
+mod groups;
+mod key;
+mod shown;
+mod sum;
+mod sums;
+mod table;
+
+pub use changes::{Both, Change};
+pub use column::Column;
+pub use key::Key;
+pub use shown::Shown;
+pub use sum::Sum;
+pub use sums::{By, Sums};
+pub use table::{Head, Row, Table};

@@ -1,0 +1,65 @@
+//! Which rows of a table are shown.
+ghost use Rattle.std.specs.Prelude.{◌≡◌};
+ghost use Rattle.std.specs.List.{list_all, list_any};
+ghost use Rattle.span_table.specs.Shown.{is_wanted, key_has, value_has, wants_all};
+
+use crate::key::Key;
+use span_event::{ArgValue, Text};
+use std::marker::Model;
+
+/// The rows that a text shows: those whose texts have all of `only`, each in some text, and none of `skip`.
+#[derive(Drop)]
+pub struct Shown {
+    pub only: Vec<Text>,
+    pub skip: Vec<Text>,
+}
+
+impl Model for Shown {
+    ghost use Rattle.span_table.specs.Shown.{Wanted};
+
+    ghost Value = { Wanted };
+
+    ghost view = { λ s. record { only = s.only.items; skip = s.skip.items } };
+}
+
+impl Shown {
+    pub(crate) fn is_all(&self) -> bool
+        ensures { result ≡ wants_all self.now }
+    {
+        self.only.is_empty() && self.skip.is_empty()
+    }
+
+    pub(crate) fn has(&self, key: &Key) -> bool
+        ensures { result ≡ is_wanted self.now key.now }
+    {
+        has_all(key, &self.only) && !has_any(key, &self.skip)
+    }
+}
+
+fn has_all(key: &Key, texts: &[Text]) -> bool
+    ensures { result ≡ list_all (key_has key.now) texts.now }
+{
+    texts.iter().all(|text| key_has(key, text))
+}
+
+fn has_any(key: &Key, texts: &[Text]) -> bool
+    ensures { result ≡ list_any (key_has key.now) texts.now }
+{
+    texts.iter().any(|text| key_has(key, text))
+}
+
+// Whether some text of the key has these bytes.
+fn key_has(key: &Key, bytes: &Text) -> bool
+    ensures { result ≡ key_has key.now bytes.now }
+{
+    key.values().iter().any(|value| value_has(bytes, value))
+}
+
+fn value_has(bytes: &Text, value: &Option<ArgValue>) -> bool
+    ensures { result ≡ value_has bytes.now value.now }
+{
+    match value {
+        Some(ArgValue::Words(text)) => text.as_str().contains(bytes.as_str()),
+        _ => false,
+    }
+}

@@ -1,0 +1,90 @@
+//! What spans come to together.
+ghost use Rattle.std.specs.Prelude.{◌≡◌, ◌+◌, ◌≤◌, ◌^◌, ℕ, []};
+ghost use Rattle.span_table.specs.Collected.{IsWithin, sums_of_row, with_sums};
+ghost use Rattle.span_table.specs.Changes.{same_sums};
+ghost use Rattle.span_table.specs.Ranks.{number_by};
+ghost use Rattle.span_table.specs.Tables.{sums_together};
+
+use crate::sum::Sum;
+use span_ledger::SpanRow;
+
+/// How many spans, their lengths, and their self times together. Times are microseconds.
+#[derive(Clone, Copy)]
+pub struct Sums {
+    pub count: Sum,
+    pub total: Sum,
+    pub self_time: Sum,
+}
+
+/// The number that rows go by.
+#[derive(Clone, Copy, Debug, PartialEq, Eq)]
+pub enum By {
+    SelfTime,
+    Total,
+    Count,
+}
+
+impl Sums {
+    pub(crate) fn of_none() -> Sums
+        ensures { result ≡ sums_together [] }
+    {
+        Sums {
+            count: Sum::zero(),
+            total: Sum::zero(),
+            self_time: Sum::zero(),
+        }
+    }
+
+    pub(crate) fn of_row(row: &SpanRow) -> Sums
+        ensures value { result ≡ sums_of_row row.now }
+        ensures bound { IsWithin (2 ^ 128) result }
+    {
+        Sums {
+            count: Sum::of(u128::from(row.count)),
+            total: Sum::of(row.total),
+            self_time: Sum::of(u128::from(row.self_time)),
+        }
+    }
+
+    /// Of one span of this length and self time.
+    pub(crate) fn of_span(length: u64, self_time: u64) -> Sums
+        ensures value { result ≡ record { count = 1; total = length; self_time = self_time } }
+        ensures bound { IsWithin (2 ^ 64) result }
+    {
+        Sums {
+            count: Sum::of(1),
+            total: Sum::of(u128::from(length)),
+            self_time: Sum::of(u128::from(self_time)),
+        }
+    }
+
+    pub(crate) fn add(&mut self, more: &Sums)
+        requires mine { IsWithin (2 ^ 200) self.old }
+        requires its { IsWithin (2 ^ 200) more.now }
+        ensures value { self.new ≡ with_sums self.old more.now }
+        ensures bound { (m n : ℕ) → IsWithin m self.old → IsWithin n more.now → IsWithin (m + n) self.new }
+    {
+        self.count.add(&more.count);
+        self.total.add(&more.total);
+        self.self_time.add(&more.self_time);
+    }
+
+    /// The number that rows go by.
+    pub(crate) fn by(&self, by: By) -> Sum
+        ensures { result ≡ number_by by self.now }
+    {
+        match by {
+            By::SelfTime => self.self_time,
+            By::Total => self.total,
+            By::Count => self.count,
+        }
+    }
+
+    pub(crate) fn equals(&self, other: &Sums) -> bool
+        ensures { result ≡ same_sums self.now other.now }
+    {
+        self.self_time.equals(&other.self_time)
+            && self.total.equals(&other.total)
+            && self.count.equals(&other.count)
+    }
+}
