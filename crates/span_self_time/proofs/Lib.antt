@@ -1,6 +1,7 @@
 pub mod Apart
 pub mod Children
 pub mod Counts
+pub mod Lengths
 pub mod Lone
 pub mod Mapped
 pub mod Names

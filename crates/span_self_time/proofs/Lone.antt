@@ -6,7 +6,7 @@ use Rattle.span_self_time.specs.Spans.{Span}
 use Rattle.span_event.specs.Event.{least_time}
 use Rattle.span_self_time.specs.Closed.{greatest_until}
 use Rattle.span_self_time.specs.Division.{Owners, owner_of, taken, AreParts, IsNew, AreSettled}
-use Rattle.span_self_time.specs.Division.Lone.{IsLone, IsForward, parts_of_lone}
+use Rattle.span_self_time.specs.Division.Lone.{IsLone, parts_of_lone}
 use Rattle.span_self_time.proofs.Owners.{taken-before, taken-after, taken-within}
 
 -- nobody has time
@@ -45,7 +45,3 @@ alone p start until lasts first last = record {
 pub AreParts-lone : (owners : Owners) (lone : Option Part) → IsLone owners lone → AreParts owners (parts_of_lone lone)
 AreParts-lone owners None is = subst (λ o. AreParts o []) (sym is) AreParts-nobody
 AreParts-lone owners (Some p) is = subst (λ o. AreParts o (p ∷ [])) (sym is.taken_all) (alone p is.start is.until is.lasts is.in_time.0 is.in_time.1)
-
-pub IsForward-lone : (owners : Owners) (lone : Option Part) → IsLone owners lone → IsForward lone
-IsForward-lone owners None is = tt
-IsForward-lone owners (Some p) is = omega (arith, ints, is.start, is.until, is.lasts)

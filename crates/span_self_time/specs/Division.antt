@@ -1,4 +1,5 @@
 -- To which span each microsecond belongs, and the parts of time that are of one span, whichever way they are kept.
+pub mod Lengths
 pub mod Lone
 pub mod Stacks
 pub mod TimeMap

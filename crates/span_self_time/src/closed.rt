@@ -1,8 +1,8 @@
 //! The closed spans of a thread, with the totals of their names and the division of time among them.
-ghost use Rattle.std.specs.Prelude.{◌≡◌, ◌≢◌, ◌+◌, ◌<◌, ◌≤◌, ◌*◌, ◌-◌, ◌^◌, ℕ, [], ◌∷◌, ◌++◌, ◌≤ℤ◌, List, length, map, take, nat_eq, slice_get, vec_len, vec_capacity, option_copied, All, IfSome, OnOk, OnErr};
+ghost use Rattle.std.specs.Prelude.{◌≡◌, ◌≢◌, ◌+◌, ◌<◌, ◌≤◌, ◌*◌, ◌-◌, ◌^◌, ℕ, [], ◌∷◌, ◌++◌, ◌≤ℤ◌, List, length, map, take, nat_eq, slice_get, vec_len, vec_capacity, option_copied, All, IfSome, IfOk, OnOk, OnErr};
 ghost use Rattle.std.specs.List.{count_by};
 ghost use Rattle.span_event.specs.Given.{Gives};
-ghost use Rattle.span_self_time.specs.Spans.{self_of, busy_time, names_of};
+ghost use Rattle.span_self_time.specs.Spans.{self_of, self_time, busy_time, names_of};
 ghost use Rattle.span_self_time.specs.Closed.{total_for, span_of, CanJoin, IsInTime, AreClosed};
 ghost use Rattle.span_self_time.specs.Segments.{lasts, AreSegments, HasSegments, HasEnds};
 
@@ -147,6 +147,18 @@ impl ClosedSpans {
         ensures { result ≡ self_of nat_eq name self.now }
     {
         self.division.self_of(name)
+    }
+
+    /// The microseconds that belong to each span, as no span that ranks above covers them, in the order in which the spans were added.
+    pub fn self_times(&self, alloc: Global) -> Result<Vec<u64>, AllocError>
+        ensures { IfOk result (λ times. times.items ≡ map (self_time self.now) self.now) }
+    {
+        let lengths = self.division.lengths(&self.list, alloc)?;
+        let mut times = Vec::with_capacity(alloc, self.list.len())?;
+        for span in &self.list {
+            times.push(lengths.at(span.at))?;
+        }
+        Ok(times)
     }
 
     /// The microseconds that at least one span covers.

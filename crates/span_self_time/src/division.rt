@@ -1,11 +1,13 @@
 //! The division of a thread's time, kept in the way that suits the order in which its spans come.
-ghost use Rattle.std.specs.Prelude.{◌≡◌, ◌≤◌, ℕ, ◌≤ℤ◌, nat_eq, List, [], length, map, slice_get, option_copied, OnOk, OnErr, IfOk};
-ghost use Rattle.span_self_time.specs.Spans.{Span, self_of, busy_time};
+ghost use Rattle.std.specs.Prelude.{◌≡◌, ◌≤◌, ℕ, ◌≤ℤ◌, nat_eq, List, [], length, map, slice_get, option_copied, All, OnOk, OnErr, IfOk};
+ghost use Rattle.span_self_time.specs.Spans.{Span, self_of, self_time, busy_time};
 ghost use Rattle.span_self_time.specs.Closed.{span_of, AreClosed};
-ghost use Rattle.span_self_time.specs.Division.{Owners, owner_of, owners_of, HasParts, CanAdd, Adds, KeepsOwners};
+ghost use Rattle.span_self_time.specs.Division.{Owners, owner_of, owners_of, ForSome, HasParts, CanAdd, Adds, KeepsOwners};
+ghost use Rattle.span_self_time.specs.Division.Lengths.{time_at, Gains};
 ghost use Rattle.span_self_time.specs.Division.TimeMap.{IsTimeMap};
 ghost use Rattle.span_self_time.specs.Division.Ways.{IsDivision};
 
+mod lengths;
 mod lone;
 mod own_times;
 mod stacks;
@@ -13,6 +15,7 @@ mod time_map;
 
 use crate::segment::{Part, Segment};
 use crate::span::ClosedSpan;
+use lengths::Lengths;
 use stacks::Stacks;
 use std::alloc::{AllocError, Global};
 use time_map::TimeMap;
@@ -94,6 +97,31 @@ impl Division {
             Division::Lone(lone) => lone::segment(lone, i),
             Division::Stacked(stacks) => stacks.segment(i),
             Division::Searched(time_map) => time_map.segment(i),
+        }
+    }
+
+    /// How long the parts of each of the spans are together, which are all that were added.
+    pub(crate) fn lengths(&self, spans: &[ClosedSpan], alloc: Global) -> Result<Lengths, AllocError>
+        requires closed { AreClosed (map span_of spans.now) }
+        requires division { IsDivision (owners_of (map span_of spans.now)) self.now }
+        ensures { IfOk result (λ times. All (λ s. time_at times s.at ≡ self_time (map span_of spans.now) s) (map span_of spans.now)) }
+    {
+        let mut times = Lengths::of(spans, alloc)?;
+        self.tell_parts(&mut times)?;
+        Ok(times)
+    }
+
+    // The span of each part gains the part's length.
+    fn tell_parts(&self, times: &mut Lengths) -> Result<(), AllocError>
+        requires division { ForSome (λ owners. IsDivision owners self.now) }
+        requires none { (at : ℕ) → time_at times.old at ≡ 0 }
+        ensures { (owners : Owners) → IsDivision owners self.now
+            → HasParts owners (λ parts. OnOk result (Gains times.old parts times.new)) }
+    {
+        match self {
+            Division::Lone(lone) => lone::tell_parts(lone, times),
+            Division::Stacked(stacks) => stacks.tell_parts(times),
+            Division::Searched(time_map) => time_map.tell_parts(times),
         }
     }
 

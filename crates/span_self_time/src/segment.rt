@@ -4,6 +4,7 @@ ghost use Rattle.std.specs.Bool.{OnTrue, OnFalse};
 ghost use Rattle.std.specs.Option.{option_map};
 ghost use Rattle.span_self_time.specs.Spans.{outranks};
 ghost use Rattle.span_self_time.specs.Division.{owner_of, claims, between, whole};
+ghost use Rattle.span_self_time.specs.Division.Stacks.{part_length};
 
 use crate::span::ClosedSpan;
 
@@ -52,6 +53,17 @@ impl Part {
                 ..self.segment
             },
             ..*self
+        }
+    }
+
+    /// The microseconds of the part; none where it ends sooner than it starts.
+    pub(crate) fn length(&self) -> u64
+        ensures { result ≡ part_length self.now }
+    {
+        if self.segment.start < self.segment.until {
+            self.segment.until.abs_diff(self.segment.start)
+        } else {
+            0
         }
     }
 

@@ -1,5 +1,5 @@
-//! Self and busy times of a list of spans, found by walking from each start or end to the next. Takes no memory.
-ghost use Rattle.std.specs.Prelude.{◌≡◌, ◌⊎◌, ℤ, ◌≤ℤ◌, ◌<ℤ◌, nat_eq, map, All};
+//! Self and busy times of a list of spans, found by walking from each start or end to the next.
+ghost use Rattle.std.specs.Prelude.{◌≡◌, ◌⊎◌, ℤ, ◌≤ℤ◌, ◌<ℤ◌, nat_eq, map, All, IfOk};
 ghost use Rattle.span_event.specs.Event.{least_time};
 ghost use Rattle.span_event.specs.Time.{distance};
 ghost use Rattle.span_self_time.specs.Spans.{covers, outranks, is_outranked, is_covered, count_from, earliest, latest, self_time, busy_time, self_of};
@@ -8,6 +8,7 @@ ghost use Rattle.span_self_time.specs.Walk.{IsUnbroken, counts};
 
 use crate::segment::Part;
 use crate::span::{ClosedSpan, distance};
+use std::alloc::{AllocError, Global};
 
 /// Which microseconds a walk counts.
 #[derive(Clone, Copy)]
@@ -127,7 +128,7 @@ fn bounds(spans: &[ClosedSpan]) -> (i64, i64)
     (earliest, latest)
 }
 
-/// The busy time, in microseconds, found by walking through the time from the first span to the last.
+/// The busy time, in microseconds, found by walking through the time from the first span to the last. Takes no memory.
 pub fn busy_time(spans: &[ClosedSpan]) -> u64
     requires { AreClosed (map span_of spans.now) }
     ensures { result ≡ busy_time (map span_of spans.now) }
@@ -136,7 +137,7 @@ pub fn busy_time(spans: &[ClosedSpan]) -> u64
     time_counted(spans, Counted::Covered, from, until)
 }
 
-/// The self times of the spans of one name, in microseconds, found by walking through each of these spans.
+/// The self times of the spans of one name, in microseconds, found by walking through each of these spans. Takes no memory.
 pub fn self_of(spans: &[ClosedSpan], name: u32) -> u64
     requires { AreClosed (map span_of spans.now) }
     ensures { result ≡ self_of nat_eq name (map span_of spans.now) }
@@ -148,4 +149,17 @@ pub fn self_of(spans: &[ClosedSpan], name: u32) -> u64
         }
     }
     own
+}
+
+/// The self time of each span, in microseconds, found by walking through each of them.
+pub fn self_times(spans: &[ClosedSpan], alloc: Global) -> Result<Vec<u64>, AllocError>
+    requires { AreClosed (map span_of spans.now) }
+    ensures { IfOk result (λ times. times.items
+        ≡ map (self_time (map span_of spans.now)) (map span_of spans.now)) }
+{
+    let mut times = Vec::with_capacity(alloc, spans.len())?;
+    for span in spans {
+        times.push(self_time(spans, span))?;
+    }
+    Ok(times)
 }

@@ -55,7 +55,7 @@ sum_by-future q none owners t (p ∷ parts) are =
     ∙ sym here ∙ sym (omega (arith, before))
 
 -- the parts whose span passes a test are as long as the self times of the spans that pass it
-sum_by-parts : (q : Option (Span ℕ) → Bool) → q None ≡ false → (spans : List (Span ℕ)) (parts : List Part) → AreClosed spans → AreParts (owners_of spans) parts → sum_by (λ p. cond (q (Some (owner_of p))) (part_length p) 0) parts ≡ sum_by (λ s. cond (q (Some (bare s))) (self_time spans s) 0) spans
+pub sum_by-parts : (q : Option (Span ℕ) → Bool) → q None ≡ false → (spans : List (Span ℕ)) (parts : List Part) → AreClosed spans → AreParts (owners_of spans) parts → sum_by (λ p. cond (q (Some (owner_of p))) (part_length p) 0) parts ≡ sum_by (λ s. cond (q (Some (bare s))) (self_time spans s) 0) spans
 sum_by-parts q none spans parts closed are = from least_time are.each closed.in_time
   where
     from : (a : ℤ) → AreFuture (owners_of spans) a parts → All (λ s. (a ≤ℤ s.start) × (s.until ≤ℤ greatest_until)) spans → sum_by (λ p. cond (q (Some (owner_of p))) (part_length p) 0) parts ≡ sum_by (λ s. cond (q (Some (bare s))) (self_time spans s) 0) spans

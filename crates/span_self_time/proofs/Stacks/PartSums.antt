@@ -19,7 +19,7 @@ sum_by-reverse f [] = refl
 sum_by-reverse f (x ∷ xs) =
     ap (sum_by f) (reverse-append (x ∷ []) xs) ∙ omega (arith, sum_by_push f (reverse xs) x, sum_by-cons f x xs, sum_by-reverse f xs)
 
-sum_by-parts_of : (f : Part → ℕ) (past future : List Part) → sum_by f (parts_of past future) ≡ sum_by f past + sum_by f future
+pub sum_by-parts_of : (f : Part → ℕ) (past future : List Part) → sum_by f (parts_of past future) ≡ sum_by f past + sum_by f future
 sum_by-parts_of f past future = omega (arith, sum_by-append f past (reverse future), sum_by-reverse f future)
 
 -- the length of a part where it has the name

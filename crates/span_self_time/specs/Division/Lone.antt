@@ -1,5 +1,5 @@
 -- What holds where at most one span has time.
-use Rattle.std.specs.Prelude.{◌≡◌, ◌≤ℤ◌, ◌<ℤ◌, List, [], ◌∷◌, Option, Some, None, IfSome}
+use Rattle.std.specs.Prelude.{◌≡◌, ◌<ℤ◌, List, [], ◌∷◌, Option, Some, None}
 use Rattle.span_self_time.specs.declared.segment.Part.{Part}
 use Rattle.span_self_time.specs.Closed.{IsInTime}
 use Rattle.span_self_time.specs.Division.{Owners, owner_of, taken}
@@ -21,7 +21,3 @@ pub record IsAlone (owners : Owners) (p : Part) : Type 0 where
 abbrev pub IsLone : Owners → Option Part → Type 0
 IsLone owners None = owners ≡ (λ u. None)
 IsLone owners (Some p) = IsAlone owners p
-
--- the part, if there is one, ends no earlier than it starts
-abbrev pub IsForward : Option Part → Type 0
-IsForward lone = IfSome lone (λ p. p.segment.start ≤ℤ p.segment.until)

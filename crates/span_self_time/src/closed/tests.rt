@@ -3,7 +3,7 @@ ghost use Rattle.span_self_time.specs.Closed.{span_of, CanJoin};
 
 use super::ClosedSpans;
 use crate::span::ClosedSpan;
-use crate::walk::{busy_time, self_of};
+use crate::walk::{busy_time, self_of, self_times};
 use span_event::Args;
 use std::alloc::Global;
 use std::process::Abort;
@@ -130,6 +130,19 @@ fn expect_same(rt: &impl Abort, searched: &ClosedSpans, stacked: &ClosedSpans) {
     assert_eq!(rt; searched.segment(count), None);
 }
 
+// Both tell the self times of single spans that the plain walk finds.
+fn expect_self_times(
+    rt: &impl Abort,
+    alloc: Global,
+    searched: &ClosedSpans,
+    stacked: &ClosedSpans,
+) -> Result<(), Fail> {
+    let own = self_times(searched.as_slice(), alloc)?;
+    assert_eq!(rt; searched.self_times(alloc)?, own);
+    assert_eq!(rt; stacked.self_times(alloc)?, own, "in stacks");
+    Ok(())
+}
+
 // Adds a span to both, and expects the same of them.
 fn add_to_both(
     rt: &impl Abort,
@@ -142,7 +155,7 @@ fn add_to_both(
     add(rt, alloc, one, at, given)?;
     add(rt, alloc, other, at, given)?;
     expect_same(rt, one, other);
-    Ok(())
+    expect_self_times(rt, alloc, one, other)
 }
 
 fn add_all(
@@ -170,7 +183,7 @@ fn add_at_once_to_both(
     add_at_once(rt, alloc, one, given)?;
     add_at_once(rt, alloc, other, given)?;
     expect_same(rt, one, other);
-    Ok(())
+    expect_self_times(rt, alloc, one, other)
 }
 
 fn expect_all(rt: &impl Abort, alloc: Global, given: &[Given]) -> Result<(), Fail> {

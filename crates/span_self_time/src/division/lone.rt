@@ -1,29 +1,31 @@
 //! The time of at most one span, which has all that it covers.
-ghost use Rattle.std.specs.Prelude.{◌≡◌, ◌≤ℤ◌, map, length, slice_get, option_copied, IfOk};
+ghost use Rattle.std.specs.Prelude.{◌≡◌, map, length, slice_get, option_copied, IfOk, OnOk};
 ghost use Rattle.span_self_time.specs.Division.{Owners, IsNew, AreSettled, CanAdd, owner_of, taken};
-ghost use Rattle.span_self_time.specs.Division.Lone.{IsForward, IsLone, parts_of_lone};
-ghost use Rattle.span_self_time.specs.Division.Stacks.{named_length, part_length, whole_length};
+ghost use Rattle.span_self_time.specs.Division.Lengths.{CanGain, Gains};
+ghost use Rattle.span_self_time.specs.Division.Lone.{IsLone, parts_of_lone};
+ghost use Rattle.span_self_time.specs.Division.Stacks.{named_length, whole_length};
 ghost use Rattle.span_self_time.specs.Division.Ways.{IsDivision};
 
 use super::Division;
+use super::lengths::Lengths;
 use super::stacks::Stacks;
 use crate::segment::{Part, Segment};
 use std::alloc::{AllocError, Global};
 
 pub(crate) fn self_of(lone: &Option<Part>, name: u32) -> u64
-    ensures { IsForward lone.now → result ≡ named_length name (parts_of_lone lone.now) }
+    ensures { result ≡ named_length name (parts_of_lone lone.now) }
 {
     match lone {
-        Some(part) if part.segment.name == name => length_of(part),
+        Some(part) if part.segment.name == name => part.length(),
         _ => 0,
     }
 }
 
 pub(crate) fn busy(lone: &Option<Part>) -> u64
-    ensures { IsForward lone.now → result ≡ whole_length (parts_of_lone lone.now) }
+    ensures { result ≡ whole_length (parts_of_lone lone.now) }
 {
     match lone {
-        Some(part) => length_of(part),
+        Some(part) => part.length(),
         None => 0,
     }
 }
@@ -43,6 +45,17 @@ pub(crate) fn segment(lone: &Option<Part>, i: u64) -> Option<&Segment>
     match lone {
         Some(part) if i == 0 => Some(&part.segment),
         _ => None,
+    }
+}
+
+/// The span gains the length of its part.
+pub(crate) fn tell_parts(lone: &Option<Part>, times: &mut Lengths) -> Result<(), AllocError>
+    requires { CanGain times.old (parts_of_lone lone.now) }
+    ensures { OnOk result (Gains times.old (parts_of_lone lone.now) times.new) }
+{
+    match lone {
+        Some(part) => times.gain_part(part),
+        None => Ok(()),
     }
 }
 
@@ -68,11 +81,4 @@ pub(crate) fn with_span(
     stacks.add(span)?;
     let stacks = Box::new(alloc, stacks)?;
     Ok(Division::Stacked(stacks))
-}
-
-// The microseconds of a part that ends no earlier than it starts.
-fn length_of(part: &Part) -> u64
-    ensures { part.now.segment.start ≤ℤ part.now.segment.until → result ≡ part_length part.now }
-{
-    part.segment.until.abs_diff(part.segment.start)
 }

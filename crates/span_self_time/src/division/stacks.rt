@@ -6,8 +6,10 @@ ghost use Rattle.span_self_time.specs.Spans.{outranks};
 ghost use Rattle.span_event.specs.Event.{least_time};
 ghost use Rattle.span_self_time.specs.Closed.{greatest_until};
 ghost use Rattle.span_self_time.specs.Division.{Owners, owner_of, taken, Belong, own_in, ForSome, CanAdd, Adds, KeepsOwners};
+ghost use Rattle.span_self_time.specs.Division.Lengths.{CanGain, Gains};
 ghost use Rattle.span_self_time.specs.Division.Stacks.{ArePast, IsOnly, parts_of, piece, ends_by, lasts_beyond, starts_before, AreStacks, IsMoved, IsEntering, IsTaking, IsAhead, IsPassing, IsTakenBack, IsGained};
 
+use super::lengths::Lengths;
 use super::own_times::{gain_own, keep_name, lose_own, own_in};
 use crate::segment::{Part, Segment};
 use crate::span::distance;
@@ -71,6 +73,16 @@ impl Stacks {
         } else {
             None
         }
+    }
+
+    /// The span of each part gains the part's length.
+    pub(crate) fn tell_parts(&self, times: &mut Lengths) -> Result<(), AllocError>
+        requires { CanGain times.old (parts_of self.now.past.items self.now.future.items) }
+        ensures { OnOk result (Gains times.old (parts_of self.now.past.items self.now.future.items) times.new) }
+    {
+        times.gain_parts(&self.past)?;
+        times.gain_parts(&self.future)?;
+        Ok(())
     }
 
     /// The span takes the microseconds that it covers from no one and from the spans that it outranks. Where memory is refused,

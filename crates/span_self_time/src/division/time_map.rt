@@ -1,17 +1,21 @@
 //! The time of a thread as an ordered map of stretches, among which each span finds its place.
 ghost use Rattle.std.specs.Prelude.{true, false, ◌≡◌, ◌≤◌, ◌<◌, ◌+◌, ◌^◌, ◌==◌, ℕ, ℤ, ◌≤ℤ◌, ◌<ℤ◌, nat_eq, if◌then◌else◌, Some, None, IsSome, IfSome, OnOk, OnErr, List, length, map, slice_get, option_copied};
+ghost use Rattle.std.specs.BTreeMap.{IsOrdered};
 ghost use Rattle.std.specs.Option.{is_some, option_map};
+ghost use Rattle.std.specs.Ordering.{int_cmp};
 ghost use Rattle.indexmap.specs.IndexMap.{get};
 ghost use Rattle.span_self_time.specs.Spans.{Span, self_of, busy_time};
 ghost use Rattle.span_self_time.specs.Closed.{AreClosed};
 ghost use Rattle.span_self_time.specs.Division.{Owners, owner_of, claims, owners_of, own_in, ForSome, HasParts, CanAdd, Adds, KeepsOwners};
-ghost use Rattle.span_self_time.specs.Division.TimeMap.Stretches.{at};
+ghost use Rattle.span_self_time.specs.Division.Lengths.{CanGain, Gains};
+ghost use Rattle.span_self_time.specs.Division.TimeMap.Stretches.{at, parts_in};
 ghost use Rattle.span_self_time.specs.Division.TimeMap.Ties.{IsBarred, AreBarred};
 ghost use Rattle.span_self_time.specs.Division.TimeMap.{has_name, IsTimeMap, IsEntrant, IsTaking};
 
 mod stretches;
 mod ties;
 
+use super::lengths::Lengths;
 use super::own_times::{gain_own, keep_name, lose_own, own_in};
 use crate::segment::{Part, Segment};
 use crate::span::distance;
@@ -67,6 +71,15 @@ impl TimeMap {
             → HasParts owners (λ parts. option_copied result ≡ slice_get (map (λ part. part.segment) parts) i) }
     {
         self.stretches.segment(i)
+    }
+
+    /// The span of each part gains the part's length.
+    pub(crate) fn tell_parts(&self, times: &mut Lengths) -> Result<(), AllocError>
+        requires { IsOrdered int_cmp self.now.stretches.map → CanGain times.old (parts_in self.now.stretches) }
+        ensures { (owners : Owners) → IsTimeMap owners self.now
+            → HasParts owners (λ parts. OnOk result (Gains times.old parts times.new)) }
+    {
+        self.stretches.tell_parts(times)
     }
 
     /// The span takes the microseconds that it covers from no one and from the spans that it outranks. Where memory is refused,

@@ -8,8 +8,10 @@ ghost use Rattle.span_self_time.specs.Spans.{Span};
 ghost use Rattle.span_event.specs.Event.{least_time};
 ghost use Rattle.span_self_time.specs.Closed.{greatest_until};
 ghost use Rattle.span_self_time.specs.Division.{Owners, owner_of, ForSome};
+ghost use Rattle.span_self_time.specs.Division.Lengths.{CanGain, Gains};
 ghost use Rattle.span_self_time.specs.Division.TimeMap.Stretches.{at, IsLast, IsDivided, IsEnd, IsNext, IsPut, AreWhole, parts_in};
 
+use crate::division::lengths::Lengths;
 use crate::segment::{Part, Segment};
 use std::alloc::{AllocError, Global};
 use std::collections::BTreeMap;
@@ -59,6 +61,20 @@ impl Stretches {
             }
         }
         None
+    }
+
+    /// The span of each part gains the part's length.
+    pub(crate) fn tell_parts(&self, times: &mut Lengths) -> Result<(), AllocError>
+        requires { IsOrdered int_cmp self.now.map → CanGain times.old (parts_in self.now) }
+        ensures gains { OnOk result (Gains times.old (parts_in self.now) times.new) }
+        ensures ordered { IsOrdered int_cmp self.now.map }
+    {
+        for part in self.map.values() {
+            if let Some(part) = part {
+                times.gain_part(part)?;
+            }
+        }
+        Ok(())
     }
 
     /// The last stretch that starts no later than `time`.

@@ -2,7 +2,7 @@ use Rattle.std.proofs.Common.{◌∙◌, sym, subst}
 use Rattle.span_self_time.specs.Division.{owners_of}
 use Rattle.span_self_time.specs.Division.Stacks.{AreStacks}
 use Rattle.span_self_time.specs.Division.Ways.{IsDivision}
-use Rattle.span_self_time.proofs.Lone.{AreParts-lone, IsForward-lone}
+use Rattle.span_self_time.proofs.Lone.{AreParts-lone}
 use Rattle.span_self_time.proofs.Stacks.PartLengths.{whole_length-busy_time}
 use Rattle.span_self_time.proofs.division.Division.busy.Goals as goal
 
@@ -14,4 +14,4 @@ returns-in-Stacked c = λ spans closed is.
 pub returns-in-Lone : goal.returns-in-Lone
 returns-in-Lone c = λ spans closed is.
     let lone = subst (IsDivision (owners_of spans)) c.in-Lone.is is in
-    c.busy.ensures (IsForward-lone _ _ lone) ∙ whole_length-busy_time _ _ closed (AreParts-lone _ _ lone)
+    c.busy.ensures ∙ whole_length-busy_time _ _ closed (AreParts-lone _ _ lone)

@@ -2,7 +2,7 @@ use Rattle.std.proofs.Common.{◌∙◌, sym, subst}
 use Rattle.span_self_time.specs.Division.{owners_of}
 use Rattle.span_self_time.specs.Division.Stacks.{AreStacks}
 use Rattle.span_self_time.specs.Division.Ways.{IsDivision}
-use Rattle.span_self_time.proofs.Lone.{AreParts-lone, IsForward-lone}
+use Rattle.span_self_time.proofs.Lone.{AreParts-lone}
 use Rattle.span_self_time.proofs.Stacks.PartLengths.{named_length-self_of}
 use Rattle.span_self_time.proofs.division.Division.self_of.Goals as goal
 
@@ -14,4 +14,4 @@ returns-in-Stacked c = λ spans closed is.
 pub returns-in-Lone : goal.returns-in-Lone
 returns-in-Lone c = λ spans closed is.
     let lone = subst (IsDivision (owners_of spans)) c.in-Lone.is is in
-    c.self_of.ensures (IsForward-lone _ _ lone) ∙ named_length-self_of _ _ closed (AreParts-lone _ _ lone) c.args.name
+    c.self_of.ensures ∙ named_length-self_of _ _ closed (AreParts-lone _ _ lone) c.args.name
