@@ -7,7 +7,7 @@ ghost use Rattle.span_event.specs.Given.{Gives};
 ghost use Rattle.span_keyed_tracks.specs.Fault.{Answers};
 ghost use Rattle.span_track.specs.Nesting.{ThreadEvent, began, ended, sealed, completed, closed_by, span_sealed, opener, opener_args, later};
 ghost use Rattle.span_self_time.specs.Segments.{lasts, AreSegments, HasSegments, HasEnds};
-ghost use Rattle.span_self_time.specs.Spans.{Arguments, names_of, self_of, busy_time};
+ghost use Rattle.span_self_time.specs.Spans.{Arguments, names_of, self_of, self_time, busy_time};
 ghost use Rattle.span_track.specs.Thread.{AreMerged, StandsFor, TakesEvent, HasRoom, IsNext, IsSealTime, any_name, suits, goes_back, begin_refusal, end_refusal, merged_args};
 ghost use Rattle.span_self_time.specs.Closed.{span_of, total_for, AreClosed};
 
@@ -353,6 +353,14 @@ impl ThreadTrack {
         ensures { result ≡ self_of nat_eq name self.now.closed }
     {
         self.closed.self_of(name)
+    }
+
+    /// The microseconds that belong to each closed span, as no span that ranks above covers them, in the order of the events that
+    /// closed them.
+    pub fn self_times(&self, alloc: Global) -> Result<Vec<u64>, AllocError>
+        ensures { IfOk result (λ times. times.items ≡ map (self_time self.now.closed) self.now.closed) }
+    {
+        self.closed.self_times(alloc)
     }
 
     /// The microseconds that at least one closed span covers.
