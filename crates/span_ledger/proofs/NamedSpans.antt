@@ -3,22 +3,25 @@ use Rattle.std.proofs.Common.{◌≡◌, ℕ, ◌+◌, ◌<◌, List, [], ◌∷
 use Rattle.std.specs.Option.{option_map, option_to_list}
 use Rattle.std.specs.List.{list_all, cons_option}
 use Rattle.std.proofs.lemmas.List.{map_push, take_more}
+use Rattle.std.proofs.lemmas.Simd.{map-map}
 use Rattle.std.proofs.lemmas.List.Elements.{All-cons, All-head, All-nil, All-tail, filter_map-append}
 use Rattle.span_event.specs.Text.{Bytes}
 use Rattle.span_event.specs.declared.thread.Thread.{Thread}
 use Rattle.span_self_time.specs.declared.span.ClosedSpan.{ClosedSpan}
 use Rattle.span_self_time.specs.Closed.{AreClosed, IsInTime, span_of}
 use Rattle.span_self_time.specs.Laws.{IsApart, AreSpans}
-use Rattle.span_self_time.specs.Spans.{Span}
+use Rattle.span_self_time.specs.Spans.{Span, self_time}
 use Rattle.span_keyed_tracks.proofs.Matching.Closed.{both_true}
 use Rattle.span_keyed_tracks.proofs.Numbers.{slice_get-number_in}
 use Rattle.span_ledger.specs.Named.{AreThreadSpans, IsTimely, named_span, named_spans}
 use Rattle.span_ledger.specs.Numbered.{renamed_span}
+use Rattle.span_ledger.specs.Timed.{self_times}
 use Rattle.span_track.specs.Nesting.{ThreadEvent, closed_spans}
 use Rattle.span_track.specs.Thread.{ThreadSpans}
 use Rattle.span_ledger.specs.declared.entry.Entry.{Entry}
 use Rattle.span_ledger.specs.Told.{thread_events}
 use Rattle.span_ledger.specs.Tracked.{FollowsJournal, IsTrackOf, SpansKept, TracksKept, number_for, track_at}
+use Rattle.span_ledger.proofs.Renaming.{self_time-renamed}
 use Rattle.span_ledger.proofs.ThreadTelling.{IsTrackOf-journal}
 use Rattle.span_ledger.proofs.Totals.{is_numbered_span, number_for-is}
 use Rattle.span_ledger.proofs.TrackRows.{closed-is, known}
@@ -65,6 +68,14 @@ named_spans-more names spans i s within read =
 module _ (names : List Bytes) (events : List (ThreadEvent Bytes)) (track : ThreadSpans ℕ) (is : IsTrackOf names events track) where
   pub named_spans-track : named_spans names track.closed ≡ closed_spans events
   named_spans-track = ap (named_spans names) (closed-is names events track is) ∙ named_spans-renamed names (closed_spans events) (known names events track is)
+
+  -- names don't count
+  pub self_times-track : map (self_time track.closed) track.closed ≡ self_times (closed_spans events)
+  self_times-track =
+      let spans = closed_spans events in
+      let number = renamed_span (number_for names) in
+      ap (λ (l : List (Span ℕ)). map (self_time l) l) (closed-is names events track is) ∙ map-map (self_time (map number spans)) number spans
+      ∙ (λ i. map (λ s. self_time-renamed (number_for names) spans s i) spans)
 
   pub AreThreadSpans-track : AreClosed track.closed → AreThreadSpans (closed_spans events)
   AreThreadSpans-track closed = AreThreadSpans-renamed (number_for names) (closed_spans events) (subst (λ (spans : List (Span ℕ)). AreClosed spans) (closed-is names events track is) closed)

@@ -11,6 +11,7 @@ pub mod Parts
 pub mod Refusal
 pub mod Replies
 pub mod Rows
+pub mod Timed
 pub mod Told
 pub mod Topics
 pub mod Tracked

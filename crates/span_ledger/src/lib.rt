@@ -26,7 +26,7 @@ mod tracks;
 pub use entry::{Answer, Entry, Op};
 pub use kind::Kind;
 pub use ledger::Ledger;
-pub use named_spans::NamedSpan;
+pub use named_spans::{NamedSpan, TimedSpan};
 pub use parts::{ProcessPart, ThreadPart};
 pub use query::Query;
 pub use refusal::{Back, Cause};

@@ -1,8 +1,9 @@
-//! The closed spans of a thread, with the texts of their names.
+//! The closed spans of a thread, with the texts of their names, and with their self times.
 ghost use Rattle.std.specs.Prelude.{◌≡◌, map, IfOk};
 ghost use Rattle.span_self_time.specs.Closed.{AreClosed, span_of};
 ghost use Rattle.span_track.specs.Nesting.{closed_spans};
 ghost use Rattle.span_ledger.specs.Named.{AreThreadSpans, named_span, named_spans};
+ghost use Rattle.span_ledger.specs.Timed.{self_times, timed_spans, with_self_times};
 ghost use Rattle.span_ledger.specs.Told.{thread_events};
 ghost use Rattle.span_ledger.specs.Tracked.{FollowsJournal};
 
@@ -33,6 +34,43 @@ impl<'a> Model for NamedSpan<'a> {
       until = n.span.now.until;
       at = n.span.now.at;
       args = n.span.now.args;
+    } };
+}
+
+impl<'a> NamedSpan<'a> {
+    fn timed(&self, self_time: u64) -> TimedSpan<'a>
+        ensures { result ≡ record { span = self.now; self_time = self_time } }
+    {
+        TimedSpan {
+            name: self.name,
+            span: self.span,
+            self_time,
+        }
+    }
+}
+
+/// A closed span of a thread with the text of its name and its self time, in microseconds.
+#[derive(Drop)]
+pub struct TimedSpan<'a> {
+    pub name: &'a Text,
+    pub span: &'a ClosedSpan,
+    pub self_time: u64,
+}
+
+impl<'a> Model for TimedSpan<'a> {
+    ghost use Rattle.span_ledger.specs.Timed.{Timed};
+
+    ghost Value = { Timed };
+
+    ghost view = { λ t. record {
+      span = record {
+        name = t.name.now;
+        start = t.span.now.start;
+        until = t.span.now.until;
+        at = t.span.now.at;
+        args = t.span.now.args;
+      };
+      self_time = t.self_time;
     } };
 }
 
@@ -79,4 +117,53 @@ fn named_span<'a>(names: &'a Names, span: &'a ClosedSpan) -> Option<NamedSpan<'a
         Some(name) => Some(NamedSpan { name, span }),
         None => None,
     }
+}
+
+// The closed spans of a thread with their self times, in the order of the events that closed them.
+pub(crate) fn timed_spans<'a>(
+    alloc: Global,
+    journal: &[Entry],
+    tracks: &'a Tracks,
+    thread: &Thread,
+) -> Result<Vec<TimedSpan<'a>>, AllocError>
+    requires { FollowsJournal journal.now tracks.now }
+    ensures { IfOk result (λ spans. spans.items ≡ timed_spans journal.now thread.now) }
+{
+    let spans = closed_spans(alloc, journal, tracks, thread)?;
+    let times = self_times(alloc, journal, tracks, thread)?;
+    with_self_times(alloc, &spans, &times)
+}
+
+// The self times of the closed spans of a thread.
+fn self_times(
+    alloc: Global,
+    journal: &[Entry],
+    tracks: &Tracks,
+    thread: &Thread,
+) -> Result<Vec<u64>, AllocError>
+    requires { FollowsJournal journal.now tracks.now }
+    ensures { IfOk result (λ times. times.items
+        ≡ self_times (closed_spans (thread_events thread.now journal.now))) }
+{
+    let spans = tracks.keyed.spans();
+    match spans.threads.get(thread) {
+        Some(track) => track.as_track().self_times(alloc),
+        None => Ok(Vec::new(alloc)),
+    }
+}
+
+// Each span with its self time.
+fn with_self_times<'a>(
+    alloc: Global,
+    spans: &[NamedSpan<'a>],
+    times: &[u64],
+) -> Result<Vec<TimedSpan<'a>>, AllocError>
+    requires { times.now ≡ self_times spans.now }
+    ensures { IfOk result (λ timed. timed.items ≡ with_self_times spans.now) }
+{
+    let mut timed = Vec::with_capacity(alloc, spans.len())?;
+    for i in 0..spans.len() {
+        timed.push(spans[i].timed(times[i]))?;
+    }
+    Ok(timed)
 }
