@@ -4,7 +4,6 @@ use Rattle.std.specs.declared.cmp.Ordering.{Ordering}
 use Rattle.std.specs.Ordering.{nat_cmp, ordering_then}
 use Rattle.span_keyed_tracks.specs.Keyed.{ascending, steps_at}
 use Rattle.span_table.specs.declared.changes.Both.{Both}
-use Rattle.span_table.specs.declared.changes.Change.{Change}
 use Rattle.span_table.specs.declared.sums.By.{By}
 use Rattle.span_table.specs.declared.sums.By.TheVariants.{SelfTime, Total}
 use Rattle.span_table.specs.declared.sums.Sums.{Sums}
@@ -14,6 +13,11 @@ use Rattle.span_table.specs.Keys.{TableKey, key_cmp}
 use Rattle.span_table.specs.Ranks.{number_by}
 use Rattle.span_table.specs.Shown.{Wanted, is_wanted}
 use Rattle.span_table.specs.Tables.{sums_together}
+
+-- a key with its sums in both
+pub record Change : Type 0 where
+  pub key : TableKey
+  pub both : Both
 
 -- the sums that rows have under a key; zeros where none has it
 abbrev pub sums_at : List Row → TableKey → Sums

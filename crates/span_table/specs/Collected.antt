@@ -1,7 +1,5 @@
 -- How the sums of a table are collected: row by row of a ledger's names, or span by span.
 use Rattle.std.specs.Prelude.{◌≡◌, ℕ, ◌+◌, ◌≤◌, List, [], ◌++◌, All, map}
-use Rattle.span_event.specs.declared.thread.Thread.{Thread}
-use Rattle.span_event.specs.Text.{Bytes}
 use Rattle.span_keyed_tracks.specs.Keyed.{Keyed}
 use Rattle.span_ledger.specs.declared.entry.Entry.{Entry}
 use Rattle.span_ledger.specs.declared.rows.SpanRow.{SpanRow}

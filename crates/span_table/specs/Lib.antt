@@ -1,9 +1,15 @@
 pub mod Adding
+pub mod Changed
 pub mod Changes
 pub mod Collected
 pub mod Columns
+pub mod Comparison
+pub mod Json
 pub mod KeyLaws
 pub mod Keys
+pub mod Lines
+pub mod Pieces
+pub mod Ranking
 pub mod Ranks
 pub mod Shown
 pub mod SumLaws

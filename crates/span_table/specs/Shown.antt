@@ -1,5 +1,5 @@
 -- Which rows of a table are shown.
-use Rattle.std.specs.Prelude.{ℕ, ◌==◌, length, Bool, false, not, ◌&&◌, ◌||◌, nat_eq, List, [], ◌∷◌, filter, option_and_then}
+use Rattle.std.specs.Prelude.{◌==◌, length, Bool, false, not, ◌&&◌, ◌||◌, nat_eq, List, [], ◌∷◌, filter, option_and_then}
 use Rattle.std.specs.List.{list_all, list_any, starts_with}
 use Rattle.std.specs.Option.{option_map_or}
 use Rattle.span_event.specs.Args.{as_text}

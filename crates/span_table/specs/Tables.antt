@@ -1,15 +1,14 @@
 -- Tables: the closed spans of runs, summed by columns.
 use Rattle.std.specs.Prelude.{ℕ, List, map, flat_map, sum_by}
+use Rattle.std.specs.List.Sorted.{IsStrictlySortedBy}
 use Rattle.span_event.specs.declared.thread.Thread.{Thread}
-use Rattle.span_event.specs.Text.{Bytes}
 use Rattle.span_keyed_tracks.specs.Keyed.{Keyed, entries_in}
 use Rattle.span_ledger.specs.declared.entry.Entry.{Entry}
 use Rattle.span_ledger.specs.declared.rows.CountRow.{CountRow}
 use Rattle.span_ledger.specs.Journal.{accepted}
 use Rattle.span_ledger.specs.Rows.{count_row, thread_keys}
-use Rattle.span_ledger.specs.Told.{thread_events}
-use Rattle.span_self_time.specs.Spans.{Span, length_of, self_time}
-use Rattle.span_track.specs.Nesting.{closed_spans}
+use Rattle.span_ledger.specs.Timed.{Timed, timed_spans}
+use Rattle.span_self_time.specs.Spans.{length_of}
 use Rattle.span_table.specs.declared.column.Column.{Column}
 use Rattle.span_table.specs.declared.sums.Sums.{Sums}
 use Rattle.span_table.specs.declared.table.Head.{Head}
@@ -23,9 +22,9 @@ pub record Run : Type 0 where
   pub files : ℕ
   pub unread : ℕ
 
--- one span, of those of its thread
-abbrev pub sums_of : List (Span Bytes) → Span Bytes → Sums
-sums_of spans s = record { count = 1; total = length_of s; self_time = self_time spans s }
+-- a closed span with its self time
+abbrev pub sums_of : Timed → Sums
+sums_of t = record { count = 1; total = length_of t.span; self_time = t.self_time }
 
 -- all of these added
 abbrev pub sums_together : List Sums → Sums
@@ -39,14 +38,13 @@ sums_together sums = record {
 abbrev pub KeyedSums : Type 0
 KeyedSums = List (Keyed TableKey Sums)
 
--- the key of a closed span of a thread
-abbrev pub key_at : List Column → List Entry → Thread → Span Bytes → TableKey
-key_at columns journal thread s = map (value_at journal thread s.name s.args) columns
+-- a closed span of a thread, under its key
+abbrev pub keyed_span : List Column → List Entry → Thread → Timed → Keyed TableKey Sums
+keyed_span columns journal thread t = record { key = map (value_at journal thread t.span.name t.span.args) columns; step = sums_of t }
 
--- the closed spans of a thread, each under its key
+-- the closed spans of a thread
 abbrev pub thread_sums : List Column → List Entry → Thread → KeyedSums
-thread_sums columns journal thread = let spans = closed_spans (thread_events thread journal) in
-    map (λ (s : Span Bytes). record { key = key_at columns journal thread s; step = sums_of spans s }) spans
+thread_sums columns journal thread = map (keyed_span columns journal thread) (timed_spans journal thread)
 
 -- those of all threads of a journal
 abbrev pub journal_sums : List Column → List Entry → KeyedSums
@@ -65,6 +63,10 @@ row_of (key, sums) = record { key = key; sums = sums }
 
 abbrev pub rows_of : KeyedSums → List Row
 rows_of sums = map row_of (summed sums)
+
+-- keys rise, so none comes twice
+abbrev pub RowsRise : List Row → Type 0
+RowsRise rows = IsStrictlySortedBy (λ (a b : Row). key_cmp a.key b.key) rows
 
 -- the counts of runs added
 abbrev pub counts_together : List CountRow → CountRow

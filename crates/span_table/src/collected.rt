@@ -2,10 +2,14 @@
 ghost use Rattle.std.specs.Prelude.{◌≡◌, ◌+◌, ◌≤◌, ◌^◌, ◌∷◌, [], ℕ, map, IfOk, OnOk};
 ghost use Rattle.span_event.specs.Text.{Bytes};
 ghost use Rattle.span_table.specs.Collected.{AllWithin, IsWithin, Takes, keyed_span_row, row_sums};
-ghost use Rattle.span_table.specs.Columns.{value_at};
+ghost use Rattle.std.specs.List.{list_any};
+ghost use Rattle.span_table.specs.Columns.{is_argument, value_at};
 ghost use Rattle.span_keyed_tracks.specs.Keyed.{kept_at};
 ghost use Rattle.span_table.specs.Keys.{key_cmp};
-ghost use Rattle.span_table.specs.Tables.{journal_sums, summed, sums_together};
+ghost use Rattle.span_event.specs.Time.{distance};
+ghost use Rattle.span_ledger.specs.Order.{thread_of_row};
+ghost use Rattle.span_ledger.specs.Timed.{timed_spans};
+ghost use Rattle.span_table.specs.Tables.{journal_sums, keyed_span, summed, sums_together, thread_sums};
 
 use crate::column::Column;
 use crate::groups::Groups;
@@ -13,11 +17,46 @@ use crate::key::Key;
 use crate::sums::Sums;
 use span_event::{Args, Text, Thread};
 use span_keyed_tracks::HashKeys;
-use span_ledger::{Ledger, SpanRow};
+use span_ledger::{Ledger, SpanRow, ThreadRow, TimedSpan};
 use std::alloc::{AllocError, Global};
 
-/// The sums of a ledger's names by columns, of which none is an argument.
-pub(crate) fn add_rows(
+/// The sums of a ledger's closed spans by columns, keys in ascending order.
+pub(crate) fn summed(
+    alloc: Global,
+    keys: HashKeys,
+    ledger: &Ledger,
+    columns: &[Column],
+) -> Result<Vec<(Key, Sums)>, AllocError>
+    ensures { IfOk result (λ entries. entries.items ≡ summed (journal_sums columns.now ledger.now.journal)) }
+{
+    let mut groups = Groups::new(alloc, keys);
+    add_all(alloc, &mut groups, ledger, columns)?;
+    groups.into_entries()
+}
+
+fn add_all(
+    alloc: Global,
+    groups: &mut Groups<Sums>,
+    ledger: &Ledger,
+    columns: &[Column],
+) -> Result<(), AllocError>
+    requires { groups.old ≡ [] }
+    ensures { OnOk result (groups.new ≡ summed (journal_sums columns.now ledger.now.journal)) }
+{
+    if has_argument(columns) {
+        return add_spans(alloc, groups, ledger, columns);
+    }
+    add_rows(alloc, groups, ledger, columns)
+}
+
+fn has_argument(columns: &[Column]) -> bool
+    ensures { result ≡ list_any is_argument columns.now }
+{
+    columns.iter().any(|column| column.is_argument())
+}
+
+// The sums of the rows of names, by columns of which none is an argument.
+fn add_rows(
     alloc: Global,
     groups: &mut Groups<Sums>,
     ledger: &Ledger,
@@ -58,6 +97,91 @@ fn add_row(
         &Args::empty(alloc),
     )?;
     add(groups, key, Sums::of_row(row))
+}
+
+// The sums of closed spans, one by one.
+fn add_spans(
+    alloc: Global,
+    groups: &mut Groups<Sums>,
+    ledger: &Ledger,
+    columns: &[Column],
+) -> Result<(), AllocError>
+    requires { groups.old ≡ [] }
+    ensures { OnOk result (groups.new ≡ summed (journal_sums columns.now ledger.now.journal)) }
+{
+    let threads = ledger.threads(alloc)?;
+    for row in &threads {
+        add_thread(alloc, groups, ledger, columns, thread_of(row))?;
+    }
+    Ok(())
+}
+
+fn add_thread(
+    alloc: Global,
+    groups: &mut Groups<Sums>,
+    ledger: &Ledger,
+    columns: &[Column],
+    thread: Thread,
+) -> Result<(), AllocError>
+    requires { AllWithin (2 ^ 199) groups.old }
+    ensures takes { OnOk result
+        (Takes groups.old groups.new (thread_sums columns.now ledger.now.journal thread)) }
+    ensures bound { OnOk result ((most : ℕ) → AllWithin most groups.old → AllWithin (most + 2 ^ 128) groups.new) }
+{
+    let spans = timed_spans(alloc, ledger, thread)?;
+    for span in &spans {
+        add_span(alloc, groups, ledger, columns, thread, span)?;
+    }
+    Ok(())
+}
+
+fn thread_of(row: &ThreadRow) -> Thread
+    ensures { result ≡ thread_of_row row.now }
+{
+    Thread {
+        pid: row.pid,
+        tid: row.tid,
+    }
+}
+
+fn timed_spans(
+    alloc: Global,
+    ledger: &Ledger,
+    thread: Thread,
+) -> Result<Vec<TimedSpan<'_>>, AllocError>
+    ensures { IfOk result (λ spans. spans.items ≡ timed_spans ledger.now.journal thread) }
+{
+    ledger.timed_spans(alloc, thread.pid, thread.tid)
+}
+
+fn add_span(
+    alloc: Global,
+    groups: &mut Groups<Sums>,
+    ledger: &Ledger,
+    columns: &[Column],
+    thread: Thread,
+    timed: &TimedSpan,
+) -> Result<(), AllocError>
+    requires { AllWithin (2 ^ 200) groups.old }
+    ensures takes { OnOk result
+        (Takes groups.old groups.new (keyed_span columns.now ledger.now.journal thread timed.now ∷ [])) }
+    ensures bound { OnOk result ((most : ℕ) → AllWithin most groups.old → AllWithin (most + 2 ^ 64) groups.new) }
+{
+    let span = timed.span;
+    let key = key_of(alloc, ledger, columns, thread, timed.name, &span.args)?;
+    let sums = Sums::of_span(length(span.start, span.until), timed.self_time);
+    add(groups, key, sums)
+}
+
+// How many microseconds there are from one time to another, if it is later.
+fn length(start: i64, until: i64) -> u64
+    ensures { result ≡ distance start until }
+{
+    if start < until {
+        until.abs_diff(start)
+    } else {
+        0
+    }
 }
 
 // The key of a span of a thread.

@@ -1,7 +1,7 @@
 //! The columns by which spans are summed.
 ghost use Rattle.std.specs.Prelude.{◌≡◌, option_copied, option_map, IfOk};
 ghost use Rattle.span_event.specs.declared.args.ArgValue.TheVariants.{Words};
-ghost use Rattle.span_table.specs.Columns.{is_argument, value_at};
+ghost use Rattle.span_table.specs.Columns.{column_name, is_argument, value_at};
 
 use span_event::{ArgValue, Args, Text, Thread};
 use span_ledger::Ledger;
@@ -20,6 +20,24 @@ pub enum Column {
 }
 
 impl Column {
+    /// What the column is called.
+    pub fn name(&self, alloc: Global) -> Result<Text, AllocError>
+        ensures { IfOk result (λ name. name ≡ column_name self.now) }
+    {
+        match self {
+            Column::Pid => Text::of(alloc, "pid"),
+            Column::Tid => Text::of(alloc, "tid"),
+            Column::Process => Text::of(alloc, "process"),
+            Column::Thread => Text::of(alloc, "thread"),
+            Column::Name => Text::of(alloc, "name"),
+            Column::Argument(key) => {
+                let key = key.as_str();
+                let name = format!(in alloc; "args.{key}")?;
+                Text::of(alloc, name.as_str())
+            }
+        }
+    }
+
     pub(crate) fn is_argument(&self) -> bool
         ensures { result ≡ is_argument self.now }
     {

@@ -7,14 +7,17 @@ mod collected;
 mod column;
 mod groups;
 mod key;
+mod lines;
+mod rankings;
 mod shown;
 mod sum;
 mod sums;
 mod table;
 
-pub use changes::{Both, Change};
+pub use changes::Both;
 pub use column::Column;
 pub use key::Key;
+pub use rankings::ranking;
 pub use shown::Shown;
 pub use sum::Sum;
 pub use sums::{By, Sums};

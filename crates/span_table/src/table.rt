@@ -1,10 +1,14 @@
 //! A table of spans.
-ghost use Rattle.std.specs.Prelude.{◌≡◌};
+ghost use Rattle.std.specs.Prelude.{◌≡◌, ◌∷◌, [], map, IfOk};
+ghost use Rattle.span_table.specs.Tables.{RowsRise, row_of, table_of};
 
+use crate::collected::summed;
 use crate::column::Column;
 use crate::key::Key;
 use crate::sums::Sums;
-use span_ledger::CountRow;
+use span_keyed_tracks::HashKeys;
+use span_ledger::{CountRow, Ledger};
+use std::alloc::{AllocError, Global};
 use std::marker::Model;
 
 /// What a table counts beside its spans, over its runs.
@@ -27,15 +31,76 @@ pub struct Row {
 /// Spans summed by columns: a row for each key that a span has, in ascending order of keys.
 #[derive(Drop)]
 pub struct Table {
-    pub columns: Vec<Column>,
-    pub head: Head,
-    pub rows: Vec<Row>,
+    columns: Vec<Column>,
+    head: Head,
+    rows: Vec<Row>,
 }
 
 impl Model for Table {
-    ghost use Rattle.span_table.specs.Tables.{SpanTable};
+    ghost use Rattle.span_table.specs.Tables.{RowsRise, SpanTable};
 
     ghost Value = { SpanTable };
 
     ghost view = { λ t. record { columns = t.columns.items; head = t.head; rows = t.rows.items } };
+
+    ghost invariant = { λ t. RowsRise t.rows.items };
+}
+
+impl Table {
+    /// The table of one run by columns: that of a ledger of so many files, of which so many were refused as a whole. Maps that a file
+    /// fills are hashed by these keys.
+    pub fn of(
+        alloc: Global,
+        keys: HashKeys,
+        columns: Vec<Column>,
+        ledger: &Ledger,
+        files: u64,
+        unread: u64,
+    ) -> Result<Table, AllocError>
+        ensures { IfOk result (λ table. table ≡ table_of columns.items (record { journal = ledger.now.journal; files = files; unread = unread } ∷ [])) }
+    {
+        let sums = summed(alloc, keys, ledger, &columns)?;
+        let rows = rows_of(alloc, sums)?;
+        let head = Head {
+            runs: 1,
+            files,
+            unread,
+            counts: ledger.counts(),
+        };
+        Ok(Table {
+            columns,
+            head,
+            rows,
+        })
+    }
+
+    pub fn columns(&self) -> &[Column]
+        ensures { result.now ≡ self.now.columns }
+    {
+        &self.columns
+    }
+
+    pub fn head(&self) -> Head
+        ensures { result ≡ self.now.head }
+    {
+        self.head
+    }
+
+    /// In ascending order of keys.
+    pub fn rows(&self) -> &[Row]
+        ensures rows { result.now ≡ self.now.rows }
+        ensures rise { RowsRise self.now.rows }
+    {
+        &self.rows
+    }
+}
+
+fn rows_of(alloc: Global, sums: Vec<(Key, Sums)>) -> Result<Vec<Row>, AllocError>
+    ensures { IfOk result (λ rows. rows.items ≡ map row_of sums.items) }
+{
+    let mut rows = Vec::with_capacity(alloc, sums.len())?;
+    for (key, sums) in sums {
+        rows.push(Row { key, sums })?;
+    }
+    Ok(rows)
 }

@@ -1,0 +1,130 @@
+-- By columns of which none is an argument, the rows of names add up as their spans do.
+use Rattle.std.proofs.Common.{◌≡◌, ℕ, ◌+◌, Bool, true, false, ◌||◌, cond, List, [], ◌∷◌, ◌++◌, length, map, refl, sym, ap, ap₂, subst, ◌∙◌, arith}
+use Rattle.std.specs.Prelude.{filter, flat_map, sum_by}
+use Rattle.std.specs.List.{list_any}
+use Rattle.std.specs.Cmp.Lexicographic.{nat_list_cmp_total, texts_ties}
+use Rattle.std.specs.Ordering.{is_eq}
+use Rattle.std.proofs.lemmas.List.{map-append}
+use Rattle.std.proofs.lemmas.List.Sums.{sum_by-cons}
+use Rattle.span_event.specs.declared.thread.Thread.{Thread}
+use Rattle.span_event.specs.Args.{Arguments}
+use Rattle.span_event.specs.Text.{Bytes, same_text, text_cmp}
+use Rattle.span_event.proofs.Orders.{text_same}
+use Rattle.span_keyed_tracks.specs.Keyed.{Keyed, ascending, keys_in, steps_at}
+use Rattle.span_ledger.specs.declared.entry.Entry.{Entry}
+use Rattle.span_ledger.specs.Journal.{accepted}
+use Rattle.span_ledger.specs.Rows.{span_row, thread_keys, thread_span_rows}
+use Rattle.span_ledger.specs.Timed.{timed_in}
+use Rattle.span_ledger.specs.Told.{thread_events}
+use Rattle.span_ledger.proofs.Sorted.{map-map}
+use Rattle.span_self_time.specs.Spans.{Span, named}
+use Rattle.span_track.specs.Nesting.{closed_spans}
+use Rattle.span_table.specs.declared.column.Column.{Column}
+use Rattle.span_table.specs.declared.column.Column.TheVariants.{Pid, Tid, Process, Thread as OfThread, Name, Argument}
+use Rattle.span_table.specs.declared.sums.Sums.{Sums}
+use Rattle.span_table.specs.Collected.{keyed_span_row, row_sums, sums_of_row}
+use Rattle.span_table.specs.Columns.{Value, is_argument, value_at}
+use Rattle.span_table.specs.Keys.{TableKey}
+use Rattle.span_table.specs.Tables.{KeyedSums, journal_sums, keyed_span, summed, sums_of, sums_together, thread_sums}
+use Rattle.span_table.proofs.Alike.{AddUpAlike, AddUpAlike-flat_map, AddUpAlike-grouped, summed-alike}
+use Rattle.span_table.proofs.Tallies.{made_of, under}
+
+-- a column that is no argument doesn't ask for them
+value_at-no_argument : (journal : List Entry) (thread : Thread) (name : Bytes) (args : Arguments) (column : Column) → is_argument column ≡ false → value_at journal thread name args column ≡ value_at journal thread name [] column
+value_at-no_argument journal thread name args Pid h = refl
+value_at-no_argument journal thread name args Tid h = refl
+value_at-no_argument journal thread name args Process h = refl
+value_at-no_argument journal thread name args OfThread h = refl
+value_at-no_argument journal thread name args Name h = refl
+value_at-no_argument journal thread name args (Argument key) h = cc
+
+key-no_argument : (journal : List Entry) (thread : Thread) (name : Bytes) (args : Arguments) (columns : List Column) → list_any is_argument columns ≡ false → map (value_at journal thread name args) columns ≡ map (value_at journal thread name []) columns
+key-no_argument journal thread name args [] h = refl
+key-no_argument journal thread name args (column ∷ columns) h =
+    let parts = both_false (is_argument column) (list_any is_argument columns) h in
+    ap₂ (λ (v : Value) l. v ∷ l) (value_at-no_argument journal thread name args column parts.0) (key-no_argument journal thread name args columns parts.1)
+  where
+    both_false : (a b : Bool) → (a || b) ≡ false → (a ≡ false) × (b ≡ false)
+    both_false true b h = cc
+    both_false false b h = (refl, h)
+
+sum_by-map : {A B : Type 0} (f : B → ℕ) (g : A → B) (xs : List A) → sum_by f (map g xs) ≡ sum_by (λ x. f (g x)) xs
+sum_by-map f g [] = refl
+sum_by-map f g (x ∷ xs) = sum_by-cons f (g x) (map g xs) ∙ ap (λ n. f (g x) + n) (sum_by-map f g xs) ∙ sym (sum_by-cons (λ x. f (g x)) x xs)
+
+sum_by-one : {A : Type 0} (xs : List A) → sum_by (λ x. 1) xs ≡ length xs
+sum_by-one [] = refl
+sum_by-one (x ∷ xs) = omega (arith, sum_by-cons (λ x. 1) x xs, sum_by-one xs)
+
+module _ (spans : List (Span Bytes)) where
+  -- a span of these, with its self time, under its name
+  abbrev of_span : Span Bytes → Keyed Bytes Sums
+  of_span s = record { key = s.name; step = sums_of (timed_in spans s) }
+
+  steps-named : (name : Bytes) (xs : List (Span Bytes)) → steps_at text_cmp name (map of_span xs) ≡ map (λ s. sums_of (timed_in spans s)) (named same_text name xs)
+  steps-named name [] = refl
+  steps-named name (s ∷ xs) =
+      ap (λ b. map (λ (e : Keyed Bytes Sums). e.step) (cond b (of_span s ∷ filter (λ e. is_eq (text_cmp e.key name)) (map of_span xs)) (filter (λ e. is_eq (text_cmp e.key name)) (map of_span xs)))) (sym (texts_ties s.name name))
+      ∙ by (same_text s.name name) (steps-named name xs)
+    where
+      by : (b : Bool) → steps_at text_cmp name (map of_span xs) ≡ map (λ s. sums_of (timed_in spans s)) (named same_text name xs) →
+          map (λ (e : Keyed Bytes Sums). e.step) (cond b (of_span s ∷ filter (λ e. is_eq (text_cmp e.key name)) (map of_span xs)) (filter (λ e. is_eq (text_cmp e.key name)) (map of_span xs)))
+          ≡ map (λ s. sums_of (timed_in spans s)) (cond b (s ∷ named same_text name xs) (named same_text name xs))
+      by true rest = ap (λ l. sums_of (timed_in spans s) ∷ l) rest
+      by false rest = rest
+
+  -- the row of a name has the sums of its spans
+  row-sums : (thread : Thread) (name : Bytes) → sums_of_row (span_row thread spans name) ≡ sums_together (steps_at text_cmp name (map of_span spans))
+  row-sums thread name =
+      let count = one (λ (s : Sums). s.count) in
+      let total = one (λ (s : Sums). s.total) in
+      let self = one (λ (s : Sums). s.self_time) in
+      let number = sum_by-one (named same_text name spans) in
+      λ i. record { count = (sym number ∙ sym count) i; total = sym total i; self_time = sym self i }
+    where
+      one : (f : Sums → ℕ) → sum_by f (steps_at text_cmp name (map of_span spans)) ≡ sum_by (λ s. f (sums_of (timed_in spans s))) (named same_text name spans)
+      one f = ap (sum_by f) (steps-named name spans) ∙ sum_by-map f (λ s. sums_of (timed_in spans s)) (named same_text name spans)
+
+module _ (columns : List Column) (journal : List Entry) (no_arguments : list_any is_argument columns ≡ false) where
+  module _ (thread : Thread) where
+    abbrev spans : List (Span Bytes)
+    spans = closed_spans (thread_events thread journal)
+
+    abbrev name_key : Bytes → TableKey
+    name_key name = map (value_at journal thread name []) columns
+
+    -- what the spans of a name come to
+    abbrev of_name : Bytes → Sums
+    of_name name = sums_together (steps_at text_cmp name (map (of_span spans) spans))
+
+    rows-made : (names : List Bytes) → map (keyed_span_row columns journal) (map (span_row thread spans) names) ≡ map (under name_key) (map (made_of of_name) names)
+    rows-made [] = refl
+    rows-made (name ∷ names) = ap₂ (λ (s : Sums) (l : KeyedSums). record { key = name_key name; step = s } ∷ l) (row-sums spans thread name) (rows-made names)
+
+    names-are : ascending text_cmp (map (λ (s : Span Bytes). s.name) spans) ≡ keys_in text_cmp (map (of_span spans) spans)
+    names-are = ap (ascending text_cmp) (sym (map-map (λ (e : Keyed Bytes Sums). e.key) (of_span spans) spans))
+
+    spans-under : (xs : List (Span Bytes)) → map (under name_key) (map (of_span spans) xs) ≡ map (keyed_span columns journal thread) (map (timed_in spans) xs)
+    spans-under [] = refl
+    spans-under (s ∷ xs) =
+        ap₂ (λ (k : TableKey) (l : KeyedSums). record { key = k; step = sums_of (timed_in spans s) } ∷ l) (sym (key-no_argument journal thread s.name s.args columns no_arguments)) (spans-under xs)
+
+    thread-alike : AddUpAlike (map (keyed_span_row columns journal) (thread_span_rows journal thread)) (thread_sums columns journal thread)
+    thread-alike =
+        subst (λ (l : KeyedSums). AddUpAlike l (thread_sums columns journal thread)) (sym (rows-made (ascending text_cmp (map (λ (s : Span Bytes). s.name) spans)) ∙ ap (λ names. map (under name_key) (map (made_of of_name) names)) names-are))
+        (subst (AddUpAlike (map (under name_key) (map (made_of of_name) (keys_in text_cmp (map (of_span spans) spans))))) (spans-under spans)
+        (AddUpAlike-grouped nat_list_cmp_total text_same name_key (map (of_span spans) spans)))
+
+  rows-by_thread : (threads : List Thread) → map (keyed_span_row columns journal) (flat_map (thread_span_rows journal) threads) ≡ flat_map (λ thread. map (keyed_span_row columns journal) (thread_span_rows journal thread)) threads
+  rows-by_thread [] = refl
+  rows-by_thread (t ∷ threads) =
+      map-append (keyed_span_row columns journal) (thread_span_rows journal t) (flat_map (thread_span_rows journal) threads)
+      ∙ ap (λ l. map (keyed_span_row columns journal) (thread_span_rows journal t) ++ l) (rows-by_thread threads)
+
+  -- the rows of names are kept as their spans are
+  pub summed-rows : summed (row_sums columns journal) ≡ summed (journal_sums columns journal)
+  summed-rows =
+      let threads = thread_keys (accepted journal) in
+      ap summed (rows-by_thread threads)
+      ∙ summed-alike (flat_map (λ thread. map (keyed_span_row columns journal) (thread_span_rows journal thread)) threads) (journal_sums columns journal)
+      (AddUpAlike-flat_map (λ thread. map (keyed_span_row columns journal) (thread_span_rows journal thread)) (thread_sums columns journal) thread-alike threads)

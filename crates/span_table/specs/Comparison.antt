@@ -1,0 +1,49 @@
+-- The text of a comparison.
+use Rattle.std.specs.Prelude.{ℕ, ◌-◌, ◌==◌, if◌then◌else◌, List, [], ◌∷◌, ◌++◌, flat_map, length, map, codes, decimal}
+use Rattle.std.specs.Ordering.{match_ordering, nat_cmp}
+use Rattle.span_event.specs.Text.{Bytes}
+use Rattle.span_ledger.specs.declared.rows.CountRow.{CountRow}
+use Rattle.span_report.specs.Lines.{count_line, first_line, line_of, right_in, seals_line}
+use Rattle.span_table.specs.declared.column.Column.{Column}
+use Rattle.span_table.specs.declared.sums.By.{By}
+use Rattle.span_table.specs.Changes.{Change, changes_of, compared, same_count, shown_changes}
+use Rattle.span_table.specs.Lines.{column_title, shown_line, value_text}
+use Rattle.span_table.specs.Shown.{Wanted}
+use Rattle.span_table.specs.Tables.{SpanTable}
+
+-- the head of the base but for its first line: each line has the word before it
+abbrev pub base_lines : CountRow → Bytes
+base_lines counts = codes "base " ++ (count_line counts ++ (if counts.seals == 0 then [] else codes "base " ++ seals_line counts.seals))
+
+-- the head of the other but for its first line
+abbrev pub other_lines : CountRow → Bytes
+other_lines counts = count_line counts ++ seals_line counts.seals
+
+-- the names of the columns
+unfoldable pub change_columns : List Column → Bytes
+change_columns columns = line_of (right_in 16 (codes "dself") ∷ right_in 16 (codes "self0") ∷ right_in 16 (codes "self1") ∷ right_in 16 (codes "dtotal") ∷ right_in 16 (codes "total0") ∷ right_in 16 (codes "total1") ∷
+    right_in 8 (codes "count0") ∷ right_in 8 (codes "count1") ∷ map column_title columns)
+
+-- how much more the other has, with `+`, or how much less, with `-`
+abbrev pub difference_text : ℕ → ℕ → Bytes
+difference_text base other = match_ordering (nat_cmp base other) (codes "+" ++ decimal (other - base)) (codes "0") (codes "-" ++ decimal (base - other))
+
+-- the line of a change
+unfoldable pub change_line : Change → Bytes
+change_line change =
+    let base = change.both.base in let other = change.both.other in
+    line_of (right_in 16 (difference_text base.self_time other.self_time) ∷ right_in 16 (decimal base.self_time) ∷ right_in 16 (decimal other.self_time) ∷
+    right_in 16 (difference_text base.total other.total) ∷ right_in 16 (decimal base.total) ∷ right_in 16 (decimal other.total) ∷
+    right_in 8 (decimal base.count) ∷ right_in 8 (decimal other.count) ∷ map value_text change.key)
+
+-- how many keys did not change
+unfoldable pub same_line : ℕ → Bytes
+same_line count = line_of (codes "same" ∷ decimal count ∷ [])
+
+-- both heads, how many keys are shown, the names of the columns, a line for each change, and then how many keys did not change
+abbrev pub comparison_of : By → Wanted → SpanTable → SpanTable → Bytes
+comparison_of by wanted base other =
+    let all = compared base.rows other.rows in
+    let shown = shown_changes wanted all in
+    first_line ++ (base_lines base.head.counts ++ (other_lines other.head.counts ++ (shown_line wanted (length shown) (length all) ++
+    (change_columns other.columns ++ (flat_map change_line (changes_of by shown) ++ same_line (same_count shown))))))

@@ -1,0 +1,115 @@
+-- The rows of a table for machines: JSON Lines.
+use Rattle.std.specs.Prelude.{ℕ, ◌<◌, ◌^◌, All, List, [], ◌∷◌, ◌++◌, flat_map, length, map, codes, decimal, Some, None}
+use Rattle.std.specs.List.{join_with_byte}
+use Rattle.std.specs.Fmt.{signed_decimal}
+use Rattle.span_event.specs.declared.args.ArgValue.{ArgValue}
+use Rattle.span_event.specs.declared.args.ArgValue.TheVariants.{Nil, Flag, Whole, Words, Other}
+use Rattle.span_event.specs.Text.{Bytes}
+use Rattle.span_report.specs.Lines.{json_text_of}
+use Rattle.span_table.specs.declared.changes.Both.{Both}
+use Rattle.span_table.specs.declared.column.Column.{Column}
+use Rattle.span_table.specs.declared.sums.By.TheVariants.{SelfTime}
+use Rattle.span_table.specs.declared.sums.Sums.{Sums}
+use Rattle.span_table.specs.declared.table.Head.{Head}
+use Rattle.span_table.specs.declared.table.Row.{Row}
+use Rattle.span_table.specs.Changes.{Change, changes_of, compared, same_count, shown_changes}
+use Rattle.span_table.specs.Columns.{column_name}
+use Rattle.span_table.specs.Keys.{TableKey}
+use Rattle.span_table.specs.Lines.{flag_text}
+use Rattle.span_table.specs.Shown.{Wanted, shown_rows}
+use Rattle.span_table.specs.Tables.{SpanTable}
+
+-- the parts with a comma between them
+abbrev pub with_commas : List Bytes → Bytes
+with_commas parts = join_with_byte 44 parts
+
+-- a member of an object
+abbrev pub member_of : Bytes → Bytes → Bytes
+member_of name value = json_text_of name ++ 58 ∷ value
+
+abbrev pub number_member : Bytes → ℕ → Bytes
+number_member name number = member_of name (decimal number)
+
+-- the members between braces
+abbrev pub object_of : List Bytes → Bytes
+object_of members = 123 ∷ (with_commas members ++ 125 ∷ [])
+
+-- the names of columns
+abbrev pub columns_array : List Column → Bytes
+columns_array columns = 91 ∷ (with_commas (map (λ column. json_text_of (column_name column)) columns) ++ 93 ∷ [])
+
+-- the members of a head
+abbrev pub head_members : Head → List Bytes
+head_members head =
+    number_member (codes "runs") head.runs ∷ number_member (codes "files") head.files ∷ number_member (codes "unread") head.unread ∷
+    number_member (codes "events") head.counts.accepted ∷ number_member (codes "refused") head.counts.refused ∷ number_member (codes "skipped") head.counts.skipped ∷
+    number_member (codes "queries") head.counts.queries ∷ number_member (codes "seals") head.counts.seals ∷ []
+
+-- a value as JSON: of what isn't kept an empty object
+abbrev pub json_of_value : ArgValue → Bytes
+json_of_value Nil = codes "null"
+json_of_value (Flag flag) = flag_text flag
+json_of_value (Whole number) = signed_decimal number
+json_of_value (Words text) = json_text_of text
+json_of_value Other = codes "{}"
+
+-- a column with its value, if it has one
+abbrev pub value_members : List Column → TableKey → List Bytes
+value_members [] key = []
+value_members (column ∷ columns) [] = []
+value_members (column ∷ columns) (None ∷ key) = value_members columns key
+value_members (column ∷ columns) (Some value ∷ key) = member_of (column_name column) (json_of_value value) ∷ value_members columns key
+
+abbrev pub sums_members : Sums → List Bytes
+sums_members sums = number_member (codes "count") sums.count ∷ number_member (codes "total") sums.total ∷ number_member (codes "self") sums.self_time ∷ []
+
+-- the line of a row
+unfoldable pub json_line : List Column → Row → Bytes
+json_line columns row = object_of (value_members columns row.key ++ sums_members row.sums) ++ 10 ∷ []
+
+-- the first line
+unfoldable pub json_head : List Column → ℕ → Head → Bytes
+json_head columns rows head =
+    object_of (number_member (codes "tracebook") 1 ∷ member_of (codes "columns") (columns_array columns) ∷ number_member (codes "rows") rows ∷ head_members head) ++ 10 ∷ []
+
+-- the first line, and then one for each row that is shown
+abbrev pub json_of : Wanted → SpanTable → Bytes
+json_of wanted table = let shown = shown_rows wanted table.rows in
+    json_head table.columns (length shown) table.head ++ flat_map (json_line table.columns) shown
+
+-- the sums have 64 bits
+abbrev pub FitSums : Sums → Type 0
+FitSums sums = (sums.count < 2 ^ 64) × (sums.total < 2 ^ 64) × (sums.self_time < 2 ^ 64)
+
+-- all sums that are shown have 64 bits
+abbrev pub JsonFits : Wanted → SpanTable → Type 0
+JsonFits wanted table = All (λ (row : Row). FitSums row.sums) (shown_rows wanted table.rows)
+
+-- the sums of both sides
+abbrev pub both_members : Both → List Bytes
+both_members both =
+    number_member (codes "count0") both.base.count ∷ number_member (codes "count1") both.other.count ∷
+    number_member (codes "total0") both.base.total ∷ number_member (codes "total1") both.other.total ∷
+    number_member (codes "self0") both.base.self_time ∷ number_member (codes "self1") both.other.self_time ∷ []
+
+-- the line of a change
+unfoldable pub json_change : List Column → Change → Bytes
+json_change columns change = object_of (value_members columns change.key ++ both_members change.both) ++ 10 ∷ []
+
+-- the first line of a comparison
+unfoldable pub json_heads : List Column → ℕ → ℕ → Head → Head → Bytes
+json_heads columns rows same base other =
+    object_of (number_member (codes "tracebook") 1 ∷ member_of (codes "columns") (columns_array columns) ∷ number_member (codes "rows") rows ∷ number_member (codes "same") same ∷
+    member_of (codes "base") (object_of (head_members base)) ∷ member_of (codes "other") (object_of (head_members other)) ∷ []) ++ 10 ∷ []
+
+-- the first line, and then one for each change that is shown, in the order of a comparison by self time
+abbrev pub json_comparison_of : Wanted → SpanTable → SpanTable → Bytes
+json_comparison_of wanted base other =
+    let shown = shown_changes wanted (compared base.rows other.rows) in
+    let changes = changes_of SelfTime shown in
+    json_heads other.columns (length changes) (same_count shown) base.head other.head ++ flat_map (json_change other.columns) changes
+
+-- all sums of the changes that are shown have 64 bits
+abbrev pub JsonChangesFit : Wanted → SpanTable → SpanTable → Type 0
+JsonChangesFit wanted base other =
+    All (λ (change : Change). FitSums change.both.base × FitSums change.both.other) (changes_of SelfTime (shown_changes wanted (compared base.rows other.rows)))

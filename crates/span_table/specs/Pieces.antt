@@ -1,0 +1,38 @@
+-- The pieces of lines, in the order in which they are appended.
+use Rattle.std.specs.Prelude.{ℕ, List, ◌∷◌, ◌++◌, flat_map, decimal}
+use Rattle.span_event.specs.Text.{Bytes}
+use Rattle.span_report.specs.Lines.{right_in}
+use Rattle.span_table.specs.declared.changes.Both.{Both}
+use Rattle.span_table.specs.declared.sums.Sums.{Sums}
+use Rattle.span_table.specs.declared.column.Column.{Column}
+use Rattle.span_table.specs.Columns.{Value}
+use Rattle.span_table.specs.Comparison.{difference_text}
+use Rattle.span_table.specs.Lines.{column_title, value_text}
+
+-- words, each with a blank before it
+abbrev pub spaced : List Bytes → Bytes
+spaced words = flat_map (λ (word : Bytes). 32 ∷ word) words
+
+-- a value, and the title of a column, with a blank before it
+abbrev pub then_value : Value → Bytes
+then_value value = 32 ∷ value_text value
+
+abbrev pub then_title : Column → Bytes
+then_title column = 32 ∷ column_title column
+
+-- a word right in a width, with a blank before it
+abbrev pub then_right : ℕ → Bytes → Bytes
+then_right width word = 32 ∷ right_in width word
+
+-- the numbers of a row in a ranking
+abbrev pub sums_text : Sums → Bytes
+sums_text sums = right_in 16 (decimal sums.self_time) ++ (then_right 16 (decimal sums.total) ++ then_right 8 (decimal sums.count))
+
+-- two sums of times, after how they differ
+abbrev pub times_text : ℕ → ℕ → Bytes
+times_text base other = right_in 16 (difference_text base other) ++ (then_right 16 (decimal base) ++ then_right 16 (decimal other))
+
+-- the numbers of a change
+abbrev pub both_text : Both → Bytes
+both_text both =
+    times_text both.base.self_time both.other.self_time ++ (32 ∷ (times_text both.base.total both.other.total ++ (then_right 8 (decimal both.base.count) ++ then_right 8 (decimal both.other.count))))

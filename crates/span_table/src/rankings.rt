@@ -1,0 +1,144 @@
+//! The text of a ranking: the rows of a table that come first by a number.
+ghost use Rattle.std.specs.Prelude.{◌≡◌, ◌++◌, string_bytes, take, flat_map, OnOk, IfOk};
+ghost use Rattle.std.specs.List.{IsDistinct};
+ghost use Rattle.std.specs.Ordering.{eq_by_cmp};
+ghost use Rattle.span_report.specs.Report.{head_lines};
+ghost use Rattle.span_table.specs.Pieces.{sums_text};
+ghost use Rattle.span_table.specs.Ranking.{column_line, ranked_line, ranking_of};
+ghost use Rattle.span_table.specs.Ranks.{rank_order, ranked};
+ghost use Rattle.span_table.specs.Shown.{shown_rows};
+
+use crate::column::Column;
+use crate::lines::{put_right, put_shown, put_titles, put_values};
+use crate::shown::Shown;
+use crate::sums::{By, Sums};
+use crate::table::{Row, Table};
+use span_ledger::CountRow;
+use span_report::{first_line, put_counts, put_seals};
+use std::alloc::{AllocError, Global};
+use std::cmp::Ordering;
+use std::marker::Model;
+
+const COLUMNS: &str = "            self            total    count";
+
+/// A row of a table that is shown.
+#[derive(Drop)]
+struct Ranked<'a> {
+    row: &'a Row,
+}
+
+impl<'a> Model for Ranked<'a> {
+    ghost use Rattle.span_table.specs.declared.table.Row.{Row};
+
+    ghost Value = { Row };
+
+    ghost view = { λ r. r.row.now };
+}
+
+impl<'a> Ranked<'a> {
+    // Which of two comes first.
+    fn compare(&self, other: &Ranked<'a>, by: By) -> Ordering
+        ensures { result ≡ rank_order by self.now other.now }
+    {
+        let by_key = self.row.key.cmp(&other.row.key);
+        other
+            .row
+            .sums
+            .by(by)
+            .compare(&self.row.sums.by(by))
+            .then(by_key)
+    }
+}
+
+/// The text of the ranking of a table, with at most so many of the rows that are shown.
+pub fn ranking(
+    alloc: Global,
+    table: &Table,
+    shown: &Shown,
+    most: u32,
+    by: By,
+) -> Result<Vec<u8>, AllocError>
+    ensures { IfOk result (λ text. text.items ≡ ranking_of most by shown.now table.now) }
+{
+    let mut out = head(alloc, table.head().counts)?;
+    let rows = shown_rows(alloc, table.rows(), shown)?;
+    put_shown(&mut out, shown, rows.len(), table.rows().len())?;
+    put_columns(alloc, &mut out, table.columns())?;
+    let rows = in_order(rows, by);
+    put_first(alloc, &mut out, &rows, most)?;
+    Ok(out.into_bytes())
+}
+
+// The lines that every text begins with.
+fn head(alloc: Global, counts: CountRow) -> Result<String, AllocError>
+    ensures { IfOk result (λ text. string_bytes text ≡ head_lines counts) }
+{
+    let mut out = first_line(alloc)?;
+    put_counts(&mut out, counts)?;
+    put_seals(&mut out, counts.seals)?;
+    Ok(out)
+}
+
+// The rows that are shown.
+fn shown_rows<'a>(
+    alloc: Global,
+    rows: &'a [Row],
+    shown: &Shown,
+) -> Result<Vec<Ranked<'a>>, AllocError>
+    ensures { IfOk result (λ found. found.items ≡ shown_rows shown.now rows.now) }
+{
+    let mut found = Vec::new(alloc);
+    for row in rows {
+        if shown.has(&row.key) {
+            found.push(Ranked { row })?;
+        }
+    }
+    Ok(found)
+}
+
+fn in_order<'a>(mut rows: Vec<Ranked<'a>>, by: By) -> Vec<Ranked<'a>>
+    requires { IsDistinct (eq_by_cmp (rank_order by)) rows.items }
+    ensures { result.items ≡ ranked by rows.entry.items }
+{
+    rows.sort_unstable_by(|a, b| a.compare(b, by));
+    rows
+}
+
+#[tactic(auto, using(crate::proofs::Pieces::column_line_pieces, std::proofs::Common::append_assoc))]
+fn put_columns(alloc: Global, out: &mut String, columns: &[Column]) -> Result<(), AllocError>
+    ensures { OnOk result (string_bytes out.new ≡ string_bytes out.old ++ column_line columns.now) }
+{
+    out.push_str(COLUMNS)?;
+    put_titles(alloc, out, columns)?;
+    out.push('\n')
+}
+
+fn put_first(alloc: Global, out: &mut String, rows: &[Ranked], most: u32) -> Result<(), AllocError>
+    ensures { OnOk result (string_bytes out.new ≡ string_bytes out.old ++ flat_map ranked_line (take most rows.now)) }
+{
+    let shown = rows.len().min(most as usize);
+    for ranked in &rows[..shown] {
+        put_row(alloc, out, ranked.row)?;
+    }
+    Ok(())
+}
+
+#[tactic(auto, using(crate::proofs::Pieces::ranked_line_pieces, std::proofs::Common::append_assoc))]
+fn put_row(alloc: Global, out: &mut String, row: &Row) -> Result<(), AllocError>
+    ensures { OnOk result (string_bytes out.new ≡ string_bytes out.old ++ ranked_line row.now) }
+{
+    put_sums(alloc, out, &row.sums)?;
+    put_values(alloc, out, row.key.values())?;
+    out.push('\n')
+}
+
+#[tactic(auto, using(std::proofs::Common::append_assoc))]
+fn put_sums(alloc: Global, out: &mut String, sums: &Sums) -> Result<(), AllocError>
+    ensures { OnOk result (string_bytes out.new ≡ string_bytes out.old ++ sums_text sums.now) }
+{
+    put_right(out, 16, &sums.self_time.shown(alloc)?)?;
+    out.push(' ')?;
+    put_right(out, 16, &sums.total.shown(alloc)?)?;
+    out.push(' ')?;
+    put_right(out, 8, &sums.count.shown(alloc)?)
+}
