@@ -127,7 +127,8 @@ pub(crate) fn timed_spans<'a>(
     thread: &Thread,
 ) -> Result<Vec<TimedSpan<'a>>, AllocError>
     requires { FollowsJournal journal.now tracks.now }
-    ensures { IfOk result (λ spans. spans.items ≡ timed_spans journal.now thread.now) }
+    ensures spans { IfOk result (λ spans. spans.items ≡ timed_spans journal.now thread.now) }
+    ensures are { IfOk result (λ spans. AreThreadSpans (map (λ timed. timed.span) spans.items)) }
 {
     let spans = closed_spans(alloc, journal, tracks, thread)?;
     let times = self_times(alloc, journal, tracks, thread)?;
