@@ -1,5 +1,6 @@
 pub mod Alike
 pub mod ByName
+pub mod JsonPieces
 pub mod Pieces
 pub mod Rows
 pub mod Substrings

@@ -1,5 +1,5 @@
 -- Lines, from the pieces of which they are made.
-use Rattle.std.proofs.Common.{◌≡◌, List, [], ◌∷◌, ◌++◌, map, refl, sym, ap, ◌∙◌, append_assoc}
+use Rattle.std.proofs.Common.{◌≡◌, ℕ, List, [], ◌∷◌, ◌++◌, map, refl, sym, ap, ◌∙◌, append_assoc}
 use Rattle.std.specs.Prelude.{codes, decimal, flat_map}
 use Rattle.std.specs.List.{join_with_byte}
 use Rattle.std.proofs.lemmas.List.{append-nil}
@@ -10,6 +10,11 @@ use Rattle.span_table.specs.declared.table.Row.{Row}
 use Rattle.span_table.specs.Lines.{column_title, value_text}
 use Rattle.span_table.specs.Pieces.{spaced, sums_text, then_title, then_value}
 use Rattle.span_table.specs.Ranking.{column_line, ranked_line}
+
+-- parts with a byte between them, from the first and the others with the byte before each
+pub join_with_byte-each : {A : Type 0} (b : ℕ) (f : A → Bytes) (x : A) (xs : List A) → join_with_byte b (map f (x ∷ xs)) ≡ f x ++ flat_map (λ y. b ∷ f y) xs
+join_with_byte-each b f x [] = sym (append-nil (f x))
+join_with_byte-each b f x (y ∷ ys) = ap (λ l. f x ++ b ∷ l) (join_with_byte-each b f y ys)
 
 join-spaced : (word : Bytes) (words : List Bytes) → join_with_byte 32 (word ∷ words) ≡ word ++ spaced words
 join-spaced word [] = sym (append-nil word)

@@ -1,6 +1,6 @@
--- The rows of a table for machines: JSON Lines.
-use Rattle.std.specs.Prelude.{ℕ, ◌<◌, ◌^◌, All, List, [], ◌∷◌, ◌++◌, flat_map, length, map, codes, decimal, Some, None}
-use Rattle.std.specs.List.{join_with_byte}
+-- The rows of a table, and of a comparison, for machines: JSON Lines.
+use Rattle.std.specs.Prelude.{ℕ, ◌^◌, nat_lt, Bool, ◌&&◌, List, [], ◌∷◌, ◌++◌, flat_map, length, map, codes, decimal, Some, None}
+use Rattle.std.specs.List.{join_with_byte, list_all}
 use Rattle.std.specs.Fmt.{signed_decimal}
 use Rattle.span_event.specs.declared.args.ArgValue.{ArgValue}
 use Rattle.span_event.specs.declared.args.ArgValue.TheVariants.{Nil, Flag, Whole, Words, Other}
@@ -23,9 +23,9 @@ use Rattle.span_table.specs.Tables.{SpanTable}
 abbrev pub with_commas : List Bytes → Bytes
 with_commas parts = join_with_byte 44 parts
 
--- a member of an object
+-- a member of an object, whose name is of letters and digits alone
 abbrev pub member_of : Bytes → Bytes → Bytes
-member_of name value = json_text_of name ++ 58 ∷ value
+member_of name value = 34 ∷ (name ++ (34 ∷ 58 ∷ value))
 
 abbrev pub number_member : Bytes → ℕ → Bytes
 number_member name number = member_of name (decimal number)
@@ -34,9 +34,13 @@ number_member name number = member_of name (decimal number)
 abbrev pub object_of : List Bytes → Bytes
 object_of members = 123 ∷ (with_commas members ++ 125 ∷ [])
 
+-- the name of a column
+abbrev pub column_json : Column → Bytes
+column_json column = json_text_of (column_name column)
+
 -- the names of columns
-abbrev pub columns_array : List Column → Bytes
-columns_array columns = 91 ∷ (with_commas (map (λ column. json_text_of (column_name column)) columns) ++ 93 ∷ [])
+abbrev pub columns_json : List Column → Bytes
+columns_json columns = 91 ∷ (with_commas (map column_json columns) ++ 93 ∷ [])
 
 -- the members of a head
 abbrev pub head_members : Head → List Bytes
@@ -53,12 +57,16 @@ json_of_value (Whole number) = signed_decimal number
 json_of_value (Words text) = json_text_of text
 json_of_value Other = codes "{}"
 
--- a column with its value, if it has one
+-- a column with its value
+abbrev pub value_member : Column → ArgValue → Bytes
+value_member column value = column_json column ++ 58 ∷ json_of_value value
+
+-- each column that has a value with it
 abbrev pub value_members : List Column → TableKey → List Bytes
 value_members [] key = []
 value_members (column ∷ columns) [] = []
 value_members (column ∷ columns) (None ∷ key) = value_members columns key
-value_members (column ∷ columns) (Some value ∷ key) = member_of (column_name column) (json_of_value value) ∷ value_members columns key
+value_members (column ∷ columns) (Some value ∷ key) = value_member column value ∷ value_members columns key
 
 abbrev pub sums_members : Sums → List Bytes
 sums_members sums = number_member (codes "count") sums.count ∷ number_member (codes "total") sums.total ∷ number_member (codes "self") sums.self_time ∷ []
@@ -70,7 +78,7 @@ json_line columns row = object_of (value_members columns row.key ++ sums_members
 -- the first line
 unfoldable pub json_head : List Column → ℕ → Head → Bytes
 json_head columns rows head =
-    object_of (number_member (codes "tracebook") 1 ∷ member_of (codes "columns") (columns_array columns) ∷ number_member (codes "rows") rows ∷ head_members head) ++ 10 ∷ []
+    object_of (codes "\"tracebook\":1" ∷ member_of (codes "columns") (columns_json columns) ∷ number_member (codes "rows") rows ∷ head_members head) ++ 10 ∷ []
 
 -- the first line, and then one for each row that is shown
 abbrev pub json_of : Wanted → SpanTable → Bytes
@@ -78,12 +86,12 @@ json_of wanted table = let shown = shown_rows wanted table.rows in
     json_head table.columns (length shown) table.head ++ flat_map (json_line table.columns) shown
 
 -- the sums have 64 bits
-abbrev pub FitSums : Sums → Type 0
-FitSums sums = (sums.count < 2 ^ 64) × (sums.total < 2 ^ 64) × (sums.self_time < 2 ^ 64)
+abbrev pub fit : Sums → Bool
+fit sums = nat_lt sums.count (2 ^ 64) && (nat_lt sums.total (2 ^ 64) && nat_lt sums.self_time (2 ^ 64))
 
 -- all sums that are shown have 64 bits
-abbrev pub JsonFits : Wanted → SpanTable → Type 0
-JsonFits wanted table = All (λ (row : Row). FitSums row.sums) (shown_rows wanted table.rows)
+abbrev pub json_fits : Wanted → SpanTable → Bool
+json_fits wanted table = list_all (λ (row : Row). fit row.sums) (shown_rows wanted table.rows)
 
 -- the sums of both sides
 abbrev pub both_members : Both → List Bytes
@@ -99,7 +107,7 @@ json_change columns change = object_of (value_members columns change.key ++ both
 -- the first line of a comparison
 unfoldable pub json_heads : List Column → ℕ → ℕ → Head → Head → Bytes
 json_heads columns rows same base other =
-    object_of (number_member (codes "tracebook") 1 ∷ member_of (codes "columns") (columns_array columns) ∷ number_member (codes "rows") rows ∷ number_member (codes "same") same ∷
+    object_of (codes "\"tracebook\":1" ∷ member_of (codes "columns") (columns_json columns) ∷ number_member (codes "rows") rows ∷ number_member (codes "same") same ∷
     member_of (codes "base") (object_of (head_members base)) ∷ member_of (codes "other") (object_of (head_members other)) ∷ []) ++ 10 ∷ []
 
 -- the first line, and then one for each change that is shown, in the order of a comparison by self time
@@ -110,6 +118,5 @@ json_comparison_of wanted base other =
     json_heads other.columns (length changes) (same_count shown) base.head other.head ++ flat_map (json_change other.columns) changes
 
 -- all sums of the changes that are shown have 64 bits
-abbrev pub JsonChangesFit : Wanted → SpanTable → SpanTable → Type 0
-JsonChangesFit wanted base other =
-    All (λ (change : Change). FitSums change.both.base × FitSums change.both.other) (changes_of SelfTime (shown_changes wanted (compared base.rows other.rows)))
+abbrev pub json_changes_fit : Wanted → SpanTable → SpanTable → Bool
+json_changes_fit wanted base other = list_all (λ (change : Change). fit change.both.base && fit change.both.other) (changes_of SelfTime (shown_changes wanted (compared base.rows other.rows)))

@@ -5,6 +5,7 @@ pub mod Collected
 pub mod Columns
 pub mod Comparison
 pub mod Json
+pub mod JsonPieces
 pub mod KeyLaws
 pub mod Keys
 pub mod Lines

@@ -6,6 +6,7 @@ mod changes;
 mod collected;
 mod column;
 mod groups;
+mod json_lines;
 mod key;
 mod lines;
 mod rankings;
@@ -16,6 +17,7 @@ mod table;
 
 pub use changes::Both;
 pub use column::Column;
+pub use json_lines::{JsonFault, json_table};
 pub use key::Key;
 pub use rankings::ranking;
 pub use shown::Shown;

@@ -6,49 +6,18 @@ ghost use Rattle.span_report.specs.Report.{head_lines};
 ghost use Rattle.span_table.specs.Pieces.{sums_text};
 ghost use Rattle.span_table.specs.Ranking.{column_line, ranked_line, ranking_of};
 ghost use Rattle.span_table.specs.Ranks.{rank_order, ranked};
-ghost use Rattle.span_table.specs.Shown.{shown_rows};
 
 use crate::column::Column;
 use crate::lines::{put_right, put_shown, put_titles, put_values};
-use crate::shown::Shown;
+use crate::shown::{Shown, ShownRow};
 use crate::sums::{By, Sums};
 use crate::table::{Row, Table};
 use span_ledger::CountRow;
 use span_report::{first_line, put_counts, put_seals};
 use std::alloc::{AllocError, Global};
 use std::cmp::Ordering;
-use std::marker::Model;
 
 const COLUMNS: &str = "            self            total    count";
-
-/// A row of a table that is shown.
-#[derive(Drop)]
-struct Ranked<'a> {
-    row: &'a Row,
-}
-
-impl<'a> Model for Ranked<'a> {
-    ghost use Rattle.span_table.specs.declared.table.Row.{Row};
-
-    ghost Value = { Row };
-
-    ghost view = { λ r. r.row.now };
-}
-
-impl<'a> Ranked<'a> {
-    // Which of two comes first.
-    fn compare(&self, other: &Ranked<'a>, by: By) -> Ordering
-        ensures { result ≡ rank_order by self.now other.now }
-    {
-        let by_key = self.row.key.cmp(&other.row.key);
-        other
-            .row
-            .sums
-            .by(by)
-            .compare(&self.row.sums.by(by))
-            .then(by_key)
-    }
-}
 
 /// The text of the ranking of a table, with at most so many of the rows that are shown.
 pub fn ranking(
@@ -61,7 +30,7 @@ pub fn ranking(
     ensures { IfOk result (λ text. text.items ≡ ranking_of most by shown.now table.now) }
 {
     let mut out = head(alloc, table.head().counts)?;
-    let rows = shown_rows(alloc, table.rows(), shown)?;
+    let rows = shown.rows(alloc, table.rows())?;
     put_shown(&mut out, shown, rows.len(), table.rows().len())?;
     put_columns(alloc, &mut out, table.columns())?;
     let rows = in_order(rows, by);
@@ -79,28 +48,20 @@ fn head(alloc: Global, counts: CountRow) -> Result<String, AllocError>
     Ok(out)
 }
 
-// The rows that are shown.
-fn shown_rows<'a>(
-    alloc: Global,
-    rows: &'a [Row],
-    shown: &Shown,
-) -> Result<Vec<Ranked<'a>>, AllocError>
-    ensures { IfOk result (λ found. found.items ≡ shown_rows shown.now rows.now) }
+// Which of two comes first.
+fn compare(shown: &ShownRow, other: &ShownRow, by: By) -> Ordering
+    ensures { result ≡ rank_order by shown.now other.now }
 {
-    let mut found = Vec::new(alloc);
-    for row in rows {
-        if shown.has(&row.key) {
-            found.push(Ranked { row })?;
-        }
-    }
-    Ok(found)
+    let (row, next) = (shown.row, other.row);
+    let by_key = row.key.cmp(&next.key);
+    next.sums.by(by).compare(&row.sums.by(by)).then(by_key)
 }
 
-fn in_order<'a>(mut rows: Vec<Ranked<'a>>, by: By) -> Vec<Ranked<'a>>
+fn in_order<'a>(mut rows: Vec<ShownRow<'a>>, by: By) -> Vec<ShownRow<'a>>
     requires { IsDistinct (eq_by_cmp (rank_order by)) rows.items }
     ensures { result.items ≡ ranked by rows.entry.items }
 {
-    rows.sort_unstable_by(|a, b| a.compare(b, by));
+    rows.sort_unstable_by(|a, b| compare(a, b, by));
     rows
 }
 
@@ -113,7 +74,12 @@ fn put_columns(alloc: Global, out: &mut String, columns: &[Column]) -> Result<()
     out.push('\n')
 }
 
-fn put_first(alloc: Global, out: &mut String, rows: &[Ranked], most: u32) -> Result<(), AllocError>
+fn put_first(
+    alloc: Global,
+    out: &mut String,
+    rows: &[ShownRow],
+    most: u32,
+) -> Result<(), AllocError>
     ensures { OnOk result (string_bytes out.new ≡ string_bytes out.old ++ flat_map ranked_line (take most rows.now)) }
 {
     let shown = rows.len().min(most as usize);

@@ -1,10 +1,12 @@
 //! Which rows of a table are shown.
-ghost use Rattle.std.specs.Prelude.{◌≡◌};
+ghost use Rattle.std.specs.Prelude.{◌≡◌, IfOk};
 ghost use Rattle.std.specs.List.{list_all, list_any};
-ghost use Rattle.span_table.specs.Shown.{is_wanted, key_has, value_has, wants_all};
+ghost use Rattle.span_table.specs.Shown.{is_wanted, key_has, shown_rows, value_has, wants_all};
 
 use crate::key::Key;
+use crate::table::Row;
 use span_event::{ArgValue, Text};
+use std::alloc::{AllocError, Global};
 use std::marker::Model;
 
 /// The rows that a text shows: those whose texts have all of `only`, each in some text, and none of `skip`.
@@ -22,7 +24,38 @@ impl Model for Shown {
     ghost view = { λ s. record { only = s.only.items; skip = s.skip.items } };
 }
 
+/// A row of a table that is shown.
+#[derive(Drop)]
+pub(crate) struct ShownRow<'a> {
+    pub(crate) row: &'a Row,
+}
+
+impl<'a> Model for ShownRow<'a> {
+    ghost use Rattle.span_table.specs.declared.table.Row.{Row};
+
+    ghost Value = { Row };
+
+    ghost view = { λ r. r.row.now };
+}
+
 impl Shown {
+    /// The rows that are shown.
+    pub(crate) fn rows<'a>(
+        &self,
+        alloc: Global,
+        rows: &'a [Row],
+    ) -> Result<Vec<ShownRow<'a>>, AllocError>
+        ensures { IfOk result (λ found. found.items ≡ shown_rows self.now rows.now) }
+    {
+        let mut found = Vec::new(alloc);
+        for row in rows {
+            if self.has(&row.key) {
+                found.push(ShownRow { row })?;
+            }
+        }
+        Ok(found)
+    }
+
     pub(crate) fn is_all(&self) -> bool
         ensures { result ≡ wants_all self.now }
     {

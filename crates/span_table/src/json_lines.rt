@@ -1,0 +1,258 @@
+//! The rows of a table for machines: JSON Lines.
+ghost use Rattle.std.specs.Prelude.{◌≡◌, ◌++◌, ◌∷◌, true, false, map, flat_map, length, string_bytes, IfOk, IfErr, OnOk};
+ghost use Rattle.std.specs.List.{join_with_byte, list_all};
+ghost use Rattle.span_table.specs.declared.json_lines.JsonFault.TheVariants.{TooGreat};
+ghost use Rattle.span_table.specs.Json.{column_json, columns_json, fit, json_fits, json_head, json_line, json_of, json_of_value};
+ghost use Rattle.span_table.specs.JsonPieces.{count_text, end_text, events_text, files_text, head_text, member_text, members_text, others_text, start_text, sums_text};
+
+use crate::column::Column;
+use crate::shown::{Shown, ShownRow};
+use crate::sums::Sums;
+use crate::table::{Head, Row, Table};
+use span_event::ArgValue;
+use span_ledger::CountRow;
+use span_report::json_text;
+use std::alloc::{AllocError, Global};
+
+/// Why rows were not told to a machine.
+#[derive(Clone, Copy, Debug, PartialEq, Eq)]
+pub enum JsonFault {
+    /// 31: memory was refused.
+    Memory,
+    /// 55: a sum has more than 64 bits.
+    TooGreat,
+}
+
+/// The rows of a table that are shown, for machines.
+pub fn json_table(alloc: Global, table: &Table, shown: &Shown) -> Result<Vec<u8>, JsonFault>
+    ensures text { IfOk result (λ text. text.items ≡ json_of shown.now table.now) }
+    ensures fits { OnOk result (json_fits shown.now table.now ≡ true) }
+    ensures too_great { IfErr result (λ fault. fault ≡ TooGreat → json_fits shown.now table.now ≡ false) }
+{
+    let Ok(rows) = shown.rows(alloc, table.rows()) else {
+        return Err(JsonFault::Memory);
+    };
+    if !all_fit(&rows) {
+        return Err(JsonFault::TooGreat);
+    }
+    match text_of(alloc, table, &rows) {
+        Ok(text) => Ok(text),
+        Err(_) => Err(JsonFault::Memory),
+    }
+}
+
+fn all_fit(rows: &[ShownRow]) -> bool
+    ensures { result ≡ list_all (λ row. fit row.sums) rows.now }
+{
+    rows.iter().all(|shown| fits(&shown.row.sums))
+}
+
+/// Whether the sums have 64 bits.
+pub(crate) fn fits(sums: &Sums) -> bool
+    ensures { result ≡ fit sums.now }
+{
+    sums.count.as_u64().is_some()
+        && sums.total.as_u64().is_some()
+        && sums.self_time.as_u64().is_some()
+}
+
+fn text_of(alloc: Global, table: &Table, rows: &[ShownRow]) -> Result<Vec<u8>, AllocError>
+    ensures { IfOk result (λ text. text.items
+        ≡ json_head table.now.columns (length rows.now) table.now.head ++ flat_map (json_line table.now.columns) rows.now) }
+{
+    let mut out = String::new(alloc);
+    put_first(alloc, &mut out, table.columns(), rows.len(), table.head())?;
+    for shown in rows {
+        put_row(alloc, &mut out, table.columns(), shown.row)?;
+    }
+    Ok(out.into_bytes())
+}
+
+#[tactic(auto, using(crate::proofs::JsonPieces::json_head_pieces, std::proofs::Common::append_assoc))]
+fn put_first(
+    alloc: Global,
+    out: &mut String,
+    columns: &[Column],
+    rows: usize,
+    head: Head,
+) -> Result<(), AllocError>
+    ensures { OnOk result (string_bytes out.new ≡ string_bytes out.old ++ json_head columns.now rows head) }
+{
+    put_start(out)?;
+    put_columns(alloc, out, columns)?;
+    put_count(out, rows)?;
+    put_head(out, head)?;
+    put_end(out)
+}
+
+#[tactic(auto, unfolding(crate::specs::JsonPieces::start_text))]
+fn put_start(out: &mut String) -> Result<(), AllocError>
+    ensures { OnOk result (string_bytes out.new ≡ string_bytes out.old ++ start_text) }
+{
+    out.push_str("{\"tracebook\":1,\"columns\":")
+}
+
+#[tactic(auto, unfolding(crate::specs::JsonPieces::count_text))]
+fn put_count(out: &mut String, rows: usize) -> Result<(), AllocError>
+    ensures { OnOk result (string_bytes out.new ≡ string_bytes out.old ++ count_text rows) }
+{
+    write!(out, ",\"rows\":{rows},")
+}
+
+#[tactic(auto, unfolding(crate::specs::JsonPieces::end_text))]
+fn put_end(out: &mut String) -> Result<(), AllocError>
+    ensures { OnOk result (string_bytes out.new ≡ string_bytes out.old ++ end_text) }
+{
+    out.push_str("}\n")
+}
+
+/// Appends the names of columns.
+#[tactic(auto, using(std::proofs::Common::append_assoc))]
+pub(crate) fn put_columns(
+    alloc: Global,
+    out: &mut String,
+    columns: &[Column],
+) -> Result<(), AllocError>
+    ensures { OnOk result (string_bytes out.new ≡ string_bytes out.old ++ columns_json columns.now) }
+{
+    out.push('[')?;
+    put_names(alloc, out, columns)?;
+    out.push(']')
+}
+
+fn put_names(alloc: Global, out: &mut String, columns: &[Column]) -> Result<(), AllocError>
+    ensures { OnOk result (string_bytes out.new ≡ string_bytes out.old ++ join_with_byte 44 (map column_json columns.now)) }
+{
+    let Some((first, later)) = columns.split_first() else {
+        return Ok(());
+    };
+    put_name(alloc, out, first)?;
+    for column in later {
+        out.push(',')?;
+        put_name(alloc, out, column)?;
+    }
+    Ok(())
+}
+
+fn put_name(alloc: Global, out: &mut String, column: &Column) -> Result<(), AllocError>
+    ensures { OnOk result (string_bytes out.new ≡ string_bytes out.old ++ column_json column.now) }
+{
+    let name = column.name(alloc)?;
+    out.push_str(json_text(alloc, &name)?.as_str())
+}
+
+/// Appends the members of a head.
+#[tactic(auto, using(std::proofs::Common::append_assoc))]
+pub(crate) fn put_head(out: &mut String, head: Head) -> Result<(), AllocError>
+    ensures { OnOk result (string_bytes out.new ≡ string_bytes out.old ++ head_text head) }
+{
+    put_files(out, head)?;
+    put_events(out, head.counts)?;
+    put_others(out, head.counts)
+}
+
+#[tactic(auto, unfolding(crate::specs::JsonPieces::files_text))]
+fn put_files(out: &mut String, head: Head) -> Result<(), AllocError>
+    ensures { OnOk result (string_bytes out.new ≡ string_bytes out.old ++ files_text head) }
+{
+    let (runs, files, unread) = (head.runs, head.files, head.unread);
+    write!(
+        out,
+        "\"runs\":{runs},\"files\":{files},\"unread\":{unread},"
+    )
+}
+
+#[tactic(auto, unfolding(crate::specs::JsonPieces::events_text))]
+fn put_events(out: &mut String, counts: CountRow) -> Result<(), AllocError>
+    ensures { OnOk result (string_bytes out.new ≡ string_bytes out.old ++ events_text counts) }
+{
+    let (events, refused, skipped) = (counts.accepted, counts.refused, counts.skipped);
+    write!(
+        out,
+        "\"events\":{events},\"refused\":{refused},\"skipped\":{skipped},"
+    )
+}
+
+#[tactic(auto, unfolding(crate::specs::JsonPieces::others_text))]
+fn put_others(out: &mut String, counts: CountRow) -> Result<(), AllocError>
+    ensures { OnOk result (string_bytes out.new ≡ string_bytes out.old ++ others_text counts) }
+{
+    let (queries, seals) = (counts.queries, counts.seals);
+    write!(out, "\"queries\":{queries},\"seals\":{seals}")
+}
+
+#[tactic(auto, using(crate::proofs::JsonPieces::json_line_pieces, std::proofs::Common::append_assoc))]
+fn put_row(alloc: Global, out: &mut String, columns: &[Column], row: &Row) -> Result<(), AllocError>
+    ensures { OnOk result (string_bytes out.new ≡ string_bytes out.old ++ json_line columns.now row.now) }
+{
+    out.push('{')?;
+    put_members(alloc, out, columns, row.key.values())?;
+    put_sums(alloc, out, &row.sums)?;
+    put_end(out)
+}
+
+#[tactic(auto, unfolding(crate::specs::JsonPieces::sums_text))]
+fn put_sums(alloc: Global, out: &mut String, sums: &Sums) -> Result<(), AllocError>
+    ensures { OnOk result (string_bytes out.new ≡ string_bytes out.old ++ sums_text sums.now) }
+{
+    let count = sums.count.shown(alloc)?;
+    let total = sums.total.shown(alloc)?;
+    let self_time = sums.self_time.shown(alloc)?;
+    write!(
+        out,
+        "\"count\":{count},\"total\":{total},\"self\":{self_time}"
+    )
+}
+
+/// Appends each column with its value and a comma, if it has a value.
+pub(crate) fn put_members(
+    alloc: Global,
+    out: &mut String,
+    columns: &[Column],
+    values: &[Option<ArgValue>],
+) -> Result<(), AllocError>
+    ensures { OnOk result (string_bytes out.new ≡ string_bytes out.old ++ members_text columns.now values.now) }
+{
+    let Some((column, columns)) = columns.split_first() else {
+        return Ok(());
+    };
+    let Some((value, values)) = values.split_first() else {
+        return Ok(());
+    };
+    put_member(alloc, out, column, value)?;
+    put_members(alloc, out, columns, values)
+}
+
+#[tactic(auto, using(std::proofs::Common::append_assoc))]
+fn put_member(
+    alloc: Global,
+    out: &mut String,
+    column: &Column,
+    value: &Option<ArgValue>,
+) -> Result<(), AllocError>
+    ensures { OnOk result (string_bytes out.new ≡ string_bytes out.old ++ member_text column.now value.now) }
+{
+    let Some(value) = value else {
+        return Ok(());
+    };
+    put_name(alloc, out, column)?;
+    out.push(':')?;
+    put_value(alloc, out, value)?;
+    out.push(',')
+}
+
+fn put_value(alloc: Global, out: &mut String, value: &ArgValue) -> Result<(), AllocError>
+    ensures { OnOk result (string_bytes out.new ≡ string_bytes out.old ++ json_of_value value.now) }
+{
+    match value {
+        ArgValue::Nil => out.push_str("null"),
+        ArgValue::Flag(true) => out.push_str("true"),
+        ArgValue::Flag(false) => out.push_str("false"),
+        ArgValue::Whole(number) => {
+            let number = *number;
+            write!(out, "{number}")
+        }
+        ArgValue::Words(text) => out.push_str(json_text(alloc, text)?.as_str()),
+        ArgValue::Other => out.push_str("{}"),
+    }
+}
