@@ -28,7 +28,7 @@ either true b h = refl
 either false b h = h
 
 -- each of these keys is one of those
-abbrev Within : {K : Type 0} → (K → K → Ordering) → List K → List K → Type 0
+abbrev pub Within : {K : Type 0} → (K → K → Ordering) → List K → List K → Type 0
 Within {K} cmp ks ls = (k : K) → has_key cmp k ks ≡ true → has_key cmp k ls ≡ true
 
 -- both have the same keys, and the same sums under each
@@ -37,7 +37,8 @@ pub record AddUpAlike (es fs : KeyedSums) : Type 0 where
   pub back : Within key_cmp (step_keys fs) (step_keys es)
   pub sums : (k : TableKey) → sums_together (steps_at key_cmp k es) ≡ sums_together (steps_at key_cmp k fs)
 
-same_keys : (xs ys : List TableKey) → Within key_cmp xs ys → Within key_cmp ys xs → ascending key_cmp xs ≡ ascending key_cmp ys
+-- lists of the same keys are one in ascending order
+pub same_keys : (xs ys : List TableKey) → Within key_cmp xs ys → Within key_cmp ys xs → ascending key_cmp xs ≡ ascending key_cmp ys
 same_keys xs ys there back = ascending-members key_cmp_total key_cmp-same xs ys (within xs ys there) (within ys xs back)
   where
     within : (xs ys : List TableKey) → Within key_cmp xs ys → (k : TableKey) → Contains xs k → Contains ys k
@@ -62,7 +63,8 @@ AddUpAlike-trans es fs gs first second = record {
   sums = λ k. first.sums k ∙ second.sums k;
 }
 
-has_key-append : {K : Type 0} (cmp : K → K → Ordering) (k : K) (xs ys : List K) → has_key cmp k (xs ++ ys) ≡ (has_key cmp k xs || has_key cmp k ys)
+-- a key is among two lists where it is among one of them
+pub has_key-append : {K : Type 0} (cmp : K → K → Ordering) (k : K) (xs ys : List K) → has_key cmp k (xs ++ ys) ≡ (has_key cmp k xs || has_key cmp k ys)
 has_key-append cmp k [] ys = refl
 has_key-append cmp k (x ∷ xs) ys = ap (λ b. is_eq (cmp k x) || b) (has_key-append cmp k xs ys) ∙ grouped (is_eq (cmp k x)) (has_key cmp k xs) (has_key cmp k ys)
   where

@@ -1,6 +1,8 @@
 pub mod Alike
 pub mod ByName
+pub mod Comparing
 pub mod JsonPieces
+pub mod Permuted
 pub mod Pieces
 pub mod Rows
 pub mod Substrings

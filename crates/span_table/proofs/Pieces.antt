@@ -1,14 +1,21 @@
 -- Lines, from the pieces of which they are made.
-use Rattle.std.proofs.Common.{◌≡◌, ℕ, List, [], ◌∷◌, ◌++◌, map, refl, sym, ap, ◌∙◌, append_assoc}
+use Rattle.std.proofs.Common.{◌≡◌, ℕ, ◌-◌, List, [], ◌∷◌, ◌++◌, map, refl, sym, ap, ◌∙◌, append_assoc, arith}
 use Rattle.std.specs.Prelude.{codes, decimal, flat_map}
 use Rattle.std.specs.List.{join_with_byte}
+use Rattle.std.specs.Ordering.{match_ordering, nat_cmp}
+use Rattle.std.specs.declared.cmp.Ordering.{Ordering}
+use Rattle.std.specs.declared.cmp.Ordering.TheVariants.{Equal}
+use Rattle.std.proofs.lemmas.Cmp.{ranked}
+use Rattle.std.proofs.lemmas.Fmt.{decimal_digit}
 use Rattle.std.proofs.lemmas.List.{append-nil}
 use Rattle.span_event.specs.Text.{Bytes}
 use Rattle.span_report.specs.Lines.{line_of, right_in}
 use Rattle.span_table.specs.declared.column.Column.{Column}
 use Rattle.span_table.specs.declared.table.Row.{Row}
 use Rattle.span_table.specs.Lines.{column_title, value_text}
-use Rattle.span_table.specs.Pieces.{spaced, sums_text, then_title, then_value}
+use Rattle.span_table.specs.Changes.{Change, gap}
+use Rattle.span_table.specs.Comparison.{change_columns, change_line, difference_text}
+use Rattle.span_table.specs.Pieces.{both_text, change_names, spaced, sums_text, then_title, then_value}
 use Rattle.span_table.specs.Ranking.{column_line, ranked_line}
 
 -- parts with a byte between them, from the first and the others with the byte before each
@@ -45,3 +52,40 @@ ranked_line_pieces row = pieces (right_in 16 (decimal row.sums.self_time)) (righ
 pub column_line_pieces : (columns : List Column) → column_line columns ≡ codes "            self            total    count" ++ (flat_map then_title columns ++ 10 ∷ [])
 unfolding column_line
 column_line_pieces columns = pieces (right_in 16 (codes "self")) (right_in 16 (codes "total")) (right_in 8 (codes "count")) column_title columns
+
+-- a line of eight words and then some more
+eight : {A : Type 0} (a b c d e f g h : Bytes) (show : A → Bytes) (xs : List A) →
+    line_of (a ∷ b ∷ c ∷ d ∷ e ∷ f ∷ g ∷ h ∷ map show xs)
+    ≡ ((a ++ (32 ∷ b ++ 32 ∷ c)) ++ 32 ∷ ((d ++ (32 ∷ e ++ 32 ∷ f)) ++ (32 ∷ g ++ 32 ∷ h))) ++ (flat_map (λ x. 32 ∷ show x) xs ++ 10 ∷ [])
+eight a b c d e f g h show xs =
+    line_of-spaced a (b ∷ c ∷ d ∷ e ∷ f ∷ g ∷ h ∷ map show xs)
+    ∙ ap (λ l. a ++ ((32 ∷ (b ++ (32 ∷ (c ++ (32 ∷ (d ++ (32 ∷ (e ++ (32 ∷ (f ++ (32 ∷ (g ++ (32 ∷ (h ++ l)))))))))))))) ++ 10 ∷ [])) (spaced-map show xs)
+    ∙ joined (flat_map (λ x. 32 ∷ show x) xs)
+  where
+    joined : (l : Bytes) → a ++ ((32 ∷ (b ++ (32 ∷ (c ++ (32 ∷ (d ++ (32 ∷ (e ++ (32 ∷ (f ++ (32 ∷ (g ++ (32 ∷ (h ++ l)))))))))))))) ++ 10 ∷ [])
+        ≡ ((a ++ (32 ∷ b ++ 32 ∷ c)) ++ 32 ∷ ((d ++ (32 ∷ e ++ 32 ∷ f)) ++ (32 ∷ g ++ 32 ∷ h))) ++ (l ++ 10 ∷ [])
+    joined l = simp append_assoc refl
+
+-- the line of a change, from its pieces
+pub change_line_pieces : (change : Change) → change_line change ≡ both_text change.both ++ (flat_map then_value change.key ++ 10 ∷ [])
+unfolding change_line
+change_line_pieces change =
+    let base = change.both.base in
+    let other = change.both.other in
+    eight (right_in 16 (difference_text base.self_time other.self_time)) (right_in 16 (decimal base.self_time)) (right_in 16 (decimal other.self_time))
+    (right_in 16 (difference_text base.total other.total)) (right_in 16 (decimal base.total)) (right_in 16 (decimal other.total)) (right_in 8 (decimal base.count)) (right_in 8 (decimal other.count)) value_text change.key
+
+-- the names of a comparison's columns, from their pieces
+pub change_columns_pieces : (columns : List Column) →
+    change_columns columns ≡ change_names ++ (flat_map then_title columns ++ 10 ∷ [])
+unfolding change_columns change_names
+change_columns_pieces columns =
+    eight (right_in 16 (codes "dself")) (right_in 16 (codes "self0")) (right_in 16 (codes "self1")) (right_in 16 (codes "dtotal")) (right_in 16 (codes "total0")) (right_in 16 (codes "total1"))
+    (right_in 8 (codes "count0")) (right_in 8 (codes "count1")) column_title columns
+
+-- numbers that are equal lie no further apart than 0
+pub difference_text-equal : (base other : ℕ) → Equal ≡ nat_cmp base other → decimal (gap base other) ≡ difference_text base other
+difference_text-equal base other tied =
+    let same : base ≡ other = ranked base other Equal tied in
+    let none : gap base other ≡ 0 = omega arith in
+    ap decimal none ∙ decimal_digit 0 (omega arith) ∙ ap (λ (o : Ordering). match_ordering o (codes "+" ++ decimal (other - base)) (codes "0") (codes "-" ++ decimal (base - other))) tied

@@ -1,27 +1,36 @@
--- How what changed is found: for each row of the base, and then for each row of the other whose key the base lacks.
-use Rattle.std.specs.Prelude.{◌≡◌, ℕ, Bool, List, filter, is_none, length, map, Option}
-use Rattle.std.specs.BTreeMap.{is_at}
-use Rattle.std.specs.Map.{lookup}
-use Rattle.span_table.specs.declared.sums.Sums.{Sums}
+-- How what changed is found: key by key of the base, and then of the other where the base lacks it.
+use Rattle.std.specs.Prelude.{◌≡◌, ℕ, Bool, if◌then◌else◌, [], ◌∷◌, List, filter, is_none, length, map, Option}
+use Rattle.std.specs.List.{find}
+use Rattle.std.specs.Ordering.{is_eq}
 use Rattle.span_table.specs.declared.table.Row.{Row}
 use Rattle.span_table.specs.Changes.{Change, compared_at, is_changed, same_count, shown_changes}
 use Rattle.span_table.specs.Keys.{TableKey, key_cmp}
 use Rattle.span_table.specs.Shown.{Wanted}
+use Rattle.span_table.specs.Tables.{sums_together}
 
-abbrev pub entry_of_row : Row → TableKey × Sums
-entry_of_row row = (row.key, row.sums)
+-- the row with this key, if there is one
+abbrev pub found_at : List Row → TableKey → Option Row
+found_at rows key = find (λ (row : Row). is_eq (key_cmp row.key key)) rows
 
--- the sums of the row with this key, if there is one
-abbrev pub found_at : List Row → TableKey → Option Sums
-found_at rows key = lookup (is_at (key_cmp key)) (map entry_of_row rows)
-
--- a row of the base, with what the other has under its key
-abbrev pub from_base : List Row → List Row → Row → Change
-from_base base other row = compared_at base other row.key
+-- the keys of the base
+abbrev pub base_keys : List Row → List Row → List Change
+base_keys base other = map (λ (row : Row). compared_at base other row.key) base
 
 -- the base lacks the key of the row
 abbrev pub is_new : List Row → Row → Bool
 is_new base row = is_none (found_at base row.key)
+
+-- a key that only the other has
+abbrev pub from_other : Row → Change
+from_other row = record { key = row.key; both = record { base = sums_together []; other = row.sums } }
+
+-- the key of a row of the other, where the base lacks it
+abbrev pub new_key : List Row → Row → List Change
+new_key base row = if is_new base row then from_other row ∷ [] else []
+
+-- the keys of the other that the base lacks
+abbrev pub new_keys : List Row → List Row → List Change
+new_keys base other = map (λ (row : Row). compared_at base other row.key) (filter (is_new base) other)
 
 -- what is told of so many keys: those that are shown and changed, how many that are shown did not, and how many keys there are
 pub record Tells (wanted : Wanted) (keys : List Change) (told : List Change) (unchanged count : ℕ) : Type 0 where

@@ -1,5 +1,5 @@
 -- The pieces of lines, in the order in which they are appended.
-use Rattle.std.specs.Prelude.{ℕ, List, ◌∷◌, ◌++◌, flat_map, decimal}
+use Rattle.std.specs.Prelude.{ℕ, List, ◌∷◌, ◌++◌, flat_map, codes, decimal}
 use Rattle.span_event.specs.Text.{Bytes}
 use Rattle.span_report.specs.Lines.{right_in}
 use Rattle.span_table.specs.declared.changes.Both.{Both}
@@ -36,3 +36,7 @@ times_text base other = right_in 16 (difference_text base other) ++ (then_right 
 abbrev pub both_text : Both → Bytes
 both_text both =
     times_text both.base.self_time both.other.self_time ++ (32 ∷ (times_text both.base.total both.other.total ++ (then_right 8 (decimal both.base.count) ++ then_right 8 (decimal both.other.count))))
+
+-- the names of the numbers of a change
+unfoldable pub change_names : Bytes
+change_names = codes "           dself            self0            self1           dtotal           total0           total1   count0   count1"

@@ -1,15 +1,14 @@
 //! What changed between two tables of the same columns.
-ghost use Rattle.std.specs.Prelude.{◌≡◌, ◌++◌, filter, length, map, IfOk, OnOk};
-ghost use Rattle.span_table.specs.Changed.{Tells, found_at, from_base, is_new};
-ghost use Rattle.span_table.specs.Changes.{change_order, changes_of, compared, gap_by, is_changed, is_same, same_count, shown_changes, sums_at};
-ghost use Rattle.span_table.specs.Shown.{is_wanted};
+ghost use Rattle.std.specs.Prelude.{◌≡◌, ◌++◌, ◌∷◌, [], ◌<◌, ◌≤◌, ◌+◌, ◌-◌, ◌^◌, List, length, option_copied, IfOk, OnOk};
+ghost use Rattle.span_table.specs.Changed.{Tells, base_keys, found_at, new_key, new_keys};
+ghost use Rattle.span_table.specs.Changes.{Change, change_order, changes_of, compared, gap_by, is_changed, same_count, shown_changes, sums_at};
 ghost use Rattle.span_table.specs.Tables.{RowsRise};
 
 use crate::key::Key;
 use crate::shown::Shown;
 use crate::sum::Sum;
 use crate::sums::{By, Sums};
-use crate::table::{Row, Table};
+use crate::table::Row;
 use std::alloc::{AllocError, Global};
 use std::cmp::Ordering;
 use std::marker::Model;
@@ -66,11 +65,169 @@ impl<'a> Changed<'a> {
     }
 }
 
-/// What a comparison tells of two tables: the keys that are shown and of which a number differs, how many others of these there
-/// are, and how many keys in all.
+/// Two tables, compared: the keys that are shown and of which a number differs, how many others of these there are, and how many
+/// keys are shown and how many there are.
 #[derive(Drop)]
-pub(crate) struct Differences<'a> {
+pub(crate) struct ComparedTables<'a> {
     pub(crate) changes: Vec<Changed<'a>>,
-    pub(crate) same: usize,
-    pub(crate) all: usize,
+    pub(crate) same: u128,
+    pub(crate) shown: u128,
+    pub(crate) all: u128,
+}
+
+// What is told of the keys so far.
+#[derive(Drop)]
+struct Told<'a> {
+    changes: Vec<Changed<'a>>,
+    same: u128,
+    all: u128,
+}
+
+/// What changed from the base to the other, the greatest change of a number first.
+pub(crate) fn differences<'a>(
+    alloc: Global,
+    base: &'a [Row],
+    other: &'a [Row],
+    shown: &Shown,
+    by: By,
+) -> Result<ComparedTables<'a>, AllocError>
+    requires base { RowsRise base.now }
+    requires other { RowsRise other.now }
+    ensures changes { IfOk result (λ found. found.changes.items
+        ≡ changes_of by (shown_changes shown.now (compared base.now other.now))) }
+    ensures same { IfOk result (λ found. found.same
+        ≡ same_count (shown_changes shown.now (compared base.now other.now))) }
+    ensures shown { IfOk result (λ found. found.shown
+        ≡ length (shown_changes shown.now (compared base.now other.now))) }
+    ensures all { IfOk result (λ found. found.all ≡ length (compared base.now other.now)) }
+{
+    let mut found = Told {
+        changes: Vec::new(alloc),
+        same: 0,
+        all: 0,
+    };
+    tell_base(&mut found, base, other, shown)?;
+    tell_new(&mut found, base, other, shown)?;
+    let Told {
+        mut changes,
+        same,
+        all,
+    } = found;
+    let shown = changes.len() as u128 + same;
+    changes.sort_unstable_by(|a, b| a.compare(b, by));
+    Ok(ComparedTables {
+        changes,
+        same,
+        shown,
+        all,
+    })
+}
+
+// Tells of each key of the base.
+fn tell_base<'a>(
+    found: &mut Told<'a>,
+    base: &'a [Row],
+    other: &[Row],
+    shown: &Shown,
+) -> Result<(), AllocError>
+    requires base { RowsRise base.now }
+    requires other { RowsRise other.now }
+    requires nothing { Tells shown.now [] found.old.changes.items found.old.same found.old.all }
+    ensures told { OnOk result (Tells shown.now (base_keys base.now other.now) found.new.changes.items found.new.same found.new.all) }
+    ensures few { OnOk result (found.new.all < 2 ^ 64) }
+{
+    for row in base {
+        let both = Both {
+            base: row.sums,
+            other: sums_at(other, &row.key),
+        };
+        let key = &row.key;
+        tell(found, Changed { key, both }, shown)?;
+    }
+    Ok(())
+}
+
+// Tells of each key of the other that the base lacks.
+fn tell_new<'a>(
+    found: &mut Told<'a>,
+    base: &[Row],
+    other: &'a [Row],
+    shown: &Shown,
+) -> Result<(), AllocError>
+    requires base { RowsRise base.now }
+    requires other { RowsRise other.now }
+    requires told { Tells shown.now (base_keys base.now other.now) found.old.changes.items found.old.same found.old.all }
+    requires few { found.old.all < 2 ^ 64 }
+    ensures told { OnOk result (Tells shown.now (base_keys base.now other.now ++ new_keys base.now other.now) found.new.changes.items found.new.same found.new.all) }
+    ensures few { OnOk result (found.new.all < 2 ^ 65) }
+{
+    for row in other {
+        tell_if_new(found, base, row, shown)?;
+    }
+    Ok(())
+}
+
+fn tell_if_new<'a>(
+    found: &mut Told<'a>,
+    base: &[Row],
+    row: &'a Row,
+    shown: &Shown,
+) -> Result<(), AllocError>
+    requires base { RowsRise base.now }
+    requires same { found.old.same < 2 ^ 128 - 1 }
+    requires all { found.old.all < 2 ^ 128 - 1 }
+    ensures few { OnOk result (found.new.all ≤ found.old.all + 1) }
+    ensures told { OnOk result ((keys : List Change) → Tells shown.now keys found.old.changes.items found.old.same found.old.all
+        → Tells shown.now (keys ++ new_key base.now row.now) found.new.changes.items found.new.same found.new.all) }
+{
+    if find(base, &row.key).is_some() {
+        return Ok(());
+    }
+    let both = Both {
+        base: Sums::of_none(),
+        other: row.sums,
+    };
+    let key = &row.key;
+    tell(found, Changed { key, both }, shown)
+}
+
+fn tell<'a>(found: &mut Told<'a>, changed: Changed<'a>, shown: &Shown) -> Result<(), AllocError>
+    requires same { found.old.same < 2 ^ 128 - 1 }
+    requires all { found.old.all < 2 ^ 128 - 1 }
+    ensures few { OnOk result (found.new.all ≤ found.old.all + 1) }
+    ensures told { OnOk result ((keys : List Change) → Tells shown.now keys found.old.changes.items found.old.same found.old.all
+        → Tells shown.now (keys ++ changed.entry ∷ []) found.new.changes.items found.new.same found.new.all) }
+{
+    found.all += 1;
+    if !shown.has(changed.key) {
+        return Ok(());
+    }
+    if changed.is_changed() {
+        found.changes.push(changed)?;
+    } else {
+        found.same += 1;
+    }
+    Ok(())
+}
+
+// What rows have under a key; zeros where none has it.
+fn sums_at(rows: &[Row], key: &Key) -> Sums
+    requires { RowsRise rows.now }
+    ensures { result ≡ sums_at rows.now key.now }
+{
+    match find(rows, key) {
+        Some(row) => row.sums,
+        None => Sums::of_none(),
+    }
+}
+
+// The row with this key.
+fn find<'a>(rows: &'a [Row], key: &Key) -> Option<&'a Row>
+    requires { RowsRise rows.now }
+    ensures { option_copied result ≡ found_at rows.now key.now }
+{
+    match rows.binary_search_by(|row| row.key.cmp(key)) {
+        Ok(i) => Some(&rows[i]),
+        Err(_) => None,
+    }
 }

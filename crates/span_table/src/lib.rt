@@ -5,6 +5,7 @@
 mod changes;
 mod collected;
 mod column;
+mod comparisons;
 mod groups;
 mod json_lines;
 mod key;
@@ -17,6 +18,7 @@ mod table;
 
 pub use changes::Both;
 pub use column::Column;
+pub use comparisons::comparison;
 pub use json_lines::{JsonFault, json_table};
 pub use key::Key;
 pub use rankings::ranking;

@@ -104,8 +104,8 @@ fn unquoted(json: &str) -> &str
 pub(crate) fn put_shown(
     out: &mut String,
     wanted: &Shown,
-    shown: usize,
-    all: usize,
+    shown: u128,
+    all: u128,
 ) -> Result<(), AllocError>
     ensures { OnOk result (string_bytes out.new ≡ string_bytes out.old ++ shown_line wanted.now shown all) }
 {

@@ -31,7 +31,12 @@ pub fn ranking(
 {
     let mut out = head(alloc, table.head().counts)?;
     let rows = shown.rows(alloc, table.rows())?;
-    put_shown(&mut out, shown, rows.len(), table.rows().len())?;
+    put_shown(
+        &mut out,
+        shown,
+        rows.len() as u128,
+        table.rows().len() as u128,
+    )?;
     put_columns(alloc, &mut out, table.columns())?;
     let rows = in_order(rows, by);
     put_first(alloc, &mut out, &rows, most)?;

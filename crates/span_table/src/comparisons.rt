@@ -1,0 +1,144 @@
+//! The text of a comparison of two tables.
+ghost use Rattle.std.specs.Prelude.{◌≡◌, ◌++◌, decimal, string_bytes, flat_map, OnOk, IfOk};
+ghost use Rattle.span_table.specs.Comparison.{base_lines, change_columns, change_line, comparison_of, difference_text, other_lines, same_line};
+ghost use Rattle.span_table.specs.Pieces.{both_text, change_names, then_right, times_text};
+
+use crate::changes::{Both, Changed, differences};
+use crate::column::Column;
+use crate::lines::{put_right, put_shown, put_titles, put_values};
+use crate::shown::Shown;
+use crate::sum::Sum;
+use crate::sums::By;
+use crate::table::Table;
+use span_ledger::CountRow;
+use span_report::{first_line, put_counts, put_seals};
+use std::alloc::{AllocError, Global};
+use std::cmp::Ordering;
+
+const COLUMNS: &str =
+    "           dself            self0            self1           dtotal           total0           total1   count0   count1";
+
+/// The text of the comparison of two tables of the same columns: of the keys that are shown those of which a number differs, the greatest
+/// change of this number first.
+pub fn comparison(
+    alloc: Global,
+    base: &Table,
+    other: &Table,
+    shown: &Shown,
+    by: By,
+) -> Result<Vec<u8>, AllocError>
+    ensures { IfOk result (λ text. text.items ≡ comparison_of by shown.now base.now other.now) }
+{
+    let mut out = first_line(alloc)?;
+    put_base(&mut out, base.head().counts)?;
+    put_other(&mut out, other.head().counts)?;
+    let found = differences(alloc, base.rows(), other.rows(), shown, by)?;
+    put_shown(&mut out, shown, found.shown, found.all)?;
+    put_columns(alloc, &mut out, other.columns())?;
+    put_changes(alloc, &mut out, &found.changes)?;
+    put_same(&mut out, found.same)?;
+    Ok(out.into_bytes())
+}
+
+fn put_base(out: &mut String, counts: CountRow) -> Result<(), AllocError>
+    ensures { OnOk result (string_bytes out.new ≡ string_bytes out.old ++ base_lines counts) }
+{
+    out.push_str("base ")?;
+    put_counts(out, counts)?;
+    if counts.seals == 0 {
+        return Ok(());
+    }
+    out.push_str("base ")?;
+    put_seals(out, counts.seals)
+}
+
+fn put_other(out: &mut String, counts: CountRow) -> Result<(), AllocError>
+    ensures { OnOk result (string_bytes out.new ≡ string_bytes out.old ++ other_lines counts) }
+{
+    put_counts(out, counts)?;
+    put_seals(out, counts.seals)
+}
+
+#[tactic(auto, using(crate::proofs::Pieces::change_columns_pieces, std::proofs::Common::append_assoc))]
+fn put_columns(alloc: Global, out: &mut String, columns: &[Column]) -> Result<(), AllocError>
+    ensures { OnOk result (string_bytes out.new ≡ string_bytes out.old ++ change_columns columns.now) }
+{
+    put_names(out)?;
+    put_titles(alloc, out, columns)?;
+    out.push('\n')
+}
+
+#[tactic(auto, unfolding(crate::specs::Pieces::change_names))]
+fn put_names(out: &mut String) -> Result<(), AllocError>
+    ensures { OnOk result (string_bytes out.new ≡ string_bytes out.old ++ change_names) }
+{
+    out.push_str(COLUMNS)
+}
+
+fn put_changes(alloc: Global, out: &mut String, changes: &[Changed]) -> Result<(), AllocError>
+    ensures { OnOk result (string_bytes out.new ≡ string_bytes out.old ++ flat_map change_line changes.now) }
+{
+    for change in changes {
+        put_change(alloc, out, change)?;
+    }
+    Ok(())
+}
+
+#[tactic(auto, using(crate::proofs::Pieces::change_line_pieces, std::proofs::Common::append_assoc))]
+fn put_change(alloc: Global, out: &mut String, change: &Changed) -> Result<(), AllocError>
+    ensures { OnOk result (string_bytes out.new ≡ string_bytes out.old ++ change_line change.now) }
+{
+    put_both(alloc, out, &change.both)?;
+    put_values(alloc, out, change.key.values())?;
+    out.push('\n')
+}
+
+#[tactic(auto, using(std::proofs::Common::append_assoc))]
+fn put_both(alloc: Global, out: &mut String, both: &Both) -> Result<(), AllocError>
+    ensures { OnOk result (string_bytes out.new ≡ string_bytes out.old ++ both_text both.now) }
+{
+    let (base, other) = (&both.base, &both.other);
+    put_times(alloc, out, &base.self_time, &other.self_time)?;
+    out.push(' ')?;
+    put_times(alloc, out, &base.total, &other.total)?;
+    put_count(alloc, out, &base.count)?;
+    put_count(alloc, out, &other.count)
+}
+
+// How far two sums of times lie apart, and the sums.
+#[tactic(auto, using(std::proofs::Common::append_assoc))]
+fn put_times(alloc: Global, out: &mut String, base: &Sum, other: &Sum) -> Result<(), AllocError>
+    ensures { OnOk result (string_bytes out.new ≡ string_bytes out.old ++ times_text base.now other.now) }
+{
+    put_right(out, 16, &difference(alloc, base, other)?)?;
+    out.push(' ')?;
+    put_right(out, 16, &base.shown(alloc)?)?;
+    out.push(' ')?;
+    put_right(out, 16, &other.shown(alloc)?)
+}
+
+#[tactic(auto, using(std::proofs::Common::append_assoc))]
+fn put_count(alloc: Global, out: &mut String, count: &Sum) -> Result<(), AllocError>
+    ensures { OnOk result (string_bytes out.new ≡ string_bytes out.old ++ then_right 8 (decimal count.now)) }
+{
+    out.push(' ')?;
+    put_right(out, 8, &count.shown(alloc)?)
+}
+
+fn difference(alloc: Global, base: &Sum, other: &Sum) -> Result<String, AllocError>
+    ensures { IfOk result (λ text. string_bytes text ≡ difference_text base.now other.now) }
+{
+    let apart = base.gap(other).shown(alloc)?;
+    match base.compare(other) {
+        Ordering::Less => format!(in alloc; "+{apart}"),
+        Ordering::Equal => Ok(apart),
+        Ordering::Greater => format!(in alloc; "-{apart}"),
+    }
+}
+
+#[tactic(auto, unfolding(crate::specs::Comparison::same_line))]
+fn put_same(out: &mut String, count: u128) -> Result<(), AllocError>
+    ensures { OnOk result (string_bytes out.new ≡ string_bytes out.old ++ same_line count) }
+{
+    writeln!(out, "same {count}")
+}
