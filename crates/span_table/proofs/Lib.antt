@@ -1,3 +1,4 @@
+pub mod AddedTables
 pub mod Alike
 pub mod ByName
 pub mod Comparing
@@ -5,6 +6,7 @@ pub mod JsonPieces
 pub mod Permuted
 pub mod Pieces
 pub mod Rows
+pub mod SameTables
 pub mod Substrings
 pub mod SumText
 pub mod Summing

@@ -8,6 +8,7 @@ pub mod Json
 pub mod JsonPieces
 pub mod KeyLaws
 pub mod Keys
+pub mod Laws
 pub mod Lines
 pub mod Pieces
 pub mod Ranking

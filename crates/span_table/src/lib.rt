@@ -9,6 +9,7 @@ mod comparisons;
 mod groups;
 mod json_lines;
 mod key;
+pub mod laws;
 mod lines;
 mod rankings;
 mod shown;

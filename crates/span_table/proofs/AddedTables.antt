@@ -1,0 +1,186 @@
+-- Tables are added, and lose nothing by it.
+use Rattle.std.proofs.Common.{◌≡◌, ℕ, ◌+◌, ◌||◌, List, [], ◌∷◌, ◌++◌, Option, Some, None, map, refl, sym, ap, ap₂, subst, ◌∙◌}
+use Rattle.std.specs.Prelude.{flat_map, slice_get, sum_by}
+use Rattle.std.specs.List.{cons_option, list_any}
+use Rattle.std.specs.List.Sorted.{IsPermutation}
+use Rattle.std.specs.Option.{option_map}
+use Rattle.std.proofs.lemmas.Grind.{flat_map-append}
+use Rattle.std.proofs.lemmas.List.{map-append, map-id}
+use Rattle.std.proofs.lemmas.List.Sorted.{IsPermutation-map, list_any-IsPermutation, sum_by-IsPermutation}
+use Rattle.std.proofs.lemmas.List.Sums.{sum_by-append, sum_by-cons}
+use Rattle.std.proofs.lemmas.Option.{slice_get-map}
+use Rattle.std.proofs.lemmas.Simd.{map-map}
+use Rattle.span_event.specs.declared.thread.Thread.{Thread}
+use Rattle.span_keyed_tracks.specs.Keyed.{Keyed, keys_in, steps_at}
+use Rattle.span_keyed_tracks.proofs.Keyed.{has_key}
+use Rattle.span_keyed_tracks.proofs.SameKeys.{step_keys}
+use Rattle.span_ledger.specs.declared.entry.Entry.{Entry}
+use Rattle.span_ledger.specs.declared.rows.CountRow.{CountRow}
+use Rattle.span_ledger.specs.Journal.{accepted}
+use Rattle.span_ledger.specs.Rows.{thread_keys}
+use Rattle.span_ledger.specs.Timed.{Timed, timed_spans}
+use Rattle.span_self_time.proofs.Mapped.{sum_by-map}
+use Rattle.span_table.specs.declared.column.Column.{Column}
+use Rattle.span_table.specs.declared.sums.Sums.{Sums}
+use Rattle.span_table.specs.declared.table.Head.{Head}
+use Rattle.span_table.specs.declared.table.Row.{Row}
+use Rattle.span_table.specs.Adding.{AddingLosesNothing, DroppingAdds, OrderIsNothing, keyed_by, keyed_rows, picked}
+use Rattle.span_table.specs.Columns.{value_at}
+use Rattle.span_table.specs.KeyLaws.{key_cmp_total, key_cmp-same}
+use Rattle.span_table.specs.Keys.{TableKey, key_cmp}
+use Rattle.span_table.specs.Tables.{KeyedSums, Run, SpanTable, head_of, heads_together, journal_sums, keyed_span, row_of, rows_of, sums_together, table_of, thread_sums}
+use Rattle.span_table.proofs.Alike.{AddUpAlike, AddUpAlike-flat_map, AddUpAlike-grouped, has_key-append, summed-alike}
+use Rattle.span_table.proofs.Tallies.{made_of, tally, tally-append, under}
+
+-- sums that add up alike give the same rows
+rows_of-alike : (es fs : KeyedSums) → AddUpAlike es fs → rows_of es ≡ rows_of fs
+rows_of-alike es fs alike = ap (map row_of) (summed-alike es fs alike)
+
+flat_map-map : {A B C : Type 0} (f : B → List C) (g : A → B) (xs : List A) → flat_map f (map g xs) ≡ flat_map (λ x. f (g x)) xs
+flat_map-map f g [] = refl
+flat_map-map f g (x ∷ xs) = ap (λ l. f (g x) ++ l) (flat_map-map f g xs)
+
+flat_map-flat_map : {A B C : Type 0} (f : B → List C) (g : A → List B) (xs : List A) → flat_map f (flat_map g xs) ≡ flat_map (λ x. flat_map f (g x)) xs
+flat_map-flat_map f g [] = refl
+flat_map-flat_map f g (x ∷ xs) = flat_map-append f (g x) (flat_map g xs) ∙ ap (λ l. flat_map f (g x) ++ l) (flat_map-flat_map f g xs)
+
+map-flat_map : {A B C : Type 0} (f : B → C) (g : A → List B) (xs : List A) → map f (flat_map g xs) ≡ flat_map (λ x. map f (g x)) xs
+map-flat_map f g [] = refl
+map-flat_map f g (x ∷ xs) = map-append f (g x) (flat_map g xs) ∙ ap (λ l. map f (g x) ++ l) (map-flat_map f g xs)
+
+-- sums put together by key, each under another key
+abbrev regrouped : (TableKey → TableKey) → KeyedSums → KeyedSums
+regrouped g es = map (under g) (map (made_of (λ k. sums_together (steps_at key_cmp k es))) (keys_in key_cmp es))
+
+-- so are rows, where each goes under another key
+rows-regrouped : (g : TableKey → TableKey) (es : KeyedSums) → map (λ (row : Row). record { key = g row.key; step = row.sums }) (rows_of es) ≡ regrouped g es
+rows-regrouped g es = keys (keys_in key_cmp es)
+  where
+    keys : (ks : List TableKey) → map (λ (row : Row). record { key = g row.key; step = row.sums }) (map row_of (map (λ k. (k, sums_together (steps_at key_cmp k es))) ks)) ≡ map (under g) (map (made_of (λ k. sums_together (steps_at key_cmp k es))) ks)
+    keys [] = refl
+    keys (k ∷ ks) = ap (λ l. record { key = g k; step = sums_together (steps_at key_cmp k es) } ∷ l) (keys ks)
+
+-- the rows of sums add up as these do
+rows-back : (es : KeyedSums) → AddUpAlike (keyed_rows (rows_of es)) es
+rows-back es =
+    subst (λ l. AddUpAlike l es) (sym (rows-regrouped (λ k. k) es))
+    (subst (AddUpAlike (regrouped (λ k. k) es)) (map-id es) (AddUpAlike-grouped key_cmp_total key_cmp-same (λ k. k) es))
+
+abbrev run_sums : List Column → Run → KeyedSums
+run_sums columns run = journal_sums columns run.journal
+
+-- a number of heads that are added is that of these together
+module _ (f : Head → ℕ) (adds : (heads : List Head) → f (heads_together heads) ≡ sum_by f heads) where
+  number-parts : (parts : List (List Run)) → f (heads_together (map (λ part. heads_together (map head_of part)) parts)) ≡ f (heads_together (map head_of (flat_map (λ part. part) parts)))
+  number-parts parts = adds (map (λ part. heads_together (map head_of part)) parts) ∙ each parts ∙ sym (adds (map head_of (flat_map (λ part. part) parts)))
+    where
+      each : (parts : List (List Run)) → sum_by f (map (λ part. heads_together (map head_of part)) parts) ≡ sum_by f (map head_of (flat_map (λ part. part) parts))
+      each [] = refl
+      each (part ∷ parts) =
+          sum_by-cons f (heads_together (map head_of part)) (map (λ part. heads_together (map head_of part)) parts)
+          ∙ ap₂ (λ a b. a + b) (adds (map head_of part)) (each parts)
+          ∙ sym (ap (sum_by f) (map-append head_of part (flat_map (λ part. part) parts)) ∙ sum_by-append f (map head_of part) (map head_of (flat_map (λ part. part) parts)))
+
+-- heads, where each number of them is the same
+head-same : (a b : Head) → ((f : Head → ℕ) → ((heads : List Head) → f (heads_together heads) ≡ sum_by f heads) → f a ≡ f b) → a ≡ b
+head-same a b same =
+    let runs = same (λ (h : Head). h.runs) (λ heads. refl) in
+    let files = same (λ (h : Head). h.files) (λ heads. refl) in
+    let unread = same (λ (h : Head). h.unread) (λ heads. refl) in
+    let accepted_count = same (λ (h : Head). h.counts.accepted) (sum_by-map (λ (row : CountRow). row.accepted) (λ (h : Head). h.counts)) in
+    let refused = same (λ (h : Head). h.counts.refused) (sum_by-map (λ (row : CountRow). row.refused) (λ (h : Head). h.counts)) in
+    let skipped = same (λ (h : Head). h.counts.skipped) (sum_by-map (λ (row : CountRow). row.skipped) (λ (h : Head). h.counts)) in
+    let queries = same (λ (h : Head). h.counts.queries) (sum_by-map (λ (row : CountRow). row.queries) (λ (h : Head). h.counts)) in
+    let seals = same (λ (h : Head). h.counts.seals) (sum_by-map (λ (row : CountRow). row.seals) (λ (h : Head). h.counts)) in
+    λ i. record {
+      runs = runs i;
+      files = files i;
+      unread = unread i;
+      counts = record { accepted = accepted_count i; refused = refused i; skipped = skipped i; queries = queries i; seals = seals i };
+    }
+
+-- the tables of lists of runs, added, are the table of all these runs together
+pub add_tables-parts : AddingLosesNothing
+add_tables-parts columns parts = λ i. record { columns = columns; head = heads i; rows = rows i }
+  where
+    heads : heads_together (map (λ (table : SpanTable). table.head) (map (table_of columns) parts)) ≡ heads_together (map head_of (flat_map (λ part. part) parts))
+    heads = ap heads_together (map-map (λ (table : SpanTable). table.head) (table_of columns) parts)
+        ∙ head-same (heads_together (map (λ part. heads_together (map head_of part)) parts)) (heads_together (map head_of (flat_map (λ part. part) parts))) (λ f adds. number-parts f adds parts)
+
+    rows : rows_of (flat_map (λ (table : SpanTable). keyed_rows table.rows) (map (table_of columns) parts)) ≡ rows_of (flat_map (run_sums columns) (flat_map (λ part. part) parts))
+    rows = ap rows_of (flat_map-map (λ (table : SpanTable). keyed_rows table.rows) (table_of columns) parts)
+        ∙ rows_of-alike (flat_map (λ part. keyed_rows (rows_of (flat_map (run_sums columns) part))) parts) (flat_map (λ part. flat_map (run_sums columns) part) parts)
+        (AddUpAlike-flat_map (λ part. keyed_rows (rows_of (flat_map (run_sums columns) part))) (λ part. flat_map (run_sums columns) part) (λ part. rows-back (flat_map (run_sums columns) part)) parts)
+        ∙ ap rows_of (sym (flat_map-flat_map (run_sums columns) (λ part. part) parts))
+
+picked-map : {A B : Type 0} (f : A → B) (xs : List A) (ps : List ℕ) → picked ps (map f xs) ≡ map f (picked ps xs)
+picked-map f xs [] = refl
+picked-map {A = A} f xs (p ∷ ps) = ap₂ cons_option (slice_get-map f xs p) (picked-map f xs ps) ∙ by (slice_get xs p) (picked ps xs)
+  where
+    by : (o : Option A) (l : List A) → cons_option (option_map f o) (map f l) ≡ map f (cons_option o l)
+    by None l = refl
+    by (Some x) l = refl
+
+module _ (places : List ℕ) (columns : List Column) where
+  thread_picked : (journal : List Entry) (thread : Thread) → map (under (picked places)) (thread_sums columns journal thread) ≡ thread_sums (picked places columns) journal thread
+  thread_picked journal thread =
+      map-map (under (picked places)) (keyed_span columns journal thread) (timed_spans journal thread)
+      ∙ (λ i. map (λ (t : Timed). record { key = picked-map (value_at journal thread t.span.name t.span.args) columns places i; step = (keyed_span columns journal thread t).step }) (timed_spans journal thread))
+
+  run_picked : (run : Run) → map (under (picked places)) (run_sums columns run) ≡ run_sums (picked places columns) run
+  run_picked run =
+      map-flat_map (under (picked places)) (thread_sums columns run.journal) (thread_keys (accepted run.journal))
+      ∙ (λ i. flat_map (λ thread. thread_picked run.journal thread i) (thread_keys (accepted run.journal)))
+
+  rows-picked : (runs : List Run) → rows_of (map (keyed_by places) (rows_of (flat_map (run_sums columns) runs))) ≡ rows_of (flat_map (run_sums (picked places columns)) runs)
+  rows-picked runs =
+      ap rows_of (rows-regrouped (picked places) (flat_map (run_sums columns) runs))
+      ∙ rows_of-alike (regrouped (picked places) (flat_map (run_sums columns) runs)) (map (under (picked places)) (flat_map (run_sums columns) runs)) (AddUpAlike-grouped key_cmp_total key_cmp-same (picked places) (flat_map (run_sums columns) runs))
+      ∙ ap rows_of (map-flat_map (under (picked places)) (run_sums columns) runs ∙ (λ i. flat_map (λ run. run_picked run i) runs))
+
+-- a table by fewer columns is the table by more, with the others dropped
+pub table_of-picked : DroppingAdds
+table_of-picked places columns runs = λ i. record { columns = picked places columns; head = heads_together (map head_of runs); rows = rows-picked places columns runs i }
+
+-- what adds up over runs is the same in whatever order they come
+module _ (F : Run → KeyedSums) (k : TableKey) where
+  keys-each : (runs : List Run) → has_key key_cmp k (step_keys (flat_map F runs)) ≡ list_any (λ run. has_key key_cmp k (step_keys (F run))) runs
+  keys-each [] = refl
+  keys-each (run ∷ runs) =
+      ap (has_key key_cmp k) (map-append (λ (e : Keyed TableKey Sums). e.key) (F run) (flat_map F runs)) ∙ has_key-append key_cmp k (step_keys (F run)) (step_keys (flat_map F runs))
+      ∙ ap (λ b. has_key key_cmp k (step_keys (F run)) || b) (keys-each runs)
+
+  tally-each : (f : Sums → ℕ) (runs : List Run) → tally key_cmp f k (flat_map F runs) ≡ sum_by (λ run. tally key_cmp f k (F run)) runs
+  tally-each f [] = refl
+  tally-each f (run ∷ runs) =
+      tally-append key_cmp f k (F run) (flat_map F runs) ∙ ap (λ n. tally key_cmp f k (F run) + n) (tally-each f runs)
+      ∙ sym (sum_by-cons (λ run. tally key_cmp f k (F run)) run runs)
+
+  module _ (runs other : List Run) (moved : IsPermutation runs other) where
+    keys-moved : has_key key_cmp k (step_keys (flat_map F runs)) ≡ has_key key_cmp k (step_keys (flat_map F other))
+    keys-moved = keys-each runs ∙ list_any-IsPermutation (λ run. has_key key_cmp k (step_keys (F run))) runs other moved ∙ sym (keys-each other)
+
+    tally-moved : (f : Sums → ℕ) → tally key_cmp f k (flat_map F runs) ≡ tally key_cmp f k (flat_map F other)
+    tally-moved f = tally-each f runs ∙ sym (sum_by-IsPermutation (λ run. tally key_cmp f k (F run)) runs other moved) ∙ sym (tally-each f other)
+
+    sums-moved : sums_together (steps_at key_cmp k (flat_map F runs)) ≡ sums_together (steps_at key_cmp k (flat_map F other))
+    sums-moved =
+        let count = tally-moved (λ (s : Sums). s.count) in
+        let total = tally-moved (λ (s : Sums). s.total) in
+        let self_time = tally-moved (λ (s : Sums). s.self_time) in
+        λ i. record { count = count i; total = total i; self_time = self_time i }
+
+-- a table is the same for runs in whatever order
+pub table_of-moved : OrderIsNothing
+table_of-moved columns runs other moved = λ i. record { columns = columns; head = heads i; rows = rows i }
+  where
+    heads : heads_together (map head_of runs) ≡ heads_together (map head_of other)
+    heads = head-same (heads_together (map head_of runs)) (heads_together (map head_of other))
+        (λ f adds. adds (map head_of runs) ∙ sym (sum_by-IsPermutation f (map head_of runs) (map head_of other) (IsPermutation-map head_of runs other moved)) ∙ sym (adds (map head_of other)))
+
+    rows : rows_of (flat_map (run_sums columns) runs) ≡ rows_of (flat_map (run_sums columns) other)
+    rows = rows_of-alike (flat_map (run_sums columns) runs) (flat_map (run_sums columns) other) (record {
+      there = λ k h. sym (keys-moved (run_sums columns) k runs other moved) ∙ h;
+      back = λ k h. keys-moved (run_sums columns) k runs other moved ∙ h;
+      sums = λ k. sums-moved (run_sums columns) k runs other moved;
+    })

@@ -1,0 +1,98 @@
+-- The table of runs follows from their counts, and from the acts on each process.
+use Rattle.std.proofs.Common.{◌≡◌, ℕ, List, [], ◌∷◌, ◌++◌, map, refl, sym, ap, ◌∙◌, ◌&&◌, ◌||◌, int_lt, Some, None}
+use Rattle.std.specs.Prelude.{flat_map}
+use Rattle.std.specs.Option.{option_map}
+use Rattle.std.specs.Ordering.{int_eq}
+use Rattle.std.proofs.lemmas.List.{map-id}
+use Rattle.std.proofs.lemmas.Simd.{map-map}
+use Rattle.span_event.specs.declared.args.ArgValue.TheVariants.{Words}
+use Rattle.span_event.specs.declared.thread.Thread.{Thread}
+use Rattle.span_event.specs.Args.{Arguments}
+use Rattle.span_event.specs.Text.{Bytes}
+use Rattle.span_ledger.specs.declared.entry.Entry.{Entry}
+use Rattle.span_ledger.specs.declared.rows.ThreadRow.{ThreadRow}
+use Rattle.span_ledger.specs.Journal.{accepted}
+use Rattle.span_keyed_tracks.specs.Meta.{Names}
+use Rattle.span_ledger.specs.Rows.{thread_keys, thread_row}
+use Rattle.span_ledger.specs.Timed.{Timed, timed_in, with_self_times}
+use Rattle.span_ledger.specs.Told.{thread_events}
+use Rattle.span_ledger.specs.Topics.{AreAlike, of_process}
+use Rattle.span_ledger.proofs.Topics.Rows.{rows-follow, values-follow}
+use Rattle.span_ledger.proofs.Topics.Threads.{thread_events-alike}
+use Rattle.span_self_time.specs.Positions.{Rises, renumbered_span}
+use Rattle.span_self_time.specs.Spans.{Span, length_of, outranks}
+use Rattle.span_self_time.proofs.Mapped.{self_time-map}
+use Rattle.span_track.specs.Nesting.{closed_spans}
+use Rattle.span_track.proofs.Threads.Renumbering.{closed_spans-renumbered}
+use Rattle.span_table.specs.declared.column.Column.{Column}
+use Rattle.span_table.specs.declared.column.Column.TheVariants.{Pid, Tid, Process, Thread as OfThread, Name, Argument}
+use Rattle.span_table.specs.Columns.{value_at}
+use Rattle.span_table.specs.Laws.{AreAlikeRuns, AreAllAlike, TablesFollowFromActs}
+use Rattle.span_table.specs.Tables.{Run, head_of, heads_together, journal_sums, keyed_span, rows_of, thread_sums}
+
+module _ (journal other : List Entry) (alike : AreAlike journal other) where
+  value_at-alike : (thread : Thread) (name : Bytes) (args : Arguments) (column : Column) → value_at journal thread name args column ≡ value_at other thread name args column
+  value_at-alike thread name args Pid = refl
+  value_at-alike thread name args Tid = refl
+  value_at-alike thread name args Process = ap (λ (n : Names). option_map Words n.name) ((values-follow (of_process thread.pid) journal other (alike.acts (of_process thread.pid))).names None)
+  value_at-alike thread name args OfThread = ap (λ (n : Names). option_map Words n.name) ((values-follow (of_process thread.pid) journal other (alike.acts (of_process thread.pid))).names (Some thread.tid))
+  value_at-alike thread name args Name = refl
+  value_at-alike thread name args (Argument key) = refl
+
+  thread_keys-alike : thread_keys (accepted journal) ≡ thread_keys (accepted other)
+  thread_keys-alike = sym (own journal) ∙ ap (map (λ (row : ThreadRow). record { pid = row.pid; tid = row.tid })) (rows-follow journal other alike).threads ∙ own other
+    where
+      own : (j : List Entry) → map (λ (row : ThreadRow). record { pid = row.pid; tid = row.tid }) (map (thread_row j) (thread_keys (accepted j))) ≡ thread_keys (accepted j)
+      own j = map-map (λ (row : ThreadRow). record { pid = row.pid; tid = row.tid }) (thread_row j) (thread_keys (accepted j)) ∙ map-id (thread_keys (accepted j))
+
+  module _ (columns : List Column) where
+    -- of the positions of spans only the order counts
+    spans-renumbered : (thread : Thread) (f : ℕ → ℕ) → Rises f → (spans : List (Span Bytes)) →
+        map (keyed_span columns other thread) (with_self_times (map (renumbered_span f) spans)) ≡ map (keyed_span columns other thread) (with_self_times spans)
+    spans-renumbered thread f rises spans =
+        map-map (keyed_span columns other thread) (timed_in (map (renumbered_span f) spans)) (map (renumbered_span f) spans)
+        ∙ map-map (λ s. keyed_span columns other thread (timed_in (map (renumbered_span f) spans) s)) (renumbered_span f) spans
+        ∙ (λ i. map (λ s. record { key = map (value_at other thread s.name s.args) columns; step = record { count = 1; total = length_of s; self_time = same s i } }) spans)
+        ∙ sym (map-map (keyed_span columns other thread) (timed_in spans) spans)
+      where
+        ranks : (a b : Span Bytes) → outranks (renumbered_span f a) (renumbered_span f b) ≡ outranks a b
+        ranks a b = ap (λ later. int_lt b.start a.start || (int_eq a.start b.start && (int_lt a.until b.until || (int_eq a.until b.until && later)))) (rises b.at a.at)
+
+        same : (s : Span Bytes) → (timed_in (map (renumbered_span f) spans) (renumbered_span f s)).self_time ≡ (timed_in spans s).self_time
+        same s = self_time-map (renumbered_span f) (λ s. refl) (λ s. refl) ranks spans s
+
+    thread_sums-alike : (thread : Thread) → thread_sums columns journal thread ≡ thread_sums columns other thread
+    thread_sums-alike thread =
+        (λ i. map (λ (t : Timed). record { key = map (λ column. value_at-alike thread t.span.name t.span.args column i) columns; step = record { count = 1; total = length_of t.span; self_time = t.self_time } })
+        (with_self_times (closed_spans (thread_events thread journal))))
+        ∙ thread_events-alike thread (λ es. map (keyed_span columns other thread) (with_self_times (closed_spans es)))
+        (λ f rises es. ap (λ spans. map (keyed_span columns other thread) (with_self_times spans)) (closed_spans-renumbered f es) ∙ spans-renumbered thread f rises (closed_spans es))
+        journal other (alike.acts (of_process thread.pid))
+
+    pub journal_sums-alike : journal_sums columns journal ≡ journal_sums columns other
+    journal_sums-alike = λ i. flat_map (λ thread. thread_sums-alike thread i) (thread_keys-alike i)
+
+head_of-alike : (run other : Run) → AreAlikeRuns run other → head_of run ≡ head_of other
+head_of-alike run other alike = λ i. record { runs = 1; files = alike.files i; unread = alike.unread i; counts = alike.journals.counts i }
+
+heads-alike : (runs others : List Run) → AreAllAlike runs others → map head_of runs ≡ map head_of others
+heads-alike [] [] alike = refl
+heads-alike [] (other ∷ others) alike = elim alike [ ]
+heads-alike (run ∷ runs) [] alike = elim alike [ ]
+heads-alike (run ∷ runs) (other ∷ others) alike = λ i. head_of-alike run other alike.0 i ∷ heads-alike runs others alike.1 i
+
+sums-alike : (columns : List Column) (runs others : List Run) → AreAllAlike runs others →
+    flat_map (λ (run : Run). journal_sums columns run.journal) runs ≡ flat_map (λ (run : Run). journal_sums columns run.journal) others
+sums-alike columns [] [] alike = refl
+sums-alike columns [] (other ∷ others) alike = elim alike [ ]
+sums-alike columns (run ∷ runs) [] alike = elim alike [ ]
+sums-alike columns (run ∷ runs) (other ∷ others) alike =
+    λ i. journal_sums-alike run.journal other.journal alike.0.journals columns i ++ sums-alike columns runs others alike.1 i
+
+-- runs that are alike have the same table
+pub table_of-alike : TablesFollowFromActs
+table_of-alike columns runs others alike = λ i. record {
+  columns = columns;
+  head = heads_together (heads-alike runs others alike i);
+  rows = rows_of (sums-alike columns runs others alike i);
+}

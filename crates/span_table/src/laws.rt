@@ -1,0 +1,23 @@
+//! The facts that hold of every table.
+ghost use Rattle.span_table.specs.Adding.{AddingLosesNothing, DroppingAdds, OrderIsNothing};
+ghost use Rattle.span_table.specs.Laws.{KeysStandOnce, TablesFollowFromActs};
+
+/// The table of runs follows from how many entries their journals have of each kind, and from their accepted acts on each topic, in
+/// their order. The function does nothing: its contract is the law.
+pub fn table_law()
+    ensures { TablesFollowFromActs }
+{}
+
+/// Each key of a table has one row. The function does nothing: its contract is the law.
+pub fn key_law()
+    ensures { KeysStandOnce }
+{}
+
+/// Tables are added without loss: those of some runs, however these are divided, are the table of all of them together, in whatever
+/// order they come; and columns that are dropped leave the table by those that stay. The function does nothing: its contract is the
+/// law.
+pub fn adding_law()
+    ensures together { AddingLosesNothing }
+    ensures order { OrderIsNothing }
+    ensures fewer { DroppingAdds }
+{}
