@@ -2,11 +2,13 @@
 use Rattle.std.proofs.Common.{◌≡◌, ℕ, List, [], ◌∷◌, ◌++◌, refl, ap, ◌∙◌, Some, None, append_assoc}
 use Rattle.std.specs.Prelude.{codes, decimal}
 use Rattle.span_event.specs.Text.{Bytes}
+use Rattle.span_table.specs.declared.changes.Both.{Both}
 use Rattle.span_table.specs.declared.column.Column.{Column}
 use Rattle.span_table.specs.declared.table.Head.{Head}
 use Rattle.span_table.specs.declared.table.Row.{Row}
-use Rattle.span_table.specs.Json.{columns_json, head_members, json_head, json_line, member_of, number_member, sums_members, value_member, value_members, with_commas}
-use Rattle.span_table.specs.JsonPieces.{count_text, end_text, events_text, files_text, head_text, others_text, members_text, start_text, sums_text}
+use Rattle.span_table.specs.Json.{both_members, columns_json, head_members, json_change, json_head, json_heads, json_line, object_of, member_of, number_member, sums_members, value_member, value_members, with_commas}
+use Rattle.span_table.specs.JsonPieces.{both_text, count_text, counts_text, ends_text, other_text, selves_text, spans_text, totals_text, end_text, events_text, files_text, head_text, heads_text, others_text, members_text, start_text, sums_text}
+use Rattle.span_table.specs.Changes.{Change}
 use Rattle.span_table.specs.Keys.{TableKey}
 
 -- the members of a key, and then some more
@@ -51,3 +53,48 @@ json_head_pieces columns rows head =
     three-then (codes "\"tracebook\":1") (member_of (codes "columns") (columns_json columns)) (number_member (codes "rows") rows) (with_commas (head_members head))
     ∙ ap (λ h. 123 ∷ (codes "\"tracebook\":1" ++ 44 ∷ (member_of (codes "columns") (columns_json columns) ++ 44 ∷ (number_member (codes "rows") rows ++ 44 ∷ (h ++ 125 ∷ 10 ∷ []))))) (head_members-text head)
     ∙ columns-then (columns_json columns) (decimal rows) (head_text head)
+
+both_members-text : (both : Both) → with_commas (both_members both) ≡ both_text both
+unfolding spans_text totals_text selves_text
+both_members-text both = simp append_assoc refl
+
+-- the line of a change, from its pieces
+pub json_change_pieces : (columns : List Column) (change : Change) → json_change columns change ≡ 123 ∷ (members_text columns change.key ++ (both_text change.both ++ end_text))
+unfolding json_change end_text
+json_change_pieces columns change =
+    ap (λ l. 123 ∷ (l ++ 125 ∷ []) ++ 10 ∷ [])
+    (members-then columns change.key (number_member (codes "count0") change.both.base.count)
+    (number_member (codes "count1") change.both.other.count ∷ number_member (codes "total0") change.both.base.total ∷ number_member (codes "total1") change.both.other.total ∷
+    number_member (codes "self0") change.both.base.self_time ∷ number_member (codes "self1") change.both.other.self_time ∷ [])
+    ∙ ap (λ l. members_text columns change.key ++ l) (both_members-text change.both))
+    ∙ ended (members_text columns change.key) (both_text change.both)
+
+six-then : (a b c d e f : Bytes) → 123 ∷ ((a ++ 44 ∷ (b ++ 44 ∷ (c ++ 44 ∷ (d ++ 44 ∷ (e ++ 44 ∷ f))))) ++ 125 ∷ []) ++ 10 ∷ [] ≡ 123 ∷ (a ++ 44 ∷ (b ++ 44 ∷ (c ++ 44 ∷ (d ++ 44 ∷ (e ++ 44 ∷ (f ++ 125 ∷ 10 ∷ []))))))
+six-then a b c d e f = simp append_assoc refl
+
+counts-then : (c n s l : Bytes) → 123 ∷ (codes "\"tracebook\":1" ++ 44 ∷ (member_of (codes "columns") c ++ 44 ∷ (member_of (codes "rows") n ++ 44 ∷ (member_of (codes "same") s ++ (codes ",\"base\":{" ++ l)))))
+    ≡ start_text ++ (c ++ ((codes ",\"rows\":" ++ (n ++ (codes ",\"same\":" ++ (s ++ codes ",\"base\":{")))) ++ l))
+unfolding start_text
+counts-then c n s l = simp append_assoc refl
+
+both-then : (h k : Bytes) → (h ++ 125 ∷ []) ++ 44 ∷ (codes "\"other\":{" ++ ((k ++ 125 ∷ []) ++ 125 ∷ 10 ∷ [])) ≡ h ++ (other_text ++ (k ++ ends_text))
+unfolding other_text ends_text
+both-then h k = simp append_assoc refl
+
+-- the first line of a comparison, of whatever its parts are
+heads-then : (c n s h k : Bytes) →
+    object_of (codes "\"tracebook\":1" ∷ member_of (codes "columns") c ∷ member_of (codes "rows") n ∷ member_of (codes "same") s ∷
+    member_of (codes "base") (123 ∷ (h ++ 125 ∷ [])) ∷ member_of (codes "other") (123 ∷ (k ++ 125 ∷ [])) ∷ []) ++ 10 ∷ []
+    ≡ start_text ++ (c ++ ((codes ",\"rows\":" ++ (n ++ (codes ",\"same\":" ++ (s ++ codes ",\"base\":{")))) ++ (h ++ (other_text ++ (k ++ ends_text)))))
+heads-then c n s h k =
+    six-then (codes "\"tracebook\":1") (member_of (codes "columns") c) (member_of (codes "rows") n) (member_of (codes "same") s) (member_of (codes "base") (123 ∷ (h ++ 125 ∷ []))) (member_of (codes "other") (123 ∷ (k ++ 125 ∷ [])))
+    ∙ ap (λ l. 123 ∷ (codes "\"tracebook\":1" ++ 44 ∷ (member_of (codes "columns") c ++ 44 ∷ (member_of (codes "rows") n ++ 44 ∷ (member_of (codes "same") s ++ (codes ",\"base\":{" ++ l)))))) (both-then h k)
+    ∙ counts-then c n s (h ++ (other_text ++ (k ++ ends_text)))
+
+-- the first line of a comparison, from its pieces
+pub json_heads_pieces : (columns : List Column) (rows same : ℕ) (base other : Head) →
+    json_heads columns rows same base other ≡ start_text ++ (columns_json columns ++ (counts_text rows same ++ heads_text base other))
+unfolding json_heads counts_text
+json_heads_pieces columns rows same base other =
+    heads-then (columns_json columns) (decimal rows) (decimal same) (with_commas (head_members base)) (with_commas (head_members other))
+    ∙ (λ i. start_text ++ (columns_json columns ++ (counts_text rows same ++ (head_members-text base i ++ (other_text ++ (head_members-text other i ++ ends_text))))))

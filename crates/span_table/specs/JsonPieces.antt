@@ -1,6 +1,7 @@
 -- The pieces of lines for machines, in the order in which they are appended.
 use Rattle.std.specs.Prelude.{ℕ, List, [], ◌∷◌, ◌++◌, Some, None, codes, decimal}
 use Rattle.span_event.specs.Text.{Bytes}
+use Rattle.span_table.specs.declared.changes.Both.{Both}
 use Rattle.span_table.specs.declared.column.Column.{Column}
 use Rattle.span_table.specs.Columns.{Value}
 use Rattle.span_ledger.specs.declared.rows.CountRow.{CountRow}
@@ -46,3 +47,29 @@ end_text = codes "}\n"
 -- the members of sums
 unfoldable pub sums_text : Sums → Bytes
 sums_text sums = with_commas (sums_members sums)
+
+-- the first line of a comparison, from its columns to the head of the base, from there to the head of the other, and its end
+unfoldable pub counts_text : ℕ → ℕ → Bytes
+counts_text rows same = codes ",\"rows\":" ++ (decimal rows ++ (codes ",\"same\":" ++ (decimal same ++ codes ",\"base\":{")))
+
+unfoldable pub other_text : Bytes
+other_text = codes "},\"other\":{"
+
+unfoldable pub ends_text : Bytes
+ends_text = codes "}}\n"
+
+abbrev pub heads_text : Head → Head → Bytes
+heads_text base other = head_text base ++ (other_text ++ (head_text other ++ ends_text))
+
+-- the members of a change: how many spans, their total times, and their self times
+unfoldable pub spans_text : Both → Bytes
+spans_text both = codes "\"count0\":" ++ (decimal both.base.count ++ (codes ",\"count1\":" ++ (decimal both.other.count ++ codes ",")))
+
+unfoldable pub totals_text : Both → Bytes
+totals_text both = codes "\"total0\":" ++ (decimal both.base.total ++ (codes ",\"total1\":" ++ (decimal both.other.total ++ codes ",")))
+
+unfoldable pub selves_text : Both → Bytes
+selves_text both = codes "\"self0\":" ++ (decimal both.base.self_time ++ (codes ",\"self1\":" ++ decimal both.other.self_time))
+
+abbrev pub both_text : Both → Bytes
+both_text both = spans_text both ++ (totals_text both ++ selves_text both)

@@ -86,7 +86,7 @@ fn put_first(
 }
 
 #[tactic(auto, unfolding(crate::specs::JsonPieces::start_text))]
-fn put_start(out: &mut String) -> Result<(), AllocError>
+pub(crate) fn put_start(out: &mut String) -> Result<(), AllocError>
     ensures { OnOk result (string_bytes out.new ≡ string_bytes out.old ++ start_text) }
 {
     out.push_str("{\"tracebook\":1,\"columns\":")
@@ -100,7 +100,7 @@ fn put_count(out: &mut String, rows: usize) -> Result<(), AllocError>
 }
 
 #[tactic(auto, unfolding(crate::specs::JsonPieces::end_text))]
-fn put_end(out: &mut String) -> Result<(), AllocError>
+pub(crate) fn put_end(out: &mut String) -> Result<(), AllocError>
     ensures { OnOk result (string_bytes out.new ≡ string_bytes out.old ++ end_text) }
 {
     out.push_str("}\n")

@@ -1,0 +1,162 @@
+//! What changed between two tables for machines: JSON Lines.
+ghost use Rattle.std.specs.Prelude.{◌≡◌, ◌++◌, ◌&&◌, true, false, flat_map, length, string_bytes, IfOk, IfErr, OnOk};
+ghost use Rattle.std.specs.List.{list_all};
+ghost use Rattle.span_table.specs.declared.json_lines.JsonFault.TheVariants.{TooGreat};
+ghost use Rattle.span_table.specs.Json.{fit, json_change, json_changes_fit, json_comparison_of, json_heads};
+ghost use Rattle.span_table.specs.JsonPieces.{both_text, counts_text, ends_text, heads_text, other_text, selves_text, spans_text, totals_text};
+
+use crate::changes::{Both, Changed, ComparedTables, differences};
+use crate::column::Column;
+use crate::json_lines::{JsonFault, fits, put_columns, put_end, put_head, put_members, put_start};
+use crate::shown::Shown;
+use crate::sums::By;
+use crate::table::{Head, Table};
+use std::alloc::{AllocError, Global};
+
+/// What changed between two tables of the same columns, for machines: of the keys that are shown those of which a number differs, the
+/// greatest change of a self time first.
+pub fn json_comparison(
+    alloc: Global,
+    base: &Table,
+    other: &Table,
+    shown: &Shown,
+) -> Result<Vec<u8>, JsonFault>
+    ensures text { IfOk result (λ text. text.items ≡ json_comparison_of shown.now base.now other.now) }
+    ensures fits { OnOk result (json_changes_fit shown.now base.now other.now ≡ true) }
+    ensures too_great { IfErr result (λ fault. fault ≡ TooGreat → json_changes_fit shown.now base.now other.now ≡ false) }
+{
+    let Ok(found) = differences(alloc, base.rows(), other.rows(), shown, By::SelfTime) else {
+        return Err(JsonFault::Memory);
+    };
+    if !all_fit(&found.changes) {
+        return Err(JsonFault::TooGreat);
+    }
+    match text_of(alloc, base, other, &found) {
+        Ok(text) => Ok(text),
+        Err(_) => Err(JsonFault::Memory),
+    }
+}
+
+fn all_fit(changes: &[Changed]) -> bool
+    ensures { result ≡ list_all (λ change. fit change.both.base && fit change.both.other) changes.now }
+{
+    changes.iter().all(|change| fits(&change.both.base) && fits(&change.both.other))
+}
+
+fn text_of(
+    alloc: Global,
+    base: &Table,
+    other: &Table,
+    found: &ComparedTables,
+) -> Result<Vec<u8>, AllocError>
+    ensures { IfOk result (λ text. text.items
+        ≡ json_heads other.now.columns (length found.now.changes.items) found.now.same base.now.head other.now.head
+        ++ flat_map (json_change other.now.columns) found.now.changes.items) }
+{
+    let mut out = String::new(alloc);
+    let columns = other.columns();
+    put_first(alloc, &mut out, base, other, found)?;
+    for change in &found.changes {
+        put_change(alloc, &mut out, columns, change)?;
+    }
+    Ok(out.into_bytes())
+}
+
+#[tactic(auto, using(crate::proofs::JsonPieces::json_heads_pieces, std::proofs::Common::append_assoc))]
+fn put_first(
+    alloc: Global,
+    out: &mut String,
+    base: &Table,
+    other: &Table,
+    found: &ComparedTables,
+) -> Result<(), AllocError>
+    ensures { OnOk result (string_bytes out.new ≡ string_bytes out.old
+        ++ json_heads other.now.columns (length found.now.changes.items) found.now.same base.now.head other.now.head) }
+{
+    put_start(out)?;
+    put_columns(alloc, out, other.columns())?;
+    put_counts(out, found.changes.len(), found.same)?;
+    put_heads(out, base.head(), other.head())
+}
+
+#[tactic(auto, using(std::proofs::Common::append_assoc))]
+fn put_heads(out: &mut String, base: Head, other: Head) -> Result<(), AllocError>
+    ensures { OnOk result (string_bytes out.new ≡ string_bytes out.old ++ heads_text base other) }
+{
+    put_head(out, base)?;
+    put_other(out)?;
+    put_head(out, other)?;
+    put_ends(out)
+}
+
+#[tactic(auto, unfolding(crate::specs::JsonPieces::counts_text))]
+fn put_counts(out: &mut String, rows: usize, same: u128) -> Result<(), AllocError>
+    ensures { OnOk result (string_bytes out.new ≡ string_bytes out.old ++ counts_text rows same) }
+{
+    write!(out, ",\"rows\":{rows},\"same\":{same},\"base\":{{")
+}
+
+#[tactic(auto, unfolding(crate::specs::JsonPieces::other_text))]
+fn put_other(out: &mut String) -> Result<(), AllocError>
+    ensures { OnOk result (string_bytes out.new ≡ string_bytes out.old ++ other_text) }
+{
+    out.push_str("},\"other\":{")
+}
+
+#[tactic(auto, unfolding(crate::specs::JsonPieces::ends_text))]
+fn put_ends(out: &mut String) -> Result<(), AllocError>
+    ensures { OnOk result (string_bytes out.new ≡ string_bytes out.old ++ ends_text) }
+{
+    out.push_str("}}\n")
+}
+
+#[tactic(auto, using(crate::proofs::JsonPieces::json_change_pieces, std::proofs::Common::append_assoc))]
+fn put_change(
+    alloc: Global,
+    out: &mut String,
+    columns: &[Column],
+    change: &Changed,
+) -> Result<(), AllocError>
+    ensures { OnOk result (string_bytes out.new ≡ string_bytes out.old ++ json_change columns.now change.now) }
+{
+    out.push('{')?;
+    put_members(alloc, out, columns, change.key.values())?;
+    put_both(alloc, out, &change.both)?;
+    put_end(out)
+}
+
+#[tactic(auto, using(std::proofs::Common::append_assoc))]
+fn put_both(alloc: Global, out: &mut String, both: &Both) -> Result<(), AllocError>
+    ensures { OnOk result (string_bytes out.new ≡ string_bytes out.old ++ both_text both.now) }
+{
+    put_spans(alloc, out, both)?;
+    put_totals(alloc, out, both)?;
+    put_selves(alloc, out, both)
+}
+
+#[tactic(auto, unfolding(crate::specs::JsonPieces::spans_text))]
+fn put_spans(alloc: Global, out: &mut String, both: &Both) -> Result<(), AllocError>
+    ensures { OnOk result (string_bytes out.new ≡ string_bytes out.old ++ spans_text both.now) }
+{
+    let base = both.base.count.shown(alloc)?;
+    let other = both.other.count.shown(alloc)?;
+    write!(out, "\"count0\":{base},\"count1\":{other},")
+}
+
+#[tactic(auto, unfolding(crate::specs::JsonPieces::totals_text))]
+fn put_totals(alloc: Global, out: &mut String, both: &Both) -> Result<(), AllocError>
+    ensures { OnOk result (string_bytes out.new ≡ string_bytes out.old ++ totals_text both.now) }
+{
+    let base = both.base.total.shown(alloc)?;
+    let other = both.other.total.shown(alloc)?;
+    write!(out, "\"total0\":{base},\"total1\":{other},")
+}
+
+#[tactic(auto, unfolding(crate::specs::JsonPieces::selves_text))]
+fn put_selves(alloc: Global, out: &mut String, both: &Both) -> Result<(), AllocError>
+    ensures { OnOk result (string_bytes out.new ≡ string_bytes out.old ++ selves_text both.now) }
+{
+    let base = both.base.self_time.shown(alloc)?;
+    let other = both.other.self_time.shown(alloc)?;
+    write!(out, "\"self0\":{base},\"self1\":{other}")
+}
