@@ -3,6 +3,7 @@ pub mod Alike
 pub mod ByName
 pub mod Comparing
 pub mod JsonPieces
+pub mod OwnRows
 pub mod Permuted
 pub mod Pieces
 pub mod Rows

@@ -1,7 +1,12 @@
 -- The facts that hold of every table.
-use Rattle.std.specs.Prelude.{◌≡◌, List, [], ◌∷◌}
+use Rattle.std.specs.Prelude.{◌≡◌, List, [], ◌∷◌, map, Some}
+use Rattle.span_event.specs.declared.args.ArgValue.TheVariants.{Whole, Words}
+use Rattle.span_ledger.specs.declared.rows.SpanRow.{SpanRow}
+use Rattle.span_ledger.specs.Rows.{span_rows}
 use Rattle.span_ledger.specs.Topics.{AreAlike}
 use Rattle.span_table.specs.declared.column.Column.{Column}
+use Rattle.span_table.specs.declared.column.Column.TheVariants.{Pid, Tid, Name}
+use Rattle.span_table.specs.declared.table.Row.{Row}
 use Rattle.span_table.specs.Tables.{Run, RowsRise, table_of}
 
 -- two runs have journals that are alike, and as many files, of which as many were refused
@@ -23,3 +28,14 @@ TablesFollowFromActs = (columns : List Column) (runs others : List Run) → AreA
 -- each key has one place
 abbrev pub KeysStandOnce : Type 0
 KeysStandOnce = (columns : List Column) (runs : List Run) → RowsRise (table_of columns runs).rows
+
+-- the columns of the rows of spans, and such a row as one of a table
+abbrev pub row_columns : List Column
+row_columns = Pid ∷ Tid ∷ Name ∷ []
+
+abbrev pub of_span_row : SpanRow → Row
+of_span_row row = record { key = Some (Whole row.pid) ∷ Some (Whole row.tid) ∷ Some (Words row.name) ∷ []; sums = record { count = row.count; total = row.total; self_time = row.self_time } }
+
+-- by process, thread and name a table of one run has the rows of spans
+abbrev pub RowsAreSpanRows : Type 0
+RowsAreSpanRows = (run : Run) → (table_of row_columns (run ∷ [])).rows ≡ map of_span_row (span_rows run.journal)

@@ -1,6 +1,6 @@
 //! The facts that hold of every table.
 ghost use Rattle.span_table.specs.Adding.{AddingLosesNothing, DroppingAdds, OrderIsNothing};
-ghost use Rattle.span_table.specs.Laws.{KeysStandOnce, TablesFollowFromActs};
+ghost use Rattle.span_table.specs.Laws.{KeysStandOnce, RowsAreSpanRows, TablesFollowFromActs};
 
 /// The table of runs follows from how many entries their journals have of each kind, and from their accepted acts on each topic, in
 /// their order. The function does nothing: its contract is the law.
@@ -11,6 +11,12 @@ pub fn table_law()
 /// Each key of a table has one row. The function does nothing: its contract is the law.
 pub fn key_law()
     ensures { KeysStandOnce }
+{}
+
+/// By process, thread and name a table of one run has the rows of spans of the report. The function does nothing: its contract is the
+/// law.
+pub fn row_law()
+    ensures { RowsAreSpanRows }
 {}
 
 /// Tables are added without loss: those of some runs, however these are divided, are the table of all of them together, in whatever
