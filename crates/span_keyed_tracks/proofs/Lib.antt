@@ -18,8 +18,7 @@ pub mod Orders
 pub mod Results
 pub mod SameKeys
 pub mod Selection
-pub mod SeriesCodes
-pub mod SeriesMaps
+pub mod SeriesKept
 pub mod Sorted
 pub mod Sorting
 pub mod Uses

@@ -1,10 +1,8 @@
 -- How what is kept for the keys that events use changes with one more use.
-use Rattle.std.proofs.Common.{◌≡◌, List, [], ◌∷◌, ◌++◌, Bool, true, false, ◌||◌, cond, Some, None, refl, sym, ap, ap₂, ◌∙◌, map}
+use Rattle.std.proofs.Common.{◌≡◌, List, [], ◌∷◌, ◌++◌, Bool, true, false, ◌||◌, cond, None, refl, sym, ap, ap₂, ◌∙◌, map}
 use Rattle.std.specs.Prelude.{fold, is_some}
-use Rattle.std.specs.List.{AllByRecursion}
 use Rattle.std.specs.declared.cmp.Ordering.{Ordering}
 use Rattle.std.specs.declared.cmp.Ordering.TheVariants.{Less, Equal, Greater}
-use Rattle.std.specs.Option.{option_map}
 use Rattle.std.specs.Ordering.{is_eq, eq_by_cmp, match_ordering, ordering_reverse}
 use Rattle.std.specs.Cmp.{IsTotalOrder}
 use Rattle.std.specs.Map.{lookup}
@@ -135,36 +133,3 @@ module _ {K : Type 0} {cmp : K → K → Ordering} (o : IsTotalOrder cmp) (same 
     -- what is kept for keys, put in their order
     pub first_uses-ascending : (ks : List K) → fold (λ m (e : K × X). insert_entry cmp m e.0 e.1) [] (map (entry_of f) (first_uses cmp ks)) ≡ map (entry_of f) (ascending cmp ks)
     first_uses-ascending ks = made-fold [] (first_uses cmp ks) ∙ ap (map (entry_of f)) (ascending-fold o same (eq_by_cmp cmp) tied [] ks)
-
--- a map whose keys are written as codes
-module _ {C K X Y : Type 0} (cmp : K → K → Ordering) (code_eq : C → C → Bool) (key_of : C → K) (value_of : X → Y) (code : C) where
-  -- the code is that of an entry just where the keys are the same
-  abbrev pub Tells : List (C × X) → Type 0
-  Tells es = AllByRecursion (λ (e : C × X). code_eq code e.0 ≡ is_eq (cmp (key_of code) (key_of e.0))) es
-
-  abbrev by_keys : List (C × X) → List (K × Y)
-  by_keys es = map (λ (e : C × X). (key_of e.0, value_of e.1)) es
-
-  -- what is put at a code is put at its key
-  pub decoded-put_entry : (es : List (C × X)) (v : X) → Tells es → by_keys (put_entry code_eq es code v) ≡ put_entry (eq_by_cmp cmp) (by_keys es) (key_of code) (value_of v)
-  decoded-put_entry [] v tells = refl
-  decoded-put_entry (e ∷ es) v tells =
-      ap (λ b. by_keys (cond b ((e.0, v) ∷ es) (e ∷ put_entry code_eq es code v))) tells.0
-      ∙ by (is_eq (cmp (key_of code) (key_of e.0))) (decoded-put_entry es v tells.1)
-    where
-      by : (b : Bool) → by_keys (put_entry code_eq es code v) ≡ put_entry (eq_by_cmp cmp) (by_keys es) (key_of code) (value_of v) →
-          by_keys (cond b ((e.0, v) ∷ es) (e ∷ put_entry code_eq es code v)) ≡ cond b ((key_of e.0, value_of v) ∷ by_keys es) ((key_of e.0, value_of e.1) ∷ put_entry (eq_by_cmp cmp) (by_keys es) (key_of code) (value_of v))
-      by true rest = refl
-      by false rest = ap (λ l. (key_of e.0, value_of e.1) ∷ l) rest
-
-  -- what is found at a code is found at its key
-  pub lookup-decoded : (es : List (C × X)) → Tells es → option_map value_of (lookup (code_eq code) es) ≡ lookup (is_at (cmp (key_of code))) (by_keys es)
-  lookup-decoded [] tells = refl
-  lookup-decoded (e ∷ es) tells =
-      ap (λ b. option_map value_of (cond b (Some e.1) (lookup (code_eq code) es))) tells.0
-      ∙ by (is_eq (cmp (key_of code) (key_of e.0))) (lookup-decoded es tells.1)
-    where
-      by : (b : Bool) → option_map value_of (lookup (code_eq code) es) ≡ lookup (is_at (cmp (key_of code))) (by_keys es) →
-          option_map value_of (cond b (Some e.1) (lookup (code_eq code) es)) ≡ cond b (Some (value_of e.1)) (lookup (is_at (cmp (key_of code))) (by_keys es))
-      by true rest = refl
-      by false rest = rest

@@ -1,10 +1,22 @@
--- How what is kept of a series changes with one more sample.
-use Rattle.std.specs.Prelude.{ℕ, ◌+◌, int_lt, Option, Some, None, if◌then◌else◌}
+-- How series are kept, and how they change with one more event.
+use Rattle.std.specs.Prelude.{ℕ, ◌+◌, ◌&&◌, Bool, pos, List, map, int_lt, Option, Some, None, unwrap_or, if◌then◌else◌}
 use Rattle.std.specs.Int.{int_min, int_max}
+use Rattle.std.specs.Map.{lookup}
+use Rattle.std.specs.Cmp.{IsEquivalence, and_equiv, int_eq_equiv, on_equiv}
+use Rattle.std.specs.Cmp.Lexicographic.{nat_list_eq_equiv, options_equiv}
+use Rattle.std.specs.Option.{option_eq}
+use Rattle.std.specs.Ordering.{int_eq}
+use Rattle.span_event.specs.declared.args.ArgValue.{ArgValue}
+use Rattle.span_event.specs.declared.event.Event.{Event}
+use Rattle.span_event.specs.Args.{as_whole}
+use Rattle.span_event.specs.Orders.{same_id}
+use Rattle.span_event.specs.Text.{Bytes, same_text}
 use Rattle.span_keyed_tracks.specs.declared.keys.SeriesKey.{SeriesKey}
 use Rattle.span_keyed_tracks.specs.declared.counter_track.SeriesRow.{SeriesRow}
-use Rattle.span_keyed_tracks.specs.declared.counter_track.SeriesTotals.{SeriesTotals}
-use Rattle.span_keyed_tracks.specs.Counters.{Sample, Series}
+use Rattle.span_keyed_tracks.specs.declared.counter_track.running.Held.{Held}
+use Rattle.span_keyed_tracks.specs.declared.counter_track.running.Held.TheVariants.{One, Many}
+use Rattle.span_keyed_tracks.specs.declared.counter_track.running.Sums.{Sums}
+use Rattle.span_keyed_tracks.specs.Counters.{CountersKept, Sample, Series, series_key}
 
 -- how many samples there are
 abbrev pub samples_before : Option Series → ℕ
@@ -24,6 +36,36 @@ with_sample (Some old) s = record {
   latest = int_max old.latest s.ts;
 }
 
--- the row of a series with these totals
-abbrev pub totals_row : SeriesKey × SeriesTotals → SeriesRow
-totals_row e = record { key = e.0; totals = e.1 }
+abbrev pub series_of_sums : Sums → Series
+series_of_sums sums = record { totals = sums.totals; latest = sums.latest }
+
+-- the one sample of a series, or what its samples give
+abbrev pub held_series : Held → Series
+held_series (One ts value) = with_sample None (record { ts = ts; value = value })
+held_series (Many sums) = series_of_sums sums.value
+
+-- entries of series that all have a sample
+abbrev pub kept_series : List (SeriesKey × Series) → CountersKept
+kept_series entries = map (λ e. (e.0, Some e.1)) entries
+
+-- the row of a series
+abbrev pub kept_row : SeriesKey × Series → SeriesRow
+kept_row e = record { key = e.0; totals = e.1.totals }
+
+-- the same fields
+abbrev pub same_series : SeriesKey → SeriesKey → Bool
+same_series a b = int_eq a.pid b.pid && (same_text a.name b.name && (option_eq same_id a.id b.id && same_text a.series b.series))
+
+pub same_series-equiv : IsEquivalence same_series
+same_series-equiv =
+    and_equiv (on_equiv (λ k. k.pid) int_eq_equiv)
+    (and_equiv (on_equiv (λ k. k.name) nat_list_eq_equiv)
+    (and_equiv (on_equiv (λ k. k.id) (options_equiv (and_equiv (on_equiv (λ i. i.home) (options_equiv int_eq_equiv)) (on_equiv (λ i. i.id) nat_list_eq_equiv)))) (on_equiv (λ k. k.series) nat_list_eq_equiv)))
+
+-- what is found at a key
+abbrev pub found_at : List (SeriesKey × Series) → SeriesKey → Option Series
+found_at entries key = lookup (same_series key) entries
+
+-- a series of an event's counter, once it has the event's value of it
+abbrev pub next_entry : List (SeriesKey × Series) → Event → Bytes × ArgValue → SeriesKey × Series
+next_entry entries event member = (series_key event member.0, with_sample (found_at entries (series_key event member.0)) (record { ts = event.ts; value = unwrap_or (as_whole member.1) (pos 0) }))

@@ -16,5 +16,4 @@ pub mod Matching
 pub mod Meta
 pub mod MetaKept
 pub mod Numbering
-pub mod SeriesCodes
 pub mod Uses

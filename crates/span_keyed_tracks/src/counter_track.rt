@@ -1,21 +1,25 @@
 //! The track of counters.
-ghost use Rattle.std.specs.Prelude.{◌≡◌, [], None, IfOk, OnOk, OnErr};
+ghost use Rattle.std.specs.Prelude.{◌≡◌, ◌≤◌, [], None, map, option_copied, vec_len, IfOk, OnOk, OnErr};
+ghost use Rattle.indexmap.specs.IndexMap.{insert_all, spare};
 ghost use Rattle.span_event.specs.declared.event.Event.{Event};
-ghost use Rattle.span_event.specs.declared.event.Phase.TheVariants.{Counter};
+ghost use Rattle.span_event.specs.declared.event.Phase.TheVariants.{Counter as CounterPhase};
+ghost use Rattle.span_event.specs.Args.{AllWhole};
 ghost use Rattle.span_event.specs.Event.{IsGood};
 ghost use Rattle.span_event.specs.Given.{Gives};
 ghost use Rattle.span_keyed_tracks.specs.Fault.{Answers};
 ghost use Rattle.span_keyed_tracks.specs.Counters.{CounterStandsFor, HasCounterRoom, TakesCounter, series_rows, series_totals};
+ghost use Rattle.span_keyed_tracks.specs.CountersKept.{found_at, kept_row, kept_series, next_entry, same_series};
 
-mod coded;
-mod codes;
 mod running;
+mod shared_key;
 
 use crate::fault::TrackFault;
 use crate::hash_keys::HashKeys;
 use crate::keys::SeriesKey;
-use coded::CodedSeries;
-use span_event::Event;
+use indexmap::IndexMap;
+use running::Running;
+use shared_key::{Counter, SharedKey};
+use span_event::{ArgValue, Event};
 use std::alloc::{AllocError, Global};
 use std::marker::Model;
 
@@ -37,22 +41,49 @@ pub struct SeriesRow {
     pub totals: SeriesTotals,
 }
 
+/// A series that has a sample, where the track keeps it. A contract sees its row.
+#[derive(Drop)]
+pub struct SeriesRef<'a> {
+    key: &'a SharedKey,
+    running: &'a Running,
+}
+
+impl<'a> Model for SeriesRef<'a> {
+    ghost use Rattle.span_keyed_tracks.specs.declared.counter_track.SeriesRow.{SeriesRow};
+
+    ghost Value = { SeriesRow };
+
+    ghost view = { λ s. record { key = s.key.now; totals = s.running.now.totals } };
+}
+
+impl SeriesRef<'_> {
+    /// The row, which shares long texts with the track.
+    pub fn to_row(&self, alloc: Global) -> Result<SeriesRow, AllocError>
+        ensures { IfOk result (λ row. row ≡ self.now) }
+    {
+        Ok(SeriesRow {
+            key: self.key.to_key(alloc)?,
+            totals: self.running.totals(),
+        })
+    }
+}
+
+type Entries = IndexMap<SharedKey, Running, HashKeys>;
+
 /// The series of all counters.
 #[derive(Drop)]
 pub struct CounterTrack {
     alloc: Global,
-    series: CodedSeries,
+    series: Entries,
 }
 
 impl Model for CounterTrack {
     ghost use Rattle.span_keyed_tracks.specs.Counters.{CountersKept};
-    ghost use Rattle.span_keyed_tracks.specs.SeriesCodes.{AreCodes, decoded};
+    ghost use Rattle.span_keyed_tracks.specs.CountersKept.{kept_series};
 
     ghost Value = { CountersKept };
 
-    ghost view = { λ t. decoded t.series.texts t.series.entries.entries };
-
-    ghost invariant = { λ t. AreCodes t.series.texts t.series.entries.entries };
+    ghost view = { λ t. kept_series t.series.entries };
 }
 
 impl CounterTrack {
@@ -69,39 +100,124 @@ impl CounterTrack {
     {
         CounterTrack {
             alloc,
-            series: CodedSeries::new(alloc, keys),
+            series: IndexMap::with_hasher(alloc, keys),
         }
     }
 
     /// A counter event: each member of its arguments is a value of a series, and all are taken or none. Only want of memory refuses it.
     pub fn sample(&mut self, event: &Event) -> Result<(), TrackFault>
         requires good { IsGood event.now }
-        requires phase { event.now.phase ≡ Counter }
+        requires phase { event.now.phase ≡ CounterPhase }
         requires room { HasCounterRoom self.old }
         ensures refusal { Answers result None }
         ensures stands { OnOk result (TakesCounter self.old self.new event.now) }
         ensures err { OnErr result (self.new ≡ self.old) }
     {
-        let Ok(samples) = self.series.coded(self.alloc, event, event.args.pairs()) else {
+        let Ok(()) = self.series.reserve(event.args.pairs().len()) else {
             return Err(TrackFault::Memory);
         };
-        self.series.add_all(event, &samples);
+        let Ok(next) = next_entries(self.alloc, &self.series, event) else {
+            return Err(TrackFault::Memory);
+        };
+        put_all(&mut self.series, next);
         Ok(())
     }
 
-    /// What the samples of the series give; nothing where it has none. Takes no memory.
+    /// What the samples of the series give; nothing where it has none. Takes memory for a copy of the key, for so long, if there is any.
     pub fn of(&self, key: &SeriesKey) -> Option<SeriesTotals>
         ensures { Gives CounterStandsFor self.now (series_totals key.now) result }
     {
-        self.series.of(key)
+        let running = find(self.alloc, &self.series, key)?;
+        Some(running.totals())
+    }
+
+    /// The series that have a sample, in ascending order of keys.
+    pub fn sorted(&self, alloc: Global) -> Result<Vec<SeriesRef<'_>>, AllocError>
+        ensures { IfOk result (λ rows. Gives CounterStandsFor self.now series_rows rows.items) }
+    {
+        let mut sorted = refs_of(alloc, &self.series)?;
+        sorted.sort_unstable_by(|a, b| a.key.order(b.key));
+        Ok(sorted)
     }
 
     /// The row of each series that has a sample, in ascending order of keys.
     pub fn rows(&self, alloc: Global) -> Result<Vec<SeriesRow>, AllocError>
         ensures { IfOk result (λ rows. Gives CounterStandsFor self.now series_rows rows.items) }
     {
-        let mut rows = self.series.rows(alloc)?;
-        rows.sort_unstable_by(|a, b| a.key.cmp(&b.key));
+        let sorted = self.sorted(alloc)?;
+        let mut rows = Vec::with_capacity(alloc, sorted.len())?;
+        for series in &sorted {
+            rows.push(series.to_row(alloc)?)?;
+        }
         Ok(rows)
     }
+}
+
+// What each series of the event's counter is once it has the event's value of it.
+fn next_entries(
+    alloc: Global,
+    entries: &Entries,
+    event: &Event,
+) -> Result<Vec<(SharedKey, Running)>, AllocError>
+    requires whole { AllWhole event.now.args }
+    requires room { HasCounterRoom (kept_series entries.now.entries) }
+    ensures { IfOk result (λ next. next.items ≡ map (next_entry entries.now.entries event.now) event.now.args) }
+{
+    let counter = Counter::shared(alloc, event.pid, &event.name, &event.key)?;
+    let members = event.args.pairs();
+    let mut next = Vec::with_capacity(alloc, members.len())?;
+    for (series, value) in members {
+        let ArgValue::Whole(value) = value else {
+            unreachable!();
+        };
+        let key = SharedKey::new(alloc, &counter, series)?;
+        let running = Running::with(alloc, entries.get(&key), event.ts, *value)?;
+        next.push((key, running))?;
+    }
+    Ok(next)
+}
+
+// Keeps these, for each of which there is room.
+fn put_all(entries: &mut Entries, next: Vec<(SharedKey, Running)>)
+    requires { vec_len next ≤ spare entries.old }
+    ensures { entries.new.entries ≡ insert_all same_series entries.old.entries next.items }
+{
+    for (key, running) in next {
+        if entries.insert(key, running).is_err() {
+            unreachable!();
+        }
+    }
+}
+
+// What is kept at a key.
+fn find<'a>(alloc: Global, entries: &'a Entries, key: &SeriesKey) -> Option<&'a Running>
+    ensures { option_copied result ≡ found_at entries.now.entries key.now }
+{
+    match SharedKey::copy_of(alloc, key) {
+        Ok(key) => entries.get(&key),
+        Err(_) => search(entries, key),
+    }
+}
+
+// The same, where there is no copy of the key to look up.
+fn search<'a>(entries: &'a Entries, key: &SeriesKey) -> Option<&'a Running>
+    ensures { option_copied result ≡ found_at entries.now.entries key.now }
+{
+    for (kept, running) in entries {
+        if kept.is(key) {
+            return Some(running);
+        }
+    }
+    None
+}
+
+// The series in the order of their first samples.
+fn refs_of(alloc: Global, entries: &Entries) -> Result<Vec<SeriesRef<'_>>, AllocError>
+    ensures { IfOk result (λ refs. refs.items ≡ map kept_row entries.now.entries) }
+{
+    let mut refs = Vec::with_capacity(alloc, entries.len())?;
+    for (key, running) in entries {
+        refs.push(SeriesRef { key, running })?;
+    }
+    Ok(refs)
 }

@@ -12,10 +12,9 @@ mod key_change;
 mod keys;
 mod meta_track;
 mod names;
-mod texts;
 
 pub use async_track::{AsyncRow, AsyncTotals, AsyncTrack};
-pub use counter_track::{CounterTrack, SeriesRow, SeriesTotals};
+pub use counter_track::{CounterTrack, SeriesRef, SeriesRow, SeriesTotals};
 pub use fault::TrackFault;
 pub use flow_track::{FlowClosed, FlowRow, FlowTotals, FlowTrack};
 pub use hash_keys::HashKeys;

@@ -1,9 +1,13 @@
-use Rattle.std.proofs.Common.{ap, ◌∙◌}
+use Rattle.std.proofs.Common.{Some, ap, ◌∙◌}
 use Rattle.std.specs.Option.{option_map}
 use Rattle.span_keyed_tracks.specs.Counters.{Series}
-use Rattle.span_keyed_tracks.proofs.Counters.{kept_at-CounterStandsFor}
+use Rattle.span_keyed_tracks.proofs.SeriesKept.{found_at-is}
 use Rattle.span_keyed_tracks.proofs.counter_track.CounterTrack.of.Goals as goal
+
+pub returns-in_err-running : goal.returns-in_err-running
+returns-in_err-running c = λ es stands.
+    c.from_residual.ensures ∙ ap (option_map (λ (s : Series). s.totals)) (c.in_err-running.ensures ∙ found_at-is c.self.inside.series.entries es c.args.key.now (c.self.view_is ∙ stands))
 
 pub returns : goal.returns
 returns c = λ es stands.
-    c.of.ensures ∙ ap (option_map (λ (s : Series). s.totals)) (kept_at-CounterStandsFor _ es c.args.key.now (c.self.view_is ∙ stands))
+    ap Some c.totals.ensures ∙ ap (option_map (λ (s : Series). s.totals)) (c.in_ok-running.ensures ∙ found_at-is c.self.inside.series.entries es c.args.key.now (c.self.view_is ∙ stands))

@@ -1,32 +1,15 @@
-use Rattle.std.proofs.Common.{◌≡◌, sym, ap, subst, ◌∙◌}
-use Rattle.span_keyed_tracks.specs.Counters.{HasCounterRoom}
-use Rattle.span_keyed_tracks.specs.SeriesCodes.{AreCodes, decoded}
-use Rattle.span_keyed_tracks.proofs.SeriesCodes.{AreCodes-keeps}
+use Rattle.std.proofs.Common.{rules, ◌≡◌, map, ap, ap₂, ◌∙◌}
+use Rattle.indexmap.specs.IndexMap.{insert_all}
+use Rattle.span_event.specs.Args.{AllWhole}
+use Rattle.span_keyed_tracks.specs.CountersKept.{kept_series, next_entry, same_series}
+use Rattle.span_keyed_tracks.proofs.SeriesKept.{TakesCounter-all}
 use Rattle.span_keyed_tracks.proofs.counter_track.CounterTrack.sample.Goals as goal
-
-pub invariant_of-self : goal.invariant_of-self
-invariant_of-self c =
-    subst (AreCodes c.coded.new.self.texts) (sym c.coded.ensures.entries)
-    (AreCodes-keeps c.self.inside.series.texts c.coded.new.self.texts c.coded.ensures.keeps c.self.inside.series.entries.entries c.self.invariant).1
-
-pub returns-in_default-clause-err : goal.returns-in_default-clause-err
-returns-in_default-clause-err c =
-    ap (decoded c.coded.new.self.texts) c.coded.ensures.entries
-    ∙ (AreCodes-keeps c.self.inside.series.texts c.coded.new.self.texts c.coded.ensures.keeps c.self.inside.series.entries.entries c.self.invariant).0 ∙ c.self.view_is
-
-pub add_all-requires-clause-codes : goal.add_all-requires-clause-codes
-add_all-requires-clause-codes c =
-    subst (AreCodes c.coded.new.self.texts) (sym c.coded.ensures.entries)
-    (AreCodes-keeps c.self.inside.series.texts c.coded.new.self.texts c.coded.ensures.keeps c.self.inside.series.entries.entries c.self.invariant).1
-
-pub add_all-requires-clause-room : goal.add_all-requires-clause-room
-add_all-requires-clause-room c =
-    let same : decoded c.coded.new.self.texts c.coded.new.self.entries.entries ≡ c.args.self.now = ap (decoded c.coded.new.self.texts) c.coded.ensures.entries
-    ∙ (AreCodes-keeps c.self.inside.series.texts c.coded.new.self.texts c.coded.ensures.keeps c.self.inside.series.entries.entries c.self.invariant).0 ∙ c.self.view_is in
-    subst HasCounterRoom (sym same) c.requires.room
 
 pub returns-clause-stands : goal.returns-clause-stands
 returns-clause-stands c =
-    let same : decoded c.coded.new.self.texts c.coded.new.self.entries.entries ≡ c.args.self.now = ap (decoded c.coded.new.self.texts) c.coded.ensures.entries
-    ∙ (AreCodes-keeps c.self.inside.series.texts c.coded.new.self.texts c.coded.ensures.keeps c.self.inside.series.entries.entries c.self.invariant).0 ∙ c.self.view_is in
-    λ es stands. c.add_all.ensures.takes es (same ∙ stands)
+    let entries = c.self.inside.series.entries in
+    let event = c.args.event.now in
+    let whole : AllWhole event.args = search rules in
+    let put : c.put_all.new.entries.entries ≡ insert_all same_series entries (map (next_entry entries event) event.args) =
+    c.put_all.ensures ∙ ap₂ (insert_all same_series) c.in-Ok.ensures.entries (c.in-Ok-next_entries.ensures ∙ ap (λ es. map (next_entry es event) event.args) c.in-Ok.ensures.entries) in
+    λ es stands. ap kept_series put ∙ TakesCounter-all entries event c.pairs.ensures.in_order whole es (c.self.view_is ∙ stands)

@@ -5,7 +5,7 @@ use Rattle.indexmap.specs.IndexSet.{insert_key}
 use Rattle.span_keyed_tracks.specs.Numbering.{number_in}
 use Rattle.span_keyed_tracks.proofs.Lists.Places.{position_or_len-None, list_any-None, position-append}
 use Rattle.span_event.specs.Text.{same_text}
-use Rattle.span_keyed_tracks.proofs.texts.Texts.add.Goals as goal
+use Rattle.span_keyed_tracks.proofs.names.Names.add.Goals as goal
 
 -- a text that is new goes last, under the number of its place
 number_in-insert_key : (names after : List (List ℕ)) (text copy : List ℕ) (n : ℕ) → number_in names text ≡ None → copy ≡ text → after ≡ insert_key same_text names copy → n ≡ position_or_len (same_text copy) names → number_in after text ≡ Some n

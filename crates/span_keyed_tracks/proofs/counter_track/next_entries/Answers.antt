@@ -1,0 +1,42 @@
+use Rattle.std.proofs.Common.{rules, ◌≡◌, ℕ, zero, suc, ◌+◌, ◌<◌, ◌∷◌, [], ◌++◌, map, take, drop, sym, ap, ap₂, subst, ◌∙◌, arith, w64, to_z, of_z}
+use Rattle.std.specs.Prelude.{option_copied}
+use Rattle.std.proofs.lemmas.Grind.{take_at_read}
+use Rattle.std.proofs.lemmas.List.{map_push}
+use Rattle.span_event.specs.Args.{AllWhole, Arguments}
+use Rattle.span_event.specs.declared.args.ArgValue.TheVariants.{Whole}
+use Rattle.span_keyed_tracks.specs.Counters.{series_key}
+use Rattle.span_keyed_tracks.specs.CountersKept.{found_at, next_entry, samples_before, with_sample}
+use Rattle.span_keyed_tracks.proofs.SeriesKept.{samples_before-found_at}
+use Rattle.span_keyed_tracks.proofs.counter_track.next_entries.Goals as goal
+
+AllWhole-later : (n : ℕ) (ms : Arguments) → AllWhole (drop n ms) → AllWhole (drop (suc n) ms)
+AllWhole-later n [] all = tt
+AllWhole-later zero (m ∷ ms) all = all.1
+AllWhole-later (suc n) (m ∷ ms) all = AllWhole-later n ms all
+
+pub with-requires : goal.with-requires
+with-requires c = record { room = subst (λ o. samples_before o < 4294967295) (sym c.get.ensures.value) (samples_before-found_at c.args.entries.now.entries c.in_ok-key.key c.requires.room) }
+
+pub loop-series-preserved : goal.loop-series-preserved
+loop-series-preserved c =
+    let inv = c.loop-series.invariant in
+    let entries = c.args.entries.now.entries in
+    let event = c.args.event.now in
+    let members = c.pairs-members.result.now in
+    let i = c.loop-series.series-index in
+    let item = c.loop-series-item.result in
+    let read = (take_at_read members i item c.loop-series-test.true).1 in
+    let next : suc i ≡ i + 1 = omega arith in
+    let key : c.in_ok-key.key ≡ series_key event item.0 = search rules in
+    let whole : item ≡ (item.0, Whole c.in-Whole.value) = ap (λ v. (item.0, v)) c.in-Whole.is in
+    let ts : to_z w64 (of_z w64 event.ts) ≡ event.ts = search rules in
+    let value : to_z w64 (of_z w64 c.in-Whole.value) ≡ c.in-Whole.value = search rules in
+    let running : c.in_ok-running.running ≡ with_sample (found_at entries (series_key event item.0)) (record { ts = event.ts; value = c.in-Whole.value }) =
+    c.in_ok-running.ensures ∙ ap₂ (λ t v. with_sample (option_copied c.get.result) (record { ts = t; value = v })) ts value
+    ∙ ap (λ o. with_sample o (record { ts = event.ts; value = c.in-Whole.value })) (c.get.ensures.value ∙ ap (found_at entries) key) in
+    let entry : (c.in_ok-key.key, c.in_ok-running.running) ≡ next_entry entries event item = ap₂ (λ k r. (k, r)) key running ∙ ap (next_entry entries event) (sym whole) in
+    let pushed : c.push.new.self.items ≡ c.loop-series.next.items ++ (c.in_ok-key.key, c.in_ok-running.running) ∷ [] = search rules in (
+      pushed ∙ ap₂ (λ l e. l ++ e ∷ []) inv.0 entry ∙ sym (map_push (next_entry entries event) (take i members) item)
+          ∙ ap (map (next_entry entries event)) (ap (λ x. take i members ++ x ∷ []) c.loop-series-item.is ∙ sym read),
+      subst (λ n. AllWhole (drop n members)) next (AllWhole-later i members inv.1),
+    )
