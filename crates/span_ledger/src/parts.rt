@@ -15,7 +15,7 @@ use crate::rows::{ProcessRow, SpanRow, ThreadRow};
 use crate::track_rows::{process_row, thread_row, thread_span_rows};
 use crate::tracks::Tracks;
 use span_event::Thread;
-use span_keyed_tracks::{InstantRow, SeriesRow};
+use span_keyed_tracks::{InstantRow, SeriesRef, SeriesRow};
 use std::alloc::{AllocError, Global};
 use std::collections::{BTreeMap, BTreeSet};
 use std::marker::Model;
@@ -94,6 +94,9 @@ impl Group {
     fn add_series(&mut self, row: SeriesRow) -> Result<(), AllocError>
         ensures { OnOk result (self.new ≡ with_series row self.old) }
     {
+        if self.series.is_empty() {
+            self.series.reserve_exact(1)?;
+        }
         self.series.push(row)?;
         Ok(())
     }
@@ -190,7 +193,7 @@ fn grouped(alloc: Global, tracks: &Tracks) -> Result<BTreeMap<i64, Group>, Alloc
 {
     let mut groups = empty_groups(alloc, &tracks.listed)?;
     add_threads(&mut groups, tracks.listed.ordered_threads(alloc)?)?;
-    add_series(&mut groups, tracks.series_rows(alloc)?)?;
+    add_series(alloc, &mut groups, tracks.keyed.sorted_series(alloc)?)?;
     Ok(groups)
 }
 
@@ -219,13 +222,18 @@ fn add_threads(
     Ok(())
 }
 
-fn add_series(groups: &mut BTreeMap<i64, Group>, rows: Vec<SeriesRow>) -> Result<(), AllocError>
+// Each row is made where it stays: there may be millions.
+fn add_series(
+    alloc: Global,
+    groups: &mut BTreeMap<i64, Group>,
+    rows: Vec<SeriesRef<'_>>,
+) -> Result<(), AllocError>
     ensures { OnOk result ((pids : List ℤ) (threads : List Thread) → IsStrictlySortedBy int_cmp pids
         → groups.old.entries ≡ groups_of pids threads []
-        → groups.new.entries ≡ groups_of pids threads rows.items) }
+        → groups.new.entries ≡ groups_of pids threads rows.entry.items) }
 {
     for row in rows {
-        add_row(groups, row)?;
+        add_row(groups, row.to_row(alloc)?)?;
     }
     Ok(())
 }
