@@ -1,5 +1,5 @@
 -- What is kept of series, and how it changes with a counter event.
-use Rattle.std.proofs.Common.{◌≡◌, ◌-◌, ◌<◌, ◌^◌, ℤ, List, [], ◌∷◌, ◌++◌, Bool, true, false, cond, Option, Some, None, refl, sym, ap, subst, ◌∙◌, arith, map, append-nil, append_assoc}
+use Rattle.std.proofs.Common.{ℕ, position, ◌≡◌, ◌-◌, ◌<◌, ◌^◌, ℤ, List, [], ◌∷◌, ◌++◌, Bool, true, false, cond, Option, Some, None, refl, sym, ap, subst, ◌∙◌, arith, map, append-nil, append_assoc}
 use Rattle.std.specs.Prelude.{unwrap_or, fold, filter_map, flat_map}
 use Rattle.std.specs.Cmp.{both_tied}
 use Rattle.std.specs.Cmp.Lexicographic.{texts_ties}
@@ -9,7 +9,8 @@ use Rattle.std.specs.declared.cmp.Ordering.{Ordering}
 use Rattle.std.specs.declared.cmp.Ordering.TheVariants.{Less, Equal, Greater}
 use Rattle.std.specs.Map.{keys_of, lookup}
 use Rattle.std.specs.BTreeMap.{insert_entry, is_at}
-use Rattle.indexmap.specs.IndexMap.{insert_all, insert_entry as put_entry}
+use Rattle.indexmap.proofs.MapLemmas.{Found-position, insert_entry-first}
+use Rattle.indexmap.specs.IndexMap.{insert_all, insert_entry as put_entry, set_value_at}
 use Rattle.span_event.specs.declared.event.Event.{Event}
 use Rattle.span_event.specs.declared.args.ArgValue.TheVariants.{Nil, Flag, Whole, Words, Other}
 use Rattle.span_event.specs.Args.{AllWhole, Arguments, IsInNameOrder}
@@ -20,9 +21,10 @@ use Rattle.span_keyed_tracks.specs.declared.keys.SeriesKey.{SeriesKey}
 use Rattle.span_keyed_tracks.specs.Keyed.{kept_at}
 use Rattle.span_keyed_tracks.specs.Uses.{first_uses}
 use Rattle.span_keyed_tracks.specs.Counters.{Sample, Series, CounterStandsFor, TakesCounter, HasCounterRoom, series_cmp, series_key, series_keys, series_from, series_of, samples_of, series_row, series_rows}
-use Rattle.span_keyed_tracks.specs.CountersKept.{found_at, kept_row, kept_series, next_entry, same_series, samples_before, with_sample}
+use Rattle.span_keyed_tracks.specs.CountersKept.{ArePlaced, IsPlaced, found_at, kept_row, kept_series, next_entry, same_series, samples_before, with_sample}
 use Rattle.span_keyed_tracks.proofs.Counters.{with_args, kept_at-CounterStandsFor, samples-before, samples_before-series_of, length-samples_of, uses_in-member, uses_in-no_member, value_of-in_order}
 use Rattle.span_keyed_tracks.proofs.Keyed.{keys_of-made}
+use Rattle.span_keyed_tracks.proofs.Lists.Places.{position-front}
 use Rattle.span_keyed_tracks.proofs.Orders.{series_cmp-total, series_cmp-same}
 use Rattle.span_keyed_tracks.proofs.Uses.{AreApart, AreApart-fold, first_uses-ascending}
 
@@ -65,6 +67,33 @@ kept_series-put_entry (e ∷ es) key v =
     ap (λ b. kept_series (cond b ((e.0, v) ∷ es) (e ∷ put_entry same_series es key v))) (same_series-is_eq key e.0)
     ∙ elim (is_eq (series_cmp key e.0)) as (λ b. kept_series (cond b ((e.0, v) ∷ es) (e ∷ put_entry same_series es key v)) ≡ cond b ((e.0, Some v) ∷ kept_series es) ((e.0, Some e.1) ∷ put_entry (eq_by_cmp series_cmp) (kept_series es) key (Some v)))
     [ true ↦ refl | false ↦ ap (λ l. (e.0, Some e.1) ∷ l) (kept_series-put_entry es key v) ]
+
+-- what is written at the place of a key is put at the key
+pub put_entry-placed : (entries : List (SeriesKey × Series)) (key : SeriesKey) (v : Series) (i : ℕ) → position (same_series key) (keys_of entries) ≡ Some i → put_entry same_series entries key v ≡ set_value_at entries i v
+put_entry-placed entries key v i placed = insert_entry-first same_series key v entries i (Found-position (same_series key) entries i placed).first
+
+keys_of-put_entry : (entries : List (SeriesKey × Series)) (key : SeriesKey) (v : Series) → (more : List SeriesKey) × (keys_of (put_entry same_series entries key v) ≡ keys_of entries ++ more)
+keys_of-put_entry [] key v = (key ∷ [], refl)
+keys_of-put_entry (e ∷ es) key v = by (same_series key e.0) (keys_of-put_entry es key v)
+  where
+    by : (b : Bool) → ((more : List SeriesKey) × (keys_of (put_entry same_series es key v) ≡ keys_of es ++ more)) → (more : List SeriesKey) × (keys_of (cond b ((e.0, v) ∷ es) (e ∷ put_entry same_series es key v)) ≡ e.0 ∷ keys_of es ++ more)
+    by true rest = ([], ap (λ l. e.0 ∷ l) (sym (append-nil (keys_of es))))
+    by false rest = (rest.0, ap (λ l. e.0 ∷ l) rest.1)
+
+-- keys keep their places when an entry is put
+pub ArePlaced-put : (entries : List (SeriesKey × Series)) (key : SeriesKey) (v : Series) (next : List (Option ℕ × SeriesKey × Series)) → ArePlaced entries next → ArePlaced (put_entry same_series entries key v) next
+ArePlaced-put entries key v [] placed = tt
+ArePlaced-put entries key v (n ∷ ns) placed = (by n.0 placed.0, ArePlaced-put entries key v ns placed.1)
+  where
+    by : (place : Option ℕ) → IsPlaced entries place n.1 → IsPlaced (put_entry same_series entries key v) place n.1
+    by None placed = tt
+    by (Some i) placed =
+        let keys = keys_of-put_entry entries key v in
+        subst (λ ks. position (same_series n.1) ks ≡ Some i) (sym keys.1) (position-front (same_series n.1) (keys_of entries) keys.0 i placed)
+
+pub ArePlaced-push : (entries : List (SeriesKey × Series)) (next : List (Option ℕ × SeriesKey × Series)) (n : Option ℕ × SeriesKey × Series) → ArePlaced entries next → IsPlaced entries n.0 n.1 → ArePlaced entries (next ++ n ∷ [])
+ArePlaced-push entries [] n placed one = (one, tt)
+ArePlaced-push entries (x ∷ xs) n placed one = (placed.0, ArePlaced-push entries xs n placed.1 one)
 
 module _ (entries : List (SeriesKey × Series)) (event : Event) (es : List Event) (stands : CounterStandsFor (kept_series entries) es) where
   -- one more value of the event is put where those before it were

@@ -1,7 +1,8 @@
 -- How series are kept, and how they change with one more event.
-use Rattle.std.specs.Prelude.{ℕ, ◌+◌, ◌&&◌, Bool, pos, List, map, int_lt, Option, Some, None, unwrap_or, if◌then◌else◌}
+use Rattle.std.specs.Prelude.{◌≡◌, IfSome, position, ℕ, ◌+◌, ◌&&◌, Bool, pos, List, map, int_lt, Option, Some, None, unwrap_or, if◌then◌else◌}
 use Rattle.std.specs.Int.{int_min, int_max}
-use Rattle.std.specs.Map.{lookup}
+use Rattle.std.specs.List.{AllByRecursion}
+use Rattle.std.specs.Map.{keys_of, lookup}
 use Rattle.std.specs.Cmp.{IsEquivalence, and_equiv, int_eq_equiv, on_equiv}
 use Rattle.std.specs.Cmp.Lexicographic.{nat_list_eq_equiv, options_equiv}
 use Rattle.std.specs.Option.{option_eq}
@@ -65,6 +66,13 @@ same_series-equiv =
 -- what is found at a key
 abbrev pub found_at : List (SeriesKey × Series) → SeriesKey → Option Series
 found_at entries key = lookup (same_series key) entries
+
+-- the place, if there is one, is that of the key
+abbrev pub IsPlaced : List (SeriesKey × Series) → Option ℕ → SeriesKey → Type 0
+IsPlaced entries place key = IfSome place (λ i. position (same_series key) (keys_of entries) ≡ Some i)
+
+abbrev pub ArePlaced : List (SeriesKey × Series) → List (Option ℕ × SeriesKey × Series) → Type 0
+ArePlaced entries next = AllByRecursion (λ n. IsPlaced entries n.0 n.1) next
 
 -- a series of an event's counter, once it has the event's value of it
 abbrev pub next_entry : List (SeriesKey × Series) → Event → Bytes × ArgValue → SeriesKey × Series

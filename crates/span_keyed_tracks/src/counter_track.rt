@@ -1,6 +1,7 @@
 //! The track of counters.
-ghost use Rattle.std.specs.Prelude.{◌≡◌, ◌≤◌, [], None, map, option_copied, vec_len, IfOk, OnOk, OnErr};
-ghost use Rattle.indexmap.specs.IndexMap.{insert_all, spare};
+ghost use Rattle.std.specs.Prelude.{◌≡◌, ◌+◌, ◌<◌, ◌≤◌, [], None, map, option_and_then, option_copied, slice_get, vec_len, IfOk, OnOk, OnErr};
+ghost use Rattle.std.specs.Map.{values_of};
+ghost use Rattle.indexmap.specs.IndexMap.{insert_all, insert_entry, spare};
 ghost use Rattle.span_event.specs.declared.event.Event.{Event};
 ghost use Rattle.span_event.specs.declared.event.Phase.TheVariants.{Counter as CounterPhase};
 ghost use Rattle.span_event.specs.Args.{AllWhole};
@@ -8,7 +9,7 @@ ghost use Rattle.span_event.specs.Event.{IsGood};
 ghost use Rattle.span_event.specs.Given.{Gives};
 ghost use Rattle.span_keyed_tracks.specs.Fault.{Answers};
 ghost use Rattle.span_keyed_tracks.specs.Counters.{CounterStandsFor, HasCounterRoom, TakesCounter, series_rows, series_totals};
-ghost use Rattle.span_keyed_tracks.specs.CountersKept.{found_at, kept_row, kept_series, next_entry, same_series};
+ghost use Rattle.span_keyed_tracks.specs.CountersKept.{ArePlaced, IsPlaced, found_at, kept_row, kept_series, next_entry, same_series};
 
 mod running;
 mod shared_key;
@@ -153,15 +154,15 @@ impl CounterTrack {
     }
 }
 
+// A series that an event has a value of: its place, where it has one, its key, and what is kept of it then.
+type Next = (Option<usize>, SharedKey, Running);
+
 // What each series of the event's counter is once it has the event's value of it.
-fn next_entries(
-    alloc: Global,
-    entries: &Entries,
-    event: &Event,
-) -> Result<Vec<(SharedKey, Running)>, AllocError>
+fn next_entries(alloc: Global, entries: &Entries, event: &Event) -> Result<Vec<Next>, AllocError>
     requires whole { AllWhole event.now.args }
     requires room { HasCounterRoom (kept_series entries.now.entries) }
-    ensures { IfOk result (λ next. next.items ≡ map (next_entry entries.now.entries event.now) event.now.args) }
+    ensures next { IfOk result (λ next. map (λ n. (n.1, n.2)) next.items ≡ map (next_entry entries.now.entries event.now) event.now.args) }
+    ensures places { IfOk result (λ next. ArePlaced entries.now.entries next.items) }
 {
     let counter = Counter::shared(alloc, event.pid, &event.name, &event.key)?;
     let members = event.args.pairs();
@@ -171,20 +172,51 @@ fn next_entries(
             unreachable!();
         };
         let key = SharedKey::new(alloc, &counter, series)?;
-        let running = Running::with(alloc, entries.get(&key), event.ts, *value)?;
-        next.push((key, running))?;
+        let place = entries.get_index_of(&key);
+        let running = Running::with(alloc, at(entries, place), event.ts, *value)?;
+        next.push((place, key, running))?;
     }
     Ok(next)
 }
 
-// Keeps these, for each of which there is room.
-fn put_all(entries: &mut Entries, next: Vec<(SharedKey, Running)>)
-    requires { vec_len next ≤ spare entries.old }
-    ensures { entries.new.entries ≡ insert_all same_series entries.old.entries next.items }
+// What is kept at a place, where there is one.
+fn at(entries: &Entries, place: Option<usize>) -> Option<&Running>
+    ensures { option_copied result ≡ option_and_then (slice_get (values_of entries.now.entries)) place }
 {
-    for (key, running) in next {
-        if entries.insert(key, running).is_err() {
-            unreachable!();
+    match entries.get_index(place?) {
+        Some((_, running)) => Some(running),
+        None => None,
+    }
+}
+
+// Keeps these, for each of which there is room.
+fn put_all(entries: &mut Entries, next: Vec<Next>)
+    requires fits { vec_len next ≤ spare entries.old }
+    requires places { ArePlaced entries.old.entries next.items }
+    ensures { entries.new.entries ≡ insert_all same_series entries.old.entries (map (λ n. (n.1, n.2)) next.items) }
+{
+    for (place, key, running) in next {
+        put(entries, place, key, running);
+    }
+}
+
+// Keeps one: a key that has a place is not looked up again.
+fn put(entries: &mut Entries, place: Option<usize>, key: SharedKey, running: Running)
+    requires fits { 0 < spare entries.old }
+    requires placed { IsPlaced entries.old.entries place key }
+    ensures entries { entries.new.entries ≡ insert_entry same_series entries.old.entries key running }
+    ensures spare { spare entries.old ≤ spare entries.new + 1 }
+{
+    match place {
+        Some(place) => {
+            if let Some(kept) = entries.get_index_mut(place) {
+                *kept = running;
+            }
+        }
+        None => {
+            if entries.insert(key, running).is_err() {
+                unreachable!();
+            }
         }
     }
 }

@@ -1,12 +1,14 @@
 use Rattle.std.proofs.Common.{rules, ◌≡◌, ℕ, zero, suc, ◌+◌, ◌<◌, ◌∷◌, [], ◌++◌, map, take, drop, sym, ap, ap₂, subst, ◌∙◌, arith, w64, to_z, of_z}
-use Rattle.std.specs.Prelude.{option_copied}
+use Rattle.std.specs.Prelude.{Option, None, Some, IfSome, is_some, option_and_then, option_copied, position, slice_get, refl}
+use Rattle.std.specs.Map.{keys_of, values_of}
+use Rattle.span_keyed_tracks.specs.declared.keys.SeriesKey.{SeriesKey}
 use Rattle.std.proofs.lemmas.Grind.{take_at_read}
 use Rattle.std.proofs.lemmas.List.{map_push}
 use Rattle.span_event.specs.Args.{AllWhole, Arguments}
 use Rattle.span_event.specs.declared.args.ArgValue.TheVariants.{Whole}
-use Rattle.span_keyed_tracks.specs.Counters.{series_key}
-use Rattle.span_keyed_tracks.specs.CountersKept.{found_at, next_entry, samples_before, with_sample}
-use Rattle.span_keyed_tracks.proofs.SeriesKept.{samples_before-found_at}
+use Rattle.span_keyed_tracks.specs.Counters.{Series, series_key}
+use Rattle.span_keyed_tracks.specs.CountersKept.{ArePlaced, IsPlaced, found_at, next_entry, same_series, samples_before, with_sample}
+use Rattle.span_keyed_tracks.proofs.SeriesKept.{ArePlaced-push, samples_before-found_at}
 use Rattle.span_keyed_tracks.proofs.counter_track.next_entries.Goals as goal
 
 AllWhole-later : (n : ℕ) (ms : Arguments) → AllWhole (drop n ms) → AllWhole (drop (suc n) ms)
@@ -14,8 +16,21 @@ AllWhole-later n [] all = tt
 AllWhole-later zero (m ∷ ms) all = all.1
 AllWhole-later (suc n) (m ∷ ms) all = AllWhole-later n ms all
 
+-- what is kept at the place of a key is what is found at the key
+at-found : {X : Type 0} (kept : ℕ → Option X) (place : Option ℕ) (found : Option X) → is_some place ≡ is_some found → IfSome place (λ i. kept i ≡ found) → option_and_then kept place ≡ found
+at-found kept None None same is = refl
+at-found kept None (Some x) same is = cc
+at-found kept (Some i) found same is = is
+
+IsPlaced-is : (place found : Option ℕ) → place ≡ found → IfSome place (λ i. found ≡ Some i)
+IsPlaced-is None found is = tt
+IsPlaced-is (Some i) found is = sym is
+
 pub with-requires : goal.with-requires
-with-requires c = record { room = subst (λ o. samples_before o < 4294967295) (sym c.get.ensures.value) (samples_before-found_at c.args.entries.now.entries c.in_ok-key.key c.requires.room) }
+with-requires c =
+    let found = c.get_index_of-place.ensures in
+    let at = c.at.ensures ∙ at-found (slice_get (values_of c.args.entries.now.entries)) c.get_index_of-place.result (found_at c.args.entries.now.entries c.in_ok-key.key) found.found found.value in
+    record { room = subst (λ o. samples_before o < 4294967295) (sym at) (samples_before-found_at c.args.entries.now.entries c.in_ok-key.key c.requires.room) }
 
 pub loop-series-preserved : goal.loop-series-preserved
 loop-series-preserved c =
@@ -31,12 +46,19 @@ loop-series-preserved c =
     let whole : item ≡ (item.0, Whole c.in-Whole.value) = ap (λ v. (item.0, v)) c.in-Whole.is in
     let ts : to_z w64 (of_z w64 event.ts) ≡ event.ts = search rules in
     let value : to_z w64 (of_z w64 c.in-Whole.value) ≡ c.in-Whole.value = search rules in
+    let place = c.get_index_of-place.result in
+    let found = c.get_index_of-place.ensures in
+    let at = c.at.ensures ∙ at-found (slice_get (values_of entries)) place (found_at entries c.in_ok-key.key) found.found found.value in
     let running : c.in_ok-running.running ≡ with_sample (found_at entries (series_key event item.0)) (record { ts = event.ts; value = c.in-Whole.value }) =
-    c.in_ok-running.ensures ∙ ap₂ (λ t v. with_sample (option_copied c.get.result) (record { ts = t; value = v })) ts value
-    ∙ ap (λ o. with_sample o (record { ts = event.ts; value = c.in-Whole.value })) (c.get.ensures.value ∙ ap (found_at entries) key) in
+    c.in_ok-running.ensures ∙ ap₂ (λ t v. with_sample (option_copied c.at.result) (record { ts = t; value = v })) ts value
+    ∙ ap (λ o. with_sample o (record { ts = event.ts; value = c.in-Whole.value })) (at ∙ ap (found_at entries) key) in
     let entry : (c.in_ok-key.key, c.in_ok-running.running) ≡ next_entry entries event item = ap₂ (λ k r. (k, r)) key running ∙ ap (next_entry entries event) (sym whole) in
-    let pushed : c.push.new.self.items ≡ c.loop-series.next.items ++ (c.in_ok-key.key, c.in_ok-running.running) ∷ [] = search rules in (
-      pushed ∙ ap₂ (λ l e. l ++ e ∷ []) inv.0 entry ∙ sym (map_push (next_entry entries event) (take i members) item)
+    let one : Option ℕ × SeriesKey × Series = (place, c.in_ok-key.key, c.in_ok-running.running) in
+    let pushed : c.push.new.self.items ≡ c.loop-series.next.items ++ one ∷ [] = search rules in
+    let placed : IsPlaced entries place c.in_ok-key.key = IsPlaced-is place (position (same_series c.in_ok-key.key) (keys_of entries)) found.index in (
+      ap (map (λ (n : Option ℕ × SeriesKey × Series). (n.1, n.2))) pushed ∙ map_push (λ (n : Option ℕ × SeriesKey × Series). (n.1, n.2)) c.loop-series.next.items one
+          ∙ ap₂ (λ l e. l ++ e ∷ []) inv.0 entry ∙ sym (map_push (next_entry entries event) (take i members) item)
           ∙ ap (map (next_entry entries event)) (ap (λ x. take i members ++ x ∷ []) c.loop-series-item.is ∙ sym read),
-      subst (λ n. AllWhole (drop n members)) next (AllWhole-later i members inv.1),
+      subst (ArePlaced entries) (sym pushed) (ArePlaced-push entries c.loop-series.next.items one inv.1 placed),
+      subst (λ n. AllWhole (drop n members)) next (AllWhole-later i members inv.2),
     )

@@ -1,8 +1,11 @@
-use Rattle.std.proofs.Common.{◌≡◌, ◌+◌, ◌≤◌, length}
+use Rattle.std.proofs.Common.{◌≡◌, ◌≤◌, length, map}
+use Rattle.std.specs.Vec.Iter.{into_iter_items}
 use Rattle.indexmap.specs.IndexMap.{insert_all, spare}
-use Rattle.span_keyed_tracks.specs.CountersKept.{same_series}
+use Rattle.span_keyed_tracks.specs.CountersKept.{ArePlaced, same_series}
 use Rattle.span_keyed_tracks.proofs.counter_track.put_all.Given as goal
 
--- those passed are kept, and there is room for the others
-abbrev pub invariant-loop-key : goal.invariant-loop-key
-invariant-loop-key l = (l.entries.entries ≡ insert_all same_series l.fn.entries.entries l.yielded) × (length l.fn.next.items ≤ spare l.entries + length l.yielded)
+-- with those to come what is kept is all; they have their places, and there is room for them
+abbrev pub invariant-loop-place : goal.invariant-loop-place
+invariant-loop-place l =
+    (insert_all same_series l.entries.entries (map (λ n. (n.1, n.2)) (into_iter_items l.place-iterator)) ≡ insert_all same_series l.fn.entries.entries (map (λ n. (n.1, n.2)) l.fn.next.items))
+    × ArePlaced l.entries.entries (into_iter_items l.place-iterator) × (length (into_iter_items l.place-iterator) ≤ spare l.entries)

@@ -11,5 +11,5 @@ returns-clause-stands c =
     let event = c.args.event.now in
     let whole : AllWhole event.args = search rules in
     let put : c.put_all.new.entries.entries ≡ insert_all same_series entries (map (next_entry entries event) event.args) =
-    c.put_all.ensures ∙ ap₂ (insert_all same_series) c.in-Ok.ensures.entries (c.in-Ok-next_entries.ensures ∙ ap (λ es. map (next_entry es event) event.args) c.in-Ok.ensures.entries) in
+    c.put_all.ensures ∙ ap₂ (insert_all same_series) c.in-Ok.ensures.entries (c.in-Ok-next_entries.ensures.next ∙ ap (λ es. map (next_entry es event) event.args) c.in-Ok.ensures.entries) in
     λ es stands. ap kept_series put ∙ TakesCounter-all entries event c.pairs.ensures.in_order whole es (c.self.view_is ∙ stands)
