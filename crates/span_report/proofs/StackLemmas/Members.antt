@@ -1,16 +1,24 @@
 -- Which stacks a list has, and that it is no shorter than another list of which it has each stack, where none stands there twice.
-use Rattle.std.proofs.Common.{◌≡◌, ℕ, zero, suc, ◌<◌, ◌≤◌, Bool, true, false, ◌||◌, cond, List, [], ◌∷◌, ◌++◌, length, get_or, refl, sym, ap, subst, ◌∙◌, arith, inl, inr, ◌⊎◌, true≢false}
-use Rattle.std.specs.List.{list_any}
+use Rattle.std.proofs.Common.{◌≡◌, ℕ, zero, suc, ◌+◌, ◌<◌, ◌≤◌, Bool, true, false, ◌||◌, cond, List, [], ◌∷◌, ◌++◌, length, get_or, refl, sym, ap, subst, ◌∙◌, arith, inl, inr, ◌⊎◌, true≢false}
+use Rattle.std.specs.List.{list_any, sum_by}
 use Rattle.std.specs.List.Sorted.{IsStrictlySortedBy}
 use Rattle.std.specs.Ordering.{is_eq}
 use Rattle.std.specs.declared.cmp.Ordering.{Ordering}
 use Rattle.std.specs.declared.cmp.Ordering.TheVariants.{Less, Equal, Greater}
 use Rattle.std.proofs.lemmas.Cmp.{tied_itself}
 use Rattle.std.proofs.lemmas.List.Folds.{list_any-append}
+use Rattle.std.proofs.lemmas.List.Sums.{sum_by-cons}
 use Rattle.span_report.specs.Stacks.Microseconds.{Stack, same_stack, stack_order}
-use Rattle.span_report.specs.Stacks.Tree.{AreMoreThan, Has, HasEach}
 use Rattle.span_report.proofs.StackLemmas.Tallies.{none-below}
 use Rattle.span_report.proofs.StackLemmas.Times.{stack_order-same, stack_order-total}
+
+-- one of these stacks is this one
+abbrev pub Has : List Stack → Stack → Type 0
+Has stacks stack = list_any (same_stack stack) stacks ≡ true
+
+-- each of these stacks is one of those
+abbrev pub HasEach : List Stack → List Stack → Type 0
+HasEach those these = (stack : Stack) → Has these stack → Has those stack
 
 pub or-either : (a b : Bool) → (a || b) ≡ true → (a ≡ true) ⊎ (b ≡ true)
 or-either true b is = inl refl
@@ -69,22 +77,18 @@ has-left xs ys = λ k has. list_any-append (same_stack k) xs ys ∙ or-left (lis
 pub has-right : (xs ys : List Stack) → HasEach (xs ++ ys) ys
 has-right xs ys = λ k has. list_any-append (same_stack k) xs ys ∙ or-right (list_any (same_stack k) xs) (list_any (same_stack k) ys) has
 
--- more stacks are no fewer
-pub AreMoreThan-more : (most : ℕ) (more stacks : List Stack) → HasEach more stacks → AreMoreThan most stacks → AreMoreThan most more
-AreMoreThan-more most more stacks each are = λ all has. are all (λ k is. has k (each k is))
-
 -- a list without the first stack that is this one
 abbrev without : Stack → List Stack → List Stack
 without stack [] = []
 without stack (x ∷ xs) = cond (same_stack stack x) xs (x ∷ without stack xs)
 
-length-without : (stack : Stack) (xs : List Stack) → Has xs stack → length xs ≡ suc (length (without stack xs))
-length-without stack [] has = absurd (has-none stack has)
-length-without stack (x ∷ xs) has = by (same_stack stack x) has (length-without stack xs)
+sum_by-without : (w : Stack → ℕ) (stack : Stack) (xs : List Stack) → Has xs stack → sum_by w xs ≡ w stack + sum_by w (without stack xs)
+sum_by-without w stack [] has = absurd (has-none stack has)
+sum_by-without w stack (x ∷ xs) has = by (same_stack stack x) refl has (sum_by-without w stack xs)
   where
-    by : (b : Bool) → (b || list_any (same_stack stack) xs) ≡ true → (Has xs stack → length xs ≡ suc (length (without stack xs))) → suc (length xs) ≡ suc (length (cond b xs (x ∷ without stack xs)))
-    by true has rest = refl
-    by false has rest = ap suc (rest has)
+    by : (b : Bool) → same_stack stack x ≡ b → (b || list_any (same_stack stack) xs) ≡ true → (Has xs stack → sum_by w xs ≡ w stack + sum_by w (without stack xs)) → sum_by w (x ∷ xs) ≡ w stack + sum_by w (cond b xs (x ∷ without stack xs))
+    by true same has rest = sum_by-cons w x xs ∙ ap (λ s. w s + sum_by w xs) (sym (same-true stack x same))
+    by false same has rest = let more = rest has in omega (arith, more, sum_by-cons w x xs, sum_by-cons w x (without stack xs))
 
 has-without : (stack k : Stack) (xs : List Stack) → same_stack k stack ≡ false → Has xs k → Has (without stack xs) k
 has-without stack k [] other has = has
@@ -101,12 +105,13 @@ abbrev pub StandOnce : List Stack → Type 0
 StandOnce [] = Unit {0}
 StandOnce (x ∷ xs) = (list_any (same_stack x) xs ≡ false) × StandOnce xs
 
-pub length-le-each : (xs ys : List Stack) → StandOnce xs → HasEach ys xs → length xs ≤ length ys
-length-le-each [] ys once each = omega arith
-length-le-each (x ∷ xs) ys once each =
+-- what different stacks come to is no more than what a list with each of them comes to
+pub sum_by-le-each : (w : Stack → ℕ) (xs ys : List Stack) → StandOnce xs → HasEach ys xs → sum_by w xs ≤ sum_by w ys
+sum_by-le-each w [] ys once each = omega arith
+sum_by-le-each w (x ∷ xs) ys once each =
     let own : Has ys x = each x (has-first x xs) in
-    let rest = length-le-each xs (without x ys) once.1 (λ k has. has-without x k ys (other k has) (each k (has-later x xs k has))) in
-    omega (arith, rest, length-without x ys own)
+    let rest = sum_by-le-each w xs (without x ys) once.1 (λ k has. has-without x k ys (other k has) (each k (has-later x xs k has))) in
+    omega (arith, rest, sum_by-cons w x xs, sum_by-without w x ys own)
   where
     other : (k : Stack) → Has xs k → same_stack k x ≡ false
     other k has = by (same_stack k x) refl
@@ -114,6 +119,13 @@ length-le-each (x ∷ xs) ys once each =
         by : (b : Bool) → same_stack k x ≡ b → same_stack k x ≡ false
         by false is = is
         by true is = absurd (true≢false (sym has ∙ ap (λ (s : Stack). list_any (same_stack s) xs) (same-true k x is) ∙ once.0))
+
+sum_by-one : (xs : List Stack) → sum_by (λ x. 1) xs ≡ length xs
+sum_by-one [] = refl
+sum_by-one (x ∷ xs) = omega (arith, sum_by-cons (λ (y : Stack). 1) x xs, sum_by-one xs)
+
+pub length-le-each : (xs ys : List Stack) → StandOnce xs → HasEach ys xs → length xs ≤ length ys
+length-le-each xs ys once each = omega (arith, sum_by-le-each (λ x. 1) xs ys once each, sum_by-one xs, sum_by-one ys)
 
 -- a stack that passes stands somewhere
 pub any-index : (p : Stack → Bool) (xs : List Stack) → list_any p xs ≡ true → (k : ℕ) × (k < length xs) × (p (get_or xs k []) ≡ true)
@@ -128,21 +140,6 @@ pub has-at : (xs : List Stack) (k : ℕ) → k < length xs → Has xs (get_or xs
 has-at [] k within = absurd (omega (arith, within))
 has-at (x ∷ xs) zero within = has-first x xs
 has-at (x ∷ xs) (suc k) within = has-later x xs (get_or xs k []) (has-at xs k (omega (arith, within)))
-
--- no stack stands at two places
-pub StandOnce-apart : (xs : List Stack) → ((m n : ℕ) → m < length xs → n < length xs → get_or xs m [] ≡ get_or xs n [] → m ≡ n) → StandOnce xs
-StandOnce-apart [] apart = tt
-StandOnce-apart (x ∷ xs) apart = (
-  new (list_any (same_stack x) xs) refl,
-  StandOnce-apart xs (λ m n first second same. let next : suc m ≡ suc n = apart (suc m) (suc n) (omega (arith, first)) (omega (arith, second)) same in omega (arith, next)),
-)
-  where
-    new : (b : Bool) → list_any (same_stack x) xs ≡ b → list_any (same_stack x) xs ≡ false
-    new false is = is
-    new true is =
-        let at = any-index (same_stack x) xs is in
-        let same : 0 ≡ suc at.0 = apart 0 (suc at.0) (omega arith) (omega (arith, at.1)) (same-true x (get_or xs at.0 []) at.2) in
-        absurd (omega (arith, same))
 
 pub StandOnce-sorted : (xs : List Stack) → IsStrictlySortedBy stack_order xs → StandOnce xs
 unfolding IsStrictlySortedBy

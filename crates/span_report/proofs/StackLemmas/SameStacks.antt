@@ -1,5 +1,5 @@
 -- The stacks of a journal follow from the acts on each process; of the positions of spans only the order counts.
-use Rattle.std.proofs.Common.{◌≡◌, ℕ, ℤ, Bool, cond, ◌&&◌, ◌||◌, int_lt, List, [], ◌∷◌, ◌++◌, length, map, refl, ap, ap₂, ◌∙◌}
+use Rattle.std.proofs.Common.{◌≡◌, ℕ, ℤ, Bool, cond, ◌&&◌, ◌||◌, int_lt, List, [], ◌∷◌, length, map, refl, ap, ap₂, ◌∙◌}
 use Rattle.std.specs.Prelude.{filter, flat_map, fold, sum_by}
 use Rattle.std.specs.BTreeSet.{insert_key}
 use Rattle.std.specs.Ordering.{int_eq, match_ordering}
@@ -15,13 +15,13 @@ use Rattle.span_keyed_tracks.specs.Keyed.{ascending}
 use Rattle.span_track.specs.Nesting.{closed_spans}
 use Rattle.span_track.proofs.Threads.Renumbering.{closed_spans-renumbered}
 use Rattle.span_ledger.specs.declared.entry.Entry.{Entry}
-use Rattle.span_ledger.specs.Parts.{ProcessRows, ThreadRows, process_parts}
+use Rattle.span_ledger.specs.Parts.{ProcessRows, ThreadRows}
 use Rattle.span_ledger.specs.Told.{thread_events}
 use Rattle.span_ledger.specs.Topics.{AreAlike, of_process}
 use Rattle.span_ledger.proofs.Topics.Rows.{rows-follow}
 use Rattle.span_ledger.proofs.Topics.Threads.{thread_events-alike}
 use Rattle.span_report.specs.Stacks.Bounds.{beginnings}
-use Rattle.span_report.specs.Stacks.Folded.{folded_of, names_of, stack_lines, thread_frame_count, thread_frames, thread_stacks}
+use Rattle.span_report.specs.Stacks.Folded.{stack_lines, thread_frame_count, thread_frames, thread_stacks}
 use Rattle.span_report.specs.Stacks.Laws.{StacksFollowFromActs}
 use Rattle.span_report.specs.Stacks.Microseconds.{Folded, Stack, folded, has_frames, microseconds, names_at, rank_order, ranked, stack_at, stack_order, stacks_of}
 

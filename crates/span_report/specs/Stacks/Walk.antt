@@ -1,10 +1,8 @@
--- The stacks of a tree, frame by frame: each frame is the last of a stack, whose others are those that the stack before it begins with.
-use Rattle.std.specs.Prelude.{◌≡◌, ℕ, ◌≤◌, nat_lt, List, [], ◌∷◌, ◌++◌, length, take, fold}
-use Rattle.std.specs.List.{AllByRecursion, list_any}
+-- The stacks of a thread, frame by frame: each frame is the last of a stack, whose others are those that the stack before it begins with.
+use Rattle.std.specs.Prelude.{◌≡◌, ℕ, suc, zero, ◌≤◌, List, [], ◌∷◌, ◌++◌, length, take, fold}
 use Rattle.std.specs.declared.cmp.Ordering.TheVariants.{Less}
 use Rattle.span_event.specs.Text.{Bytes}
-use Rattle.span_report.specs.Stacks.Microseconds.{Folded, Stack, same_stack, stack_order}
-use Rattle.span_report.specs.Stacks.Tree.{Tree, folded_if, time_of}
+use Rattle.span_report.specs.Stacks.Microseconds.{Folded, Stack, stack_order}
 
 -- the last frame of a stack, how many others are below it, and how many microseconds have the stack
 pub record Framed : Type 0 where
@@ -20,6 +18,11 @@ stack_after before frame = take frame.below before ++ frame.name ∷ []
 abbrev pub last_stack : List Framed → Stack
 last_stack frames = fold stack_after [] frames
 
+-- a stack with its time, if it has any
+abbrev pub folded_if : Stack → ℕ → List Folded
+folded_if stack zero = []
+folded_if stack (suc n) = record { stack = stack; time = suc n } ∷ []
+
 -- those of the stacks after another that have any time
 abbrev pub folded_after : Stack → List Framed → List Folded
 folded_after before [] = []
@@ -29,9 +32,3 @@ folded_after before (frame ∷ frames) = folded_if (stack_after before frame) fr
 abbrev pub AreAscending : Stack → List Framed → Type 0
 AreAscending before [] = Unit {0}
 AreAscending before (frame ∷ frames) = (frame.below ≤ length before) × (stack_order before (stack_after before frame) ≡ Less) × AreAscending (stack_after before frame) frames
-
--- the stacks of the tree that have any time are those of the frames, each once and in order
-pub record IsWalk (tree : Tree) (frames : List Framed) : Type 0 where
-  pub ascending : AreAscending [] frames
-  pub times : AllByRecursion (λ folded. folded.time ≡ time_of tree folded.stack) (folded_after [] frames)
-  pub stacks : (stack : Stack) → list_any (λ folded. same_stack stack folded.stack) (folded_after [] frames) ≡ nat_lt 0 (time_of tree stack)

@@ -1,14 +1,16 @@
 //! The text of folded stacks.
 ghost use Rattle.std.specs.Prelude.{◌≡◌, ◌++◌, ◌+◌, ◌<◌, ◌≤◌, [], ◌∷◌, flat_map, map, decimal, Err, IfOk, OnOk};
+ghost use Rattle.span_ledger.specs.Named.{AreThreadSpans};
 ghost use Rattle.span_report.specs.Stacks.Bounds.{most_names, names_in};
 ghost use Rattle.span_report.specs.Stacks.Folded.{folded_of, names_of, process_lines, process_names, stack_frames, stack_line, stack_lines, thread_frames, thread_lines, thread_names};
-ghost use Rattle.span_report.specs.Stacks.Walk.{AreAscending, folded_after};
+ghost use Rattle.span_report.specs.Stacks.Microseconds.{folded_stacks};
+ghost use Rattle.span_report.specs.Stacks.Walk.{folded_if};
 
+use super::descent::Descent;
 use super::fault::StacksFault;
 use super::frames::{put_frame, put_owner};
-use super::walk::{StackFrame, framed_stacks};
 use span_event::Text;
-use span_ledger::{Ledger, ProcessPart, ProcessRow, ThreadPart, ThreadRow};
+use span_ledger::{Ledger, NamedSpan, ProcessPart, ProcessRow, ThreadPart, ThreadRow};
 use std::alloc::{AllocError, Global};
 
 // How many names the folded stacks of a ledger may have, each stack as many as it is deep.
@@ -61,27 +63,54 @@ fn put_thread(
     ensures full { result ≡ Err StacksFault.TooLarge → left.old < thread_names ledger.now.journal part.now }
 {
     let row = &part.row;
-    let frames = framed_stacks(alloc, ledger, row.pid, row.tid, *left)?;
-    take_names(&frames, left)?;
     let start = thread_frames(alloc, process, row)?;
-    put_lines(alloc, out, &start, &frames)?;
+    let spans = ledger.closed_spans(alloc, row.pid, row.tid)?;
+    put_stacks(alloc, out, left, &start, spans)
+}
+
+// Appends a line for each stack of the spans, in order. Only the text has each stack whole.
+fn put_stacks(
+    alloc: Global,
+    out: &mut Vec<u8>,
+    left: &mut u32,
+    start: &[u8],
+    spans: Vec<NamedSpan>,
+) -> Result<(), StacksFault>
+    requires { AreThreadSpans spans.items }
+    ensures text { OnOk result (out.new.items ≡ out.old.items ++ stack_lines start.now (folded_stacks spans.entry.items)) }
+    ensures fits { OnOk result (left.new + names_in (folded_stacks spans.entry.items) ≡ left.old) }
+    ensures full { result ≡ Err StacksFault.TooLarge → left.old < names_in (folded_stacks spans.entry.items) }
+{
+    let mut descent = Descent::new(alloc, spans)?;
+    while let Some(frame) = descent.next()? {
+        put_timed(alloc, out, left, start, &descent.stack, frame.time)?;
+    }
     Ok(())
 }
 
-// Takes the names of the stacks from those that are left.
-fn take_names(frames: &[StackFrame], left: &mut u32) -> Result<(), StacksFault>
-    requires { AreAscending [] frames.now }
-    ensures fits { OnOk result (left.new + names_in (folded_after [] frames.now) ≡ left.old) }
-    ensures full { result ≡ Err StacksFault.TooLarge → left.old < names_in (folded_after [] frames.now) }
+// The line of a stack, if it has any time.
+fn put_timed(
+    alloc: Global,
+    out: &mut Vec<u8>,
+    left: &mut u32,
+    start: &[u8],
+    stack: &[&Text],
+    time: u64,
+) -> Result<(), StacksFault>
+    ensures text { OnOk result (out.new.items ≡ out.old.items
+        ++ stack_lines start.now (folded_if (map (λ name. name.now) stack.now) time)) }
+    ensures fits { OnOk result (left.new + names_in (folded_if (map (λ name. name.now) stack.now) time) ≡ left.old) }
+    ensures full { result ≡ Err StacksFault.TooLarge
+        → left.old < names_in (folded_if (map (λ name. name.now) stack.now) time) }
 {
-    for frame in frames {
-        if frame.time > 0 {
-            if frame.below >= *left as usize {
-                return Err(StacksFault::TooLarge);
-            }
-            *left -= frame.below as u32 + 1;
-        }
+    if time == 0 {
+        return Ok(());
     }
+    if stack.len() > *left as usize {
+        return Err(StacksFault::TooLarge);
+    }
+    *left -= stack.len() as u32;
+    put_line(alloc, out, start, stack, time)?;
     Ok(())
 }
 
@@ -98,25 +127,6 @@ fn thread_frames(
     start.push(b';')?;
     put_owner(alloc, &mut start, thread.tid, &thread.name)?;
     Ok(start)
-}
-
-fn put_lines(
-    alloc: Global,
-    out: &mut Vec<u8>,
-    start: &[u8],
-    frames: &[StackFrame],
-) -> Result<(), AllocError>
-    ensures { OnOk result (out.new.items
-        ≡ out.old.items ++ stack_lines start.now (folded_after [] frames.now)) }
-{
-    let mut stack = Vec::new(alloc);
-    for frame in frames {
-        frame.follow(&mut stack)?;
-        if frame.time > 0 {
-            put_line(alloc, out, start, &stack, frame.time)?;
-        }
-    }
-    Ok(())
 }
 
 fn put_line(

@@ -6,9 +6,8 @@ ghost use Rattle.span_report.specs.Stacks.Folded.{thread_frame_count, thread_sta
 ghost use Rattle.span_report.specs.Stacks.Microseconds.{folded_stacks};
 ghost use Rattle.span_report.specs.Stacks.Walk.{AreAscending, folded_after, stack_after};
 
+use super::descent::Descent;
 use super::fault::StacksFault;
-use super::ranks::sort_by_rank;
-use super::sweep::{bounds, swept};
 use span_event::Text;
 use span_ledger::{Ledger, NamedSpan};
 use std::alloc::{AllocError, Global};
@@ -71,7 +70,7 @@ pub fn framed_stacks(
 // Each stack of the spans once, in order.
 fn frames_of<'a>(
     alloc: Global,
-    mut spans: Vec<NamedSpan<'a>>,
+    spans: Vec<NamedSpan<'a>>,
     most: u32,
 ) -> Result<Vec<StackFrame<'a>>, StacksFault>
     requires { AreThreadSpans spans.items }
@@ -82,8 +81,13 @@ fn frames_of<'a>(
     ensures fits { IfOk result (λ frames. length frames.items ≤ most) }
     ensures full { result ≡ Err StacksFault.TooLarge → most < frame_count spans.entry.items }
 {
-    let (from, until) = bounds(&spans);
-    sort_by_rank(&mut spans);
-    let tree = swept(alloc, &spans, from, until, most)?;
-    Ok(tree.frames(alloc)?)
+    let mut descent = Descent::new(alloc, spans)?;
+    let mut frames = Vec::new(alloc);
+    while let Some(frame) = descent.next()? {
+        if frames.len() >= most as usize {
+            return Err(StacksFault::TooLarge);
+        }
+        frames.push(frame)?;
+    }
+    Ok(frames)
 }

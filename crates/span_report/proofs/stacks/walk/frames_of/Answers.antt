@@ -1,71 +1,49 @@
-use Rattle.std.proofs.Common.{◌≡◌, arith, length, rules, sym, ap, subst, ◌∙◌, to_z, of_z, w64}
-use Rattle.std.proofs.lemmas.List.{take_at}
-use Rattle.std.specs.Prelude.{Err}
-use Rattle.span_report.specs.declared.stacks.fault.StacksFault.TheVariants.{TooLarge}
-use Rattle.span_report.specs.Stacks.Bounds.{frames_of}
-use Rattle.span_report.specs.Stacks.Microseconds.{ranked}
-use Rattle.span_report.specs.Stacks.Sweep.{HasBeginnings}
-use Rattle.span_report.proofs.StackLemmas.Beginnings.{HasBeginnings-frames}
-use Rattle.span_report.proofs.StackLemmas.Counting.{length-frames}
-use Rattle.span_report.proofs.StackLemmas.Folding.{folded_stacks-walk}
-use Rattle.span_report.proofs.StackLemmas.Starts.{StartBetween-ranked, latest-le-greatest, least-le-earliest}
+use Rattle.std.proofs.Common.{◌≡◌, ◌∷◌, [], ◌++◌, List, length, arith, sym, ap, subst, rules}
+use Rattle.std.proofs.lemmas.List.{length_push}
+use Rattle.span_report.specs.Stacks.Descent.{Tells}
+use Rattle.span_report.specs.Stacks.Walk.{Framed}
+use Rattle.span_report.proofs.StackLemmas.Counting.{IsTold, IsTold-next, IsTold-none, count-all, folded-all, told-fewer}
 use Rattle.span_report.proofs.stacks.walk.frames_of.Goals as goal
 
-pub swept-requires-clause-between : goal.swept-requires-clause-between
-swept-requires-clause-between c =
+pub loop-frames-init : goal.loop-frames-init
+loop-frames-init c =
+    let none = c.new-frames.ensures.items in
+    record {
+      told = subst (λ (frames : List Framed). IsTold c.args.spans.items frames c.in_ok-descent.descent) (sym none) (IsTold-none c.args.spans.items c.in_ok-descent.descent c.in_ok-descent.ensures.ready c.in_ok-descent.ensures.starts);
+      fits = omega (arith, ap (λ (frames : List Framed). length frames) none);
+    }
+
+-- one more frame than may be is one of the frames that there are
+pub returns-then-len-most-clause-full : goal.returns-then-len-most-clause-full
+returns-then-len-most-clause-full c = λ large.
     let spans = c.args.spans.items in
-    let from : to_z w64 (of_z w64 c.bounds-from.result.0) ≡ c.bounds-from.result.0 = search rules in
-    let until : to_z w64 (of_z w64 c.bounds-from.result.1) ≡ c.bounds-from.result.1 = search rules in
-    let count : c.args.spans.len ≡ length spans = search rules in
-    let many : length c.sort_by_rank.new.spans ≡ c.args.spans.len = c.sort_by_rank.auto.spans ∙ ap length c.deref_mut.ensures.value ∙ sym count in
-    let sorted : c.deref-2.result.now ≡ ranked spans = c.deref-2.ensures.value ∙ take_at c.sort_by_rank.new.spans _ c.args.spans.len many ∙ c.sort_by_rank.ensures ∙ ap ranked c.deref_mut.ensures.value in
-    rw (from, until, sorted, c.bounds-from.ensures.from, c.bounds-from.ensures.until, c.deref.ensures.value) (StartBetween-ranked spans c.requires.are)
+    let frames = c.loop-frames.frames.items in
+    let f = c.in-Some.frame in
+    let tells = subst (Tells c.loop-frames.descent c.next.new.self) c.in-Some.is c.in_ok-frame.ensures.tells in
+    let told = IsTold-next spans frames c.loop-frames.descent c.loop-frames.invariant.told c.next.new.self f tells c.in_ok-frame.ensures.ready in
+    let count : c.len.result ≡ length frames = search rules in
+    omega (arith, told-fewer spans (frames ++ f ∷ []) c.next.new.self told, length_push frames f, count, c.if-len-most.true)
 
-pub swept-requires-clause-from_in_time : goal.swept-requires-clause-from_in_time
-swept-requires-clause-from_in_time c =
-    let from : to_z w64 (of_z w64 c.bounds-from.result.0) ≡ c.bounds-from.result.0 = search rules in
-    rw (from, c.bounds-from.ensures.from, c.deref.ensures.value) (least-le-earliest c.args.spans.items c.requires.in_time)
-
-pub swept-requires-clause-until_in_time : goal.swept-requires-clause-until_in_time
-swept-requires-clause-until_in_time c =
-    let until : to_z w64 (of_z w64 c.bounds-from.result.1) ≡ c.bounds-from.result.1 = search rules in
-    rw (until, c.bounds-from.ensures.until, c.deref.ensures.value) (latest-le-greatest c.args.spans.items c.requires.in_time)
+pub loop-frames-preserved : goal.loop-frames-preserved
+loop-frames-preserved c =
+    let spans = c.args.spans.items in
+    let frames = c.loop-frames.frames.items in
+    let f = c.in-Some.frame in
+    let tells = subst (Tells c.loop-frames.descent c.next.new.self) c.in-Some.is c.in_ok-frame.ensures.tells in
+    let told = IsTold-next spans frames c.loop-frames.descent c.loop-frames.invariant.told c.next.new.self f tells c.in_ok-frame.ensures.ready in
+    let pushed = c.in_ok-push.ensures.items in
+    let count : c.len.result ≡ length frames = search rules in
+    record {
+      told = subst (λ (fs : List Framed). IsTold spans fs c.next.new.self) (sym pushed) told;
+      fits = omega (arith, ap (λ (fs : List Framed). length fs) pushed, length_push frames f, count, c.if-len-most.false);
+    }
 
 pub returns-clause-stacks : goal.returns-clause-stacks
 returns-clause-stacks c =
-    let spans = c.args.spans.items in
-    let tree = c.in_ok-tree.tree in
-    let from : to_z w64 (of_z w64 c.bounds-from.result.0) ≡ c.bounds-from.result.0 = search rules in
-    let until : to_z w64 (of_z w64 c.bounds-from.result.1) ≡ c.bounds-from.result.1 = search rules in
-    let count : c.args.spans.len ≡ length spans = search rules in
-    let many : length c.sort_by_rank.new.spans ≡ c.args.spans.len = c.sort_by_rank.auto.spans ∙ ap length c.deref_mut.ensures.value ∙ sym count in
-    let sorted : c.deref-2.result.now ≡ ranked spans = c.deref-2.ensures.value ∙ take_at c.sort_by_rank.new.spans _ c.args.spans.len many ∙ c.sort_by_rank.ensures ∙ ap ranked c.deref_mut.ensures.value in
-    let has = rw (from, until, sorted, c.bounds-from.ensures.from, c.bounds-from.ensures.until, c.deref.ensures.value) at c.in_ok-tree.ensures.times in
-    folded_stacks-walk spans tree c.in_ok-frames.field-0.items has c.in_ok-frames.ensures.apart c.in_ok-frames.ensures.walk
+    let none = subst (Tells c.loop-frames.descent c.next.new.self) c.in_default.is c.in_ok-frame.ensures.tells in
+    folded-all c.args.spans.items c.loop-frames.frames.items c.loop-frames.descent c.loop-frames.invariant.told none
 
 pub returns-clause-count : goal.returns-clause-count
 returns-clause-count c =
-    let spans = c.args.spans.items in
-    let tree = c.in_ok-tree.tree in
-    let from : to_z w64 (of_z w64 c.bounds-from.result.0) ≡ c.bounds-from.result.0 = search rules in
-    let until : to_z w64 (of_z w64 c.bounds-from.result.1) ≡ c.bounds-from.result.1 = search rules in
-    let count : c.args.spans.len ≡ length spans = search rules in
-    let many : length c.sort_by_rank.new.spans ≡ c.args.spans.len = c.sort_by_rank.auto.spans ∙ ap length c.deref_mut.ensures.value ∙ sym count in
-    let sorted : c.deref-2.result.now ≡ ranked spans = c.deref-2.ensures.value ∙ take_at c.sort_by_rank.new.spans _ c.args.spans.len many ∙ c.sort_by_rank.ensures ∙ ap ranked c.deref_mut.ensures.value in
-    let has = rw (from, until, sorted, c.bounds-from.ensures.from, c.bounds-from.ensures.until, c.deref.ensures.value) at c.in_ok-tree.ensures.times in
-    c.in_ok-frames.ensures.count ∙ length-frames spans c.requires.are tree has c.in_ok-frames.ensures.apart c.in_ok-frames.ensures.rooted
-
-pub returns-clause-ascending : goal.returns-clause-ascending
-returns-clause-ascending c = c.in_ok-frames.ensures.walk.ascending
-
-pub returns-in_err-tree-clause-full : goal.returns-in_err-tree-clause-full
-returns-in_err-tree-clause-full c = λ large.
-    let spans = c.args.spans.items in
-    let failed : c.swept.result ≡ Err TooLarge = search rules in
-    let count : c.args.spans.len ≡ length spans = search rules in
-    let many : length c.sort_by_rank.new.spans ≡ c.args.spans.len = c.sort_by_rank.auto.spans ∙ ap length c.deref_mut.ensures.value ∙ sym count in
-    let sorted : c.deref-2.result.now ≡ ranked spans = c.deref-2.ensures.value ∙ take_at c.sort_by_rank.new.spans _ c.args.spans.len many ∙ c.sort_by_rank.ensures ∙ ap ranked c.deref_mut.ensures.value in
-    c.swept.ensures.full failed (frames_of spans) (subst (HasBeginnings (frames_of spans)) (sym sorted) (HasBeginnings-frames spans c.requires.are))
-
-pub returns-clause-fits : goal.returns-clause-fits
-returns-clause-fits c = omega (arith, c.in_ok-frames.ensures.count, c.in_ok-tree.ensures.fits)
+    let none = subst (Tells c.loop-frames.descent c.next.new.self) c.in_default.is c.in_ok-frame.ensures.tells in
+    count-all c.args.spans.items c.loop-frames.frames.items c.loop-frames.descent c.loop-frames.invariant.told none

@@ -1,0 +1,22 @@
+use Rattle.std.proofs.Common.{◌≡◌, ◌+◌, ◌-◌, ◌≤◌, ◌≤ℤ◌, cond, length}
+use Rattle.std.specs.List.{AllByRecursion}
+use Rattle.span_event.specs.Time.{distance}
+use Rattle.span_report.specs.Stacks.Microseconds.{Stack, same_stack}
+use Rattle.span_report.specs.Stacks.Parts.{IsSound, left, times_on}
+use Rattle.span_report.proofs.stacks.parts.split.Given as goal
+
+-- what was found, the time without a span, and the rest have together what the stretch has
+abbrev pub invariant-loop-part : goal.invariant-loop-part
+invariant-loop-part l = record {
+  from : l.whole.from ≤ℤ l.rest.from;
+  forward : l.rest.from ≤ℤ l.rest.until;
+  until : l.rest.until ≡ l.whole.until;
+  within : l.rest.next ≤ length l.spans;
+  small : l.time + distance l.rest.from l.rest.until ≤ distance l.whole.from l.whole.until;
+  counts : (base : Stack) → length base ≡ l.below → (stack : Stack) →
+      left l.spans base l.found.items stack + (cond (same_stack stack base) l.time 0 + times_on l.spans base l.rest stack) ≡ left l.spans base l.fn.found.items stack + times_on l.spans base l.whole stack;
+  sound : AllByRecursion (λ p. (p.below ≡ l.below) × IsSound l.spans p.over) l.fn.found.items → AllByRecursion (λ p. (p.below ≡ l.below) × IsSound l.spans p.over) l.found.items;
+}
+
+abbrev pub decreases-loop-part : goal.decreases-loop-part
+decreases-loop-part l = length l.spans - l.rest.next

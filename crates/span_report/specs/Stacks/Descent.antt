@@ -1,0 +1,69 @@
+-- How a descent through the frames of spans stands: which stack was told last, and which microseconds are left to be told.
+use Rattle.std.specs.Prelude.{◌≡◌, ℕ, ◌+◌, ◌<◌, ◌≤◌, ◌^◌, if◌then◌else◌, List, [], ◌∷◌, ◌++◌, length, map, take, Option, Some, None}
+use Rattle.std.specs.List.{AllByRecursion, count_by}
+use Rattle.std.specs.declared.cmp.Ordering.TheVariants.{Less, Equal}
+use Rattle.span_event.specs.Text.{Bytes}
+use Rattle.span_self_time.specs.Spans.{Span}
+use Rattle.span_keyed_tracks.specs.Last.{last_of}
+use Rattle.span_report.specs.declared.stacks.descent.Descent.{Descent}
+use Rattle.span_report.specs.declared.stacks.parts.Part.{Part}
+use Rattle.span_report.specs.Stacks.Microseconds.{Stack, same_stack, stack_order, stacks_of}
+use Rattle.span_report.specs.Stacks.Parts.{IsAhead, IsSound, Near, left, nearness, part_stack}
+use Rattle.span_report.specs.Stacks.Walk.{Framed, stack_after}
+
+-- the stack that was told last
+abbrev pub told_last : Descent → Stack
+told_last descent = map (λ name. name.now) descent.stack.items
+
+-- how many microseconds that are left have the stack
+abbrev pub left_of : Descent → Stack → ℕ
+left_of descent stack = left descent.spans (told_last descent) descent.parts.items stack
+
+pub record IsReady (descent : Descent) : Type 0 where
+  pub near : Near descent.parts.items
+  pub ahead : AllByRecursion (IsAhead (told_last descent)) descent.parts.items
+  pub sound : AllByRecursion (λ p. IsSound descent.spans p.over) descent.parts.items
+  pub small : (stack : Stack) → left_of descent stack ≤ 2 ^ 55
+  pub none : descent.found.items ≡ []
+
+-- all microseconds of the spans are left
+pub record StartsWith (spans : List (Span Bytes)) (descent : Descent) : Type 0 where
+  pub last : told_last descent ≡ []
+  pub left : (name : Bytes) (names : Stack) → left_of descent (name ∷ names) ≡ count_by (same_stack (name ∷ names)) (stacks_of spans)
+
+-- a frame is told: it comes after the stack before, with all that is left of its own stack, and more stacks begin with it, or it alone
+pub record TellsFrame (old new : Descent) (frame : Framed) : Type 0 where
+  pub within : frame.below ≤ length (told_last old)
+  pub above : stack_order (told_last old) (stack_after (told_last old) frame) ≡ Less
+  pub last : told_last new ≡ stack_after (told_last old) frame
+  pub left : (stack : Stack) → left_of new stack + (if same_stack stack (stack_after (told_last old) frame) then frame.time else 0) ≡ left_of old stack
+  pub begun : (rest : Stack) × (0 < left_of old (take frame.below (told_last old) ++ frame.name ∷ rest))
+
+-- or nothing is left
+abbrev pub Tells : Descent → Descent → Option Framed → Type 0
+Tells old new None = (stack : Stack) → left_of old stack ≡ 0
+Tells old new (Some frame) = TellsFrame old new frame
+
+-- the nearest part is taken off, if it has the stack of the first
+pub record IsPoppedPart (first : Part) (old : Descent) (part : Part) (new : Descent) : Type 0 where
+  pub parts : old.parts.items ≡ new.parts.items ++ part ∷ []
+  pub below : part.below ≡ first.below
+  pub name : part.name.now ≡ first.name.now
+  pub spans : new.spans ≡ old.spans
+  pub found : new.found.items ≡ old.found.items
+  pub stack : new.stack.items ≡ old.stack.items
+
+abbrev pub IsPopped : Part → Descent → Option Part → Descent → Type 0
+IsPopped first old None new = (new ≡ old) × ((p : Part) → last_of old.parts.items ≡ Some p → nearness p first ≡ Equal → ⊥)
+IsPopped first old (Some part) new = IsPoppedPart first old part new
+
+-- the parts of the stack that comes next are taken off, and those that stand on it are found
+pub record IsNextSplit (first : Part) (time : ℕ) (old new : Descent) : Type 0 where
+  pub spans : new.spans ≡ old.spans
+  pub stack : new.stack.items ≡ old.stack.items
+  pub popped : (parts : List Part) × (old.parts.items ≡ new.parts.items ++ parts)
+  pub done : (p : Part) → last_of new.parts.items ≡ Some p → nearness p first ≡ Equal → ⊥
+  pub counts : (stack : Stack) →
+      left old.spans (told_last old) new.parts.items stack + (left old.spans (part_stack (told_last old) first) new.found.items stack + (if same_stack stack (part_stack (told_last old) first) then time else 0))
+      ≡ left_of old stack
+  pub found : AllByRecursion (λ p. (p.below ≡ first.below + 1) × IsSound old.spans p.over) new.found.items

@@ -1,0 +1,96 @@
+-- The time of a thread in parts: a stack stands through each, and on it may stand some of the spans in ascending rank.
+use Rattle.std.specs.Prelude.{◌≡◌, ℕ, ◌+◌, ◌<◌, ◌≤◌, ◌^◌, ℤ, ◌≤ℤ◌, ◌<ℤ◌, false, if◌then◌else◌, List, [], ◌∷◌, ◌++◌, length, drop, take, sum_by, slice_index_or}
+use Rattle.std.specs.Int.{int_max}
+use Rattle.std.specs.List.{AllByRecursion}
+use Rattle.std.specs.Ordering.{nat_cmp, ordering_then}
+use Rattle.std.specs.declared.cmp.Ordering.{Ordering}
+use Rattle.std.specs.declared.cmp.Ordering.TheVariants.{Less, Greater}
+use Rattle.span_event.specs.Event.{least_time}
+use Rattle.span_event.specs.Text.{Bytes, text_cmp}
+use Rattle.span_event.specs.Time.{distance}
+use Rattle.span_self_time.specs.Closed.{greatest_until}
+use Rattle.span_self_time.specs.Spans.{Span, count_from, covers}
+use Rattle.span_report.specs.declared.stacks.parts.Part.{Part}
+use Rattle.span_report.specs.declared.stacks.parts.Stretch.{Stretch}
+use Rattle.span_report.specs.Stacks.Microseconds.{Stack, names_at, same_stack, stack_order}
+
+-- from this time on none of the spans from the j-th to before the k-th covers a microsecond
+abbrev pub NoneCovers : List (Span Bytes) → ℕ → ℕ → ℤ → Type 0
+NoneCovers spans j k time = (i : ℕ) (d : Span Bytes) (u : ℤ) → j ≤ i → i < k → time ≤ℤ u → covers (slice_index_or spans i d) u ≡ false
+
+-- none of the spans from behind the k-th to before `next` lasts longer than it
+pub record IsLater (spans : List (Span Bytes)) (k next : ℕ) : Type 0 where
+  pub behind : k < next
+  pub within : next ≤ length spans
+  pub over : (d : Span Bytes) → NoneCovers spans (k + 1) next (slice_index_or spans k d).until
+
+-- the list tells such a place for each of the spans from the n-th on
+pub record AreLater (n : ℕ) (spans : List (Span Bytes)) (later : List ℕ) : Type 0 where
+  pub even : length later ≡ length spans
+  pub leads : (k : ℕ) → n ≤ k → k < length spans → IsLater spans k (slice_index_or later k 0)
+
+-- the spans start one after the other
+abbrev pub Rise : List (Span Bytes) → Type 0
+Rise spans = (j k : ℕ) (d : Span Bytes) → j ≤ k → k < length spans → (slice_index_or spans j d).start ≤ℤ (slice_index_or spans k d).start
+
+-- the first of the spans from the n-th on that covers a microsecond from the time on
+pub record IsFirstBeyond (spans : List (Span Bytes)) (n : ℕ) (time : ℤ) (first : ℕ) : Type 0 where
+  pub behind : n ≤ first
+  pub within : first ≤ length spans
+  pub over : NoneCovers spans n first time
+  pub lasts : (d : Span Bytes) → first < length spans → int_max time (slice_index_or spans first d).start <ℤ (slice_index_or spans first d).until
+
+-- the stack of a part, where another one was told before
+abbrev pub part_stack : Stack → Part → Stack
+part_stack last part = take part.below last ++ part.name.now ∷ []
+
+-- nearer are parts of more frames, and of as many those of lesser names
+abbrev pub nearness : Part → Part → Ordering
+nearness a b = ordering_then (nat_cmp a.below b.below) (text_cmp b.name.now a.name.now)
+
+-- none of the parts is nearer than one behind it
+abbrev pub Near : List Part → Type 0
+Near [] = Unit {0}
+Near (p ∷ parts) = AllByRecursion (λ q. nearness p q ≡ Greater → ⊥) parts × Near parts
+
+-- the part's stack comes after another one, with which it begins but for its own frame
+abbrev pub IsAhead : Stack → Part → Type 0
+IsAhead last part = (part.below ≤ length last) × (stack_order last (part_stack last part) ≡ Less)
+
+module _ (spans : List (Span Bytes)) where
+  -- the stretch has a microsecond, and lies within the times that spans can have
+  pub record IsSound (s : Stretch) : Type 0 where
+    pub from : least_time ≤ℤ s.from
+    pub lasts : s.from <ℤ s.until
+    pub until : s.until ≤ℤ greatest_until
+    pub within : s.next ≤ length spans
+
+  -- how many microseconds of a stretch have this stack, where its spans stand on a base
+  abbrev pub times_on : Stack → Stretch → Stack → ℕ
+  times_on base s stack = count_from s.from (distance s.from s.until) (λ u. same_stack stack (base ++ names_at (drop s.next spans) u))
+
+  -- how many microseconds of the parts have this stack
+  abbrev pub left : Stack → List Part → Stack → ℕ
+  left last parts stack = sum_by (λ p. times_on (part_stack last p) p.over stack) parts
+
+  -- the part is the first of a stretch in which a span stands; behind its own spans go on those of the rest
+  pub record IsFirstPart (s : Stretch) (part : Part) : Type 0 where
+    pub from : s.from ≤ℤ part.over.from
+    pub lasts : part.over.from <ℤ part.over.until
+    pub until : part.over.until ≤ℤ s.until
+    pub behind : s.next < part.over.next
+    pub within : part.over.next ≤ length spans
+    pub before : (u : ℤ) → s.from ≤ℤ u → u <ℤ part.over.from → names_at (drop s.next spans) u ≡ []
+    pub through : (u : ℤ) → part.over.from ≤ℤ u → u <ℤ part.over.until → names_at (drop s.next spans) u ≡ part.name.now ∷ names_at (drop part.over.next spans) u
+    pub rest : (u : ℤ) → part.over.until ≤ℤ u → u <ℤ s.until → names_at (drop s.next spans) u ≡ names_at (drop part.over.next spans) u
+
+  -- no span stands in the stretch
+  abbrev pub IsBare : Stretch → Type 0
+  IsBare s = (u : ℤ) → s.from ≤ℤ u → u <ℤ s.until → names_at (drop s.next spans) u ≡ []
+
+  -- the parts of a stretch in which spans stand on so many frames are put to the others, and the rest is its own time
+  pub record IsSplit (below : ℕ) (s : Stretch) (time : ℕ) (old new : List Part) : Type 0 where
+    pub counts : (base : Stack) → length base ≡ below → (stack : Stack)
+        → left base new stack + (if same_stack stack base then time else 0) ≡ left base old stack + times_on base s stack
+    pub sound : AllByRecursion (λ p. (p.below ≡ below) × IsSound p.over) old → AllByRecursion (λ p. (p.below ≡ below) × IsSound p.over) new
+    pub small : time ≤ 2 ^ 55

@@ -1,0 +1,92 @@
+//! The frames of a thread one after the other, each made from the parts of time that its stack and those behind it have.
+ghost use Rattle.std.specs.Prelude.{◌≤◌, length, IfOk, OnOk};
+ghost use Rattle.span_ledger.specs.Named.{AreThreadSpans};
+ghost use Rattle.span_report.specs.Stacks.Descent.{IsNextSplit, IsPopped, IsReady, StartsWith, Tells};
+
+use super::ends::{RankedSpans, bounds};
+use super::parts::{Part, Stretch, compare_nearness, split};
+use super::walk::StackFrame;
+use span_event::Text;
+use span_ledger::NamedSpan;
+use std::alloc::{AllocError, Global};
+
+// A frame at a time, the least stack first. The parts of a stack are only made when it is told, so there are no more of them than
+// the spans have stretches.
+#[derive(Drop)]
+pub(crate) struct Descent<'a> {
+    spans: RankedSpans<'a>,
+    // Those whose stacks are still to be told, the nearest last.
+    parts: Vec<Part<'a>>,
+    // Those that stand on the stack that is being told.
+    found: Vec<Part<'a>>,
+    // The one that was told last.
+    pub stack: Vec<&'a Text>,
+}
+
+impl<'a> Descent<'a> {
+    pub(crate) fn new(alloc: Global, spans: Vec<NamedSpan<'a>>) -> Result<Descent<'a>, AllocError>
+        requires { AreThreadSpans spans.items }
+        ensures ready { IfOk result (λ descent. IsReady descent) }
+        ensures starts { IfOk result (λ descent. StartsWith spans.entry.items descent) }
+    {
+        let (from, until) = bounds(&spans);
+        let spans = RankedSpans::new(alloc, spans)?;
+        let mut parts = Vec::new(alloc);
+        let next = 0;
+        split(&spans, 0, &Stretch { from, until, next }, &mut parts)?;
+        parts.sort_unstable_by(compare_nearness);
+        Ok(Descent {
+            spans,
+            parts,
+            found: Vec::new(alloc),
+            stack: Vec::new(alloc),
+        })
+    }
+
+    // The next frame, whose stack is then the one told last.
+    pub(crate) fn next(&mut self) -> Result<Option<StackFrame<'a>>, AllocError>
+        requires { IsReady self.old }
+        ensures ready { OnOk result (IsReady self.new) }
+        ensures tells { IfOk result (λ frame. Tells self.old self.new frame) }
+    {
+        let Some(first) = self.parts.last() else {
+            return Ok(None);
+        };
+        let first = *first;
+        let time = self.split_next(&first)?;
+        self.found.sort_unstable_by(compare_nearness);
+        self.parts.append(&mut self.found)?;
+        self.stack.truncate(first.below);
+        self.stack.push(first.name)?;
+        Ok(Some(StackFrame {
+            below: first.below,
+            name: first.name,
+            time,
+        }))
+    }
+
+    // Splits the parts of the stack that comes next, and answers how many microseconds have just this stack.
+    fn split_next(&mut self, first: &Part<'a>) -> Result<u64, AllocError>
+        requires ready { IsReady self.old }
+        requires below { first.now.below ≤ length self.old.stack.items }
+        ensures { IfOk result (λ time. IsNextSplit first.now time self.old self.new) }
+    {
+        let mut time = 0u64;
+        while let Some(part) = self.pop_like(first) {
+            time += split(&self.spans, first.below + 1, &part.over, &mut self.found)?;
+        }
+        Ok(time)
+    }
+
+    // The nearest part, which is taken off, if it has the stack of this one.
+    fn pop_like(&mut self, first: &Part) -> Option<Part<'a>>
+        ensures { IsPopped first.now self.old result self.new }
+    {
+        let part = self.parts.last()?;
+        if part.below == first.below && part.name == first.name {
+            self.parts.pop()
+        } else {
+            None
+        }
+    }
+}
