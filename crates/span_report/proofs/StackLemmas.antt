@@ -1,6 +1,7 @@
 pub mod Beginnings
 pub mod Counting
 pub mod Descending
+pub mod Links
 pub mod Members
 pub mod Nearing
 pub mod Owners

@@ -1,5 +1,5 @@
 -- The time of a thread in parts: a stack stands through each, and on it may stand some of the spans in ascending rank.
-use Rattle.std.specs.Prelude.{◌≡◌, ℕ, ◌+◌, ◌<◌, ◌≤◌, ◌^◌, ℤ, ◌≤ℤ◌, ◌<ℤ◌, false, if◌then◌else◌, List, [], ◌∷◌, ◌++◌, length, drop, take, sum_by, slice_index_or}
+use Rattle.std.specs.Prelude.{◌≡◌, ◌⊎◌, ℕ, ◌+◌, ◌<◌, ◌≤◌, ◌^◌, ℤ, ◌≤ℤ◌, ◌<ℤ◌, All, false, if◌then◌else◌, List, [], ◌∷◌, ◌++◌, length, drop, take, sum_by, slice_index_or}
 use Rattle.std.specs.Int.{int_max}
 use Rattle.std.specs.List.{AllByRecursion}
 use Rattle.std.specs.Ordering.{nat_cmp, ordering_then}
@@ -10,6 +10,7 @@ use Rattle.span_event.specs.Text.{Bytes, text_cmp}
 use Rattle.span_event.specs.Time.{distance}
 use Rattle.span_self_time.specs.Closed.{greatest_until}
 use Rattle.span_self_time.specs.Spans.{Span, count_from, covers}
+use Rattle.span_report.specs.declared.stacks.ends.Link.{Link}
 use Rattle.span_report.specs.declared.stacks.parts.Part.{Part}
 use Rattle.span_report.specs.declared.stacks.parts.Stretch.{Stretch}
 use Rattle.span_report.specs.Stacks.Microseconds.{Stack, names_at, same_stack, stack_order}
@@ -18,16 +19,38 @@ use Rattle.span_report.specs.Stacks.Microseconds.{Stack, names_at, same_stack, s
 abbrev pub NoneCovers : List (Span Bytes) → ℕ → ℕ → ℤ → Type 0
 NoneCovers spans j k time = (i : ℕ) (d : Span Bytes) (u : ℤ) → j ≤ i → i < k → time ≤ℤ u → covers (slice_index_or spans i d) u ≡ false
 
--- none of the spans from behind the k-th to before `next` lasts longer than it
+-- a later place, before which none of the spans from the k-th on lasts longer than the one there
+pub record IsJump (spans : List (Span Bytes)) (k next : ℕ) : Type 0 where
+  pub behind : k < next
+  pub within : next ≤ length spans
+  pub rises : (d : Span Bytes) → next < length spans → (slice_index_or spans k d).until ≤ℤ (slice_index_or spans next d).until
+  pub over : (d : Span Bytes) → next < length spans → NoneCovers spans k next (slice_index_or spans next d).until
+
+-- a later place, before which none of the others from the k-th on lasts longer than the k-th
 pub record IsLater (spans : List (Span Bytes)) (k next : ℕ) : Type 0 where
   pub behind : k < next
   pub within : next ≤ length spans
   pub over : (d : Span Bytes) → NoneCovers spans (k + 1) next (slice_index_or spans k d).until
 
--- the list tells such a place for each of the spans from the n-th on
-pub record AreLater (n : ℕ) (spans : List (Span Bytes)) (later : List ℕ) : Type 0 where
-  pub even : length later ≡ length spans
-  pub leads : (k : ℕ) → n ≤ k → k < length spans → IsLater spans k (slice_index_or later k 0)
+-- the link of the k-th
+abbrev pub IsLink : List (Span Bytes) → ℕ → Link → Type 0
+IsLink spans k link = IsLater spans k link.later × IsJump spans k link.jump
+
+-- the links of the spans from the n-th on, and one behind them
+pub record AreLinks (n : ℕ) (spans : List (Span Bytes)) (links : List Link) : Type 0 where
+  pub even : length links ≡ length spans + 1
+  pub leads : (k : ℕ) (d : Link) → n ≤ k → k < length spans → IsLink spans k (slice_index_or links k d)
+  pub end : (d : Link) → (slice_index_or links (length spans) d).jump ≡ length spans
+  pub within : All (λ link. link.jump < length links) links
+
+-- on to where the link jumps, if the span there ends by the time, or else leads
+abbrev pub IsOnward : List (Span Bytes) → Link → ℤ → ℕ → Type 0
+IsOnward spans link time next = (next ≡ link.later) ⊎ ((next ≡ link.jump) × (next < length spans) × ((d : Span Bytes) → (slice_index_or spans next d).until ≤ℤ time))
+
+-- the link leads to the place, and jumps there, or as far as two jumps from there
+pub record IsLinkTo (links : List Link) (later : ℕ) (link : Link) : Type 0 where
+  pub is : link.later ≡ later
+  pub jump : (d : Link) → (link.jump ≡ later) ⊎ (link.jump ≡ (slice_index_or links (slice_index_or links later d).jump d).jump)
 
 -- the spans start one after the other
 abbrev pub Rise : List (Span Bytes) → Type 0

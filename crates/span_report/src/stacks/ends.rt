@@ -1,10 +1,10 @@
 //! Which spans of a thread stand in a stretch of time.
-ghost use Rattle.std.specs.Prelude.{◌≡◌, ◌≤◌, None, int_le, length, IfOk, IfSome};
+ghost use Rattle.std.specs.Prelude.{◌≡◌, ◌<◌, ◌≤◌, All, None, int_le, length, IfOk, IfSome};
 ghost use Rattle.std.specs.Int.{int_max};
 ghost use Rattle.span_self_time.specs.Laws.{AreSpans};
 ghost use Rattle.span_self_time.specs.Spans.{earliest, latest};
 ghost use Rattle.span_report.specs.Stacks.Microseconds.{ranked};
-ghost use Rattle.span_report.specs.Stacks.Parts.{AreLater, IsBare, IsFirstBeyond, IsFirstPart, Rise};
+ghost use Rattle.span_report.specs.Stacks.Parts.{AreLinks, IsBare, IsFirstBeyond, IsFirstPart, IsLinkTo, IsOnward, Rise};
 
 use super::parts::{Part, Stretch};
 use super::ranks::sort_by_rank;
@@ -12,24 +12,33 @@ use span_ledger::NamedSpan;
 use std::alloc::{AllocError, Global};
 use std::marker::Model;
 
-// The spans of a thread in ascending rank, and for each a later one before which none ends later than it.
+// Which later span is the first to end later than a span, and one that ends later still, to jump to.
+#[derive(Clone, Copy)]
+struct Link {
+    later: usize,
+    jump: usize,
+    // How many spans are on the way from one to the next.
+    depth: usize,
+}
+
+// The spans of a thread in ascending rank, each with its link.
 #[derive(Drop)]
 pub(crate) struct RankedSpans<'a> {
     spans: Vec<NamedSpan<'a>>,
-    later: Vec<usize>,
+    links: Vec<Link>,
 }
 
 impl<'a> Model for RankedSpans<'a> {
     ghost use Rattle.std.specs.Prelude.{List};
     ghost use Rattle.span_event.specs.Text.{Bytes};
     ghost use Rattle.span_self_time.specs.Spans.{Span};
-    ghost use Rattle.span_report.specs.Stacks.Parts.{AreLater, Rise};
+    ghost use Rattle.span_report.specs.Stacks.Parts.{AreLinks, Rise};
 
     ghost Value = { List (Span Bytes) };
 
     ghost view = { λ r. r.spans.items };
 
-    ghost invariant = { λ r. AreLater 0 r.spans.items r.later.items × Rise r.spans.items };
+    ghost invariant = { λ r. AreLinks 0 r.spans.items r.links.items × Rise r.spans.items };
 }
 
 impl<'a> RankedSpans<'a> {
@@ -41,8 +50,8 @@ impl<'a> RankedSpans<'a> {
         ensures { IfOk result (λ spans'. spans' ≡ ranked spans.entry.items) }
     {
         sort_by_rank(&mut spans);
-        let later = later_ends(alloc, &spans)?;
-        Ok(RankedSpans { spans, later })
+        let links = links_of(alloc, &spans)?;
+        Ok(RankedSpans { spans, links })
     }
 
     // The first part of the stretch in which a span stands, on so many frames.
@@ -52,7 +61,7 @@ impl<'a> RankedSpans<'a> {
         ensures first { IfSome result (λ part. IsFirstPart self.now stretch.now part) }
         ensures below { IfSome result (λ part. part.below ≡ below) }
     {
-        let at = first_beyond(&self.spans, &self.later, stretch.next, stretch.from);
+        let at = first_beyond(&self.spans, &self.links, stretch.next, stretch.from);
         if at >= self.spans.len() {
             return None;
         }
@@ -87,17 +96,28 @@ pub(crate) fn bounds(spans: &[NamedSpan]) -> (i64, i64)
 }
 
 // The first of the spans from `next` on that covers a microsecond from this time on.
-fn first_beyond(spans: &[NamedSpan], later: &[usize], next: usize, time: i64) -> usize
+fn first_beyond(spans: &[NamedSpan], links: &[Link], next: usize, time: i64) -> usize
     requires rise { Rise spans.now }
-    requires later { AreLater next spans.now later.now }
+    requires links { AreLinks next spans.now links.now }
     requires next { next ≤ length spans.now }
     ensures { IsFirstBeyond spans.now next time result }
 {
     let mut at = next;
     while at < spans.len() && ends_by(&spans[at], time) {
-        at = later[at];
+        at = onward(spans, &links[at], time);
     }
     at
+}
+
+// Where the link of a span leads that has no microsecond from this time on: no further than that none before has one.
+fn onward(spans: &[NamedSpan], link: &Link, time: i64) -> usize
+    ensures { IsOnward spans.now link.now time result }
+{
+    if link.jump < spans.len() && until_of(&spans[link.jump]) <= time {
+        link.jump
+    } else {
+        link.later
+    }
 }
 
 // Whether the span has no microsecond from this time on.
@@ -107,17 +127,41 @@ fn ends_by(named: &NamedSpan, time: i64) -> bool
     named.span.until <= time.max(named.span.start)
 }
 
-fn later_ends(alloc: Global, spans: &[NamedSpan]) -> Result<Vec<usize>, AllocError>
+// The links of all spans, and one behind them that leads nowhere.
+fn links_of(alloc: Global, spans: &[NamedSpan]) -> Result<Vec<Link>, AllocError>
     requires { Rise spans.now }
-    ensures { IfOk result (λ later. AreLater 0 spans.now later.items) }
+    ensures { IfOk result (λ links. AreLinks 0 spans.now links.items) }
 {
-    let mut later = vec![in alloc; spans.len(); spans.len()]?;
+    let nowhere = Link {
+        later: spans.len(),
+        jump: spans.len(),
+        depth: 0,
+    };
+    let mut links = vec![in alloc; nowhere; spans.len() + 1]?;
     let mut at = spans.len();
     while at > 0 {
         at -= 1;
-        later[at] = first_beyond(spans, &later, at + 1, until_of(&spans[at]));
+        let later = first_beyond(spans, &links, at + 1, until_of(&spans[at]));
+        links[at] = link_to(&links, later);
     }
-    Ok(later)
+    Ok(links)
+}
+
+// A link to this span. Where the two jumps from there are equally far, it jumps over both: so a few jumps lead past many spans.
+fn link_to(links: &[Link], later: usize) -> Link
+    requires later { later < length links.now }
+    requires jumps { All (λ link. link.jump < length links.now) links.now }
+    ensures { IsLinkTo links.now later result }
+{
+    let near = links[later];
+    let far = links[near.jump];
+    let beyond = links[far.jump];
+    let even = near.depth.wrapping_sub(far.depth) == far.depth.wrapping_sub(beyond.depth);
+    Link {
+        later,
+        jump: if even { far.jump } else { later },
+        depth: near.depth.wrapping_add(1),
+    }
 }
 
 fn until_of(named: &NamedSpan) -> i64

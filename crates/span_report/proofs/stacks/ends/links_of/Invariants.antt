@@ -1,12 +1,12 @@
 use Rattle.std.proofs.Common.{◌≤◌, length}
-use Rattle.span_report.specs.Stacks.Parts.{AreLater}
-use Rattle.span_report.proofs.stacks.ends.later_ends.Given as goal
+use Rattle.span_report.specs.Stacks.Parts.{AreLinks}
+use Rattle.span_report.proofs.stacks.ends.links_of.Given as goal
 
--- those from the place on are known
+-- the links from the place on are known
 abbrev pub invariant-loop-at : goal.invariant-loop-at
 invariant-loop-at l = record {
   within : l.at ≤ length l.spans;
-  later : AreLater l.at l.spans l.later.items;
+  links : AreLinks l.at l.spans l.links.items;
 }
 
 abbrev pub decreases-loop-at : goal.decreases-loop-at
