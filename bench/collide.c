@@ -1,7 +1,7 @@
 // Prints keys of which all have the same low bits in a hash with its halves joined, so that they meet in one place of a map that
 // hashes by it: in the library's quick hash, whose seed is fixed and public, or, of a kind that begins with fixed, in SipHash-1-3 by
-// the fixed keys, which are 0. Arguments: the kind of key (name, process, thread or series; fixed_name, fixed_process or
-// fixed_thread), how many, and how many bits. Found by trying one after the other.
+// the fixed keys, which are 0. Arguments: the kind of key (name, process, thread or series; fixed_name, fixed_counter, fixed_process
+// or fixed_thread), how many, and how many bits. Found by trying one after the other.
 #include <inttypes.h>
 #include <stdio.h>
 #include <stdlib.h>
@@ -88,6 +88,14 @@ static uint64_t fixed_hash_of_name(uint64_t candidate)
     return fixed_hash_of(words, 2);
 }
 
+// The series "k" of a counter of process 0, without an id: eight bytes of the process, the name, eight of the missing id, the series.
+// A byte ends each text.
+static uint64_t fixed_hash_of_counter(uint64_t candidate)
+{
+    uint64_t words[] = {0, letters_of(candidate), last_letters_of(candidate) >> 32 | 0xffull << 32, (uint64_t)'k' << 40 | 0xffull << 48 | 31ull << 56};
+    return fixed_hash_of(words, 4);
+}
+
 static uint64_t fixed_hash_of_process(uint64_t candidate)
 {
     uint64_t words[] = {candidate, 8ull << 56};
@@ -142,6 +150,7 @@ int main(int count, char **words)
     } kinds[] = {
         {"name", hash_of_name, print_name},
         {"fixed_name", fixed_hash_of_name, print_name},
+        {"fixed_counter", fixed_hash_of_counter, print_name},
         {"process", hash_of_process, print_number},
         {"thread", hash_of_thread, print_number},
         {"fixed_process", fixed_hash_of_process, print_number},

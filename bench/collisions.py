@@ -23,7 +23,7 @@ def of_thread(key):
 
 def ordinary(kind, count):
     """Keys of as many letters or digits, one after the other."""
-    return ["name%08d" % place if kind.endswith("name") else str(1_000_000_000 + place) for place in range(count)]
+    return ["name%08d" % place if kind.endswith(("name", "counter")) else str(1_000_000_000 + place) for place in range(count)]
 
 
 def compiled(folder):
