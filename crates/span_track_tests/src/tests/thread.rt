@@ -9,7 +9,7 @@ use placed::Placed;
 use span_self_time::{NameTotal, Segment};
 use span_track::laws::{busy_plain, self_law, self_plain};
 use span_track::{ThreadTrack, TrackFault, Wanted};
-use std::alloc::Global;
+use std::alloc::{AllocGlobal, Global};
 use std::process::Abort;
 use std::test::Fail;
 
@@ -157,6 +157,8 @@ struct Whole {
     spans: &'static [(u32, i64, u64)],
     // The names, with the number, the lengths and the self times of their spans.
     names: &'static [(u32, u32, u128, u64)],
+    // The self time of each span.
+    own: &'static [u64],
     busy: u64,
     // The start, the end, the name and the place of each.
     segments: &'static [(i64, i64, u32, u32)],
@@ -169,6 +171,7 @@ const WHOLE: [Whole; 5] = [
     Whole {
         spans: &[(2, 2, 3), (3, 0, 10)],
         names: &[(3, 1, 10, 7), (2, 1, 3, 3)],
+        own: &[3, 7],
         busy: 10,
         segments: &[(0, 2, 3, 1), (2, 5, 2, 0), (5, 10, 3, 1)],
     },
@@ -176,6 +179,7 @@ const WHOLE: [Whole; 5] = [
     Whole {
         spans: &[(0, 0, 10), (1, 20, 10), (2, 5, 20)],
         names: &[(0, 1, 10, 5), (1, 1, 10, 10), (2, 1, 20, 15)],
+        own: &[5, 10, 15],
         busy: 30,
         segments: &[(0, 5, 0, 0), (5, 20, 2, 2), (20, 30, 1, 1)],
     },
@@ -183,6 +187,7 @@ const WHOLE: [Whole; 5] = [
     Whole {
         spans: &[(3, 0, 10), (4, 5, 10)],
         names: &[(3, 1, 10, 5), (4, 1, 10, 10)],
+        own: &[5, 10],
         busy: 15,
         segments: &[(0, 5, 3, 0), (5, 15, 4, 1)],
     },
@@ -190,6 +195,7 @@ const WHOLE: [Whole; 5] = [
     Whole {
         spans: &[(0, 0, 4), (1, 0, 4), (25, 9, 0)],
         names: &[(0, 1, 4, 0), (1, 1, 4, 4), (25, 1, 0, 0)],
+        own: &[0, 4, 0],
         busy: 4,
         segments: &[(0, 4, 1, 1)],
     },
@@ -197,6 +203,7 @@ const WHOLE: [Whole; 5] = [
     Whole {
         spans: &[(7, 0, LONGEST), (7, 0, LONGEST)],
         names: &[(7, 2, 18_014_398_509_481_982, LONGEST)],
+        own: &[0, LONGEST],
         busy: LONGEST,
         segments: &[(0, LONGEST as i64, 7, 1)],
     },
@@ -230,12 +237,17 @@ fn complete_all(
     Ok(())
 }
 
-fn expect_whole(rt: &impl Abort, placed: &mut Placed, whole: &Whole) -> Result<(), Fail> {
+fn expect_whole(
+    rt: &(impl Abort + AllocGlobal),
+    placed: &mut Placed,
+    whole: &Whole,
+) -> Result<(), Fail> {
     complete_all(rt, placed, whole.spans)?;
     let track = placed.track();
     for (name, count, total, own) in whole.names {
         expect_name(rt, track, *name, *count, *total, *own);
     }
+    assert!(rt; track.self_times(rt.alloc())?.as_slice() == whole.own);
     expect_busy(rt, track, whole.busy);
     expect_all_segments(rt, track, whole.segments);
     Ok(())
