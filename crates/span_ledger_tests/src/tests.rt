@@ -8,6 +8,7 @@ mod growths;
 mod queries;
 mod seals;
 mod strict_names;
+mod timed_spans;
 
 use examples::{EXAMPLES, Example};
 use span_ledger::{Answer, Cause, Entry, Item, Ledger, Op, ProcessPart, ThreadPart};
