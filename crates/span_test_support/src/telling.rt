@@ -34,9 +34,9 @@ fn takes_all(alloc: Global, ledger: &mut Ledger, text: &str) -> bool {
     true
 }
 
-/// A ledger that took each element of the text, of which there are at most 20,000. None where it is no trace, or memory was refused.
+/// A ledger that took each element of the text, of which there are at most 60,000. None where it is no trace, or memory was refused.
 pub fn told(alloc: Global, text: &str) -> Option<Ledger> {
-    let mut ledger = Ledger::new(alloc, 20_000, false);
+    let mut ledger = Ledger::new(alloc, 60_000, false);
     if takes_all(alloc, &mut ledger, text) {
         Some(ledger)
     } else {

@@ -1,0 +1,8 @@
+//! Tables of worked examples, and their texts.
+
+mod columns;
+mod comparisons;
+mod json_lines;
+mod large;
+mod rankings;
+mod tabled;
