@@ -92,7 +92,8 @@ static uint64_t fixed_hash_of_name(uint64_t candidate)
 // A byte ends each text.
 static uint64_t fixed_hash_of_counter(uint64_t candidate)
 {
-    uint64_t words[] = {0, letters_of(candidate), last_letters_of(candidate) >> 32 | 0xffull << 32, (uint64_t)'k' << 40 | 0xffull << 48 | 31ull << 56};
+    uint64_t letters = last_letters_of(candidate) >> 32 | 0xffull << 32, series = (uint64_t)'k' << 40 | 0xffull << 48 | 31ull << 56;
+    uint64_t words[] = {0, letters_of(candidate), letters, series};
     return fixed_hash_of(words, 4);
 }
 

@@ -15,13 +15,17 @@ use Rattle.span_table.specs.declared.table.Row.{Row}
 use Rattle.span_table.specs.Lines.{column_title, value_text}
 use Rattle.span_table.specs.Changes.{Change, gap}
 use Rattle.span_table.specs.Comparison.{change_columns, change_line, difference_text}
-use Rattle.span_table.specs.Pieces.{both_text, change_names, spaced, sums_text, then_title, then_value}
+use Rattle.span_table.specs.Pieces.{both_text, change_names, sums_text, then_title, then_value}
 use Rattle.span_table.specs.Ranking.{column_line, ranked_line}
 
 -- parts with a byte between them, from the first and the others with the byte before each
 pub join_with_byte-each : {A : Type 0} (b : ℕ) (f : A → Bytes) (x : A) (xs : List A) → join_with_byte b (map f (x ∷ xs)) ≡ f x ++ flat_map (λ y. b ∷ f y) xs
 join_with_byte-each b f x [] = sym (append-nil (f x))
 join_with_byte-each b f x (y ∷ ys) = ap (λ l. f x ++ b ∷ l) (join_with_byte-each b f y ys)
+
+-- words, each with a blank before it
+abbrev spaced : List Bytes → Bytes
+spaced words = flat_map (λ (word : Bytes). 32 ∷ word) words
 
 join-spaced : (word : Bytes) (words : List Bytes) → join_with_byte 32 (word ∷ words) ≡ word ++ spaced words
 join-spaced word [] = sym (append-nil word)

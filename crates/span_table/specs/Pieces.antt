@@ -1,5 +1,5 @@
 -- The pieces of lines, in the order in which they are appended.
-use Rattle.std.specs.Prelude.{ℕ, List, ◌∷◌, ◌++◌, flat_map, codes, decimal}
+use Rattle.std.specs.Prelude.{ℕ, ◌∷◌, ◌++◌, codes, decimal}
 use Rattle.span_event.specs.Text.{Bytes}
 use Rattle.span_report.specs.Lines.{right_in}
 use Rattle.span_table.specs.declared.changes.Both.{Both}
@@ -8,10 +8,6 @@ use Rattle.span_table.specs.declared.column.Column.{Column}
 use Rattle.span_table.specs.Columns.{Value}
 use Rattle.span_table.specs.Comparison.{difference_text}
 use Rattle.span_table.specs.Lines.{column_title, value_text}
-
--- words, each with a blank before it
-abbrev pub spaced : List Bytes → Bytes
-spaced words = flat_map (λ (word : Bytes). 32 ∷ word) words
 
 -- a value, and the title of a column, with a blank before it
 abbrev pub then_value : Value → Bytes
