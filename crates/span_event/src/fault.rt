@@ -63,6 +63,8 @@ pub enum Fault {
     Output = 51,
     /// 52: a file could not be opened or read.
     NotOpened = 52,
+    /// 55: a sum of a table that is told to a machine has more than 64 bits.
+    TooGreat = 55,
     /// 56: the folded stacks have more names than they may.
     StacksTooLarge = 56,
 }
@@ -109,6 +111,7 @@ impl Fault {
             Fault::Unaccounted => "Unaccounted",
             Fault::Output => "Output",
             Fault::NotOpened => "NotOpened",
+            Fault::TooGreat => "TooGreat",
             Fault::StacksTooLarge => "StacksTooLarge",
         }
     }
@@ -148,6 +151,7 @@ impl Fault {
             43 => Fault::Unaccounted,
             51 => Fault::Output,
             52 => Fault::NotOpened,
+            55 => Fault::TooGreat,
             56 => Fault::StacksTooLarge,
             _ => return None,
         };
