@@ -1,5 +1,5 @@
 -- What a run does.
-use Rattle.std.specs.Prelude.{◌≡◌, ℕ, ◌<◌, ◌≤◌, Bool, true, false, ◌||◌, if◌then◌else◌, ⊤, List, [], ◌∷◌, length, map, take, Ok, Err}
+use Rattle.std.specs.Prelude.{◌≡◌, ℕ, ◌<◌, ◌≤◌, Bool, true, false, ◌||◌, if◌then◌else◌, ⊤, List, [], ◌∷◌, filter, length, map, take, Ok, Err}
 use Rattle.std.specs.List.{list_any}
 use Rattle.std.specs.Option.{is_some}
 use Rattle.span_event.specs.declared.fault.Fault.TheVariants.{FileCount as FileCountFault, Memory as MemoryFault, Unaccounted as UnaccountedFault, Output as OutputFault}
@@ -38,6 +38,10 @@ is_cut end = false
 abbrev pub is_refused : FileEnd → Bool
 is_refused (Refused caller code) = true
 is_refused end = false
+
+-- how many files were refused as a whole
+abbrev pub unread_of : List FileEnd → ℕ
+unread_of ends = length (filter is_refused ends)
 
 -- 2 where a file stopped or was not started, or a query or a seal was not taken; else 1 where a file was refused, else 0
 abbrev pub status_of : List FileEnd → Asked → Sealing → ℕ

@@ -1,6 +1,7 @@
 //! The files of a collection, and how each of them ended.
 ghost use Rattle.std.specs.Prelude.{◌≡◌};
 ghost use Rattle.span_collect.specs.Account.{caller_named};
+ghost use Rattle.span_collect.specs.Run.{is_refused};
 
 use span_event::Text;
 use span_ledger::Cause;
@@ -46,5 +47,11 @@ impl FileEnd {
             | FileEnd::Stopped { caller, .. } => Some(*caller),
             FileEnd::NotStarted => None,
         }
+    }
+
+    pub(crate) fn is_refused(&self) -> bool
+        ensures { result ≡ is_refused self.now }
+    {
+        matches!(self, FileEnd::Refused { .. })
     }
 }

@@ -6,7 +6,7 @@ ghost use Rattle.span_report.specs.Sink.{TakesBytes};
 ghost use Rattle.span_collect.specs.InTurn.{AnswersAsInTurn, FailsAsInTurn, StandsAsInTurn, WritesAsInTurn};
 ghost use Rattle.span_collect.specs.Seals.{SealedAccount};
 ghost use Rattle.span_collect.specs.Collection.{AreNoneOrTooMany};
-ghost use Rattle.span_collect.specs.Run.{run_code, is_cut, is_refused, of_journal, status_of, IsNotCollected, IsRunOf, RunLeaves, WritesOneFile};
+ghost use Rattle.span_collect.specs.Run.{run_code, is_cut, is_refused, of_journal, status_of, unread_of, IsNotCollected, IsRunOf, RunLeaves, WritesOneFile};
 
 use crate::collection::{CollectError, collect};
 use crate::files::{FileEnd, Input};
@@ -33,6 +33,15 @@ pub struct RunEnd {
     pub ends: Vec<FileEnd>,
     pub asked: Asked,
     pub sealing: Sealing,
+}
+
+impl RunEnd {
+    /// How many files were refused as a whole.
+    pub fn unread(&self) -> u64
+        ensures { result ≡ unread_of self.now.ends.items }
+    {
+        count_refused(&self.ends) as u64
+    }
 }
 
 /// Why there is no run.
@@ -207,6 +216,11 @@ fn any_cut(ends: &[FileEnd]) -> bool
 fn any_refused(ends: &[FileEnd]) -> bool
     ensures { result ≡ list_any is_refused ends.now }
 {
-    ends.iter()
-        .any(|end| matches!(end, FileEnd::Refused { .. }))
+    ends.iter().any(|end| end.is_refused())
+}
+
+fn count_refused(ends: &[FileEnd]) -> usize
+    ensures { result ≡ unread_of ends.now }
+{
+    ends.iter().filter(|end| end.is_refused()).count()
 }

@@ -28,12 +28,12 @@ use Rattle.span_collect.specs.declared.settings.Settings.{Settings}
 use Rattle.span_collect.specs.Account.{Account, Document, EachEndsAs, IsRead, IsRefused, StopsAsking, callers_named, operations, telling}
 use Rattle.span_collect.specs.InTurn.{AnswersAsInTurn, AreSeparate, answers_of, ends_from, items_in, journal_in_turn, told_in_turn}
 use Rattle.span_collect.specs.Refusals.Text.{refusals_of}
-use Rattle.span_collect.specs.Run.{is_cut, is_refused, status_of}
+use Rattle.span_collect.specs.Run.{is_cut, is_refused, status_of, unread_of}
 use Rattle.span_collect.specs.Seals.{SealedAccount, SealsAfter, StopsSealing, seals_of, with_seals}
 use Rattle.span_collect.proofs.InTurn.Alike.{Contains-place, acts_on-told, exchanges-alone}
 use Rattle.span_collect.proofs.InTurn.Counts.{AllZip-files, count_row-told}
 use Rattle.span_collect.proofs.InTurn.Exchanges.{exchanges}
-use Rattle.span_collect.proofs.InTurn.FileLines.{file_lines-same}
+use Rattle.span_collect.proofs.InTurn.FileLines.{file_lines-same, unread_of-same}
 use Rattle.span_collect.proofs.InTurn.OneByOne.{told_in_turn-tells}
 use Rattle.span_collect.proofs.InTurn.Sealed.{AreAlike-sealed}
 use Rattle.span_collect.proofs.InTurn.Shared.{TellsFiles}
@@ -171,3 +171,7 @@ module _ (files : List Input) (asks : List Query) (settings : Settings) (ends : 
     refusals_of-in_turn =
         ap₂ (λ (counts : CountRow) (lines : List ℕ). head_lines counts ++ lines) AreAlike-in_turn.counts
         (file_lines-same journal (journal_in_turn settings files asks) sealed.told settings.limit 1 files ends sealed.account.each_file_once_in_order all.0 (SealedAccount-answers separate all.0))
+
+    -- and as many files are refused as a whole
+    pub unread_of-in_turn : unread_of ends ≡ unread_of (ends_from 1 files)
+    unread_of-in_turn = unread_of-same sealed.told settings.limit 1 files ends sealed.account.each_file_once_in_order all.0

@@ -1,5 +1,5 @@
--- What a text of refusals says of files that were all read or refused.
-use Rattle.std.proofs.Common.{◌≡◌, ℕ, ◌+◌, List, [], ◌∷◌, ◌++◌, length, map, false, Some, Ok, Err, refl, sym, ap, ap₂, ◌∙◌}
+-- What a text of refusals says of files that were all read or refused, and how many were refused.
+use Rattle.std.proofs.Common.{◌≡◌, ℕ, suc, ◌+◌, List, [], ◌∷◌, ◌++◌, length, map, false, Some, Ok, Err, refl, sym, ap, ap₂, ◌∙◌}
 use Rattle.std.specs.Prelude.{flat_map}
 use Rattle.std.specs.List.{list_any, range_with_len}
 use Rattle.span_read.specs.Document.{doc}
@@ -8,12 +8,12 @@ use Rattle.span_ledger.specs.declared.entry.Entry.{Entry}
 use Rattle.span_collect.specs.declared.files.FileEnd.{FileEnd}
 use Rattle.span_collect.specs.declared.files.FileEnd.TheVariants.{Read, Refused, Stopped, NotStarted}
 use Rattle.span_collect.specs.declared.files.Input.{Input}
-use Rattle.span_collect.specs.Account.{Document, EachEndsAs, caller_named, callers_named}
+use Rattle.span_collect.specs.Account.{Document, EachEndsAs, IsRead, IsRefused, caller_named, callers_named}
 use Rattle.span_collect.specs.FaultLines.{lines_of_ends}
 use Rattle.span_collect.specs.InTurn.{answers_of, ends_from}
 use Rattle.span_collect.specs.Refusals.{refused_by}
 use Rattle.span_collect.specs.Refusals.Text.{caller_lines, file_lines, refused_line}
-use Rattle.span_collect.specs.Run.{end_by, is_cut}
+use Rattle.span_collect.specs.Run.{end_by, is_cut, unread_of}
 
 caller_named-end_by : (caller : ℕ) (document : Document) → caller_named (end_by caller document) ≡ Some caller
 caller_named-end_by caller (Ok items) = refl
@@ -37,3 +37,23 @@ file_lines-same journal other told limit k (f ∷ fs) (Refused c code ∷ ends) 
     ap₂ (λ (x y : List ℕ). x ++ y) (caller_lines-same journal other f.name (doc f.bytes.items) c k (cc)) (file_lines-same journal other told limit (k + 1) fs ends each.1 none (cc))
 file_lines-same journal other told limit k (f ∷ fs) (Stopped c done cause ∷ ends) each none same = absurd cc
 file_lines-same journal other told limit k (f ∷ fs) (NotStarted ∷ ends) each none same = absurd cc
+
+unread_of-read : (told : List Entry) (document : Document) (c count k : ℕ) (rest : List FileEnd) → IsRead told document c count → unread_of (end_by k document ∷ rest) ≡ unread_of rest
+unread_of-read told (Ok items) c count k rest is = refl
+unread_of-read told (Err error) c count k rest is = absurd is
+
+unread_of-refused : (told : List Entry) (document : Document) (c code k : ℕ) (rest : List FileEnd) → IsRefused told document c code → unread_of (end_by k document ∷ rest) ≡ suc (unread_of rest)
+unread_of-refused told (Ok items) c code k rest is = absurd is
+unread_of-refused told (Err error) c code k rest is = refl
+
+-- as many are refused as where callers from one number on tell them
+pub unread_of-same : (told : List Entry) (limit k : ℕ) (files : List Input) (ends : List FileEnd) → EachEndsAs told limit files ends → list_any is_cut ends ≡ false → unread_of ends ≡ unread_of (ends_from k files)
+unread_of-same told limit k [] [] each none = refl
+unread_of-same told limit k [] (end ∷ ends) each none = absurd each
+unread_of-same told limit k (f ∷ fs) [] each none = absurd each
+unread_of-same told limit k (f ∷ fs) (Read c count ∷ ends) each none =
+    unread_of-same told limit (k + 1) fs ends each.1 none ∙ sym (unread_of-read told (doc f.bytes.items) c count k (ends_from (k + 1) fs) each.0)
+unread_of-same told limit k (f ∷ fs) (Refused c code ∷ ends) each none =
+    ap suc (unread_of-same told limit (k + 1) fs ends each.1 none) ∙ sym (unread_of-refused told (doc f.bytes.items) c code k (ends_from (k + 1) fs) each.0)
+unread_of-same told limit k (f ∷ fs) (Stopped c done cause ∷ ends) each none = absurd cc
+unread_of-same told limit k (f ∷ fs) (NotStarted ∷ ends) each none = absurd cc
