@@ -38,6 +38,19 @@ impl Column {
         }
     }
 
+    pub(crate) fn try_clone(&self, alloc: Global) -> Result<Column, AllocError>
+        ensures { IfOk result (λ copy. copy ≡ self.now) }
+    {
+        Ok(match self {
+            Column::Pid => Column::Pid,
+            Column::Tid => Column::Tid,
+            Column::Process => Column::Process,
+            Column::Thread => Column::Thread,
+            Column::Name => Column::Name,
+            Column::Argument(key) => Column::Argument(key.try_clone(alloc)?),
+        })
+    }
+
     pub(crate) fn is_argument(&self) -> bool
         ensures { result ≡ is_argument self.now }
     {

@@ -47,19 +47,19 @@ impl Model for Table {
 }
 
 impl Table {
-    /// The table of one run by columns: that of a ledger of so many files, of which so many were refused as a whole. Maps that a file
-    /// fills are hashed by these keys.
+    /// The table of one run by these columns: that of a ledger of so many files, of which so many were refused as a whole. Maps that
+    /// a file fills are hashed by these keys.
     pub fn of(
         alloc: Global,
         keys: HashKeys,
-        columns: Vec<Column>,
+        columns: &[Column],
         ledger: &Ledger,
         files: u64,
         unread: u64,
     ) -> Result<Table, AllocError>
-        ensures { IfOk result (λ table. table ≡ table_of columns.items (record { journal = ledger.now.journal; files = files; unread = unread } ∷ [])) }
+        ensures { IfOk result (λ table. table ≡ table_of columns.now (record { journal = ledger.now.journal; files = files; unread = unread } ∷ [])) }
     {
-        let sums = summed(alloc, keys, ledger, &columns)?;
+        let sums = summed(alloc, keys, ledger, columns)?;
         let rows = rows_of(alloc, sums)?;
         let head = Head {
             runs: 1,
@@ -68,7 +68,7 @@ impl Table {
             counts: ledger.counts(),
         };
         Ok(Table {
-            columns,
+            columns: copies_of(alloc, columns)?,
             head,
             rows,
         })
@@ -93,6 +93,16 @@ impl Table {
     {
         &self.rows
     }
+}
+
+fn copies_of(alloc: Global, columns: &[Column]) -> Result<Vec<Column>, AllocError>
+    ensures { IfOk result (λ copies. copies.items ≡ columns.now) }
+{
+    let mut copies = Vec::with_capacity(alloc, columns.len())?;
+    for column in columns {
+        copies.push(column.try_clone(alloc)?)?;
+    }
+    Ok(copies)
 }
 
 fn rows_of(alloc: Global, sums: Vec<(Key, Sums)>) -> Result<Vec<Row>, AllocError>

@@ -30,7 +30,9 @@ pub(super) fn table_of(
     names: &[&str],
 ) -> Result<Table, AllocError> {
     let columns = columns_of(alloc, names)?;
-    Table::of(alloc, HashKeys::fixed(), columns, ledger, 3, 1)
+    let table = Table::of(alloc, HashKeys::fixed(), &columns, ledger, 3, 1);
+    drop(columns);
+    table
 }
 
 /// The table of a text. None where it is no trace, or memory was refused; where that was once, its ledger is made once more.
