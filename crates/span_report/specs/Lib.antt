@@ -1,8 +1,6 @@
-pub mod Comparisons
 pub mod Laws
 pub mod Lines
 pub mod Output
-pub mod Rankings
 pub mod Report
 pub mod Sink
 pub mod Stacks

@@ -1,12 +1,9 @@
-//! The texts of a ledger, and the output that takes them: the report, whose lines its rows make, and in modules rankings, comparisons
-//! and folded stacks.
+//! The texts of a ledger, and the output that takes them: the report, whose lines its rows make, and in a module folded stacks.
 #![tactic(auto)]
 
-pub mod comparisons;
 pub mod laws;
 mod lines;
 mod output;
-pub mod rankings;
 mod sink;
 pub mod stacks;
 mod text;

@@ -1,10 +1,9 @@
 //! The text of a report: one walk over the processes of a ledger, their threads, and what each has.
 ghost use Rattle.std.specs.Prelude.{◌≡◌, ◌++◌, string_bytes, flat_map, OnOk, IfOk};
-ghost use Rattle.span_ledger.specs.Rows.{count_row};
 ghost use Rattle.span_report.specs.Report.{head_lines, process_lines, report_of, thread_lines};
 
 use crate::lines::{Printed, first_line, put_counts, put_seals};
-use span_ledger::{Ledger, ProcessPart, ThreadPart};
+use span_ledger::{CountRow, Ledger, ProcessPart, ThreadPart};
 use std::alloc::{AllocError, Global};
 
 /// The text of the report of the ledger's journal.
@@ -19,7 +18,7 @@ pub fn report(alloc: Global, ledger: &Ledger) -> Result<Vec<u8>, AllocError>
 pub fn report_text(alloc: Global, ledger: &Ledger) -> Result<String, AllocError>
     ensures { IfOk result (λ text. string_bytes text ≡ report_of ledger.now.journal) }
 {
-    let mut out = head(alloc, ledger)?;
+    let mut out = head(alloc, ledger.counts())?;
     put_each(alloc, &mut out, &ledger.parts(alloc)?)?;
     put_each(alloc, &mut out, &ledger.async_rows(alloc)?)?;
     put_each(alloc, &mut out, &ledger.flow_rows(alloc)?)?;
@@ -27,10 +26,9 @@ pub fn report_text(alloc: Global, ledger: &Ledger) -> Result<String, AllocError>
 }
 
 /// The lines that every report begins with.
-pub fn head(alloc: Global, ledger: &Ledger) -> Result<String, AllocError>
-    ensures { IfOk result (λ text. string_bytes text ≡ head_lines (count_row ledger.now.journal)) }
+pub fn head(alloc: Global, counts: CountRow) -> Result<String, AllocError>
+    ensures { IfOk result (λ text. string_bytes text ≡ head_lines counts) }
 {
-    let counts = ledger.counts();
     let mut out = first_line(alloc)?;
     put_counts(&mut out, counts)?;
     put_seals(&mut out, counts.seals)?;

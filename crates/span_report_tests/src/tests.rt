@@ -1,7 +1,5 @@
 //! Each text where an output or memory cuts it off. What the texts say is tried by the cases of tests/acceptance.
 
-mod comparisons;
 mod printed;
-mod rankings;
 mod report;
 mod stacks;

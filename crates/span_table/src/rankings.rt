@@ -12,8 +12,7 @@ use crate::lines::{put_right, put_shown, put_titles, put_values};
 use crate::shown::{Shown, ShownRow};
 use crate::sums::{By, Sums};
 use crate::table::{Row, Table};
-use span_ledger::CountRow;
-use span_report::{first_line, put_counts, put_seals};
+use span_report::head;
 use std::alloc::{AllocError, Global};
 use std::cmp::Ordering;
 
@@ -41,16 +40,6 @@ pub fn ranking(
     let rows = in_order(rows, by);
     put_first(alloc, &mut out, &rows, most)?;
     Ok(out.into_bytes())
-}
-
-// The lines that every text begins with.
-fn head(alloc: Global, counts: CountRow) -> Result<String, AllocError>
-    ensures { IfOk result (λ text. string_bytes text ≡ head_lines counts) }
-{
-    let mut out = first_line(alloc)?;
-    put_counts(&mut out, counts)?;
-    put_seals(&mut out, counts.seals)?;
-    Ok(out)
 }
 
 // Which of two comes first.

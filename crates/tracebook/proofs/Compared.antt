@@ -13,6 +13,8 @@ use Rattle.span_collect.specs.declared.runs.RunError.{RunError}
 use Rattle.span_collect.specs.declared.runs.RunError.TheVariants.{FileCount, Memory, Unaccounted, Output}
 use Rattle.span_collect.specs.Run.{IsNotCollected}
 use Rattle.span_collect.proofs.Statuses.{status_of-lt}
+use Rattle.tracebook.specs.declared.comparison.ComparisonFault.TheVariants.{Run}
+use Rattle.tracebook.specs.declared.comparison.ComparisonView.{ComparisonView}
 use Rattle.tracebook.specs.Comparison.{ComparisonLeaves, HasEnded, IsComparisonOf, greater}
 use Rattle.tracebook.specs.Request.{ComparisonPart}
 
@@ -25,18 +27,20 @@ greater-is a b = (grind (arith, nat_tests), grind (arith, nat_tests), either (na
     either false = inl refl
 
 -- files of the base that were not collected leave the output as it was
-pub ComparisonLeaves-base : (error : RunError) (base files : List Input) (settings : Settings) (state : SinkState) → IsNotCollected error base [] settings → ComparisonLeaves error base files settings state state
-ComparisonLeaves-base FileCount base files settings state is = (inl is, refl)
-ComparisonLeaves-base Memory base files settings state is = refl
-ComparisonLeaves-base (Unaccounted entries calls) base files settings state is = (inl is, refl)
-ComparisonLeaves-base (Output written) base files settings state is = absurd is
+pub ComparisonLeaves-base : (view : ComparisonView) (error : RunError) (base files : List Input) (settings : Settings) (state : SinkState) →
+    IsNotCollected error base [] settings → ComparisonLeaves view (Run error) base files settings state state
+ComparisonLeaves-base view FileCount base files settings state is = (inl is, refl)
+ComparisonLeaves-base view Memory base files settings state is = refl
+ComparisonLeaves-base view (Unaccounted entries calls) base files settings state is = (inl is, refl)
+ComparisonLeaves-base view (Output written) base files settings state is = absurd is
 
 -- so do the others
-pub ComparisonLeaves-other : (error : RunError) (base files : List Input) (settings : Settings) (state : SinkState) → IsNotCollected error files [] settings → ComparisonLeaves error base files settings state state
-ComparisonLeaves-other FileCount base files settings state is = (inr is, refl)
-ComparisonLeaves-other Memory base files settings state is = refl
-ComparisonLeaves-other (Unaccounted entries calls) base files settings state is = (inr is, refl)
-ComparisonLeaves-other (Output written) base files settings state is = absurd is
+pub ComparisonLeaves-other : (view : ComparisonView) (error : RunError) (base files : List Input) (settings : Settings) (state : SinkState) →
+    IsNotCollected error files [] settings → ComparisonLeaves view (Run error) base files settings state state
+ComparisonLeaves-other view FileCount base files settings state is = (inr is, refl)
+ComparisonLeaves-other view Memory base files settings state is = refl
+ComparisonLeaves-other view (Unaccounted entries calls) base files settings state is = (inr is, refl)
+ComparisonLeaves-other view (Output written) base files settings state is = absurd is
 
 -- no run ends with more than 2
 pub HasEnded-le : {files : List Input} {settings : Settings} (run : RunEnd) {journal : List Entry} → HasEnded files settings run journal → run.status ≤ 2
@@ -62,9 +66,9 @@ greater-lt a b a_le b_le other = by (greater a b) (greater-is a b).2 other
     by n (inr is) other = omega (arith, is, b_le, other)
 
 -- two runs of which one didn't end with 0 wrote nothing, or all that changed
-pub ComparisonPart-ended : (base_run run : RunEnd) (base inputs : List Input) (settings : Settings) (old new : SinkState) → IsComparisonOf base inputs settings base_run run old new →
-    greater base_run.status run.status ≢ 0 → ComparisonPart base inputs settings old new
-ComparisonPart-ended base_run run base inputs settings old new is failed = dite (ℕ_discrete (greater base_run.status run.status) 2)
+pub ComparisonPart-ended : (view : ComparisonView) (base_run run : RunEnd) (base inputs : List Input) (settings : Settings) (old new : SinkState) →
+    IsComparisonOf view base inputs settings base_run run old new → greater base_run.status run.status ≢ 0 → ComparisonPart view base inputs settings old new
+ComparisonPart-ended view base_run run base inputs settings old new is failed = dite (ℕ_discrete (greater base_run.status run.status) 2)
     (λ (two : greater base_run.status run.status ≡ 2). inl (record { base_run = base_run; run = run; is_comparison = is; ended = two }))
     (λ (other : ¬ (greater base_run.status run.status ≡ 2)). inr (inr (record { base_run = base_run; run = run; is_comparison = is; ended = one (greater base_run.status run.status) (greater-is base_run.status run.status) other failed })))
   where

@@ -1,12 +1,9 @@
 -- What is printed of separate files is what they give where they are read in turn.
-use Rattle.std.proofs.Common.{◌≡◌, ◌<◌, List, [], sym, arith}
+use Rattle.std.proofs.Common.{◌≡◌, ◌<◌, false, List, [], ◌∷◌, refl, sym, ap, subst, arith}
 use Rattle.span_ledger.specs.declared.entry.Entry.{Entry}
 use Rattle.span_ledger.specs.Topics.{AreAlike}
-use Rattle.span_report.proofs.ComparisonLemmas.SameComparisons.{comparison_of-alike}
-use Rattle.span_report.proofs.RankingLemmas.SameRankings.{ranking_of-alike}
 use Rattle.span_report.proofs.SameReports.{report_of-alike}
 use Rattle.span_report.proofs.StackLemmas.SameStacks.{stacks-alike}
-use Rattle.span_report.specs.Comparisons.Comparison.{comparison_of}
 use Rattle.span_collect.specs.declared.files.FileEnd.{FileEnd}
 use Rattle.span_collect.specs.declared.files.Input.{Input}
 use Rattle.span_collect.specs.declared.queries.Asked.{Asked}
@@ -16,12 +13,20 @@ use Rattle.span_collect.specs.declared.settings.Settings.{Settings}
 use Rattle.span_collect.specs.InTurn.{AreSeparate, ends_from, journal_in_turn, text_in_turn}
 use Rattle.span_collect.specs.Run.{status_of}
 use Rattle.span_collect.specs.Seals.{SealedAccount}
-use Rattle.span_collect.proofs.InTurn.Accounted.{AreAlike-in_turn, refusals_of-in_turn}
+use Rattle.span_collect.proofs.InTurn.Accounted.{AreAlike-in_turn, refusals_of-in_turn, unread_of-in_turn}
 use Rattle.span_page.proofs.SamePages.{page_of-alike}
+use Rattle.span_table.specs.declared.column.Column.{Column}
+use Rattle.span_table.specs.Json.{json_fits, json_of}
+use Rattle.span_table.specs.Laws.{AreAlikeRuns}
+use Rattle.span_table.specs.Ranking.{ranking_of}
+use Rattle.span_table.specs.Tables.{SpanTable}
+use Rattle.span_table.proofs.SameTables.{table_of-alike}
+use Rattle.tracebook.specs.declared.comparison.ComparisonView.{ComparisonView}
 use Rattle.tracebook.specs.declared.view.View.{View}
-use Rattle.tracebook.specs.declared.view.View.TheVariants.{Report, Ranking, Refusals, Folded, Page}
-use Rattle.tracebook.specs.Comparison.{HasEnded, comparison_in_turn, greater}
-use Rattle.tracebook.specs.View.{ExceedsNames, text_of}
+use Rattle.tracebook.specs.declared.view.View.TheVariants.{Report, Ranking, Json, Refusals, Folded, Page}
+use Rattle.tracebook.specs.Comparison.{AreTooGreat, HasEnded, HasTooGreat, changes_of_runs, changes_text, comparison_in_turn, greater}
+use Rattle.tracebook.specs.Tables.{run_in_turn, run_of, table_of_run}
+use Rattle.tracebook.specs.View.{ExceedsBits, ExceedsNames, text_of}
 use Rattle.tracebook.proofs.Compared.{greater-is}
 
 module _ (files : List Input) (settings : Settings) (ends : List FileEnd) (asked : Asked) (sealing : Sealing) (journal : List Entry)
@@ -29,22 +34,44 @@ module _ (files : List Input) (settings : Settings) (ends : List FileEnd) (asked
   alike : AreAlike journal (journal_in_turn settings files [])
   alike = AreAlike-in_turn files [] settings ends asked sealing journal account separate below
 
+  alike_runs : AreAlikeRuns (run_of files ends journal) (run_in_turn settings files)
+  alike_runs = record { journals = alike; files = refl; unread = unread_of-in_turn files [] settings ends asked sealing journal account separate below }
+
+  -- each table
+  pub table_of_run-in_turn : (columns : List Column) → table_of_run columns (run_of files ends journal) ≡ table_of_run columns (run_in_turn settings files)
+  table_of_run-in_turn columns = table_of-alike columns (run_of files ends journal ∷ []) (run_in_turn settings files ∷ []) (alike_runs, tt)
+
   -- each view
   pub text_of-in_turn : (view : View) → text_of view files ends journal ≡ text_in_turn (text_of view files) files [] settings
   text_of-in_turn Report = report_of-alike journal (journal_in_turn settings files []) alike
-  text_of-in_turn (Ranking most by) = ranking_of-alike most by journal (journal_in_turn settings files []) alike
+  text_of-in_turn (Ranking table most by) = ap (ranking_of most by table.shown) (table_of_run-in_turn table.columns.items)
+  text_of-in_turn (Json table) = ap (json_of table.shown) (table_of_run-in_turn table.columns.items)
   text_of-in_turn Refusals = refusals_of-in_turn files [] settings ends asked sealing journal account separate below
   text_of-in_turn Folded = (stacks-alike journal (journal_in_turn settings files []) alike).text
   text_of-in_turn Page =
       page_of-alike files ends (ends_from 1 files) journal (journal_in_turn settings files []) alike
       (refusals_of-in_turn files [] settings ends asked sealing journal account separate below)
 
-  -- and whether its folded stacks have more names than they may
-  pub ExceedsNames-in_turn : (view : View) → ExceedsNames view journal → ExceedsNames view (journal_in_turn settings files [])
-  ExceedsNames-in_turn view exceeds = (exceeds.0, rw (sym (stacks-alike journal (journal_in_turn settings files []) alike).names) exceeds.1)
+  -- whether folded stacks have more names than they may
+  pub ExceedsNames-in_turn : (view : View) → ExceedsNames view ends journal → ExceedsNames view (ends_from 1 files) (journal_in_turn settings files [])
+  ExceedsNames-in_turn Report exceeds = exceeds
+  ExceedsNames-in_turn (Ranking table most by) exceeds = exceeds
+  ExceedsNames-in_turn (Json table) exceeds = exceeds
+  ExceedsNames-in_turn Refusals exceeds = exceeds
+  ExceedsNames-in_turn Folded exceeds = rw (sym (stacks-alike journal (journal_in_turn settings files []) alike).names) exceeds
+  ExceedsNames-in_turn Page exceeds = exceeds
+
+  -- and whether numbers for other programs have more bits
+  pub ExceedsBits-in_turn : (view : View) → ExceedsBits view files ends journal → ExceedsBits view files (ends_from 1 files) (journal_in_turn settings files [])
+  ExceedsBits-in_turn Report exceeds = exceeds
+  ExceedsBits-in_turn (Ranking table most by) exceeds = exceeds
+  ExceedsBits-in_turn (Json table) exceeds = subst (λ (t : SpanTable). json_fits table.shown t ≡ false) (table_of_run-in_turn table.columns.items) exceeds
+  ExceedsBits-in_turn Refusals exceeds = exceeds
+  ExceedsBits-in_turn Folded exceeds = exceeds
+  ExceedsBits-in_turn Page exceeds = exceeds
 
 -- two runs that ended, neither with 2
-module _ (base files : List Input) (settings : Settings) (base_run run : RunEnd) (base_journal journal : List Entry)
+module _ (view : ComparisonView) (base files : List Input) (settings : Settings) (base_run run : RunEnd) (base_journal journal : List Entry)
     (base_ended : HasEnded base settings base_run base_journal) (ended : HasEnded files settings run journal)
     (separate_base : AreSeparate base) (separate : AreSeparate files) (below : greater base_run.status run.status < 2) where
   base_below : base_run.status < 2
@@ -53,7 +80,17 @@ module _ (base files : List Input) (settings : Settings) (base_run run : RunEnd)
   other_below : run.status < 2
   other_below = omega (arith, below, (greater-is base_run.status run.status).1)
 
-  pub comparison_of-in_turn : comparison_of base_journal journal ≡ comparison_in_turn base files settings
-  comparison_of-in_turn = comparison_of-alike base_journal journal (journal_in_turn settings base []) (journal_in_turn settings files [])
-      (alike base settings base_run.ends.items base_run.asked base_run.sealing base_journal base_ended.account separate_base (rw base_ended.status at base_below))
-      (alike files settings run.ends.items run.asked run.sealing journal ended.account separate (rw ended.status at other_below))
+  -- the table of the base
+  pub base-in_turn : table_of_run view.table.columns.items (run_of base base_run.ends.items base_journal) ≡ table_of_run view.table.columns.items (run_in_turn settings base)
+  base-in_turn =
+      table_of_run-in_turn base settings base_run.ends.items base_run.asked base_run.sealing base_journal base_ended.account separate_base (rw base_ended.status at base_below) view.table.columns.items
+
+  -- and that of the other
+  pub other-in_turn : table_of_run view.table.columns.items (run_of files run.ends.items journal) ≡ table_of_run view.table.columns.items (run_in_turn settings files)
+  other-in_turn = table_of_run-in_turn files settings run.ends.items run.asked run.sealing journal ended.account separate (rw ended.status at other_below) view.table.columns.items
+
+  pub changes_of_runs-in_turn : changes_of_runs view (run_of base base_run.ends.items base_journal) (run_of files run.ends.items journal) ≡ comparison_in_turn view base files settings
+  changes_of_runs-in_turn = λ i. changes_text view.form view.table.shown (base-in_turn i) (other-in_turn i)
+
+  pub AreTooGreat-in_turn : AreTooGreat view (run_of base base_run.ends.items base_journal) (run_of files run.ends.items journal) → AreTooGreat view (run_in_turn settings base) (run_in_turn settings files)
+  AreTooGreat-in_turn = subst (λ T. T) (λ i. HasTooGreat view.form view.table.shown (base-in_turn i) (other-in_turn i))

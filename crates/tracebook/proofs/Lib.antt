@@ -1,3 +1,4 @@
+mod Changes
 mod Compared
 mod FaultLines
 mod Files

@@ -1,15 +1,75 @@
 -- What is left of a view that was not written whole.
-use Rattle.std.proofs.Common.{ℕ, List}
+use Rattle.std.proofs.Common.{◌≡◌, ◌<◌, List, [], ◌∙◌}
 use Rattle.span_ledger.specs.declared.entry.Entry.{Entry}
 use Rattle.span_report.specs.declared.output.WriteFault.{WriteFault}
 use Rattle.span_report.specs.declared.output.WriteFault.TheVariants.{Memory, Output}
+use Rattle.span_report.specs.declared.stacks.output.FoldedFault.{FoldedFault}
+use Rattle.span_report.specs.declared.stacks.output.FoldedFault.TheVariants.{Memory as Unfolded, TooLarge, Output as FoldedCut}
 use Rattle.span_report.specs.Output.{WriteLeaves}
 use Rattle.span_report.specs.Sink.{SinkState}
+use Rattle.span_report.specs.Stacks.Faults.{FoldedLeaves}
+use Rattle.span_collect.specs.declared.files.FileEnd.{FileEnd}
+use Rattle.span_collect.specs.declared.files.Input.{Input}
+use Rattle.span_collect.specs.declared.runs.RunEnd.{RunEnd}
+use Rattle.span_collect.specs.declared.runs.RunError.TheVariants.{FileCount, Memory as NoMemory, Unaccounted, Output as Failed}
+use Rattle.span_collect.specs.declared.settings.Settings.{Settings}
+use Rattle.span_collect.specs.Run.{status_of}
+use Rattle.span_collect.specs.Seals.{SealedAccount}
+use Rattle.span_collect.proofs.CutShort.{IsCutShort-failed}
+use Rattle.span_collect.proofs.InTurn.Texts.{FailsAsInTurn-same}
+use Rattle.span_collect.proofs.Statuses.{status_of-lt}
 use Rattle.tracebook.specs.declared.view.View.{View}
-use Rattle.tracebook.specs.View.{TextLeaves, unbounded}
+use Rattle.tracebook.specs.declared.view.View.TheVariants.{Folded}
+use Rattle.tracebook.specs.declared.view.ViewFault.{ViewFault}
+use Rattle.tracebook.specs.declared.view.ViewFault.TheVariants.{Run, TooGreat, StacksTooLarge}
+use Rattle.tracebook.specs.View.{TextLeaves, ViewLeaves, of_folded, of_written, text_of}
+use Rattle.tracebook.proofs.InTurn.{ExceedsBits-in_turn, ExceedsNames-in_turn, text_of-in_turn}
 
 -- of a text that has no bound
-pub TextLeaves-unbounded : (view : View) (fault : WriteFault) (text : List ℕ) (journal : List Entry) (old new : SinkState) →
-    WriteLeaves fault text old new → TextLeaves view (unbounded fault) text journal old new
-TextLeaves-unbounded view Memory text journal old new leaves = leaves
-TextLeaves-unbounded view (Output written) text journal old new leaves = leaves
+pub TextLeaves-of_written : (view : View) (files : List Input) (fault : WriteFault) (ends : List FileEnd) (journal : List Entry) (old new : SinkState) →
+    WriteLeaves fault (text_of view files ends journal) old new → TextLeaves view files (of_written fault) ends journal old new
+TextLeaves-of_written view files Memory ends journal old new leaves = leaves
+TextLeaves-of_written view files (Output written) ends journal old new leaves = leaves
+
+-- of folded stacks
+pub TextLeaves-of_folded : (files : List Input) (fault : FoldedFault) (ends : List FileEnd) (journal : List Entry) (old new : SinkState) →
+    FoldedLeaves fault journal old new → TextLeaves Folded files (of_folded fault) ends journal old new
+TextLeaves-of_folded files Unfolded ends journal old new leaves = leaves
+TextLeaves-of_folded files TooLarge ends journal old new leaves = leaves
+TextLeaves-of_folded files (FoldedCut written) ends journal old new leaves = (leaves.1, leaves.2)
+
+-- a run of these inputs ended, not with 2, and this is left of its view
+module _ (view : View) (inputs : List Input) (settings : Settings) (run : RunEnd) (journal : List Entry) (old new : SinkState)
+    (account : SealedAccount inputs [] settings run.ends.items run.asked run.sealing journal) (status : run.status ≡ status_of run.ends.items run.asked run.sealing)
+    (some : run.status ≡ 2 → ⊥) where
+  below : status_of run.ends.items run.asked run.sealing < 2
+  below = status_of-lt run.ends.items run.asked run.sealing (λ two. some (status ∙ two))
+
+  pub ViewLeaves-text : (fault : ViewFault) → TextLeaves view inputs fault run.ends.items journal old new → ViewLeaves view fault inputs settings old new
+  ViewLeaves-text (Run FileCount) leaves = absurd leaves
+  ViewLeaves-text (Run NoMemory) leaves = (leaves, tt)
+  ViewLeaves-text (Run (Unaccounted entries calls)) leaves = absurd leaves
+  ViewLeaves-text (Run (Failed written)) leaves = (
+    IsCutShort-failed (text_of view inputs) inputs [] settings run journal written old new account status some leaves,
+    FailsAsInTurn-same (text_of view inputs) inputs [] settings run.status run.ends.items journal
+        (λ separate under. text_of-in_turn inputs settings run.ends.items run.asked run.sealing journal account separate (rw status at under) view)
+        old new (rw status below) written leaves,
+  )
+  ViewLeaves-text TooGreat leaves = record {
+    run = run;
+    journal = journal;
+    account = account;
+    ended = below;
+    exceeds = leaves.1;
+    in_turn = λ separate. ExceedsBits-in_turn inputs settings run.ends.items run.asked run.sealing journal account separate below view leaves.1;
+    silent = leaves.0;
+  }
+  ViewLeaves-text StacksTooLarge leaves = record {
+    run = run;
+    journal = journal;
+    account = account;
+    ended = below;
+    exceeds = leaves.1;
+    in_turn = λ separate. ExceedsNames-in_turn inputs settings run.ends.items run.asked run.sealing journal account separate below view leaves.1;
+    silent = leaves.0;
+  }

@@ -1,17 +1,60 @@
 -- What comparing two runs does.
-use Rattle.std.specs.Prelude.{◌≡◌, ℕ, ◌<◌, ◌≤◌, ◌⊎◌, if◌then◌else◌, List, [], length, nat_lt, take}
+use Rattle.std.specs.Prelude.{◌≡◌, ℕ, ◌<◌, ◌≤◌, ◌⊎◌, if◌then◌else◌, false, List, [], length, nat_lt, take}
+use Rattle.span_event.specs.declared.fault.Fault.TheVariants.{TooGreat as TooGreatFault}
+use Rattle.span_event.specs.Fault.{number_of}
+use Rattle.span_event.specs.Text.{Bytes}
 use Rattle.span_ledger.specs.declared.entry.Entry.{Entry}
 use Rattle.span_report.specs.Sink.{SinkState, TakesBytes, Fails}
 use Rattle.span_collect.specs.declared.files.Input.{Input}
 use Rattle.span_collect.specs.declared.settings.Settings.{Settings}
 use Rattle.span_collect.specs.declared.runs.RunEnd.{RunEnd}
-use Rattle.span_collect.specs.declared.runs.RunError.{RunError}
 use Rattle.span_collect.specs.declared.runs.RunError.TheVariants.{FileCount, Memory, Unaccounted, Output}
 use Rattle.span_collect.specs.Collection.{AreNoneOrTooMany, HasMore}
-use Rattle.span_collect.specs.InTurn.{AreSeparate, journal_in_turn}
-use Rattle.span_collect.specs.Run.{status_of}
+use Rattle.span_collect.specs.InTurn.{AreSeparate}
+use Rattle.span_collect.specs.Run.{run_code, status_of}
 use Rattle.span_collect.specs.Seals.{SealedAccount}
-use Rattle.span_report.specs.Comparisons.Comparison.{comparison_of}
+use Rattle.span_table.specs.Comparison.{comparison_of}
+use Rattle.span_table.specs.Json.{json_changes_fit, json_comparison_of}
+use Rattle.span_table.specs.Shown.{Wanted}
+use Rattle.span_table.specs.Tables.{Run, SpanTable}
+use Rattle.tracebook.specs.declared.comparison.ComparisonFault.{ComparisonFault}
+use Rattle.tracebook.specs.declared.comparison.ComparisonFault.TheVariants.{Run as OfRun, TooGreat}
+use Rattle.tracebook.specs.declared.comparison.ComparisonForm.{ComparisonForm}
+use Rattle.tracebook.specs.declared.comparison.ComparisonForm.TheVariants.{Text, Json}
+use Rattle.tracebook.specs.declared.comparison.ComparisonView.{ComparisonView}
+use Rattle.tracebook.specs.Tables.{run_in_turn, run_of, table_of_run}
+
+-- what changed between two tables
+abbrev pub changes_text : ComparisonForm → Wanted → SpanTable → SpanTable → Bytes
+changes_text (Text by) shown base other = comparison_of by shown base other
+changes_text Json shown base other = json_comparison_of shown base other
+
+-- it is for other programs, and a number has more than 64 bits
+abbrev pub HasTooGreat : ComparisonForm → Wanted → SpanTable → SpanTable → Type 0
+HasTooGreat (Text by) shown base other = ⊥
+HasTooGreat Json shown base other = json_changes_fit shown base other ≡ false
+
+-- the same for the tables of two runs that are asked for
+abbrev pub changes_of_runs : ComparisonView → Run → Run → Bytes
+changes_of_runs view base other =
+    changes_text view.form view.table.shown (table_of_run view.table.columns.items base) (table_of_run view.table.columns.items other)
+
+abbrev pub AreTooGreat : ComparisonView → Run → Run → Type 0
+AreTooGreat view base other =
+    HasTooGreat view.form view.table.shown (table_of_run view.table.columns.items base) (table_of_run view.table.columns.items other)
+
+-- a failed output took just the first `written` bytes of what changed
+abbrev pub TakesFirst : ComparisonView → ℕ → Run → Run → SinkState → SinkState → Type 0
+TakesFirst view written base other old new =
+    (written ≤ length (changes_of_runs view base other)) × Fails old new (take written (changes_of_runs view base other))
+
+-- what the writing of a comparison ends with where it isn't whole; but for a failed output it leaves the output as it was
+abbrev pub ChangesLeave : ComparisonView → ComparisonFault → Run → Run → SinkState → SinkState → Type 0
+ChangesLeave view (OfRun Memory) base other old new = new ≡ old
+ChangesLeave view (OfRun (Output written)) base other old new = TakesFirst view written base other old new
+ChangesLeave view (OfRun FileCount) base other old new = ⊥
+ChangesLeave view (OfRun (Unaccounted entries calls)) base other old new = ⊥
+ChangesLeave view TooGreat base other old new = (new ≡ old) × AreTooGreat view base other
 
 -- a run of these files, without queries, ended so, and this journal accounts for them
 pub record HasEnded (files : List Input) (settings : Settings) (run : RunEnd) (journal : List Entry) : Type 0 where
@@ -23,23 +66,24 @@ abbrev pub greater : ℕ → ℕ → ℕ
 greater a b = if nat_lt a b then b else a
 
 -- What changes between two runs of files that are read in turn.
-abbrev pub comparison_in_turn : List Input → List Input → Settings → List ℕ
-comparison_in_turn base files settings = comparison_of (journal_in_turn settings base []) (journal_in_turn settings files [])
+abbrev pub comparison_in_turn : ComparisonView → List Input → List Input → Settings → Bytes
+comparison_in_turn view base files settings = changes_of_runs view (run_in_turn settings base) (run_in_turn settings files)
 
 -- A run of the base's files and one of the others ended, each with a journal of its own. Unless one ended with 2, what changed between
 -- these journals was written, else nothing. If the files of each are separate, it is what changes where they are read in turn.
-pub record IsComparisonOf (base files : List Input) (settings : Settings) (base_run run : RunEnd) (old new : SinkState) : Type 0 where
+pub record IsComparisonOf (view : ComparisonView) (base files : List Input) (settings : Settings) (base_run run : RunEnd) (old new : SinkState) : Type 0 where
   pub base_journal : List Entry
   pub journal : List Entry
   pub base_ended : HasEnded base settings base_run base_journal
   pub ended : HasEnded files settings run journal
-  pub written : greater base_run.status run.status < 2 → TakesBytes old new (comparison_of base_journal journal)
+  pub written : greater base_run.status run.status < 2
+      → TakesBytes old new (changes_of_runs view (run_of base base_run.ends.items base_journal) (run_of files run.ends.items journal))
   pub silent : greater base_run.status run.status ≡ 2 → new ≡ old
-  pub in_turn : AreSeparate base → AreSeparate files → greater base_run.status run.status < 2 → TakesBytes old new (comparison_in_turn base files settings)
+  pub in_turn : AreSeparate base → AreSeparate files → greater base_run.status run.status < 2 → TakesBytes old new (comparison_in_turn view base files settings)
 
--- both runs ended, neither with 2, and just the first `written` bytes of what changed were written; if the files of each are separate,
--- of what changes where they are read in turn
-pub record IsComparisonCutShort (base files : List Input) (settings : Settings) (written : ℕ) (old new : SinkState) : Type 0 where
+-- Both runs ended, neither with 2, and this holds of them, as of two runs of files that are read in turn, if the files of each are
+-- separate.
+pub record HoldsOfBoth (Holds : Run → Run → Type 0) (base files : List Input) (settings : Settings) : Type 0 where
   pub base_run : RunEnd
   pub run : RunEnd
   pub base_journal : List Entry
@@ -47,14 +91,19 @@ pub record IsComparisonCutShort (base files : List Input) (settings : Settings) 
   pub base_ended : HasEnded base settings base_run base_journal
   pub ended : HasEnded files settings run journal
   pub status : greater base_run.status run.status < 2
-  pub within : written ≤ length (comparison_of base_journal journal)
-  pub output : Fails old new (take written (comparison_of base_journal journal))
-  pub in_turn : AreSeparate base → AreSeparate files
-      → (written ≤ length (comparison_in_turn base files settings)) × Fails old new (take written (comparison_in_turn base files settings))
+  pub holds : Holds (run_of base base_run.ends.items base_journal) (run_of files run.ends.items journal)
+  pub in_turn : AreSeparate base → AreSeparate files → Holds (run_in_turn settings base) (run_in_turn settings files)
 
--- why two runs were not compared, and what that leaves: only a failed output took bytes
-abbrev pub ComparisonLeaves : RunError → List Input → List Input → Settings → SinkState → SinkState → Type 0
-ComparisonLeaves FileCount base files settings old new = (AreNoneOrTooMany base ⊎ AreNoneOrTooMany files) × (new ≡ old)
-ComparisonLeaves Memory base files settings old new = new ≡ old
-ComparisonLeaves (Unaccounted entries calls) base files settings old new = (HasMore base [] settings entries calls ⊎ HasMore files [] settings entries calls) × (new ≡ old)
-ComparisonLeaves (Output written) base files settings old new = IsComparisonCutShort base files settings written old new
+-- why two runs were not compared, and what that leaves: only a failed output took bytes, the first of what changed
+abbrev pub ComparisonLeaves : ComparisonView → ComparisonFault → List Input → List Input → Settings → SinkState → SinkState → Type 0
+ComparisonLeaves view (OfRun FileCount) base files settings old new = (AreNoneOrTooMany base ⊎ AreNoneOrTooMany files) × (new ≡ old)
+ComparisonLeaves view (OfRun Memory) base files settings old new = new ≡ old
+ComparisonLeaves view (OfRun (Unaccounted entries calls)) base files settings old new =
+    (HasMore base [] settings entries calls ⊎ HasMore files [] settings entries calls) × (new ≡ old)
+ComparisonLeaves view (OfRun (Output written)) base files settings old new =
+    HoldsOfBoth (λ earlier later. TakesFirst view written earlier later old new) base files settings
+ComparisonLeaves view TooGreat base files settings old new = HoldsOfBoth (AreTooGreat view) base files settings × (new ≡ old)
+
+abbrev pub comparison_code : ComparisonFault → ℕ
+comparison_code (OfRun error) = run_code error
+comparison_code TooGreat = number_of TooGreatFault

@@ -1,13 +1,14 @@
 -- What the words of a command line ask for, and what a request does.
-use Rattle.std.specs.Prelude.{◌≡◌, ℕ, ◌⊎◌, Bool, false, List, [], take, codes, nat_eq, string_bytes}
+use Rattle.std.specs.Prelude.{◌≡◌, ℕ, ◌⊎◌, Bool, false, List, take, codes, nat_eq, string_bytes}
 use Rattle.std.specs.List.{list_any, starts_with}
 use Rattle.span_report.specs.Sink.{SinkState, TakesBytes, Fails}
 use Rattle.span_collect.specs.declared.files.Input.{Input}
 use Rattle.span_collect.specs.declared.settings.Settings.{Settings}
 use Rattle.span_collect.specs.declared.runs.RunEnd.{RunEnd}
-use Rattle.span_collect.specs.declared.runs.RunError.{RunError}
 use Rattle.tracebook.specs.declared.command.Request.{Request}
 use Rattle.tracebook.specs.declared.command.Request.TheVariants.{Collect, Compare, Show, Refuse}
+use Rattle.tracebook.specs.declared.comparison.ComparisonFault.{ComparisonFault}
+use Rattle.tracebook.specs.declared.comparison.ComparisonView.{ComparisonView}
 use Rattle.tracebook.specs.declared.view.View.{View}
 use Rattle.tracebook.specs.declared.view.View.TheVariants.{Report}
 use Rattle.tracebook.specs.declared.view.ViewFault.{ViewFault}
@@ -31,7 +32,7 @@ default_settings = record { limit = default_limit; seal = false; strict = false 
 -- the files of these names are to be collected, with the default settings, and reported
 abbrev pub NamesFiles : List (List ℕ) → Request → Type 0
 NamesFiles words (Collect settings view files) = (settings ≡ default_settings) × (view ≡ Report) × (files.items ≡ words)
-NamesFiles words (Compare settings base files) = ⊥
+NamesFiles words (Compare settings view base files) = ⊥
 NamesFiles words (Show text) = ⊥
 NamesFiles words (Refuse text) = ⊥
 
@@ -67,42 +68,42 @@ abbrev pub CollectsPart : SourceBytes → List (List ℕ) → Settings → View 
 CollectsPart source names settings view old new = (new ≡ old) ⊎ ((inputs : List Input) × AreInputs source names inputs × LeavesPart inputs settings view old new)
 
 -- two runs of these inputs were compared, and the greater of their statuses is this
-pub record ComparesWith (base inputs : List Input) (settings : Settings) (status : ℕ) (old new : SinkState) : Type 0 where
+pub record ComparesWith (view : ComparisonView) (base inputs : List Input) (settings : Settings) (status : ℕ) (old new : SinkState) : Type 0 where
   pub base_run : RunEnd
   pub run : RunEnd
-  pub is_comparison : IsComparisonOf base inputs settings base_run run old new
+  pub is_comparison : IsComparisonOf view base inputs settings base_run run old new
   pub ended : greater base_run.status run.status ≡ status
 
 -- What comparing these inputs left where the program ended with 2. A run ended with 2, and nothing was written; or the runs were not
 -- compared, and nothing was written unless the output failed; or a file was refused, what changed is written, and memory for the file's
 -- line was refused.
-abbrev pub ComparisonPart : List Input → List Input → Settings → SinkState → SinkState → Type 0
-ComparisonPart base inputs settings old new =
-    ComparesWith base inputs settings 2 old new ⊎ (((error : RunError) × ComparisonLeaves error base inputs settings old new) ⊎ ComparesWith base inputs settings 1 old new)
+abbrev pub ComparisonPart : ComparisonView → List Input → List Input → Settings → SinkState → SinkState → Type 0
+ComparisonPart view base inputs settings old new = ComparesWith view base inputs settings 2 old new
+    ⊎ (((fault : ComparisonFault) × ComparisonLeaves view fault base inputs settings old new) ⊎ ComparesWith view base inputs settings 1 old new)
 
 -- the files of these names were collected, the base's in one run and the others in another, and what changed is written
-pub record Compares (source : SourceBytes) (base_names names : List (List ℕ)) (settings : Settings) (status : ℕ) (old new : SinkState) : Type 0 where
+pub record Compares (source : SourceBytes) (base_names names : List (List ℕ)) (settings : Settings) (view : ComparisonView) (status : ℕ) (old new : SinkState) : Type 0 where
   pub base : List Input
   pub inputs : List Input
   pub base_read : AreFiles source.file base_names base
   pub read : AreInputs source names inputs
-  pub ended : ComparesWith base inputs settings status old new
+  pub ended : ComparesWith view base inputs settings status old new
 
 -- not all files were read, and nothing was written; or two runs of them left this
-abbrev pub ComparesPart : SourceBytes → List (List ℕ) → List (List ℕ) → Settings → SinkState → SinkState → Type 0
-ComparesPart source base_names names settings old new =
-    (new ≡ old) ⊎ ((base : List Input) × (inputs : List Input) × AreFiles source.file base_names base × AreInputs source names inputs × ComparisonPart base inputs settings old new)
+abbrev pub ComparesPart : SourceBytes → List (List ℕ) → List (List ℕ) → Settings → ComparisonView → SinkState → SinkState → Type 0
+ComparesPart source base_names names settings view old new = (new ≡ old)
+    ⊎ ((base : List Input) × (inputs : List Input) × AreFiles source.file base_names base × AreInputs source names inputs × ComparisonPart view base inputs settings old new)
 
 -- what a request did that ended with status 0 or 1: its files were collected, or its text was written
 abbrev pub Performs : SourceBytes → Request → ℕ → SinkState → SinkState → Type 0
 Performs source (Collect settings view files) status old new = Collects source files.items settings view status old new
-Performs source (Compare settings base files) status old new = Compares source base.items files.items settings status old new
+Performs source (Compare settings view base files) status old new = Compares source base.items files.items settings view status old new
 Performs source (Show text) status old new = (status ≡ 0) × TakesBytes old new (string_bytes text)
 Performs source (Refuse text) status old new = ⊥
 
 -- what a request did that ended with status 2: it wrote nothing, or first bytes of what it would have written
 abbrev pub GivesUp : SourceBytes → Request → SinkState → SinkState → Type 0
 GivesUp source (Collect settings view files) old new = CollectsPart source files.items settings view old new
-GivesUp source (Compare settings base files) old new = ComparesPart source base.items files.items settings old new
+GivesUp source (Compare settings view base files) old new = ComparesPart source base.items files.items settings view old new
 GivesUp source (Show text) old new = (written : ℕ) × Fails old new (take written (string_bytes text))
 GivesUp source (Refuse text) old new = new ≡ old

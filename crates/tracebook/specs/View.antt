@@ -1,82 +1,107 @@
 -- What is printed of what was collected.
-use Rattle.std.specs.Prelude.{◌≡◌, ℕ, ◌<◌, ◌≤◌, List, [], length, take}
-use Rattle.span_event.specs.declared.fault.Fault.TheVariants.{StacksTooLarge as StacksFault}
+use Rattle.std.specs.Prelude.{◌≡◌, ℕ, ◌<◌, ◌≤◌, true, false, List, [], length, take}
+use Rattle.span_event.specs.declared.fault.Fault.TheVariants.{TooGreat as TooGreatFault, StacksTooLarge as StacksFault}
 use Rattle.span_event.specs.Fault.{number_of}
 use Rattle.span_ledger.specs.declared.entry.Entry.{Entry}
 use Rattle.span_report.specs.Report.{report_of}
-use Rattle.span_report.specs.Rankings.Ranking.{ranking_of}
 use Rattle.span_collect.specs.Refusals.Text.{refusals_of}
 use Rattle.span_report.specs.declared.output.WriteFault.{WriteFault}
 use Rattle.span_report.specs.declared.output.WriteFault.TheVariants.{Memory as Unwritten, Output as Cut}
 use Rattle.span_report.specs.declared.stacks.output.FoldedFault.{FoldedFault}
-use Rattle.span_report.specs.declared.stacks.output.FoldedFault.TheVariants.{Memory, TooLarge, Output}
+use Rattle.span_report.specs.declared.stacks.output.FoldedFault.TheVariants.{Memory as Unfolded, TooLarge, Output as FoldedCut}
 use Rattle.span_report.specs.Sink.{SinkState, Fails}
 use Rattle.span_report.specs.Stacks.Bounds.{most_names}
 use Rattle.span_report.specs.Stacks.Folded.{folded_of, names_of}
 use Rattle.span_page.specs.Page.{page_of}
+use Rattle.span_collect.specs.declared.files.FileEnd.{FileEnd}
 use Rattle.span_collect.specs.declared.files.Input.{Input}
 use Rattle.span_collect.specs.declared.runs.RunEnd.{RunEnd}
+use Rattle.span_collect.specs.declared.runs.RunError.TheVariants.{FileCount, Memory, Unaccounted, Output}
 use Rattle.span_collect.specs.declared.settings.Settings.{Settings}
-use Rattle.span_collect.specs.InTurn.{AreSeparate, FailsAsInTurn, WritesAsInTurn, journal_in_turn}
+use Rattle.span_collect.specs.InTurn.{AreSeparate, FailsAsInTurn, WritesAsInTurn, ends_from, journal_in_turn}
 use Rattle.span_collect.specs.Run.{IsRunOf, RunLeaves, TextOf, WritesOneFile, run_code, status_of}
 use Rattle.span_collect.specs.Seals.{SealedAccount}
 use Rattle.tracebook.specs.declared.view.View.{View}
-use Rattle.tracebook.specs.declared.view.View.TheVariants.{Report, Ranking, Refusals, Folded, Page}
+use Rattle.tracebook.specs.declared.view.View.TheVariants.{Report, Ranking, Json, Refusals, Folded, Page}
 use Rattle.tracebook.specs.declared.view.ViewFault.{ViewFault}
-use Rattle.tracebook.specs.declared.view.ViewFault.TheVariants.{Run, StacksTooLarge}
+use Rattle.tracebook.specs.declared.view.ViewFault.TheVariants.{Run, TooGreat, StacksTooLarge}
+use Rattle.tracebook.specs.Tables.{json_fits_run, json_of_run, ranking_of_run, run_of}
 
 abbrev pub text_of : View → List Input → TextOf
 text_of Report files ends journal = report_of journal
-text_of (Ranking most by) files ends journal = ranking_of most by journal
+text_of (Ranking table most by) files ends journal = ranking_of_run table most by (run_of files ends journal)
+text_of (Json table) files ends journal = json_of_run table (run_of files ends journal)
 text_of Refusals files ends journal = refusals_of files ends journal
 text_of Folded files ends journal = folded_of journal
 text_of Page files ends journal = page_of files ends journal
 
--- folded stacks have no more names than they may; any other text has no such bound
-abbrev pub Fits : View → List Entry → Type 0
-Fits Folded journal = names_of journal ≤ most_names
-Fits view journal = Unit {0}
+-- what holds of files that ended so, and of their journal
+abbrev pub OfEnds : Type 1
+OfEnds = List FileEnd → List Entry → Type 0
 
--- the folded stacks of the journal are asked for, and have more names than they may
-abbrev pub ExceedsNames : View → List Entry → Type 0
-ExceedsNames view journal = (view ≡ Folded) × (most_names < names_of journal)
+-- folded stacks have no more names than they may, numbers for other programs have 64 bits; any other text has no such bound
+abbrev pub Fits : View → List Input → OfEnds
+Fits Folded files ends journal = names_of journal ≤ most_names
+Fits (Json table) files ends journal = json_fits_run table (run_of files ends journal) ≡ true
+Fits view files ends journal = Unit {0}
+
+-- folded stacks are asked for, and have more names than they may
+abbrev pub ExceedsNames : View → OfEnds
+ExceedsNames Folded ends journal = most_names < names_of journal
+ExceedsNames view ends journal = ⊥
+
+-- numbers for other programs are asked for, and one has more than 64 bits
+abbrev pub ExceedsBits : View → List Input → OfEnds
+ExceedsBits (Json table) files ends journal = json_fits_run table (run_of files ends journal) ≡ false
+ExceedsBits view files ends journal = ⊥
 
 -- A run of these inputs, without queries, printed this view of them; unless the status is 2, that fits. Of separate inputs it is the
 -- view that they give where they are read in turn, and of one input that of what one caller tells.
 pub record Prints (view : View) (inputs : List Input) (settings : Settings) (run : RunEnd) (old new : SinkState) : Type 0 where
   pub is_run : IsRunOf (text_of view inputs) inputs [] settings run old new
-  pub fits : run.status < 2 → Fits view is_run.journal
+  pub fits : run.status < 2 → Fits view inputs run.ends.items is_run.journal
   pub in_turn : WritesAsInTurn (text_of view inputs) inputs [] settings run.status old new
   pub one_file : WritesOneFile (text_of view inputs) inputs [] settings run.status old new
 
--- the fault of a text that has no bound, among those of folded stacks
-abbrev pub unbounded : WriteFault → FoldedFault
-unbounded Unwritten = Memory
-unbounded (Cut written) = Output written
+-- the fault of a text that has no bound, and of folded stacks
+abbrev pub of_written : WriteFault → ViewFault
+of_written Unwritten = Run Memory
+of_written (Cut written) = Run (Output written)
 
--- want of memory and too many names leave the output as it was; a failed output took just the first `written` bytes of the text
-abbrev pub TextLeaves : View → FoldedFault → List ℕ → List Entry → SinkState → SinkState → Type 0
-TextLeaves view Memory text journal old new = new ≡ old
-TextLeaves view TooLarge text journal old new = (new ≡ old) × ExceedsNames view journal
-TextLeaves view (Output written) text journal old new = (written ≤ length text) × Fails old new (take written text)
+abbrev pub of_folded : FoldedFault → ViewFault
+of_folded Unfolded = Run Memory
+of_folded TooLarge = StacksTooLarge
+of_folded (FoldedCut written) = Run (Output written)
+
+-- a failed output took just the first `written` bytes of the text; what else the writing of a view ends with leaves the output as it was
+abbrev pub TextLeaves : View → List Input → ViewFault → List FileEnd → List Entry → SinkState → SinkState → Type 0
+TextLeaves view files (Run Memory) ends journal old new = new ≡ old
+TextLeaves view files (Run (Output written)) ends journal old new =
+    (written ≤ length (text_of view files ends journal)) × Fails old new (take written (text_of view files ends journal))
+TextLeaves view files (Run FileCount) ends journal old new = ⊥
+TextLeaves view files (Run (Unaccounted entries calls)) ends journal old new = ⊥
+TextLeaves view files TooGreat ends journal old new = (new ≡ old) × ExceedsBits view files ends journal
+TextLeaves view files StacksTooLarge ends journal old new = (new ≡ old) × ExceedsNames view ends journal
 
 abbrev pub view_code : ViewFault → ℕ
 view_code (Run error) = run_code error
+view_code TooGreat = number_of TooGreatFault
 view_code StacksTooLarge = number_of StacksFault
 
--- A run of these inputs ended, not with 2; nothing was written, since the folded stacks of its journal have more names than they may. So
--- have those of separate inputs that are read in turn.
-pub record IsTooLarge (view : View) (inputs : List Input) (settings : Settings) (old new : SinkState) : Type 0 where
+-- A run of these inputs ended, not with 2; nothing was written, since what it gave exceeds a bound. So does what separate inputs give
+-- that are read in turn.
+pub record IsUnwritten (Exceeds : OfEnds) (inputs : List Input) (settings : Settings) (old new : SinkState) : Type 0 where
   pub run : RunEnd
   pub journal : List Entry
   pub account : SealedAccount inputs [] settings run.ends.items run.asked run.sealing journal
   pub ended : status_of run.ends.items run.asked run.sealing < 2
-  pub exceeds : ExceedsNames view journal
-  pub in_turn : AreSeparate inputs → ExceedsNames view (journal_in_turn settings inputs [])
+  pub exceeds : Exceeds run.ends.items journal
+  pub in_turn : AreSeparate inputs → Exceeds (ends_from 1 inputs) (journal_in_turn settings inputs [])
   pub silent : new ≡ old
 
 -- why a view was not written whole, and what that leaves
 abbrev pub ViewLeaves : View → ViewFault → List Input → Settings → SinkState → SinkState → Type 0
 ViewLeaves view (Run error) inputs settings old new =
     RunLeaves (text_of view inputs) error inputs [] settings old new × FailsAsInTurn (text_of view inputs) error inputs [] settings old new
-ViewLeaves view StacksTooLarge inputs settings old new = IsTooLarge view inputs settings old new
+ViewLeaves view TooGreat inputs settings old new = IsUnwritten (ExceedsBits view inputs) inputs settings old new
+ViewLeaves view StacksTooLarge inputs settings old new = IsUnwritten (ExceedsNames view) inputs settings old new

@@ -1,14 +1,56 @@
 //! Two runs, of which one is compared with the other.
-ghost use Rattle.std.specs.Prelude.{◌≡◌, IfOk, IfErr};
-ghost use Rattle.tracebook.specs.Comparison.{ComparisonLeaves, IsComparisonOf, greater};
+ghost use Rattle.std.specs.Prelude.{◌≡◌, IfOk, IfErr, OnOk};
+ghost use Rattle.span_report.specs.Sink.{TakesBytes};
+ghost use Rattle.span_table.specs.declared.json_lines.JsonFault.TheVariants.{TooGreat};
+ghost use Rattle.tracebook.specs.Comparison.{AreTooGreat, ChangesLeave, ComparisonLeaves, HasTooGreat, IsComparisonOf, changes_of_runs, changes_text, comparison_code, greater};
+ghost use Rattle.tracebook.specs.Tables.{run_of};
 
+use crate::tables::{TableOptions, table_of_run};
 use span_collect::{Collected, Input, RunError, Settings, collect_to_ledger};
-use span_report::comparisons::write_comparison;
-use span_report::{Sink, WriteFault};
+use span_event::Fault;
+use span_report::{Sink, write_bytes};
+use span_table::{By, JsonFault, Shown, Table, comparison, json_comparison};
 use std::alloc::Global;
+use std::mem::forget;
 use std::random::RandomSource;
 use std::sync::Wait;
 use std::thread::Threads;
+
+/// How a comparison is printed.
+#[derive(Clone, Copy)]
+pub enum ComparisonForm {
+    /// For people, with the greatest change of this number first.
+    Text { by: By },
+    /// For other programs.
+    Json,
+}
+
+/// What is printed of what changed between two runs: which rows of their tables, and how.
+#[derive(Drop)]
+pub struct ComparisonView {
+    pub table: TableOptions,
+    pub form: ComparisonForm,
+}
+
+/// Why a comparison was not written whole.
+#[derive(Drop)]
+pub enum ComparisonFault {
+    /// A run was refused, or the output failed.
+    Run(RunError),
+    /// 55: a number for other programs has more than 64 bits, and nothing was written.
+    TooGreat,
+}
+
+impl ComparisonFault {
+    pub(crate) fn code(&self) -> u16
+        ensures { result ≡ comparison_code self.now }
+    {
+        match self {
+            ComparisonFault::Run(error) => error.code(),
+            ComparisonFault::TooGreat => Fault::TooGreat.code(),
+        }
+    }
+}
 
 // What was collected of the base's files, and of the others.
 #[derive(Drop)]
@@ -31,33 +73,107 @@ pub(crate) fn run_comparison<O: Sink, R: Threads + Wait + RandomSource + Sync>(
     base: &[Input],
     files: &[Input],
     settings: &Settings,
+    view: &ComparisonView,
     out: &mut O,
-) -> Result<Compared, RunError>
-    ensures run { IfOk result
-        (λ compared. IsComparisonOf base.now files.now settings.now compared.base.end compared.other.end (O.state out.old) (O.state out.new)) }
-    ensures error { IfErr result
-        (λ error. ComparisonLeaves error base.now files.now settings.now (O.state out.old) (O.state out.new)) }
+) -> Result<Compared, ComparisonFault>
+    ensures run { IfOk result (λ compared. IsComparisonOf view.now base.now files.now settings.now
+        compared.base.end compared.other.end (O.state out.old) (O.state out.new)) }
+    ensures fault { IfErr result
+        (λ fault. ComparisonLeaves view.now fault base.now files.now settings.now (O.state out.old) (O.state out.new)) }
 {
     let earlier = match collect_to_ledger(rt, alloc, base, &[], settings) {
         Ok(earlier) => earlier,
-        Err(error) => return Err(error),
+        Err(error) => return Err(ComparisonFault::Run(error)),
     };
     let later = match collect_to_ledger(rt, alloc, files, &[], settings) {
         Ok(later) => later,
-        Err(refusal) => return Err(refusal),
+        Err(refusal) => return Err(ComparisonFault::Run(refusal)),
     };
-    if greater(earlier.end.status, later.end.status) == 2 {
-        return Ok(Compared {
-            base: earlier,
-            other: later,
-        });
+    let compared = Compared {
+        base: earlier,
+        other: later,
+    };
+    if greater(compared.base.end.status, compared.other.end.status) == 2 {
+        return Ok(compared);
     }
-    match write_comparison(alloc, &earlier.ledger, &later.ledger, out) {
-        Ok(()) => Ok(Compared {
-            base: earlier,
-            other: later,
-        }),
-        Err(WriteFault::Memory) => Err(RunError::Memory),
-        Err(WriteFault::Output { written }) => Err(RunError::Output { written }),
+    match write_changes(rt, alloc, base, files, &compared, view, out) {
+        Ok(()) => Ok(compared),
+        Err(fault) => Err(fault),
+    }
+}
+
+// Writes what changed between two runs that ended, neither with 2.
+fn write_changes<O: Sink, R: RandomSource>(
+    rt: &R,
+    alloc: Global,
+    base: &[Input],
+    files: &[Input],
+    compared: &Compared,
+    view: &ComparisonView,
+    out: &mut O,
+) -> Result<(), ComparisonFault>
+    ensures ok { OnOk result (TakesBytes (O.state out.old) (O.state out.new) (changes_of_runs view.now
+        (run_of base.now compared.now.base.end.ends.items compared.now.base.ledger.journal)
+        (run_of files.now compared.now.other.end.ends.items compared.now.other.ledger.journal))) }
+    ensures fault { IfErr result (λ fault. ChangesLeave view.now fault
+        (run_of base.now compared.now.base.end.ends.items compared.now.base.ledger.journal)
+        (run_of files.now compared.now.other.end.ends.items compared.now.other.ledger.journal)
+        (O.state out.old) (O.state out.new)) }
+{
+    let text = match changes_of(rt, alloc, base, files, compared, view) {
+        Ok(text) => text,
+        Err(JsonFault::Memory) => return Err(ComparisonFault::Run(RunError::Memory)),
+        Err(JsonFault::TooGreat) => return Err(ComparisonFault::TooGreat),
+    };
+    write_bytes(&text, out).map_err(|written| ComparisonFault::Run(RunError::Output { written }))
+}
+
+// What changed between two runs.
+fn changes_of<R: RandomSource>(
+    rt: &R,
+    alloc: Global,
+    base: &[Input],
+    files: &[Input],
+    compared: &Compared,
+    view: &ComparisonView,
+) -> Result<Vec<u8>, JsonFault>
+    ensures text { IfOk result (λ text. text.items ≡ changes_of_runs view.now
+        (run_of base.now compared.now.base.end.ends.items compared.now.base.ledger.journal)
+        (run_of files.now compared.now.other.end.ends.items compared.now.other.ledger.journal)) }
+    ensures too_great { IfErr result (λ fault. fault ≡ TooGreat → AreTooGreat view.now
+        (run_of base.now compared.now.base.end.ends.items compared.now.base.ledger.journal)
+        (run_of files.now compared.now.other.end.ends.items compared.now.other.ledger.journal)) }
+{
+    let options = &view.table;
+    let Ok(earlier) = table_of_run(rt, alloc, &options.columns, base, &compared.base) else {
+        return Err(JsonFault::Memory);
+    };
+    let Ok(later) = table_of_run(rt, alloc, &options.columns, files, &compared.other) else {
+        drop(earlier);
+        return Err(JsonFault::Memory);
+    };
+    let text = text_of(alloc, &earlier, &later, &options.shown, view.form);
+    // The program ends soon, and then the system frees all at once, where freeing one by one takes long.
+    forget(earlier);
+    forget(later);
+    text
+}
+
+// What changed between two tables.
+fn text_of(
+    alloc: Global,
+    base: &Table,
+    other: &Table,
+    shown: &Shown,
+    form: ComparisonForm,
+) -> Result<Vec<u8>, JsonFault>
+    ensures text { IfOk result (λ text. text.items ≡ changes_text form shown.now base.now other.now) }
+    ensures too_great { IfErr result (λ fault. fault ≡ TooGreat → HasTooGreat form shown.now base.now other.now) }
+{
+    match form {
+        ComparisonForm::Text { by } => {
+            comparison(alloc, base, other, shown, by).map_err(|_| JsonFault::Memory)
+        }
+        ComparisonForm::Json => json_comparison(alloc, base, other, shown),
     }
 }

@@ -1,15 +1,18 @@
 //! Reports where the time went in trace event files.
 #![tactic(auto)]
 
+mod columns;
 mod command;
 mod comparison;
 mod faults;
 mod hints;
 mod inputs;
+mod options;
 mod program;
 mod progress;
 mod reading;
 mod source;
+mod tables;
 mod view;
 
 ghost use Rattle.std.specs.Prelude.{None};

@@ -3,7 +3,7 @@ ghost use Rattle.std.specs.Prelude.{◌≡◌, ◌<◌, ◌≤◌, ◌⊎◌, le
 ghost use Rattle.tracebook.specs.Request.{Asked, EndsWith, LeavesPart, Collects, CollectsPart, Compares, ComparesPart, ComparesWith, ComparisonPart, Performs, GivesUp};
 
 use crate::command::{Request, request_of};
-use crate::comparison::{greater, run_comparison};
+use crate::comparison::{ComparisonView, greater, run_comparison};
 use crate::faults::{FAILED, Faults, fail, fail_run, fail_unread, put_hints, report_faults, say};
 use crate::inputs::{inputs_of, pair_of};
 use crate::source::Source;
@@ -58,12 +58,15 @@ fn perform_request<R: Threads + Wait + RandomSource + Sync, S: Source, O: Sink, 
             settings,
             view,
             files,
-        } => collect_files(rt, alloc, &settings, view, files, source, out, faults),
+        } => collect_files(rt, alloc, &settings, &view, files, source, out, faults),
         Request::Compare {
             settings,
+            view,
             base,
             files,
-        } => compare_files(rt, alloc, &settings, base, files, source, out, faults),
+        } => compare_files(
+            rt, alloc, &settings, &view, base, files, source, out, faults,
+        ),
         Request::Show(text) => {
             let shown = write_bytes(text.as_bytes(), out);
             drop(text);
@@ -81,7 +84,7 @@ fn collect_files<R: Threads + Wait + RandomSource + Sync, S: Source, O: Sink, F:
     rt: &R,
     alloc: Global,
     settings: &Settings,
-    view: View,
+    view: &View,
     names: Vec<Text>,
     source: &mut S,
     out: &mut O,
@@ -89,9 +92,9 @@ fn collect_files<R: Threads + Wait + RandomSource + Sync, S: Source, O: Sink, F:
 ) -> u8
     ensures status { result ≤ 2 }
     ensures done { result < 2
-        → Collects (S.bytes source.old) names.items settings.now view result (O.state out.old) (O.state out.new) }
+        → Collects (S.bytes source.old) names.items settings.now view.now result (O.state out.old) (O.state out.new) }
     ensures failed { result ≡ 2
-        → CollectsPart (S.bytes source.old) names.items settings.now view (O.state out.old) (O.state out.new) }
+        → CollectsPart (S.bytes source.old) names.items settings.now view.now (O.state out.old) (O.state out.new) }
 {
     match inputs_of(alloc, names, source) {
         Ok(inputs) => {
@@ -108,6 +111,7 @@ fn compare_files<R: Threads + Wait + RandomSource + Sync, S: Source, O: Sink, F:
     rt: &R,
     alloc: Global,
     settings: &Settings,
+    view: &ComparisonView,
     base: Vec<Text>,
     names: Vec<Text>,
     source: &mut S,
@@ -116,14 +120,23 @@ fn compare_files<R: Threads + Wait + RandomSource + Sync, S: Source, O: Sink, F:
 ) -> u8
     ensures status { result ≤ 2 }
     ensures done { result < 2
-        → Compares (S.bytes source.old) base.items names.items settings.now result (O.state out.old) (O.state out.new) }
+        → Compares (S.bytes source.old) base.items names.items settings.now view.now result (O.state out.old) (O.state out.new) }
     ensures failed { result ≡ 2
-        → ComparesPart (S.bytes source.old) base.items names.items settings.now (O.state out.old) (O.state out.new) }
+        → ComparesPart (S.bytes source.old) base.items names.items settings.now view.now (O.state out.old) (O.state out.new) }
 {
     match pair_of(alloc, base, names, source) {
         Ok(pair) => {
             source.end();
-            let status = compare(rt, alloc, settings, &pair.base, &pair.other, out, faults);
+            let status = compare(
+                rt,
+                alloc,
+                settings,
+                view,
+                &pair.base,
+                &pair.other,
+                out,
+                faults,
+            );
             drop(pair);
             status
         }
@@ -135,6 +148,7 @@ fn compare<R: Threads + Wait + RandomSource + Sync, O: Sink, F: Faults>(
     rt: &R,
     alloc: Global,
     settings: &Settings,
+    view: &ComparisonView,
     base: &[Input],
     files: &[Input],
     out: &mut O,
@@ -142,11 +156,11 @@ fn compare<R: Threads + Wait + RandomSource + Sync, O: Sink, F: Faults>(
 ) -> u8
     ensures status { result ≤ 2 }
     ensures done { result < 2
-        → ComparesWith base.now files.now settings.now result (O.state out.old) (O.state out.new) }
+        → ComparesWith view.now base.now files.now settings.now result (O.state out.old) (O.state out.new) }
     ensures failed { result ≡ 2
-        → ComparisonPart base.now files.now settings.now (O.state out.old) (O.state out.new) }
+        → ComparisonPart view.now base.now files.now settings.now (O.state out.old) (O.state out.new) }
 {
-    match run_comparison(rt, alloc, base, files, settings, out) {
+    match run_comparison(rt, alloc, base, files, settings, view, out) {
         Ok(compared) => {
             let earlier = report_faults(alloc, base, &compared.base.end, faults);
             let later = report_faults(alloc, files, &compared.other.end, faults);
@@ -164,14 +178,14 @@ fn collect<R: Threads + Wait + RandomSource + Sync, O: Sink, F: Faults>(
     rt: &R,
     alloc: Global,
     settings: &Settings,
-    view: View,
+    view: &View,
     files: &[Input],
     out: &mut O,
     faults: &mut F,
 ) -> u8
     ensures status { result ≤ 2 }
-    ensures done { result < 2 → EndsWith files.now settings.now view result (O.state out.old) (O.state out.new) }
-    ensures failed { result ≡ 2 → LeavesPart files.now settings.now view (O.state out.old) (O.state out.new) }
+    ensures done { result < 2 → EndsWith files.now settings.now view.now result (O.state out.old) (O.state out.new) }
+    ensures failed { result ≡ 2 → LeavesPart files.now settings.now view.now (O.state out.old) (O.state out.new) }
 {
     match run_view(rt, alloc, files, settings, view, out) {
         Ok(collected) => {

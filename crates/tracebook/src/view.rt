@@ -1,26 +1,37 @@
 //! What is printed of what was collected.
-ghost use Rattle.std.specs.Prelude.{◌≡◌, length, IfOk, IfErr, OnOk};
+ghost use Rattle.std.specs.Prelude.{◌≡◌, true, false, length, IfOk, IfErr, OnOk};
 ghost use Rattle.span_report.specs.Sink.{TakesBytes};
-ghost use Rattle.tracebook.specs.View.{Fits, Prints, TextLeaves, ViewLeaves, text_of, unbounded, view_code};
+ghost use Rattle.span_table.specs.declared.json_lines.JsonFault.TheVariants.{TooGreat};
+ghost use Rattle.tracebook.specs.declared.view.View.TheVariants.{Json, Ranking};
+ghost use Rattle.tracebook.specs.Tables.{json_fits_run, json_of_run, ranking_of_run, run_of};
+ghost use Rattle.tracebook.specs.View.{Fits, Prints, TextLeaves, ViewLeaves, of_folded, of_written, text_of, view_code};
 
+use crate::tables::{TableOptions, table_of_run};
 use span_collect::refusals::write_refusals;
 use span_collect::{Collected, Input, RunError, Settings, collect_to_ledger, run_to_ledger};
 use span_event::Fault;
 use span_page::write_page;
-use span_report::rankings::{By, write_ranking};
 use span_report::stacks::{FoldedFault, write_folded};
-use span_report::{Sink, WriteFault, write_report};
-use std::alloc::Global;
+use span_report::{Sink, WriteFault, write_bytes, write_report};
+use span_table::{By, JsonFault, json_table, ranking};
+use std::alloc::{AllocError, Global};
+use std::mem::forget;
 use std::random::RandomSource;
 use std::sync::Wait;
 use std::thread::Threads;
 
 /// What is printed of what was collected.
-#[derive(Clone, Copy)]
+#[derive(Drop)]
 pub enum View {
     Report,
-    /// The first rows of spans of all threads, at most so many.
-    Ranking { most: u32, by: By },
+    /// The first rows of a table by this number, at most so many.
+    Ranking {
+        table: TableOptions,
+        most: u32,
+        by: By,
+    },
+    /// The rows of a table, for other programs.
+    Json(TableOptions),
     /// Which items of each file were refused.
     Refusals,
     /// The folded stacks of each thread.
@@ -34,6 +45,8 @@ pub enum View {
 pub enum ViewFault {
     /// The run was refused, or the output failed.
     Run(RunError),
+    /// 55: a number for other programs has more than 64 bits, and nothing was written.
+    TooGreat,
     /// 56: the folded stacks have more names than they may, and nothing was written.
     StacksTooLarge,
 }
@@ -44,6 +57,7 @@ impl ViewFault {
     {
         match self {
             ViewFault::Run(error) => error.code(),
+            ViewFault::TooGreat => Fault::TooGreat.code(),
             ViewFault::StacksTooLarge => Fault::StacksTooLarge.code(),
         }
     }
@@ -55,13 +69,13 @@ pub(crate) fn run_view<O: Sink, R: Threads + Wait + RandomSource + Sync>(
     alloc: Global,
     files: &[Input],
     settings: &Settings,
-    view: View,
+    view: &View,
     out: &mut O,
 ) -> Result<Collected, ViewFault>
     ensures run { IfOk result
-        (λ collected. Prints view files.now settings.now collected.end (O.state out.old) (O.state out.new)) }
+        (λ collected. Prints view.now files.now settings.now collected.end (O.state out.old) (O.state out.new)) }
     ensures fault { IfErr result
-        (λ fault. ViewLeaves view fault files.now settings.now (O.state out.old) (O.state out.new)) }
+        (λ fault. ViewLeaves view.now fault files.now settings.now (O.state out.old) (O.state out.new)) }
 {
     if let View::Report = view {
         return match run_to_ledger(rt, alloc, files, &[], settings, out) {
@@ -76,49 +90,144 @@ pub(crate) fn run_view<O: Sink, R: Threads + Wait + RandomSource + Sync>(
     if collected.end.status == 2 {
         return Ok(collected);
     }
-    match write_view(alloc, files, &collected, view, out) {
+    match write_view(rt, alloc, files, &collected, view, out) {
         Ok(()) => Ok(collected),
-        Err(FoldedFault::Memory) => Err(ViewFault::Run(RunError::Memory)),
-        Err(FoldedFault::TooLarge) => Err(ViewFault::StacksTooLarge),
-        Err(FoldedFault::Output { written }) => Err(ViewFault::Run(RunError::Output { written })),
+        Err(fault) => Err(fault),
     }
 }
 
 // Writes this view of what was collected of these files.
-fn write_view<O: Sink>(
+fn write_view<O: Sink, R: RandomSource>(
+    rt: &R,
     alloc: Global,
     files: &[Input],
     collected: &Collected,
-    view: View,
+    view: &View,
     out: &mut O,
-) -> Result<(), FoldedFault>
+) -> Result<(), ViewFault>
     requires { length files.now ≡ length collected.now.end.ends.items }
     ensures ok { OnOk result (TakesBytes (O.state out.old) (O.state out.new)
-        (text_of view files.now collected.now.end.ends.items collected.now.ledger.journal)) }
-    ensures fits { OnOk result (Fits view collected.now.ledger.journal) }
-    ensures fault { IfErr result (λ fault. TextLeaves view fault
-        (text_of view files.now collected.now.end.ends.items collected.now.ledger.journal)
-        collected.now.ledger.journal (O.state out.old) (O.state out.new)) }
+        (text_of view.now files.now collected.now.end.ends.items collected.now.ledger.journal)) }
+    ensures fits { OnOk result (Fits view.now files.now collected.now.end.ends.items collected.now.ledger.journal) }
+    ensures fault { IfErr result (λ fault. TextLeaves view.now files.now fault
+        collected.now.end.ends.items collected.now.ledger.journal (O.state out.old) (O.state out.new)) }
 {
     let ledger = &collected.ledger;
     let ends = &collected.end.ends;
     match view {
-        View::Report => write_report(alloc, ledger, out).map_err(unbounded),
-        View::Ranking { most, by } => {
-            write_ranking(alloc, ledger, most, by, out).map_err(unbounded)
+        View::Report => write_report(alloc, ledger, out).map_err(of_written),
+        View::Ranking { table, most, by } => {
+            write_ranking(rt, alloc, files, collected, table, *most, *by, out)
         }
-        View::Refusals => write_refusals(alloc, ledger, files, ends, out).map_err(unbounded),
-        View::Folded => write_folded(alloc, ledger, out),
-        View::Page => write_page(alloc, ledger, files, ends, out).map_err(unbounded),
+        View::Json(table) => write_json(rt, alloc, files, collected, table, out),
+        View::Refusals => write_refusals(alloc, ledger, files, ends, out).map_err(of_written),
+        View::Folded => write_folded(alloc, ledger, out).map_err(of_folded),
+        View::Page => write_page(alloc, ledger, files, ends, out).map_err(of_written),
     }
 }
 
 // The fault of a text that has no bound.
-fn unbounded(fault: WriteFault) -> FoldedFault
-    ensures { result ≡ unbounded fault }
+fn of_written(fault: WriteFault) -> ViewFault
+    ensures { result ≡ of_written fault }
 {
     match fault {
-        WriteFault::Memory => FoldedFault::Memory,
-        WriteFault::Output { written } => FoldedFault::Output { written },
+        WriteFault::Memory => ViewFault::Run(RunError::Memory),
+        WriteFault::Output { written } => ViewFault::Run(RunError::Output { written }),
     }
+}
+
+fn of_folded(fault: FoldedFault) -> ViewFault
+    ensures { result ≡ of_folded fault }
+{
+    match fault {
+        FoldedFault::Memory => ViewFault::Run(RunError::Memory),
+        FoldedFault::TooLarge => ViewFault::StacksTooLarge,
+        FoldedFault::Output { written } => ViewFault::Run(RunError::Output { written }),
+    }
+}
+
+// Writes the ranking of a table of what was collected.
+fn write_ranking<O: Sink, R: RandomSource>(
+    rt: &R,
+    alloc: Global,
+    files: &[Input],
+    collected: &Collected,
+    options: &TableOptions,
+    most: u32,
+    by: By,
+    out: &mut O,
+) -> Result<(), ViewFault>
+    ensures ok { OnOk result (TakesBytes (O.state out.old) (O.state out.new)
+        (text_of (Ranking options.now most by) files.now collected.now.end.ends.items collected.now.ledger.journal)) }
+    ensures fault { IfErr result (λ fault. TextLeaves (Ranking options.now most by) files.now fault
+        collected.now.end.ends.items collected.now.ledger.journal (O.state out.old) (O.state out.new)) }
+{
+    let Ok(text) = ranking_text(rt, alloc, files, collected, options, most, by) else {
+        return Err(ViewFault::Run(RunError::Memory));
+    };
+    write_bytes(&text, out).map_err(|written| ViewFault::Run(RunError::Output { written }))
+}
+
+fn ranking_text<R: RandomSource>(
+    rt: &R,
+    alloc: Global,
+    files: &[Input],
+    collected: &Collected,
+    options: &TableOptions,
+    most: u32,
+    by: By,
+) -> Result<Vec<u8>, AllocError>
+    ensures { IfOk result (λ text. text.items ≡ ranking_of_run options.now most by
+        (run_of files.now collected.now.end.ends.items collected.now.ledger.journal)) }
+{
+    let table = table_of_run(rt, alloc, &options.columns, files, collected)?;
+    let text = ranking(alloc, &table, &options.shown, most, by);
+    // The program ends soon, and then the system frees all at once, where freeing one by one takes long.
+    forget(table);
+    text
+}
+
+// Writes the rows of a table of what was collected, for other programs.
+fn write_json<O: Sink, R: RandomSource>(
+    rt: &R,
+    alloc: Global,
+    files: &[Input],
+    collected: &Collected,
+    options: &TableOptions,
+    out: &mut O,
+) -> Result<(), ViewFault>
+    ensures ok { OnOk result (TakesBytes (O.state out.old) (O.state out.new)
+        (text_of (Json options.now) files.now collected.now.end.ends.items collected.now.ledger.journal)) }
+    ensures fits { OnOk result (Fits (Json options.now) files.now collected.now.end.ends.items collected.now.ledger.journal) }
+    ensures fault { IfErr result (λ fault. TextLeaves (Json options.now) files.now fault
+        collected.now.end.ends.items collected.now.ledger.journal (O.state out.old) (O.state out.new)) }
+{
+    let text = match json_text(rt, alloc, files, collected, options) {
+        Ok(text) => text,
+        Err(JsonFault::Memory) => return Err(ViewFault::Run(RunError::Memory)),
+        Err(JsonFault::TooGreat) => return Err(ViewFault::TooGreat),
+    };
+    write_bytes(&text, out).map_err(|written| ViewFault::Run(RunError::Output { written }))
+}
+
+fn json_text<R: RandomSource>(
+    rt: &R,
+    alloc: Global,
+    files: &[Input],
+    collected: &Collected,
+    options: &TableOptions,
+) -> Result<Vec<u8>, JsonFault>
+    ensures text { IfOk result (λ text. text.items
+        ≡ json_of_run options.now (run_of files.now collected.now.end.ends.items collected.now.ledger.journal)) }
+    ensures fits { OnOk result
+        (json_fits_run options.now (run_of files.now collected.now.end.ends.items collected.now.ledger.journal) ≡ true) }
+    ensures too_great { IfErr result (λ fault. fault ≡ TooGreat
+        → json_fits_run options.now (run_of files.now collected.now.end.ends.items collected.now.ledger.journal) ≡ false) }
+{
+    let Ok(table) = table_of_run(rt, alloc, &options.columns, files, collected) else {
+        return Err(JsonFault::Memory);
+    };
+    let text = json_table(alloc, &table, &options.shown);
+    forget(table);
+    text
 }

@@ -39,7 +39,7 @@ pub fn refusals_text(
     requires { length files.now ≡ length ends.now }
     ensures { IfOk result (λ text. string_bytes text ≡ refusals_of files.now ends.now ledger.now.journal) }
 {
-    let mut out = head(alloc, ledger)?;
+    let mut out = head(alloc, ledger.counts())?;
     let tallies = tallies(alloc, ledger)?;
     for (place, file) in files.iter().enumerate() {
         put_file(alloc, &mut out, &file.name, ends[place], &tallies)?;

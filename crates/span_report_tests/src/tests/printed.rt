@@ -1,8 +1,6 @@
 //! The texts, and what tests of several of them ask.
 
 use span_ledger::Ledger;
-use span_report::comparisons::{comparison, write_comparison};
-use span_report::rankings::{By, ranking, write_ranking};
 use span_report::stacks::{FoldedFault, folded, write_folded};
 use span_report::{WriteFault, Writer, report, write_report};
 use span_test_support::{Output, is_whole_or_none, room_at_last};
@@ -11,12 +9,10 @@ use std::io::Write;
 use std::process::Abort;
 use std::test::Fail;
 
-/// A text of one ledger, or of two.
+/// A text of a ledger.
 #[derive(Drop)]
 pub(crate) enum Printed<'a> {
     Report(&'a Ledger),
-    Ranking(&'a Ledger, u32, By),
-    Comparison(&'a Ledger, &'a Ledger),
     Stacks(&'a Ledger),
 }
 
@@ -24,8 +20,6 @@ impl<'a> Printed<'a> {
     fn text(&self, alloc: Global) -> Result<Vec<u8>, AllocError> {
         match self {
             Printed::Report(ledger) => report(alloc, ledger),
-            Printed::Ranking(ledger, most, by) => ranking(alloc, ledger, *most, *by),
-            Printed::Comparison(base, other) => comparison(alloc, base, other),
             Printed::Stacks(ledger) => folded(alloc, ledger).map_err(|_| AllocError),
         }
     }
@@ -33,12 +27,6 @@ impl<'a> Printed<'a> {
     fn write<W: Write>(&self, alloc: Global, output: &mut W) -> Result<(), WriteFault> {
         match self {
             Printed::Report(ledger) => write_report(alloc, ledger, &mut Writer::new(output)),
-            Printed::Ranking(ledger, most, by) => {
-                write_ranking(alloc, ledger, *most, *by, &mut Writer::new(output))
-            }
-            Printed::Comparison(base, other) => {
-                write_comparison(alloc, base, other, &mut Writer::new(output))
-            }
             Printed::Stacks(ledger) => {
                 match write_folded(alloc, ledger, &mut Writer::new(output)) {
                     Ok(()) => Ok(()),

@@ -1,7 +1,8 @@
 use Rattle.std.proofs.Common.{◌≡◌, refl, sym, ◌∙◌, arith}
 use Rattle.tracebook.specs.Comparison.{greater}
+use Rattle.tracebook.proofs.Changes.{ComparisonLeaves-text}
 use Rattle.tracebook.proofs.Compared.{HasEnded-le, greater-lt}
-use Rattle.tracebook.proofs.InTurn.{comparison_of-in_turn}
+use Rattle.tracebook.proofs.InTurn.{changes_of_runs-in_turn}
 use Rattle.tracebook.proofs.comparison.run_comparison.Goals as goal
 
 -- one run ended with 2, and nothing was written
@@ -21,8 +22,8 @@ returns-then-greater-eq2-clause-run g c =
     }
 
 -- what changed was written
-pub returns-in-Ok-write_comparison-clause-run : goal.returns-in-Ok-write_comparison-clause-run
-returns-in-Ok-write_comparison-clause-run g c =
+pub returns-in-Ok-write_changes-clause-run : goal.returns-in-Ok-write_changes-clause-run
+returns-in-Ok-write_changes-clause-run g c =
     let earlier = c.in-Ok in
     let later = c.in-Ok-collect_to_ledger in
     record {
@@ -30,36 +31,21 @@ returns-in-Ok-write_comparison-clause-run g c =
       journal = later.later.ledger.journal;
       base_ended = record { account = earlier.ensures.account; status = earlier.ensures.status };
       ended = record { account = later.ensures.account; status = later.ensures.status };
-      written = λ below. c.in-Ok-write_comparison.ensures.ok;
+      written = λ below. c.in-Ok-write_changes.ensures.ok;
       silent = λ two. absurd (c.if-greater-eq2.false (c.greater.ensures ∙ two));
-      in_turn = λ separate_base separate below. rw (sym (comparison_of-in_turn c.args.base.now c.args.files.now c.args.settings.now earlier.earlier.end later.later.end earlier.earlier.ledger.journal later.later.ledger.journal
+      in_turn = λ separate_base separate below. rw (sym (changes_of_runs-in_turn c.args.view.now c.args.base.now c.args.files.now c.args.settings.now earlier.earlier.end later.later.end earlier.earlier.ledger.journal later.later.ledger.journal
           (record { account = earlier.ensures.account; status = earlier.ensures.status }) (record { account = later.ensures.account; status = later.ensures.status }) separate_base separate below))
-          c.in-Ok-write_comparison.ensures.ok;
+          c.in-Ok-write_changes.ensures.ok;
     }
 
--- the output failed in what changed
-pub returns-clause-error : goal.returns-clause-error
-returns-clause-error g c =
+-- what changed was not written whole
+pub returns-in-Err-write_changes-clause-fault : goal.returns-in-Err-write_changes-clause-fault
+returns-in-Err-write_changes-clause-fault g c =
     let earlier = c.in-Ok in
     let later = c.in-Ok-collect_to_ledger in
-    let fault = rw c.in-Err-Output.field-0-is at c.in-Err-Output.ensures.fault in
-    record {
-      base_run = earlier.earlier.end;
-      run = later.later.end;
-      base_journal = earlier.earlier.ledger.journal;
-      journal = later.later.ledger.journal;
-      base_ended = record { account = earlier.ensures.account; status = earlier.ensures.status };
-      ended = record { account = later.ensures.account; status = later.ensures.status };
-      status = greater-lt earlier.earlier.end.status later.later.end.status
-          (HasEnded-le earlier.earlier.end {journal = earlier.earlier.ledger.journal} (record { account = earlier.ensures.account; status = earlier.ensures.status }))
-          (HasEnded-le later.later.end {journal = later.later.ledger.journal} (record { account = later.ensures.account; status = later.ensures.status }))
-          (λ two. c.if-greater-eq2.false (c.greater.ensures ∙ two));
-      within = fault.0;
-      output = fault.1;
-      in_turn = λ separate_base separate. rw (sym (comparison_of-in_turn c.args.base.now c.args.files.now c.args.settings.now earlier.earlier.end later.later.end earlier.earlier.ledger.journal later.later.ledger.journal
-          (record { account = earlier.ensures.account; status = earlier.ensures.status }) (record { account = later.ensures.account; status = later.ensures.status }) separate_base separate
-          (greater-lt earlier.earlier.end.status later.later.end.status
-          (HasEnded-le earlier.earlier.end {journal = earlier.earlier.ledger.journal} (record { account = earlier.ensures.account; status = earlier.ensures.status }))
-          (HasEnded-le later.later.end {journal = later.later.ledger.journal} (record { account = later.ensures.account; status = later.ensures.status }))
-          (λ two. c.if-greater-eq2.false (c.greater.ensures ∙ two))))) fault;
-    }
+    ComparisonLeaves-text c.args.view.now c.args.base.now c.args.files.now c.args.settings.now earlier.earlier.end later.later.end earlier.earlier.ledger.journal later.later.ledger.journal
+    (record { account = earlier.ensures.account; status = earlier.ensures.status }) (record { account = later.ensures.account; status = later.ensures.status })
+    (greater-lt earlier.earlier.end.status later.later.end.status
+    (HasEnded-le earlier.earlier.end {journal = earlier.earlier.ledger.journal} (record { account = earlier.ensures.account; status = earlier.ensures.status }))
+    (HasEnded-le later.later.end {journal = later.later.ledger.journal} (record { account = later.ensures.account; status = later.ensures.status }))
+    (λ two. c.if-greater-eq2.false (c.greater.ensures ∙ two))) _ _ c.in-Err-write_changes.fault c.in-Err-write_changes.ensures.fault

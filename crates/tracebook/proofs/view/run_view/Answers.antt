@@ -1,13 +1,11 @@
-use Rattle.std.proofs.Common.{◌≡◌, ◌<◌, [], sym}
+use Rattle.std.proofs.Common.{[], sym}
 use Rattle.std.proofs.lemmas.Slice.Zip.{AllZip-long}
 use Rattle.span_collect.specs.InTurn.{WritesAsInTurn}
-use Rattle.span_collect.specs.Run.{status_of}
-use Rattle.span_collect.proofs.CutShort.{IsCutShort-failed}
-use Rattle.span_collect.proofs.InTurn.Texts.{FailsAsInTurn-same, WritesAsInTurn-same}
+use Rattle.span_collect.proofs.InTurn.Texts.{WritesAsInTurn-same}
 use Rattle.span_collect.proofs.OneFile.{WritesOneFile-in_turn}
-use Rattle.span_collect.proofs.Statuses.{status_of-lt}
 use Rattle.tracebook.specs.View.{text_of}
-use Rattle.tracebook.proofs.InTurn.{ExceedsNames-in_turn, text_of-in_turn}
+use Rattle.tracebook.proofs.InTurn.{text_of-in_turn}
+use Rattle.tracebook.proofs.Views.{ViewLeaves-text}
 use Rattle.tracebook.proofs.view.run_view.Goals as goal
 
 -- there is one end for each file
@@ -26,10 +24,10 @@ returns-in-Ok-write_view g c =
     let run = c.in-Ok-collect_to_ledger.collected in
     let collected = c.in-Ok-collect_to_ledger.ensures in
     let written = c.in-Ok-write_view.ensures in
-    let text = text_of c.args.view c.args.files.now in
+    let text = text_of c.args.view.now c.args.files.now in
     let in_turn : WritesAsInTurn text c.args.files.now [] c.args.settings.now run.end.status _ _ =
     WritesAsInTurn-same text c.args.files.now [] c.args.settings.now run.end.status run.end.ends.items run.ledger.journal
-    (λ separate below. text_of-in_turn c.args.files.now c.args.settings.now run.end.ends.items run.end.asked run.end.sealing run.ledger.journal collected.account separate (rw collected.status at below) c.args.view)
+    (λ separate below. text_of-in_turn c.args.files.now c.args.settings.now run.end.ends.items run.end.asked run.end.sealing run.ledger.journal collected.account separate (rw collected.status at below) c.args.view.now)
     _ _ written.ok in
     record {
       run = record {
@@ -47,40 +45,12 @@ returns-in-Ok-write_view g c =
       fault = tt;
     }
 
--- the folded stacks have more names than they may
-pub returns-in-Err-TooLarge : goal.returns-in-Err-TooLarge
-returns-in-Err-TooLarge g c =
+-- the text of what was collected was not written
+pub returns-in-Err-write_view : goal.returns-in-Err-write_view
+returns-in-Err-write_view g c =
     let run = c.in-Ok-collect_to_ledger.collected in
     let collected = c.in-Ok-collect_to_ledger.ensures in
-    let leaves = rw c.in-Err-TooLarge.field-0-is at c.in-Err-TooLarge.ensures.fault in
-    let below = status_of-lt run.end.ends.items run.end.asked run.end.sealing (rw collected.status at c.if-collected-eq2.false) in
     record {
       run = tt;
-      fault = record {
-        run = run.end;
-        journal = run.ledger.journal;
-        account = collected.account;
-        ended = below;
-        exceeds = leaves.1;
-        in_turn = λ separate. ExceedsNames-in_turn c.args.files.now c.args.settings.now run.end.ends.items run.end.asked run.end.sealing run.ledger.journal collected.account separate below c.args.view leaves.1;
-        silent = leaves.0;
-      };
-    }
-
--- the output failed in the text of what was collected
-pub returns : goal.returns
-returns g c =
-    let run = c.in-Ok-collect_to_ledger.collected in
-    let collected = c.in-Ok-collect_to_ledger.ensures in
-    let text = text_of c.args.view c.args.files.now in
-    let leaves = rw c.in-Err-Output.field-0-is at c.in-Err-Output.ensures.fault in
-    let below = status_of-lt run.end.ends.items run.end.asked run.end.sealing (rw collected.status at c.if-collected-eq2.false) in
-    record {
-      run = tt;
-      fault = (
-        IsCutShort-failed text c.args.files.now [] c.args.settings.now run.end run.ledger.journal _ _ _ collected.account collected.status c.if-collected-eq2.false leaves,
-        FailsAsInTurn-same text c.args.files.now [] c.args.settings.now run.end.status run.end.ends.items run.ledger.journal
-            (λ separate under. text_of-in_turn c.args.files.now c.args.settings.now run.end.ends.items run.end.asked run.end.sealing run.ledger.journal collected.account separate (rw collected.status at under) c.args.view)
-            _ _ (rw collected.status below) _ leaves,
-      );
+      fault = ViewLeaves-text c.args.view.now c.args.files.now c.args.settings.now run.end run.ledger.journal _ _ collected.account collected.status c.if-collected-eq2.false c.in-Err-write_view.fault c.in-Err-write_view.ensures.fault;
     }

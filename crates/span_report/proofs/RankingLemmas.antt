@@ -1,2 +1,0 @@
-pub mod DistinctRows
-pub mod SameRankings

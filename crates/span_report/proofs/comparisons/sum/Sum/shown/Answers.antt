@@ -1,9 +1,0 @@
-use Rattle.std.proofs.Common.{arith}
-use Rattle.std.proofs.lemmas.Grind.{common_steps}
-use Rattle.span_report.proofs.ComparisonLemmas.SumText.{decimal_parts}
-use Rattle.span_report.proofs.comparisons.sum.Sum.shown.Goals as goal
-
-pub returns : goal.returns
-returns c =
-    let parts = decimal_parts c.self.inside.high c.self.inside.low c.if-high-eq0.false c.self.invariant.0 c.self.invariant.1 in
-    grind (arith, common_steps, parts)

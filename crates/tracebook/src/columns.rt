@@ -1,0 +1,59 @@
+//! The columns of a table, as the command line names them.
+
+use span_event::Text;
+use span_table::Column;
+use std::alloc::{AllocError, Global};
+
+const MOST: usize = 8;
+
+/// Said of a list that names none, more than may be, one twice, or one that is no column.
+pub(crate) const RULE: &str =
+    "the columns of '--group-by' are pid, tid, process, thread, name, args.KEY: 1 to 8 of them, with commas between, none twice";
+
+/// The columns with these names, which stand between commas. None where they are no columns.
+pub(crate) fn columns_of(alloc: Global, names: &str) -> Result<Option<Vec<Column>>, AllocError> {
+    let mut columns = Vec::new(alloc);
+    for name in names.split(',') {
+        let Some(column) = column_of(alloc, name)? else {
+            return Ok(None);
+        };
+        if columns.len() == MOST || columns.contains(&column) {
+            return Ok(None);
+        }
+        columns.push(column)?;
+    }
+    Ok(Some(columns))
+}
+
+fn column_of(alloc: Global, name: &str) -> Result<Option<Column>, AllocError> {
+    Ok(Some(match name {
+        "pid" => Column::Pid,
+        "tid" => Column::Tid,
+        "process" => Column::Process,
+        "thread" => Column::Thread,
+        "name" => Column::Name,
+        _ => match name.strip_prefix("args.") {
+            Some(key) if !key.is_empty() => Column::Argument(Text::of(alloc, key)?),
+            _ => return Ok(None),
+        },
+    }))
+}
+
+/// Those of a ranking, where the command line names none.
+pub(crate) fn ranked(alloc: Global) -> Result<Vec<Column>, AllocError> {
+    let mut columns = Vec::new(alloc);
+    columns.push(Column::Pid)?;
+    columns.push(Column::Tid)?;
+    columns.push(Column::Thread)?;
+    columns.push(Column::Name)?;
+    Ok(columns)
+}
+
+/// Those of a comparison and of JSON Lines: numbers differ from run to run.
+pub(crate) fn named(alloc: Global) -> Result<Vec<Column>, AllocError> {
+    let mut columns = Vec::new(alloc);
+    columns.push(Column::Process)?;
+    columns.push(Column::Thread)?;
+    columns.push(Column::Name)?;
+    Ok(columns)
+}

@@ -1,0 +1,175 @@
+//! The options of the command line, with their help.
+
+use clap::builder::ValueParser;
+use clap::{Arg, ArgAction, ArgGroup, Command};
+use std::alloc::{AllocError, Global};
+
+// Lines are broken here, since the library breaks none: each is to end within 80 columns.
+const SEAL_HELP: &str = r#"Close the spans that are still open at the end, each at the latest
+time that its thread has seen; for a trace that was cut off, not
+where a missing end is an error to look for"#;
+
+const STRICT_HELP: &str = r#"Refuse (27) an end that names another span than the one it would
+close, which then stays open; for a trace that may have lost begins"#;
+
+const BY_WORDS: &[&str] = &["self", "total", "count"];
+
+const TOP_HELP: &str = r#"Print the first N rows of a table of all spans instead of the report;
+without --group-by a row is a process, a thread and a name"#;
+
+const BY_HELP: &str = r#"What --top goes by, or the change of it --base: self time, total
+time or the number of spans [default: self]"#;
+
+const GROUP_BY_HELP: &str = r#"Sum the spans of a table by these columns, 1 to 8 of them: pid, tid,
+process, thread, name, args.KEY (an argument of the span); with
+--top, --json and --base"#;
+
+const ONLY_HELP: &str = r#"Show only rows that have this text in a string; repeat it for rows
+that have several texts"#;
+
+const SKIP_HELP: &str = r#"Leave out rows that have this text in a string; repeat it for several
+texts"#;
+
+const JSON_HELP: &str = r#"Print the rows of a table for other programs, as JSON Lines; with
+--base the rows that changed"#;
+
+const REFUSED_HELP: &str = r#"Print why elements were refused instead of the report: for each
+file and fault how many, and which was the first"#;
+
+const FOLDED_HELP: &str = r#"Print the stacks of each thread instead of the report, for viewers
+of flame graphs, each with its microseconds"#;
+
+const PAGE_HELP: &str = r#"Print a page for a browser instead of the report, with its numbers
+as tables and a flame graph of each thread"#;
+
+const BASE_HELP: &str = r#"Print what changed since a run of FILE instead of the report; repeat
+it for several files"#;
+
+const ABOUT: &str = r#"Reports where the time went in trace event files of Chrome, clang, node and
+other tools: for each thread and span name the number of spans, their total time
+and their self time."#;
+
+const AFTER: &str =
+    r#"All times are whole microseconds, as Chrome, clang, node and cmake write them.
+An event with a fraction, as in Go's build traces, is refused and counted;
+begins and ends may then pair wrongly.
+
+Several files have one report, whichever worker comes first, if no two of them
+have a process in common, nor the key of an async span or flow whose id is not
+local to a process.
+
+Status:
+  0  every file was read, and the report is on standard output
+  1  a file is not a trace, which standard error says; the report of the others
+     is on standard output
+  2  usage error, a file could not be read, out of memory, or the limit was
+     reached: there is no report
+
+Examples:
+  tracebook --top 20 --skip 'Total ' build.json
+shows the names that took the most self time, each with its process and thread,
+without clang's own sums.
+  tracebook --top 20 --by total --group-by args.detail --only .h build.json
+shows which headers took the most time."#;
+
+pub(crate) fn command_of<'a>(
+    alloc: Global,
+    limit_help: &'a str,
+) -> Result<Command<'a>, AllocError> {
+    let arguments = arguments_of(alloc, limit_help)?;
+    Command::new(alloc, "tracebook")
+        .version("1")
+        .next_line_help(true)
+        .about(ABOUT)
+        .after_help(AFTER)
+        .group(views(alloc)?)?
+        .args(arguments)
+}
+
+// At most one of these is printed instead of the report.
+fn views(alloc: Global) -> Result<ArgGroup<'static>, AllocError> {
+    ArgGroup::new(alloc, "view").args(&["top", "refused", "folded", "page", "base"])
+}
+
+// In the order in which the help has them.
+fn arguments_of<'a>(alloc: Global, limit_help: &'a str) -> Result<Vec<Arg<'a>>, AllocError> {
+    let mut arguments = Vec::new(alloc);
+    arguments.push(number_option(alloc, "limit", limit_help))?;
+    arguments.push(switch(alloc, "seal", SEAL_HELP))?;
+    arguments.push(switch(alloc, "strict", STRICT_HELP))?;
+    add_table_options(alloc, &mut arguments)?;
+    arguments.push(switch(alloc, "refused", REFUSED_HELP))?;
+    arguments.push(switch(alloc, "folded", FOLDED_HELP))?;
+    arguments.push(switch(alloc, "page", PAGE_HELP))?;
+    arguments.push(files_argument(alloc))?;
+    Ok(arguments)
+}
+
+fn add_table_options(alloc: Global, arguments: &mut Vec<Arg<'_>>) -> Result<(), AllocError> {
+    arguments.push(number_option(alloc, "top", TOP_HELP))?;
+    arguments.push(by_option(alloc))?;
+    arguments.push(list_option(alloc, "base", "FILE", BASE_HELP))?;
+    arguments.push(json_option(alloc)?)?;
+    arguments.push(group_by_option(alloc))?;
+    let only = list_option(alloc, "only", "TEXT", ONLY_HELP);
+    arguments.push(only.value_parser(ValueParser::NonEmptyString))?;
+    let skip = list_option(alloc, "skip", "TEXT", SKIP_HELP);
+    arguments.push(skip.value_parser(ValueParser::NonEmptyString))?;
+    Ok(())
+}
+
+// An option without a value.
+fn switch<'a>(alloc: Global, name: &'a str, help: &'a str) -> Arg<'a> {
+    Arg::new(alloc, name)
+        .long(name)
+        .action(ArgAction::SetTrue)
+        .help(help)
+}
+
+fn number_option<'a>(alloc: Global, name: &'a str, help: &'a str) -> Arg<'a> {
+    Arg::new(alloc, name)
+        .long(name)
+        .value_name("N")
+        .value_parser(clap::value_parser!(u32).range(1..))
+        .allow_negative_numbers(true)
+        .action(ArgAction::Set)
+        .help(help)
+}
+
+fn by_option(alloc: Global) -> Arg<'static> {
+    Arg::new(alloc, "by")
+        .long("by")
+        .value_name("self|total|count")
+        .value_parser(BY_WORDS)
+        .action(ArgAction::Set)
+        .help(BY_HELP)
+}
+
+fn group_by_option(alloc: Global) -> Arg<'static> {
+    Arg::new(alloc, "group-by")
+        .long("group-by")
+        .value_name("COLUMNS")
+        .action(ArgAction::Set)
+        .help(GROUP_BY_HELP)
+}
+
+fn json_option(alloc: Global) -> Result<Arg<'static>, AllocError> {
+    switch(alloc, "json", JSON_HELP).conflicts_with_all(&["top", "by", "refused", "folded", "page"])
+}
+
+// An option that may be given several times.
+fn list_option<'a>(alloc: Global, name: &'a str, value: &'a str, help: &'a str) -> Arg<'a> {
+    Arg::new(alloc, name)
+        .long(name)
+        .value_name(value)
+        .action(ArgAction::Append)
+        .help(help)
+}
+
+fn files_argument(alloc: Global) -> Arg<'static> {
+    Arg::new(alloc, "files")
+        .value_name("FILE")
+        .num_args(0..)
+        .action(ArgAction::Append)
+        .help("A trace; without one, standard input is read")
+}
