@@ -1,0 +1,5 @@
+# Spans of which the lengths add up to 2^64, and one of them.
+{ printf '[{"ph":"X","name":"short","ts":0,"dur":2048}'; for _ in $(seq 2048); do
+    printf ',{"ph":"X","name":"long","ts":0,"dur":9007199254740991}'
+done; echo ']'; } > "$1/long.json"
+echo '[{"ph":"X","name":"short","ts":0,"dur":2048}]' > "$1/one.json"

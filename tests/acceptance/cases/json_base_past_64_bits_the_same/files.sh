@@ -1,0 +1,4 @@
+# Spans of which the lengths add up to 2^64: in both runs, so that no line has them.
+{ printf '[{"ph":"X","name":"short","ts":0,"dur":2048}'; for _ in $(seq 2048); do
+    printf ',{"ph":"X","name":"long","ts":0,"dur":9007199254740991}'
+done; echo ']'; } > "$1/long.json"
