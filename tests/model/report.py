@@ -28,7 +28,7 @@ def id_word(order):
 
 def span_lines(closed, times):
     totals = {}
-    for (start, end, _, name), own in zip(closed, times):
+    for (start, end, _, name, _), own in zip(closed, times):
         count, total, self_time = totals.get(name, (0, 0, 0))
         totals[name] = (count + 1, total + end - start, self_time + own)
     for name, (count, total, own) in sorted(totals.items()):
@@ -70,11 +70,16 @@ def flow_line(key, flows):
     return f"{words} ended {flows.ended} total {flows.total} open {len(flows.chain)}"
 
 
-def report_lines(ledger):
-    yield "tracebook 1"
+def count_lines(ledger):
+    """The lines of a head behind its first."""
     yield f"events {ledger.accepted} refused {sum(ledger.refused.values())} skipped {ledger.skipped} queries 0"
     if ledger.seals:
         yield f"seals {ledger.seals}"
+
+
+def report_lines(ledger):
+    yield "tracebook 1"
+    yield from count_lines(ledger)
     for number in sorted(ledger.processes):
         yield from process_lines(number, ledger.processes[number])
     for key in sorted(ledger.async_keys):
@@ -83,9 +88,13 @@ def report_lines(ledger):
         yield flow_line(key, ledger.flow_keys[key])
 
 
+def text_of(lines):
+    """The bytes of lines."""
+    return "".join(line + "\n" for line in lines).encode()
+
+
 def report_of(ledger):
-    """The bytes of the report."""
-    return "".join(line + "\n" for line in report_lines(ledger)).encode()
+    return text_of(report_lines(ledger))
 
 
 def collect(files, strict=False):

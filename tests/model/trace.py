@@ -80,10 +80,11 @@ def different_texts(draw, count):
 
 
 def args_forms(draw):
-    """Members `args`: mostly none, some that are read as empty, and objects of few and of many members."""
-    values = ["1", "-7", str(MOST_64), '"text"', '"a text past sixteen"', "true", "null"]
+    """Members `args`: mostly none, some that are read as empty, some with `detail` alone, and objects of few and of many members."""
+    values = ["1", "-7", str(MOST_64), '"text"', '"a text past sixteen"', "true", "false", "null"]
     values += ["1.5", "-0", "[1,{}]", '{"b":[]}', str(2**64), "1e300"]
     forms = [""] * 600 + [',"args":{}', ',"args":null', ',"args":[]', ',"args":"text"']
+    forms += [f',"args":{{"detail":{value}}}' for value in values * 8]
     for size in [1, 2, 3] * 60 + [16, 17, 40, 300]:
         members = [f'"{draw.of(LETTERS[:26])}{draw.below(2 * size)}":{draw.of(values)}' for _ in range(size)]
         forms.append(f',"args":{{{",".join(members)}}}')

@@ -1,0 +1,312 @@
+#!/usr/bin/env python3
+"""A plain model of the tables of docs/report.md: closed spans summed by columns, as a ranking, a comparison, and JSON Lines. Files are
+read and collected as for the report (report.py); like that, it is written from the pages alone.
+
+usage: tables.py [--seal] [--strict] (--top N | --json) [--by self|total|count] [--group-by COLUMNS] [--only TEXT].. [--skip TEXT]..
+                 [--base FILE].. FILE...
+"""
+import argparse
+import gc
+import sys
+from dataclasses import dataclass
+from json.encoder import encode_basestring as json_text
+
+from ledger import self_times
+from reading import is_whole
+from report import bytes_of, collect, count_lines, text_of
+
+RANKED_BY = "pid,tid,thread,name"
+COMPARED_BY = "process,thread,name"
+MOST_COLUMNS = 8
+# Below this are the numbers of JSON Lines.
+BEYOND = 2**64
+BY = {"self": 2, "total": 1, "count": 0}
+
+# Values, each in a tuple with its place in the order of kinds, so that they compare as keys do.
+MISSING, NIL, OTHER = (0,), (1,), (5,)
+
+
+def whole(number):
+    return (3, number)
+
+
+def words(text):
+    return (4, text)
+
+
+def name_value(name):
+    return MISSING if name is None else words(name)
+
+
+def argument_value(args, key):
+    if key not in args:
+        return MISSING
+    value = args[key]
+    if value is None:
+        return NIL
+    if type(value) is bool:
+        return (2, value)
+    if type(value) is str:
+        return words(value)
+    return whole(value) if is_whole(value) else OTHER
+
+
+def is_column(column):
+    return column in ("pid", "tid", "process", "thread", "name") or column.startswith("args.") and column != "args."
+
+
+def columns_of(text):
+    """The columns of a list with commas."""
+    columns = text.split(",")
+    if len(columns) > MOST_COLUMNS or len(set(columns)) < len(columns) or not all(map(is_column, columns)):
+        raise ValueError(text)
+    return columns
+
+
+def value_of(column, ledger, number, span):
+    """The value of a column at a closed span of the thread of this number."""
+    process = ledger.processes[number[0]]
+    if column in ("pid", "tid"):
+        return whole(number[column == "tid"])
+    if column == "process":
+        return name_value(process.name)
+    if column == "thread":
+        return name_value(process.threads[number].name)
+    return words(span[3]) if column == "name" else argument_value(span[4], column.removeprefix("args."))
+
+
+# Sums are a number of spans, their total time and their self time.
+NOTHING = (0, 0, 0)
+
+
+def added(sums, more):
+    return tuple(a + b for a, b in zip(sums, more))
+
+
+@dataclass
+class Table:
+    columns: list
+    ledger: object
+    files: int
+    unread: int
+    rows: dict  # the sums of each key
+
+
+def table_of(columns, ledger, files=1, unread=0):
+    rows = {}
+    for process in ledger.processes.values():
+        for number, thread in process.threads.items():
+            for span, own in zip(thread.closed, self_times(thread.closed)):
+                key = tuple(value_of(column, ledger, number, span) for column in columns)
+                rows[key] = added(rows.get(key, NOTHING), (1, span[1] - span[0], own))
+    return Table(columns, ledger, files, unread, rows)
+
+
+@dataclass
+class Wanted:
+    """What a text of a key must have, and what none may."""
+
+    only: list
+    skip: list
+
+    def shows(self, key):
+        texts = [value[1] for value in key if value[0] == words("")[0]]
+        return all(any(text in own for own in texts) for text in self.only) and not any(
+            text in own for text in self.skip for own in texts
+        )
+
+    def line(self, keys):
+        """How many of these keys are shown, where it is told."""
+        if self.only or self.skip:
+            yield f"shown {sum(map(self.shows, keys))} of {len(keys)}"
+
+
+ALL = Wanted([], [])
+
+
+# Texts for people
+
+
+def value_text(value):
+    kind = value[0]
+    if kind in (MISSING[0], NIL[0], OTHER[0]):
+        return {MISSING: "-", NIL: "null", OTHER: "..."}[value]
+    return json_value(value)
+
+
+def title(column):
+    return json_text(column)[1:-1]
+
+
+def ranking_lines(table, most, by, wanted):
+    yield "tracebook 1"
+    yield from count_lines(table.ledger)
+    yield from wanted.line(table.rows)
+    yield " ".join([f"{'self':>16} {'total':>16} {'count':>8}", *map(title, table.columns)])
+    shown = [(key, sums) for key, sums in table.rows.items() if wanted.shows(key)]
+    for key, (count, total, own) in sorted(shown, key=lambda row: (-row[1][BY[by]], row[0]))[:most]:
+        yield " ".join([f"{own:16} {total:16} {count:8}", *map(value_text, key)])
+
+
+def ranking_of(table, most, by="self", wanted=ALL):
+    return text_of(ranking_lines(table, most, by, wanted))
+
+
+def difference(base, other):
+    return "0" if base == other else f"{other - base:+}"
+
+
+def changes_of(base, other, by, wanted):
+    """The shown keys of which a number differs, in order, each with its sums in both, and how many shown keys have none."""
+    keys = [key for key in base.rows.keys() | other.rows.keys() if wanted.shows(key)]
+    both = [(key, base.rows.get(key, NOTHING), other.rows.get(key, NOTHING)) for key in keys]
+    changed = [change for change in both if change[1] != change[2]]
+
+    def order(change):
+        key, earlier, later = change
+        return [*(-abs(earlier[BY[number]] - later[BY[number]]) for number in (by, "self", "total")), key]
+
+    return sorted(changed, key=order), len(both) - len(changed)
+
+
+def comparison_lines(base, other, by, wanted):
+    yield "tracebook 1"
+    for line in count_lines(base.ledger):
+        yield f"base {line}"
+    yield from count_lines(other.ledger)
+    yield from wanted.line(base.rows.keys() | other.rows.keys())
+    times = " ".join(f"{word:>16}" for word in ["dself", "self0", "self1", "dtotal", "total0", "total1"])
+    yield " ".join([f"{times} {'count0':>8} {'count1':>8}", *map(title, other.columns)])
+    changes, same = changes_of(base, other, by, wanted)
+    for key, (count0, total0, self0), (count1, total1, self1) in changes:
+        times = f"{difference(self0, self1):>16} {self0:16} {self1:16} {difference(total0, total1):>16} {total0:16} {total1:16}"
+        yield " ".join([f"{times} {count0:8} {count1:8}", *map(value_text, key)])
+    yield f"same {same}"
+
+
+def comparison_of(base, other, by="self", wanted=ALL):
+    return text_of(comparison_lines(base, other, by, wanted))
+
+
+# JSON Lines
+
+
+class TooGreat(Exception):
+    """A number that would be printed is not below 2^64."""
+
+
+def json_value(value):
+    kind = value[0]
+    if kind == words("")[0]:
+        return json_text(value[1])
+    if kind in (NIL[0], OTHER[0]):
+        return {NIL: "null", OTHER: "{}"}[value]
+    return str(value[1]).lower() if type(value[1]) is bool else str(value[1])
+
+
+def number(count):
+    if count >= BEYOND:
+        raise TooGreat
+    return str(count)
+
+
+def members(names_and_texts):
+    return "{" + ",".join(f"{json_text(name)}:{text}" for name, text in names_and_texts) + "}"
+
+
+def key_members(columns, key):
+    return [(column, json_value(value)) for column, value in zip(columns, key) if value != MISSING]
+
+
+def number_members(names, numbers):
+    return [(name, number(count)) for name, count in zip(names, numbers)]
+
+
+def head_members(table):
+    ledger, names = table.ledger, ["runs", "files", "unread", "events", "refused", "skipped", "queries", "seals"]
+    counts = [ledger.accepted, sum(ledger.refused.values()), ledger.skipped, 0, ledger.seals]
+    return number_members(names, [1, table.files, table.unread, *counts])
+
+
+def column_members(columns):
+    return [("tracebook", "1"), ("columns", "[" + ",".join(map(json_text, columns)) + "]")]
+
+
+def json_lines(table, wanted):
+    rows = sorted((key, sums) for key, sums in table.rows.items() if wanted.shows(key))
+    yield members([*column_members(table.columns), ("rows", number(len(rows))), *head_members(table)])
+    for key, sums in rows:
+        yield members(key_members(table.columns, key) + number_members(["count", "total", "self"], sums))
+
+
+def json_of(table, wanted=ALL):
+    """The text, or none where a number is too great."""
+    return text_or_none(json_lines(table, wanted))
+
+
+def json_comparison_lines(base, other, wanted):
+    changes, same = changes_of(base, other, "self", wanted)
+    head = [*column_members(other.columns), *number_members(["rows", "same"], [len(changes), same])]
+    yield members([*head, ("base", members(head_members(base))), ("other", members(head_members(other)))])
+    names = ["count0", "count1", "total0", "total1", "self0", "self1"]
+    for key, earlier, later in changes:
+        numbers = [part for both in zip(earlier, later) for part in both]
+        yield members(key_members(other.columns, key) + number_members(names, numbers))
+
+
+def json_comparison_of(base, other, wanted=ALL):
+    return text_or_none(json_comparison_lines(base, other, wanted))
+
+
+def text_or_none(lines):
+    try:
+        return text_of(lines)
+    except TooGreat:
+        return None
+
+
+# The command line
+
+
+def words_of_line():
+    parser = argparse.ArgumentParser(allow_abbrev=False)
+    for switch in "--seal", "--strict", "--json":
+        parser.add_argument(switch, action="store_true")
+    parser.add_argument("--top", type=int)
+    parser.add_argument("--by", choices=BY, default="self")
+    parser.add_argument("--group-by")
+    for several in "--only", "--skip", "--base":
+        parser.add_argument(several, action="append", default=[])
+    parser.add_argument("files", nargs="*")
+    return parser.parse_args()
+
+
+def table_of_files(line, columns, paths):
+    """The table of files, or of standard input where there are none, and the lines of those that are refused."""
+    files = [(path, bytes_of(path)) for path in paths] or [("-", sys.stdin.buffer.read())]
+    ledger, faults = collect(files, line.strict)
+    if line.seal:
+        ledger.seal()
+    return table_of(columns, ledger, len(files), len(faults)), faults
+
+
+def main():
+    gc.disable()  # Nothing here is let go in rings, and to look for them takes long.
+    line = words_of_line()
+    columns = columns_of(line.group_by or (COMPARED_BY if line.top is None else RANKED_BY))
+    wanted, faults, base = Wanted(line.only, line.skip), [], None
+    if line.base:
+        base, faults = table_of_files(line, columns, line.base)
+    other, more = table_of_files(line, columns, line.files)
+    if line.json:
+        text = json_comparison_of(base, other, wanted) if base else json_of(other, wanted)
+    else:
+        text = comparison_of(base, other, line.by, wanted) if base else ranking_of(other, line.top, line.by, wanted)
+    sys.stdout.buffer.write(text or b"")
+    for fault in faults + more if text else ["tracebook: 55 TooGreat"]:
+        print(fault, file=sys.stderr)
+    return 2 if text is None else 1 if faults + more else 0
+
+
+if __name__ == "__main__":
+    sys.exit(main())
