@@ -28,8 +28,8 @@ check:
 	tests/run
 
 # Times the reading of traces beside that of other readers, the division of a thread's time, a report beside its reading, names
-# that were chosen to collide beside ordinary ones, traces in which each event is new, folded stacks beside reports, and whole runs
-# over many threads and over several files.
+# that were chosen to collide beside ordinary ones, traces in which each event is new, folded stacks and tables beside reports, and
+# whole runs over many threads and over several files.
 bench: tracebook
 	cd crates/bench_reading && rt run < stdin
 	cd crates/bench_tracking && rt run < stdin
@@ -38,6 +38,7 @@ bench: tracebook
 	bench/flooding
 	bench/hostile
 	bench/folding
+	bench/tables
 	bench/threads
 	bench/workers
 
