@@ -1,9 +1,9 @@
 # Completes the command line of tracebook in bash: its options, the words that follow them, and files.
 
-_tracebook_options="--limit --seal --strict --top --by --refused --folded --page --base --help --version"
+_tracebook_options="--limit --seal --strict --top --by --group-by --only --skip --json --refused --folded --page --base --help --version"
 
 _tracebook() {
-    local word=${COMP_WORDS[COMP_CWORD]} before=${COMP_WORDS[COMP_CWORD-1]} earlier
+    local word=${COMP_WORDS[COMP_CWORD]} before=${COMP_WORDS[COMP_CWORD-1]} earlier columns
     COMPREPLY=()
     # An equals sign is a word of its own.
     if [[ $word == "=" ]]; then
@@ -17,7 +17,13 @@ _tracebook() {
     done
     case $before in
         --by) mapfile -t COMPREPLY < <(compgen -W "self total count" -- "$word") ;;
-        --limit | --top) compopt +o default 2>/dev/null ;;
+        --group-by)
+            # The columns before the last comma stay.
+            columns=${word%"${word##*,}"}
+            compopt -o nospace 2>/dev/null
+            mapfile -t COMPREPLY < <(compgen -P "$columns" -W "pid tid process thread name args." -- "${word##*,}")
+            ;;
+        --limit | --top | --only | --skip) compopt +o default 2>/dev/null ;;
         --base) ;;
         *) [[ $word == -* ]] && mapfile -t COMPREPLY < <(compgen -W "$_tracebook_options" -- "$word") ;;
     esac
