@@ -2,6 +2,7 @@ pub mod AddedTables
 pub mod Alike
 pub mod ByName
 pub mod Comparing
+pub mod Itself
 pub mod JsonPieces
 pub mod OwnRows
 pub mod Permuted
@@ -12,3 +13,4 @@ pub mod Substrings
 pub mod SumText
 pub mod Summing
 pub mod Tallies
+pub mod Turned

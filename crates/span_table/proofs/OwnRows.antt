@@ -46,10 +46,10 @@ module _ {K : Type 0} {R : K → K → Ordering} (o : IsTotalOrder R) where
       ∙ fold-last (done ++ k ∷ []) ks (subst (IsStrictlySortedBy R) (sym (append_assoc done (k ∷ []) ks)) sorted) ∙ append_assoc done (k ∷ []) ks
 
   -- sorted keys are in ascending order
-  ascending-own : (ks : List K) → IsStrictlySortedBy R ks → ascending R ks ≡ ks
+  pub ascending-own : (ks : List K) → IsStrictlySortedBy R ks → ascending R ks ≡ ks
   ascending-own ks sorted = fold-last [] ks sorted
 
-keys-sorted : (rows : List Row) → RowsRise rows → IsStrictlySortedBy key_cmp (map (λ (row : Row). row.key) rows)
+pub keys-sorted : (rows : List Row) → RowsRise rows → IsStrictlySortedBy key_cmp (map (λ (row : Row). row.key) rows)
 unfolding IsStrictlySortedBy
 keys-sorted [] rise = tt
 keys-sorted (row ∷ rows) rise = (below rows rise.0, keys-sorted rows rise.1)

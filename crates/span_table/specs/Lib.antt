@@ -16,3 +16,4 @@ pub mod Ranks
 pub mod Shown
 pub mod SumLaws
 pub mod Tables
+pub mod TextLaws

@@ -1,6 +1,7 @@
 //! The facts that hold of every table.
 ghost use Rattle.span_table.specs.Adding.{AddingLosesNothing, DroppingAdds, OrderIsNothing};
 ghost use Rattle.span_table.specs.Laws.{KeysStandOnce, RowsAreSpanRows, TablesFollowFromActs};
+ghost use Rattle.span_table.specs.TextLaws.{ComparisonsTurn, DifferencesTurn, RankingsHaveEachRow, TablesCompareWithThemselves};
 
 /// The table of runs follows from how many entries their journals have of each kind, and from their accepted acts on each topic, in
 /// their order. The function does nothing: its contract is the law.
@@ -26,4 +27,21 @@ pub fn adding_law()
     ensures together { AddingLosesNothing }
     ensures order { OrderIsNothing }
     ensures fewer { DroppingAdds }
+{}
+
+/// A ranking has each row that is shown, once, and no two rows rank alike. The function does nothing: its contract is the law.
+pub fn ranking_law()
+    ensures { RankingsHaveEachRow }
+{}
+
+/// Between a table and itself nothing changed. The function does nothing: its contract is the law.
+pub fn same_law()
+    ensures { TablesCompareWithThemselves }
+{}
+
+/// Compared the other way round, two tables have the same changes in the same order, each difference with the other sign, and as
+/// many keys that did not change. The function does nothing: its contract is the law.
+pub fn turn_law()
+    ensures changes { ComparisonsTurn }
+    ensures differences { DifferencesTurn }
 {}

@@ -1,0 +1,52 @@
+-- The facts that hold of every ranking and every comparison.
+use Rattle.std.specs.Prelude.{◌≡◌, ℕ, ◌-◌, ◌<◌, List, ◌++◌, codes, decimal, length, map}
+use Rattle.std.specs.List.Sorted.{IsPermutation, IsStrictlySortedBy}
+use Rattle.span_report.specs.Lines.{first_line}
+use Rattle.span_table.specs.declared.sums.By.{By}
+use Rattle.span_table.specs.declared.table.Row.{Row}
+use Rattle.span_table.specs.Changes.{Change, changes_of, compared, same_count, shown_changes}
+use Rattle.span_table.specs.Comparison.{base_lines, change_columns, comparison_of, difference_text, other_lines, same_line}
+use Rattle.span_table.specs.Lines.{shown_line}
+use Rattle.span_table.specs.Ranks.{rank_order, ranked}
+use Rattle.span_table.specs.Shown.{Wanted, shown_rows}
+use Rattle.span_table.specs.Tables.{RowsRise, SpanTable}
+
+-- each row has its place, and no two rank alike
+pub record RanksEachRow (by : By) (rows : List Row) : Type 0 where
+  pub places : IsPermutation rows (ranked by rows)
+  pub order : IsStrictlySortedBy (rank_order by) (ranked by rows)
+
+-- this holds of the rows that are shown of any that rise, by whatever number
+abbrev pub RankingsHaveEachRow : Type 0
+RankingsHaveEachRow = (by : By) (wanted : Wanted) (rows : List Row) → RowsRise rows → RanksEachRow by (shown_rows wanted rows)
+
+-- between a table and itself nothing changed: below the names of the columns is how many keys are shown
+abbrev pub ComparesWithItself : By → Wanted → SpanTable → Type 0
+ComparesWithItself by wanted table = let shown = length (shown_rows wanted table.rows) in
+    comparison_of by wanted table table
+    ≡ first_line ++ (base_lines table.head.counts ++ (other_lines table.head.counts ++ (shown_line wanted shown (length table.rows) ++ (change_columns table.columns ++ same_line shown))))
+
+-- this holds of each table, in whatever order
+abbrev pub TablesCompareWithThemselves : Type 0
+TablesCompareWithThemselves = (by : By) (wanted : Wanted) (table : SpanTable) → RowsRise table.rows → ComparesWithItself by wanted table
+
+-- a change the other way round
+abbrev pub turned : Change → Change
+turned change = record { key = change.key; both = record { base = change.both.other; other = change.both.base } }
+
+-- the keys that are shown, with their sums in both
+abbrev pub shown_between : Wanted → List Row → List Row → List Change
+shown_between wanted base other = shown_changes wanted (compared base other)
+
+-- the other way round the same keys changed, told in the same order, and as many did not
+pub record TurnsEachChange (by : By) (wanted : Wanted) (base other : List Row) : Type 0 where
+  pub changes : changes_of by (shown_between wanted other base) ≡ map turned (changes_of by (shown_between wanted base other))
+  pub same : same_count (shown_between wanted other base) ≡ same_count (shown_between wanted base other)
+
+-- this holds of any two lists of rows, by whatever number
+abbrev pub ComparisonsTurn : Type 0
+ComparisonsTurn = (by : By) (wanted : Wanted) (base other : List Row) → TurnsEachChange by wanted base other
+
+-- where one number is less than another, the difference is told with `+` to the greater and with `-` back, and is as great
+abbrev pub DifferencesTurn : Type 0
+DifferencesTurn = (m n : ℕ) → m < n → (difference_text m n ≡ codes "+" ++ decimal (n - m)) × (difference_text n m ≡ codes "-" ++ decimal (n - m))
