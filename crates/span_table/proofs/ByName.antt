@@ -109,7 +109,8 @@ module _ (columns : List Column) (journal : List Entry) (no_arguments : list_any
     spans-under (s ∷ xs) =
         ap₂ (λ (k : TableKey) (l : KeyedSums). record { key = k; step = sums_of (timed_in spans s) } ∷ l) (sym (key-no_argument journal thread s.name s.args columns no_arguments)) (spans-under xs)
 
-    thread-alike : AddUpAlike (map (keyed_span_row columns journal) (thread_span_rows journal thread)) (thread_sums columns journal thread)
+    -- the rows of a thread's names add up as its spans do
+    pub thread-alike : AddUpAlike (map (keyed_span_row columns journal) (thread_span_rows journal thread)) (thread_sums columns journal thread)
     thread-alike =
         subst (λ (l : KeyedSums). AddUpAlike l (thread_sums columns journal thread)) (sym (rows-made (ascending text_cmp (map (λ (s : Span Bytes). s.name) spans)) ∙ ap (λ names. map (under name_key) (map (made_of of_name) names)) names-are))
         (subst (AddUpAlike (map (under name_key) (map (made_of of_name) (keys_in text_cmp (map (of_span spans) spans))))) (spans-under spans)

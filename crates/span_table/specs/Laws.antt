@@ -1,12 +1,20 @@
 -- The facts that hold of every table.
-use Rattle.std.specs.Prelude.{◌≡◌, List, [], ◌∷◌, map, Some}
+use Rattle.std.specs.Prelude.{◌≡◌, List, [], ◌∷◌, filter, map, sum_by, take, Some}
+use Rattle.std.specs.List.{Contains}
+use Rattle.std.specs.Ordering.{is_eq}
 use Rattle.span_event.specs.declared.args.ArgValue.TheVariants.{Whole, Words}
+use Rattle.span_event.specs.declared.thread.Thread.{Thread}
+use Rattle.span_self_time.specs.Laws.{AreSpans}
+use Rattle.span_track.specs.Nesting.{closed_spans}
 use Rattle.span_ledger.specs.declared.rows.SpanRow.{SpanRow}
-use Rattle.span_ledger.specs.Rows.{span_rows}
+use Rattle.span_ledger.specs.Journal.{accepted}
+use Rattle.span_ledger.specs.Rows.{span_rows, thread_keys, thread_row}
+use Rattle.span_ledger.specs.Told.{thread_events}
 use Rattle.span_ledger.specs.Topics.{AreAlike}
 use Rattle.span_table.specs.declared.column.Column.{Column}
 use Rattle.span_table.specs.declared.column.Column.TheVariants.{Pid, Tid, Name}
 use Rattle.span_table.specs.declared.table.Row.{Row}
+use Rattle.span_table.specs.Keys.{TableKey, key_cmp}
 use Rattle.span_table.specs.Tables.{Run, RowsRise, table_of}
 
 -- two runs have journals that are alike, and as many files, of which as many were refused
@@ -39,3 +47,19 @@ of_span_row row = record { key = Some (Whole row.pid) ∷ Some (Whole row.tid) �
 -- by process, thread and name a table of one run has the rows of spans
 abbrev pub RowsAreSpanRows : Type 0
 RowsAreSpanRows = (run : Run) → (table_of row_columns (run ∷ [])).rows ≡ map of_span_row (span_rows run.journal)
+
+-- the values of a process and a thread
+abbrev pub thread_key : Thread → TableKey
+thread_key thread = Some (Whole thread.pid) ∷ Some (Whole thread.tid) ∷ []
+
+-- the rows of a thread: those whose keys begin with its values
+abbrev pub rows_of_thread : Thread → List Row → List Row
+rows_of_thread thread rows = filter (λ (row : Row). is_eq (key_cmp (take 2 row.key) (thread_key thread))) rows
+
+-- by process, thread and name the self times of a thread's rows add up to its busy time
+abbrev pub AddUpToBusy : Run → Thread → Type 0
+AddUpToBusy run thread = sum_by (λ (row : Row). row.sums.self_time) (rows_of_thread thread (table_of row_columns (run ∷ [])).rows) ≡ (thread_row run.journal thread).busy
+
+-- this holds of each thread that a journal lists, if its spans have positions that differ, and none ends before it starts
+abbrev pub RowsAddUpToBusy : Type 0
+RowsAddUpToBusy = (run : Run) (thread : Thread) → Contains (thread_keys (accepted run.journal)) thread → AreSpans (closed_spans (thread_events thread run.journal)) → AddUpToBusy run thread

@@ -1,6 +1,6 @@
 //! The facts that hold of every table.
 ghost use Rattle.span_table.specs.Adding.{AddingLosesNothing, DroppingAdds, OrderIsNothing};
-ghost use Rattle.span_table.specs.Laws.{KeysStandOnce, RowsAreSpanRows, TablesFollowFromActs};
+ghost use Rattle.span_table.specs.Laws.{KeysStandOnce, RowsAddUpToBusy, RowsAreSpanRows, TablesFollowFromActs};
 ghost use Rattle.span_table.specs.TextLaws.{ComparisonsTurn, DifferencesTurn, RankingsHaveEachRow, TablesCompareWithThemselves};
 
 /// The table of runs follows from how many entries their journals have of each kind, and from their accepted acts on each topic, in
@@ -18,6 +18,12 @@ pub fn key_law()
 /// law.
 pub fn row_law()
     ensures { RowsAreSpanRows }
+{}
+
+/// By process, thread and name the self times of a thread's rows add up to its busy time. The function does nothing: its contract is
+/// the law.
+pub fn busy_law()
+    ensures { RowsAddUpToBusy }
 {}
 
 /// Tables are added without loss: those of some runs, however these are divided, are the table of all of them together, in whatever

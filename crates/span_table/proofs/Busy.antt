@@ -1,0 +1,125 @@
+-- The self times of a thread's rows add up to its busy time.
+use Rattle.std.proofs.Common.{◌≡◌, Bool, true, false, ◌||◌, cond, List, [], ◌∷◌, ◌++◌, map, take, refl, sym, ap, ap₂, subst, ◌∙◌}
+use Rattle.std.specs.Prelude.{filter, filter_map, flat_map, sum_by}
+use Rattle.std.specs.Cmp.{eq_by_cmp_equiv}
+use Rattle.std.specs.List.{AllByRecursion}
+use Rattle.std.specs.List.Sorted.{IsStrictlySortedBy}
+use Rattle.std.specs.Ordering.{int_cmp, is_eq, ordering_then}
+use Rattle.std.specs.declared.cmp.Ordering.{Ordering}
+use Rattle.std.specs.declared.cmp.Ordering.TheVariants.{Less, Equal, Greater}
+use Rattle.std.proofs.lemmas.List.{append-nil}
+use Rattle.std.proofs.lemmas.List.Elements.{filter-append}
+use Rattle.std.proofs.lemmas.Map.Views.{list_any-from_Contains}
+use Rattle.span_event.specs.declared.thread.Thread.{Thread}
+use Rattle.span_event.specs.Orders.{thread_cmp}
+use Rattle.span_event.specs.Text.{Bytes}
+use Rattle.span_event.proofs.Orders.{thread_cmp-same, thread_cmp-total}
+use Rattle.span_keyed_tracks.specs.Keyed.{steps_at}
+use Rattle.span_keyed_tracks.proofs.Keyed.{has_key, same_from_is_eq}
+use Rattle.span_keyed_tracks.proofs.Sorted.{ascending-sorted}
+use Rattle.span_keyed_tracks.proofs.Uses.{is_eq-turned}
+use Rattle.span_ledger.specs.declared.entry.Entry.{Entry}
+use Rattle.span_ledger.specs.declared.rows.SpanRow.{SpanRow}
+use Rattle.span_ledger.specs.Journal.{accepted}
+use Rattle.span_ledger.specs.Rows.{span_row, span_rows, thread_keys, thread_span_rows}
+use Rattle.span_ledger.specs.Timed.{Timed, timed_in, timed_spans}
+use Rattle.span_ledger.specs.Told.{listed_by, thread_events}
+use Rattle.span_self_time.specs.Laws.{AreSpans}
+use Rattle.span_self_time.specs.Spans.{Span, busy_time}
+use Rattle.span_self_time.proofs.Mapped.{filter-map, sum_by-map}
+use Rattle.span_self_time.proofs.SelfTimes.{sum_by-self_time}
+use Rattle.span_track.specs.Nesting.{closed_spans}
+use Rattle.span_table.specs.declared.sums.Sums.{Sums}
+use Rattle.span_table.specs.declared.table.Row.{Row}
+use Rattle.span_table.specs.Collected.{keyed_span_row, sums_of_row}
+use Rattle.span_table.specs.Keys.{key_cmp}
+use Rattle.span_table.specs.Laws.{RowsAddUpToBusy, of_span_row, rows_of_thread, thread_key}
+use Rattle.span_table.specs.Tables.{keyed_span, sums_of}
+use Rattle.span_table.proofs.ByName.{thread-alike}
+use Rattle.span_table.proofs.OwnRows.{rows-are_span_rows}
+
+-- the keys of threads are in the order of these
+key_cmp-thread_cmp : (a b : Thread) → key_cmp (thread_key a) (thread_key b) ≡ thread_cmp a b
+key_cmp-thread_cmp a b = by (int_cmp a.pid b.pid) (int_cmp a.tid b.tid)
+  where
+    by : (x y : Ordering) → ordering_then (ordering_then x Equal) (ordering_then (ordering_then y Equal) Equal) ≡ ordering_then x y
+    by Less y = refl
+    by Greater y = refl
+    by Equal Less = refl
+    by Equal Equal = refl
+    by Equal Greater = refl
+
+module _ (journal : List Entry) (thread : Thread) where
+  abbrev rows_of : Thread → List SpanRow
+  rows_of t = thread_span_rows journal t
+
+  -- the row is of the thread
+  abbrev mine : SpanRow → Bool
+  mine row = is_eq (key_cmp (take 2 (of_span_row row).key) (thread_key thread))
+
+  filter-named : (t : Thread) (spans : List (Span Bytes)) (names : List Bytes) → filter mine (map (span_row t spans) names) ≡ cond (is_eq (thread_cmp t thread)) (map (span_row t spans) names) []
+  filter-named t spans [] = none (is_eq (thread_cmp t thread))
+    where
+      none : (b : Bool) → let rows : List SpanRow = cond b [] [] in [] ≡ rows
+      none true = refl
+      none false = refl
+  filter-named t spans (name ∷ names) =
+      ap₂ (λ (b : Bool) (rest : List SpanRow). cond b (span_row t spans name ∷ rest) rest) (ap is_eq (key_cmp-thread_cmp t thread)) (filter-named t spans names) ∙ by (is_eq (thread_cmp t thread)) (span_row t spans name) (map (span_row t spans) names)
+    where
+      by : (b : Bool) (row : SpanRow) (rows : List SpanRow) → cond b (row ∷ cond b rows []) (cond b rows []) ≡ cond b (row ∷ rows) []
+      by true row rows = refl
+      by false row rows = refl
+
+  -- the rows of a thread are all of it or none
+  filter-rows_of : (t : Thread) (b : Bool) → is_eq (thread_cmp thread t) ≡ b → filter mine (rows_of t) ≡ cond b (rows_of t) []
+  filter-rows_of t b e = filter-named t (closed_spans (thread_events t journal)) _ ∙ ap (λ c. cond c (rows_of t) []) (is_eq-turned thread_cmp-total t thread ∙ e)
+
+  none_later : (ts : List Thread) → AllByRecursion (λ t. thread_cmp thread t ≡ Less) ts → filter mine (flat_map rows_of ts) ≡ []
+  none_later [] below = refl
+  none_later (t ∷ ts) below = filter-append mine (rows_of t) (flat_map rows_of ts) ∙ ap₂ (λ a b. a ++ b) (filter-rows_of t false (ap is_eq below.0)) (none_later ts below.1)
+
+  -- of rows of threads that rise, those of a thread among them
+  filter-threads : (ts : List Thread) → IsStrictlySortedBy thread_cmp ts → has_key thread_cmp thread ts ≡ true → filter mine (flat_map rows_of ts) ≡ rows_of thread
+  unfolding IsStrictlySortedBy
+  filter-threads [] sorted has = cc
+  filter-threads (t ∷ ts) sorted has = filter-append mine (rows_of t) (flat_map rows_of ts) ∙ by (is_eq (thread_cmp thread t)) refl (filter-threads ts sorted.1) has
+    where
+      by : (b : Bool) → is_eq (thread_cmp thread t) ≡ b → (has_key thread_cmp thread ts ≡ true → filter mine (flat_map rows_of ts) ≡ rows_of thread) → (b || has_key thread_cmp thread ts) ≡ true →
+          filter mine (rows_of t) ++ filter mine (flat_map rows_of ts) ≡ rows_of thread
+      by true e rest has =
+          let same : thread ≡ t = same_from_is_eq thread_cmp-total thread_cmp-same thread t e in
+          let below = subst (λ (x : Thread). AllByRecursion (λ y. thread_cmp x y ≡ Less) ts) (sym same) sorted.0 in
+          ap₂ (λ a b. a ++ b) (filter-rows_of t true e) (none_later ts below) ∙ append-nil (rows_of t) ∙ ap rows_of (sym same)
+      by false e rest has = ap₂ (λ a b. a ++ b) (filter-rows_of t false e) (rest has)
+
+  -- under the key of no columns stand all rows, and all spans
+  steps-rows : (rows : List SpanRow) → steps_at key_cmp [] (map (keyed_span_row [] journal) rows) ≡ map sums_of_row rows
+  steps-rows [] = refl
+  steps-rows (row ∷ rows) = ap (λ l. sums_of_row row ∷ l) (steps-rows rows)
+
+  steps-spans : (spans : List Timed) → steps_at key_cmp [] (map (keyed_span [] journal thread) spans) ≡ map sums_of spans
+  steps-spans [] = refl
+  steps-spans (span ∷ spans) = ap (λ l. sums_of span ∷ l) (steps-spans spans)
+
+  -- the self times of a thread's rows are those of its spans
+  self_times-rows : AreSpans (closed_spans (thread_events thread journal)) → sum_by (λ (row : SpanRow). row.self_time) (rows_of thread) ≡ busy_time (closed_spans (thread_events thread journal))
+  self_times-rows are =
+      let spans = closed_spans (thread_events thread journal) in
+      let of_sums = λ (s : Sums). s.self_time in
+      sym (ap (sum_by of_sums) (steps-rows (rows_of thread)) ∙ sum_by-map of_sums sums_of_row (rows_of thread))
+      ∙ ap (λ (s : Sums). s.self_time) ((thread-alike [] journal refl thread).sums [])
+      ∙ ap (sum_by of_sums) (steps-spans (timed_spans journal thread)) ∙ sum_by-map of_sums sums_of (timed_spans journal thread)
+      ∙ sum_by-map (λ (t : Timed). t.self_time) (timed_in spans) spans ∙ sum_by-self_time spans are
+
+-- by process, thread and name the self times of a thread's rows add up to its busy time
+pub rows-busy : RowsAddUpToBusy
+rows-busy run thread listed are =
+    let of_row = λ (row : Row). row.sums.self_time in
+    let threads = thread_keys (accepted run.journal) in
+    let mine_of = mine run.journal thread in
+    ap (λ rows. sum_by of_row (rows_of_thread thread rows)) (rows-are_span_rows run)
+    ∙ ap (sum_by of_row) (filter-map (λ (row : Row). is_eq (key_cmp (take 2 row.key) (thread_key thread))) of_span_row (span_rows run.journal))
+    ∙ sum_by-map of_row of_span_row (filter mine_of (span_rows run.journal))
+    ∙ ap (sum_by (λ (row : SpanRow). row.self_time))
+    (filter-threads run.journal thread threads (ascending-sorted thread_cmp-total (filter_map (λ a. listed_by a.act) (accepted run.journal))) (list_any-from_Contains (eq_by_cmp_equiv thread_cmp-total) thread threads listed))
+    ∙ self_times-rows run.journal thread are
