@@ -3,6 +3,7 @@ pub mod Alike
 pub mod Busy
 pub mod ByName
 pub mod Comparing
+pub mod FewRows
 pub mod Itself
 pub mod JsonPieces
 pub mod OwnRows

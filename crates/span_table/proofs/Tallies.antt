@@ -37,12 +37,12 @@ module _ {K A : Type 0} (cmp : K → K → Ordering) (f : A → ℕ) where
       ∙ sum_by-append f (steps_at cmp key es) (steps_at cmp key fs)
 
 -- what two numbers of each come to together
-sum_by-both : {A : Type 0} (f g : A → ℕ) (xs : List A) → sum_by (λ x. f x + g x) xs ≡ sum_by f xs + sum_by g xs
+pub sum_by-both : {A : Type 0} (f g : A → ℕ) (xs : List A) → sum_by (λ x. f x + g x) xs ≡ sum_by f xs + sum_by g xs
 sum_by-both f g [] = omega arith
 sum_by-both f g (x ∷ xs) = omega (arith, sum_by-cons (λ x. f x + g x) x xs, sum_by-cons f x xs, sum_by-cons g x xs, sum_by-both f g xs)
 
 -- numbers that are equal come to the same
-sum_by-same : {A : Type 0} (f g : A → ℕ) → ((x : A) → f x ≡ g x) → (xs : List A) → sum_by f xs ≡ sum_by g xs
+pub sum_by-same : {A : Type 0} (f g : A → ℕ) → ((x : A) → f x ≡ g x) → (xs : List A) → sum_by f xs ≡ sum_by g xs
 sum_by-same {A = A} f g same xs = ap (λ (h : A → ℕ). sum_by h xs) (λ i x. same x i)
 
 -- the same step under another key
