@@ -14,7 +14,6 @@ use Rattle.span_event.specs.declared.thread.Thread.{Thread}
 use Rattle.span_keyed_tracks.specs.Keyed.{Keyed, keys_in, steps_at}
 use Rattle.span_keyed_tracks.proofs.Keyed.{has_key}
 use Rattle.span_keyed_tracks.proofs.SameKeys.{step_keys}
-use Rattle.span_ledger.specs.declared.entry.Entry.{Entry}
 use Rattle.span_ledger.specs.declared.rows.CountRow.{CountRow}
 use Rattle.span_ledger.specs.Journal.{accepted}
 use Rattle.span_ledger.specs.Rows.{thread_keys}
@@ -28,7 +27,7 @@ use Rattle.span_table.specs.Adding.{AddingLosesNothing, DroppingAdds, OrderIsNot
 use Rattle.span_table.specs.Columns.{value_at}
 use Rattle.span_table.specs.KeyLaws.{key_cmp_total, key_cmp-same}
 use Rattle.span_table.specs.Keys.{TableKey, key_cmp}
-use Rattle.span_table.specs.Tables.{KeyedSums, Run, SpanTable, head_of, heads_together, journal_sums, keyed_span, row_of, rows_of, sums_together, table_of, thread_sums}
+use Rattle.span_table.specs.Tables.{KeyedSums, Run, SpanTable, head_of, heads_together, keyed_span, row_of, rows_of, run_sums, sums_together, table_of, thread_sums}
 use Rattle.span_table.proofs.Alike.{AddUpAlike, AddUpAlike-flat_map, AddUpAlike-grouped, has_key-append, summed-alike}
 use Rattle.span_table.proofs.Tallies.{made_of, tally, tally-append, under}
 
@@ -65,9 +64,6 @@ rows-back : (es : KeyedSums) → AddUpAlike (keyed_rows (rows_of es)) es
 rows-back es =
     subst (λ l. AddUpAlike l es) (sym (rows-regrouped (λ k. k) es))
     (subst (AddUpAlike (regrouped (λ k. k) es)) (map-id es) (AddUpAlike-grouped key_cmp_total key_cmp-same (λ k. k) es))
-
-abbrev run_sums : List Column → Run → KeyedSums
-run_sums columns run = journal_sums columns run.journal
 
 -- a number of heads that are added is that of these together
 module _ (f : Head → ℕ) (adds : (heads : List Head) → f (heads_together heads) ≡ sum_by f heads) where
@@ -122,15 +118,15 @@ picked-map {A = A} f xs (p ∷ ps) = ap₂ cons_option (slice_get-map f xs p) (p
     by (Some x) l = refl
 
 module _ (places : List ℕ) (columns : List Column) where
-  thread_picked : (journal : List Entry) (thread : Thread) → map (under (picked places)) (thread_sums columns journal thread) ≡ thread_sums (picked places columns) journal thread
-  thread_picked journal thread =
-      map-map (under (picked places)) (keyed_span columns journal thread) (timed_spans journal thread)
-      ∙ (λ i. map (λ (t : Timed). record { key = picked-map (value_at journal thread t.span.name t.span.args) columns places i; step = (keyed_span columns journal thread t).step }) (timed_spans journal thread))
+  thread_picked : (run : Run) (thread : Thread) → map (under (picked places)) (thread_sums columns run thread) ≡ thread_sums (picked places columns) run thread
+  thread_picked run thread =
+      map-map (under (picked places)) (keyed_span columns run thread) (timed_spans run.journal thread)
+      ∙ (λ i. map (λ (t : Timed). record { key = picked-map (value_at run thread t.span.name t.span.args) columns places i; step = (keyed_span columns run thread t).step }) (timed_spans run.journal thread))
 
   run_picked : (run : Run) → map (under (picked places)) (run_sums columns run) ≡ run_sums (picked places columns) run
   run_picked run =
-      map-flat_map (under (picked places)) (thread_sums columns run.journal) (thread_keys (accepted run.journal))
-      ∙ (λ i. flat_map (λ thread. thread_picked run.journal thread i) (thread_keys (accepted run.journal)))
+      map-flat_map (under (picked places)) (thread_sums columns run) (thread_keys (accepted run.journal))
+      ∙ (λ i. flat_map (λ thread. thread_picked run thread i) (thread_keys (accepted run.journal)))
 
   rows-picked : (runs : List Run) → rows_of (map (keyed_by places) (rows_of (flat_map (run_sums columns) runs))) ≡ rows_of (flat_map (run_sums (picked places columns)) runs)
   rows-picked runs =

@@ -18,7 +18,6 @@ use Rattle.span_keyed_tracks.specs.Keyed.{steps_at}
 use Rattle.span_keyed_tracks.proofs.Keyed.{has_key, same_from_is_eq}
 use Rattle.span_keyed_tracks.proofs.Sorted.{ascending-sorted}
 use Rattle.span_keyed_tracks.proofs.Uses.{is_eq-turned}
-use Rattle.span_ledger.specs.declared.entry.Entry.{Entry}
 use Rattle.span_ledger.specs.declared.rows.SpanRow.{SpanRow}
 use Rattle.span_ledger.specs.Journal.{accepted}
 use Rattle.span_ledger.specs.Rows.{span_row, span_rows, thread_keys, thread_span_rows}
@@ -32,6 +31,7 @@ use Rattle.span_track.specs.Nesting.{closed_spans}
 use Rattle.span_table.specs.declared.sums.Sums.{Sums}
 use Rattle.span_table.specs.declared.table.Row.{Row}
 use Rattle.span_table.specs.Collected.{keyed_span_row, sums_of_row}
+use Rattle.span_table.specs.Columns.{Run}
 use Rattle.span_table.specs.Keys.{key_cmp}
 use Rattle.span_table.specs.Laws.{RowsAddUpToBusy, of_span_row, rows_of_thread, thread_key}
 use Rattle.span_table.specs.Tables.{keyed_span, sums_of}
@@ -49,9 +49,9 @@ key_cmp-thread_cmp a b = by (int_cmp a.pid b.pid) (int_cmp a.tid b.tid)
     by Equal Equal = refl
     by Equal Greater = refl
 
-module _ (journal : List Entry) (thread : Thread) where
+module _ (run : Run) (thread : Thread) where
   abbrev rows_of : Thread → List SpanRow
-  rows_of t = thread_span_rows journal t
+  rows_of t = thread_span_rows run.journal t
 
   -- the row is of the thread
   abbrev mine : SpanRow → Bool
@@ -72,7 +72,7 @@ module _ (journal : List Entry) (thread : Thread) where
 
   -- the rows of a thread are all of it or none
   filter-rows_of : (t : Thread) (b : Bool) → is_eq (thread_cmp thread t) ≡ b → filter mine (rows_of t) ≡ cond b (rows_of t) []
-  filter-rows_of t b e = filter-named t (closed_spans (thread_events t journal)) _ ∙ ap (λ c. cond c (rows_of t) []) (is_eq-turned thread_cmp-total t thread ∙ e)
+  filter-rows_of t b e = filter-named t (closed_spans (thread_events t run.journal)) _ ∙ ap (λ c. cond c (rows_of t) []) (is_eq-turned thread_cmp-total t thread ∙ e)
 
   none_later : (ts : List Thread) → AllByRecursion (λ t. thread_cmp thread t ≡ Less) ts → filter mine (flat_map rows_of ts) ≡ []
   none_later [] below = refl
@@ -93,22 +93,22 @@ module _ (journal : List Entry) (thread : Thread) where
       by false e rest has = ap₂ (λ a b. a ++ b) (filter-rows_of t false e) (rest has)
 
   -- under the key of no columns stand all rows, and all spans
-  steps-rows : (rows : List SpanRow) → steps_at key_cmp [] (map (keyed_span_row [] journal) rows) ≡ map sums_of_row rows
+  steps-rows : (rows : List SpanRow) → steps_at key_cmp [] (map (keyed_span_row [] run) rows) ≡ map sums_of_row rows
   steps-rows [] = refl
   steps-rows (row ∷ rows) = ap (λ l. sums_of_row row ∷ l) (steps-rows rows)
 
-  steps-spans : (spans : List Timed) → steps_at key_cmp [] (map (keyed_span [] journal thread) spans) ≡ map sums_of spans
+  steps-spans : (spans : List Timed) → steps_at key_cmp [] (map (keyed_span [] run thread) spans) ≡ map sums_of spans
   steps-spans [] = refl
   steps-spans (span ∷ spans) = ap (λ l. sums_of span ∷ l) (steps-spans spans)
 
   -- the self times of a thread's rows are those of its spans
-  self_times-rows : AreSpans (closed_spans (thread_events thread journal)) → sum_by (λ (row : SpanRow). row.self_time) (rows_of thread) ≡ busy_time (closed_spans (thread_events thread journal))
+  self_times-rows : AreSpans (closed_spans (thread_events thread run.journal)) → sum_by (λ (row : SpanRow). row.self_time) (rows_of thread) ≡ busy_time (closed_spans (thread_events thread run.journal))
   self_times-rows are =
-      let spans = closed_spans (thread_events thread journal) in
+      let spans = closed_spans (thread_events thread run.journal) in
       let of_sums = λ (s : Sums). s.self_time in
       sym (ap (sum_by of_sums) (steps-rows (rows_of thread)) ∙ sum_by-map of_sums sums_of_row (rows_of thread))
-      ∙ ap (λ (s : Sums). s.self_time) ((thread-alike [] journal refl thread).sums [])
-      ∙ ap (sum_by of_sums) (steps-spans (timed_spans journal thread)) ∙ sum_by-map of_sums sums_of (timed_spans journal thread)
+      ∙ ap (λ (s : Sums). s.self_time) ((thread-alike [] run refl thread).sums [])
+      ∙ ap (sum_by of_sums) (steps-spans (timed_spans run.journal thread)) ∙ sum_by-map of_sums sums_of (timed_spans run.journal thread)
       ∙ sum_by-map (λ (t : Timed). t.self_time) (timed_in spans) spans ∙ sum_by-self_time spans are
 
 -- by process, thread and name the self times of a thread's rows add up to its busy time
@@ -116,10 +116,10 @@ pub rows-busy : RowsAddUpToBusy
 rows-busy run thread listed are =
     let of_row = λ (row : Row). row.sums.self_time in
     let threads = thread_keys (accepted run.journal) in
-    let mine_of = mine run.journal thread in
+    let mine_of = mine run thread in
     ap (λ rows. sum_by of_row (rows_of_thread thread rows)) (rows-are_span_rows run)
     ∙ ap (sum_by of_row) (filter-map (λ (row : Row). is_eq (key_cmp (take 2 row.key) (thread_key thread))) of_span_row (span_rows run.journal))
     ∙ sum_by-map of_row of_span_row (filter mine_of (span_rows run.journal))
     ∙ ap (sum_by (λ (row : SpanRow). row.self_time))
-    (filter-threads run.journal thread threads (ascending-sorted thread_cmp-total (filter_map (λ a. listed_by a.act) (accepted run.journal))) (list_any-from_Contains (eq_by_cmp_equiv thread_cmp-total) thread threads listed))
-    ∙ self_times-rows run.journal thread are
+    (filter-threads run thread threads (ascending-sorted thread_cmp-total (filter_map (λ a. listed_by a.act) (accepted run.journal))) (list_any-from_Contains (eq_by_cmp_equiv thread_cmp-total) thread threads listed))
+    ∙ self_times-rows run thread are

@@ -11,7 +11,6 @@ use Rattle.span_event.specs.Args.{Arguments}
 use Rattle.span_event.specs.Text.{Bytes, same_text, text_cmp}
 use Rattle.span_event.proofs.Orders.{text_same}
 use Rattle.span_keyed_tracks.specs.Keyed.{Keyed, ascending, keys_in, steps_at}
-use Rattle.span_ledger.specs.declared.entry.Entry.{Entry}
 use Rattle.span_ledger.specs.Journal.{accepted}
 use Rattle.span_ledger.specs.Rows.{span_row, thread_keys, thread_span_rows}
 use Rattle.span_ledger.specs.Timed.{timed_in}
@@ -20,29 +19,30 @@ use Rattle.span_ledger.proofs.Sorted.{map-map}
 use Rattle.span_self_time.specs.Spans.{Span, named}
 use Rattle.span_track.specs.Nesting.{closed_spans}
 use Rattle.span_table.specs.declared.column.Column.{Column}
-use Rattle.span_table.specs.declared.column.Column.TheVariants.{Pid, Tid, Process, Thread as OfThread, Name, Argument}
+use Rattle.span_table.specs.declared.column.Column.TheVariants.{Pid, Tid, Process, Thread as OfThread, Name, File, Argument}
 use Rattle.span_table.specs.declared.sums.Sums.{Sums}
 use Rattle.span_table.specs.Collected.{keyed_span_row, row_sums, sums_of_row}
-use Rattle.span_table.specs.Columns.{Value, is_argument, value_at}
+use Rattle.span_table.specs.Columns.{Run, Value, is_argument, value_at}
 use Rattle.span_table.specs.Keys.{TableKey}
-use Rattle.span_table.specs.Tables.{KeyedSums, journal_sums, keyed_span, summed, sums_of, sums_together, thread_sums}
+use Rattle.span_table.specs.Tables.{KeyedSums, keyed_span, run_sums, summed, sums_of, sums_together, thread_sums}
 use Rattle.span_table.proofs.Alike.{AddUpAlike, AddUpAlike-flat_map, AddUpAlike-grouped, summed-alike}
 use Rattle.span_table.proofs.Tallies.{made_of, under}
 
 -- a column that is no argument doesn't ask for them
-value_at-no_argument : (journal : List Entry) (thread : Thread) (name : Bytes) (args : Arguments) (column : Column) → is_argument column ≡ false → value_at journal thread name args column ≡ value_at journal thread name [] column
-value_at-no_argument journal thread name args Pid h = refl
-value_at-no_argument journal thread name args Tid h = refl
-value_at-no_argument journal thread name args Process h = refl
-value_at-no_argument journal thread name args OfThread h = refl
-value_at-no_argument journal thread name args Name h = refl
-value_at-no_argument journal thread name args (Argument key) h = cc
+value_at-no_argument : (run : Run) (thread : Thread) (name : Bytes) (args : Arguments) (column : Column) → is_argument column ≡ false → value_at run thread name args column ≡ value_at run thread name [] column
+value_at-no_argument run thread name args Pid h = refl
+value_at-no_argument run thread name args Tid h = refl
+value_at-no_argument run thread name args Process h = refl
+value_at-no_argument run thread name args OfThread h = refl
+value_at-no_argument run thread name args Name h = refl
+value_at-no_argument run thread name args File h = refl
+value_at-no_argument run thread name args (Argument key) h = cc
 
-key-no_argument : (journal : List Entry) (thread : Thread) (name : Bytes) (args : Arguments) (columns : List Column) → list_any is_argument columns ≡ false → map (value_at journal thread name args) columns ≡ map (value_at journal thread name []) columns
-key-no_argument journal thread name args [] h = refl
-key-no_argument journal thread name args (column ∷ columns) h =
+key-no_argument : (run : Run) (thread : Thread) (name : Bytes) (args : Arguments) (columns : List Column) → list_any is_argument columns ≡ false → map (value_at run thread name args) columns ≡ map (value_at run thread name []) columns
+key-no_argument run thread name args [] h = refl
+key-no_argument run thread name args (column ∷ columns) h =
     let parts = both_false (is_argument column) (list_any is_argument columns) h in
-    ap₂ (λ (v : Value) l. v ∷ l) (value_at-no_argument journal thread name args column parts.0) (key-no_argument journal thread name args columns parts.1)
+    ap₂ (λ (v : Value) l. v ∷ l) (value_at-no_argument run thread name args column parts.0) (key-no_argument run thread name args columns parts.1)
   where
     both_false : (a b : Bool) → (a || b) ≡ false → (a ≡ false) × (b ≡ false)
     both_false true b h = cc
@@ -85,47 +85,47 @@ module _ (spans : List (Span Bytes)) where
       one : (f : Sums → ℕ) → sum_by f (steps_at text_cmp name (map of_span spans)) ≡ sum_by (λ s. f (sums_of (timed_in spans s))) (named same_text name spans)
       one f = ap (sum_by f) (steps-named name spans) ∙ sum_by-map f (λ s. sums_of (timed_in spans s)) (named same_text name spans)
 
-module _ (columns : List Column) (journal : List Entry) (no_arguments : list_any is_argument columns ≡ false) where
+module _ (columns : List Column) (run : Run) (no_arguments : list_any is_argument columns ≡ false) where
   module _ (thread : Thread) where
     abbrev spans : List (Span Bytes)
-    spans = closed_spans (thread_events thread journal)
+    spans = closed_spans (thread_events thread run.journal)
 
     abbrev name_key : Bytes → TableKey
-    name_key name = map (value_at journal thread name []) columns
+    name_key name = map (value_at run thread name []) columns
 
     -- what the spans of a name come to
     abbrev of_name : Bytes → Sums
     of_name name = sums_together (steps_at text_cmp name (map (of_span spans) spans))
 
-    rows-made : (names : List Bytes) → map (keyed_span_row columns journal) (map (span_row thread spans) names) ≡ map (under name_key) (map (made_of of_name) names)
+    rows-made : (names : List Bytes) → map (keyed_span_row columns run) (map (span_row thread spans) names) ≡ map (under name_key) (map (made_of of_name) names)
     rows-made [] = refl
     rows-made (name ∷ names) = ap₂ (λ (s : Sums) (l : KeyedSums). record { key = name_key name; step = s } ∷ l) (row-sums spans thread name) (rows-made names)
 
     names-are : ascending text_cmp (map (λ (s : Span Bytes). s.name) spans) ≡ keys_in text_cmp (map (of_span spans) spans)
     names-are = ap (ascending text_cmp) (sym (map-map (λ (e : Keyed Bytes Sums). e.key) (of_span spans) spans))
 
-    spans-under : (xs : List (Span Bytes)) → map (under name_key) (map (of_span spans) xs) ≡ map (keyed_span columns journal thread) (map (timed_in spans) xs)
+    spans-under : (xs : List (Span Bytes)) → map (under name_key) (map (of_span spans) xs) ≡ map (keyed_span columns run thread) (map (timed_in spans) xs)
     spans-under [] = refl
     spans-under (s ∷ xs) =
-        ap₂ (λ (k : TableKey) (l : KeyedSums). record { key = k; step = sums_of (timed_in spans s) } ∷ l) (sym (key-no_argument journal thread s.name s.args columns no_arguments)) (spans-under xs)
+        ap₂ (λ (k : TableKey) (l : KeyedSums). record { key = k; step = sums_of (timed_in spans s) } ∷ l) (sym (key-no_argument run thread s.name s.args columns no_arguments)) (spans-under xs)
 
     -- the rows of a thread's names add up as its spans do
-    pub thread-alike : AddUpAlike (map (keyed_span_row columns journal) (thread_span_rows journal thread)) (thread_sums columns journal thread)
+    pub thread-alike : AddUpAlike (map (keyed_span_row columns run) (thread_span_rows run.journal thread)) (thread_sums columns run thread)
     thread-alike =
-        subst (λ (l : KeyedSums). AddUpAlike l (thread_sums columns journal thread)) (sym (rows-made (ascending text_cmp (map (λ (s : Span Bytes). s.name) spans)) ∙ ap (λ names. map (under name_key) (map (made_of of_name) names)) names-are))
+        subst (λ (l : KeyedSums). AddUpAlike l (thread_sums columns run thread)) (sym (rows-made (ascending text_cmp (map (λ (s : Span Bytes). s.name) spans)) ∙ ap (λ names. map (under name_key) (map (made_of of_name) names)) names-are))
         (subst (AddUpAlike (map (under name_key) (map (made_of of_name) (keys_in text_cmp (map (of_span spans) spans))))) (spans-under spans)
         (AddUpAlike-grouped nat_list_cmp_total text_same name_key (map (of_span spans) spans)))
 
-  rows-by_thread : (threads : List Thread) → map (keyed_span_row columns journal) (flat_map (thread_span_rows journal) threads) ≡ flat_map (λ thread. map (keyed_span_row columns journal) (thread_span_rows journal thread)) threads
+  rows-by_thread : (threads : List Thread) → map (keyed_span_row columns run) (flat_map (thread_span_rows run.journal) threads) ≡ flat_map (λ thread. map (keyed_span_row columns run) (thread_span_rows run.journal thread)) threads
   rows-by_thread [] = refl
   rows-by_thread (t ∷ threads) =
-      map-append (keyed_span_row columns journal) (thread_span_rows journal t) (flat_map (thread_span_rows journal) threads)
-      ∙ ap (λ l. map (keyed_span_row columns journal) (thread_span_rows journal t) ++ l) (rows-by_thread threads)
+      map-append (keyed_span_row columns run) (thread_span_rows run.journal t) (flat_map (thread_span_rows run.journal) threads)
+      ∙ ap (λ l. map (keyed_span_row columns run) (thread_span_rows run.journal t) ++ l) (rows-by_thread threads)
 
   -- the rows of names are kept as their spans are
-  pub summed-rows : summed (row_sums columns journal) ≡ summed (journal_sums columns journal)
+  pub summed-rows : summed (row_sums columns run) ≡ summed (run_sums columns run)
   summed-rows =
-      let threads = thread_keys (accepted journal) in
+      let threads = thread_keys (accepted run.journal) in
       ap summed (rows-by_thread threads)
-      ∙ summed-alike (flat_map (λ thread. map (keyed_span_row columns journal) (thread_span_rows journal thread)) threads) (journal_sums columns journal)
-      (AddUpAlike-flat_map (λ thread. map (keyed_span_row columns journal) (thread_span_rows journal thread)) (thread_sums columns journal) thread-alike threads)
+      ∙ summed-alike (flat_map (λ thread. map (keyed_span_row columns run) (thread_span_rows run.journal thread)) threads) (run_sums columns run)
+      (AddUpAlike-flat_map (λ thread. map (keyed_span_row columns run) (thread_span_rows run.journal thread)) (thread_sums columns run) thread-alike threads)

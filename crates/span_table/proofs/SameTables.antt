@@ -16,7 +16,7 @@ use Rattle.span_keyed_tracks.specs.Meta.{Names}
 use Rattle.span_ledger.specs.Rows.{thread_keys, thread_row}
 use Rattle.span_ledger.specs.Timed.{Timed, timed_in, with_self_times}
 use Rattle.span_ledger.specs.Told.{thread_events}
-use Rattle.span_ledger.specs.Topics.{AreAlike, of_process}
+use Rattle.span_ledger.specs.Topics.{of_process}
 use Rattle.span_ledger.proofs.Topics.Rows.{rows-follow, values-follow}
 use Rattle.span_ledger.proofs.Topics.Threads.{thread_events-alike}
 use Rattle.span_self_time.specs.Positions.{Rises, renumbered_span}
@@ -25,22 +25,24 @@ use Rattle.span_self_time.proofs.Mapped.{self_time-map}
 use Rattle.span_track.specs.Nesting.{closed_spans}
 use Rattle.span_track.proofs.Threads.Renumbering.{closed_spans-renumbered}
 use Rattle.span_table.specs.declared.column.Column.{Column}
-use Rattle.span_table.specs.declared.column.Column.TheVariants.{Pid, Tid, Process, Thread as OfThread, Name, Argument}
+use Rattle.span_table.specs.declared.column.Column.TheVariants.{Pid, Tid, Process, Thread as OfThread, Name, File, Argument}
 use Rattle.span_table.specs.Columns.{value_at}
 use Rattle.span_table.specs.Laws.{AreAlikeRuns, AreAllAlike, TablesFollowFromActs}
-use Rattle.span_table.specs.Tables.{Run, head_of, heads_together, journal_sums, keyed_span, rows_of, thread_sums}
+use Rattle.span_table.specs.Tables.{Run, head_of, heads_together, keyed_span, rows_of, run_sums, thread_sums}
 
-module _ (journal other : List Entry) (alike : AreAlike journal other) where
-  value_at-alike : (thread : Thread) (name : Bytes) (args : Arguments) (column : Column) → value_at journal thread name args column ≡ value_at other thread name args column
+module _ (run other : Run) (alike : AreAlikeRuns run other) where
+  value_at-alike : (thread : Thread) (name : Bytes) (args : Arguments) (column : Column) → value_at run thread name args column ≡ value_at other thread name args column
   value_at-alike thread name args Pid = refl
   value_at-alike thread name args Tid = refl
-  value_at-alike thread name args Process = ap (λ (n : Names). option_map Words n.name) ((values-follow (of_process thread.pid) journal other (alike.acts (of_process thread.pid))).names None)
-  value_at-alike thread name args OfThread = ap (λ (n : Names). option_map Words n.name) ((values-follow (of_process thread.pid) journal other (alike.acts (of_process thread.pid))).names (Some thread.tid))
+  value_at-alike thread name args Process = ap (λ (n : Names). option_map Words n.name) ((values-follow (of_process thread.pid) run.journal other.journal (alike.journals.acts (of_process thread.pid))).names None)
+  value_at-alike thread name args OfThread = ap (λ (n : Names). option_map Words n.name) ((values-follow (of_process thread.pid) run.journal other.journal (alike.journals.acts (of_process thread.pid))).names (Some thread.tid))
   value_at-alike thread name args Name = refl
+  value_at-alike thread name args File = ap (option_map Words) alike.file
   value_at-alike thread name args (Argument key) = refl
 
-  thread_keys-alike : thread_keys (accepted journal) ≡ thread_keys (accepted other)
-  thread_keys-alike = sym (own journal) ∙ ap (map (λ (row : ThreadRow). record { pid = row.pid; tid = row.tid })) (rows-follow journal other alike).threads ∙ own other
+  thread_keys-alike : thread_keys (accepted run.journal) ≡ thread_keys (accepted other.journal)
+  thread_keys-alike =
+      sym (own run.journal) ∙ ap (map (λ (row : ThreadRow). record { pid = row.pid; tid = row.tid })) (rows-follow run.journal other.journal alike.journals).threads ∙ own other.journal
     where
       own : (j : List Entry) → map (λ (row : ThreadRow). record { pid = row.pid; tid = row.tid }) (map (thread_row j) (thread_keys (accepted j))) ≡ thread_keys (accepted j)
       own j = map-map (λ (row : ThreadRow). record { pid = row.pid; tid = row.tid }) (thread_row j) (thread_keys (accepted j)) ∙ map-id (thread_keys (accepted j))
@@ -61,16 +63,16 @@ module _ (journal other : List Entry) (alike : AreAlike journal other) where
         same : (s : Span Bytes) → (timed_in (map (renumbered_span f) spans) (renumbered_span f s)).self_time ≡ (timed_in spans s).self_time
         same s = self_time-map (renumbered_span f) (λ s. refl) (λ s. refl) ranks spans s
 
-    thread_sums-alike : (thread : Thread) → thread_sums columns journal thread ≡ thread_sums columns other thread
+    thread_sums-alike : (thread : Thread) → thread_sums columns run thread ≡ thread_sums columns other thread
     thread_sums-alike thread =
         (λ i. map (λ (t : Timed). record { key = map (λ column. value_at-alike thread t.span.name t.span.args column i) columns; step = record { count = 1; total = length_of t.span; self_time = t.self_time } })
-        (with_self_times (closed_spans (thread_events thread journal))))
+        (with_self_times (closed_spans (thread_events thread run.journal))))
         ∙ thread_events-alike thread (λ es. map (keyed_span columns other thread) (with_self_times (closed_spans es)))
         (λ f rises es. ap (λ spans. map (keyed_span columns other thread) (with_self_times spans)) (closed_spans-renumbered f es) ∙ spans-renumbered thread f rises (closed_spans es))
-        journal other (alike.acts (of_process thread.pid))
+        run.journal other.journal (alike.journals.acts (of_process thread.pid))
 
-    pub journal_sums-alike : journal_sums columns journal ≡ journal_sums columns other
-    journal_sums-alike = λ i. flat_map (λ thread. thread_sums-alike thread i) (thread_keys-alike i)
+    run_sums-alike : run_sums columns run ≡ run_sums columns other
+    run_sums-alike = λ i. flat_map (λ thread. thread_sums-alike thread i) (thread_keys-alike i)
 
 head_of-alike : (run other : Run) → AreAlikeRuns run other → head_of run ≡ head_of other
 head_of-alike run other alike = λ i. record { runs = 1; files = alike.files i; unread = alike.unread i; counts = alike.journals.counts i }
@@ -81,13 +83,12 @@ heads-alike [] (other ∷ others) alike = elim alike [ ]
 heads-alike (run ∷ runs) [] alike = elim alike [ ]
 heads-alike (run ∷ runs) (other ∷ others) alike = λ i. head_of-alike run other alike.0 i ∷ heads-alike runs others alike.1 i
 
-sums-alike : (columns : List Column) (runs others : List Run) → AreAllAlike runs others →
-    flat_map (λ (run : Run). journal_sums columns run.journal) runs ≡ flat_map (λ (run : Run). journal_sums columns run.journal) others
+sums-alike : (columns : List Column) (runs others : List Run) → AreAllAlike runs others → flat_map (run_sums columns) runs ≡ flat_map (run_sums columns) others
 sums-alike columns [] [] alike = refl
 sums-alike columns [] (other ∷ others) alike = elim alike [ ]
 sums-alike columns (run ∷ runs) [] alike = elim alike [ ]
 sums-alike columns (run ∷ runs) (other ∷ others) alike =
-    λ i. journal_sums-alike run.journal other.journal alike.0.journals columns i ++ sums-alike columns runs others alike.1 i
+    λ i. run_sums-alike run other alike.0 columns i ++ sums-alike columns runs others alike.1 i
 
 -- runs that are alike have the same table
 pub table_of-alike : TablesFollowFromActs

@@ -1,14 +1,13 @@
 -- How the sums of a table are collected: row by row of a ledger's names, or span by span.
 use Rattle.std.specs.Prelude.{◌≡◌, ℕ, ◌+◌, ◌≤◌, List, [], ◌++◌, All, map}
 use Rattle.span_keyed_tracks.specs.Keyed.{Keyed}
-use Rattle.span_ledger.specs.declared.entry.Entry.{Entry}
 use Rattle.span_ledger.specs.declared.rows.SpanRow.{SpanRow}
 use Rattle.span_ledger.specs.Order.{thread_of_span}
 use Rattle.span_ledger.specs.Rows.{span_rows}
 use Rattle.std.specs.Map.{values_of}
 use Rattle.span_table.specs.declared.column.Column.{Column}
 use Rattle.span_table.specs.declared.sums.Sums.{Sums}
-use Rattle.span_table.specs.Columns.{value_at}
+use Rattle.span_table.specs.Columns.{Run, value_at}
 use Rattle.span_table.specs.Keys.{TableKey}
 use Rattle.span_table.specs.Tables.{KeyedSums, SumsByKey, summed}
 
@@ -35,9 +34,9 @@ abbrev pub Takes : SumsByKey → SumsByKey → KeyedSums → Type 0
 Takes old new more = (sums : KeyedSums) → old ≡ summed sums → new ≡ summed (sums ++ more)
 
 -- a row of a thread's names, under the key that its spans have
-abbrev pub keyed_span_row : List Column → List Entry → SpanRow → Keyed TableKey Sums
-keyed_span_row columns journal row = record { key = map (value_at journal (thread_of_span row) row.name []) columns; step = sums_of_row row }
+abbrev pub keyed_span_row : List Column → Run → SpanRow → Keyed TableKey Sums
+keyed_span_row columns run row = record { key = map (value_at run (thread_of_span row) row.name []) columns; step = sums_of_row row }
 
 -- all of them
-abbrev pub row_sums : List Column → List Entry → KeyedSums
-row_sums columns journal = map (keyed_span_row columns journal) (span_rows journal)
+abbrev pub row_sums : List Column → Run → KeyedSums
+row_sums columns run = map (keyed_span_row columns run) (span_rows run.journal)

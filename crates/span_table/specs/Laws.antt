@@ -17,11 +17,12 @@ use Rattle.span_table.specs.declared.table.Row.{Row}
 use Rattle.span_table.specs.Keys.{TableKey, key_cmp}
 use Rattle.span_table.specs.Tables.{Run, RowsRise, table_of}
 
--- two runs have journals that are alike, and as many files, of which as many were refused
+-- two runs have journals that are alike, and as many files, of which as many were refused, and the same name of an only file
 pub record AreAlikeRuns (run other : Run) : Type 0 where
   pub journals : AreAlike run.journal other.journal
   pub files : run.files ≡ other.files
   pub unread : run.unread ≡ other.unread
+  pub file : run.file ≡ other.file
 
 -- each run is alike the one at its place
 abbrev pub AreAllAlike : List Run → List Run → Type 0

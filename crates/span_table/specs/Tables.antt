@@ -1,9 +1,8 @@
 -- Tables: the closed spans of runs, summed by columns.
-use Rattle.std.specs.Prelude.{ℕ, List, map, flat_map, sum_by}
+use Rattle.std.specs.Prelude.{List, map, flat_map, sum_by}
 use Rattle.std.specs.List.Sorted.{IsStrictlySortedBy}
 use Rattle.span_event.specs.declared.thread.Thread.{Thread}
 use Rattle.span_keyed_tracks.specs.Keyed.{Keyed, entries_in}
-use Rattle.span_ledger.specs.declared.entry.Entry.{Entry}
 use Rattle.span_ledger.specs.declared.rows.CountRow.{CountRow}
 use Rattle.span_ledger.specs.Journal.{accepted}
 use Rattle.span_ledger.specs.Rows.{count_row, thread_keys}
@@ -14,13 +13,8 @@ use Rattle.span_table.specs.declared.sums.Sums.{Sums}
 use Rattle.span_table.specs.declared.table.Head.{Head}
 use Rattle.span_table.specs.declared.table.Row.{Row}
 use Rattle.span_table.specs.Columns.{value_at}
+pub use Rattle.span_table.specs.Columns.{Run}
 use Rattle.span_table.specs.Keys.{TableKey, key_cmp}
-
--- what one ledger holds once it is closed, the number of its files, and how many of them were refused as a whole
-pub record Run : Type 0 where
-  pub journal : List Entry
-  pub files : ℕ
-  pub unread : ℕ
 
 -- a closed span with its self time
 abbrev pub sums_of : Timed → Sums
@@ -39,16 +33,16 @@ abbrev pub KeyedSums : Type 0
 KeyedSums = List (Keyed TableKey Sums)
 
 -- a closed span of a thread, under its key
-abbrev pub keyed_span : List Column → List Entry → Thread → Timed → Keyed TableKey Sums
-keyed_span columns journal thread t = record { key = map (value_at journal thread t.span.name t.span.args) columns; step = sums_of t }
+abbrev pub keyed_span : List Column → Run → Thread → Timed → Keyed TableKey Sums
+keyed_span columns run thread t = record { key = map (value_at run thread t.span.name t.span.args) columns; step = sums_of t }
 
 -- the closed spans of a thread
-abbrev pub thread_sums : List Column → List Entry → Thread → KeyedSums
-thread_sums columns journal thread = map (keyed_span columns journal thread) (timed_spans journal thread)
+abbrev pub thread_sums : List Column → Run → Thread → KeyedSums
+thread_sums columns run thread = map (keyed_span columns run thread) (timed_spans run.journal thread)
 
--- those of all threads of a journal
-abbrev pub journal_sums : List Column → List Entry → KeyedSums
-journal_sums columns journal = flat_map (thread_sums columns journal) (thread_keys (accepted journal))
+-- those of all threads of a run
+abbrev pub run_sums : List Column → Run → KeyedSums
+run_sums columns run = flat_map (thread_sums columns run) (thread_keys (accepted run.journal))
 
 -- each key with its sums
 abbrev pub SumsByKey : Type 0
@@ -102,5 +96,5 @@ abbrev pub table_of : List Column → List Run → SpanTable
 table_of columns runs = record {
   columns = columns;
   head = heads_together (map head_of runs);
-  rows = rows_of (flat_map (λ (run : Run). journal_sums columns run.journal) runs);
+  rows = rows_of (flat_map (run_sums columns) runs);
 }

@@ -9,44 +9,45 @@ ghost use Rattle.span_table.specs.Keys.{key_cmp};
 ghost use Rattle.span_event.specs.Time.{distance};
 ghost use Rattle.span_ledger.specs.Order.{thread_of_row};
 ghost use Rattle.span_ledger.specs.Timed.{timed_spans};
-ghost use Rattle.span_table.specs.Tables.{journal_sums, keyed_span, summed, sums_together, thread_sums};
+ghost use Rattle.span_table.specs.Tables.{keyed_span, run_sums, summed, sums_together, thread_sums};
 
 use crate::column::Column;
 use crate::groups::Groups;
 use crate::key::Key;
+use crate::run::LedgerRun;
 use crate::sums::Sums;
 use span_event::{Args, Text, Thread};
 use span_keyed_tracks::HashKeys;
-use span_ledger::{Ledger, SpanRow, ThreadRow, TimedSpan};
+use span_ledger::{SpanRow, ThreadRow, TimedSpan};
 use std::alloc::{AllocError, Global};
 
-/// The sums of a ledger's closed spans by columns, keys in ascending order.
+/// The sums of a run's closed spans by columns, keys in ascending order.
 pub(crate) fn summed(
     alloc: Global,
     keys: HashKeys,
-    ledger: &Ledger,
+    run: &LedgerRun,
     columns: &[Column],
 ) -> Result<Vec<(Key, Sums)>, AllocError>
-    ensures { IfOk result (λ entries. entries.items ≡ summed (journal_sums columns.now ledger.now.journal)) }
+    ensures { IfOk result (λ entries. entries.items ≡ summed (run_sums columns.now run.now)) }
 {
     let mut groups = Groups::new(alloc, keys);
-    add_all(alloc, &mut groups, ledger, columns)?;
+    add_all(alloc, &mut groups, run, columns)?;
     groups.into_entries()
 }
 
 fn add_all(
     alloc: Global,
     groups: &mut Groups<Sums>,
-    ledger: &Ledger,
+    run: &LedgerRun,
     columns: &[Column],
 ) -> Result<(), AllocError>
     requires { groups.old ≡ [] }
-    ensures { OnOk result (groups.new ≡ summed (journal_sums columns.now ledger.now.journal)) }
+    ensures { OnOk result (groups.new ≡ summed (run_sums columns.now run.now)) }
 {
     if has_argument(columns) {
-        return add_spans(alloc, groups, ledger, columns);
+        return add_spans(alloc, groups, run, columns);
     }
-    add_rows(alloc, groups, ledger, columns)
+    add_rows(alloc, groups, run, columns)
 }
 
 fn has_argument(columns: &[Column]) -> bool
@@ -59,15 +60,15 @@ fn has_argument(columns: &[Column]) -> bool
 fn add_rows(
     alloc: Global,
     groups: &mut Groups<Sums>,
-    ledger: &Ledger,
+    run: &LedgerRun,
     columns: &[Column],
 ) -> Result<(), AllocError>
     requires { groups.old ≡ [] }
-    ensures { OnOk result (groups.new ≡ summed (row_sums columns.now ledger.now.journal)) }
+    ensures { OnOk result (groups.new ≡ summed (row_sums columns.now run.now)) }
 {
-    let rows = ledger.span_rows(alloc)?;
+    let rows = run.ledger.span_rows(alloc)?;
     for row in &rows {
-        add_row(alloc, groups, ledger, columns, row)?;
+        add_row(alloc, groups, run, columns, row)?;
     }
     Ok(())
 }
@@ -75,27 +76,20 @@ fn add_rows(
 fn add_row(
     alloc: Global,
     groups: &mut Groups<Sums>,
-    ledger: &Ledger,
+    run: &LedgerRun,
     columns: &[Column],
     row: &SpanRow,
 ) -> Result<(), AllocError>
     requires { AllWithin (2 ^ 200) groups.old }
     ensures takes { OnOk result
-        (Takes groups.old groups.new (keyed_span_row columns.now ledger.now.journal row.now ∷ [])) }
+        (Takes groups.old groups.new (keyed_span_row columns.now run.now row.now ∷ [])) }
     ensures bound { OnOk result ((most : ℕ) → AllWithin most groups.old → AllWithin (most + 2 ^ 128) groups.new) }
 {
     let thread = Thread {
         pid: row.pid,
         tid: row.tid,
     };
-    let key = key_of(
-        alloc,
-        ledger,
-        columns,
-        thread,
-        &row.name,
-        &Args::empty(alloc),
-    )?;
+    let key = key_of(alloc, run, columns, thread, &row.name, &Args::empty(alloc))?;
     add(groups, key, Sums::of_row(row))
 }
 
@@ -103,15 +97,15 @@ fn add_row(
 fn add_spans(
     alloc: Global,
     groups: &mut Groups<Sums>,
-    ledger: &Ledger,
+    run: &LedgerRun,
     columns: &[Column],
 ) -> Result<(), AllocError>
     requires { groups.old ≡ [] }
-    ensures { OnOk result (groups.new ≡ summed (journal_sums columns.now ledger.now.journal)) }
+    ensures { OnOk result (groups.new ≡ summed (run_sums columns.now run.now)) }
 {
-    let threads = ledger.threads(alloc)?;
+    let threads = run.ledger.threads(alloc)?;
     for row in &threads {
-        add_thread(alloc, groups, ledger, columns, thread_of(row))?;
+        add_thread(alloc, groups, run, columns, thread_of(row))?;
     }
     Ok(())
 }
@@ -119,18 +113,18 @@ fn add_spans(
 fn add_thread(
     alloc: Global,
     groups: &mut Groups<Sums>,
-    ledger: &Ledger,
+    run: &LedgerRun,
     columns: &[Column],
     thread: Thread,
 ) -> Result<(), AllocError>
     requires { AllWithin (2 ^ 199) groups.old }
     ensures takes { OnOk result
-        (Takes groups.old groups.new (thread_sums columns.now ledger.now.journal thread)) }
+        (Takes groups.old groups.new (thread_sums columns.now run.now thread)) }
     ensures bound { OnOk result ((most : ℕ) → AllWithin most groups.old → AllWithin (most + 2 ^ 128) groups.new) }
 {
-    let spans = timed_spans(alloc, ledger, thread)?;
+    let spans = timed_spans(alloc, run, thread)?;
     for span in &spans {
-        add_span(alloc, groups, ledger, columns, thread, span)?;
+        add_span(alloc, groups, run, columns, thread, span)?;
     }
     Ok(())
 }
@@ -144,31 +138,31 @@ fn thread_of(row: &ThreadRow) -> Thread
     }
 }
 
-fn timed_spans(
+fn timed_spans<'a>(
     alloc: Global,
-    ledger: &Ledger,
+    run: &LedgerRun<'a>,
     thread: Thread,
-) -> Result<Vec<TimedSpan<'_>>, AllocError>
-    ensures { IfOk result (λ spans. spans.items ≡ timed_spans ledger.now.journal thread) }
+) -> Result<Vec<TimedSpan<'a>>, AllocError>
+    ensures { IfOk result (λ spans. spans.items ≡ timed_spans run.now.journal thread) }
 {
-    ledger.timed_spans(alloc, thread.pid, thread.tid)
+    run.ledger.timed_spans(alloc, thread.pid, thread.tid)
 }
 
 fn add_span(
     alloc: Global,
     groups: &mut Groups<Sums>,
-    ledger: &Ledger,
+    run: &LedgerRun,
     columns: &[Column],
     thread: Thread,
     timed: &TimedSpan,
 ) -> Result<(), AllocError>
     requires { AllWithin (2 ^ 200) groups.old }
     ensures takes { OnOk result
-        (Takes groups.old groups.new (keyed_span columns.now ledger.now.journal thread timed.now ∷ [])) }
+        (Takes groups.old groups.new (keyed_span columns.now run.now thread timed.now ∷ [])) }
     ensures bound { OnOk result ((most : ℕ) → AllWithin most groups.old → AllWithin (most + 2 ^ 64) groups.new) }
 {
     let span = timed.span;
-    let key = key_of(alloc, ledger, columns, thread, timed.name, &span.args)?;
+    let key = key_of(alloc, run, columns, thread, timed.name, &span.args)?;
     let sums = Sums::of_span(length(span.start, span.until), timed.self_time);
     add(groups, key, sums)
 }
@@ -187,17 +181,17 @@ fn length(start: i64, until: i64) -> u64
 // The key of a span of a thread.
 fn key_of(
     alloc: Global,
-    ledger: &Ledger,
+    run: &LedgerRun,
     columns: &[Column],
     thread: Thread,
     name: &Text,
     args: &Args,
 ) -> Result<Key, AllocError>
-    ensures { IfOk result (λ key. key ≡ map (value_at ledger.now.journal thread name.now args.now) columns.now) }
+    ensures { IfOk result (λ key. key ≡ map (value_at run.now thread name.now args.now) columns.now) }
 {
     let mut values = Vec::with_capacity(alloc, columns.len())?;
     for column in columns {
-        values.push(column.value(alloc, ledger, thread, name, args)?)?;
+        values.push(column.value(alloc, run, thread, name, args)?)?;
     }
     Ok(Key::of(values))
 }

@@ -3,11 +3,11 @@ ghost use Rattle.std.specs.Prelude.{◌≡◌, option_copied, option_map, IfOk};
 ghost use Rattle.span_event.specs.declared.args.ArgValue.TheVariants.{Words};
 ghost use Rattle.span_table.specs.Columns.{column_name, is_argument, value_at};
 
+use crate::run::LedgerRun;
 use span_event::{ArgValue, Args, Text, Thread};
-use span_ledger::Ledger;
 use std::alloc::{AllocError, Global};
 
-/// A column of a table. A process or a thread may have no name, and a span not the argument.
+/// A column of a table. A process or a thread may have no name, a run not just one file with a name, and a span not the argument.
 #[derive(Debug, Drop, PartialEq, Eq)]
 pub enum Column {
     Pid,
@@ -15,6 +15,8 @@ pub enum Column {
     Process,
     Thread,
     Name,
+    /// The name of the only file of the run.
+    File,
     /// An argument of the span, by its key: `args.KEY`.
     Argument(Text),
 }
@@ -30,6 +32,7 @@ impl Column {
             Column::Process => Text::of(alloc, "process"),
             Column::Thread => Text::of(alloc, "thread"),
             Column::Name => Text::of(alloc, "name"),
+            Column::File => Text::of(alloc, "file"),
             Column::Argument(key) => {
                 let key = key.as_str();
                 let name = format!(in alloc; "args.{key}")?;
@@ -47,6 +50,7 @@ impl Column {
             Column::Process => Column::Process,
             Column::Thread => Column::Thread,
             Column::Name => Column::Name,
+            Column::File => Column::File,
             Column::Argument(key) => Column::Argument(key.try_clone(alloc)?),
         })
     }
@@ -57,23 +61,24 @@ impl Column {
         matches!(self, Column::Argument(_))
     }
 
-    /// The value of the column at a closed span of a thread, by the name and the arguments of the span. Texts are shared.
+    /// The value of the column at a closed span of a thread of a run, by the name and the arguments of the span. Texts are shared.
     pub(crate) fn value(
         &self,
         alloc: Global,
-        ledger: &Ledger,
+        run: &LedgerRun,
         thread: Thread,
         name: &Text,
         args: &Args,
     ) -> Result<Option<ArgValue>, AllocError>
-        ensures { IfOk result (λ value. value ≡ value_at ledger.now.journal thread name.now args.now self.now) }
+        ensures { IfOk result (λ value. value ≡ value_at run.now thread name.now args.now self.now) }
     {
         match self {
             Column::Pid => Ok(Some(ArgValue::Whole(thread.pid))),
             Column::Tid => Ok(Some(ArgValue::Whole(thread.tid))),
-            Column::Process => words_of(alloc, ledger.process_name(thread.pid)),
-            Column::Thread => words_of(alloc, ledger.thread_name(thread.pid, thread.tid)),
+            Column::Process => words_of(alloc, run.ledger.process_name(thread.pid)),
+            Column::Thread => words_of(alloc, run.ledger.thread_name(thread.pid, thread.tid)),
             Column::Name => words_of(alloc, Some(name)),
+            Column::File => words_of(alloc, run.file),
             Column::Argument(key) => copy_of(alloc, args.get(key.as_str())),
         }
     }

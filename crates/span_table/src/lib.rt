@@ -13,6 +13,7 @@ mod key;
 pub mod laws;
 mod lines;
 mod rankings;
+mod run;
 mod shown;
 mod sum;
 mod sums;

@@ -1,11 +1,13 @@
 //! A table of spans.
-ghost use Rattle.std.specs.Prelude.{◌≡◌, ◌∷◌, [], map, IfOk};
+ghost use Rattle.std.specs.Prelude.{◌≡◌, ◌∷◌, [], map, option_copied, IfOk};
 ghost use Rattle.span_table.specs.Tables.{RowsRise, row_of, table_of};
 
 use crate::collected::summed;
 use crate::column::Column;
 use crate::key::Key;
+use crate::run::LedgerRun;
 use crate::sums::Sums;
+use span_event::Text;
 use span_keyed_tracks::HashKeys;
 use span_ledger::{CountRow, Ledger};
 use std::alloc::{AllocError, Global};
@@ -47,8 +49,8 @@ impl Model for Table {
 }
 
 impl Table {
-    /// The table of one run by these columns: that of a ledger of so many files, of which so many were refused as a whole. Maps that
-    /// a file fills are hashed by these keys.
+    /// The table of one run by these columns: that of a ledger of so many files, of which so many were refused as a whole, with the
+    /// name of its file if it has just one that has a name. Maps that a file fills are hashed by these keys.
     pub fn of(
         alloc: Global,
         keys: HashKeys,
@@ -56,10 +58,18 @@ impl Table {
         ledger: &Ledger,
         files: u64,
         unread: u64,
+        file: Option<&Text>,
     ) -> Result<Table, AllocError>
-        ensures { IfOk result (λ table. table ≡ table_of columns.now (record { journal = ledger.now.journal; files = files; unread = unread } ∷ [])) }
+        ensures { IfOk result (λ table. table
+            ≡ table_of columns.now (record { journal = ledger.now.journal; files = files; unread = unread; file = option_copied file.entry } ∷ [])) }
     {
-        let sums = summed(alloc, keys, ledger, columns)?;
+        let run = LedgerRun {
+            ledger,
+            files,
+            unread,
+            file,
+        };
+        let sums = summed(alloc, keys, &run, columns)?;
         let rows = rows_of(alloc, sums)?;
         let head = Head {
             runs: 1,

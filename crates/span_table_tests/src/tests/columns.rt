@@ -1,8 +1,11 @@
 //! The columns, the head and the rows of a table.
 
-use super::tabled::tabled;
-use span_ledger::CountRow;
+use super::tabled::{columns_of, tabled};
+use span_event::Text;
+use span_keyed_tracks::HashKeys;
+use span_ledger::{CountRow, Ledger};
 use span_table::{Head, Key, Row, Sum, Table};
+use span_test_support::told;
 use std::alloc::{AllocError, AllocGlobal, Global};
 use std::process::Abort;
 use std::test::Fail;
@@ -13,9 +16,10 @@ const EVENTS: &str =
     {"ph":"X","name":"b","ts":0,"dur":10,"pid":1,"tid":2,"args":{"k":"v"}},{"ph":"X","name":"a","ts":2,"dur":3,"pid":1,"tid":2},
     {"ph":"X","name":"b","ts":20,"dur":4,"pid":1,"tid":2,"args":{"k":"v"}},{"ph":"X","name":"a","ts":0,"dur":1,"pid":-9,"tid":3},5]"#;
 
-const BY_ALL: &str = r#"[Some(Whole(-9)), Some(Whole(3)), None, None, Some(Words("a")), None] 1 1 1
-[Some(Whole(1)), Some(Whole(2)), Some(Words("app")), Some(Words("io")), Some(Words("a")), None] 1 3 3
-[Some(Whole(1)), Some(Whole(2)), Some(Words("app")), Some(Words("io")), Some(Words("b")), Some(Words("v"))] 2 14 11
+const BY_ALL: &str =
+    r#"[Some(Whole(-9)), Some(Whole(3)), None, None, Some(Words("a")), None, None] 1 1 1
+[Some(Whole(1)), Some(Whole(2)), Some(Words("app")), Some(Words("io")), Some(Words("a")), None, None] 1 3 3
+[Some(Whole(1)), Some(Whole(2)), Some(Words("app")), Some(Words("io")), Some(Words("b")), None, Some(Words("v"))] 2 14 11
 "#;
 
 // A span of a microsecond for each value; those that aren't kept are one.
@@ -96,12 +100,12 @@ fn expect_rows(
 #[test]
 fn each_column_has_its_value(rt: HostRuntime) -> Result<(), Fail> {
     let alloc = rt.alloc();
-    let names = ["pid", "tid", "process", "thread", "name", "k"];
+    let names = ["pid", "tid", "process", "thread", "name", "file", "k"];
     let table = tabled(alloc, EVENTS, &names).ok_or("no table")?;
     assert_eq!(rt; rows_of(alloc, &table)?.as_str(), BY_ALL);
     assert_eq!(rt;
         names_of(alloc, &table)?.as_str(),
-        "pid\ntid\nprocess\nthread\nname\nargs.k\n"
+        "pid\ntid\nprocess\nthread\nname\nfile\nargs.k\n"
     );
     expect_head(&rt, &table);
     Ok(())
@@ -116,6 +120,30 @@ fn values_have_an_order(rt: HostRuntime) -> Result<(), Fail> {
 fn spans_are_added_over_threads(rt: HostRuntime) -> Result<(), Fail> {
     let want = "[Some(Words(\"a\"))] 2 4 4\n[Some(Words(\"b\"))] 2 14 11\n";
     expect_rows(&rt, EVENTS, &["name"], want)
+}
+
+const BY_FILE: &str = r#"[Some(Words("x.json")), Some(Words("a"))] 2 4 4
+[Some(Words("x.json")), Some(Words("b"))] 2 14 11
+"#;
+
+// The rows of a run of one file, by its name.
+fn by_file(alloc: Global, ledger: &Ledger, file: &str) -> Result<String, AllocError> {
+    let file = Text::of(alloc, file)?;
+    let columns = columns_of(alloc, &["file", "name"])?;
+    let keys = HashKeys::fixed();
+    let table = Table::of(alloc, keys, &columns, ledger, 1, 0, Some(&file));
+    drop(columns);
+    drop(file);
+    rows_of(alloc, &table?)
+}
+
+#[test]
+fn a_run_of_one_file_has_its_name(rt: HostRuntime) -> Result<(), Fail> {
+    let ledger = told(rt.alloc(), EVENTS).ok_or("not told")?;
+    let rows = by_file(rt.alloc(), &ledger, "x.json");
+    drop(ledger);
+    assert_eq!(rt; rows?.as_str(), BY_FILE);
+    Ok(())
 }
 
 #[test]

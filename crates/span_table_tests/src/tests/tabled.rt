@@ -7,7 +7,7 @@ use span_table::{Column, Shown, Table};
 use span_test_support::told_at_last;
 use std::alloc::{AllocError, Global};
 
-/// The columns with these names, which are `pid`, `tid`, `process`, `thread`, `name`, or else the key of an argument.
+/// The columns with these names, which are `pid`, `tid`, `process`, `thread`, `name`, `file`, or else the key of an argument.
 pub(super) fn columns_of(alloc: Global, names: &[&str]) -> Result<Vec<Column>, AllocError> {
     let mut columns = Vec::new(alloc);
     for name in names {
@@ -17,6 +17,7 @@ pub(super) fn columns_of(alloc: Global, names: &[&str]) -> Result<Vec<Column>, A
             "process" => Column::Process,
             "thread" => Column::Thread,
             "name" => Column::Name,
+            "file" => Column::File,
             key => Column::Argument(Text::of(alloc, key)?),
         })?;
     }
@@ -30,7 +31,7 @@ pub(super) fn table_of(
     names: &[&str],
 ) -> Result<Table, AllocError> {
     let columns = columns_of(alloc, names)?;
-    let table = Table::of(alloc, HashKeys::fixed(), &columns, ledger, 3, 1);
+    let table = Table::of(alloc, HashKeys::fixed(), &columns, ledger, 3, 1, None);
     drop(columns);
     table
 }

@@ -8,7 +8,7 @@ pub loop-row-preserved : goal.loop-row-preserved
 loop-row-preserved c =
     let items = c.deref-row-items.result.now in
     let at = c.loop-row.row-index in
-    let make = keyed_span_row c.args.columns.now c.args.ledger.now.journal in
+    let make = keyed_span_row c.args.columns.now c.args.run.now in
     let passed : map make (take (at + 1) items) ≡ map make (take at items) ++ make c.row-item.result ∷ [] =
     map_more make items at c.row-item.result c.loop-row-test.true ∙ ap (λ row. map make (take at items) ++ make row ∷ []) (sym c.row-item.is) in
     let more : at * 2 ^ 128 + 2 ^ 128 ≡ (at + 1) * 2 ^ 128 = omega arith in

@@ -9,6 +9,6 @@ use Rattle.span_table.proofs.collected.add_spans.Given as goal
 -- the spans of the threads so far are kept, each thread's of at most 128 bits
 abbrev pub invariant-loop-row : goal.invariant-loop-row
 invariant-loop-row l = record {
-  kept : l.groups ≡ summed (flat_map (λ (row : ThreadRow). thread_sums l.columns l.ledger.journal (thread_of_row row)) (take l.row-index l.row-items));
+  kept : l.groups ≡ summed (flat_map (λ (row : ThreadRow). thread_sums l.columns l.run (thread_of_row row)) (take l.row-index l.row-items));
   within : AllWithin (l.row-index * 2 ^ 128) l.groups;
 }

@@ -12,7 +12,7 @@ pub loop-span-preserved : goal.loop-span-preserved
 loop-span-preserved c =
     let items = c.deref-span-items.result.now in
     let at = c.loop-span.span-index in
-    let make = keyed_span c.args.columns.now c.args.ledger.now.journal c.args.thread in
+    let make = keyed_span c.args.columns.now c.args.run.now c.args.thread in
     let passed : map make (take (at + 1) items) ≡ map make (take at items) ++ make c.span-item.result ∷ [] =
     map_more make items at c.span-item.result c.loop-span-test.true ∙ ap (λ span. map make (take at items) ++ make span ∷ []) (sym c.span-item.is) in
     record {
@@ -26,7 +26,7 @@ loop-span-preserved c =
 
 pub returns-clause-takes : goal.returns-clause-takes
 returns-clause-takes c = λ sums old.
-    let make = keyed_span c.args.columns.now c.args.ledger.now.journal c.args.thread in
+    let make = keyed_span c.args.columns.now c.args.run.now c.args.thread in
     c.loop-span.invariant.kept sums old
     ∙ ap (λ spans. summed (sums ++ map make spans)) (take_all c.loop-span.span-index c.deref-span-items.result.now c.loop-span-test.false ∙ c.deref-span-items.ensures.value ∙ c.in_ok-spans.ensures)
 

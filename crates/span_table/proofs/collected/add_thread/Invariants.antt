@@ -6,6 +6,6 @@ use Rattle.span_table.proofs.collected.add_thread.Given as goal
 -- the spans so far are kept with what was kept before, each of at most 64 bits
 abbrev pub invariant-loop-span : goal.invariant-loop-span
 invariant-loop-span l = record {
-  kept : Takes l.fn.groups l.groups (map (keyed_span l.columns l.ledger.journal l.thread) (take l.span-index l.span-items));
+  kept : Takes l.fn.groups l.groups (map (keyed_span l.columns l.run l.thread) (take l.span-index l.span-items));
   within : (most : ℕ) → AllWithin most l.fn.groups → AllWithin (most + l.span-index * 2 ^ 64) l.groups;
 }

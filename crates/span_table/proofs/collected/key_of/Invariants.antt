@@ -4,4 +4,4 @@ use Rattle.span_table.proofs.collected.key_of.Given as goal
 
 -- the values of the columns so far
 abbrev pub invariant-loop-column : goal.invariant-loop-column
-invariant-loop-column l = l.values.items ≡ map (value_at l.ledger.journal l.thread l.name l.args) (take l.column-index l.columns)
+invariant-loop-column l = l.values.items ≡ map (value_at l.run l.thread l.name l.args) (take l.column-index l.columns)

@@ -1,7 +1,7 @@
-use Rattle.span_table.specs.Tables.{Run, journal_sums}
+use Rattle.span_table.specs.Tables.{run_sums}
 use Rattle.std.specs.Prelude.{flat_map}
 use Rattle.span_table.proofs.Rows.{RowsRise-rows_of}
 use Rattle.span_table.proofs.laws.key_law.Goals as goal
 
 pub returns : goal.returns
-returns c = λ columns runs. RowsRise-rows_of (flat_map (λ (run : Run). journal_sums columns run.journal) runs)
+returns c = λ columns runs. RowsRise-rows_of (flat_map (run_sums columns) runs)
