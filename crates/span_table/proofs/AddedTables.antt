@@ -21,7 +21,7 @@ use Rattle.span_ledger.specs.Timed.{Timed, timed_spans}
 use Rattle.span_self_time.proofs.Mapped.{sum_by-map}
 use Rattle.span_table.specs.declared.column.Column.{Column}
 use Rattle.span_table.specs.declared.sums.Sums.{Sums}
-use Rattle.span_table.specs.declared.table.Head.{Head}
+use Rattle.span_table.specs.declared.heads.Head.{Head}
 use Rattle.span_table.specs.declared.table.Row.{Row}
 use Rattle.span_table.specs.Adding.{AddingLosesNothing, DroppingAdds, OrderIsNothing, keyed_by, keyed_rows, picked}
 use Rattle.span_table.specs.Columns.{value_at}

@@ -4,7 +4,7 @@ use Rattle.std.specs.Prelude.{codes, decimal}
 use Rattle.span_event.specs.Text.{Bytes}
 use Rattle.span_table.specs.declared.changes.Both.{Both}
 use Rattle.span_table.specs.declared.column.Column.{Column}
-use Rattle.span_table.specs.declared.table.Head.{Head}
+use Rattle.span_table.specs.declared.heads.Head.{Head}
 use Rattle.span_table.specs.declared.table.Row.{Row}
 use Rattle.span_table.specs.Json.{both_members, columns_json, head_members, json_change, json_head, json_heads, json_line, object_of, member_of, number_member, sums_members, value_member, value_members, with_commas}
 use Rattle.span_table.specs.JsonPieces.{both_text, count_text, counts_text, ends_text, other_text, selves_text, spans_text, totals_text, end_text, events_text, files_text, head_text, heads_text, others_text, members_text, start_text, sums_text}

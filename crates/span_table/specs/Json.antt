@@ -5,12 +5,13 @@ use Rattle.std.specs.Fmt.{signed_decimal}
 use Rattle.span_event.specs.declared.args.ArgValue.{ArgValue}
 use Rattle.span_event.specs.declared.args.ArgValue.TheVariants.{Nil, Flag, Whole, Words, Other}
 use Rattle.span_event.specs.Text.{Bytes}
+use Rattle.span_ledger.specs.declared.rows.CountRow.{CountRow}
 use Rattle.span_report.specs.Lines.{json_text_of}
 use Rattle.span_table.specs.declared.changes.Both.{Both}
 use Rattle.span_table.specs.declared.column.Column.{Column}
 use Rattle.span_table.specs.declared.sums.By.TheVariants.{SelfTime}
 use Rattle.span_table.specs.declared.sums.Sums.{Sums}
-use Rattle.span_table.specs.declared.table.Head.{Head}
+use Rattle.span_table.specs.declared.heads.Head.{Head}
 use Rattle.span_table.specs.declared.table.Row.{Row}
 use Rattle.span_table.specs.Changes.{Change, changes_of, compared, same_count, shown_changes}
 use Rattle.span_table.specs.Columns.{column_name}
@@ -89,9 +90,18 @@ json_of wanted table = let shown = shown_rows wanted table.rows in
 abbrev pub fit : Sums → Bool
 fit sums = nat_lt sums.count (2 ^ 64) && (nat_lt sums.total (2 ^ 64) && nat_lt sums.self_time (2 ^ 64))
 
--- all sums that are shown have 64 bits
+-- the counts have 64 bits
+abbrev pub counts_fit : CountRow → Bool
+counts_fit counts =
+    nat_lt counts.accepted (2 ^ 64) && (nat_lt counts.refused (2 ^ 64) && (nat_lt counts.skipped (2 ^ 64) && (nat_lt counts.queries (2 ^ 64) && nat_lt counts.seals (2 ^ 64))))
+
+-- the numbers of the head have 64 bits
+abbrev pub head_fits : Head → Bool
+head_fits head = nat_lt head.runs (2 ^ 64) && (nat_lt head.files (2 ^ 64) && (nat_lt head.unread (2 ^ 64) && counts_fit head.counts))
+
+-- the head, and all sums that are shown, have 64 bits
 abbrev pub json_fits : Wanted → SpanTable → Bool
-json_fits wanted table = list_all (λ (row : Row). fit row.sums) (shown_rows wanted table.rows)
+json_fits wanted table = head_fits table.head && list_all (λ (row : Row). fit row.sums) (shown_rows wanted table.rows)
 
 -- the sums of both sides
 abbrev pub both_members : Both → List Bytes
@@ -117,6 +127,10 @@ json_comparison_of wanted base other =
     let changes = changes_of SelfTime shown in
     json_heads other.columns (length changes) (same_count shown) base.head other.head ++ flat_map (json_change other.columns) changes
 
--- all sums of the changes that are shown have 64 bits
+-- both sums have 64 bits
+abbrev pub both_fit : Change → Bool
+both_fit change = fit change.both.base && fit change.both.other
+
+-- both heads, and all sums of the changes that are shown, have 64 bits
 abbrev pub json_changes_fit : Wanted → SpanTable → SpanTable → Bool
-json_changes_fit wanted base other = list_all (λ (change : Change). fit change.both.base && fit change.both.other) (changes_of SelfTime (shown_changes wanted (compared base.rows other.rows)))
+json_changes_fit wanted base other = (head_fits base.head && head_fits other.head) && list_all both_fit (changes_of SelfTime (shown_changes wanted (compared base.rows other.rows)))

@@ -6,7 +6,7 @@ use Rattle.span_table.specs.declared.column.Column.{Column}
 use Rattle.span_table.specs.Columns.{Value}
 use Rattle.span_ledger.specs.declared.rows.CountRow.{CountRow}
 use Rattle.span_table.specs.declared.sums.Sums.{Sums}
-use Rattle.span_table.specs.declared.table.Head.{Head}
+use Rattle.span_table.specs.declared.heads.Head.{Head}
 use Rattle.span_table.specs.Json.{sums_members, value_member, with_commas}
 use Rattle.span_table.specs.Keys.{TableKey}
 

@@ -4,6 +4,7 @@ pub mod Changes
 pub mod Collected
 pub mod Columns
 pub mod Comparison
+pub mod Heads
 pub mod Json
 pub mod JsonPieces
 pub mod KeyLaws

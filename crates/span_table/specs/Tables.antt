@@ -10,7 +10,7 @@ use Rattle.span_ledger.specs.Timed.{Timed, timed_spans}
 use Rattle.span_self_time.specs.Spans.{length_of}
 use Rattle.span_table.specs.declared.column.Column.{Column}
 use Rattle.span_table.specs.declared.sums.Sums.{Sums}
-use Rattle.span_table.specs.declared.table.Head.{Head}
+use Rattle.span_table.specs.declared.heads.Head.{Head}
 use Rattle.span_table.specs.declared.table.Row.{Row}
 use Rattle.span_table.specs.Columns.{value_at}
 pub use Rattle.span_table.specs.Columns.{Run}

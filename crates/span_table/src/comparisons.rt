@@ -5,13 +5,13 @@ ghost use Rattle.span_table.specs.Pieces.{both_text, change_names, then_right, t
 
 use crate::changes::{Both, Changed, differences};
 use crate::column::Column;
-use crate::lines::{put_right, put_shown, put_titles, put_values};
+use crate::heads::HeadCounts;
+use crate::lines::{put_counts, put_right, put_seals, put_shown, put_titles, put_values};
 use crate::shown::Shown;
 use crate::sum::Sum;
 use crate::sums::By;
 use crate::table::Table;
-use span_ledger::CountRow;
-use span_report::{first_line, put_counts, put_seals};
+use span_report::first_line;
 use std::alloc::{AllocError, Global};
 use std::cmp::Ordering;
 
@@ -30,8 +30,8 @@ pub fn comparison(
     ensures { IfOk result (λ text. text.items ≡ comparison_of by shown.now base.now other.now) }
 {
     let mut out = first_line(alloc)?;
-    put_base(&mut out, base.head().counts)?;
-    put_other(&mut out, other.head().counts)?;
+    put_base(&mut out, &base.head().counts)?;
+    put_other(&mut out, &other.head().counts)?;
     let found = differences(alloc, base.rows(), other.rows(), shown, by)?;
     put_shown(&mut out, shown, found.shown, found.all)?;
     put_columns(alloc, &mut out, other.columns())?;
@@ -40,8 +40,8 @@ pub fn comparison(
     Ok(out.into_bytes())
 }
 
-fn put_base(out: &mut String, counts: CountRow) -> Result<(), AllocError>
-    ensures { OnOk result (string_bytes out.new ≡ string_bytes out.old ++ base_lines counts) }
+fn put_base(out: &mut String, counts: &HeadCounts) -> Result<(), AllocError>
+    ensures { OnOk result (string_bytes out.new ≡ string_bytes out.old ++ base_lines counts.now) }
 {
     out.push_str("base ")?;
     put_counts(out, counts)?;
@@ -52,8 +52,8 @@ fn put_base(out: &mut String, counts: CountRow) -> Result<(), AllocError>
     put_seals(out, counts.seals)
 }
 
-fn put_other(out: &mut String, counts: CountRow) -> Result<(), AllocError>
-    ensures { OnOk result (string_bytes out.new ≡ string_bytes out.old ++ other_lines counts) }
+fn put_other(out: &mut String, counts: &HeadCounts) -> Result<(), AllocError>
+    ensures { OnOk result (string_bytes out.new ≡ string_bytes out.old ++ other_lines counts.now) }
 {
     put_counts(out, counts)?;
     put_seals(out, counts.seals)

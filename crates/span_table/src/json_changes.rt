@@ -2,15 +2,18 @@
 ghost use Rattle.std.specs.Prelude.{◌≡◌, ◌++◌, ◌&&◌, true, false, flat_map, length, string_bytes, IfOk, IfErr, OnOk};
 ghost use Rattle.std.specs.List.{list_all};
 ghost use Rattle.span_table.specs.declared.json_lines.JsonFault.TheVariants.{TooGreat};
-ghost use Rattle.span_table.specs.Json.{fit, json_change, json_changes_fit, json_comparison_of, json_heads};
+ghost use Rattle.span_table.specs.Json.{both_fit, head_fits, json_change, json_changes_fit, json_comparison_of, json_heads};
 ghost use Rattle.span_table.specs.JsonPieces.{both_text, counts_text, ends_text, heads_text, other_text, selves_text, spans_text, totals_text};
 
 use crate::changes::{Both, Changed, ComparedTables, differences};
 use crate::column::Column;
-use crate::json_lines::{JsonFault, fits, put_columns, put_end, put_head, put_members, put_start};
+use crate::heads::Head;
+use crate::json_lines::{
+    JsonFault, fits, head_fits, put_columns, put_end, put_head, put_members, put_start,
+};
 use crate::shown::Shown;
 use crate::sums::By;
-use crate::table::{Head, Table};
+use crate::table::Table;
 use std::alloc::{AllocError, Global};
 
 /// What changed between two tables of the same columns, for machines: of the keys that are shown those of which a number differs, the
@@ -28,7 +31,7 @@ pub fn json_comparison(
     let Ok(found) = differences(alloc, base.rows(), other.rows(), shown, By::SelfTime) else {
         return Err(JsonFault::Memory);
     };
-    if !all_fit(&found.changes) {
+    if !heads_fit(base, other) || !all_fit(&found.changes) {
         return Err(JsonFault::TooGreat);
     }
     match text_of(alloc, base, other, &found) {
@@ -37,8 +40,14 @@ pub fn json_comparison(
     }
 }
 
+fn heads_fit(base: &Table, other: &Table) -> bool
+    ensures { result ≡ (head_fits base.now.head && head_fits other.now.head) }
+{
+    head_fits(&base.head()) && head_fits(&other.head())
+}
+
 fn all_fit(changes: &[Changed]) -> bool
-    ensures { result ≡ list_all (λ change. fit change.both.base && fit change.both.other) changes.now }
+    ensures { result ≡ list_all both_fit changes.now }
 {
     changes.iter().all(|change| fits(&change.both.base) && fits(&change.both.other))
 }

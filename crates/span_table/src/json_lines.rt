@@ -1,16 +1,16 @@
 //! The rows of a table for machines: JSON Lines.
-ghost use Rattle.std.specs.Prelude.{◌≡◌, ◌++◌, ◌∷◌, true, false, map, flat_map, length, string_bytes, IfOk, IfErr, OnOk};
+ghost use Rattle.std.specs.Prelude.{◌≡◌, ◌^◌, nat_lt, ◌++◌, ◌∷◌, true, false, map, flat_map, length, string_bytes, IfOk, IfErr, OnOk};
 ghost use Rattle.std.specs.List.{join_with_byte, list_all};
 ghost use Rattle.span_table.specs.declared.json_lines.JsonFault.TheVariants.{TooGreat};
-ghost use Rattle.span_table.specs.Json.{column_json, columns_json, fit, json_fits, json_head, json_line, json_of, json_of_value};
+ghost use Rattle.span_table.specs.Json.{column_json, columns_json, counts_fit, fit, head_fits, json_fits, json_head, json_line, json_of, json_of_value};
 ghost use Rattle.span_table.specs.JsonPieces.{count_text, end_text, events_text, files_text, head_text, member_text, members_text, others_text, start_text, sums_text};
 
 use crate::column::Column;
+use crate::heads::{Head, HeadCounts};
 use crate::shown::{Shown, ShownRow};
 use crate::sums::Sums;
-use crate::table::{Head, Row, Table};
+use crate::table::{Row, Table};
 use span_event::ArgValue;
-use span_ledger::CountRow;
 use span_report::json_text;
 use std::alloc::{AllocError, Global};
 
@@ -19,7 +19,7 @@ use std::alloc::{AllocError, Global};
 pub enum JsonFault {
     /// 31: memory was refused.
     Memory,
-    /// 55: a sum has more than 64 bits.
+    /// 55: a sum, or a number of a head, has more than 64 bits.
     TooGreat,
 }
 
@@ -32,7 +32,7 @@ pub fn json_table(alloc: Global, table: &Table, shown: &Shown) -> Result<Vec<u8>
     let Ok(rows) = shown.rows(alloc, table.rows()) else {
         return Err(JsonFault::Memory);
     };
-    if !all_fit(&rows) {
+    if !head_fits(&table.head()) || !all_fit(&rows) {
         return Err(JsonFault::TooGreat);
     }
     match text_of(alloc, table, &rows) {
@@ -54,6 +54,33 @@ pub(crate) fn fits(sums: &Sums) -> bool
     sums.count.as_u64().is_some()
         && sums.total.as_u64().is_some()
         && sums.self_time.as_u64().is_some()
+}
+
+/// Whether the numbers of the head have 64 bits.
+pub(crate) fn head_fits(head: &Head) -> bool
+    ensures { result ≡ head_fits head.now }
+{
+    is_narrow(head.runs)
+        && is_narrow(head.files)
+        && is_narrow(head.unread)
+        && counts_fit(&head.counts)
+}
+
+fn counts_fit(counts: &HeadCounts) -> bool
+    ensures { result ≡ counts_fit counts.now }
+{
+    is_narrow(counts.accepted)
+        && is_narrow(counts.refused)
+        && is_narrow(counts.skipped)
+        && is_narrow(counts.queries)
+        && is_narrow(counts.seals)
+}
+
+// Whether the number has 64 bits.
+fn is_narrow(number: u128) -> bool
+    ensures { result ≡ nat_lt number (2 ^ 64) }
+{
+    number < 1 << 64
 }
 
 fn text_of(alloc: Global, table: &Table, rows: &[ShownRow]) -> Result<Vec<u8>, AllocError>
@@ -147,8 +174,8 @@ pub(crate) fn put_head(out: &mut String, head: Head) -> Result<(), AllocError>
     ensures { OnOk result (string_bytes out.new ≡ string_bytes out.old ++ head_text head) }
 {
     put_files(out, head)?;
-    put_events(out, head.counts)?;
-    put_others(out, head.counts)
+    put_events(out, &head.counts)?;
+    put_others(out, &head.counts)
 }
 
 #[tactic(auto, unfolding(crate::specs::JsonPieces::files_text))]
@@ -163,8 +190,8 @@ fn put_files(out: &mut String, head: Head) -> Result<(), AllocError>
 }
 
 #[tactic(auto, unfolding(crate::specs::JsonPieces::events_text))]
-fn put_events(out: &mut String, counts: CountRow) -> Result<(), AllocError>
-    ensures { OnOk result (string_bytes out.new ≡ string_bytes out.old ++ events_text counts) }
+fn put_events(out: &mut String, counts: &HeadCounts) -> Result<(), AllocError>
+    ensures { OnOk result (string_bytes out.new ≡ string_bytes out.old ++ events_text counts.now) }
 {
     let (events, refused, skipped) = (counts.accepted, counts.refused, counts.skipped);
     write!(
@@ -174,8 +201,8 @@ fn put_events(out: &mut String, counts: CountRow) -> Result<(), AllocError>
 }
 
 #[tactic(auto, unfolding(crate::specs::JsonPieces::others_text))]
-fn put_others(out: &mut String, counts: CountRow) -> Result<(), AllocError>
-    ensures { OnOk result (string_bytes out.new ≡ string_bytes out.old ++ others_text counts) }
+fn put_others(out: &mut String, counts: &HeadCounts) -> Result<(), AllocError>
+    ensures { OnOk result (string_bytes out.new ≡ string_bytes out.old ++ others_text counts.now) }
 {
     let (queries, seals) = (counts.queries, counts.seals);
     write!(out, "\"queries\":{queries},\"seals\":{seals}")

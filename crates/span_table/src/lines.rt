@@ -1,16 +1,41 @@
 //! What the texts for people have in common: numbers in a width, values, the names of columns, and how many rows are shown.
 ghost use Rattle.std.specs.Prelude.{◌≡◌, ◌++◌, flat_map, string_bytes, OnOk};
-ghost use Rattle.span_report.specs.Lines.{right_in};
+ghost use Rattle.span_report.specs.Lines.{count_line, right_in, seals_line};
 ghost use Rattle.span_table.specs.Lines.{arg_text, shown_line};
 ghost use Rattle.span_table.specs.Pieces.{then_title, then_value};
 ghost use Rattle.json.specs.Print.{escape, quoted};
 ghost use Rattle.span_event.specs.Text.{Bytes};
 
 use crate::column::Column;
+use crate::heads::HeadCounts;
 use crate::shown::Shown;
 use span_event::{ArgValue, Text};
 use span_report::json_text;
 use std::alloc::{AllocError, Global};
+
+/// Appends the line that counts the entries of runs.
+#[tactic(auto, unfolding(span_report::specs::Lines::count_line))]
+pub(crate) fn put_counts(out: &mut String, counts: &HeadCounts) -> Result<(), AllocError>
+    ensures { OnOk result (string_bytes out.new ≡ string_bytes out.old ++ count_line counts.now) }
+{
+    let (accepted, refused) = (counts.accepted, counts.refused);
+    let (skipped, queries) = (counts.skipped, counts.queries);
+    writeln!(
+        out,
+        "events {accepted} refused {refused} skipped {skipped} queries {queries}"
+    )
+}
+
+/// Appends the line of seals, where spans were sealed.
+#[tactic(auto, unfolding(span_report::specs::Lines::seals_line))]
+pub(crate) fn put_seals(out: &mut String, seals: u128) -> Result<(), AllocError>
+    ensures { OnOk result (string_bytes out.new ≡ string_bytes out.old ++ seals_line seals) }
+{
+    if seals == 0 {
+        return Ok(());
+    }
+    writeln!(out, "seals {seals}")
+}
 
 /// Appends the text, right in the width.
 pub(crate) fn put_right(out: &mut String, width: usize, text: &str) -> Result<(), AllocError>

@@ -8,11 +8,12 @@ ghost use Rattle.span_table.specs.Ranking.{column_line, ranked_line, ranking_of}
 ghost use Rattle.span_table.specs.Ranks.{rank_order, ranked};
 
 use crate::column::Column;
-use crate::lines::{put_right, put_shown, put_titles, put_values};
+use crate::heads::HeadCounts;
+use crate::lines::{put_counts, put_right, put_seals, put_shown, put_titles, put_values};
 use crate::shown::{Shown, ShownRow};
 use crate::sums::{By, Sums};
 use crate::table::{Row, Table};
-use span_report::head;
+use span_report::first_line;
 use std::alloc::{AllocError, Global};
 use std::cmp::Ordering;
 
@@ -28,7 +29,7 @@ pub fn ranking(
 ) -> Result<Vec<u8>, AllocError>
     ensures { IfOk result (λ text. text.items ≡ ranking_of most by shown.now table.now) }
 {
-    let mut out = head(alloc, table.head().counts)?;
+    let mut out = head(alloc, &table.head().counts)?;
     let rows = shown.rows(alloc, table.rows())?;
     put_shown(
         &mut out,
@@ -40,6 +41,16 @@ pub fn ranking(
     let rows = in_order(rows, by);
     put_first(alloc, &mut out, &rows, most)?;
     Ok(out.into_bytes())
+}
+
+// The lines that every report begins with.
+fn head(alloc: Global, counts: &HeadCounts) -> Result<String, AllocError>
+    ensures { IfOk result (λ text. string_bytes text ≡ head_lines counts.now) }
+{
+    let mut out = first_line(alloc)?;
+    put_counts(&mut out, counts)?;
+    put_seals(&mut out, counts.seals)?;
+    Ok(out)
 }
 
 // Which of two comes first.

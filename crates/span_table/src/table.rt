@@ -4,24 +4,15 @@ ghost use Rattle.span_table.specs.Tables.{RowsRise, row_of, table_of};
 
 use crate::collected::summed;
 use crate::column::Column;
+use crate::heads::Head;
 use crate::key::Key;
 use crate::run::LedgerRun;
 use crate::sums::Sums;
 use span_event::Text;
 use span_keyed_tracks::HashKeys;
-use span_ledger::{CountRow, Ledger};
+use span_ledger::Ledger;
 use std::alloc::{AllocError, Global};
 use std::marker::Model;
-
-/// What a table counts beside its spans, over its runs.
-#[derive(Clone, Copy, Debug, PartialEq, Eq)]
-pub struct Head {
-    pub runs: u64,
-    pub files: u64,
-    /// Files that were refused as a whole.
-    pub unread: u64,
-    pub counts: CountRow,
-}
 
 /// The spans of one key.
 #[derive(Drop)]
@@ -71,15 +62,9 @@ impl Table {
         };
         let sums = summed(alloc, keys, &run, columns)?;
         let rows = rows_of(alloc, sums)?;
-        let head = Head {
-            runs: 1,
-            files,
-            unread,
-            counts: ledger.counts(),
-        };
         Ok(Table {
             columns: copies_of(alloc, columns)?,
-            head,
+            head: Head::of(&run),
             rows,
         })
     }

@@ -3,8 +3,8 @@
 use super::tabled::{columns_of, tabled};
 use span_event::Text;
 use span_keyed_tracks::HashKeys;
-use span_ledger::{CountRow, Ledger};
-use span_table::{Head, Key, Row, Sum, Table};
+use span_ledger::Ledger;
+use span_table::{Head, HeadCounts, Key, Row, Sum, Table};
 use span_test_support::told;
 use std::alloc::{AllocError, AllocGlobal, Global};
 use std::process::Abort;
@@ -70,7 +70,7 @@ fn names_of(alloc: Global, table: &Table) -> Result<String, AllocError> {
 }
 
 fn expect_head(rt: &impl Abort, table: &Table) {
-    let counts = CountRow {
+    let counts = HeadCounts {
         accepted: 6,
         refused: 1,
         skipped: 0,
