@@ -32,7 +32,7 @@ use Rattle.span_table.proofs.Alike.{AddUpAlike, AddUpAlike-flat_map, AddUpAlike-
 use Rattle.span_table.proofs.Tallies.{made_of, tally, tally-append, under}
 
 -- sums that add up alike give the same rows
-rows_of-alike : (es fs : KeyedSums) → AddUpAlike es fs → rows_of es ≡ rows_of fs
+pub rows_of-alike : (es fs : KeyedSums) → AddUpAlike es fs → rows_of es ≡ rows_of fs
 rows_of-alike es fs alike = ap (map row_of) (summed-alike es fs alike)
 
 flat_map-map : {A B C : Type 0} (f : B → List C) (g : A → B) (xs : List A) → flat_map f (map g xs) ≡ flat_map (λ x. f (g x)) xs
@@ -60,7 +60,7 @@ rows-regrouped g es = keys (keys_in key_cmp es)
     keys (k ∷ ks) = ap (λ l. record { key = g k; step = sums_together (steps_at key_cmp k es) } ∷ l) (keys ks)
 
 -- the rows of sums add up as these do
-rows-back : (es : KeyedSums) → AddUpAlike (keyed_rows (rows_of es)) es
+pub rows-back : (es : KeyedSums) → AddUpAlike (keyed_rows (rows_of es)) es
 rows-back es =
     subst (λ l. AddUpAlike l es) (sym (rows-regrouped (λ k. k) es))
     (subst (AddUpAlike (regrouped (λ k. k) es)) (map-id es) (AddUpAlike-grouped key_cmp_total key_cmp-same (λ k. k) es))

@@ -76,7 +76,7 @@ step_keys-append : (k : TableKey) (es fs : KeyedSums) → has_key key_cmp k (ste
 step_keys-append k es fs = ap (has_key key_cmp k) (map-append (λ (e : Keyed TableKey Sums). e.key) es fs) ∙ has_key-append key_cmp k (step_keys es) (step_keys fs)
 
 -- the sums of a key among two lists
-sums_at-append : (k : TableKey) (es fs : KeyedSums) → sums_together (steps_at key_cmp k (es ++ fs)) ≡ with_sums (sums_together (steps_at key_cmp k es)) (sums_together (steps_at key_cmp k fs))
+pub sums_at-append : (k : TableKey) (es fs : KeyedSums) → sums_together (steps_at key_cmp k (es ++ fs)) ≡ with_sums (sums_together (steps_at key_cmp k es)) (sums_together (steps_at key_cmp k fs))
 sums_at-append k es fs =
     let count = tally-append key_cmp (λ (s : Sums). s.count) k es fs in
     let total = tally-append key_cmp (λ (s : Sums). s.total) k es fs in

@@ -122,10 +122,13 @@ module _ (columns : List Column) (run : Run) (no_arguments : list_any is_argumen
       map-append (keyed_span_row columns run) (thread_span_rows run.journal t) (flat_map (thread_span_rows run.journal) threads)
       ∙ ap (λ l. map (keyed_span_row columns run) (thread_span_rows run.journal t) ++ l) (rows-by_thread threads)
 
-  -- the rows of names are kept as their spans are
-  pub summed-rows : summed (row_sums columns run) ≡ summed (run_sums columns run)
-  summed-rows =
+  -- the rows of names add up as their spans do
+  pub row_sums-alike : AddUpAlike (row_sums columns run) (run_sums columns run)
+  row_sums-alike =
       let threads = thread_keys (accepted run.journal) in
-      ap summed (rows-by_thread threads)
-      ∙ summed-alike (flat_map (λ thread. map (keyed_span_row columns run) (thread_span_rows run.journal thread)) threads) (run_sums columns run)
+      subst (λ (es : KeyedSums). AddUpAlike es (run_sums columns run)) (sym (rows-by_thread threads))
       (AddUpAlike-flat_map (λ thread. map (keyed_span_row columns run) (thread_span_rows run.journal thread)) (thread_sums columns run) thread-alike threads)
+
+  -- so they are kept alike
+  pub summed-rows : summed (row_sums columns run) ≡ summed (run_sums columns run)
+  summed-rows = summed-alike (row_sums columns run) (run_sums columns run) row_sums-alike

@@ -6,6 +6,7 @@ pub mod Comparing
 pub mod FewRows
 pub mod Itself
 pub mod JsonPieces
+pub mod Kept
 pub mod OwnRows
 pub mod Permuted
 pub mod Pieces

@@ -59,7 +59,7 @@ keys-sorted (row ∷ rows) rise = (below rows rise.0, keys-sorted rows rise.1)
     below (r ∷ rs) all = (all.0, below rs all.1)
 
 -- rows that rise are those of their sums
-rows_of-own : (rows : List Row) → RowsRise rows → rows_of (keyed_rows rows) ≡ rows
+pub rows_of-own : (rows : List Row) → RowsRise rows → rows_of (keyed_rows rows) ≡ rows
 rows_of-own rows rise =
     ap (λ keys. map row_of (map (entry_of (sums_at rows)) (ascending key_cmp keys))) (map-map (λ e. e.key) keyed_row rows)
     ∙ ap (λ keys. map row_of (map (entry_of (sums_at rows)) keys)) (ascending-own key_cmp_total (map (λ (row : Row). row.key) rows) (keys-sorted rows rise))

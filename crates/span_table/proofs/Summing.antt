@@ -1,5 +1,5 @@
 -- What is kept of sums by key, once more are added.
-use Rattle.std.proofs.Common.{◌≡◌, ℕ, ◌+◌, ◌≤◌, List, [], ◌∷◌, ◌++◌, map, Option, Some, None, sym, ap, subst, ◌∙◌, arith}
+use Rattle.std.proofs.Common.{◌≡◌, ℕ, ◌≤◌, List, [], ◌∷◌, ◌++◌, map, Option, Some, None, sym, ap, subst, ◌∙◌, arith}
 use Rattle.std.specs.Prelude.{All, IfSome, OnOk, Result, Ok, Err, unwrap_or}
 use Rattle.std.specs.declared.alloc.AllocError.{AllocError}
 use Rattle.std.specs.List.Sorted.{IsStrictlySortedBy}
@@ -11,7 +11,7 @@ use Rattle.span_keyed_tracks.specs.Keyed.{Keyed, keys_in, steps_at}
 use Rattle.span_keyed_tracks.proofs.Keyed.{entries_in-insert_entry, keys_of-made, kept_at-entries_in}
 use Rattle.span_keyed_tracks.proofs.Sorted.{ascending-sorted}
 use Rattle.span_table.specs.declared.sums.Sums.{Sums}
-use Rattle.span_table.specs.Collected.{AllWithin, IsWithin, with_sums}
+use Rattle.span_table.specs.Collected.{AllWithin, GrowsBy, IsWithin, with_sums}
 use Rattle.span_table.specs.KeyLaws.{key_cmp_total, key_cmp-same}
 use Rattle.span_table.specs.Keys.{TableKey, key_cmp}
 use Rattle.span_table.specs.Tables.{KeyedSums, SumsByKey, summed, sums_together}
@@ -52,8 +52,8 @@ found-within n key es within = by (lookup (is_at (key_cmp key)) es) (IfSome-look
 
 -- sums that are within a number let what is kept grow by as much
 pub bounded : (n : ℕ) (result : Result (Unit {0}) AllocError) (more : Sums) (old new : SumsByKey) → IsWithin n more →
-    OnOk result ((most m : ℕ) → IsWithin m more → AllWithin most old → AllWithin (most + m) new) → OnOk result ((most : ℕ) → AllWithin most old → AllWithin (most + n) new)
-bounded n (Ok done) more old new within grows = λ most all. grows most n within all
+    OnOk result ((m : ℕ) → IsWithin m more → GrowsBy m old new) → OnOk result (GrowsBy n old new)
+bounded n (Ok done) more old new within grows = grows n within
 bounded n (Err error) more old new within grows = tt
 
 -- what is within some number is within a greater one

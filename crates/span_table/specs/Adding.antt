@@ -1,5 +1,5 @@
 -- Tables are added, and lose nothing by it.
-use Rattle.std.specs.Prelude.{◌≡◌, ℕ, List, map, filter_map, flat_map, slice_get}
+use Rattle.std.specs.Prelude.{◌≡◌, ℕ, List, [], ◌∷◌, ◌++◌, map, filter_map, flat_map, slice_get}
 use Rattle.std.specs.List.Sorted.{IsPermutation}
 use Rattle.span_keyed_tracks.specs.Keyed.{Keyed}
 use Rattle.span_table.specs.declared.column.Column.{Column}
@@ -22,6 +22,18 @@ add_tables columns tables = record {
   head = heads_together (map (λ (table : SpanTable). table.head) tables);
   rows = rows_of (flat_map (λ (table : SpanTable). keyed_rows table.rows) tables);
 }
+
+-- a table with a run added
+abbrev pub with_run : SpanTable → Run → SpanTable
+with_run table run = add_tables table.columns (table ∷ table_of table.columns (run ∷ []) ∷ [])
+
+-- where one is the table of some runs, the other is that of these and more
+abbrev pub TakesRuns : SpanTable → List Run → SpanTable → Type 0
+TakesRuns old more new = (columns : List Column) (runs : List Run) → old ≡ table_of columns runs → new ≡ table_of columns (runs ++ more)
+
+-- where two are tables of some runs each, the third is that of all of these
+abbrev pub JoinsRuns : SpanTable → SpanTable → SpanTable → Type 0
+JoinsRuns one other both = (columns : List Column) (runs others : List Run) → one ≡ table_of columns runs → other ≡ table_of columns others → both ≡ table_of columns (runs ++ others)
 
 -- the tables of lists of runs, added, are the table of all these runs together
 abbrev pub AddingLosesNothing : Type 0

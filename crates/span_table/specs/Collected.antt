@@ -29,6 +29,10 @@ pub record IsWithin (most : ℕ) (sums : Sums) : Type 0 where
 abbrev pub AllWithin : ℕ → SumsByKey → Type 0
 AllWithin most kept = All (IsWithin most) (values_of kept)
 
+-- the sums of no key grow by more than this
+abbrev pub GrowsBy : ℕ → SumsByKey → SumsByKey → Type 0
+GrowsBy more old new = (most : ℕ) → AllWithin most old → AllWithin (most + more) new
+
 -- what is kept of some sums becomes what is kept of them and more
 abbrev pub Takes : SumsByKey → SumsByKey → KeyedSums → Type 0
 Takes old new more = (sums : KeyedSums) → old ≡ summed sums → new ≡ summed (sums ++ more)

@@ -20,6 +20,9 @@ pub record Run : Type 0 where
   pub unread : ℕ
   pub file : Option Bytes
 
+abbrev pub run_of : List Entry → ℕ → ℕ → Option Bytes → Run
+run_of journal files unread file = record { journal = journal; files = files; unread = unread; file = file }
+
 -- what a span has in a column, if it has anything there
 abbrev pub Value : Type 0
 Value = Option ArgValue

@@ -7,6 +7,7 @@ pub mod Comparison
 pub mod Heads
 pub mod Json
 pub mod JsonPieces
+pub mod Kept
 pub mod KeyLaws
 pub mod Keys
 pub mod Laws

@@ -1,7 +1,8 @@
-//! Collects the sums of a run: from the rows of names, or span by span where a column is an argument.
+//! Adds the sums of a run: from the rows of names, or span by span where a column is an argument.
 ghost use Rattle.std.specs.Prelude.{◌≡◌, ◌+◌, ◌≤◌, ◌^◌, ◌∷◌, [], ℕ, map, IfOk, OnOk};
 ghost use Rattle.span_event.specs.Text.{Bytes};
-ghost use Rattle.span_table.specs.Collected.{AllWithin, IsWithin, Takes, keyed_span_row, row_sums};
+ghost use Rattle.span_table.specs.Adding.{keyed_rows};
+ghost use Rattle.span_table.specs.Collected.{AllWithin, GrowsBy, IsWithin, Takes, keyed_span_row, row_sums};
 ghost use Rattle.std.specs.List.{list_any};
 ghost use Rattle.span_table.specs.Columns.{is_argument, value_at};
 ghost use Rattle.span_keyed_tracks.specs.Keyed.{kept_at};
@@ -9,7 +10,7 @@ ghost use Rattle.span_table.specs.Keys.{key_cmp};
 ghost use Rattle.span_event.specs.Time.{distance};
 ghost use Rattle.span_ledger.specs.Order.{thread_of_row};
 ghost use Rattle.span_ledger.specs.Timed.{timed_spans};
-ghost use Rattle.span_table.specs.Tables.{keyed_span, run_sums, summed, sums_together, thread_sums};
+ghost use Rattle.span_table.specs.Tables.{RowsRise, keyed_span, row_of, run_sums, sums_together, thread_sums};
 
 use crate::column::Column;
 use crate::groups::Groups;
@@ -17,32 +18,19 @@ use crate::key::Key;
 use crate::run::LedgerRun;
 use crate::sums::Sums;
 use span_event::{Args, Text, Thread};
-use span_keyed_tracks::HashKeys;
 use span_ledger::{SpanRow, ThreadRow, TimedSpan};
 use std::alloc::{AllocError, Global};
 
-/// The sums of a run's closed spans by columns, keys in ascending order.
-pub(crate) fn summed(
-    alloc: Global,
-    keys: HashKeys,
-    run: &LedgerRun,
-    columns: &[Column],
-) -> Result<Vec<(Key, Sums)>, AllocError>
-    ensures { IfOk result (λ entries. entries.items ≡ summed (run_sums columns.now run.now)) }
-{
-    let mut groups = Groups::new(alloc, keys);
-    add_all(alloc, &mut groups, run, columns)?;
-    groups.into_entries()
-}
-
-fn add_all(
+/// Adds the sums of a run's closed spans by columns.
+pub(crate) fn add_run(
     alloc: Global,
     groups: &mut Groups<Sums>,
     run: &LedgerRun,
     columns: &[Column],
 ) -> Result<(), AllocError>
-    requires { groups.old ≡ [] }
-    ensures { OnOk result (groups.new ≡ summed (run_sums columns.now run.now)) }
+    requires { AllWithin (2 ^ 198) groups.old }
+    ensures takes { OnOk result (Takes groups.old groups.new (run_sums columns.now run.now)) }
+    ensures bound { OnOk result (GrowsBy (2 ^ 160) groups.old groups.new) }
 {
     if has_argument(columns) {
         return add_spans(alloc, groups, run, columns);
@@ -63,9 +51,11 @@ fn add_rows(
     run: &LedgerRun,
     columns: &[Column],
 ) -> Result<(), AllocError>
-    requires { groups.old ≡ [] }
-    ensures { OnOk result (groups.new ≡ summed (row_sums columns.now run.now)) }
+    requires { AllWithin (2 ^ 198) groups.old }
+    ensures takes { OnOk result (Takes groups.old groups.new (row_sums columns.now run.now)) }
+    ensures bound { OnOk result (GrowsBy (2 ^ 160) groups.old groups.new) }
 {
+    run.entries();
     let rows = run.ledger.span_rows(alloc)?;
     for row in &rows {
         add_row(alloc, groups, run, columns, row)?;
@@ -83,7 +73,7 @@ fn add_row(
     requires { AllWithin (2 ^ 200) groups.old }
     ensures takes { OnOk result
         (Takes groups.old groups.new (keyed_span_row columns.now run.now row.now ∷ [])) }
-    ensures bound { OnOk result ((most : ℕ) → AllWithin most groups.old → AllWithin (most + 2 ^ 128) groups.new) }
+    ensures bound { OnOk result (GrowsBy (2 ^ 128) groups.old groups.new) }
 {
     let thread = Thread {
         pid: row.pid,
@@ -100,9 +90,11 @@ fn add_spans(
     run: &LedgerRun,
     columns: &[Column],
 ) -> Result<(), AllocError>
-    requires { groups.old ≡ [] }
-    ensures { OnOk result (groups.new ≡ summed (run_sums columns.now run.now)) }
+    requires { AllWithin (2 ^ 198) groups.old }
+    ensures takes { OnOk result (Takes groups.old groups.new (run_sums columns.now run.now)) }
+    ensures bound { OnOk result (GrowsBy (2 ^ 160) groups.old groups.new) }
 {
+    run.entries();
     let threads = run.ledger.threads(alloc)?;
     for row in &threads {
         add_thread(alloc, groups, run, columns, thread_of(row))?;
@@ -120,7 +112,7 @@ fn add_thread(
     requires { AllWithin (2 ^ 199) groups.old }
     ensures takes { OnOk result
         (Takes groups.old groups.new (thread_sums columns.now run.now thread)) }
-    ensures bound { OnOk result ((most : ℕ) → AllWithin most groups.old → AllWithin (most + 2 ^ 128) groups.new) }
+    ensures bound { OnOk result (GrowsBy (2 ^ 128) groups.old groups.new) }
 {
     let spans = timed_spans(alloc, run, thread)?;
     for span in &spans {
@@ -159,7 +151,7 @@ fn add_span(
     requires { AllWithin (2 ^ 200) groups.old }
     ensures takes { OnOk result
         (Takes groups.old groups.new (keyed_span columns.now run.now thread timed.now ∷ [])) }
-    ensures bound { OnOk result ((most : ℕ) → AllWithin most groups.old → AllWithin (most + 2 ^ 64) groups.new) }
+    ensures bound { OnOk result (GrowsBy (2 ^ 64) groups.old groups.new) }
 {
     let span = timed.span;
     let key = key_of(alloc, run, columns, thread, timed.name, &span.args)?;
@@ -196,12 +188,30 @@ fn key_of(
     Ok(Key::of(values))
 }
 
+/// Adds the sums that another has kept.
+pub(crate) fn add_entries(
+    groups: &mut Groups<Sums>,
+    entries: Vec<(Key, Sums)>,
+) -> Result<(), AllocError>
+    requires rise { RowsRise (map row_of groups.old) }
+    requires others { RowsRise (map row_of entries.items) }
+    requires mine { AllWithin (2 ^ 198) groups.old }
+    requires its { AllWithin (2 ^ 198) entries.items }
+    ensures takes { OnOk result (Takes groups.old groups.new (keyed_rows (map row_of entries.items))) }
+    ensures bound { OnOk result ((n : ℕ) → AllWithin n entries.items → GrowsBy n groups.old groups.new) }
+{
+    for (key, sums) in entries {
+        add(groups, key, sums)?;
+    }
+    Ok(())
+}
+
 // Adds sums to what is kept for a key.
 fn add(groups: &mut Groups<Sums>, key: Key, more: Sums) -> Result<(), AllocError>
     requires all { AllWithin (2 ^ 200) groups.old }
-    requires more { IsWithin (2 ^ 128) more }
+    requires more { IsWithin (2 ^ 200) more }
     ensures takes { OnOk result (Takes groups.old groups.new (record { key = key; step = more } ∷ [])) }
-    ensures bound { OnOk result ((most n : ℕ) → IsWithin n more → AllWithin most groups.old → AllWithin (most + n) groups.new) }
+    ensures bound { OnOk result ((n : ℕ) → IsWithin n more → GrowsBy n groups.old groups.new) }
 {
     let mut sums = sums_at(groups, &key);
     sums.add(&more);

@@ -101,3 +101,14 @@ fn copy_of(alloc: Global, value: Option<&ArgValue>) -> Result<Option<ArgValue>, 
         None => Ok(None),
     }
 }
+
+/// Copies of the columns.
+pub(crate) fn copies_of(alloc: Global, columns: &[Column]) -> Result<Vec<Column>, AllocError>
+    ensures { IfOk result (λ copies. copies.items ≡ columns.now) }
+{
+    let mut copies = Vec::with_capacity(alloc, columns.len())?;
+    for column in columns {
+        copies.push(column.try_clone(alloc)?)?;
+    }
+    Ok(copies)
+}

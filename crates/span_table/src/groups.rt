@@ -38,6 +38,10 @@ impl<V: Copy> Groups<V> {
         }
     }
 
+    pub(crate) fn allocator(&self) -> Global {
+        *self.kept.allocator()
+    }
+
     pub(crate) fn at(&self, key: &Key) -> Option<V>
         ensures { result ≡ lookup (is_at (key_cmp key.now)) self.now }
     {

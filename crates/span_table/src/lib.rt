@@ -19,6 +19,7 @@ mod shown;
 mod sum;
 mod sums;
 mod table;
+mod table_sum;
 
 pub use changes::Both;
 pub use column::Column;
@@ -32,3 +33,4 @@ pub use shown::Shown;
 pub use sum::Sum;
 pub use sums::{By, Sums};
 pub use table::{Row, Table};
+pub use table_sum::{SumFault, TableSum};

@@ -1,13 +1,14 @@
 //! A table of spans.
 ghost use Rattle.std.specs.Prelude.{◌≡◌, ◌∷◌, [], map, option_copied, IfOk};
+ghost use Rattle.span_table.specs.Columns.{run_of};
 ghost use Rattle.span_table.specs.Tables.{RowsRise, row_of, table_of};
 
-use crate::collected::summed;
 use crate::column::Column;
 use crate::heads::Head;
 use crate::key::Key;
 use crate::run::LedgerRun;
 use crate::sums::Sums;
+use crate::table_sum::TableSum;
 use span_event::Text;
 use span_keyed_tracks::HashKeys;
 use span_ledger::Ledger;
@@ -52,7 +53,7 @@ impl Table {
         file: Option<&Text>,
     ) -> Result<Table, AllocError>
         ensures { IfOk result (λ table. table
-            ≡ table_of columns.now (record { journal = ledger.now.journal; files = files; unread = unread; file = option_copied file.entry } ∷ [])) }
+            ≡ table_of columns.now (run_of ledger.now.journal files unread (option_copied file.entry) ∷ [])) }
     {
         let run = LedgerRun {
             ledger,
@@ -60,13 +61,19 @@ impl Table {
             unread,
             file,
         };
-        let sums = summed(alloc, keys, &run, columns)?;
-        let rows = rows_of(alloc, sums)?;
-        Ok(Table {
-            columns: copies_of(alloc, columns)?,
-            head: Head::of(&run),
+        let sum = TableSum::new(alloc, keys, columns)?;
+        sum.with_run(&run)?.into_table()
+    }
+
+    pub(crate) fn from_rows(columns: Vec<Column>, head: Head, rows: Vec<Row>) -> Table
+        requires { RowsRise rows.items }
+        ensures { result ≡ record { columns = columns.items; head = head; rows = rows.items } }
+    {
+        Table {
+            columns,
+            head,
             rows,
-        })
+        }
     }
 
     pub fn columns(&self) -> &[Column]
@@ -90,17 +97,8 @@ impl Table {
     }
 }
 
-fn copies_of(alloc: Global, columns: &[Column]) -> Result<Vec<Column>, AllocError>
-    ensures { IfOk result (λ copies. copies.items ≡ columns.now) }
-{
-    let mut copies = Vec::with_capacity(alloc, columns.len())?;
-    for column in columns {
-        copies.push(column.try_clone(alloc)?)?;
-    }
-    Ok(copies)
-}
-
-fn rows_of(alloc: Global, sums: Vec<(Key, Sums)>) -> Result<Vec<Row>, AllocError>
+/// The rows of keys with their sums.
+pub(crate) fn rows_of(alloc: Global, sums: Vec<(Key, Sums)>) -> Result<Vec<Row>, AllocError>
     ensures { IfOk result (λ rows. rows.items ≡ map row_of sums.items) }
 {
     let mut rows = Vec::with_capacity(alloc, sums.len())?;

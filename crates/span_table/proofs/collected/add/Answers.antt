@@ -13,7 +13,7 @@ returns-clause-takes c = λ sums kept.
     summed-added sums c.args.key c.args.more c.add.new.self c.args.groups.now c.put.new.self kept (c.add.ensures.value ∙ ap (λ s. with_sums s c.args.more) c.sums_at-sums.ensures) c.in_ok-put.ensures
 
 pub returns-clause-bound : goal.returns-clause-bound
-returns-clause-bound c = λ most n more within.
+returns-clause-bound c = λ n more most within.
     let was = subst (IsWithin most) (sym c.sums_at-sums.ensures) (found-within most c.args.key c.args.groups.now within) in
     rw c.in_ok-put.ensures
     (All-values-insert_entry key_cmp c.args.key c.add.new.self (IsWithin (most + n)) c.args.groups.now (λ k d low. IsWithin-le most (most + n) _ (omega arith) (within k d low)) (c.add.ensures.bound most n was more))

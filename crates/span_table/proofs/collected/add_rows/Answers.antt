@@ -1,8 +1,15 @@
-use Rattle.std.proofs.Common.{◌≡◌, ◌+◌, ◌*◌, ◌^◌, ◌∷◌, [], ◌++◌, map, take, sym, ap, subst, ◌∙◌, arith}
-use Rattle.std.proofs.lemmas.List.{map_more}
+use Rattle.std.proofs.Common.{◌≡◌, ◌+◌, ◌*◌, ◌^◌, ◌∷◌, [], ◌++◌, length, map, take, sym, ap, subst, ◌∙◌, append_assoc, arith}
+use Rattle.std.proofs.lemmas.List.{map_more, take_all}
+use Rattle.span_ledger.specs.Rows.{span_rows}
 use Rattle.span_table.specs.Collected.{AllWithin, keyed_span_row}
+use Rattle.span_table.specs.Columns.{Run}
 use Rattle.span_table.specs.Tables.{summed}
+use Rattle.span_table.proofs.FewRows.{length-span_rows}
+use Rattle.span_table.proofs.Summing.{AllWithin-le}
 use Rattle.span_table.proofs.collected.add_rows.Goals as goal
+
+pub add_row-requires : goal.add_row-requires
+add_row-requires c = AllWithin-le (2 ^ 198 + c.loop-row.row-index * 2 ^ 128) (2 ^ 200) c.loop-row.groups (omega arith) (c.loop-row.invariant.within (2 ^ 198) c.requires)
 
 pub loop-row-preserved : goal.loop-row-preserved
 loop-row-preserved c =
@@ -11,8 +18,23 @@ loop-row-preserved c =
     let make = keyed_span_row c.args.columns.now c.args.run.now in
     let passed : map make (take (at + 1) items) ≡ map make (take at items) ++ make c.row-item.result ∷ [] =
     map_more make items at c.row-item.result c.loop-row-test.true ∙ ap (λ row. map make (take at items) ++ make row ∷ []) (sym c.row-item.is) in
-    let more : at * 2 ^ 128 + 2 ^ 128 ≡ (at + 1) * 2 ^ 128 = omega arith in
     record {
-      kept = c.in_ok-add_row.ensures.takes (map make (take at items)) c.loop-row.invariant.kept ∙ ap summed (sym passed);
-      within = subst (λ most. AllWithin most c.add_row.new.groups) more (c.in_ok-add_row.ensures.bound (at * 2 ^ 128) c.loop-row.invariant.within);
+      kept = λ sums old.
+          c.in_ok-add_row.ensures.takes (sums ++ map make (take at items)) (c.loop-row.invariant.kept sums old)
+          ∙ ap summed (append_assoc sums (map make (take at items)) (make c.row-item.result ∷ []) ∙ ap (λ l. sums ++ l) (sym passed));
+      within = λ most all.
+          let more : most + at * 2 ^ 128 + 2 ^ 128 ≡ most + (at + 1) * 2 ^ 128 = omega arith in
+          subst (λ n. AllWithin n c.add_row.new.groups) more (c.in_ok-add_row.ensures.bound (most + at * 2 ^ 128) (c.loop-row.invariant.within most all));
     }
+
+pub returns-clause-takes : goal.returns-clause-takes
+returns-clause-takes c = λ sums old.
+    let make = keyed_span_row c.args.columns.now c.args.run.now in
+    c.loop-row.invariant.kept sums old
+    ∙ ap (λ rows. summed (sums ++ map make rows)) (take_all c.loop-row.row-index c.deref-row-items.result.now c.loop-row-test.false ∙ c.deref-row-items.ensures.value ∙ c.in_ok-rows.ensures.rows ∙ ap (λ (run : Run). span_rows run.journal) c.run.view_is)
+
+pub returns-clause-bound : goal.returns-clause-bound
+returns-clause-bound c = λ most all.
+    let journal = c.args.run.now.journal in
+    let many = ap length (c.deref-row-items.ensures.value ∙ c.in_ok-rows.ensures.rows ∙ ap (λ (run : Run). span_rows run.journal) c.run.view_is) in
+    AllWithin-le (most + c.loop-row.row-index * 2 ^ 128) (most + 2 ^ 160) c.loop-row.groups (omega (arith, many, length-span_rows journal, c.entries.ensures.few)) (c.loop-row.invariant.within most all)

@@ -1,11 +1,10 @@
-use Rattle.std.proofs.Common.{◌≡◌, ◌*◌, ◌^◌, map, take}
-use Rattle.span_table.specs.Collected.{AllWithin, keyed_span_row}
-use Rattle.span_table.specs.Tables.{summed}
+use Rattle.std.proofs.Common.{◌*◌, ◌^◌, map, take}
+use Rattle.span_table.specs.Collected.{GrowsBy, Takes, keyed_span_row}
 use Rattle.span_table.proofs.collected.add_rows.Given as goal
 
--- the rows so far are kept, each of at most 128 bits
+-- the rows so far are kept with what was kept before, each of at most 128 bits
 abbrev pub invariant-loop-row : goal.invariant-loop-row
 invariant-loop-row l = record {
-  kept : l.groups ≡ summed (map (keyed_span_row l.columns l.run) (take l.row-index l.row-items));
-  within : AllWithin (l.row-index * 2 ^ 128) l.groups;
+  kept : Takes l.fn.groups l.groups (map (keyed_span_row l.columns l.run) (take l.row-index l.row-items));
+  within : GrowsBy (l.row-index * 2 ^ 128) l.fn.groups l.groups;
 }

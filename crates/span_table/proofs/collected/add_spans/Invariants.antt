@@ -1,14 +1,14 @@
-use Rattle.std.proofs.Common.{◌≡◌, ◌*◌, ◌^◌, take}
+use Rattle.std.proofs.Common.{◌*◌, ◌^◌, take}
 use Rattle.std.specs.Prelude.{flat_map}
 use Rattle.span_ledger.specs.declared.rows.ThreadRow.{ThreadRow}
 use Rattle.span_ledger.specs.Order.{thread_of_row}
-use Rattle.span_table.specs.Collected.{AllWithin}
-use Rattle.span_table.specs.Tables.{summed, thread_sums}
+use Rattle.span_table.specs.Collected.{GrowsBy, Takes}
+use Rattle.span_table.specs.Tables.{thread_sums}
 use Rattle.span_table.proofs.collected.add_spans.Given as goal
 
--- the spans of the threads so far are kept, each thread's of at most 128 bits
+-- the spans of the threads so far are kept with what was kept before, each thread's of at most 128 bits
 abbrev pub invariant-loop-row : goal.invariant-loop-row
 invariant-loop-row l = record {
-  kept : l.groups ≡ summed (flat_map (λ (row : ThreadRow). thread_sums l.columns l.run (thread_of_row row)) (take l.row-index l.row-items));
-  within : AllWithin (l.row-index * 2 ^ 128) l.groups;
+  kept : Takes l.fn.groups l.groups (flat_map (λ (row : ThreadRow). thread_sums l.columns l.run (thread_of_row row)) (take l.row-index l.row-items));
+  within : GrowsBy (l.row-index * 2 ^ 128) l.fn.groups l.groups;
 }

@@ -1,5 +1,5 @@
-use Rattle.std.proofs.Common.{ℕ, ◌+◌, ◌*◌, ◌^◌, map, take}
-use Rattle.span_table.specs.Collected.{AllWithin, Takes}
+use Rattle.std.proofs.Common.{◌*◌, ◌^◌, map, take}
+use Rattle.span_table.specs.Collected.{GrowsBy, Takes}
 use Rattle.span_table.specs.Tables.{keyed_span}
 use Rattle.span_table.proofs.collected.add_thread.Given as goal
 
@@ -7,5 +7,5 @@ use Rattle.span_table.proofs.collected.add_thread.Given as goal
 abbrev pub invariant-loop-span : goal.invariant-loop-span
 invariant-loop-span l = record {
   kept : Takes l.fn.groups l.groups (map (keyed_span l.columns l.run l.thread) (take l.span-index l.span-items));
-  within : (most : ℕ) → AllWithin most l.fn.groups → AllWithin (most + l.span-index * 2 ^ 64) l.groups;
+  within : GrowsBy (l.span-index * 2 ^ 64) l.fn.groups l.groups;
 }

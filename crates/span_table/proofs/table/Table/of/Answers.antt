@@ -1,11 +1,11 @@
-use Rattle.std.proofs.Common.{map, sym, ap, subst, ◌∙◌}
-use Rattle.std.specs.Prelude.{option_copied}
-use Rattle.span_table.specs.Columns.{Run}
-use Rattle.span_table.specs.Tables.{RowsRise, row_of, run_sums}
-use Rattle.span_table.proofs.Rows.{RowsRise-rows_of}
+use Rattle.std.proofs.Common.{◌≡◌, [], subst, ◌∙◌}
+use Rattle.std.specs.Prelude.{option_copied, IfOk}
+use Rattle.span_table.specs.Columns.{run_of}
+use Rattle.span_table.specs.Tables.{SpanTable}
+use Rattle.span_table.proofs.Kept.{with_run-runs}
 use Rattle.span_table.proofs.table.Table.of.Goals as goal
 
-pub invariant_of-result : goal.invariant_of-result
-invariant_of-result c =
-    let run : Run = record { journal = c.args.ledger.now.journal; files = c.args.files; unread = c.args.unread; file = option_copied c.args.file } in
-    subst RowsRise (sym (c.in_ok-rows.ensures ∙ ap (map row_of) c.in_ok-sums.ensures)) (RowsRise-rows_of (run_sums c.args.columns.now run))
+pub returns : goal.returns
+returns c =
+    let run = run_of c.args.ledger.now.journal c.args.files c.args.unread (option_copied c.args.file) in
+    subst (λ (t : SpanTable). IfOk c.into_table.result (λ table. table ≡ t)) (c.in_ok-with_run.ensures ∙ with_run-runs c.in_ok-sum.sum run c.args.columns.now [] c.in_ok-sum.ensures) c.into_table.ensures

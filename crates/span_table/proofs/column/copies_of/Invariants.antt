@@ -1,5 +1,5 @@
 use Rattle.std.proofs.Common.{◌≡◌, take}
-use Rattle.span_table.proofs.table.copies_of.Given as goal
+use Rattle.span_table.proofs.column.copies_of.Given as goal
 
 -- copies of the columns so far
 abbrev pub invariant-loop-column : goal.invariant-loop-column

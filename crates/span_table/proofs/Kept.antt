@@ -1,0 +1,204 @@
+-- What is kept of runs, once more is added.
+use Rattle.std.proofs.Common.{◌≡◌, ℕ, ◌+◌, ◌*◌, ◌^◌, ◌<◌, List, [], ◌∷◌, ◌++◌, append-nil, map, refl, sym, ap, ap₂, subst, ◌∙◌, arith}
+use Rattle.std.specs.Prelude.{All, OnOk, Result, Ok, Err}
+use Rattle.std.specs.declared.alloc.AllocError.{AllocError}
+use Rattle.std.specs.List.Sorted.{IsStrictlySortedBy}
+use Rattle.std.specs.Map.{values_of}
+use Rattle.std.proofs.lemmas.List.Elements.{All-cons, All-nil}
+use Rattle.span_keyed_tracks.specs.Keyed.{entry_of, keys_in, steps_at}
+use Rattle.span_keyed_tracks.proofs.Keyed.{kept_at-entries_in}
+use Rattle.span_table.specs.declared.column.Column.{Column}
+use Rattle.span_table.specs.declared.heads.Head.{Head}
+use Rattle.span_table.specs.declared.sums.Sums.{Sums}
+use Rattle.span_table.specs.declared.table.Row.{Row}
+use Rattle.span_table.specs.Adding.{JoinsRuns, TakesRuns, add_tables, keyed_rows, with_run}
+use Rattle.span_table.specs.Collected.{AllWithin, IsWithin, Takes, with_sums}
+use Rattle.span_table.specs.Columns.{Run}
+use Rattle.span_table.specs.Heads.{IsHeadWithin, with_head}
+use Rattle.span_table.specs.KeyLaws.{key_cmp_total, key_cmp-same}
+use Rattle.span_table.specs.Kept.{IsKept}
+use Rattle.span_table.specs.Keys.{TableKey, key_cmp}
+use Rattle.span_table.specs.Tables.{KeyedSums, RowsRise, SpanTable, SumsByKey, head_of, heads_together, row_of, rows_of, run_sums, summed, sums_together, table_of}
+use Rattle.span_table.proofs.AddedTables.{add_tables-parts, rows-back, rows_of-alike}
+use Rattle.span_table.proofs.Alike.{AddUpAlike, AddUpAlike-append, AddUpAlike-refl, AddUpAlike-sym, sums_at-append, summed-alike}
+use Rattle.span_table.proofs.OwnRows.{rows_of-own}
+use Rattle.span_table.proofs.Rows.{RowsRise-rows_of}
+use Rattle.span_table.proofs.Summing.{found-within}
+
+-- what is kept is what its own rows come to
+summed-own : (kept : SumsByKey) → RowsRise (map row_of kept) → kept ≡ summed (keyed_rows (map row_of kept))
+summed-own kept rise = sym (back kept) ∙ ap (map entry) (sym (rows_of-own (map row_of kept) rise)) ∙ back (summed (keyed_rows (map row_of kept)))
+  where
+    entry : Row → TableKey × Sums
+    entry row = (row.key, row.sums)
+
+    back : (es : SumsByKey) → map entry (map row_of es) ≡ es
+    back [] = refl
+    back (e ∷ es) = ap (λ l. e ∷ l) (back es)
+
+-- sums that add up alike are taken alike
+pub Takes-alike : (old new : SumsByKey) (es fs : KeyedSums) → AddUpAlike es fs → Takes old new es → Takes old new fs
+Takes-alike old new es fs alike takes = λ sums kept. takes sums kept ∙ summed-alike (sums ++ es) (sums ++ fs) (AddUpAlike-append sums es sums fs (AddUpAlike-refl sums) alike)
+
+-- what one key has among some sums
+abbrev found : TableKey → KeyedSums → Sums
+found k es = sums_together (steps_at key_cmp k es)
+
+found-kept : (n : ℕ) (es : KeyedSums) → AllWithin n (summed es) → (k : TableKey) → IsWithin n (found k es)
+found-kept n es within k = subst (IsWithin n) (kept_at-entries_in key_cmp_total key_cmp-same sums_together es k) (found-within n k (summed es) within)
+
+AllWithin-summed : (n : ℕ) (es : KeyedSums) → ((k : TableKey) → IsWithin n (found k es)) → AllWithin n (summed es)
+AllWithin-summed n es within = each (keys_in key_cmp es)
+  where
+    each : (ks : List TableKey) → All (IsWithin n) (values_of (map (entry_of (λ k. found k es)) ks))
+    each [] = All-nil (IsWithin n)
+    each (k ∷ ks) = All-cons (IsWithin n) (found k es) (values_of (map (entry_of (λ k. found k es)) ks)) (within k) (each ks)
+
+with_sums-within : (m n : ℕ) (a b : Sums) → IsWithin m a → IsWithin n b → IsWithin (m + n) (with_sums a b)
+with_sums-within m n a b first second = record {
+  count = omega (arith, first.count, second.count);
+  total = omega (arith, first.total, second.total);
+  self_time = omega (arith, first.self_time, second.self_time);
+}
+
+part-within : (n : ℕ) (a b : Sums) → IsWithin n (with_sums a b) → IsWithin n a
+part-within n a b within = record { count = omega (arith, within.count); total = omega (arith, within.total); self_time = omega (arith, within.self_time) }
+
+-- what was kept, with a part of sums that are kept elsewhere: no key has more of the part than of all of these
+pub AllWithin-part : (m n : ℕ) (old new other : SumsByKey) (done left : KeyedSums) → RowsRise (map row_of old) → RowsRise (map row_of other) → AllWithin m old → AllWithin n other →
+    Takes old new done → done ++ left ≡ keyed_rows (map row_of other) → AllWithin (m + n) new
+AllWithin-part m n old new other done left rise other_rises within other_within takes parts =
+    let es = keyed_rows (map row_of old) in
+    let own = summed-own old rise in
+    let mine = found-kept m es (subst (AllWithin m) own within) in
+    let its = found-kept n (keyed_rows (map row_of other)) (subst (AllWithin n) (summed-own other other_rises) other_within) in
+    let of_part = λ (k : TableKey). part-within n (found k done) (found k left) (subst (IsWithin n) (ap (found k) (sym parts) ∙ sums_at-append k done left) (its k)) in
+    subst (AllWithin (m + n)) (sym (takes es own))
+    (AllWithin-summed (m + n) (es ++ done) (λ k. subst (IsWithin (m + n)) (sym (sums_at-append k es done)) (with_sums-within m n (found k es) (found k done) (mine k) (of_part k))))
+
+-- the rows of what is kept once sums are taken
+rows-taken : (old new : SumsByKey) (more : KeyedSums) → RowsRise (map row_of old) → Takes old new more → map row_of new ≡ rows_of (keyed_rows (map row_of old) ++ more)
+rows-taken old new more rise takes = ap (map row_of) (takes (keyed_rows (map row_of old)) (summed-own old rise))
+
+rise-taken : (old new : SumsByKey) (more : KeyedSums) → RowsRise (map row_of old) → Takes old new more → RowsRise (map row_of new)
+rise-taken old new more rise takes = subst RowsRise (sym (rows-taken old new more rise takes)) (RowsRise-rows_of (keyed_rows (map row_of old) ++ more))
+
+heads_together-two : (a b : Head) → with_head a b ≡ heads_together (a ∷ b ∷ [])
+heads_together-two a b =
+    let two : (f : Head → ℕ) → f a + f b ≡ 0 + f a + f b = λ f. omega arith in
+    let runs = two (λ h. h.runs) in
+    let files = two (λ h. h.files) in
+    let unread = two (λ h. h.unread) in
+    let accepted = two (λ h. h.counts.accepted) in
+    let refused = two (λ h. h.counts.refused) in
+    let skipped = two (λ h. h.counts.skipped) in
+    let queries = two (λ h. h.counts.queries) in
+    let seals = two (λ h. h.counts.seals) in
+    λ i. record {
+      runs = runs i;
+      files = files i;
+      unread = unread i;
+      counts = record { accepted = accepted i; refused = refused i; skipped = skipped i; queries = queries i; seals = seals i };
+    }
+
+heads_together-one : (a : Head) → heads_together (a ∷ []) ≡ a
+heads_together-one a =
+    let one : (f : Head → ℕ) → 0 + f a ≡ f a = λ f. omega arith in
+    let runs = one (λ h. h.runs) in
+    let files = one (λ h. h.files) in
+    let unread = one (λ h. h.unread) in
+    let accepted = one (λ h. h.counts.accepted) in
+    let refused = one (λ h. h.counts.refused) in
+    let skipped = one (λ h. h.counts.skipped) in
+    let queries = one (λ h. h.counts.queries) in
+    let seals = one (λ h. h.counts.seals) in
+    λ i. record {
+      runs = runs i;
+      files = files i;
+      unread = unread i;
+      counts = record { accepted = accepted i; refused = refused i; skipped = skipped i; queries = queries i; seals = seals i };
+    }
+
+-- a table, by what is kept of it
+abbrev pub table_kept : List Column → Head → SumsByKey → SpanTable
+table_kept columns head kept = record { columns = columns; head = head; rows = map row_of kept }
+
+-- sums of a run that are taken make the table with this run
+pub with_run-taken : (columns : List Column) (head : Head) (old new : SumsByKey) (run : Run) → RowsRise (map row_of old) → Takes old new (run_sums columns run) →
+    table_kept columns (with_head head (head_of run)) new ≡ with_run (table_kept columns head old) run
+with_run-taken columns head old new run rise takes = λ i. record { columns = columns; head = heads i; rows = rows i }
+  where
+    heads : with_head head (head_of run) ≡ heads_together (head ∷ heads_together (head_of run ∷ []) ∷ [])
+    heads = ap (with_head head) (sym (heads_together-one (head_of run))) ∙ heads_together-two head (heads_together (head_of run ∷ []))
+
+    rows : map row_of new ≡ rows_of (keyed_rows (map row_of old) ++ (keyed_rows (rows_of (run_sums columns run ++ [])) ++ []))
+    rows =
+        let es = keyed_rows (map row_of old) in
+        let all = run_sums columns run ++ [] in
+        let back = keyed_rows (rows_of all) in
+        rows-taken old new (run_sums columns run) rise takes ∙ ap (λ l. rows_of (es ++ l)) (sym (append-nil (run_sums columns run)))
+        ∙ rows_of-alike (es ++ all) (es ++ back) (AddUpAlike-append es all es back (AddUpAlike-refl es) (AddUpAlike-sym back all (rows-back all)))
+        ∙ ap (λ l. rows_of (es ++ l)) (sym (append-nil back))
+
+-- sums of another table that are taken make the table of both
+pub add_tables-taken : (columns : List Column) (head more : Head) (old new other : SumsByKey) (others : List Column) → RowsRise (map row_of old) → Takes old new (keyed_rows (map row_of other)) →
+    table_kept columns (with_head head more) new ≡ add_tables columns (table_kept columns head old ∷ table_kept others more other ∷ [])
+add_tables-taken columns head more old new other others rise takes = λ i. record { columns = columns; head = heads_together-two head more i; rows = rows i }
+  where
+    rows : map row_of new ≡ rows_of (keyed_rows (map row_of old) ++ (keyed_rows (map row_of other) ++ []))
+    rows = rows-taken old new (keyed_rows (map row_of other)) rise takes ∙ ap (λ l. rows_of (keyed_rows (map row_of old) ++ l)) (sym (append-nil (keyed_rows (map row_of other))))
+
+-- a table of some runs, with one more
+pub with_run-runs : (table : SpanTable) (run : Run) → TakesRuns table (run ∷ []) (with_run table run)
+with_run-runs table run = λ columns runs is. ap (λ t. with_run t run) is ∙ add_tables-parts columns (runs ∷ (run ∷ []) ∷ [])
+
+-- tables of some runs each, added
+pub add_tables-runs : (one other : SpanTable) → JoinsRuns one other (add_tables one.columns (one ∷ other ∷ []))
+add_tables-runs one other = λ columns runs others first second.
+    ap₂ (λ (a b : SpanTable). add_tables a.columns (a ∷ b ∷ [])) first second ∙ add_tables-parts columns (runs ∷ others ∷ []) ∙ ap (λ l. table_of columns (runs ++ l)) (append-nil others)
+
+with_head-within : (m n : ℕ) (a b : Head) → IsHeadWithin m a → IsHeadWithin n b → IsHeadWithin (m + n) (with_head a b)
+with_head-within m n a b first second = record {
+  runs = omega (arith, first.runs, second.runs);
+  files = omega (arith, first.files, second.files);
+  unread = omega (arith, first.unread, second.unread);
+  counts = record {
+    accepted = omega (arith, first.counts.accepted, second.counts.accepted);
+    refused = omega (arith, first.counts.refused, second.counts.refused);
+    skipped = omega (arith, first.counts.skipped, second.counts.skipped);
+    queries = omega (arith, first.counts.queries, second.counts.queries);
+    seals = omega (arith, first.counts.seals, second.counts.seals);
+  };
+}
+
+-- what is kept stays within its bounds with more sums, and a head of so many runs
+pub IsKept-taken : (head more : Head) (old new : SumsByKey) (taken : KeyedSums) → head.runs + more.runs < 2 ^ 32 → IsKept head old → IsHeadWithin (more.runs * 2 ^ 64) more → Takes old new taken →
+    AllWithin (head.runs * 2 ^ 160 + more.runs * 2 ^ 160) new → IsKept (with_head head more) new
+IsKept-taken head more old new taken few kept numbers takes within =
+    let runs : head.runs * 2 ^ 64 + more.runs * 2 ^ 64 ≡ (head.runs + more.runs) * 2 ^ 64 = omega arith in
+    let sums : head.runs * 2 ^ 160 + more.runs * 2 ^ 160 ≡ (head.runs + more.runs) * 2 ^ 160 = omega arith in
+    record {
+      few = few;
+      numbers = subst (λ n. IsHeadWithin n (with_head head more)) runs (with_head-within (head.runs * 2 ^ 64) (more.runs * 2 ^ 64) head more kept.numbers numbers);
+      rise = rise-taken old new taken kept.rise takes;
+      within = subst (λ n. AllWithin n new) sums within;
+    }
+
+pub OnOk-alike : (result : Result (Unit {0}) AllocError) (old new : SumsByKey) (es fs : KeyedSums) → AddUpAlike es fs → OnOk result (Takes old new es) → OnOk result (Takes old new fs)
+OnOk-alike (Ok done) old new es fs alike takes = Takes-alike old new es fs alike takes
+OnOk-alike (Err error) old new es fs alike takes = tt
+
+-- nothing is kept of no runs
+pub IsKept-none : IsKept (heads_together []) []
+unfolding IsStrictlySortedBy
+IsKept-none = record {
+  few = omega arith;
+  numbers = record {
+    runs = omega arith;
+    files = omega arith;
+    unread = omega arith;
+    counts = record { accepted = omega arith; refused = omega arith; skipped = omega arith; queries = omega arith; seals = omega arith };
+  };
+  rise = tt;
+  within = All-nil (IsWithin (0 * 2 ^ 160));
+}

@@ -1,0 +1,168 @@
+//! Tables of runs, added as they come.
+ghost use Rattle.std.specs.Prelude.{◌≡◌, ◌+◌, ◌<◌, ◌≤◌, ◌^◌, ◌∷◌, [], option_copied, IfOk, IfErr, OnOk};
+ghost use Rattle.span_table.specs.declared.table_sum.SumFault.TheVariants.{TooMany};
+ghost use Rattle.span_table.specs.Adding.{JoinsRuns, TakesRuns, add_tables, with_run};
+ghost use Rattle.span_table.specs.Columns.{run_of};
+ghost use Rattle.span_table.specs.Tables.{table_of};
+
+use crate::collected::{add_entries, add_run};
+use crate::column::{Column, copies_of};
+use crate::groups::Groups;
+use crate::heads::Head;
+use crate::run::LedgerRun;
+use crate::sums::Sums;
+use crate::table::{Table, rows_of};
+use span_event::Text;
+use span_keyed_tracks::HashKeys;
+use span_ledger::Ledger;
+use std::alloc::{AllocError, Global};
+use std::marker::Model;
+
+// A sum has fewer runs than this, so that no number of it is too great.
+const RUNS: u128 = 1 << 32;
+
+/// Why nothing was added, and the sum is lost.
+#[derive(Clone, Copy, Debug, PartialEq, Eq)]
+pub enum SumFault {
+    /// 31: memory was refused.
+    Memory,
+    /// There would be 2^32 runs or more.
+    TooMany,
+}
+
+/// The table of the runs so far. A run costs a look-up for each of its rows, however many there were before.
+#[derive(Drop)]
+pub struct TableSum {
+    columns: Vec<Column>,
+    head: Head,
+    groups: Groups<Sums>,
+}
+
+impl Model for TableSum {
+    ghost use Rattle.std.specs.Prelude.{map};
+    ghost use Rattle.span_table.specs.Kept.{IsKept};
+    ghost use Rattle.span_table.specs.Tables.{SpanTable, row_of};
+
+    ghost Value = { SpanTable };
+
+    ghost view = { λ s. record { columns = s.columns.items; head = s.head; rows = map row_of s.groups } };
+
+    ghost invariant = { λ s. IsKept s.head s.groups };
+}
+
+impl TableSum {
+    /// The table of no runs by these columns. Maps that files fill are hashed by these keys.
+    pub fn new(alloc: Global, keys: HashKeys, columns: &[Column]) -> Result<TableSum, AllocError>
+        ensures { IfOk result (λ sum. sum ≡ table_of columns.now []) }
+    {
+        Ok(TableSum {
+            columns: copies_of(alloc, columns)?,
+            head: Head::of_none(),
+            groups: Groups::new(alloc, keys),
+        })
+    }
+
+    /// With a run: that of a ledger of so many files, of which so many were refused as a whole, with the name of its file if it has
+    /// just one that has a name.
+    pub fn add_run(
+        self,
+        ledger: &Ledger,
+        files: u64,
+        unread: u64,
+        file: Option<&Text>,
+    ) -> Result<TableSum, SumFault>
+        ensures added { IfOk result (λ sum. sum
+            ≡ with_run self (run_of ledger.now.journal files unread (option_copied file.entry))) }
+        ensures runs { IfOk result (λ sum.
+            TakesRuns self (run_of ledger.now.journal files unread (option_copied file.entry) ∷ []) sum) }
+        ensures few { OnOk result (self.head.runs + 1 < 2 ^ 32) }
+        ensures too_many { IfErr result (λ fault. fault ≡ TooMany → 2 ^ 32 ≤ self.head.runs + 1) }
+    {
+        if self.head.runs + 1 >= RUNS {
+            return Err(SumFault::TooMany);
+        }
+        let run = LedgerRun {
+            ledger,
+            files,
+            unread,
+            file,
+        };
+        match self.with_run(&run) {
+            Ok(sum) => Ok(sum),
+            Err(_) => Err(SumFault::Memory),
+        }
+    }
+
+    /// With a run, where it is one of fewer than 2^32.
+    pub(crate) fn with_run(self, run: &LedgerRun) -> Result<TableSum, AllocError>
+        requires { self.head.runs + 1 < 2 ^ 32 }
+        ensures { IfOk result (λ sum. sum ≡ with_run self run.now) }
+    {
+        let TableSum {
+            columns,
+            mut head,
+            mut groups,
+        } = self;
+        let alloc = groups.allocator();
+        add_run(alloc, &mut groups, run, &columns)?;
+        head.add(&Head::of(run));
+        Ok(TableSum {
+            columns,
+            head,
+            groups,
+        })
+    }
+
+    /// With the runs of another sum by the same columns. It costs a look-up for each row of the other.
+    pub fn add(self, other: TableSum) -> Result<TableSum, SumFault>
+        ensures added { IfOk result (λ sum. sum ≡ add_tables self.columns (self ∷ other ∷ [])) }
+        ensures runs { IfOk result (λ sum. JoinsRuns self other sum) }
+        ensures few { OnOk result (self.head.runs + other.head.runs < 2 ^ 32) }
+        ensures too_many { IfErr result (λ fault. fault ≡ TooMany → 2 ^ 32 ≤ self.head.runs + other.head.runs) }
+    {
+        if self.head.runs + other.head.runs >= RUNS {
+            return Err(SumFault::TooMany);
+        }
+        match self.joined(other) {
+            Ok(sum) => Ok(sum),
+            Err(_) => Err(SumFault::Memory),
+        }
+    }
+
+    fn joined(self, other: TableSum) -> Result<TableSum, AllocError>
+        requires { self.head.runs + other.head.runs < 2 ^ 32 }
+        ensures { IfOk result (λ sum. sum ≡ add_tables self.columns (self ∷ other ∷ [])) }
+    {
+        let TableSum {
+            columns,
+            mut head,
+            mut groups,
+        } = self;
+        let TableSum {
+            columns: _,
+            head: more,
+            groups: others,
+        } = other;
+        add_entries(&mut groups, others.into_entries()?)?;
+        head.add(&more);
+        Ok(TableSum {
+            columns,
+            head,
+            groups,
+        })
+    }
+
+    /// The table, its rows put in order.
+    pub fn into_table(self) -> Result<Table, AllocError>
+        ensures { IfOk result (λ table. table ≡ self) }
+    {
+        let TableSum {
+            columns,
+            head,
+            groups,
+        } = self;
+        let alloc = groups.allocator();
+        let rows = rows_of(alloc, groups.into_entries()?)?;
+        Ok(Table::from_rows(columns, head, rows))
+    }
+}
