@@ -14,7 +14,7 @@ use Rattle.span_collect.specs.Run.{TextOf, WritesOneFile, end_by, journal_by}
 use Rattle.span_collect.specs.Seals.{seals_of, with_seals}
 
 -- one file has nothing in common with another
-AreSeparate-one : (file : Input) → AreSeparate (file ∷ [])
+pub AreSeparate-one : (file : Input) → AreSeparate (file ∷ [])
 AreSeparate-one file zero zero one other apart at at' = absurd (apart refl)
 AreSeparate-one file zero (suc w) one other apart at at' = absurd cc
 AreSeparate-one file (suc v) w one other apart at at' = absurd cc

@@ -26,6 +26,7 @@ use Rattle.span_collect.specs.declared.queries.Asked.{Asked}
 use Rattle.span_collect.specs.declared.sealing.Sealing.{Sealing}
 use Rattle.span_collect.specs.declared.settings.Settings.{Settings}
 use Rattle.span_collect.specs.Account.{Account, Document, EachEndsAs, IsRead, IsRefused, StopsAsking, callers_named, operations, telling}
+use Rattle.span_collect.specs.FaultLines.{end_lines}
 use Rattle.span_collect.specs.InTurn.{AnswersAsInTurn, AreSeparate, answers_of, ends_from, items_in, journal_in_turn, told_in_turn}
 use Rattle.span_collect.specs.Refusals.Text.{refusals_of}
 use Rattle.span_collect.specs.Run.{is_cut, is_refused, status_of, unread_of}
@@ -33,7 +34,7 @@ use Rattle.span_collect.specs.Seals.{SealedAccount, SealsAfter, StopsSealing, se
 use Rattle.span_collect.proofs.InTurn.Alike.{Contains-place, acts_on-told, exchanges-alone}
 use Rattle.span_collect.proofs.InTurn.Counts.{AllZip-files, count_row-told}
 use Rattle.span_collect.proofs.InTurn.Exchanges.{exchanges}
-use Rattle.span_collect.proofs.InTurn.FileLines.{file_lines-same, unread_of-same}
+use Rattle.span_collect.proofs.InTurn.FileLines.{end_lines-same, file_lines-same, unread_of-same}
 use Rattle.span_collect.proofs.InTurn.OneByOne.{told_in_turn-tells}
 use Rattle.span_collect.proofs.InTurn.Sealed.{AreAlike-sealed}
 use Rattle.span_collect.proofs.InTurn.Shared.{TellsFiles}
@@ -175,3 +176,7 @@ module _ (files : List Input) (asks : List Query) (settings : Settings) (ends : 
     -- and as many files are refused as a whole
     pub unread_of-in_turn : unread_of ends ≡ unread_of (ends_from 1 files)
     unread_of-in_turn = unread_of-same sealed.told settings.limit 1 files ends sealed.account.each_file_once_in_order all.0
+
+    -- and their fault lines are those in turn
+    pub end_lines-in_turn : end_lines files ends ≡ end_lines files (ends_from 1 files)
+    end_lines-in_turn = end_lines-same sealed.told settings.limit 1 files ends sealed.account.each_file_once_in_order all.0

@@ -1,4 +1,4 @@
--- What a text of refusals says of files that were all read or refused, and how many were refused.
+-- What is said of files that were all read or refused, and how many were refused.
 use Rattle.std.proofs.Common.{◌≡◌, ℕ, suc, ◌+◌, List, [], ◌∷◌, ◌++◌, length, map, false, Some, Ok, Err, refl, sym, ap, ap₂, ◌∙◌}
 use Rattle.std.specs.Prelude.{flat_map}
 use Rattle.std.specs.List.{list_any, range_with_len}
@@ -9,7 +9,7 @@ use Rattle.span_collect.specs.declared.files.FileEnd.{FileEnd}
 use Rattle.span_collect.specs.declared.files.FileEnd.TheVariants.{Read, Refused, Stopped, NotStarted}
 use Rattle.span_collect.specs.declared.files.Input.{Input}
 use Rattle.span_collect.specs.Account.{Document, EachEndsAs, IsRead, IsRefused, caller_named, callers_named}
-use Rattle.span_collect.specs.FaultLines.{lines_of_ends}
+use Rattle.span_collect.specs.FaultLines.{end_line, end_lines, fault_line, lines_of_ends}
 use Rattle.span_collect.specs.InTurn.{answers_of, ends_from}
 use Rattle.span_collect.specs.Refusals.{refused_by}
 use Rattle.span_collect.specs.Refusals.Text.{caller_lines, file_lines, refused_line}
@@ -57,3 +57,23 @@ unread_of-same told limit k (f ∷ fs) (Refused c code ∷ ends) each none =
     ap suc (unread_of-same told limit (k + 1) fs ends each.1 none) ∙ sym (unread_of-refused told (doc f.bytes.items) c code k (ends_from (k + 1) fs) each.0)
 unread_of-same told limit k (f ∷ fs) (Stopped c done cause ∷ ends) each none = absurd cc
 unread_of-same told limit k (f ∷ fs) (NotStarted ∷ ends) each none = absurd cc
+
+end_line-read : (told : List Entry) (name : List ℕ) (document : Document) (c count k : ℕ) → IsRead told document c count → [] ≡ end_line name (end_by k document)
+end_line-read told name (Ok items) c count k is = refl
+end_line-read told name (Err error) c count k is = absurd is
+
+end_line-refused : (told : List Entry) (name : List ℕ) (document : Document) (c code k : ℕ) → IsRefused told document c code → fault_line name code ≡ end_line name (end_by k document)
+end_line-refused told name (Ok items) c code k is = absurd is
+end_line-refused told name (Err error) c code k is = ap (fault_line name) is.0
+
+-- the same fault lines are said as where callers from one number on tell them
+pub end_lines-same : (told : List Entry) (limit k : ℕ) (files : List Input) (ends : List FileEnd) → EachEndsAs told limit files ends → list_any is_cut ends ≡ false → end_lines files ends ≡ end_lines files (ends_from k files)
+end_lines-same told limit k [] [] each none = refl
+end_lines-same told limit k [] (end ∷ ends) each none = absurd each
+end_lines-same told limit k (f ∷ fs) [] each none = absurd each
+end_lines-same told limit k (f ∷ fs) (Read c count ∷ ends) each none =
+    ap₂ (λ (x y : List ℕ). x ++ y) (end_line-read told f.name (doc f.bytes.items) c count k each.0) (end_lines-same told limit (k + 1) fs ends each.1 none)
+end_lines-same told limit k (f ∷ fs) (Refused c code ∷ ends) each none =
+    ap₂ (λ (x y : List ℕ). x ++ y) (end_line-refused told f.name (doc f.bytes.items) c code k each.0) (end_lines-same told limit (k + 1) fs ends each.1 none)
+end_lines-same told limit k (f ∷ fs) (Stopped c done cause ∷ ends) each none = absurd cc
+end_lines-same told limit k (f ∷ fs) (NotStarted ∷ ends) each none = absurd cc
