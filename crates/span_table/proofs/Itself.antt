@@ -22,6 +22,7 @@ use Rattle.span_table.specs.TextLaws.{RankingsHaveEachRow, TablesCompareWithThem
 use Rattle.span_table.proofs.Alike.{has_key-append, same_keys}
 use Rattle.span_table.proofs.Comparing.{length-changes}
 use Rattle.span_table.proofs.OwnRows.{ascending-own, keys-sorted}
+use Rattle.span_table.proofs.Permuted.{key_of}
 use Rattle.span_table.proofs.Rows.{rank_order-total, shown_rows-distinct}
 
 -- each row has its place, and no two rank alike
@@ -30,9 +31,6 @@ ranked-each by wanted rows rise = record {
   places = ascending-permutation (rank_order-total by) (shown_rows wanted rows) (shown_rows-distinct by wanted rows rise);
   order = ascending-sorted (rank_order-total by) (shown_rows wanted rows);
 }
-
-abbrev key_of : Row → TableKey
-key_of row = row.key
 
 module _ (rows : List Row) where
   -- the keys of two lists of the same rows are those of one

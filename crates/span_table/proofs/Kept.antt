@@ -14,7 +14,7 @@ use Rattle.span_table.specs.declared.table.Row.{Row}
 use Rattle.span_table.specs.Adding.{JoinsRuns, TakesRuns, add_tables, keyed_rows, with_run}
 use Rattle.span_table.specs.Collected.{AllWithin, IsWithin, Takes, with_sums}
 use Rattle.span_table.specs.Columns.{Run}
-use Rattle.span_table.specs.Heads.{IsHeadWithin, with_head}
+use Rattle.span_table.specs.Heads.{IsHeadWithin}
 use Rattle.span_table.specs.KeyLaws.{key_cmp_total, key_cmp-same}
 use Rattle.span_table.specs.Kept.{IsKept}
 use Rattle.span_table.specs.Keys.{TableKey, key_cmp}
@@ -83,24 +83,6 @@ rows-taken old new more rise takes = ap (map row_of) (takes (keyed_rows (map row
 rise-taken : (old new : SumsByKey) (more : KeyedSums) → RowsRise (map row_of old) → Takes old new more → RowsRise (map row_of new)
 rise-taken old new more rise takes = subst RowsRise (sym (rows-taken old new more rise takes)) (RowsRise-rows_of (keyed_rows (map row_of old) ++ more))
 
-heads_together-two : (a b : Head) → with_head a b ≡ heads_together (a ∷ b ∷ [])
-heads_together-two a b =
-    let two : (f : Head → ℕ) → f a + f b ≡ 0 + f a + f b = λ f. omega arith in
-    let runs = two (λ h. h.runs) in
-    let files = two (λ h. h.files) in
-    let unread = two (λ h. h.unread) in
-    let accepted = two (λ h. h.counts.accepted) in
-    let refused = two (λ h. h.counts.refused) in
-    let skipped = two (λ h. h.counts.skipped) in
-    let queries = two (λ h. h.counts.queries) in
-    let seals = two (λ h. h.counts.seals) in
-    λ i. record {
-      runs = runs i;
-      files = files i;
-      unread = unread i;
-      counts = record { accepted = accepted i; refused = refused i; skipped = skipped i; queries = queries i; seals = seals i };
-    }
-
 heads_together-one : (a : Head) → heads_together (a ∷ []) ≡ a
 heads_together-one a =
     let one : (f : Head → ℕ) → 0 + f a ≡ f a = λ f. omega arith in
@@ -125,11 +107,11 @@ table_kept columns head kept = record { columns = columns; head = head; rows = m
 
 -- sums of a run that are taken make the table with this run
 pub with_run-taken : (columns : List Column) (head : Head) (old new : SumsByKey) (run : Run) → RowsRise (map row_of old) → Takes old new (run_sums columns run) →
-    table_kept columns (with_head head (head_of run)) new ≡ with_run (table_kept columns head old) run
+    table_kept columns (heads_together (head ∷ head_of run ∷ [])) new ≡ with_run (table_kept columns head old) run
 with_run-taken columns head old new run rise takes = λ i. record { columns = columns; head = heads i; rows = rows i }
   where
-    heads : with_head head (head_of run) ≡ heads_together (head ∷ heads_together (head_of run ∷ []) ∷ [])
-    heads = ap (with_head head) (sym (heads_together-one (head_of run))) ∙ heads_together-two head (heads_together (head_of run ∷ []))
+    heads : heads_together (head ∷ head_of run ∷ []) ≡ heads_together (head ∷ heads_together (head_of run ∷ []) ∷ [])
+    heads = ap (λ (h : Head). heads_together (head ∷ h ∷ [])) (sym (heads_together-one (head_of run)))
 
     rows : map row_of new ≡ rows_of (keyed_rows (map row_of old) ++ (keyed_rows (rows_of (run_sums columns run ++ [])) ++ []))
     rows =
@@ -142,8 +124,8 @@ with_run-taken columns head old new run rise takes = λ i. record { columns = co
 
 -- sums of another table that are taken make the table of both
 pub add_tables-taken : (columns : List Column) (head more : Head) (old new other : SumsByKey) (others : List Column) → RowsRise (map row_of old) → Takes old new (keyed_rows (map row_of other)) →
-    table_kept columns (with_head head more) new ≡ add_tables columns (table_kept columns head old ∷ table_kept others more other ∷ [])
-add_tables-taken columns head more old new other others rise takes = λ i. record { columns = columns; head = heads_together-two head more i; rows = rows i }
+    table_kept columns (heads_together (head ∷ more ∷ [])) new ≡ add_tables columns (table_kept columns head old ∷ table_kept others more other ∷ [])
+add_tables-taken columns head more old new other others rise takes = λ i. record { columns = columns; head = heads_together (head ∷ more ∷ []); rows = rows i }
   where
     rows : map row_of new ≡ rows_of (keyed_rows (map row_of old) ++ (keyed_rows (map row_of other) ++ []))
     rows = rows-taken old new (keyed_rows (map row_of other)) rise takes ∙ ap (λ l. rows_of (keyed_rows (map row_of old) ++ l)) (sym (append-nil (keyed_rows (map row_of other))))
@@ -157,8 +139,8 @@ pub add_tables-runs : (one other : SpanTable) → JoinsRuns one other (add_table
 add_tables-runs one other = λ columns runs others first second.
     ap₂ (λ (a b : SpanTable). add_tables a.columns (a ∷ b ∷ [])) first second ∙ add_tables-parts columns (runs ∷ others ∷ []) ∙ ap (λ l. table_of columns (runs ++ l)) (append-nil others)
 
-with_head-within : (m n : ℕ) (a b : Head) → IsHeadWithin m a → IsHeadWithin n b → IsHeadWithin (m + n) (with_head a b)
-with_head-within m n a b first second = record {
+heads_together-within : (m n : ℕ) (a b : Head) → IsHeadWithin m a → IsHeadWithin n b → IsHeadWithin (m + n) (heads_together (a ∷ b ∷ []))
+heads_together-within m n a b first second = record {
   runs = omega (arith, first.runs, second.runs);
   files = omega (arith, first.files, second.files);
   unread = omega (arith, first.unread, second.unread);
@@ -173,13 +155,13 @@ with_head-within m n a b first second = record {
 
 -- what is kept stays within its bounds with more sums, and a head of so many runs
 pub IsKept-taken : (head more : Head) (old new : SumsByKey) (taken : KeyedSums) → head.runs + more.runs < 2 ^ 32 → IsKept head old → IsHeadWithin (more.runs * 2 ^ 64) more → Takes old new taken →
-    AllWithin (head.runs * 2 ^ 160 + more.runs * 2 ^ 160) new → IsKept (with_head head more) new
+    AllWithin (head.runs * 2 ^ 160 + more.runs * 2 ^ 160) new → IsKept (heads_together (head ∷ more ∷ [])) new
 IsKept-taken head more old new taken few kept numbers takes within =
-    let runs : head.runs * 2 ^ 64 + more.runs * 2 ^ 64 ≡ (head.runs + more.runs) * 2 ^ 64 = omega arith in
-    let sums : head.runs * 2 ^ 160 + more.runs * 2 ^ 160 ≡ (head.runs + more.runs) * 2 ^ 160 = omega arith in
+    let runs : head.runs * 2 ^ 64 + more.runs * 2 ^ 64 ≡ (0 + head.runs + more.runs) * 2 ^ 64 = omega arith in
+    let sums : head.runs * 2 ^ 160 + more.runs * 2 ^ 160 ≡ (0 + head.runs + more.runs) * 2 ^ 160 = omega arith in
     record {
-      few = few;
-      numbers = subst (λ n. IsHeadWithin n (with_head head more)) runs (with_head-within (head.runs * 2 ^ 64) (more.runs * 2 ^ 64) head more kept.numbers numbers);
+      few = omega (arith, few);
+      numbers = subst (λ n. IsHeadWithin n (heads_together (head ∷ more ∷ []))) runs (heads_together-within (head.runs * 2 ^ 64) (more.runs * 2 ^ 64) head more kept.numbers numbers);
       rise = rise-taken old new taken kept.rise takes;
       within = subst (λ n. AllWithin n new) sums within;
     }

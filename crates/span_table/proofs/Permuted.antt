@@ -27,7 +27,7 @@ use Rattle.span_table.specs.Tables.{RowsRise}
 use Rattle.span_table.proofs.Alike.{has_key-append, same_keys}
 use Rattle.span_table.proofs.Rows.{filter-sorted}
 
-abbrev key_of : Row → TableKey
+abbrev pub key_of : Row → TableKey
 key_of row = row.key
 
 -- a row is found where its key is among the keys

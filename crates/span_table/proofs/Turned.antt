@@ -24,9 +24,7 @@ use Rattle.span_table.specs.Ranks.{number_by}
 use Rattle.span_table.specs.Shown.{Wanted, is_wanted}
 use Rattle.span_table.specs.TextLaws.{ComparisonsTurn, DifferencesTurn, turned}
 use Rattle.span_table.proofs.Comparing.{length-changes}
-
-abbrev key_of : Row → TableKey
-key_of row = row.key
+use Rattle.span_table.proofs.Permuted.{key_of}
 
 keys-turned : (base other : List Row) → ascending key_cmp (map key_of (other ++ base)) ≡ ascending key_cmp (map key_of (base ++ other))
 keys-turned base other = ascending-members key_cmp_total key_cmp-same (map key_of (other ++ base)) (map key_of (base ++ other)) (moved other base) (moved base other)

@@ -1,7 +1,7 @@
 //! What a table counts beside its spans. A head has no bound of its own: its numbers are those of at most 2^32 runs.
-ghost use Rattle.std.specs.Prelude.{◌≡◌, ◌+◌, ◌^◌, ℕ, []};
-ghost use Rattle.span_table.specs.Heads.{AreCountsWithin, IsHeadWithin, with_counts, with_head};
-ghost use Rattle.span_table.specs.Tables.{head_of, heads_together};
+ghost use Rattle.std.specs.Prelude.{◌≡◌, ◌^◌, ◌∷◌, []};
+ghost use Rattle.span_table.specs.Heads.{AreCountsWithin, IsHeadWithin};
+ghost use Rattle.span_table.specs.Tables.{counts_together, head_of, heads_together};
 
 use crate::run::LedgerRun;
 use span_ledger::CountRow;
@@ -49,7 +49,7 @@ impl HeadCounts {
     fn add(&mut self, more: &HeadCounts)
         requires mine { AreCountsWithin (2 ^ 100) self.old }
         requires its { AreCountsWithin (2 ^ 100) more.now }
-        ensures { self.new ≡ with_counts self.old more.now }
+        ensures { self.new ≡ counts_together (self.old ∷ more.now ∷ []) }
     {
         self.accepted += more.accepted;
         self.refused += more.refused;
@@ -103,7 +103,7 @@ impl Head {
     pub(crate) fn add(&mut self, more: &Head)
         requires mine { IsHeadWithin (2 ^ 100) self.old }
         requires its { IsHeadWithin (2 ^ 100) more.now }
-        ensures { self.new ≡ with_head self.old more.now }
+        ensures { self.new ≡ heads_together (self.old ∷ more.now ∷ []) }
     {
         self.runs += more.runs;
         self.files += more.files;

@@ -1,11 +1,11 @@
-use Rattle.std.proofs.Common.{◌≡◌, ◌+◌, ◌*◌, ◌^◌, ◌<◌, List, sym, ap, subst, ◌∙◌, arith}
+use Rattle.std.proofs.Common.{◌≡◌, ◌+◌, ◌*◌, ◌^◌, ◌<◌, List, [], ◌∷◌, sym, ap, subst, ◌∙◌, arith}
 use Rattle.span_table.specs.declared.column.Column.{Column}
 use Rattle.span_table.specs.declared.heads.Head.{Head}
 use Rattle.span_table.specs.Adding.{with_run}
 use Rattle.span_table.specs.Collected.{AllWithin, Takes}
-use Rattle.span_table.specs.Heads.{IsHeadWithin, with_head}
+use Rattle.span_table.specs.Heads.{IsHeadWithin}
 use Rattle.span_table.specs.Kept.{IsKept}
-use Rattle.span_table.specs.Tables.{SpanTable, run_sums}
+use Rattle.span_table.specs.Tables.{SpanTable, heads_together, run_sums}
 use Rattle.span_table.proofs.Kept.{IsKept-taken, table_kept, with_run-taken}
 use Rattle.span_table.proofs.table_sum.TableSum.with_run.Goals as goal
 
@@ -31,6 +31,6 @@ returns c =
     let new = c.add_run.new.groups in
     let run = c.args.run.now in
     let takes = subst (λ (cs : List Column). Takes old new (run_sums cs run)) c.deref.ensures.value c.in_ok-add_run.ensures.takes in
-    ap (λ (h : Head). table_kept columns h new) (c.add.ensures ∙ ap (with_head head) c.of.ensures.value)
+    ap (λ (h : Head). table_kept columns h new) (c.add.ensures ∙ ap (λ (h : Head). heads_together (head ∷ h ∷ [])) c.of.ensures.value)
     ∙ with_run-taken columns head old new run c.self.invariant.rise takes
     ∙ ap (λ t. with_run t run) c.self.view_is
