@@ -166,6 +166,7 @@ IsKept-taken head more old new taken few kept numbers takes within =
       within = subst (λ n. AllWithin n new) sums within;
     }
 
+-- so they are where they were taken
 pub OnOk-alike : (result : Result (Unit {0}) AllocError) (old new : SumsByKey) (es fs : KeyedSums) → AddUpAlike es fs → OnOk result (Takes old new es) → OnOk result (Takes old new fs)
 OnOk-alike (Ok done) old new es fs alike takes = Takes-alike old new es fs alike takes
 OnOk-alike (Err error) old new es fs alike takes = tt

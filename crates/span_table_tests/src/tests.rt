@@ -5,4 +5,5 @@ mod comparisons;
 mod json_lines;
 mod large;
 mod rankings;
+mod sums;
 mod tabled;
