@@ -124,7 +124,7 @@ module _ {K : Type 0} {cmp : K → K → Ordering} (o : IsTotalOrder cmp) (same 
       mixed false true r = refl
       mixed false false r = refl
 
-  has_key-ascending : (k : K) (ks : List K) → has_key cmp k (ascending cmp ks) ≡ has_key cmp k ks
+  pub has_key-ascending : (k : K) (ks : List K) → has_key cmp k (ascending cmp ks) ≡ has_key cmp k ks
   has_key-ascending k ks = has_key-fold k [] ks ∙ or_nothing (has_key cmp k ks)
     where
       or_nothing : (a : Bool) → (a || false) ≡ a

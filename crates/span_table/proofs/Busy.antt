@@ -1,7 +1,6 @@
 -- The self times of a thread's rows add up to its busy time.
 use Rattle.std.proofs.Common.{◌≡◌, Bool, true, false, ◌||◌, cond, List, [], ◌∷◌, ◌++◌, map, take, refl, sym, ap, ap₂, subst, ◌∙◌}
 use Rattle.std.specs.Prelude.{filter, filter_map, flat_map, sum_by}
-use Rattle.std.specs.Cmp.{eq_by_cmp_equiv}
 use Rattle.std.specs.List.{AllByRecursion}
 use Rattle.std.specs.List.Sorted.{IsStrictlySortedBy}
 use Rattle.std.specs.Ordering.{int_cmp, is_eq, ordering_then}
@@ -9,13 +8,12 @@ use Rattle.std.specs.declared.cmp.Ordering.{Ordering}
 use Rattle.std.specs.declared.cmp.Ordering.TheVariants.{Less, Equal, Greater}
 use Rattle.std.proofs.lemmas.List.{append-nil}
 use Rattle.std.proofs.lemmas.List.Elements.{filter-append}
-use Rattle.std.proofs.lemmas.Map.Views.{list_any-from_Contains}
 use Rattle.span_event.specs.declared.thread.Thread.{Thread}
 use Rattle.span_event.specs.Orders.{thread_cmp}
 use Rattle.span_event.specs.Text.{Bytes}
 use Rattle.span_event.proofs.Orders.{thread_cmp-same, thread_cmp-total}
 use Rattle.span_keyed_tracks.specs.Keyed.{steps_at}
-use Rattle.span_keyed_tracks.proofs.Keyed.{has_key, same_from_is_eq}
+use Rattle.span_keyed_tracks.proofs.Keyed.{has_key, neither, same_from_is_eq}
 use Rattle.span_keyed_tracks.proofs.Sorted.{ascending-sorted}
 use Rattle.span_keyed_tracks.proofs.Uses.{is_eq-turned}
 use Rattle.span_ledger.specs.declared.rows.SpanRow.{SpanRow}
@@ -37,6 +35,7 @@ use Rattle.span_table.specs.Laws.{RowsAddUpToBusy, of_span_row, rows_of_thread, 
 use Rattle.span_table.specs.Tables.{keyed_span, sums_of}
 use Rattle.span_table.proofs.ByName.{thread-alike}
 use Rattle.span_table.proofs.OwnRows.{rows-are_span_rows}
+use Rattle.span_table.proofs.Unlisted.{closed_spans-unlisted}
 
 -- the keys of threads are in the order of these
 key_cmp-thread_cmp : (a b : Thread) → key_cmp (thread_key a) (thread_key b) ≡ thread_cmp a b
@@ -74,9 +73,16 @@ module _ (run : Run) (thread : Thread) where
   filter-rows_of : (t : Thread) (b : Bool) → is_eq (thread_cmp thread t) ≡ b → filter mine (rows_of t) ≡ cond b (rows_of t) []
   filter-rows_of t b e = filter-named t (closed_spans (thread_events t run.journal)) _ ∙ ap (λ c. cond c (rows_of t) []) (is_eq-turned thread_cmp-total t thread ∙ e)
 
-  none_later : (ts : List Thread) → AllByRecursion (λ t. thread_cmp thread t ≡ Less) ts → filter mine (flat_map rows_of ts) ≡ []
-  none_later [] below = refl
-  none_later (t ∷ ts) below = filter-append mine (rows_of t) (flat_map rows_of ts) ∙ ap₂ (λ a b. a ++ b) (filter-rows_of t false (ap is_eq below.0)) (none_later ts below.1)
+  -- of rows of other threads there are none
+  filter-others : (ts : List Thread) → has_key thread_cmp thread ts ≡ false → filter mine (flat_map rows_of ts) ≡ []
+  filter-others [] none = refl
+  filter-others (t ∷ ts) none =
+      let parts = neither (is_eq (thread_cmp thread t)) (has_key thread_cmp thread ts) none in
+      filter-append mine (rows_of t) (flat_map rows_of ts) ∙ ap₂ (λ a b. a ++ b) (filter-rows_of t false parts.0) (filter-others ts parts.1)
+
+  not_later : (ts : List Thread) → AllByRecursion (λ t. thread_cmp thread t ≡ Less) ts → has_key thread_cmp thread ts ≡ false
+  not_later [] below = refl
+  not_later (t ∷ ts) below = ap₂ (λ a b. a || b) (ap is_eq below.0) (not_later ts below.1)
 
   -- of rows of threads that rise, those of a thread among them
   filter-threads : (ts : List Thread) → IsStrictlySortedBy thread_cmp ts → has_key thread_cmp thread ts ≡ true → filter mine (flat_map rows_of ts) ≡ rows_of thread
@@ -89,7 +95,7 @@ module _ (run : Run) (thread : Thread) where
       by true e rest has =
           let same : thread ≡ t = same_from_is_eq thread_cmp-total thread_cmp-same thread t e in
           let below = subst (λ (x : Thread). AllByRecursion (λ y. thread_cmp x y ≡ Less) ts) (sym same) sorted.0 in
-          ap₂ (λ a b. a ++ b) (filter-rows_of t true e) (none_later ts below) ∙ append-nil (rows_of t) ∙ ap rows_of (sym same)
+          ap₂ (λ a b. a ++ b) (filter-rows_of t true e) (filter-others ts (not_later ts below)) ∙ append-nil (rows_of t) ∙ ap rows_of (sym same)
       by false e rest has = ap₂ (λ a b. a ++ b) (filter-rows_of t false e) (rest has)
 
   -- under the key of no columns stand all rows, and all spans
@@ -113,13 +119,20 @@ module _ (run : Run) (thread : Thread) where
 
 -- by process, thread and name the self times of a thread's rows add up to its busy time
 pub rows-busy : RowsAddUpToBusy
-rows-busy run thread listed are =
+rows-busy run thread are =
     let of_row = λ (row : Row). row.sums.self_time in
     let threads = thread_keys (accepted run.journal) in
     let mine_of = mine run thread in
     ap (λ rows. sum_by of_row (rows_of_thread thread rows)) (rows-are_span_rows run)
     ∙ ap (sum_by of_row) (filter-map (λ (row : Row). is_eq (key_cmp (take 2 row.key) (thread_key thread))) of_span_row (span_rows run.journal))
     ∙ sum_by-map of_row of_span_row (filter mine_of (span_rows run.journal))
-    ∙ ap (sum_by (λ (row : SpanRow). row.self_time))
-    (filter-threads run thread threads (ascending-sorted thread_cmp-total (filter_map (λ a. listed_by a.act) (accepted run.journal))) (list_any-from_Contains (eq_by_cmp_equiv thread_cmp-total) thread threads listed))
-    ∙ self_times-rows run thread are
+    ∙ by (has_key thread_cmp thread threads) refl
+  where
+    by : (b : Bool) → has_key thread_cmp thread (thread_keys (accepted run.journal)) ≡ b → sum_by (λ (row : SpanRow). row.self_time) (filter (mine run thread) (span_rows run.journal)) ≡ busy_time (closed_spans (thread_events thread run.journal))
+    by true listed =
+        ap (sum_by (λ (row : SpanRow). row.self_time))
+        (filter-threads run thread (thread_keys (accepted run.journal)) (ascending-sorted thread_cmp-total (filter_map (λ a. listed_by a.act) (accepted run.journal))) listed)
+        ∙ self_times-rows run thread are
+    by false none =
+        ap (sum_by (λ (row : SpanRow). row.self_time)) (filter-others run thread (thread_keys (accepted run.journal)) none)
+        ∙ ap busy_time (sym (closed_spans-unlisted thread run.journal none))

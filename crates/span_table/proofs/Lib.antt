@@ -17,3 +17,4 @@ pub mod SumText
 pub mod Summing
 pub mod Tallies
 pub mod Turned
+pub mod Unlisted

@@ -1,14 +1,12 @@
 -- The facts that hold of every table.
 use Rattle.std.specs.Prelude.{◌≡◌, List, [], ◌∷◌, filter, map, sum_by, take, Some}
-use Rattle.std.specs.List.{Contains}
 use Rattle.std.specs.Ordering.{is_eq}
 use Rattle.span_event.specs.declared.args.ArgValue.TheVariants.{Whole, Words}
 use Rattle.span_event.specs.declared.thread.Thread.{Thread}
 use Rattle.span_self_time.specs.Laws.{AreSpans}
 use Rattle.span_track.specs.Nesting.{closed_spans}
 use Rattle.span_ledger.specs.declared.rows.SpanRow.{SpanRow}
-use Rattle.span_ledger.specs.Journal.{accepted}
-use Rattle.span_ledger.specs.Rows.{span_rows, thread_keys, thread_row}
+use Rattle.span_ledger.specs.Rows.{span_rows, thread_row}
 use Rattle.span_ledger.specs.Told.{thread_events}
 use Rattle.span_ledger.specs.Topics.{AreAlike}
 use Rattle.span_table.specs.declared.column.Column.{Column}
@@ -61,6 +59,6 @@ rows_of_thread thread rows = filter (λ (row : Row). is_eq (key_cmp (take 2 row.
 abbrev pub AddUpToBusy : Run → Thread → Type 0
 AddUpToBusy run thread = sum_by (λ (row : Row). row.sums.self_time) (rows_of_thread thread (table_of row_columns (run ∷ [])).rows) ≡ (thread_row run.journal thread).busy
 
--- this holds of each thread that a journal lists, if its spans have positions that differ, and none ends before it starts
+-- this holds of each thread, if its spans have positions that differ, and none ends before it starts
 abbrev pub RowsAddUpToBusy : Type 0
-RowsAddUpToBusy = (run : Run) (thread : Thread) → Contains (thread_keys (accepted run.journal)) thread → AreSpans (closed_spans (thread_events thread run.journal)) → AddUpToBusy run thread
+RowsAddUpToBusy = (run : Run) (thread : Thread) → AreSpans (closed_spans (thread_events thread run.journal)) → AddUpToBusy run thread
