@@ -65,11 +65,16 @@ fn expect_lines(rt: &(impl Abort + AllocGlobal), sum: TableSum, want: &str) -> R
     Ok(())
 }
 
+// Takes what may be sent to another thread.
+fn sent<T: Send + Drop>(value: T) -> T {
+    value
+}
+
 #[test]
 fn runs_are_added_as_they_come(rt: HostRuntime) -> Result<(), Fail> {
     let names = ["name", "detail"];
     let sum = of_two(rt.alloc(), &names, FIRST, SECOND).ok_or("no sum")?;
-    expect_lines(&rt, sum, BY_DETAIL)
+    expect_lines(&rt, sent(sum), BY_DETAIL)
 }
 
 #[test]
