@@ -1,4 +1,4 @@
-//! What a table counts beside its spans. A head has no bound of its own: its numbers are those of at most 2^32 runs.
+//! What a table counts beside its spans. A head has no bound of its own: its numbers are those of fewer than 2^32 runs.
 ghost use Rattle.std.specs.Prelude.{◌≡◌, ◌^◌, ◌∷◌, []};
 ghost use Rattle.span_table.specs.Heads.{AreCountsWithin, IsHeadWithin};
 ghost use Rattle.span_table.specs.Tables.{counts_together, head_of, heads_together};
