@@ -12,7 +12,7 @@ use Rattle.span_self_time.proofs.Mapped.{filter-map}
 use Rattle.span_table.specs.declared.sums.Sums.{Sums}
 use Rattle.span_table.specs.declared.table.Row.{Row}
 use Rattle.span_table.specs.Changes.{Change, change_order, compared, compared_at, is_changed, is_same, same_count, shown_changes, sums_at}
-use Rattle.span_table.specs.Comparison.{base_lines, change_columns, change_line, other_lines, same_line}
+use Rattle.span_table.specs.Comparison.{change_columns, change_line, compared_heads, same_line}
 use Rattle.span_table.specs.KeyLaws.{key_cmp_total}
 use Rattle.span_table.specs.Keys.{TableKey, key_cmp}
 use Rattle.span_table.specs.Lines.{shown_line}
@@ -68,9 +68,8 @@ module _ (rows : List Row) where
 
 -- nothing changed between a table and itself
 pub comparison_of-itself : TablesCompareWithThemselves
-comparison_of-itself by wanted table rise =
+comparison_of-itself by wanted tells_runs table rise =
     let rows = table.rows in
-    let counts = table.head.counts in
     let all = compared rows rows in
     let shown = shown_changes wanted all in
     let are = shown-itself rows wanted rise in
@@ -78,4 +77,5 @@ comparison_of-itself by wanted table rise =
     let many : length shown ≡ length (shown_rows wanted rows) = ap length are ∙ length-map (shown_rows wanted rows) (made rows) in
     let every : length all ≡ length rows = ap length (compared-itself rows rise) ∙ length-map rows (made rows) in
     let same : same_count shown ≡ length (shown_rows wanted rows) = omega (arith, length-changes shown, ap length none, many) in
-    λ i. first_line ++ (base_lines counts ++ (other_lines counts ++ (shown_line wanted (many i) (every i) ++ (change_columns table.columns ++ (flat_map change_line (ascending (change_order by) (none i)) ++ same_line (same i))))))
+    λ i. first_line ++ (compared_heads tells_runs table.head table.head ++ (shown_line wanted (many i) (every i) ++ (change_columns table.columns ++
+    (flat_map change_line (ascending (change_order by) (none i)) ++ same_line (same i)))))

@@ -1,13 +1,14 @@
 -- The text of a comparison.
-use Rattle.std.specs.Prelude.{ℕ, ◌-◌, ◌==◌, if◌then◌else◌, List, [], ◌∷◌, ◌++◌, flat_map, length, map, codes, decimal}
+use Rattle.std.specs.Prelude.{ℕ, ◌-◌, ◌==◌, if◌then◌else◌, Bool, true, List, [], ◌∷◌, ◌++◌, flat_map, length, map, codes, decimal}
 use Rattle.std.specs.Ordering.{match_ordering, nat_cmp}
 use Rattle.span_event.specs.Text.{Bytes}
 use Rattle.span_ledger.specs.declared.rows.CountRow.{CountRow}
 use Rattle.span_report.specs.Lines.{count_line, first_line, line_of, right_in, seals_line}
 use Rattle.span_table.specs.declared.column.Column.{Column}
+use Rattle.span_table.specs.declared.heads.Head.{Head}
 use Rattle.span_table.specs.declared.sums.By.{By}
 use Rattle.span_table.specs.Changes.{Change, changes_of, compared, same_count, shown_changes}
-use Rattle.span_table.specs.Lines.{column_title, shown_line, value_text}
+use Rattle.span_table.specs.Lines.{column_title, runs_line, shown_line, value_text}
 use Rattle.span_table.specs.Shown.{Wanted}
 use Rattle.span_table.specs.Tables.{SpanTable}
 
@@ -18,6 +19,15 @@ base_lines counts = codes "base " ++ (count_line counts ++ (if counts.seals == 0
 -- the head of the other but for its first line
 abbrev pub other_lines : CountRow → Bytes
 other_lines counts = count_line counts ++ seals_line counts.seals
+
+-- how many runs the base has, where that is told
+abbrev pub base_runs_line : Bool → Head → Bytes
+base_runs_line tells_runs head = if tells_runs then codes "base " ++ runs_line true head else []
+
+-- both heads but for their first line
+unfoldable pub compared_heads : Bool → Head → Head → Bytes
+compared_heads tells_runs base other =
+    base_lines base.counts ++ (base_runs_line tells_runs base ++ (other_lines other.counts ++ runs_line tells_runs other))
 
 -- the names of the columns
 unfoldable pub change_columns : List Column → Bytes
@@ -41,9 +51,9 @@ unfoldable pub same_line : ℕ → Bytes
 same_line count = line_of (codes "same" ∷ decimal count ∷ [])
 
 -- both heads, how many keys are shown, the names of the columns, a line for each change, and then how many keys did not change
-abbrev pub comparison_of : By → Wanted → SpanTable → SpanTable → Bytes
-comparison_of by wanted base other =
+abbrev pub comparison_of : By → Wanted → Bool → SpanTable → SpanTable → Bytes
+comparison_of by wanted tells_runs base other =
     let all = compared base.rows other.rows in
     let shown = shown_changes wanted all in
-    first_line ++ (base_lines base.head.counts ++ (other_lines other.head.counts ++ (shown_line wanted (length shown) (length all) ++
-    (change_columns other.columns ++ (flat_map change_line (changes_of by shown) ++ same_line (same_count shown))))))
+    first_line ++ (compared_heads tells_runs base.head other.head ++ (shown_line wanted (length shown) (length all) ++
+    (change_columns other.columns ++ (flat_map change_line (changes_of by shown) ++ same_line (same_count shown)))))

@@ -1,12 +1,12 @@
 -- The text of a ranking.
-use Rattle.std.specs.Prelude.{ℕ, List, ◌∷◌, ◌++◌, take, flat_map, length, map, codes, decimal}
+use Rattle.std.specs.Prelude.{ℕ, Bool, List, ◌∷◌, ◌++◌, take, flat_map, length, map, codes, decimal}
 use Rattle.span_event.specs.Text.{Bytes}
 use Rattle.span_report.specs.Lines.{line_of, right_in}
 use Rattle.span_report.specs.Report.{head_lines}
 use Rattle.span_table.specs.declared.column.Column.{Column}
 use Rattle.span_table.specs.declared.sums.By.{By}
 use Rattle.span_table.specs.declared.table.Row.{Row}
-use Rattle.span_table.specs.Lines.{column_title, shown_line, value_text}
+use Rattle.span_table.specs.Lines.{column_title, runs_line, shown_line, value_text}
 use Rattle.span_table.specs.Ranks.{ranked}
 use Rattle.span_table.specs.Shown.{Wanted, shown_rows}
 use Rattle.span_table.specs.Tables.{SpanTable}
@@ -19,7 +19,7 @@ column_line columns = line_of (right_in 16 (codes "self") ∷ right_in 16 (codes
 unfoldable pub ranked_line : Row → Bytes
 ranked_line row = line_of (right_in 16 (decimal row.sums.self_time) ∷ right_in 16 (decimal row.sums.total) ∷ right_in 8 (decimal row.sums.count) ∷ map value_text row.key)
 
--- the head of the report, how many rows are shown, the names of the columns, and then a line for each of the first rows
-abbrev pub ranking_of : ℕ → By → Wanted → SpanTable → Bytes
-ranking_of most by wanted table = let shown = shown_rows wanted table.rows in
-    head_lines table.head.counts ++ (shown_line wanted (length shown) (length table.rows) ++ (column_line table.columns ++ flat_map ranked_line (take most (ranked by shown))))
+-- the head of the report, how many runs there are where that is told, how many rows are shown, the names of the columns, and then a line for each of the first rows
+abbrev pub ranking_of : ℕ → By → Wanted → Bool → SpanTable → Bytes
+ranking_of most by wanted tells_runs table = let shown = shown_rows wanted table.rows in
+    head_lines table.head.counts ++ (runs_line tells_runs table.head ++ (shown_line wanted (length shown) (length table.rows) ++ (column_line table.columns ++ flat_map ranked_line (take most (ranked by shown)))))

@@ -1,11 +1,11 @@
 -- The facts that hold of every ranking and every comparison.
-use Rattle.std.specs.Prelude.{◌≡◌, ℕ, ◌-◌, ◌<◌, List, ◌++◌, codes, decimal, length, map}
+use Rattle.std.specs.Prelude.{◌≡◌, ℕ, Bool, ◌-◌, ◌<◌, List, ◌++◌, codes, decimal, length, map}
 use Rattle.std.specs.List.Sorted.{IsPermutation, IsStrictlySortedBy}
 use Rattle.span_report.specs.Lines.{first_line}
 use Rattle.span_table.specs.declared.sums.By.{By}
 use Rattle.span_table.specs.declared.table.Row.{Row}
 use Rattle.span_table.specs.Changes.{Change, changes_of, compared, same_count, shown_changes}
-use Rattle.span_table.specs.Comparison.{base_lines, change_columns, comparison_of, difference_text, other_lines, same_line}
+use Rattle.span_table.specs.Comparison.{change_columns, compared_heads, comparison_of, difference_text, same_line}
 use Rattle.span_table.specs.Lines.{shown_line}
 use Rattle.span_table.specs.Ranks.{rank_order, ranked}
 use Rattle.span_table.specs.Shown.{Wanted, shown_rows}
@@ -21,14 +21,14 @@ abbrev pub RankingsHaveEachRow : Type 0
 RankingsHaveEachRow = (by : By) (wanted : Wanted) (rows : List Row) → RowsRise rows → RanksEachRow by (shown_rows wanted rows)
 
 -- between a table and itself nothing changed: below the names of the columns is how many keys are shown
-abbrev pub ComparesWithItself : By → Wanted → SpanTable → Type 0
-ComparesWithItself by wanted table = let shown = length (shown_rows wanted table.rows) in
-    comparison_of by wanted table table
-    ≡ first_line ++ (base_lines table.head.counts ++ (other_lines table.head.counts ++ (shown_line wanted shown (length table.rows) ++ (change_columns table.columns ++ same_line shown))))
+abbrev pub ComparesWithItself : By → Wanted → Bool → SpanTable → Type 0
+ComparesWithItself by wanted tells_runs table = let shown = length (shown_rows wanted table.rows) in
+    comparison_of by wanted tells_runs table table
+    ≡ first_line ++ (compared_heads tells_runs table.head table.head ++ (shown_line wanted shown (length table.rows) ++ (change_columns table.columns ++ same_line shown)))
 
 -- this holds of each table, in whatever order
 abbrev pub TablesCompareWithThemselves : Type 0
-TablesCompareWithThemselves = (by : By) (wanted : Wanted) (table : SpanTable) → RowsRise table.rows → ComparesWithItself by wanted table
+TablesCompareWithThemselves = (by : By) (wanted : Wanted) (tells_runs : Bool) (table : SpanTable) → RowsRise table.rows → ComparesWithItself by wanted tells_runs table
 
 -- a change the other way round
 abbrev pub turned : Change → Change

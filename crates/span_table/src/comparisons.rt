@@ -1,12 +1,12 @@
 //! The text of a comparison of two tables.
 ghost use Rattle.std.specs.Prelude.{◌≡◌, ◌++◌, decimal, string_bytes, flat_map, OnOk, IfOk};
-ghost use Rattle.span_table.specs.Comparison.{base_lines, change_columns, change_line, comparison_of, difference_text, other_lines, same_line};
+ghost use Rattle.span_table.specs.Comparison.{base_lines, base_runs_line, change_columns, change_line, compared_heads, comparison_of, difference_text, other_lines, same_line};
 ghost use Rattle.span_table.specs.Pieces.{both_text, change_names, then_right, times_text};
 
 use crate::changes::{Both, Changed, differences};
 use crate::column::Column;
-use crate::heads::HeadCounts;
-use crate::lines::{put_counts, put_right, put_seals, put_shown, put_titles, put_values};
+use crate::heads::{Head, HeadCounts};
+use crate::lines::{put_counts, put_right, put_runs, put_seals, put_shown, put_titles, put_values};
 use crate::shown::Shown;
 use crate::sum::Sum;
 use crate::sums::By;
@@ -19,25 +19,40 @@ const COLUMNS: &str =
     "           dself            self0            self1           dtotal           total0           total1   count0   count1";
 
 /// The text of the comparison of two tables of the same columns: of the keys that are shown those of which a number differs, the greatest
-/// change of this number first.
+/// change of this number first. The heads tell of runs or don't.
 pub fn comparison(
     alloc: Global,
     base: &Table,
     other: &Table,
     shown: &Shown,
     by: By,
+    tells_runs: bool,
 ) -> Result<Vec<u8>, AllocError>
-    ensures { IfOk result (λ text. text.items ≡ comparison_of by shown.now base.now other.now) }
+    ensures { IfOk result (λ text. text.items ≡ comparison_of by shown.now tells_runs base.now other.now) }
 {
     let mut out = first_line(alloc)?;
-    put_base(&mut out, &base.head().counts)?;
-    put_other(&mut out, &other.head().counts)?;
+    put_heads(&mut out, &base.head(), &other.head(), tells_runs)?;
     let found = differences(alloc, base.rows(), other.rows(), shown, by)?;
     put_shown(&mut out, shown, found.shown, found.all)?;
     put_columns(alloc, &mut out, other.columns())?;
     put_changes(alloc, &mut out, &found.changes)?;
     put_same(&mut out, found.same)?;
     Ok(out.into_bytes())
+}
+
+#[tactic(auto, using(std::proofs::Common::append_assoc), unfolding(crate::specs::Comparison::compared_heads))]
+fn put_heads(
+    out: &mut String,
+    base: &Head,
+    other: &Head,
+    tells_runs: bool,
+) -> Result<(), AllocError>
+    ensures { OnOk result (string_bytes out.new ≡ string_bytes out.old ++ compared_heads tells_runs base.now other.now) }
+{
+    put_base(out, &base.counts)?;
+    put_base_runs(out, base, tells_runs)?;
+    put_other(out, &other.counts)?;
+    put_runs(out, other, tells_runs)
 }
 
 fn put_base(out: &mut String, counts: &HeadCounts) -> Result<(), AllocError>
@@ -50,6 +65,16 @@ fn put_base(out: &mut String, counts: &HeadCounts) -> Result<(), AllocError>
     }
     out.push_str("base ")?;
     put_seals(out, counts.seals)
+}
+
+fn put_base_runs(out: &mut String, head: &Head, tells_runs: bool) -> Result<(), AllocError>
+    ensures { OnOk result (string_bytes out.new ≡ string_bytes out.old ++ base_runs_line tells_runs head.now) }
+{
+    if !tells_runs {
+        return Ok(());
+    }
+    out.push_str("base ")?;
+    put_runs(out, head, true)
 }
 
 fn put_other(out: &mut String, counts: &HeadCounts) -> Result<(), AllocError>

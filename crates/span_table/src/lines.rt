@@ -1,13 +1,13 @@
 //! What the texts for people have in common: numbers in a width, values, the names of columns, and how many rows are shown.
 ghost use Rattle.std.specs.Prelude.{◌≡◌, ◌++◌, flat_map, string_bytes, OnOk};
 ghost use Rattle.span_report.specs.Lines.{count_line, right_in, seals_line};
-ghost use Rattle.span_table.specs.Lines.{arg_text, shown_line};
+ghost use Rattle.span_table.specs.Lines.{arg_text, runs_line, shown_line};
 ghost use Rattle.span_table.specs.Pieces.{then_title, then_value};
 ghost use Rattle.json.specs.Print.{escape, quoted};
 ghost use Rattle.span_event.specs.Text.{Bytes};
 
 use crate::column::Column;
-use crate::heads::HeadCounts;
+use crate::heads::{Head, HeadCounts};
 use crate::shown::Shown;
 use span_event::{ArgValue, Text};
 use span_report::json_text;
@@ -35,6 +35,18 @@ pub(crate) fn put_seals(out: &mut String, seals: u128) -> Result<(), AllocError>
         return Ok(());
     }
     writeln!(out, "seals {seals}")
+}
+
+/// Appends the line of runs, where it is told.
+#[tactic(auto, unfolding(crate::specs::Lines::runs_line))]
+pub(crate) fn put_runs(out: &mut String, head: &Head, tells_runs: bool) -> Result<(), AllocError>
+    ensures { OnOk result (string_bytes out.new ≡ string_bytes out.old ++ runs_line tells_runs head.now) }
+{
+    if !tells_runs {
+        return Ok(());
+    }
+    let (runs, files, unread) = (head.runs, head.files, head.unread);
+    writeln!(out, "runs {runs} files {files} unread {unread}")
 }
 
 /// Appends the text, right in the width.

@@ -9,7 +9,7 @@ ghost use Rattle.span_table.specs.Ranks.{rank_order, ranked};
 
 use crate::column::Column;
 use crate::heads::HeadCounts;
-use crate::lines::{put_counts, put_right, put_seals, put_shown, put_titles, put_values};
+use crate::lines::{put_counts, put_right, put_runs, put_seals, put_shown, put_titles, put_values};
 use crate::shown::{Shown, ShownRow};
 use crate::sums::{By, Sums};
 use crate::table::{Row, Table};
@@ -19,17 +19,19 @@ use std::cmp::Ordering;
 
 const COLUMNS: &str = "            self            total    count";
 
-/// The text of the ranking of a table, with at most so many of the rows that are shown.
+/// The text of the ranking of a table, with at most so many of the rows that are shown. Its head tells of runs or doesn't.
 pub fn ranking(
     alloc: Global,
     table: &Table,
     shown: &Shown,
     most: u32,
     by: By,
+    tells_runs: bool,
 ) -> Result<Vec<u8>, AllocError>
-    ensures { IfOk result (λ text. text.items ≡ ranking_of most by shown.now table.now) }
+    ensures { IfOk result (λ text. text.items ≡ ranking_of most by shown.now tells_runs table.now) }
 {
     let mut out = head(alloc, &table.head().counts)?;
+    put_runs(&mut out, &table.head(), tells_runs)?;
     let rows = shown.rows(alloc, table.rows())?;
     put_shown(
         &mut out,
