@@ -1,0 +1,69 @@
+-- Files each of which is a run of its own, summed into one table.
+use Rattle.std.specs.Prelude.{◌≡◌, ℕ, ◌<◌, List, [], ◌∷◌, ◌++◌, map, flat_map, All, Option, Result, IfOk}
+use Rattle.span_event.specs.Text.{Bytes}
+use Rattle.span_ledger.specs.declared.entry.Entry.{Entry}
+use Rattle.span_read.specs.Document.{doc}
+use Rattle.span_collect.specs.declared.files.FileEnd.{FileEnd}
+use Rattle.span_collect.specs.declared.files.Input.{Input}
+use Rattle.span_collect.specs.declared.queries.Asked.{Asked}
+use Rattle.span_collect.specs.declared.sealing.Sealing.{Sealing}
+use Rattle.span_collect.specs.declared.settings.Settings.{Settings}
+use Rattle.span_collect.specs.FaultLines.{end_line}
+use Rattle.span_collect.specs.Run.{end_by, status_of}
+use Rattle.span_collect.specs.Seals.{SealedAccount}
+use Rattle.span_table.specs.declared.column.Column.{Column}
+use Rattle.span_table.specs.Adding.{TakesRuns}
+use Rattle.span_table.specs.Columns.{Run}
+use Rattle.span_table.specs.Laws.{AreAlikeRuns}
+use Rattle.span_table.specs.Tables.{SpanTable, table_of}
+use Rattle.span_runs.specs.declared.apart.Summed.{Summed}
+use Rattle.span_runs.specs.declared.stop.Stop.{Stop}
+use Rattle.span_runs.specs.Inputs.{AreFiles, most_read}
+use Rattle.span_runs.specs.Runs.{run_in_turn, run_of_files}
+use Rattle.span_runs.specs.Source.{AreFirst}
+
+-- the run of a file alone
+abbrev pub run_alone : Settings → Input → Run
+run_alone settings file = run_in_turn settings (file ∷ [])
+
+-- A journal accounts for the file alone, whose run ended, not with 2; and the run is alike the one in which the file's items stand in
+-- their order, and then its seals.
+pub record IsAccounted (settings : Settings) (file : Input) : Type 0 where
+  pub ends : List FileEnd
+  pub asked : Asked
+  pub sealing : Sealing
+  pub journal : List Entry
+  pub account : SealedAccount (file ∷ []) [] settings ends asked sealing journal
+  pub status : status_of ends asked sealing < 2
+  pub alike : AreAlikeRuns (run_of_files (file ∷ []) ends journal) (run_alone settings file)
+
+-- the fault line of a file that is no trace; another has none
+abbrev pub refusal_line : Input → Bytes
+refusal_line file = end_line file.name (end_by 1 (doc file.bytes.items))
+
+-- Each of the files of these names was collected alone; the table is that of their runs, and the lines are those of the files that are
+-- no trace, both in the files' order.
+pub record AreSummed (known : List ℕ → Option (List ℕ)) (names : List (List ℕ)) (settings : Settings) (columns : List Column) (table : SpanTable) (lines : Bytes) : Type 0 where
+  pub files : List Input
+  pub read : AreFiles known names files
+  pub accounted : All (IsAccounted settings) files
+  pub sum : table ≡ table_of columns (map (run_alone settings) files)
+  pub told : lines ≡ flat_map refusal_line files
+
+-- this is what files of these names come to
+abbrev pub SumsFiles : (List ℕ → Option (List ℕ)) → List (List ℕ) → Settings → List Column → Summed → Type 0
+SumsFiles known names settings columns summed = AreSummed known names settings columns summed.sum summed.lines.items
+
+-- one more file is summed
+pub record AddsFile (known : List ℕ → Option (List ℕ)) (name : List ℕ) (settings : Settings) (old new : Summed) : Type 0 where
+  pub file : Input
+  pub named : file.name ≡ name
+  pub held : AreFirst most_read (known name) file.bytes.items
+  pub accounted : IsAccounted settings file
+  pub sum : TakesRuns old.sum (run_alone settings file ∷ []) new.sum
+  pub lines : new.lines.items ≡ old.lines.items ++ refusal_line file
+
+-- where files of these names were summed, if at all, and files of those, the result is what they come to together, if anything
+abbrev pub JoinsFiles : Result Summed Stop → Result Summed Stop → Result Summed Stop → Type 0
+JoinsFiles first second both = (known : List ℕ → Option (List ℕ)) (names more : List (List ℕ)) (settings : Settings) (columns : List Column) →
+    IfOk first (SumsFiles known names settings columns) → IfOk second (SumsFiles known more settings columns) → IfOk both (SumsFiles known (names ++ more) settings columns)

@@ -1,0 +1,4 @@
+pub mod Apart
+pub mod Inputs
+pub mod Runs
+pub mod Source

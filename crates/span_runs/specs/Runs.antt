@@ -1,0 +1,28 @@
+-- A run of files, as a table takes it.
+use Rattle.std.specs.Prelude.{List, [], ◌∷◌, length, Option, Some, None}
+use Rattle.span_event.specs.Text.{Bytes}
+use Rattle.span_ledger.specs.declared.entry.Entry.{Entry}
+use Rattle.span_collect.specs.declared.files.FileEnd.{FileEnd}
+use Rattle.span_collect.specs.declared.files.Input.{Input}
+use Rattle.span_collect.specs.declared.settings.Settings.{Settings}
+use Rattle.span_collect.specs.InTurn.{ends_from, journal_in_turn}
+use Rattle.span_collect.specs.Run.{unread_of}
+use Rattle.span_table.specs.declared.column.Column.{Column}
+use Rattle.span_table.specs.Columns.{Run, run_of}
+use Rattle.span_table.specs.Tables.{SpanTable, table_of}
+
+-- the name of the only file
+abbrev pub only_name : List Input → Option Bytes
+only_name (file ∷ []) = Some file.name
+only_name files = None
+
+-- the run of these files, which ended so, and whose journal is this
+abbrev pub run_of_files : List Input → List FileEnd → List Entry → Run
+run_of_files files ends journal = run_of journal (length files) (unread_of ends) (only_name files)
+
+-- the run of these files where they are read in turn
+abbrev pub run_in_turn : Settings → List Input → Run
+run_in_turn settings files = run_of_files files (ends_from 1 files) (journal_in_turn settings files [])
+
+abbrev pub table_of_run : List Column → Run → SpanTable
+table_of_run columns run = table_of columns (run ∷ [])

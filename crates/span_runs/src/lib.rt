@@ -1,0 +1,16 @@
+//! Runs and their tables: the table of what was collected together, and that of files each of which is a run of its own, read and
+//! collected in several jobs at once.
+#![tactic(auto)]
+
+mod apart;
+mod cuts;
+mod files;
+mod runs;
+mod source;
+mod stop;
+
+pub use apart::{Summed, sum_apart};
+pub use files::{MOST_READ, read_file, read_standard};
+pub use runs::table_of_run;
+pub use source::{Reason, Source, SourceFault};
+pub use stop::{Stop, StopCause};
