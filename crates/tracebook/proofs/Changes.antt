@@ -11,14 +11,14 @@ use Rattle.tracebook.specs.declared.comparison.ComparisonFault.{ComparisonFault}
 use Rattle.tracebook.specs.declared.comparison.ComparisonFault.TheVariants.{Run, TooGreat}
 use Rattle.tracebook.specs.declared.comparison.ComparisonView.{ComparisonView}
 use Rattle.tracebook.specs.Comparison.{ChangesLeave, ComparisonLeaves, HasEnded, greater}
-use Rattle.tracebook.specs.Tables.{run_of}
+use Rattle.span_runs.specs.Runs.{run_in_turn, run_of_files}
 use Rattle.tracebook.proofs.InTurn.{AreTooGreat-in_turn, changes_of_runs-in_turn}
 
 -- two runs ended, neither with 2, and this is left of what changed between them
 module _ (view : ComparisonView) (base files : List Input) (settings : Settings) (base_run run : RunEnd) (base_journal journal : List Entry)
     (base_ended : HasEnded base settings base_run base_journal) (ended : HasEnded files settings run journal) (below : greater base_run.status run.status < 2)
     (old new : SinkState) where
-  pub ComparisonLeaves-text : (fault : ComparisonFault) → ChangesLeave view fault (run_of base base_run.ends.items base_journal) (run_of files run.ends.items journal) old new →
+  pub ComparisonLeaves-text : (fault : ComparisonFault) → ChangesLeave view fault (run_of_files base base_run.ends.items base_journal) (run_of_files files run.ends.items journal) old new →
       ComparisonLeaves view fault base files settings old new
   ComparisonLeaves-text (Run FileCount) leaves = absurd leaves
   ComparisonLeaves-text (Run Memory) leaves = leaves

@@ -13,19 +13,17 @@ use Rattle.span_collect.specs.declared.settings.Settings.{Settings}
 use Rattle.span_collect.specs.InTurn.{AreSeparate, ends_from, journal_in_turn, text_in_turn}
 use Rattle.span_collect.specs.Run.{status_of}
 use Rattle.span_collect.specs.Seals.{SealedAccount}
-use Rattle.span_collect.proofs.InTurn.Accounted.{AreAlike-in_turn, refusals_of-in_turn, unread_of-in_turn}
+use Rattle.span_collect.proofs.InTurn.Accounted.{AreAlike-in_turn, refusals_of-in_turn}
 use Rattle.span_page.proofs.SamePages.{page_of-alike}
-use Rattle.span_table.specs.declared.column.Column.{Column}
-use Rattle.span_table.specs.Json.{json_fits, json_of}
-use Rattle.span_table.specs.Laws.{AreAlikeRuns}
-use Rattle.span_table.specs.Ranking.{ranking_of}
+use Rattle.span_runs.specs.Runs.{run_in_turn, run_of_files}
+use Rattle.span_runs.proofs.InTurn.{table_of_run-in_turn}
 use Rattle.span_table.specs.Tables.{SpanTable}
-use Rattle.span_table.proofs.SameTables.{table_of-alike}
 use Rattle.tracebook.specs.declared.comparison.ComparisonView.{ComparisonView}
+use Rattle.tracebook.specs.declared.tables.TableView.{TableView}
 use Rattle.tracebook.specs.declared.view.View.{View}
-use Rattle.tracebook.specs.declared.view.View.TheVariants.{Report, Ranking, Json, Refusals, Folded, Page}
-use Rattle.tracebook.specs.Comparison.{AreTooGreat, HasEnded, HasTooGreat, changes_of_runs, changes_text, comparison_in_turn, greater}
-use Rattle.tracebook.specs.Tables.{run_in_turn, run_of, table_of_run}
+use Rattle.tracebook.specs.declared.view.View.TheVariants.{Report, Table, Refusals, Folded, Page}
+use Rattle.tracebook.specs.Comparison.{AreTooGreat, HasEnded, HasTooGreat, changes_of_runs, changes_text, compared_table, comparison_in_turn, greater}
+use Rattle.tracebook.specs.Tables.{asked_table, table_fits, table_text}
 use Rattle.tracebook.specs.View.{ExceedsBits, ExceedsNames, text_of}
 use Rattle.tracebook.proofs.Compared.{greater-is}
 
@@ -34,18 +32,13 @@ module _ (files : List Input) (settings : Settings) (ends : List FileEnd) (asked
   alike : AreAlike journal (journal_in_turn settings files [])
   alike = AreAlike-in_turn files [] settings ends asked sealing journal account separate below
 
-  alike_runs : AreAlikeRuns (run_of files ends journal) (run_in_turn settings files)
-  alike_runs = record { journals = alike; files = refl; unread = unread_of-in_turn files [] settings ends asked sealing journal account separate below }
-
-  -- each table
-  pub table_of_run-in_turn : (columns : List Column) → table_of_run columns (run_of files ends journal) ≡ table_of_run columns (run_in_turn settings files)
-  table_of_run-in_turn columns = table_of-alike columns (run_of files ends journal ∷ []) (run_in_turn settings files ∷ []) (alike_runs, tt)
+  table-in_turn : (view : TableView) → asked_table view (run_of_files files ends journal) ≡ asked_table view (run_in_turn settings files)
+  table-in_turn view = table_of_run-in_turn files settings ends asked sealing journal account separate below view.options.columns.items
 
   -- each view
   pub text_of-in_turn : (view : View) → text_of view files ends journal ≡ text_in_turn (text_of view files) files [] settings
   text_of-in_turn Report = report_of-alike journal (journal_in_turn settings files []) alike
-  text_of-in_turn (Ranking table most by) = ap (ranking_of most by table.shown) (table_of_run-in_turn table.columns.items)
-  text_of-in_turn (Json table) = ap (json_of table.shown) (table_of_run-in_turn table.columns.items)
+  text_of-in_turn (Table view) = ap (table_text view false) (table-in_turn view)
   text_of-in_turn Refusals = refusals_of-in_turn files [] settings ends asked sealing journal account separate below
   text_of-in_turn Folded = (stacks-alike journal (journal_in_turn settings files []) alike).text
   text_of-in_turn Page =
@@ -55,8 +48,7 @@ module _ (files : List Input) (settings : Settings) (ends : List FileEnd) (asked
   -- whether folded stacks have more names than they may
   pub ExceedsNames-in_turn : (view : View) → ExceedsNames view ends journal → ExceedsNames view (ends_from 1 files) (journal_in_turn settings files [])
   ExceedsNames-in_turn Report exceeds = exceeds
-  ExceedsNames-in_turn (Ranking table most by) exceeds = exceeds
-  ExceedsNames-in_turn (Json table) exceeds = exceeds
+  ExceedsNames-in_turn (Table view) exceeds = exceeds
   ExceedsNames-in_turn Refusals exceeds = exceeds
   ExceedsNames-in_turn Folded exceeds = rw (sym (stacks-alike journal (journal_in_turn settings files []) alike).names) exceeds
   ExceedsNames-in_turn Page exceeds = exceeds
@@ -64,8 +56,7 @@ module _ (files : List Input) (settings : Settings) (ends : List FileEnd) (asked
   -- and whether numbers for other programs have more bits
   pub ExceedsBits-in_turn : (view : View) → ExceedsBits view files ends journal → ExceedsBits view files (ends_from 1 files) (journal_in_turn settings files [])
   ExceedsBits-in_turn Report exceeds = exceeds
-  ExceedsBits-in_turn (Ranking table most by) exceeds = exceeds
-  ExceedsBits-in_turn (Json table) exceeds = subst (λ (t : SpanTable). json_fits table.shown t ≡ false) (table_of_run-in_turn table.columns.items) exceeds
+  ExceedsBits-in_turn (Table view) exceeds = subst (λ (table : SpanTable). table_fits view table ≡ false) (table-in_turn view) exceeds
   ExceedsBits-in_turn Refusals exceeds = exceeds
   ExceedsBits-in_turn Folded exceeds = exceeds
   ExceedsBits-in_turn Page exceeds = exceeds
@@ -81,16 +72,16 @@ module _ (view : ComparisonView) (base files : List Input) (settings : Settings)
   other_below = omega (arith, below, (greater-is base_run.status run.status).1)
 
   -- the table of the base
-  pub base-in_turn : table_of_run view.table.columns.items (run_of base base_run.ends.items base_journal) ≡ table_of_run view.table.columns.items (run_in_turn settings base)
+  pub base-in_turn : compared_table view (run_of_files base base_run.ends.items base_journal) ≡ compared_table view (run_in_turn settings base)
   base-in_turn =
-      table_of_run-in_turn base settings base_run.ends.items base_run.asked base_run.sealing base_journal base_ended.account separate_base (rw base_ended.status at base_below) view.table.columns.items
+      table_of_run-in_turn base settings base_run.ends.items base_run.asked base_run.sealing base_journal base_ended.account separate_base (rw base_ended.status at base_below) view.options.columns.items
 
   -- and that of the other
-  pub other-in_turn : table_of_run view.table.columns.items (run_of files run.ends.items journal) ≡ table_of_run view.table.columns.items (run_in_turn settings files)
-  other-in_turn = table_of_run-in_turn files settings run.ends.items run.asked run.sealing journal ended.account separate (rw ended.status at other_below) view.table.columns.items
+  pub other-in_turn : compared_table view (run_of_files files run.ends.items journal) ≡ compared_table view (run_in_turn settings files)
+  other-in_turn = table_of_run-in_turn files settings run.ends.items run.asked run.sealing journal ended.account separate (rw ended.status at other_below) view.options.columns.items
 
-  pub changes_of_runs-in_turn : changes_of_runs view (run_of base base_run.ends.items base_journal) (run_of files run.ends.items journal) ≡ comparison_in_turn view base files settings
-  changes_of_runs-in_turn = λ i. changes_text view.form view.table.shown (base-in_turn i) (other-in_turn i)
+  pub changes_of_runs-in_turn : changes_of_runs view (run_of_files base base_run.ends.items base_journal) (run_of_files files run.ends.items journal) ≡ comparison_in_turn view base files settings
+  changes_of_runs-in_turn = λ i. changes_text view false (base-in_turn i) (other-in_turn i)
 
-  pub AreTooGreat-in_turn : AreTooGreat view (run_of base base_run.ends.items base_journal) (run_of files run.ends.items journal) → AreTooGreat view (run_in_turn settings base) (run_in_turn settings files)
-  AreTooGreat-in_turn = subst (λ T. T) (λ i. HasTooGreat view.form view.table.shown (base-in_turn i) (other-in_turn i))
+  pub AreTooGreat-in_turn : AreTooGreat view (run_of_files base base_run.ends.items base_journal) (run_of_files files run.ends.items journal) → AreTooGreat view (run_in_turn settings base) (run_in_turn settings files)
+  AreTooGreat-in_turn = subst (λ T. T) (λ i. HasTooGreat view (base-in_turn i) (other-in_turn i))

@@ -1,5 +1,5 @@
 -- What comparing two runs does.
-use Rattle.std.specs.Prelude.{◌≡◌, ℕ, ◌<◌, ◌≤◌, ◌⊎◌, if◌then◌else◌, false, List, [], length, nat_lt, take}
+use Rattle.std.specs.Prelude.{◌≡◌, ℕ, ◌<◌, ◌≤◌, ◌⊎◌, if◌then◌else◌, Bool, false, List, [], length, nat_lt, take}
 use Rattle.span_event.specs.declared.fault.Fault.TheVariants.{TooGreat as TooGreatFault}
 use Rattle.span_event.specs.Fault.{number_of}
 use Rattle.span_event.specs.Text.{Bytes}
@@ -16,32 +16,42 @@ use Rattle.span_collect.specs.Seals.{SealedAccount}
 use Rattle.span_table.specs.Comparison.{comparison_of}
 use Rattle.span_table.specs.Json.{json_changes_fit, json_comparison_of}
 use Rattle.span_table.specs.Shown.{Wanted}
-use Rattle.span_table.specs.Tables.{Run, SpanTable}
+use Rattle.span_table.specs.Columns.{Run}
+use Rattle.span_table.specs.Tables.{SpanTable}
+use Rattle.span_runs.specs.Runs.{run_in_turn, run_of_files, table_of_run}
 use Rattle.tracebook.specs.declared.comparison.ComparisonFault.{ComparisonFault}
 use Rattle.tracebook.specs.declared.comparison.ComparisonFault.TheVariants.{Run as OfRun, TooGreat}
 use Rattle.tracebook.specs.declared.comparison.ComparisonForm.{ComparisonForm}
 use Rattle.tracebook.specs.declared.comparison.ComparisonForm.TheVariants.{Text, Json}
 use Rattle.tracebook.specs.declared.comparison.ComparisonView.{ComparisonView}
-use Rattle.tracebook.specs.Tables.{run_in_turn, run_of, table_of_run}
 
--- what changed between two tables
-abbrev pub changes_text : ComparisonForm → Wanted → SpanTable → SpanTable → Bytes
-changes_text (Text by) shown base other = comparison_of by shown base other
-changes_text Json shown base other = json_comparison_of shown base other
+-- what changed between two tables, in a form
+abbrev pub changes_formed : ComparisonForm → Wanted → Bool → SpanTable → SpanTable → Bytes
+changes_formed (Text by) shown tells_runs base other = comparison_of by shown tells_runs base other
+changes_formed Json shown tells_runs base other = json_comparison_of shown base other
 
 -- it is for other programs, and a number has more than 64 bits
-abbrev pub HasTooGreat : ComparisonForm → Wanted → SpanTable → SpanTable → Type 0
-HasTooGreat (Text by) shown base other = ⊥
-HasTooGreat Json shown base other = json_changes_fit shown base other ≡ false
+abbrev pub FormHasTooGreat : ComparisonForm → Wanted → SpanTable → SpanTable → Type 0
+FormHasTooGreat (Text by) shown base other = ⊥
+FormHasTooGreat Json shown base other = json_changes_fit shown base other ≡ false
 
--- the same for the tables of two runs that are asked for
+-- what is printed of what changed, under heads that tell of runs or don't
+abbrev pub changes_text : ComparisonView → Bool → SpanTable → SpanTable → Bytes
+changes_text view tells_runs base other = changes_formed view.form view.options.shown tells_runs base other
+
+abbrev pub HasTooGreat : ComparisonView → SpanTable → SpanTable → Type 0
+HasTooGreat view base other = FormHasTooGreat view.form view.options.shown base other
+
+-- the table of one run that is asked for
+abbrev pub compared_table : ComparisonView → Run → SpanTable
+compared_table view run = table_of_run view.options.columns.items run
+
+-- the same for two runs
 abbrev pub changes_of_runs : ComparisonView → Run → Run → Bytes
-changes_of_runs view base other =
-    changes_text view.form view.table.shown (table_of_run view.table.columns.items base) (table_of_run view.table.columns.items other)
+changes_of_runs view base other = changes_text view false (compared_table view base) (compared_table view other)
 
 abbrev pub AreTooGreat : ComparisonView → Run → Run → Type 0
-AreTooGreat view base other =
-    HasTooGreat view.form view.table.shown (table_of_run view.table.columns.items base) (table_of_run view.table.columns.items other)
+AreTooGreat view base other = HasTooGreat view (compared_table view base) (compared_table view other)
 
 -- a failed output took just the first `written` bytes of what changed
 abbrev pub TakesFirst : ComparisonView → ℕ → Run → Run → SinkState → SinkState → Type 0
@@ -77,7 +87,7 @@ pub record IsComparisonOf (view : ComparisonView) (base files : List Input) (set
   pub base_ended : HasEnded base settings base_run base_journal
   pub ended : HasEnded files settings run journal
   pub written : greater base_run.status run.status < 2
-      → TakesBytes old new (changes_of_runs view (run_of base base_run.ends.items base_journal) (run_of files run.ends.items journal))
+      → TakesBytes old new (changes_of_runs view (run_of_files base base_run.ends.items base_journal) (run_of_files files run.ends.items journal))
   pub silent : greater base_run.status run.status ≡ 2 → new ≡ old
   pub in_turn : AreSeparate base → AreSeparate files → greater base_run.status run.status < 2 → TakesBytes old new (comparison_in_turn view base files settings)
 
@@ -91,7 +101,7 @@ pub record HoldsOfBoth (Holds : Run → Run → Type 0) (base files : List Input
   pub base_ended : HasEnded base settings base_run base_journal
   pub ended : HasEnded files settings run journal
   pub status : greater base_run.status run.status < 2
-  pub holds : Holds (run_of base base_run.ends.items base_journal) (run_of files run.ends.items journal)
+  pub holds : Holds (run_of_files base base_run.ends.items base_journal) (run_of_files files run.ends.items journal)
   pub in_turn : AreSeparate base → AreSeparate files → Holds (run_in_turn settings base) (run_in_turn settings files)
 
 -- why two runs were not compared, and what that leaves: only a failed output took bytes, the first of what changed

@@ -1,7 +1,7 @@
 pub mod Comparison
 pub mod FaultLines
-pub mod Inputs
+pub mod Reading
 pub mod Request
-pub mod Source
+pub mod Sums
 pub mod Tables
 pub mod View

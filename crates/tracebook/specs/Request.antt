@@ -6,15 +6,16 @@ use Rattle.span_collect.specs.declared.files.Input.{Input}
 use Rattle.span_collect.specs.declared.settings.Settings.{Settings}
 use Rattle.span_collect.specs.declared.runs.RunEnd.{RunEnd}
 use Rattle.tracebook.specs.declared.command.Request.{Request}
-use Rattle.tracebook.specs.declared.command.Request.TheVariants.{Collect, Compare, Show, Refuse}
+use Rattle.tracebook.specs.declared.command.Request.TheVariants.{Collect, Compare, Sum, CompareSums, Show, Refuse}
 use Rattle.tracebook.specs.declared.comparison.ComparisonFault.{ComparisonFault}
 use Rattle.tracebook.specs.declared.comparison.ComparisonView.{ComparisonView}
 use Rattle.tracebook.specs.declared.view.View.{View}
 use Rattle.tracebook.specs.declared.view.View.TheVariants.{Report}
 use Rattle.tracebook.specs.declared.view.ViewFault.{ViewFault}
-use Rattle.tracebook.specs.Source.{SourceBytes}
+use Rattle.span_runs.specs.Source.{SourceBytes}
 use Rattle.tracebook.specs.Comparison.{ComparisonLeaves, IsComparisonOf, greater}
-use Rattle.tracebook.specs.Inputs.{AreFiles, AreInputs}
+use Rattle.span_runs.specs.Inputs.{AreFiles, AreInputs}
+use Rattle.tracebook.specs.Sums.{ComparesSums, ComparesSumsPart, Sums, SumsPart}
 use Rattle.tracebook.specs.View.{Prints, ViewLeaves}
 
 -- the word begins with a hyphen
@@ -33,6 +34,8 @@ default_settings = record { limit = default_limit; seal = false; strict = false 
 abbrev pub NamesFiles : List (List ℕ) → Request → Type 0
 NamesFiles words (Collect settings view files) = (settings ≡ default_settings) × (view ≡ Report) × (files.items ≡ words)
 NamesFiles words (Compare settings view base files) = ⊥
+NamesFiles words (Sum apart view files) = ⊥
+NamesFiles words (CompareSums apart view base files) = ⊥
 NamesFiles words (Show text) = ⊥
 NamesFiles words (Refuse text) = ⊥
 
@@ -98,6 +101,8 @@ ComparesPart source base_names names settings view old new = (new ≡ old)
 abbrev pub Performs : SourceBytes → Request → ℕ → SinkState → SinkState → Type 0
 Performs source (Collect settings view files) status old new = Collects source files.items settings view status old new
 Performs source (Compare settings view base files) status old new = Compares source base.items files.items settings view status old new
+Performs source (Sum apart view files) status old new = Sums source files.items apart.settings view status old new
+Performs source (CompareSums apart view base files) status old new = ComparesSums source base.items files.items apart.settings view status old new
 Performs source (Show text) status old new = (status ≡ 0) × TakesBytes old new (string_bytes text)
 Performs source (Refuse text) status old new = ⊥
 
@@ -105,5 +110,7 @@ Performs source (Refuse text) status old new = ⊥
 abbrev pub GivesUp : SourceBytes → Request → SinkState → SinkState → Type 0
 GivesUp source (Collect settings view files) old new = CollectsPart source files.items settings view old new
 GivesUp source (Compare settings view base files) old new = ComparesPart source base.items files.items settings view old new
+GivesUp source (Sum apart view files) old new = SumsPart source files.items apart.settings view old new
+GivesUp source (CompareSums apart view base files) old new = ComparesSumsPart source base.items files.items apart.settings view old new
 GivesUp source (Show text) old new = (written : ℕ) × Fails old new (take written (string_bytes text))
 GivesUp source (Refuse text) old new = new ≡ old

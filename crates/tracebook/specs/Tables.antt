@@ -1,37 +1,33 @@
--- The table of a run, and its texts.
-use Rattle.std.specs.Prelude.{ℕ, Bool, List, [], ◌∷◌, length}
+-- The texts of tables.
+use Rattle.std.specs.Prelude.{Bool, true}
 use Rattle.span_event.specs.Text.{Bytes}
-use Rattle.span_ledger.specs.declared.entry.Entry.{Entry}
-use Rattle.span_collect.specs.declared.files.FileEnd.{FileEnd}
-use Rattle.span_collect.specs.declared.files.Input.{Input}
-use Rattle.span_collect.specs.declared.settings.Settings.{Settings}
-use Rattle.span_collect.specs.InTurn.{ends_from, journal_in_turn}
-use Rattle.span_collect.specs.Run.{unread_of}
-use Rattle.span_table.specs.declared.column.Column.{Column}
-use Rattle.span_table.specs.declared.sums.By.{By}
+use Rattle.span_table.specs.Columns.{Run}
 use Rattle.span_table.specs.Json.{json_fits, json_of}
 use Rattle.span_table.specs.Ranking.{ranking_of}
-use Rattle.span_table.specs.Tables.{Run, SpanTable, table_of}
-use Rattle.tracebook.specs.declared.tables.TableOptions.{TableOptions}
+use Rattle.span_table.specs.Shown.{Wanted}
+use Rattle.span_table.specs.Tables.{SpanTable}
+use Rattle.span_runs.specs.Runs.{table_of_run}
+use Rattle.tracebook.specs.declared.tables.TableForm.{TableForm}
+use Rattle.tracebook.specs.declared.tables.TableForm.TheVariants.{Ranking, Json}
+use Rattle.tracebook.specs.declared.tables.TableView.{TableView}
 
--- the run of these files, which ended so, and whose journal is this
-abbrev pub run_of : List Input → List FileEnd → List Entry → Run
-run_of files ends journal = record { journal = journal; files = length files; unread = unread_of ends }
+-- a table in this form
+abbrev pub formed : TableForm → Wanted → Bool → SpanTable → Bytes
+formed (Ranking most by) shown tells_runs table = ranking_of most by shown tells_runs table
+formed Json shown tells_runs table = json_of shown table
 
--- the run of these files where they are read in turn
-abbrev pub run_in_turn : Settings → List Input → Run
-run_in_turn settings files = run_of files (ends_from 1 files) (journal_in_turn settings files [])
+-- numbers for other programs have 64 bits; for people they have no bound
+abbrev pub form_fits : TableForm → Wanted → SpanTable → Bool
+form_fits (Ranking most by) shown table = true
+form_fits Json shown table = json_fits shown table
 
-abbrev pub table_of_run : List Column → Run → SpanTable
-table_of_run columns run = table_of columns (run ∷ [])
+-- what is printed of a table, whose head tells of runs or doesn't
+abbrev pub table_text : TableView → Bool → SpanTable → Bytes
+table_text view tells_runs table = formed view.form view.options.shown tells_runs table
 
--- the ranking, and the rows for other programs, of the table of a run that is asked for
-abbrev pub ranking_of_run : TableOptions → ℕ → By → Run → Bytes
-ranking_of_run options most by run = ranking_of most by options.shown (table_of_run options.columns.items run)
+abbrev pub table_fits : TableView → SpanTable → Bool
+table_fits view table = form_fits view.form view.options.shown table
 
-abbrev pub json_of_run : TableOptions → Run → Bytes
-json_of_run options run = json_of options.shown (table_of_run options.columns.items run)
-
--- the numbers of these rows have 64 bits
-abbrev pub json_fits_run : TableOptions → Run → Bool
-json_fits_run options run = json_fits options.shown (table_of_run options.columns.items run)
+-- the table of one run that is asked for
+abbrev pub asked_table : TableView → Run → SpanTable
+asked_table view run = table_of_run view.options.columns.items run

@@ -22,15 +22,15 @@ use Rattle.span_collect.specs.InTurn.{AreSeparate, FailsAsInTurn, WritesAsInTurn
 use Rattle.span_collect.specs.Run.{IsRunOf, RunLeaves, TextOf, WritesOneFile, run_code, status_of}
 use Rattle.span_collect.specs.Seals.{SealedAccount}
 use Rattle.tracebook.specs.declared.view.View.{View}
-use Rattle.tracebook.specs.declared.view.View.TheVariants.{Report, Ranking, Json, Refusals, Folded, Page}
+use Rattle.tracebook.specs.declared.view.View.TheVariants.{Report, Table, Refusals, Folded, Page}
 use Rattle.tracebook.specs.declared.view.ViewFault.{ViewFault}
 use Rattle.tracebook.specs.declared.view.ViewFault.TheVariants.{Run, TooGreat, StacksTooLarge}
-use Rattle.tracebook.specs.Tables.{json_fits_run, json_of_run, ranking_of_run, run_of}
+use Rattle.span_runs.specs.Runs.{run_of_files}
+use Rattle.tracebook.specs.Tables.{asked_table, table_fits, table_text}
 
 abbrev pub text_of : View → List Input → TextOf
 text_of Report files ends journal = report_of journal
-text_of (Ranking table most by) files ends journal = ranking_of_run table most by (run_of files ends journal)
-text_of (Json table) files ends journal = json_of_run table (run_of files ends journal)
+text_of (Table view) files ends journal = table_text view false (asked_table view (run_of_files files ends journal))
 text_of Refusals files ends journal = refusals_of files ends journal
 text_of Folded files ends journal = folded_of journal
 text_of Page files ends journal = page_of files ends journal
@@ -42,7 +42,7 @@ OfEnds = List FileEnd → List Entry → Type 0
 -- folded stacks have no more names than they may, numbers for other programs have 64 bits; any other text has no such bound
 abbrev pub Fits : View → List Input → OfEnds
 Fits Folded files ends journal = names_of journal ≤ most_names
-Fits (Json table) files ends journal = json_fits_run table (run_of files ends journal) ≡ true
+Fits (Table view) files ends journal = table_fits view (asked_table view (run_of_files files ends journal)) ≡ true
 Fits view files ends journal = Unit {0}
 
 -- folded stacks are asked for, and have more names than they may
@@ -52,7 +52,7 @@ ExceedsNames view ends journal = ⊥
 
 -- numbers for other programs are asked for, and one has more than 64 bits
 abbrev pub ExceedsBits : View → List Input → OfEnds
-ExceedsBits (Json table) files ends journal = json_fits_run table (run_of files ends journal) ≡ false
+ExceedsBits (Table view) files ends journal = table_fits view (asked_table view (run_of_files files ends journal)) ≡ false
 ExceedsBits view files ends journal = ⊥
 
 -- A run of these inputs, without queries, printed this view of them; unless the status is 2, that fits. Of separate inputs it is the

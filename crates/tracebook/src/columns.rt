@@ -8,7 +8,11 @@ const MOST: usize = 8;
 
 /// Said of a list that names none, more than may be, one twice, or one that is no column.
 pub(crate) const RULE: &str =
-    "the columns of '--group-by' are pid, tid, process, thread, name, args.KEY: 1 to 8 of them, with commas between, none twice";
+    "the columns of '--group-by' are pid, tid, process, thread, name, args.KEY, and with '--apart' file: 1 to 8 of them, with commas between, none twice";
+
+/// Said of the column `file` where a run may have several.
+pub(crate) const FILE_RULE: &str =
+    "the column 'file' goes with '--apart' alone; others are pid, tid, process, thread, name, args.KEY";
 
 /// The columns with these names, which stand between commas. None where they are no columns.
 pub(crate) fn columns_of(alloc: Global, names: &str) -> Result<Option<Vec<Column>>, AllocError> {
@@ -32,6 +36,7 @@ fn column_of(alloc: Global, name: &str) -> Result<Option<Column>, AllocError> {
         "process" => Column::Process,
         "thread" => Column::Thread,
         "name" => Column::Name,
+        "file" => Column::File,
         _ => match name.strip_prefix("args.") {
             Some(key) if !key.is_empty() => Column::Argument(Text::of(alloc, key)?),
             _ => return Ok(None),

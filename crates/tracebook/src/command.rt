@@ -3,10 +3,11 @@ ghost use Rattle.std.specs.Prelude.{◌≡◌, codes, nat_eq, IfOk};
 ghost use Rattle.std.specs.List.{list_any, starts_with};
 ghost use Rattle.tracebook.specs.Request.{AsksFor, is_option};
 
-use crate::columns::{RULE, columns_of, named, ranked};
+use crate::apart::Apart;
+use crate::columns::{FILE_RULE, RULE, columns_of, named, ranked};
 use crate::comparison::{ComparisonForm, ComparisonView};
 use crate::options::command_of;
-use crate::tables::TableOptions;
+use crate::tables::{TableForm, TableOptions, TableView};
 use crate::view::View;
 use clap::error::{Error, ErrorKind};
 use clap::{ArgMatches, Command};
@@ -31,6 +32,19 @@ pub enum Request {
     /// changed.
     Compare {
         settings: Settings,
+        view: ComparisonView,
+        base: Vec<Text>,
+        files: Vec<Text>,
+    },
+    /// Collect each of these files, or standard input where there are none, as a run of its own, and print this of their sum.
+    Sum {
+        apart: Apart,
+        view: TableView,
+        files: Vec<Text>,
+    },
+    /// Sum the base files so, and the others, or standard input where there are none, and print this of what changed.
+    CompareSums {
+        apart: Apart,
         view: ComparisonView,
         base: Vec<Text>,
         files: Vec<Text>,
@@ -96,10 +110,13 @@ fn parsed_request(alloc: Global, words: &[Text]) -> Result<Request, AllocError> 
     if let Some(idle) = idle_option(&matches) {
         return refuse(alloc, &mut command, idle.rule);
     }
-    match asked_columns(alloc, &matches)? {
-        Some(columns) => request_of_matches(alloc, &matches, columns),
-        None => refuse(alloc, &mut command, RULE),
+    let Some(columns) = asked_columns(alloc, &matches)? else {
+        return refuse(alloc, &mut command, RULE);
+    };
+    if columns.contains(&Column::File) && !matches.get_flag("apart") {
+        return refuse(alloc, &mut command, FILE_RULE);
     }
+    request_of_matches(alloc, &matches, columns)
 }
 
 // An option that has an effect with some texts alone.
@@ -130,6 +147,16 @@ const BOUND: &[Bound] = &[
         rule: "the argument '--only <TEXT>' goes with '--top <N>', '--json' and '--base <FILE>' alone",
     },
     Bound {
+        option: "apart",
+        texts: TABLES,
+        rule: "the argument '--apart' goes with '--top <N>', '--json' and '--base <FILE>' alone",
+    },
+    Bound {
+        option: "jobs",
+        texts: &["apart"],
+        rule: "the argument '--jobs <N>' goes with '--apart' alone",
+    },
+    Bound {
         option: "skip",
         texts: TABLES,
         rule: "the argument '--skip <TEXT>' goes with '--top <N>', '--json' and '--base <FILE>' alone",
@@ -139,16 +166,16 @@ const BOUND: &[Bound] = &[
 // An option that is given, and has no effect with the text that is asked for.
 fn idle_option(matches: &ArgMatches<'_>) -> Option<Bound> {
     for bound in BOUND {
-        if matches.contains_id(bound.option) && !asks_for_any(matches, bound.texts) {
+        if is_given(matches, bound.option) && !is_any_given(matches, bound.texts) {
             return Some(*bound);
         }
     }
     None
 }
 
-fn asks_for_any(matches: &ArgMatches<'_>, texts: &[&str]) -> bool {
+fn is_any_given(matches: &ArgMatches<'_>, texts: &[&str]) -> bool {
     for text in texts {
-        if asks_for(matches, text) {
+        if is_given(matches, text) {
             return true;
         }
     }
@@ -156,11 +183,11 @@ fn asks_for_any(matches: &ArgMatches<'_>, texts: &[&str]) -> bool {
 }
 
 // A switch has a value even where it is not given.
-fn asks_for(matches: &ArgMatches<'_>, text: &str) -> bool {
-    if text == "json" {
-        return matches.get_flag("json");
+fn is_given(matches: &ArgMatches<'_>, option: &str) -> bool {
+    if option == "json" || option == "apart" {
+        return matches.get_flag(option);
     }
-    matches.contains_id(text)
+    matches.contains_id(option)
 }
 
 fn refuse(alloc: Global, command: &mut Command<'_>, rule: &str) -> Result<Request, AllocError> {
@@ -220,19 +247,22 @@ fn request_of_matches(
         only: texts_of(alloc, matches, "only")?,
         skip: texts_of(alloc, matches, "skip")?,
     };
-    let table = TableOptions { columns, shown };
+    let options = TableOptions { columns, shown };
     if matches.contains_id("base") {
         let base = texts_of(alloc, matches, "base")?;
-        let form = form_of(matches);
-        let view = ComparisonView { table, form };
-        return Ok(Request::Compare {
-            settings,
-            view,
-            base,
+        let form = comparison_form(matches);
+        let view = ComparisonView { options, form };
+        return Ok(comparison_request(matches, settings, view, base, files));
+    }
+    if matches.get_flag("apart") {
+        let form = table_form(matches);
+        return Ok(Request::Sum {
+            apart: apart_of(matches, settings),
+            view: TableView { options, form },
             files,
         });
     }
-    let view = view_of(matches, table);
+    let view = view_of(matches, options);
     Ok(Request::Collect {
         settings,
         view,
@@ -240,14 +270,40 @@ fn request_of_matches(
     })
 }
 
-// What is printed instead of the report.
-fn view_of(matches: &ArgMatches<'_>, table: TableOptions) -> View {
-    if let Some(most) = matches.get_one::<u32>("top") {
-        let by = by_of(matches);
-        return View::Ranking { table, most, by };
+fn comparison_request(
+    matches: &ArgMatches<'_>,
+    settings: Settings,
+    view: ComparisonView,
+    base: Vec<Text>,
+    files: Vec<Text>,
+) -> Request {
+    if matches.get_flag("apart") {
+        let apart = apart_of(matches, settings);
+        return Request::CompareSums {
+            apart,
+            view,
+            base,
+            files,
+        };
     }
-    if matches.get_flag("json") {
-        return View::Json(table);
+    Request::Compare {
+        settings,
+        view,
+        base,
+        files,
+    }
+}
+
+fn apart_of(matches: &ArgMatches<'_>, settings: Settings) -> Apart {
+    let jobs = matches.get_one::<u32>("jobs");
+    Apart { settings, jobs }
+}
+
+// What is printed instead of the report.
+fn view_of(matches: &ArgMatches<'_>, options: TableOptions) -> View {
+    if matches.contains_id("top") || matches.get_flag("json") {
+        let form = table_form(matches);
+        return View::Table(TableView { options, form });
     }
     if matches.get_flag("refused") {
         return View::Refusals;
@@ -261,7 +317,17 @@ fn view_of(matches: &ArgMatches<'_>, table: TableOptions) -> View {
     View::Report
 }
 
-fn form_of(matches: &ArgMatches<'_>) -> ComparisonForm {
+fn table_form(matches: &ArgMatches<'_>) -> TableForm {
+    match matches.get_one::<u32>("top") {
+        Some(most) => {
+            let by = by_of(matches);
+            TableForm::Ranking { most, by }
+        }
+        None => TableForm::Json,
+    }
+}
+
+fn comparison_form(matches: &ArgMatches<'_>) -> ComparisonForm {
     if matches.get_flag("json") {
         return ComparisonForm::Json;
     }

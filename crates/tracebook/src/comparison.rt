@@ -1,15 +1,16 @@
 //! Two runs, of which one is compared with the other.
 ghost use Rattle.std.specs.Prelude.{◌≡◌, IfOk, IfErr, OnOk};
 ghost use Rattle.span_report.specs.Sink.{TakesBytes};
+ghost use Rattle.span_runs.specs.Runs.{run_of_files};
 ghost use Rattle.span_table.specs.declared.json_lines.JsonFault.TheVariants.{TooGreat};
 ghost use Rattle.tracebook.specs.Comparison.{AreTooGreat, ChangesLeave, ComparisonLeaves, HasTooGreat, IsComparisonOf, changes_of_runs, changes_text, comparison_code, greater};
-ghost use Rattle.tracebook.specs.Tables.{run_of};
 
-use crate::tables::{TableOptions, table_of_run};
+use crate::tables::TableOptions;
 use span_collect::{Collected, Input, RunError, Settings, collect_to_ledger};
 use span_event::Fault;
 use span_report::{Sink, write_bytes};
-use span_table::{By, JsonFault, Shown, Table, comparison, json_comparison};
+use span_runs::table_of_run;
+use span_table::{By, JsonFault, Table, comparison, json_comparison};
 use std::alloc::Global;
 use std::mem::forget;
 use std::random::RandomSource;
@@ -25,10 +26,10 @@ pub enum ComparisonForm {
     Json,
 }
 
-/// What is printed of what changed between two runs: which rows of their tables, and how.
+/// What is printed of what changed between two runs, or sums of runs: which rows of their tables, and how.
 #[derive(Drop)]
 pub struct ComparisonView {
-    pub table: TableOptions,
+    pub options: TableOptions,
     pub form: ComparisonForm,
 }
 
@@ -113,11 +114,11 @@ fn write_changes<O: Sink, R: RandomSource>(
     out: &mut O,
 ) -> Result<(), ComparisonFault>
     ensures ok { OnOk result (TakesBytes (O.state out.old) (O.state out.new) (changes_of_runs view.now
-        (run_of base.now compared.now.base.end.ends.items compared.now.base.ledger.journal)
-        (run_of files.now compared.now.other.end.ends.items compared.now.other.ledger.journal))) }
+        (run_of_files base.now compared.now.base.end.ends.items compared.now.base.ledger.journal)
+        (run_of_files files.now compared.now.other.end.ends.items compared.now.other.ledger.journal))) }
     ensures fault { IfErr result (λ fault. ChangesLeave view.now fault
-        (run_of base.now compared.now.base.end.ends.items compared.now.base.ledger.journal)
-        (run_of files.now compared.now.other.end.ends.items compared.now.other.ledger.journal)
+        (run_of_files base.now compared.now.base.end.ends.items compared.now.base.ledger.journal)
+        (run_of_files files.now compared.now.other.end.ends.items compared.now.other.ledger.journal)
         (O.state out.old) (O.state out.new)) }
 {
     let text = match changes_of(rt, alloc, base, files, compared, view) {
@@ -138,41 +139,42 @@ fn changes_of<R: RandomSource>(
     view: &ComparisonView,
 ) -> Result<Vec<u8>, JsonFault>
     ensures text { IfOk result (λ text. text.items ≡ changes_of_runs view.now
-        (run_of base.now compared.now.base.end.ends.items compared.now.base.ledger.journal)
-        (run_of files.now compared.now.other.end.ends.items compared.now.other.ledger.journal)) }
+        (run_of_files base.now compared.now.base.end.ends.items compared.now.base.ledger.journal)
+        (run_of_files files.now compared.now.other.end.ends.items compared.now.other.ledger.journal)) }
     ensures too_great { IfErr result (λ fault. fault ≡ TooGreat → AreTooGreat view.now
-        (run_of base.now compared.now.base.end.ends.items compared.now.base.ledger.journal)
-        (run_of files.now compared.now.other.end.ends.items compared.now.other.ledger.journal)) }
+        (run_of_files base.now compared.now.base.end.ends.items compared.now.base.ledger.journal)
+        (run_of_files files.now compared.now.other.end.ends.items compared.now.other.ledger.journal)) }
 {
-    let options = &view.table;
-    let Ok(earlier) = table_of_run(rt, alloc, &options.columns, base, &compared.base) else {
+    let columns = &view.options.columns;
+    let Ok(earlier) = table_of_run(rt, alloc, columns, base, &compared.base) else {
         return Err(JsonFault::Memory);
     };
-    let Ok(later) = table_of_run(rt, alloc, &options.columns, files, &compared.other) else {
+    let Ok(later) = table_of_run(rt, alloc, columns, files, &compared.other) else {
         drop(earlier);
         return Err(JsonFault::Memory);
     };
-    let text = text_of(alloc, &earlier, &later, &options.shown, view.form);
+    let text = changes_text(alloc, &earlier, &later, view, false);
     // The program ends soon, and then the system frees all at once, where freeing one by one takes long.
     forget(earlier);
     forget(later);
     text
 }
 
-// What changed between two tables.
-fn text_of(
+/// What changed between two tables, whose heads tell of runs or don't.
+pub(crate) fn changes_text(
     alloc: Global,
     base: &Table,
     other: &Table,
-    shown: &Shown,
-    form: ComparisonForm,
+    view: &ComparisonView,
+    tells_runs: bool,
 ) -> Result<Vec<u8>, JsonFault>
-    ensures text { IfOk result (λ text. text.items ≡ changes_text form shown.now base.now other.now) }
-    ensures too_great { IfErr result (λ fault. fault ≡ TooGreat → HasTooGreat form shown.now base.now other.now) }
+    ensures text { IfOk result (λ text. text.items ≡ changes_text view.now tells_runs base.now other.now) }
+    ensures too_great { IfErr result (λ fault. fault ≡ TooGreat → HasTooGreat view.now base.now other.now) }
 {
-    match form {
+    let shown = &view.options.shown;
+    match view.form {
         ComparisonForm::Text { by } => {
-            comparison(alloc, base, other, shown, by).map_err(|_| JsonFault::Memory)
+            comparison(alloc, base, other, shown, by, tells_runs).map_err(|_| JsonFault::Memory)
         }
         ComparisonForm::Json => json_comparison(alloc, base, other, shown),
     }

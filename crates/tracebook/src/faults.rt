@@ -5,10 +5,10 @@ ghost use Rattle.span_event.specs.Fault.{number_of};
 ghost use Rattle.tracebook.specs.FaultLines.{Reports, Says, SaysOrMemory, fault_text, run_line, unread_line};
 
 use crate::hints::{Hint, MANY_FILES, RefusalCounts, hint_of_bytes};
-use crate::inputs::Unread;
 use span_collect::{Collected, FileEnd, Input, RunEnd, fault_line_of, fault_lines, numbered_text};
 use span_event::{Fault, Text};
 use span_report::{Sink, json_text, write_bytes};
+use span_runs::{Stop, StopCause};
 use std::alloc::{AllocError, Global};
 
 /// The status of a program that failed.
@@ -104,18 +104,36 @@ pub(crate) fn fail<F: Faults>(alloc: Global, code: u16, faults: &mut F) -> u8
     FAILED
 }
 
-/// Says why the files were not all read.
-pub(crate) fn fail_unread<F: Faults>(alloc: Global, unread: Unread, faults: &mut F) -> u8
+/// Says why files were not all summed: the lines of those before the one that stopped, and why that did.
+pub(crate) fn fail_stop<F: Faults>(alloc: Global, stop: Stop, faults: &mut F) -> u8
     ensures { result ≡ 2 }
 {
-    match unread {
-        Unread::Memory => fail(alloc, Fault::Memory.code(), faults),
-        Unread::NotOpened(name, reason) => {
+    let Stop { lines, cause } = stop;
+    say(&lines, faults);
+    drop(lines);
+    fail_cause(alloc, cause, faults)
+}
+
+/// Says why files were not all read.
+pub(crate) fn fail_cause<F: Faults>(alloc: Global, cause: StopCause, faults: &mut F) -> u8
+    ensures { result ≡ 2 }
+{
+    match cause {
+        StopCause::NotOpened(name, reason) => {
             let status = fail_at(alloc, &name, faults);
             let _ = put_hint(alloc, &name, Hint::Unreadable(reason), faults);
             drop(name);
             status
         }
+        StopCause::Memory => fail(alloc, Fault::Memory.code(), faults),
+        StopCause::Run(error) => fail_run(alloc, error.code(), faults),
+        StopCause::Cut(lines) => {
+            say(&lines, faults);
+            drop(lines);
+            FAILED
+        }
+        StopCause::TooMany => fail(alloc, Fault::FileCount.code(), faults),
+        StopCause::GaveUp => fail(alloc, Fault::Unaccounted.code(), faults),
     }
 }
 

@@ -1,8 +1,8 @@
 //! Hints: lines that follow fault lines where a person reads along, and say what may help. No promise speaks of them.
 
-use crate::source::Reason;
 use span_collect::fault_word;
 use span_ledger::{Answer, Ledger};
+use span_runs::Reason;
 use std::alloc::{AllocError, Global};
 use std::collections::BTreeMap;
 use std::fmt;

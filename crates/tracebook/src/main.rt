@@ -1,6 +1,7 @@
 //! Reports where the time went in trace event files.
 #![tactic(auto)]
 
+mod apart;
 mod columns;
 mod command;
 mod comparison;
@@ -11,7 +12,7 @@ mod options;
 mod program;
 mod progress;
 mod reading;
-mod source;
+mod standard;
 mod tables;
 mod view;
 
@@ -21,10 +22,10 @@ use faults::Faults;
 use program::perform;
 use progress::{Cleared, Progress, Watched};
 use reading::{read_up_to, reason_of};
-use source::{Source, SourceFault};
 use span_event::Text;
 use span_report::{Sink, SinkFault, Writer};
-use std::fs::File;
+use span_runs::{Source, SourceFault};
+use std::fs::{File, metadata};
 use std::io::{ErrorKind, IsTerminal};
 use std::process::ExitCode;
 use std::{env, io};
@@ -45,7 +46,7 @@ impl<'a> Source for Host<'a> {
     // What files hold isn't known.
     ghost bytes = { λ host. record { standard = None; file = λ name. None } };
 
-    fn standard(&mut self, most: u64) -> Result<Vec<u8>, SourceFault> {
+    fn standard(&self, most: u64) -> Result<Vec<u8>, SourceFault> {
         let stdin = self.rt.stdin();
         if self.takes_hints && stdin.is_terminal() {
             let _ = eprint!(self.rt; "{AT_TERMINAL}");
@@ -53,12 +54,12 @@ impl<'a> Source for Host<'a> {
         self.progress.open(0);
         let mut reader = Watched {
             inner: stdin,
-            progress: &mut self.progress,
+            progress: &self.progress,
         };
         read_up_to(self.rt.alloc(), &mut reader, most as usize)
     }
 
-    fn file(&mut self, name: &Text, most: u64) -> Result<Vec<u8>, SourceFault> {
+    fn file(&self, name: &Text, most: u64) -> Result<Vec<u8>, SourceFault> {
         let file = match File::open(self.rt, name.as_str()) {
             Ok(file) => file,
             Err(error) => return Err(SourceFault::NotOpened(reason_of(&error))),
@@ -70,12 +71,23 @@ impl<'a> Source for Host<'a> {
         self.progress.open(size);
         let mut reader = Watched {
             inner: file,
-            progress: &mut self.progress,
+            progress: &self.progress,
         };
         read_up_to(self.rt.alloc(), &mut reader, most as usize)
     }
 
-    fn end(&mut self) {
+    fn size(&self, name: &Text) -> u64 {
+        match metadata(self.rt, name.as_str()) {
+            Ok(metadata) => metadata.len(),
+            Err(_) => 0,
+        }
+    }
+
+    fn begin_apart(&self, files: u64) {
+        self.progress.begin_apart(files);
+    }
+
+    fn end(&self) {
         self.progress.collect();
     }
 }
@@ -144,7 +156,7 @@ fn main(rt: HostRuntime) -> ExitCode {
     };
     let is_terminal = rt.stderr().is_terminal();
     let shows_progress = is_terminal && !is_plain(&rt);
-    let mut source = Host {
+    let source = Host {
         rt: &rt,
         progress: Progress::new(&rt, shows_progress),
         takes_hints: is_terminal,
@@ -154,6 +166,6 @@ fn main(rt: HostRuntime) -> ExitCode {
         out: Writer::new(Cleared::new(&rt, rt.stderr(), shows_progress)),
         is_terminal,
     };
-    let status = perform(&rt, rt.alloc(), &words, &mut source, &mut out, &mut faults);
+    let status = perform(&rt, rt.alloc(), &words, &source, &mut out, &mut faults);
     ExitCode::from(status)
 }

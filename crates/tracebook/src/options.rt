@@ -17,12 +17,19 @@ const BY_WORDS: &[&str] = &["self", "total", "count"];
 const TOP_HELP: &str = r#"Print the first N rows of a table of all spans instead of the report;
 without --group-by a row is a process, a thread and a name"#;
 
-const BY_HELP: &str = r#"What --top goes by, or the change of it --base: self time, total
-time or the number of spans [default: self]"#;
+const BY_HELP: &str = r#"The number that --top goes by, or whose change --base goes by: self
+time, total time or the number of spans
+[default: self]"#;
 
 const GROUP_BY_HELP: &str = r#"Sum the spans of a table by these columns, 1 to 8 of them: pid, tid,
-process, thread, name, args.KEY (an argument of the span); with
---top, --json and --base"#;
+process, thread, name, args.KEY (an argument of the span), and with
+--apart file; with --top, --json and --base"#;
+
+const APART_HELP: &str = r#"Take each FILE as a run of its own, whatever processes they share, and
+sum their tables; any number of files; with --top, --json and --base"#;
+
+const JOBS_HELP: &str = r#"How many files are read and collected at once with --apart, 1 to 64
+[default: the processors that the system grants]"#;
 
 const ONLY_HELP: &str = r#"Show only rows that have this text in a string; repeat it for rows
 that have several texts"#;
@@ -110,6 +117,8 @@ fn add_table_options(alloc: Global, arguments: &mut Vec<Arg<'_>>) -> Result<(), 
     arguments.push(by_option(alloc))?;
     arguments.push(list_option(alloc, "base", "FILE", BASE_HELP))?;
     arguments.push(json_option(alloc)?)?;
+    arguments.push(switch(alloc, "apart", APART_HELP))?;
+    arguments.push(jobs_option(alloc))?;
     arguments.push(group_by_option(alloc))?;
     let only = list_option(alloc, "only", "TEXT", ONLY_HELP);
     arguments.push(only.value_parser(ValueParser::NonEmptyString))?;
@@ -134,6 +143,16 @@ fn number_option<'a>(alloc: Global, name: &'a str, help: &'a str) -> Arg<'a> {
         .allow_negative_numbers(true)
         .action(ArgAction::Set)
         .help(help)
+}
+
+fn jobs_option(alloc: Global) -> Arg<'static> {
+    Arg::new(alloc, "jobs")
+        .long("jobs")
+        .value_name("N")
+        .value_parser(clap::value_parser!(u32).range(1..=64))
+        .allow_negative_numbers(true)
+        .action(ArgAction::Set)
+        .help(JOBS_HELP)
 }
 
 fn by_option(alloc: Global) -> Arg<'static> {

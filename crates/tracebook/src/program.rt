@@ -2,15 +2,16 @@
 ghost use Rattle.std.specs.Prelude.{◌≡◌, ◌<◌, ◌≤◌, ◌⊎◌, length};
 ghost use Rattle.tracebook.specs.Request.{Asked, EndsWith, LeavesPart, Collects, CollectsPart, Compares, ComparesPart, ComparesWith, ComparisonPart, Performs, GivesUp};
 
+use crate::apart::{compare_sums, sum_files};
 use crate::command::{Request, request_of};
 use crate::comparison::{ComparisonView, greater, run_comparison};
-use crate::faults::{FAILED, Faults, fail, fail_run, fail_unread, put_hints, report_faults, say};
+use crate::faults::{FAILED, Faults, fail, fail_cause, fail_run, put_hints, report_faults, say};
 use crate::inputs::{inputs_of, pair_of};
-use crate::source::Source;
 use crate::view::{View, run_view};
 use span_collect::{Input, Settings};
 use span_event::{Fault, Text};
 use span_report::{Sink, write_bytes};
+use span_runs::Source;
 use std::alloc::Global;
 use std::mem::forget;
 use std::random::RandomSource;
@@ -20,19 +21,19 @@ use std::thread::Threads;
 /// Does what the words ask for, which leave out the program's own name, and gives the exit status: 0 where all files were read, 1
 /// where one was refused, else 2. Files are read in the order of their names; the first that cannot be read decides. A failed
 /// write to `faults` changes no status. Waits for the workers, of which each file has one.
-pub fn perform<R: Threads + Wait + RandomSource + Sync, S: Source, O: Sink, F: Faults>(
+pub fn perform<R: Threads + Wait + RandomSource + Sync, S: Source + Sync, O: Sink, F: Faults>(
     rt: &R,
     alloc: Global,
     words: &[Text],
-    source: &mut S,
+    source: &S,
     out: &mut O,
     faults: &mut F,
 ) -> u8
     ensures status { result ≤ 2 }
     ensures done { result < 2
-        → Asked words.now (λ request. Performs (S.bytes source.old) request result (O.state out.old) (O.state out.new)) }
+        → Asked words.now (λ request. Performs (S.bytes source.now) request result (O.state out.old) (O.state out.new)) }
     ensures failed { result ≡ 2 → (O.state out.new ≡ O.state out.old)
-        ⊎ Asked words.now (λ request. GivesUp (S.bytes source.old) request (O.state out.old) (O.state out.new)) }
+        ⊎ Asked words.now (λ request. GivesUp (S.bytes source.now) request (O.state out.old) (O.state out.new)) }
 {
     match request_of(alloc, words) {
         Ok(request) => perform_request(rt, alloc, request, source, out, faults),
@@ -40,18 +41,18 @@ pub fn perform<R: Threads + Wait + RandomSource + Sync, S: Source, O: Sink, F: F
     }
 }
 
-fn perform_request<R: Threads + Wait + RandomSource + Sync, S: Source, O: Sink, F: Faults>(
+fn perform_request<R: Threads + Wait + RandomSource + Sync, S: Source + Sync, O: Sink, F: Faults>(
     rt: &R,
     alloc: Global,
     request: Request,
-    source: &mut S,
+    source: &S,
     out: &mut O,
     faults: &mut F,
 ) -> u8
     ensures status { result ≤ 2 }
     ensures done { result < 2
-        → Performs (S.bytes source.old) request result (O.state out.old) (O.state out.new) }
-    ensures failed { result ≡ 2 → GivesUp (S.bytes source.old) request (O.state out.old) (O.state out.new) }
+        → Performs (S.bytes source.now) request result (O.state out.old) (O.state out.new) }
+    ensures failed { result ≡ 2 → GivesUp (S.bytes source.now) request (O.state out.old) (O.state out.new) }
 {
     match request {
         Request::Collect {
@@ -67,6 +68,15 @@ fn perform_request<R: Threads + Wait + RandomSource + Sync, S: Source, O: Sink, 
         } => compare_files(
             rt, alloc, &settings, &view, base, files, source, out, faults,
         ),
+        Request::Sum { apart, view, files } => {
+            sum_files(rt, alloc, &apart, &view, files, source, out, faults)
+        }
+        Request::CompareSums {
+            apart,
+            view,
+            base,
+            files,
+        } => compare_sums(rt, alloc, &apart, &view, base, files, source, out, faults),
         Request::Show(text) => {
             let shown = write_bytes(text.as_bytes(), out);
             drop(text);
@@ -80,21 +90,21 @@ fn perform_request<R: Threads + Wait + RandomSource + Sync, S: Source, O: Sink, 
     }
 }
 
-fn collect_files<R: Threads + Wait + RandomSource + Sync, S: Source, O: Sink, F: Faults>(
+fn collect_files<R: Threads + Wait + RandomSource + Sync, S: Source + Sync, O: Sink, F: Faults>(
     rt: &R,
     alloc: Global,
     settings: &Settings,
     view: &View,
     names: Vec<Text>,
-    source: &mut S,
+    source: &S,
     out: &mut O,
     faults: &mut F,
 ) -> u8
     ensures status { result ≤ 2 }
     ensures done { result < 2
-        → Collects (S.bytes source.old) names.items settings.now view.now result (O.state out.old) (O.state out.new) }
+        → Collects (S.bytes source.now) names.items settings.now view.now result (O.state out.old) (O.state out.new) }
     ensures failed { result ≡ 2
-        → CollectsPart (S.bytes source.old) names.items settings.now view.now (O.state out.old) (O.state out.new) }
+        → CollectsPart (S.bytes source.now) names.items settings.now view.now (O.state out.old) (O.state out.new) }
 {
     match inputs_of(alloc, names, source) {
         Ok(inputs) => {
@@ -103,26 +113,26 @@ fn collect_files<R: Threads + Wait + RandomSource + Sync, S: Source, O: Sink, F:
             drop(inputs);
             status
         }
-        Err(unread) => fail_unread(alloc, unread, faults),
+        Err(cause) => fail_cause(alloc, cause, faults),
     }
 }
 
-fn compare_files<R: Threads + Wait + RandomSource + Sync, S: Source, O: Sink, F: Faults>(
+fn compare_files<R: Threads + Wait + RandomSource + Sync, S: Source + Sync, O: Sink, F: Faults>(
     rt: &R,
     alloc: Global,
     settings: &Settings,
     view: &ComparisonView,
     base: Vec<Text>,
     names: Vec<Text>,
-    source: &mut S,
+    source: &S,
     out: &mut O,
     faults: &mut F,
 ) -> u8
     ensures status { result ≤ 2 }
     ensures done { result < 2
-        → Compares (S.bytes source.old) base.items names.items settings.now view.now result (O.state out.old) (O.state out.new) }
+        → Compares (S.bytes source.now) base.items names.items settings.now view.now result (O.state out.old) (O.state out.new) }
     ensures failed { result ≡ 2
-        → ComparesPart (S.bytes source.old) base.items names.items settings.now view.now (O.state out.old) (O.state out.new) }
+        → ComparesPart (S.bytes source.now) base.items names.items settings.now view.now (O.state out.old) (O.state out.new) }
 {
     match pair_of(alloc, base, names, source) {
         Ok(pair) => {
@@ -140,7 +150,7 @@ fn compare_files<R: Threads + Wait + RandomSource + Sync, S: Source, O: Sink, F:
             drop(pair);
             status
         }
-        Err(unread) => fail_unread(alloc, unread, faults),
+        Err(cause) => fail_cause(alloc, cause, faults),
     }
 }
 

@@ -2,7 +2,8 @@
 
 use std::io;
 use std::io::{Read, Write};
-use std::time::{Duration, Instant};
+use std::sync::atomic::{AtomicU64, Ordering};
+use std::time::Instant;
 
 const MIB: u64 = 1_048_576;
 
@@ -11,19 +12,23 @@ const LARGE: u64 = 8 * MIB;
 
 const PAUSE_MILLIS: u64 = 250;
 
-/// A line on standard error, which is written anew at most four times a second. Nothing is written where that is no terminal.
+/// A line on standard error, which is written anew at most four times a second, by whichever thread reads. Nothing is written where
+/// that is no terminal.
 #[derive(Drop)]
 pub(crate) struct Progress<'a> {
     rt: &'a HostRuntime,
     is_shown: bool,
-    // Which file is being read, counted from 1.
-    file: u64,
-    // How many of its bytes are read, and how many it has, where that is known.
-    read: u64,
-    size: u64,
+    begun: Option<Instant>,
+    // How many milliseconds after that the line was written last.
+    last: AtomicU64,
+    // How many files are opened, and how many there are where each is a run of its own, else 0.
+    opened: AtomicU64,
+    files: AtomicU64,
+    // How many bytes of the latest file are read, and how many it has, where that is known.
+    read: AtomicU64,
+    size: AtomicU64,
     // How many bytes of all files are read.
-    all: u64,
-    last: Option<Instant>,
+    all: AtomicU64,
 }
 
 impl<'a> Progress<'a> {
@@ -31,54 +36,87 @@ impl<'a> Progress<'a> {
         Progress {
             rt,
             is_shown,
-            file: 0,
-            read: 0,
-            size: 0,
-            all: 0,
-            last: None,
+            begun: Instant::now(rt).ok(),
+            last: AtomicU64::new(0),
+            opened: AtomicU64::new(0),
+            files: AtomicU64::new(0),
+            read: AtomicU64::new(0),
+            size: AtomicU64::new(0),
+            all: AtomicU64::new(0),
         }
+    }
+
+    /// So many files are read, each for a run of its own.
+    pub(crate) fn begin_apart(&self, files: u64) {
+        self.files.store(files, Ordering::SeqCst);
     }
 
     /// The next file is read. It has this many bytes; 0, where that is not known.
-    pub(crate) fn open(&mut self, size: u64) {
-        self.file = self.file.saturating_add(1);
-        self.read = 0;
-        self.size = size;
+    pub(crate) fn open(&self, size: u64) {
+        self.opened.fetch_add(1, Ordering::SeqCst);
+        self.read.store(0, Ordering::SeqCst);
+        self.size.store(size, Ordering::SeqCst);
     }
 
-    fn advance(&mut self, count: u64) {
-        self.read = self.read.saturating_add(count);
-        self.all = self.all.saturating_add(count);
-        if self.is_shown && self.all >= LARGE && self.is_due() {
-            let file = self.file;
-            let read = self.read / MIB;
-            let size = self.size / MIB;
-            let _ = match size {
-                0 => eprint!(self.rt; "\r\x1b[Ktracebook: file {file}: {read} MiB read"),
-                _ => eprint!(self.rt; "\r\x1b[Ktracebook: file {file}: {read} of {size} MiB read"),
-            };
+    fn advance(&self, count: u64) {
+        let read = self.read.fetch_add(count, Ordering::SeqCst);
+        let all = self.all.fetch_add(count, Ordering::SeqCst);
+        if !self.is_shown || all.saturating_add(count) < LARGE {
+            return;
+        }
+        let Some(millis) = self.due() else {
+            return;
+        };
+        match self.files.load(Ordering::SeqCst) {
+            0 => self.show_file(read.saturating_add(count) / MIB),
+            files => self.show_files(files, all / MIB, millis),
         }
     }
 
-    fn is_due(&mut self) -> bool {
-        let Ok(now) = Instant::now(self.rt) else {
-            return false;
+    // How many mebibytes of the latest file are read.
+    fn show_file(&self, read: u64) {
+        let file = self.opened.load(Ordering::SeqCst);
+        let size = self.size.load(Ordering::SeqCst) / MIB;
+        let _ = match size {
+            0 => eprint!(self.rt; "\r\x1b[Ktracebook: file {file}: {read} MiB read"),
+            _ => eprint!(self.rt; "\r\x1b[Ktracebook: file {file}: {read} of {size} MiB read"),
         };
-        let pause = Duration::from_millis(PAUSE_MILLIS);
-        let is_due = match self.last {
-            Some(last) => now.duration_since(last) >= pause,
-            None => true,
-        };
-        if is_due {
-            self.last = Some(now);
+    }
+
+    // How many files of all are read, how quickly, and how long the others will take, if they are like these.
+    fn show_files(&self, files: u64, read: u64, millis: u64) {
+        let done = self
+            .opened
+            .load(Ordering::SeqCst)
+            .saturating_sub(1)
+            .min(files);
+        let rate = read.saturating_mul(1000) / millis.max(1);
+        let left = millis.saturating_mul(files - done) / done.max(1) / 1000;
+        let _ = eprint!(self.rt;
+            "\r\x1b[Ktracebook: {done} of {files} files, {rate} MiB/s, {left} s left"
+        );
+    }
+
+    // How many milliseconds after the beginning it is, where the line is to be written anew, and by this thread.
+    fn due(&self) -> Option<u64> {
+        let now = Instant::now(self.rt).ok()?;
+        let millis = now.duration_since(self.begun?).as_millis();
+        let millis = u64::try_from(millis).unwrap_or(u64::MAX);
+        let last = self.last.load(Ordering::SeqCst);
+        if last != 0 && millis < last.saturating_add(PAUSE_MILLIS) {
+            return None;
         }
-        is_due
+        let taken = self
+            .last
+            .compare_exchange(last, millis.max(1), Ordering::SeqCst, Ordering::SeqCst);
+        if taken.is_ok() { Some(millis) } else { None }
     }
 
     /// All files are read.
-    pub(crate) fn collect(&mut self) {
-        if self.is_shown && self.all >= LARGE {
-            let all = self.all / MIB;
+    pub(crate) fn collect(&self) {
+        let all = self.all.load(Ordering::SeqCst);
+        if self.is_shown && all >= LARGE && self.files.load(Ordering::SeqCst) == 0 {
+            let all = all / MIB;
             let _ = eprint!(self.rt; "\r\x1b[Ktracebook: {all} MiB read, collecting");
         }
     }
@@ -88,7 +126,7 @@ impl<'a> Progress<'a> {
 #[derive(Drop)]
 pub(crate) struct Watched<'p, 'a, R: Read> {
     pub(crate) inner: R,
-    pub(crate) progress: &'p mut Progress<'a>,
+    pub(crate) progress: &'p Progress<'a>,
 }
 
 impl<'p, 'a, R: Read> Read for Watched<'p, 'a, R> {

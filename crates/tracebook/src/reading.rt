@@ -1,8 +1,9 @@
 //! Reads the bytes of an opened file.
 ghost use Rattle.std.specs.Prelude.{◌≡◌, ◌+◌, ◌<◌, ◌≤◌, length, vec_len, IfOk};
-ghost use Rattle.tracebook.specs.Source.{AreFirst, Brings};
+ghost use Rattle.span_runs.specs.Source.{AreFirst};
+ghost use Rattle.tracebook.specs.Reading.{Brings};
 
-use crate::source::{Reason, SourceFault};
+use span_runs::{Reason, SourceFault};
 use std::alloc::Global;
 use std::io::{self, ErrorKind, Read};
 

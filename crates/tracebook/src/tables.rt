@@ -1,12 +1,10 @@
-//! The table of a run, as the command line asks for it.
-ghost use Rattle.std.specs.Prelude.{◌≡◌, length, IfOk};
-ghost use Rattle.tracebook.specs.Tables.{run_of, table_of_run};
+//! The tables that the command line asks for, and their texts.
+ghost use Rattle.std.specs.Prelude.{◌≡◌, true, false, IfOk, IfErr, OnOk};
+ghost use Rattle.span_table.specs.declared.json_lines.JsonFault.TheVariants.{TooGreat};
+ghost use Rattle.tracebook.specs.Tables.{table_fits, table_text};
 
-use span_collect::{Collected, Input};
-use span_keyed_tracks::HashKeys;
-use span_table::{Column, Shown, Table};
-use std::alloc::{AllocError, Global};
-use std::random::RandomSource;
+use span_table::{By, Column, JsonFault, Shown, Table, json_table, ranking};
+use std::alloc::Global;
 
 /// Which table is printed: by which columns spans are summed, and which rows are shown.
 #[derive(Drop)]
@@ -15,23 +13,41 @@ pub struct TableOptions {
     pub shown: Shown,
 }
 
-/// The table by these columns of what was collected of these files.
-pub(crate) fn table_of_run<R: RandomSource>(
-    rt: &R,
+/// How a table is printed.
+#[derive(Clone, Copy)]
+pub enum TableForm {
+    /// The first rows by this number, at most so many.
+    Ranking { most: u32, by: By },
+    /// The rows for other programs.
+    Json,
+}
+
+/// What is printed of a table.
+#[derive(Drop)]
+pub struct TableView {
+    pub options: TableOptions,
+    pub form: TableForm,
+}
+
+/// The text of a table, whose head tells of runs or doesn't.
+pub(crate) fn table_text(
     alloc: Global,
-    columns: &[Column],
-    files: &[Input],
-    collected: &Collected,
-) -> Result<Table, AllocError>
-    ensures { IfOk result (λ table. table
-        ≡ table_of_run columns.now (run_of files.now collected.now.end.ends.items collected.now.ledger.journal)) }
+    table: &Table,
+    view: &TableView,
+    tells_runs: bool,
+) -> Result<Vec<u8>, JsonFault>
+    ensures text { IfOk result (λ text. text.items ≡ table_text view.now tells_runs table.now) }
+    ensures fits { OnOk result (table_fits view.now table.now ≡ true) }
+    ensures too_great { IfErr result (λ fault. fault ≡ TooGreat → table_fits view.now table.now ≡ false) }
 {
-    Table::of(
-        alloc,
-        HashKeys::random(rt),
-        columns,
-        &collected.ledger,
-        files.len() as u64,
-        collected.end.unread(),
-    )
+    let shown = &view.options.shown;
+    match view.form {
+        TableForm::Ranking { most, by } => {
+            match ranking(alloc, table, shown, most, by, tells_runs) {
+                Ok(text) => Ok(text),
+                Err(_) => Err(JsonFault::Memory),
+            }
+        }
+        TableForm::Json => json_table(alloc, table, shown),
+    }
 }

@@ -1,20 +1,22 @@
 //! What is printed of what was collected.
 ghost use Rattle.std.specs.Prelude.{◌≡◌, true, false, length, IfOk, IfErr, OnOk};
 ghost use Rattle.span_report.specs.Sink.{TakesBytes};
+ghost use Rattle.span_runs.specs.Runs.{run_of_files};
 ghost use Rattle.span_table.specs.declared.json_lines.JsonFault.TheVariants.{TooGreat};
-ghost use Rattle.tracebook.specs.declared.view.View.TheVariants.{Json, Ranking};
-ghost use Rattle.tracebook.specs.Tables.{json_fits_run, json_of_run, ranking_of_run, run_of};
+ghost use Rattle.tracebook.specs.declared.view.View.TheVariants.{Table as OfTable};
+ghost use Rattle.tracebook.specs.Tables.{asked_table, table_fits, table_text};
 ghost use Rattle.tracebook.specs.View.{Fits, Prints, TextLeaves, ViewLeaves, of_folded, of_written, text_of, view_code};
 
-use crate::tables::{TableOptions, table_of_run};
+use crate::tables::{TableView, table_text};
 use span_collect::refusals::write_refusals;
 use span_collect::{Collected, Input, RunError, Settings, collect_to_ledger, run_to_ledger};
 use span_event::Fault;
 use span_page::write_page;
 use span_report::stacks::{FoldedFault, write_folded};
 use span_report::{Sink, WriteFault, write_bytes, write_report};
-use span_table::{By, JsonFault, json_table, ranking};
-use std::alloc::{AllocError, Global};
+use span_runs::table_of_run;
+use span_table::JsonFault;
+use std::alloc::Global;
 use std::mem::forget;
 use std::random::RandomSource;
 use std::sync::Wait;
@@ -24,14 +26,8 @@ use std::thread::Threads;
 #[derive(Drop)]
 pub enum View {
     Report,
-    /// The first rows of a table by this number, at most so many.
-    Ranking {
-        table: TableOptions,
-        most: u32,
-        by: By,
-    },
-    /// The rows of a table, for other programs.
-    Json(TableOptions),
+    /// A table of the run.
+    Table(TableView),
     /// Which items of each file were refused.
     Refusals,
     /// The folded stacks of each thread.
@@ -116,10 +112,7 @@ fn write_view<O: Sink, R: RandomSource>(
     let ends = &collected.end.ends;
     match view {
         View::Report => write_report(alloc, ledger, out).map_err(of_written),
-        View::Ranking { table, most, by } => {
-            write_ranking(rt, alloc, files, collected, table, *most, *by, out)
-        }
-        View::Json(table) => write_json(rt, alloc, files, collected, table, out),
+        View::Table(table) => write_table(rt, alloc, files, collected, table, out),
         View::Refusals => write_refusals(alloc, ledger, files, ends, out).map_err(of_written),
         View::Folded => write_folded(alloc, ledger, out).map_err(of_folded),
         View::Page => write_page(alloc, ledger, files, ends, out).map_err(of_written),
@@ -146,63 +139,22 @@ fn of_folded(fault: FoldedFault) -> ViewFault
     }
 }
 
-// Writes the ranking of a table of what was collected.
-fn write_ranking<O: Sink, R: RandomSource>(
+// Writes a table of what was collected.
+fn write_table<O: Sink, R: RandomSource>(
     rt: &R,
     alloc: Global,
     files: &[Input],
     collected: &Collected,
-    options: &TableOptions,
-    most: u32,
-    by: By,
+    view: &TableView,
     out: &mut O,
 ) -> Result<(), ViewFault>
     ensures ok { OnOk result (TakesBytes (O.state out.old) (O.state out.new)
-        (text_of (Ranking options.now most by) files.now collected.now.end.ends.items collected.now.ledger.journal)) }
-    ensures fault { IfErr result (λ fault. TextLeaves (Ranking options.now most by) files.now fault
+        (text_of (OfTable view.now) files.now collected.now.end.ends.items collected.now.ledger.journal)) }
+    ensures fits { OnOk result (Fits (OfTable view.now) files.now collected.now.end.ends.items collected.now.ledger.journal) }
+    ensures fault { IfErr result (λ fault. TextLeaves (OfTable view.now) files.now fault
         collected.now.end.ends.items collected.now.ledger.journal (O.state out.old) (O.state out.new)) }
 {
-    let Ok(text) = ranking_text(rt, alloc, files, collected, options, most, by) else {
-        return Err(ViewFault::Run(RunError::Memory));
-    };
-    write_bytes(&text, out).map_err(|written| ViewFault::Run(RunError::Output { written }))
-}
-
-fn ranking_text<R: RandomSource>(
-    rt: &R,
-    alloc: Global,
-    files: &[Input],
-    collected: &Collected,
-    options: &TableOptions,
-    most: u32,
-    by: By,
-) -> Result<Vec<u8>, AllocError>
-    ensures { IfOk result (λ text. text.items ≡ ranking_of_run options.now most by
-        (run_of files.now collected.now.end.ends.items collected.now.ledger.journal)) }
-{
-    let table = table_of_run(rt, alloc, &options.columns, files, collected)?;
-    let text = ranking(alloc, &table, &options.shown, most, by);
-    // The program ends soon, and then the system frees all at once, where freeing one by one takes long.
-    forget(table);
-    text
-}
-
-// Writes the rows of a table of what was collected, for other programs.
-fn write_json<O: Sink, R: RandomSource>(
-    rt: &R,
-    alloc: Global,
-    files: &[Input],
-    collected: &Collected,
-    options: &TableOptions,
-    out: &mut O,
-) -> Result<(), ViewFault>
-    ensures ok { OnOk result (TakesBytes (O.state out.old) (O.state out.new)
-        (text_of (Json options.now) files.now collected.now.end.ends.items collected.now.ledger.journal)) }
-    ensures fits { OnOk result (Fits (Json options.now) files.now collected.now.end.ends.items collected.now.ledger.journal) }
-    ensures fault { IfErr result (λ fault. TextLeaves (Json options.now) files.now fault
-        collected.now.end.ends.items collected.now.ledger.journal (O.state out.old) (O.state out.new)) }
-{
-    let text = match json_text(rt, alloc, files, collected, options) {
+    let text = match text_of_run(rt, alloc, files, collected, view) {
         Ok(text) => text,
         Err(JsonFault::Memory) => return Err(ViewFault::Run(RunError::Memory)),
         Err(JsonFault::TooGreat) => return Err(ViewFault::TooGreat),
@@ -210,24 +162,27 @@ fn write_json<O: Sink, R: RandomSource>(
     write_bytes(&text, out).map_err(|written| ViewFault::Run(RunError::Output { written }))
 }
 
-fn json_text<R: RandomSource>(
+// The text of a table of what was collected.
+fn text_of_run<R: RandomSource>(
     rt: &R,
     alloc: Global,
     files: &[Input],
     collected: &Collected,
-    options: &TableOptions,
+    view: &TableView,
 ) -> Result<Vec<u8>, JsonFault>
-    ensures text { IfOk result (λ text. text.items
-        ≡ json_of_run options.now (run_of files.now collected.now.end.ends.items collected.now.ledger.journal)) }
-    ensures fits { OnOk result
-        (json_fits_run options.now (run_of files.now collected.now.end.ends.items collected.now.ledger.journal) ≡ true) }
-    ensures too_great { IfErr result (λ fault. fault ≡ TooGreat
-        → json_fits_run options.now (run_of files.now collected.now.end.ends.items collected.now.ledger.journal) ≡ false) }
+    ensures text { IfOk result (λ text. text.items ≡ table_text view.now false
+        (asked_table view.now (run_of_files files.now collected.now.end.ends.items collected.now.ledger.journal))) }
+    ensures fits { OnOk result (table_fits view.now
+        (asked_table view.now (run_of_files files.now collected.now.end.ends.items collected.now.ledger.journal)) ≡ true) }
+    ensures too_great { IfErr result (λ fault. fault ≡ TooGreat → table_fits view.now
+        (asked_table view.now (run_of_files files.now collected.now.end.ends.items collected.now.ledger.journal)) ≡ false) }
 {
-    let Ok(table) = table_of_run(rt, alloc, &options.columns, files, collected) else {
+    let columns = &view.options.columns;
+    let Ok(table) = table_of_run(rt, alloc, columns, files, collected) else {
         return Err(JsonFault::Memory);
     };
-    let text = json_table(alloc, &table, &options.shown);
+    let text = table_text(alloc, &table, view, false);
+    // The program ends soon, and then the system frees all at once, where freeing one by one takes long.
     forget(table);
     text
 }

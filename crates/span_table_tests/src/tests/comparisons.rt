@@ -46,10 +46,10 @@ fn rows_are_matched_by_their_keys(rt: HostRuntime) -> Result<(), Fail> {
     let base = tabled(alloc, BEFORE, &["process", "name"]).ok_or("no table")?;
     let other = tabled(alloc, AFTER, &["process", "name"]).ok_or("no table")?;
     let all = shown(alloc, &[], &[])?;
-    let text = comparison(alloc, &base, &other, &all, By::SelfTime)?;
+    let text = comparison(alloc, &base, &other, &all, By::SelfTime, false)?;
     assert!(rt; text.as_slice() == CHANGED.as_bytes());
     let some = shown(alloc, &["n"], &["a"])?;
-    let skipped = comparison(alloc, &base, &other, &some, By::Count)?;
+    let skipped = comparison(alloc, &base, &other, &some, By::Count, false)?;
     assert!(rt; skipped.as_slice() == SKIPPED.as_bytes());
     Ok(())
 }
@@ -73,7 +73,7 @@ fn a_refused_growth_leaves_no_part_of_a_comparison(rt: HostRuntime) -> Result<()
     if let Some(base) = tabled(alloc, BEFORE, &["process", "name"])
         && let Some(other) = tabled(alloc, AFTER, &["process", "name"])
         && let Ok(all) = shown(alloc, &[], &[])
-        && let Ok(text) = comparison(alloc, &base, &other, &all, By::SelfTime)
+        && let Ok(text) = comparison(alloc, &base, &other, &all, By::SelfTime, false)
     {
         assert!(rt; text.as_slice() == CHANGED.as_bytes());
     }

@@ -76,7 +76,7 @@ fn the_greatest_numbers(rt: HostRuntime) -> Result<(), Fail> {
     let table = tabled(alloc, greater.as_str(), &["name"]).ok_or("no table")?;
     let refused = json_table(alloc, &table, &all);
     assert!(rt; matches!(refused, Err(JsonFault::TooGreat)));
-    let whole = ranking(alloc, &table, &all, 9, By::SelfTime)?;
+    let whole = ranking(alloc, &table, &all, 9, By::SelfTime, false)?;
     assert!(rt; whole.as_slice() == TOO_GREAT.as_bytes());
     Ok(())
 }

@@ -29,9 +29,9 @@ shown 2 of 4
 fn the_first_rows_by_a_number(rt: HostRuntime) -> Result<(), Fail> {
     let alloc = rt.alloc();
     let table = tabled(alloc, NESTED, &["name", "k"]).ok_or("no table")?;
-    let text = ranking(alloc, &table, &shown(alloc, &[], &[])?, 3, By::Total)?;
+    let text = ranking(alloc, &table, &shown(alloc, &[], &[])?, 3, By::Total, false)?;
     assert!(rt; text.as_slice() == BY_TOTAL.as_bytes());
-    let skipped = ranking(alloc, &table, &shown(alloc, &[], &["a"])?, 1, By::Count)?;
+    let skipped = ranking(alloc, &table, &shown(alloc, &[], &["a"])?, 1, By::Count, false)?;
     assert!(rt; skipped.as_slice() == SKIPPED.as_bytes());
     Ok(())
 }
@@ -42,7 +42,7 @@ fn a_refused_growth_leaves_no_part_of_a_ranking(rt: HostRuntime) -> Result<(), F
     let alloc = rt.alloc();
     if let Some(table) = tabled(alloc, NESTED, &["name", "k"])
         && let Ok(all) = shown(alloc, &[], &[])
-        && let Ok(text) = ranking(alloc, &table, &all, 3, By::Total)
+        && let Ok(text) = ranking(alloc, &table, &all, 3, By::Total, false)
     {
         assert!(rt; text.as_slice() == BY_TOTAL.as_bytes());
     }

@@ -1,0 +1,57 @@
+-- Files each of which is a run of its own: what is printed of their sums.
+use Rattle.std.specs.Prelude.{◌≡◌, ℕ, ◌≤◌, ◌⊎◌, ◌==◌, if◌then◌else◌, true, List, [], ◌∷◌, ◌++◌, length, take, codes}
+use Rattle.span_event.specs.Text.{Bytes}
+use Rattle.span_report.specs.Sink.{SinkState, TakesBytes, Fails}
+use Rattle.span_collect.specs.declared.settings.Settings.{Settings}
+use Rattle.span_runs.specs.declared.apart.Summed.{Summed}
+use Rattle.span_runs.specs.Apart.{SumsFiles}
+use Rattle.span_runs.specs.Source.{SourceBytes}
+use Rattle.span_table.specs.declared.column.Column.{Column}
+use Rattle.tracebook.specs.declared.comparison.ComparisonView.{ComparisonView}
+use Rattle.tracebook.specs.declared.tables.TableView.{TableView}
+use Rattle.tracebook.specs.Comparison.{changes_text}
+use Rattle.tracebook.specs.Tables.{table_fits, table_text}
+
+-- what files of these names come to, each a run of its own; standard input, as the file `-`, where there are none
+abbrev pub SumsInputs : SourceBytes → List (List ℕ) → Settings → List Column → Summed → Type 0
+SumsInputs source [] settings columns summed = SumsFiles (λ name. source.standard) (codes "-" ∷ []) settings columns summed
+SumsInputs source (name ∷ names) settings columns summed = SumsFiles source.file (name ∷ names) settings columns summed
+
+-- 1 where a fault line is said, else 0
+abbrev pub told_status : Bytes → ℕ
+told_status lines = if length lines == 0 then 0 else 1
+
+-- the text is written, and the status follows from these fault lines
+pub record WritesAll (text lines : Bytes) (status : ℕ) (old new : SinkState) : Type 0 where
+  pub written : TakesBytes old new text
+  pub ended : status ≡ told_status lines
+
+-- nothing was written, or the output failed after first bytes of the text
+abbrev pub WritesPart : Bytes → SinkState → SinkState → Type 0
+WritesPart text old new = (new ≡ old) ⊎ ((written : ℕ) × (written ≤ length text) × Fails old new (take written text))
+
+-- the files of these names were summed, and this view of the sum is written
+pub record Sums (source : SourceBytes) (names : List (List ℕ)) (settings : Settings) (view : TableView) (status : ℕ) (old new : SinkState) : Type 0 where
+  pub summed : Summed
+  pub sums : SumsInputs source names settings view.options.columns.items summed
+  pub fits : table_fits view summed.sum ≡ true
+  pub written : WritesAll (table_text view true summed.sum) summed.lines.items status old new
+
+-- nothing was written, or first bytes of that
+abbrev pub SumsPart : SourceBytes → List (List ℕ) → Settings → TableView → SinkState → SinkState → Type 0
+SumsPart source names settings view old new = (new ≡ old)
+    ⊎ ((summed : Summed) × SumsInputs source names settings view.options.columns.items summed × WritesPart (table_text view true summed.sum) old new)
+
+-- the base's files were summed, and the others, and what changed between the sums is written
+pub record ComparesSums (source : SourceBytes) (base_names names : List (List ℕ)) (settings : Settings) (view : ComparisonView) (status : ℕ) (old new : SinkState) : Type 0 where
+  pub base : Summed
+  pub other : Summed
+  pub base_sums : SumsFiles source.file base_names settings view.options.columns.items base
+  pub sums : SumsInputs source names settings view.options.columns.items other
+  pub written : WritesAll (changes_text view true base.sum other.sum) (base.lines.items ++ other.lines.items) status old new
+
+-- nothing was written, or first bytes of that
+abbrev pub ComparesSumsPart : SourceBytes → List (List ℕ) → List (List ℕ) → Settings → ComparisonView → SinkState → SinkState → Type 0
+ComparesSumsPart source base_names names settings view old new = (new ≡ old)
+    ⊎ ((base : Summed) × (other : Summed) × SumsFiles source.file base_names settings view.options.columns.items base
+    × SumsInputs source names settings view.options.columns.items other × WritesPart (changes_text view true base.sum other.sum) old new)

@@ -1,0 +1,256 @@
+//! Files each of which is a run of its own: their tables, summed and printed.
+ghost use Rattle.std.specs.Prelude.{◌≡◌, ◌<◌, ◌≤◌, ◌++◌, [], true, is_ok, IfOk, IfErr};
+ghost use Rattle.span_report.specs.Sink.{TakesBytes};
+ghost use Rattle.span_runs.specs.Apart.{SumsFiles};
+ghost use Rattle.tracebook.specs.Comparison.{changes_text};
+ghost use Rattle.tracebook.specs.Sums.{ComparesSums, ComparesSumsPart, Sums, SumsInputs, SumsPart, WritesAll, WritesPart};
+ghost use Rattle.tracebook.specs.Tables.{table_fits, table_text};
+
+use crate::comparison::{ComparisonView, changes_text};
+use crate::faults::{FAILED, Faults, fail, fail_stop, say};
+use crate::standard::Standard;
+use crate::tables::{TableView, table_text};
+use span_collect::Settings;
+use span_event::{Fault, Text};
+use span_report::{Sink, write_bytes};
+use span_runs::{Source, Stop, Summed, sum_apart};
+use span_table::{Column, JsonFault};
+use std::alloc::Global;
+use std::mem::forget;
+use std::random::RandomSource;
+use std::slice::from_ref;
+use std::sync::Wait;
+use std::thread;
+use std::thread::Threads;
+
+const MOST_JOBS: usize = 64;
+
+/// How files are collected that are runs of their own: in so many jobs at once, or one for each processor that the system grants.
+#[derive(Clone, Copy)]
+pub struct Apart {
+    pub settings: Settings,
+    pub jobs: Option<u32>,
+}
+
+/// Sums the files of these names, or standard input where there are none, and prints this of them.
+pub(crate) fn sum_files<
+    R: Threads + Wait + RandomSource + Sync,
+    S: Source + Sync,
+    O: Sink,
+    F: Faults,
+>(
+    rt: &R,
+    alloc: Global,
+    apart: &Apart,
+    view: &TableView,
+    names: Vec<Text>,
+    source: &S,
+    out: &mut O,
+    faults: &mut F,
+) -> u8
+    ensures status { result ≤ 2 }
+    ensures done { result < 2
+        → Sums (S.bytes source.now) names.items apart.now.settings view.now result (O.state out.old) (O.state out.new) }
+    ensures failed { result ≡ 2
+        → SumsPart (S.bytes source.now) names.items apart.now.settings view.now (O.state out.old) (O.state out.new) }
+{
+    source.begin_apart(names.len() as u64);
+    match sum_inputs(rt, alloc, apart, &view.options.columns, &names, source) {
+        Ok(summed) => {
+            source.end();
+            write_sum(alloc, summed, view, out, faults)
+        }
+        Err(stop) => fail_stop(alloc, stop, faults),
+    }
+}
+
+/// Sums the base's files, and then the others, and prints what changed between the two sums.
+pub(crate) fn compare_sums<
+    R: Threads + Wait + RandomSource + Sync,
+    S: Source + Sync,
+    O: Sink,
+    F: Faults,
+>(
+    rt: &R,
+    alloc: Global,
+    apart: &Apart,
+    view: &ComparisonView,
+    base: Vec<Text>,
+    names: Vec<Text>,
+    source: &S,
+    out: &mut O,
+    faults: &mut F,
+) -> u8
+    ensures status { result ≤ 2 }
+    ensures done { result < 2 → ComparesSums (S.bytes source.now) base.items names.items apart.now.settings view.now
+        result (O.state out.old) (O.state out.new) }
+    ensures failed { result ≡ 2 → ComparesSumsPart (S.bytes source.now) base.items names.items apart.now.settings
+        view.now (O.state out.old) (O.state out.new) }
+{
+    let columns = &view.options.columns;
+    let files = (base.len() as u64).saturating_add(names.len() as u64);
+    source.begin_apart(files);
+    let earlier = match sum_apart(
+        rt,
+        alloc,
+        source,
+        &base,
+        &apart.settings,
+        columns,
+        jobs_of(rt, apart),
+    ) {
+        Ok(earlier) => earlier,
+        Err(stop) => return fail_stop(alloc, stop, faults),
+    };
+    match sum_inputs(rt, alloc, apart, columns, &names, source) {
+        Ok(later) => {
+            source.end();
+            write_comparison(alloc, earlier, later, view, out, faults)
+        }
+        Err(stop) => {
+            say(&earlier.lines, faults);
+            fail_stop(alloc, stop, faults)
+        }
+    }
+}
+
+// Sums the files of these names, or standard input, as the file `-`, where there are none.
+fn sum_inputs<R: Threads + Wait + RandomSource + Sync, S: Source + Sync>(
+    rt: &R,
+    alloc: Global,
+    apart: &Apart,
+    columns: &[Column],
+    names: &[Text],
+    source: &S,
+) -> Result<Summed, Stop>
+    ensures { IfOk result (SumsInputs (S.bytes source.now) names.now apart.now.settings columns.now) }
+{
+    if !names.is_empty() {
+        return sum_apart(
+            rt,
+            alloc,
+            source,
+            names,
+            &apart.settings,
+            columns,
+            jobs_of(rt, apart),
+        );
+    }
+    sum_standard(rt, alloc, &apart.settings, columns, source)
+}
+
+fn sum_standard<R: Threads + Wait + RandomSource + Sync, S: Source + Sync>(
+    rt: &R,
+    alloc: Global,
+    settings: &Settings,
+    columns: &[Column],
+    source: &S,
+) -> Result<Summed, Stop>
+    ensures { IfOk result (SumsInputs (S.bytes source.now) [] settings.now columns.now) }
+{
+    let Ok(name) = Text::of(alloc, "-") else {
+        return Err(Stop::of_memory(alloc));
+    };
+    let standard = Standard { source };
+    sum_apart(rt, alloc, &standard, from_ref(&name), settings, columns, 1)
+}
+
+fn jobs_of<R: Threads>(rt: &R, apart: &Apart) -> u32 {
+    if let Some(jobs) = apart.jobs {
+        return jobs;
+    }
+    match thread::available_parallelism(rt) {
+        Ok(count) => count.get().min(MOST_JOBS) as u32,
+        Err(_) => 1,
+    }
+}
+
+// Writes a sum, and then the fault lines of files that are no trace.
+fn write_sum<O: Sink, F: Faults>(
+    alloc: Global,
+    summed: Summed,
+    view: &TableView,
+    out: &mut O,
+    faults: &mut F,
+) -> u8
+    ensures status { result ≤ 2 }
+    ensures fits { result < 2 → table_fits view.now summed.sum ≡ true }
+    ensures done { result < 2
+        → WritesAll (table_text view.now true summed.sum) summed.lines.items result (O.state out.old) (O.state out.new) }
+    ensures failed { result ≡ 2 → WritesPart (table_text view.now true summed.sum) (O.state out.old) (O.state out.new) }
+{
+    let Summed { sum, lines } = summed;
+    let text = match sum.into_table() {
+        Ok(table) => {
+            let text = table_text(alloc, &table, view, true);
+            // The program ends soon, and then the system frees all at once, where freeing one by one takes long.
+            forget(table);
+            text
+        }
+        Err(_) => Err(JsonFault::Memory),
+    };
+    write_told(alloc, text, &lines, out, faults)
+}
+
+fn write_comparison<O: Sink, F: Faults>(
+    alloc: Global,
+    base: Summed,
+    other: Summed,
+    view: &ComparisonView,
+    out: &mut O,
+    faults: &mut F,
+) -> u8
+    ensures status { result ≤ 2 }
+    ensures done { result < 2 → WritesAll (changes_text view.now true base.sum other.sum)
+        (base.lines.items ++ other.lines.items) result (O.state out.old) (O.state out.new) }
+    ensures failed { result ≡ 2
+        → WritesPart (changes_text view.now true base.sum other.sum) (O.state out.old) (O.state out.new) }
+{
+    let Summed {
+        sum: earlier,
+        mut lines,
+    } = base;
+    let Summed {
+        sum: later,
+        lines: more,
+    } = other;
+    let text = match (earlier.into_table(), later.into_table()) {
+        (Ok(earlier), Ok(later)) => {
+            let text = changes_text(alloc, &earlier, &later, view, true);
+            forget(earlier);
+            forget(later);
+            text
+        }
+        _ => Err(JsonFault::Memory),
+    };
+    if lines.extend_from_slice(&more).is_err() {
+        return fail(alloc, Fault::Memory.code(), faults);
+    }
+    write_told(alloc, text, &lines, out, faults)
+}
+
+// Writes a text, if it was made, and then these fault lines.
+fn write_told<O: Sink, F: Faults>(
+    alloc: Global,
+    text: Result<Vec<u8>, JsonFault>,
+    lines: &[u8],
+    out: &mut O,
+    faults: &mut F,
+) -> u8
+    ensures status { result ≤ 2 }
+    ensures made { result < 2 → is_ok text ≡ true }
+    ensures done { IfOk text (λ made. result < 2 → WritesAll made.items lines.now result (O.state out.old) (O.state out.new)) }
+    ensures failed { IfOk text (λ made. result ≡ 2 → WritesPart made.items (O.state out.old) (O.state out.new)) }
+    ensures silent { IfErr text (λ fault. (result ≡ 2) × (O.state out.new ≡ O.state out.old)) }
+{
+    let text = match text {
+        Ok(text) => text,
+        Err(JsonFault::Memory) => return fail(alloc, Fault::Memory.code(), faults),
+        Err(JsonFault::TooGreat) => return fail(alloc, Fault::TooGreat.code(), faults),
+    };
+    if write_bytes(&text, out).is_err() {
+        return fail(alloc, Fault::Output.code(), faults);
+    }
+    say(lines, faults);
+    if lines.is_empty() { 0 } else { 1 }
+}
