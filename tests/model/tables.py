@@ -2,7 +2,7 @@
 """A plain model of the tables of docs/report.md: closed spans summed by columns, as a ranking, a comparison, and JSON Lines. Files are
 read and collected as for the report (report.py); like that, it is written from the pages alone.
 
-usage: tables.py [--seal] [--strict] (--top N | --json) [--by self|total|count] [--group-by COLUMNS] [--only TEXT].. [--skip TEXT]..
+usage: tables.py [--seal] [--strict] [--apart] (--top N | --json) [--by self|total|count] [--group-by COLUMNS] [--only TEXT].. [--skip TEXT]..
                  [--base FILE].. FILE...
 """
 import argparse
@@ -52,7 +52,7 @@ def argument_value(args, key):
 
 
 def is_column(column):
-    return column in ("pid", "tid", "process", "thread", "name") or column.startswith("args.") and column != "args."
+    return column in ("pid", "tid", "process", "thread", "name", "file") or column.startswith("args.") and column != "args."
 
 
 def columns_of(text):
@@ -63,9 +63,11 @@ def columns_of(text):
     return columns
 
 
-def value_of(column, ledger, number, span):
+def value_of(column, run, number, span):
     """The value of a column at a closed span of the thread of this number."""
-    process = ledger.processes[number[0]]
+    process = run.ledger.processes[number[0]]
+    if column == "file":
+        return words(run.name)
     if column in ("pid", "tid"):
         return whole(number[column == "tid"])
     if column == "process":
@@ -84,22 +86,57 @@ def added(sums, more):
 
 
 @dataclass
+class Run:
+    """What one ledger holds, of so many files, of which so many are refused; the name of the file if it is one of its own."""
+
+    ledger: object
+    files: int = 1
+    unread: int = 0
+    name: str = ""
+
+
+@dataclass
+class Counts:
+    """What a head counts, over all runs."""
+
+    accepted: int
+    refused: dict
+    skipped: int
+    seals: int
+
+
+@dataclass
 class Table:
     columns: list
-    ledger: object
-    files: int
-    unread: int
+    runs: list
     rows: dict  # the sums of each key
+    tells_runs: bool
+
+    def counts(self):
+        ledgers = [run.ledger for run in self.runs]
+        refused = {0: sum(sum(ledger.refused.values()) for ledger in ledgers)}
+        accepted, skipped, seals = (sum(getattr(ledger, name) for ledger in ledgers) for name in ("accepted", "skipped", "seals"))
+        return Counts(accepted, refused, skipped, seals)
+
+    def sizes(self):
+        return [len(self.runs), sum(run.files for run in self.runs), sum(run.unread for run in self.runs)]
+
+    def head_lines(self):
+        """The lines of the head behind its first, but for that of shown rows."""
+        yield from count_lines(self.counts())
+        if self.tells_runs:
+            yield "runs {} files {} unread {}".format(*self.sizes())
 
 
-def table_of(columns, ledger, files=1, unread=0):
+def table_of(columns, runs, tells_runs=False):
     rows = {}
-    for process in ledger.processes.values():
-        for number, thread in process.threads.items():
-            for span, own in zip(thread.closed, self_times(thread.closed)):
-                key = tuple(value_of(column, ledger, number, span) for column in columns)
-                rows[key] = added(rows.get(key, NOTHING), (1, span[1] - span[0], own))
-    return Table(columns, ledger, files, unread, rows)
+    for run in runs:
+        for process in run.ledger.processes.values():
+            for number, thread in process.threads.items():
+                for span, own in zip(thread.closed, self_times(thread.closed)):
+                    key = tuple(value_of(column, run, number, span) for column in columns)
+                    rows[key] = added(rows.get(key, NOTHING), (1, span[1] - span[0], own))
+    return Table(columns, runs, rows, tells_runs)
 
 
 @dataclass
@@ -140,7 +177,7 @@ def title(column):
 
 def ranking_lines(table, most, by, wanted):
     yield "tracebook 1"
-    yield from count_lines(table.ledger)
+    yield from table.head_lines()
     yield from wanted.line(table.rows)
     yield " ".join([f"{'self':>16} {'total':>16} {'count':>8}", *map(title, table.columns)])
     shown = [(key, sums) for key, sums in table.rows.items() if wanted.shows(key)]
@@ -171,9 +208,9 @@ def changes_of(base, other, by, wanted):
 
 def comparison_lines(base, other, by, wanted):
     yield "tracebook 1"
-    for line in count_lines(base.ledger):
+    for line in base.head_lines():
         yield f"base {line}"
-    yield from count_lines(other.ledger)
+    yield from other.head_lines()
     yield from wanted.line(base.rows.keys() | other.rows.keys())
     times = " ".join(f"{word:>16}" for word in ["dself", "self0", "self1", "dtotal", "total0", "total1"])
     yield " ".join([f"{times} {'count0':>8} {'count1':>8}", *map(title, other.columns)])
@@ -223,9 +260,8 @@ def number_members(names, numbers):
 
 
 def head_members(table):
-    ledger, names = table.ledger, ["runs", "files", "unread", "events", "refused", "skipped", "queries", "seals"]
-    counts = [ledger.accepted, sum(ledger.refused.values()), ledger.skipped, 0, ledger.seals]
-    return number_members(names, [1, table.files, table.unread, *counts])
+    counts, names = table.counts(), ["runs", "files", "unread", "events", "refused", "skipped", "queries", "seals"]
+    return number_members(names, [*table.sizes(), counts.accepted, counts.refused[0], counts.skipped, 0, counts.seals])
 
 
 def column_members(columns):
@@ -270,7 +306,7 @@ def text_or_none(lines):
 
 def words_of_line():
     parser = argparse.ArgumentParser(allow_abbrev=False)
-    for switch in "--seal", "--strict", "--json":
+    for switch in "--seal", "--strict", "--json", "--apart":
         parser.add_argument(switch, action="store_true")
     parser.add_argument("--top", type=int)
     parser.add_argument("--by", choices=BY, default="self")
@@ -281,13 +317,19 @@ def words_of_line():
     return parser.parse_args()
 
 
-def table_of_files(line, columns, paths):
-    """The table of files, or of standard input where there are none, and the lines of those that are refused."""
-    files = [(path, bytes_of(path)) for path in paths] or [("-", sys.stdin.buffer.read())]
+def run_of(line, files, name=""):
+    """The run of files, each a name and its bytes, and the lines of those that are refused."""
     ledger, faults = collect(files, line.strict)
     if line.seal:
         ledger.seal()
-    return table_of(columns, ledger, len(files), len(faults)), faults
+    return Run(ledger, len(files), len(faults), name), faults
+
+
+def table_of_files(line, columns, paths):
+    """The table of files, or of standard input where there are none, and the lines of those that are refused."""
+    files = [(path, bytes_of(path)) for path in paths] or [("-", sys.stdin.buffer.read())]
+    together = [run_of(line, [file], file[0]) for file in files] if line.apart else [run_of(line, files)]
+    return table_of(columns, [run for run, _ in together], line.apart), [fault for _, faults in together for fault in faults]
 
 
 def main():

@@ -1,0 +1,1 @@
+ln -s gone "$1/link"
