@@ -39,6 +39,7 @@ bench: tracebook
 	bench/hostile
 	bench/folding
 	bench/tables
+	bench/build
 	bench/threads
 	bench/workers
 
