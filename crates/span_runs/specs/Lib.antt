@@ -1,4 +1,5 @@
 pub mod Apart
 pub mod Inputs
+pub mod Names
 pub mod Runs
 pub mod Source

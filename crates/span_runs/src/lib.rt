@@ -5,12 +5,14 @@
 mod apart;
 mod cuts;
 mod files;
+mod names;
 mod runs;
 mod source;
 mod stop;
 
 pub use apart::{Summed, sum_apart};
 pub use files::{MOST_READ, read_file, read_standard};
+pub use names::{Named, names_of};
 pub use runs::table_of_run;
 pub use source::{Reason, Source, SourceFault};
 pub use stop::{Stop, StopCause};

@@ -10,6 +10,8 @@ pub enum Reason {
     Missing,
     Denied,
     Folder,
+    /// It is a list of names, and not UTF-8.
+    NotText,
     Other,
 }
 
@@ -20,6 +22,7 @@ impl Reason {
             Reason::Missing => "there is no such file",
             Reason::Denied => "it may not be read by this user",
             Reason::Folder => "it is a folder",
+            Reason::NotText => "it is not UTF-8 text",
             Reason::Other => "reading it failed",
         }
     }

@@ -1,0 +1,49 @@
+-- The files that a command line names.
+use Rattle.std.specs.Prelude.{◌≡◌, ◌<◌, ℕ, ◌==◌, if◌then◌else◌, List, [], ◌∷◌, ◌++◌, length, Option, Some, None, codes}
+use Rattle.std.specs.List.{list_any}
+use Rattle.std.specs.Str.{bytes_eq}
+use Rattle.span_event.specs.Text.{Bytes}
+use Rattle.span_runs.specs.declared.names.Named.{Named}
+use Rattle.span_runs.specs.Source.{AreFirst, SourceBytes}
+
+-- the most bytes that are read of a list
+abbrev pub most_listed : ℕ
+most_listed = 1099511627776
+
+-- names end at a NUL where there is one, else at a line feed
+abbrev pub separator_of : Bytes → ℕ
+separator_of bytes = if list_any (λ byte. byte == 0) bytes then 0 else 10
+
+-- a name, unless it is empty
+abbrev pub kept : Bytes → List Bytes
+kept [] = []
+kept (byte ∷ name) = (byte ∷ name) ∷ []
+
+-- the names in the rest of a list, whose first begins with this part
+abbrev pub names_from : ℕ → Bytes → Bytes → List Bytes
+names_from separator part [] = kept part
+names_from separator part (byte ∷ rest) =
+    if byte == separator then kept part ++ names_from separator [] rest else names_from separator (part ++ byte ∷ []) rest
+
+-- the names in a list
+abbrev pub names_in : Bytes → List Bytes
+names_in bytes = names_from (separator_of bytes) [] bytes
+
+-- what is known of the bytes of a list: `-` is standard input
+abbrev pub bytes_of_list : SourceBytes → Bytes → Option Bytes
+bytes_of_list source list = if bytes_eq list (codes "-") then source.standard else source.file list
+
+-- these names, and those of a list behind them, which are some together
+pub record AreListed (source : SourceBytes) (list : Bytes) (given names : List Bytes) : Type 0 where
+  pub bytes : Bytes
+  pub read : AreFirst most_listed (bytes_of_list source list) bytes
+  pub all : names ≡ given ++ names_in bytes
+  pub some : 0 < length names
+
+-- the names that are given, and those of the list, where there is one
+abbrev pub NamedBy : SourceBytes → List Bytes → Option Bytes → List Bytes → Type 0
+NamedBy source given None names = names ≡ given
+NamedBy source given (Some list) names = AreListed source list given names
+
+abbrev pub AreNamed : SourceBytes → Named → List Bytes → Type 0
+AreNamed source named names = NamedBy source named.given.items named.list names
