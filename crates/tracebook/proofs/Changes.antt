@@ -11,7 +11,7 @@ use Rattle.tracebook.specs.declared.comparison.ComparisonFault.{ComparisonFault}
 use Rattle.tracebook.specs.declared.comparison.ComparisonFault.TheVariants.{Run, TooGreat}
 use Rattle.tracebook.specs.declared.comparison.ComparisonView.{ComparisonView}
 use Rattle.tracebook.specs.Comparison.{ChangesLeave, ComparisonLeaves, HasEnded, greater}
-use Rattle.span_runs.specs.Runs.{run_in_turn, run_of_files}
+use Rattle.span_runs.specs.Runs.{run_of_files}
 use Rattle.tracebook.proofs.InTurn.{AreTooGreat-in_turn, changes_of_runs-in_turn}
 
 -- two runs ended, neither with 2, and this is left of what changed between them

@@ -1,5 +1,5 @@
 -- What is printed of separate files is what they give where they are read in turn.
-use Rattle.std.proofs.Common.{◌≡◌, ◌<◌, false, List, [], ◌∷◌, refl, sym, ap, subst, arith}
+use Rattle.std.proofs.Common.{◌≡◌, ◌<◌, false, List, [], sym, ap, subst, arith}
 use Rattle.span_ledger.specs.declared.entry.Entry.{Entry}
 use Rattle.span_ledger.specs.Topics.{AreAlike}
 use Rattle.span_report.proofs.SameReports.{report_of-alike}

@@ -1,17 +1,21 @@
 -- What the words of a command line ask for, and what a request does.
-use Rattle.std.specs.Prelude.{◌≡◌, ℕ, ◌⊎◌, Bool, false, List, take, codes, nat_eq, string_bytes}
+use Rattle.std.specs.Prelude.{◌≡◌, ℕ, ◌⊎◌, Bool, false, List, take, codes, nat_eq, string_bytes, None}
 use Rattle.std.specs.List.{list_any, starts_with}
 use Rattle.span_report.specs.Sink.{SinkState, TakesBytes, Fails}
 use Rattle.span_collect.specs.declared.files.Input.{Input}
 use Rattle.span_collect.specs.declared.settings.Settings.{Settings}
 use Rattle.span_collect.specs.declared.runs.RunEnd.{RunEnd}
 use Rattle.tracebook.specs.declared.command.Request.{Request}
-use Rattle.tracebook.specs.declared.command.Request.TheVariants.{Collect, Compare, Sum, CompareSums, Show, Refuse}
+use Rattle.tracebook.specs.declared.command.Request.TheVariants.{Run, Show, Refuse}
+use Rattle.tracebook.specs.declared.command.Task.{Task}
+use Rattle.tracebook.specs.declared.command.Task.TheVariants.{Collect, Compare, Sum, CompareSums}
 use Rattle.tracebook.specs.declared.comparison.ComparisonFault.{ComparisonFault}
 use Rattle.tracebook.specs.declared.comparison.ComparisonView.{ComparisonView}
 use Rattle.tracebook.specs.declared.view.View.{View}
 use Rattle.tracebook.specs.declared.view.View.TheVariants.{Report}
 use Rattle.tracebook.specs.declared.view.ViewFault.{ViewFault}
+use Rattle.span_runs.specs.declared.names.Named.{Named}
+use Rattle.span_runs.specs.Names.{AreNamed}
 use Rattle.span_runs.specs.Source.{SourceBytes}
 use Rattle.tracebook.specs.Comparison.{ComparisonLeaves, IsComparisonOf, greater}
 use Rattle.span_runs.specs.Inputs.{AreFiles, AreInputs}
@@ -32,10 +36,8 @@ default_settings = record { limit = default_limit; seal = false; strict = false 
 
 -- the files of these names are to be collected, with the default settings, and reported
 abbrev pub NamesFiles : List (List ℕ) → Request → Type 0
-NamesFiles words (Collect settings view files) = (settings ≡ default_settings) × (view ≡ Report) × (files.items ≡ words)
-NamesFiles words (Compare settings view base files) = ⊥
-NamesFiles words (Sum apart view files) = ⊥
-NamesFiles words (CompareSums apart view base files) = ⊥
+NamesFiles words (Run (Collect settings view) files) = (settings ≡ default_settings) × (view ≡ Report) × (files.given.items ≡ words) × (files.list ≡ None)
+NamesFiles words (Run task files) = ⊥
 NamesFiles words (Show text) = ⊥
 NamesFiles words (Refuse text) = ⊥
 
@@ -97,20 +99,32 @@ abbrev pub ComparesPart : SourceBytes → List (List ℕ) → List (List ℕ) �
 ComparesPart source base_names names settings view old new = (new ≡ old)
     ⊎ ((base : List Input) × (inputs : List Input) × AreFiles source.file base_names base × AreInputs source names inputs × ComparisonPart view base inputs settings old new)
 
--- what a request did that ended with status 0 or 1: its files were collected, or its text was written
+-- what was done with the files of these names, ending with status 0 or 1
+abbrev pub Does : SourceBytes → Task → List (List ℕ) → ℕ → SinkState → SinkState → Type 0
+Does source (Collect settings view) names status old new = Collects source names settings view status old new
+Does source (Compare settings view base) names status old new = Compares source base.items names settings view status old new
+Does source (Sum apart view) names status old new = Sums source names apart.settings view status old new
+Does source (CompareSums apart view base) names status old new = ComparesSums source base.items names apart.settings view status old new
+
+-- what was left where that ended with status 2
+abbrev pub DoesPart : SourceBytes → Task → List (List ℕ) → SinkState → SinkState → Type 0
+DoesPart source (Collect settings view) names old new = CollectsPart source names settings view old new
+DoesPart source (Compare settings view base) names old new = ComparesPart source base.items names settings view old new
+DoesPart source (Sum apart view) names old new = SumsPart source names apart.settings view old new
+DoesPart source (CompareSums apart view base) names old new = ComparesSumsPart source base.items names apart.settings view old new
+
+-- this holds of the names that are given, with those of a list
+abbrev pub WithNames : SourceBytes → Named → (List (List ℕ) → Type 0) → Type 0
+WithNames source files Holds = (names : List (List ℕ)) × AreNamed source files names × Holds names
+
+-- what a request did that ended with status 0 or 1: its task with the files that it names, or its text was written
 abbrev pub Performs : SourceBytes → Request → ℕ → SinkState → SinkState → Type 0
-Performs source (Collect settings view files) status old new = Collects source files.items settings view status old new
-Performs source (Compare settings view base files) status old new = Compares source base.items files.items settings view status old new
-Performs source (Sum apart view files) status old new = Sums source files.items apart.settings view status old new
-Performs source (CompareSums apart view base files) status old new = ComparesSums source base.items files.items apart.settings view status old new
+Performs source (Run task files) status old new = WithNames source files (λ names. Does source task names status old new)
 Performs source (Show text) status old new = (status ≡ 0) × TakesBytes old new (string_bytes text)
 Performs source (Refuse text) status old new = ⊥
 
 -- what a request did that ended with status 2: it wrote nothing, or first bytes of what it would have written
 abbrev pub GivesUp : SourceBytes → Request → SinkState → SinkState → Type 0
-GivesUp source (Collect settings view files) old new = CollectsPart source files.items settings view old new
-GivesUp source (Compare settings view base files) old new = ComparesPart source base.items files.items settings view old new
-GivesUp source (Sum apart view files) old new = SumsPart source files.items apart.settings view old new
-GivesUp source (CompareSums apart view base files) old new = ComparesSumsPart source base.items files.items apart.settings view old new
+GivesUp source (Run task files) old new = (new ≡ old) ⊎ WithNames source files (λ names. DoesPart source task names old new)
 GivesUp source (Show text) old new = (written : ℕ) × Fails old new (take written (string_bytes text))
 GivesUp source (Refuse text) old new = new ≡ old

@@ -13,6 +13,7 @@ use clap::error::{Error, ErrorKind};
 use clap::{ArgMatches, Command};
 use span_collect::Settings;
 use span_event::Text;
+use span_runs::Named;
 use span_table::{By, Column, Shown};
 use std::alloc::{AllocError, Global};
 
@@ -22,37 +23,39 @@ pub(crate) const DEFAULT_LIMIT: u32 = 16_777_216;
 /// What a command line asks for.
 #[derive(Drop)]
 pub enum Request {
-    /// Collect these files, or standard input where there are none, and print this of them.
-    Collect {
-        settings: Settings,
-        view: View,
-        files: Vec<Text>,
-    },
-    /// Collect the base files as one run and the others, or standard input where there are none, as another, and print this of what
-    /// changed.
-    Compare {
-        settings: Settings,
-        view: ComparisonView,
-        base: Vec<Text>,
-        files: Vec<Text>,
-    },
-    /// Collect each of these files, or standard input where there are none, as a run of its own, and print this of their sum.
-    Sum {
-        apart: Apart,
-        view: TableView,
-        files: Vec<Text>,
-    },
-    /// Sum the base files so, and the others, or standard input where there are none, and print this of what changed.
-    CompareSums {
-        apart: Apart,
-        view: ComparisonView,
-        base: Vec<Text>,
-        files: Vec<Text>,
-    },
+    /// Do this with these files, or with standard input where none are named.
+    Run { task: Task, files: Named },
     /// Print this help, or the version.
     Show(String),
     /// The words are refused, by this text.
     Refuse(String),
+}
+
+/// What is done with files.
+#[derive(Drop)]
+pub enum Task {
+    /// Collect them, and print this of them.
+    Collect {
+        settings: Settings,
+        view: View,
+    },
+    /// Collect the base files as one run and the others as another, and print this of what changed.
+    Compare {
+        settings: Settings,
+        view: ComparisonView,
+        base: Vec<Text>,
+    },
+    /// Collect each of them as a run of its own, and print this of their sum.
+    Sum {
+        apart: Apart,
+        view: TableView,
+    },
+    /// Sum the base files so, and the others, and print this of what changed.
+    CompareSums {
+        apart: Apart,
+        view: ComparisonView,
+        base: Vec<Text>,
+    },
 }
 
 /// What the words ask for; they leave out the program's own name. Words of which none begins with a hyphen name files.
@@ -67,11 +70,15 @@ pub fn request_of(alloc: Global, words: &[Text]) -> Result<Request, AllocError>
         seal: false,
         strict: false,
     };
-    Ok(Request::Collect {
+    let files = Named {
+        given: copies_of(alloc, words)?,
+        list: None,
+    };
+    let task = Task::Collect {
         settings,
         view: View::Report,
-        files: copies_of(alloc, words)?,
-    })
+    };
+    Ok(Request::Run { task, files })
 }
 
 fn has_options(words: &[Text]) -> bool
@@ -242,55 +249,61 @@ fn request_of_matches(
         seal: matches.get_flag("seal"),
         strict: matches.get_flag("strict"),
     };
-    let files = texts_of(alloc, matches, "files")?;
+    let files = named_files(alloc, matches)?;
     let shown = Shown {
         only: texts_of(alloc, matches, "only")?,
         skip: texts_of(alloc, matches, "skip")?,
     };
     let options = TableOptions { columns, shown };
+    let task = task_of(alloc, matches, settings, options)?;
+    Ok(Request::Run { task, files })
+}
+
+fn named_files(alloc: Global, matches: &ArgMatches<'_>) -> Result<Named, AllocError> {
+    let given = texts_of(alloc, matches, "files")?;
+    let list = match matches.get_str("files-from") {
+        Some(name) => Some(Text::of(alloc, name)?),
+        None => None,
+    };
+    Ok(Named { given, list })
+}
+
+fn task_of(
+    alloc: Global,
+    matches: &ArgMatches<'_>,
+    settings: Settings,
+    options: TableOptions,
+) -> Result<Task, AllocError> {
     if matches.contains_id("base") {
         let base = texts_of(alloc, matches, "base")?;
         let form = comparison_form(matches);
         let view = ComparisonView { options, form };
-        return Ok(comparison_request(matches, settings, view, base, files));
+        return Ok(comparison_task(matches, settings, view, base));
     }
     if matches.get_flag("apart") {
+        let apart = apart_of(matches, settings);
         let form = table_form(matches);
-        return Ok(Request::Sum {
-            apart: apart_of(matches, settings),
-            view: TableView { options, form },
-            files,
-        });
+        let view = TableView { options, form };
+        return Ok(Task::Sum { apart, view });
     }
     let view = view_of(matches, options);
-    Ok(Request::Collect {
-        settings,
-        view,
-        files,
-    })
+    Ok(Task::Collect { settings, view })
 }
 
-fn comparison_request(
+fn comparison_task(
     matches: &ArgMatches<'_>,
     settings: Settings,
     view: ComparisonView,
     base: Vec<Text>,
-    files: Vec<Text>,
-) -> Request {
+) -> Task {
     if matches.get_flag("apart") {
         let apart = apart_of(matches, settings);
-        return Request::CompareSums {
-            apart,
-            view,
-            base,
-            files,
-        };
+        return Task::CompareSums { apart, view, base };
     }
-    Request::Compare {
+    Task::Compare {
         settings,
         view,
         base,
-        files,
     }
 }
 

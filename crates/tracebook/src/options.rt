@@ -31,6 +31,10 @@ sum their tables; any number of files; with --top, --json and --base"#;
 const JOBS_HELP: &str = r#"How many files are read and collected at once with --apart, 1 to 64
 [default: the processors that the system grants]"#;
 
+const FILES_FROM_HELP: &str =
+    r#"Read names of further files from FILE, one a line, or parted by NULs
+where it holds one; - is standard input"#;
+
 const ONLY_HELP: &str = r#"Show only rows that have this text in a string; repeat it for rows
 that have several texts"#;
 
@@ -108,6 +112,7 @@ fn arguments_of<'a>(alloc: Global, limit_help: &'a str) -> Result<Vec<Arg<'a>>, 
     arguments.push(switch(alloc, "refused", REFUSED_HELP))?;
     arguments.push(switch(alloc, "folded", FOLDED_HELP))?;
     arguments.push(switch(alloc, "page", PAGE_HELP))?;
+    arguments.push(files_from_option(alloc))?;
     arguments.push(files_argument(alloc))?;
     Ok(arguments)
 }
@@ -183,6 +188,14 @@ fn list_option<'a>(alloc: Global, name: &'a str, value: &'a str, help: &'a str) 
         .value_name(value)
         .action(ArgAction::Append)
         .help(help)
+}
+
+fn files_from_option(alloc: Global) -> Arg<'static> {
+    Arg::new(alloc, "files-from")
+        .long("files-from")
+        .value_name("FILE")
+        .action(ArgAction::Set)
+        .help(FILES_FROM_HELP)
 }
 
 fn files_argument(alloc: Global) -> Arg<'static> {

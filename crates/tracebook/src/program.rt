@@ -1,9 +1,9 @@
 //! The program, over whatever files and outputs it is given.
 ghost use Rattle.std.specs.Prelude.{◌≡◌, ◌<◌, ◌≤◌, ◌⊎◌, length};
-ghost use Rattle.tracebook.specs.Request.{Asked, EndsWith, LeavesPart, Collects, CollectsPart, Compares, ComparesPart, ComparesWith, ComparisonPart, Performs, GivesUp};
+ghost use Rattle.tracebook.specs.Request.{Asked, Does, DoesPart, EndsWith, LeavesPart, Collects, CollectsPart, Compares, ComparesPart, ComparesWith, ComparisonPart, Performs, GivesUp};
 
 use crate::apart::{compare_sums, sum_files};
-use crate::command::{Request, request_of};
+use crate::command::{Request, Task, request_of};
 use crate::comparison::{ComparisonView, greater, run_comparison};
 use crate::faults::{FAILED, Faults, fail, fail_cause, fail_run, put_hints, report_faults, say};
 use crate::inputs::{inputs_of, pair_of};
@@ -11,7 +11,7 @@ use crate::view::{View, run_view};
 use span_collect::{Input, Settings};
 use span_event::{Fault, Text};
 use span_report::{Sink, write_bytes};
-use span_runs::Source;
+use span_runs::{Source, names_of};
 use std::alloc::Global;
 use std::mem::forget;
 use std::random::RandomSource;
@@ -55,28 +55,10 @@ fn perform_request<R: Threads + Wait + RandomSource + Sync, S: Source + Sync, O:
     ensures failed { result ≡ 2 → GivesUp (S.bytes source.now) request (O.state out.old) (O.state out.new) }
 {
     match request {
-        Request::Collect {
-            settings,
-            view,
-            files,
-        } => collect_files(rt, alloc, &settings, &view, files, source, out, faults),
-        Request::Compare {
-            settings,
-            view,
-            base,
-            files,
-        } => compare_files(
-            rt, alloc, &settings, &view, base, files, source, out, faults,
-        ),
-        Request::Sum { apart, view, files } => {
-            sum_files(rt, alloc, &apart, &view, files, source, out, faults)
-        }
-        Request::CompareSums {
-            apart,
-            view,
-            base,
-            files,
-        } => compare_sums(rt, alloc, &apart, &view, base, files, source, out, faults),
+        Request::Run { task, files } => match names_of(alloc, files, source) {
+            Ok(names) => perform_task(rt, alloc, task, names, source, out, faults),
+            Err(cause) => fail_cause(alloc, cause, faults),
+        },
         Request::Show(text) => {
             let shown = write_bytes(text.as_bytes(), out);
             drop(text);
@@ -86,6 +68,40 @@ fn perform_request<R: Threads + Wait + RandomSource + Sync, S: Source + Sync, O:
             say(text.as_bytes(), faults);
             drop(text);
             FAILED
+        }
+    }
+}
+
+fn perform_task<R: Threads + Wait + RandomSource + Sync, S: Source + Sync, O: Sink, F: Faults>(
+    rt: &R,
+    alloc: Global,
+    task: Task,
+    names: Vec<Text>,
+    source: &S,
+    out: &mut O,
+    faults: &mut F,
+) -> u8
+    ensures status { result ≤ 2 }
+    ensures done { result < 2
+        → Does (S.bytes source.now) task names.items result (O.state out.old) (O.state out.new) }
+    ensures failed { result ≡ 2 → DoesPart (S.bytes source.now) task names.items (O.state out.old) (O.state out.new) }
+{
+    match task {
+        Task::Collect { settings, view } => {
+            collect_files(rt, alloc, &settings, &view, names, source, out, faults)
+        }
+        Task::Compare {
+            settings,
+            view,
+            base,
+        } => compare_files(
+            rt, alloc, &settings, &view, base, names, source, out, faults,
+        ),
+        Task::Sum { apart, view } => sum_files(
+            rt, alloc, &apart, &view, names, source, out, faults,
+        ),
+        Task::CompareSums { apart, view, base } => {
+            compare_sums(rt, alloc, &apart, &view, base, names, source, out, faults)
         }
     }
 }
