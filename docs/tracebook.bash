@@ -1,6 +1,6 @@
 # Completes the command line of tracebook in bash: its options, the words that follow them, and files.
 
-_tracebook_options="--limit --seal --strict --top --by --group-by --only --skip --json --apart --jobs --refused --folded --page --base --help --version"
+_tracebook_options="--limit --seal --strict --top --by --group-by --only --skip --json --apart --jobs --files-from --refused --folded --page --base --help --version"
 
 _tracebook() {
     local word=${COMP_WORDS[COMP_CWORD]} before=${COMP_WORDS[COMP_CWORD-1]} earlier columns
@@ -24,7 +24,7 @@ _tracebook() {
             mapfile -t COMPREPLY < <(compgen -P "$columns" -W "pid tid process thread name file args." -- "${word##*,}")
             ;;
         --limit | --top | --jobs | --only | --skip) compopt +o default 2>/dev/null ;;
-        --base) ;;
+        --base | --files-from) ;;
         *) [[ $word == -* ]] && mapfile -t COMPREPLY < <(compgen -W "$_tracebook_options" -- "$word") ;;
     esac
     return 0
