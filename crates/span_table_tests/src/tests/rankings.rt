@@ -31,7 +31,14 @@ fn the_first_rows_by_a_number(rt: HostRuntime) -> Result<(), Fail> {
     let table = tabled(alloc, NESTED, &["name", "k"]).ok_or("no table")?;
     let text = ranking(alloc, &table, &shown(alloc, &[], &[])?, 3, By::Total, false)?;
     assert!(rt; text.as_slice() == BY_TOTAL.as_bytes());
-    let skipped = ranking(alloc, &table, &shown(alloc, &[], &["a"])?, 1, By::Count, false)?;
+    let skipped = ranking(
+        alloc,
+        &table,
+        &shown(alloc, &[], &["a"])?,
+        1,
+        By::Count,
+        false,
+    )?;
     assert!(rt; skipped.as_slice() == SKIPPED.as_bytes());
     Ok(())
 }

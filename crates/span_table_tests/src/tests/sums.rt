@@ -104,7 +104,14 @@ fn twenty_thousand_runs(rt: HostRuntime) -> Result<(), Fail> {
     drop(ledger);
     let table = sum.ok_or("no sum")?.into_table()?;
     assert!(rt; table.head().runs == 20_000 && table.head().files == 20_000);
-    let text = ranking(alloc, &table, &shown(alloc, &[], &[])?, 9, By::SelfTime, false)?;
+    let text = ranking(
+        alloc,
+        &table,
+        &shown(alloc, &[], &[])?,
+        9,
+        By::SelfTime,
+        false,
+    )?;
     assert!(rt; text.as_slice() == MANY.as_bytes());
     Ok(())
 }
