@@ -1,6 +1,6 @@
 // Prints keys of which all have the same low bits in a hash with its halves joined, so that they meet in one place of a map that
 // hashes by it: in the library's quick hash, whose seed is fixed and public, or, of a kind that begins with fixed, in SipHash-1-3 by
-// the fixed keys, which are 0. Arguments: the kind of key (name, process, thread or series; fixed_name, fixed_counter, fixed_process
+// the fixed keys, which are 0. Arguments: the kind of key (name, process or thread; fixed_name, fixed_counter, fixed_process
 // or fixed_thread), how many, and how many bits. Found by trying one after the other.
 #include <inttypes.h>
 #include <stdio.h>
@@ -135,13 +135,6 @@ static uint64_t hash_of_thread(uint64_t candidate)
     return with_number(with_number(SEED, 1, 8), candidate, 8);
 }
 
-// The first series of the first counter, without an id, of a process. The texts have the numbers 0 and 1.
-static uint64_t hash_of_series(uint64_t candidate)
-{
-    uint64_t counter = with_number(with_number(SEED, candidate, 8), 0, 8);
-    return with_number(with_number(counter, 0, 8), 1, 8);
-}
-
 int main(int count, char **words)
 {
     static const struct {
@@ -156,7 +149,6 @@ int main(int count, char **words)
         {"thread", hash_of_thread, print_number},
         {"fixed_process", fixed_hash_of_process, print_number},
         {"fixed_thread", fixed_hash_of_thread, print_number},
-        {"series", hash_of_series, print_number},
     };
     if (count != 4)
         return 2;
