@@ -1,3 +1,4 @@
 pub mod Alone
 pub mod InTurn
+pub mod Listing
 pub mod Summing

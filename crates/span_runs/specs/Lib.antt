@@ -1,5 +1,6 @@
 pub mod Apart
 pub mod Inputs
+pub mod Listing
 pub mod Names
 pub mod Runs
 pub mod Source

@@ -1,6 +1,6 @@
 -- The files that a command line names.
-use Rattle.std.specs.Prelude.{◌≡◌, ◌<◌, ℕ, ◌==◌, if◌then◌else◌, List, [], ◌∷◌, ◌++◌, length, Option, Some, None, codes}
-use Rattle.std.specs.List.{list_any}
+use Rattle.std.specs.Prelude.{◌≡◌, ◌<◌, ℕ, ◌==◌, if◌then◌else◌, Bool, true, false, List, [], ◌∷◌, ◌++◌, filter, length, Option, Some, None, codes}
+use Rattle.std.specs.List.{list_any, slice_split}
 use Rattle.std.specs.Str.{bytes_eq}
 use Rattle.span_event.specs.Text.{Bytes}
 use Rattle.span_runs.specs.declared.names.Named.{Named}
@@ -14,20 +14,13 @@ most_listed = 1099511627776
 abbrev pub separator_of : Bytes → ℕ
 separator_of bytes = if list_any (λ byte. byte == 0) bytes then 0 else 10
 
--- a name, unless it is empty
-abbrev pub kept : Bytes → List Bytes
-kept [] = []
-kept (byte ∷ name) = (byte ∷ name) ∷ []
+abbrev pub is_name : Bytes → Bool
+is_name [] = false
+is_name (byte ∷ name) = true
 
--- the names in the rest of a list, whose first begins with this part
-abbrev pub names_from : ℕ → Bytes → Bytes → List Bytes
-names_from separator part [] = kept part
-names_from separator part (byte ∷ rest) =
-    if byte == separator then kept part ++ names_from separator [] rest else names_from separator (part ++ byte ∷ []) rest
-
--- the names in a list
+-- the names in a list: the parts between its separators that are not empty
 abbrev pub names_in : Bytes → List Bytes
-names_in bytes = names_from (separator_of bytes) [] bytes
+names_in bytes = filter is_name (slice_split (λ byte. byte == separator_of bytes) bytes)
 
 -- what is known of the bytes of a list: `-` is standard input
 abbrev pub bytes_of_list : SourceBytes → Bytes → Option Bytes

@@ -1,7 +1,8 @@
 //! The files that a command line names.
 ghost use Rattle.std.specs.Prelude.{◌≡◌, ◌==◌, ◌++◌, ◌∷◌, List, ℕ, IfOk, OnOk};
 ghost use Rattle.std.specs.List.{list_any};
-ghost use Rattle.span_runs.specs.Names.{AreListed, AreNamed, bytes_of_list, kept, most_listed, names_from, names_in, separator_of};
+ghost use Rattle.span_runs.specs.Listing.{kept, names_from};
+ghost use Rattle.span_runs.specs.Names.{AreListed, AreNamed, bytes_of_list, most_listed, names_in, separator_of};
 ghost use Rattle.span_runs.specs.Source.{AreFirst};
 
 use crate::source::{Reason, Source, SourceFault};

@@ -1,5 +1,6 @@
 use Rattle.std.proofs.Common.{◌≡◌, ◌++◌, drop}
-use Rattle.span_runs.specs.Names.{names_from, names_in}
+use Rattle.span_runs.specs.Listing.{names_from}
+use Rattle.span_runs.specs.Names.{names_in}
 use Rattle.span_runs.proofs.names.with_names.Given as goal
 
 -- the names so far, and those of the part and the rest, are all
