@@ -1,8 +1,8 @@
 //! Files each of which is a run of its own, summed into one table in several jobs at once.
-ghost use Rattle.std.specs.Prelude.{◌≡◌, ◌<◌, ◌≢◌, ◌∷◌, ◌++◌, [], length, IfOk};
+ghost use Rattle.std.specs.Prelude.{◌≡◌, ◌<◌, ◌∷◌, ◌++◌, [], length, IfOk};
 ghost use Rattle.std.specs.Thread.{IsSync};
 ghost use Rattle.span_collect.specs.FaultLines.{end_lines};
-ghost use Rattle.span_collect.specs.Run.{status_of, unread_of};
+ghost use Rattle.span_collect.specs.Run.{status_of};
 ghost use Rattle.span_collect.specs.Seals.{SealedAccount};
 ghost use Rattle.span_table.specs.Adding.{JoinsRuns, TakesRuns};
 ghost use Rattle.span_table.specs.Tables.{table_of};
@@ -20,7 +20,7 @@ use span_collect::{
 };
 use span_event::Text;
 use span_keyed_tracks::HashKeys;
-use span_table::{Column, SumFault, TableSum};
+use span_table::{Column, TableSum};
 use std::alloc::{AllocError, Global};
 use std::random::RandomSource;
 use std::slice::from_ref;
@@ -53,19 +53,13 @@ impl Summed {
         let lines = Vec::new(alloc);
         match TableSum::new(alloc, HashKeys::random(rt), columns) {
             Ok(sum) => Ok(Summed { sum, lines }),
-            Err(_) => Err(Stop {
-                lines,
-                cause: StopCause::Memory,
-            }),
+            Err(_) => Err(Stop::at(lines, StopCause::Memory)),
         }
     }
 
     // What stopped after these files.
     fn stop(self, cause: StopCause) -> Stop {
-        Stop {
-            lines: self.lines,
-            cause,
-        }
+        Stop::at(self.lines, cause)
     }
 
     // With the run of a file, which was read or refused.
@@ -83,8 +77,7 @@ impl Summed {
         };
         let sum = match sum.add_run(&collected.ledger, 1, end.unread(), Some(&file.name)) {
             Ok(sum) => sum,
-            Err(SumFault::Memory) => return Err(Stop::at(lines, StopCause::Memory)),
-            Err(SumFault::TooMany) => return Err(Stop::at(lines, StopCause::TooMany)),
+            Err(fault) => return Err(Stop::at(lines, StopCause::of_sum(fault))),
         };
         match lines.extend_from_slice(&told) {
             Ok(()) => Ok(Summed { sum, lines }),
@@ -104,8 +97,7 @@ impl Summed {
         } = other;
         let sum = match sum.add(more) {
             Ok(sum) => sum,
-            Err(SumFault::Memory) => return Err(Stop::at(lines, StopCause::Memory)),
-            Err(SumFault::TooMany) => return Err(Stop::at(lines, StopCause::TooMany)),
+            Err(fault) => return Err(Stop::at(lines, StopCause::of_sum(fault))),
         };
         match lines.extend_from_slice(&told) {
             Ok(()) => Ok(Summed { sum, lines }),

@@ -3,6 +3,7 @@
 use crate::source::Reason;
 use span_collect::RunError;
 use span_event::Text;
+use span_table::SumFault;
 use std::alloc::Global;
 
 /// What stopped.
@@ -20,6 +21,15 @@ pub enum StopCause {
     TooMany,
     /// Another job had stopped at a file before.
     GaveUp,
+}
+
+impl StopCause {
+    pub(crate) fn of_sum(fault: SumFault) -> StopCause {
+        match fault {
+            SumFault::Memory => StopCause::Memory,
+            SumFault::TooMany => StopCause::TooMany,
+        }
+    }
 }
 
 /// Why files were not all summed: the fault lines of those before the one that stopped, and what stopped there.
@@ -46,11 +56,8 @@ impl Stop {
         } = self;
         let mut lines = lines;
         match lines.extend_from_slice(&later) {
-            Ok(()) => Stop { lines, cause },
-            Err(_) => Stop {
-                lines,
-                cause: StopCause::Memory,
-            },
+            Ok(()) => Stop::at(lines, cause),
+            Err(_) => Stop::at(lines, StopCause::Memory),
         }
     }
 }
