@@ -13,6 +13,7 @@ use Rattle.span_collect.specs.declared.files.Input.{Input}
 use Rattle.span_collect.specs.declared.runs.RunEnd.{RunEnd}
 use Rattle.span_collect.specs.declared.runs.RunError.TheVariants.{FileCount, Memory as NoMemory, Unaccounted, Output as Failed}
 use Rattle.span_collect.specs.declared.settings.Settings.{Settings}
+use Rattle.span_collect.specs.InTurn.{AreSeparate, ends_from, journal_in_turn}
 use Rattle.span_collect.specs.Run.{status_of}
 use Rattle.span_collect.specs.Seals.{SealedAccount}
 use Rattle.span_collect.proofs.CutShort.{IsCutShort-failed}
@@ -22,7 +23,7 @@ use Rattle.tracebook.specs.declared.view.View.{View}
 use Rattle.tracebook.specs.declared.view.View.TheVariants.{Folded}
 use Rattle.tracebook.specs.declared.view.ViewFault.{ViewFault}
 use Rattle.tracebook.specs.declared.view.ViewFault.TheVariants.{Run, TooGreat, StacksTooLarge}
-use Rattle.tracebook.specs.View.{TextLeaves, ViewLeaves, of_folded, of_written, text_of}
+use Rattle.tracebook.specs.View.{ExceedsBits, ExceedsNames, IsUnwritten, OfEnds, TextLeaves, ViewLeaves, of_folded, of_written, text_of}
 use Rattle.tracebook.proofs.InTurn.{ExceedsBits-in_turn, ExceedsNames-in_turn, text_of-in_turn}
 
 -- of a text that has no bound
@@ -45,6 +46,17 @@ module _ (view : View) (inputs : List Input) (settings : Settings) (run : RunEnd
   below : status_of run.ends.items run.asked run.sealing < 2
   below = status_of-lt run.ends.items run.asked run.sealing (λ two. some (status ∙ two))
 
+  unwritten : (Exceeds : OfEnds) → (new ≡ old) × Exceeds run.ends.items journal → (AreSeparate inputs → Exceeds (ends_from 1 inputs) (journal_in_turn settings inputs [])) → IsUnwritten Exceeds inputs settings old new
+  unwritten Exceeds leaves in_turn = record {
+    run = run;
+    journal = journal;
+    account = account;
+    ended = below;
+    exceeds = leaves.1;
+    in_turn = in_turn;
+    silent = leaves.0;
+  }
+
   pub ViewLeaves-text : (fault : ViewFault) → TextLeaves view inputs fault run.ends.items journal old new → ViewLeaves view fault inputs settings old new
   ViewLeaves-text (Run FileCount) leaves = absurd leaves
   ViewLeaves-text (Run NoMemory) leaves = (leaves, tt)
@@ -55,21 +67,7 @@ module _ (view : View) (inputs : List Input) (settings : Settings) (run : RunEnd
         (λ separate under. text_of-in_turn inputs settings run.ends.items run.asked run.sealing journal account separate (rw status at under) view)
         old new (rw status below) written leaves,
   )
-  ViewLeaves-text TooGreat leaves = record {
-    run = run;
-    journal = journal;
-    account = account;
-    ended = below;
-    exceeds = leaves.1;
-    in_turn = λ separate. ExceedsBits-in_turn inputs settings run.ends.items run.asked run.sealing journal account separate below view leaves.1;
-    silent = leaves.0;
-  }
-  ViewLeaves-text StacksTooLarge leaves = record {
-    run = run;
-    journal = journal;
-    account = account;
-    ended = below;
-    exceeds = leaves.1;
-    in_turn = λ separate. ExceedsNames-in_turn inputs settings run.ends.items run.asked run.sealing journal account separate below view leaves.1;
-    silent = leaves.0;
-  }
+  ViewLeaves-text TooGreat leaves = unwritten (ExceedsBits view inputs) leaves
+      (λ separate. ExceedsBits-in_turn inputs settings run.ends.items run.asked run.sealing journal account separate below view leaves.1)
+  ViewLeaves-text StacksTooLarge leaves = unwritten (ExceedsNames view) leaves
+      (λ separate. ExceedsNames-in_turn inputs settings run.ends.items run.asked run.sealing journal account separate below view leaves.1)

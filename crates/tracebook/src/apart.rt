@@ -1,8 +1,7 @@
 //! Files each of which is a run of its own: their tables, summed and printed.
 ghost use Rattle.std.specs.Prelude.{◌≡◌, ◌<◌, ◌≤◌, ◌++◌, [], true, is_ok, IfOk, IfErr};
-ghost use Rattle.span_report.specs.Sink.{TakesBytes};
-ghost use Rattle.span_runs.specs.Apart.{SumsFiles};
 ghost use Rattle.tracebook.specs.Comparison.{changes_text};
+ghost use Rattle.tracebook.specs.FaultLines.{Says};
 ghost use Rattle.tracebook.specs.Sums.{ComparesSums, ComparesSumsPart, Sums, SumsInputs, SumsPart, WritesAll, WritesPart};
 ghost use Rattle.tracebook.specs.Tables.{table_fits, table_text};
 
@@ -178,6 +177,7 @@ fn write_sum<O: Sink, F: Faults>(
     ensures done { result < 2
         → WritesAll (table_text view.now true summed.sum) summed.lines.items result (O.state out.old) (O.state out.new) }
     ensures failed { result ≡ 2 → WritesPart (table_text view.now true summed.sum) (O.state out.old) (O.state out.new) }
+    ensures said { result < 2 → Says summed.lines.items (F.state faults.old) (F.state faults.new) }
 {
     let Summed { sum, lines } = summed;
     let text = match sum.into_table() {
@@ -205,6 +205,7 @@ fn write_comparison<O: Sink, F: Faults>(
         (base.lines.items ++ other.lines.items) result (O.state out.old) (O.state out.new) }
     ensures failed { result ≡ 2
         → WritesPart (changes_text view.now true base.sum other.sum) (O.state out.old) (O.state out.new) }
+    ensures said { result < 2 → Says (base.lines.items ++ other.lines.items) (F.state faults.old) (F.state faults.new) }
 {
     let Summed {
         sum: earlier,
@@ -242,6 +243,7 @@ fn write_told<O: Sink, F: Faults>(
     ensures done { IfOk text (λ made. result < 2 → WritesAll made.items lines.now result (O.state out.old) (O.state out.new)) }
     ensures failed { IfOk text (λ made. result ≡ 2 → WritesPart made.items (O.state out.old) (O.state out.new)) }
     ensures silent { IfErr text (λ fault. (result ≡ 2) × (O.state out.new ≡ O.state out.old)) }
+    ensures said { result < 2 → Says lines.now (F.state faults.old) (F.state faults.new) }
 {
     let text = match text {
         Ok(text) => text,
