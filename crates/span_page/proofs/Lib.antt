@@ -2,5 +2,6 @@ pub mod Appending
 pub mod Coding
 pub mod Graphs
 pub mod Joined
+pub mod SafePieces
 pub mod SafeTexts
 pub mod SamePages

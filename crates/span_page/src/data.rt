@@ -3,7 +3,9 @@ ghost use Rattle.std.specs.Prelude.{◌≡◌, ◌++◌, length, string_bytes, I
 ghost use Rattle.std.specs.List.{join_with_byte};
 ghost use Rattle.span_report.specs.Lines.{json_text_of};
 ghost use Rattle.span_page.specs.Data.{all_stacks_json, data_of, graph_json, graphs_json, left_after, most_frames, threads_in, threads_of};
+ghost use Rattle.span_page.specs.Safe.{safe};
 
+use crate::safe::put_safe;
 use crate::stacks::put_stacks;
 use serde_json::Value;
 use span_collect::refusals::refusals_text;
@@ -17,38 +19,52 @@ use std::alloc::{AllocError, Global};
 // How many frames the graphs of a page may have in all.
 const MOST_FRAMES: u32 = 4_194_304;
 
-// The report and the refusals as they are printed, and the folded stacks of the threads.
-pub(crate) fn data_text(
+// Appends the report and the refusals as they are printed, and the folded stacks of the threads, with escapes.
+pub(crate) fn put_data(
     alloc: Global,
+    out: &mut Vec<u8>,
     ledger: &Ledger,
     files: &[Input],
     ends: &[FileEnd],
-) -> Result<String, AllocError>
+) -> Result<(), AllocError>
     requires { length files.now ≡ length ends.now }
-    ensures { IfOk result (λ text. string_bytes text ≡ data_of files.now ends.now ledger.now.journal) }
+    ensures { OnOk result (out.new.items ≡ out.old.items ++ safe (data_of files.now ends.now ledger.now.journal)) }
 {
-    let report = report_text(alloc, ledger)?;
-    let refusals = refusals_text(alloc, ledger, files, ends)?;
-    let mut out = String::new(alloc);
-    out.push_str("{\"report\":")?;
-    put_string(alloc, &mut out, report.as_str())?;
-    out.push_str(",\"refused\":")?;
-    put_string(alloc, &mut out, refusals.as_str())?;
-    out.push_str(",\"stacks\":")?;
-    put_all_stacks(alloc, &mut out, ledger)?;
-    out.push('}')?;
-    Ok(out)
+    out.extend_from_slice(b"{\"report\":")?;
+    put_safe_string(alloc, out, report_text(alloc, ledger)?)?;
+    out.extend_from_slice(b",\"refused\":")?;
+    put_safe_string(alloc, out, refusals_text(alloc, ledger, files, ends)?)?;
+    out.extend_from_slice(b",\"stacks\":")?;
+    put_safe(out, stacks_text(alloc, ledger)?.as_bytes())?;
+    out.extend_from_slice(b"}")
 }
 
-// Appends the stacks of each thread.
+// Appends a text as a JSON text with escapes.
+fn put_safe_string(alloc: Global, out: &mut Vec<u8>, text: String) -> Result<(), AllocError>
+    ensures { OnOk result (out.new.items ≡ out.old.items ++ safe (json_text_of (string_bytes text))) }
+{
+    let json = string_json(alloc, text)?;
+    put_safe(out, json.as_bytes())
+}
+
+// The text as a JSON text. It takes the text, so that a large one is gone before the page grows by it.
+#[tactic(auto, unfolding(span_report::specs::Lines::json_text_of))]
+fn string_json(alloc: Global, text: String) -> Result<String, AllocError>
+    ensures { IfOk result (λ json. string_bytes json ≡ json_text_of (string_bytes text)) }
+{
+    Value::String(text).to_string(alloc)
+}
+
+// The stacks of each thread.
 #[tactic(auto, unfolding(crate::specs::Data::all_stacks_json), using(std::proofs::Common::append_assoc))]
-fn put_all_stacks(alloc: Global, out: &mut String, ledger: &Ledger) -> Result<(), AllocError>
-    ensures { OnOk result (string_bytes out.new ≡ string_bytes out.old ++ all_stacks_json ledger.now.journal) }
+fn stacks_text(alloc: Global, ledger: &Ledger) -> Result<String, AllocError>
+    ensures { IfOk result (λ text. string_bytes text ≡ all_stacks_json ledger.now.journal) }
 {
     let threads = threads_of(alloc, &ledger.parts(alloc)?)?;
-    out.push('[')?;
-    put_threads(alloc, out, ledger, &threads)?;
-    out.push(']')
+    let mut out = String::from_str(alloc, "[")?;
+    put_threads(alloc, &mut out, ledger, &threads)?;
+    out.push(']')?;
+    Ok(out)
 }
 
 // Appends the text as a JSON text.

@@ -1,46 +1,77 @@
 //! JSON texts as they may stand in a page.
-ghost use Rattle.std.specs.Prelude.{◌≡◌, ◌∷◌, ◌++◌, ℕ, List, IfOk, OnOk};
-ghost use Rattle.span_page.specs.Safe.{safe, safe_after, safe_byte};
+ghost use Rattle.std.specs.Prelude.{◌≡◌, ◌<◌, ◌≤◌, ◌∷◌, ◌++◌, ℕ, List, drop, length, take, IfOk, OnOk};
+ghost use Rattle.std.specs.Bool.{OnTrue};
+ghost use Rattle.span_page.specs.Safe.{safe, safe_byte};
 
 use std::alloc::AllocError;
 
-// U+2028 and U+2029, which end a line in a script.
+// U+2028 and U+2029, which end a line in a script, and the byte with which they begin.
 const LINE_SEPARATOR: &[u8] = b"\xe2\x80\xa8";
 
 const PARAGRAPH_SEPARATOR: &[u8] = b"\xe2\x80\xa9";
+
+const FIRST_OF_SEPARATORS: u8 = 0xe2;
 
 // Appends the text with escapes.
 pub(crate) fn put_safe(out: &mut Vec<u8>, text: &[u8]) -> Result<(), AllocError>
     ensures { OnOk result (out.new.items ≡ out.old.items ++ safe text.now) }
 {
-    let mut passed = 0;
     let mut rest = text;
-    while let Some((byte, after)) = rest.split_first() {
-        if passed > 0 {
-            passed -= 1;
-        } else {
-            passed = put_first(out, rest, *byte)?;
-        }
-        rest = after;
+    while !rest.is_empty() {
+        rest = put_some(out, rest)?;
     }
     Ok(())
 }
 
-// Appends what stands for the first of these bytes, and tells for how many of those behind it that stands too.
-fn put_first(out: &mut Vec<u8>, rest: &[u8], byte: u8) -> Result<u8, AllocError>
-    ensures { IfOk result (λ passed. (after : List ℕ) → rest.now ≡ byte ∷ after
-        → out.new.items ++ safe_after passed after ≡ out.old.items ++ safe rest.now) }
+// Appends what stands for the first of these bytes, and answers those behind them.
+fn put_some<'a>(out: &mut Vec<u8>, text: &'a [u8]) -> Result<&'a [u8], AllocError>
+    requires { 0 < length text.now }
+    ensures safe { IfOk result (λ rest. out.new.items ++ safe rest.now ≡ out.old.items ++ safe text.now) }
+    ensures fewer { IfOk result (λ rest. length rest.now < length text.now) }
 {
-    if rest.starts_with(LINE_SEPARATOR) {
+    let plain = plain_length(text);
+    if plain == 0 {
+        return put_first(out, text);
+    }
+    out.extend_from_slice(&text[..plain])?;
+    Ok(&text[plain..])
+}
+
+// With how many bytes the text begins that stand for themselves.
+fn plain_length(text: &[u8]) -> usize
+    ensures bound { result ≤ length text.now }
+    ensures plain { safe text.now ≡ take result text.now ++ safe (drop result text.now) }
+{
+    let mut plain = 0;
+    while plain < text.len() && is_plain(text[plain]) {
+        plain += 1;
+    }
+    plain
+}
+
+// Whether a byte stands for itself, whatever is behind it.
+fn is_plain(byte: u8) -> bool
+    ensures { OnTrue result ((rest : List ℕ) → safe (byte ∷ rest) ≡ byte ∷ safe rest) }
+{
+    !matches!(byte, b'<' | b'>' | b'&' | FIRST_OF_SEPARATORS)
+}
+
+// Appends what stands for a separator, or for the first byte, and answers the bytes behind it.
+fn put_first<'a>(out: &mut Vec<u8>, text: &'a [u8]) -> Result<&'a [u8], AllocError>
+    requires { 0 < length text.now }
+    ensures safe { IfOk result (λ rest. out.new.items ++ safe rest.now ≡ out.old.items ++ safe text.now) }
+    ensures fewer { IfOk result (λ rest. length rest.now < length text.now) }
+{
+    if text.starts_with(LINE_SEPARATOR) {
         out.extend_from_slice(b"\\u2028")?;
-        return Ok(2);
+        return Ok(&text[3..]);
     }
-    if rest.starts_with(PARAGRAPH_SEPARATOR) {
+    if text.starts_with(PARAGRAPH_SEPARATOR) {
         out.extend_from_slice(b"\\u2029")?;
-        return Ok(2);
+        return Ok(&text[3..]);
     }
-    put_byte(out, byte)?;
-    Ok(0)
+    put_byte(out, text[0])?;
+    Ok(&text[1..])
 }
 
 #[tactic(auto, unfolding(crate::specs::Safe::safe_byte))]

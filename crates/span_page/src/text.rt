@@ -2,9 +2,8 @@
 ghost use Rattle.std.specs.Prelude.{◌≡◌, length, IfOk};
 ghost use Rattle.span_page.specs.Page.{head_text, page_of, tail_text};
 
-use crate::data::data_text;
+use crate::data::put_data;
 use crate::fixed::{HEAD, TAIL};
-use crate::safe::put_safe;
 use span_collect::{FileEnd, Input};
 use span_ledger::Ledger;
 use std::alloc::{AllocError, Global};
@@ -21,10 +20,9 @@ pub fn page(
     requires { length files.now ≡ length ends.now }
     ensures { IfOk result (λ text. text.items ≡ page_of files.now ends.now ledger.now.journal) }
 {
-    let data = data_text(alloc, ledger, files, ends)?;
     let mut out = Vec::new(alloc);
     out.extend_from_slice(head().as_bytes())?;
-    put_safe(&mut out, data.as_bytes())?;
+    put_data(alloc, &mut out, ledger, files, ends)?;
     out.extend_from_slice(tail().as_bytes())?;
     Ok(out)
 }
