@@ -10,7 +10,7 @@ use Rattle.span_collect.specs.declared.settings.Settings.{Settings}
 use Rattle.span_table.specs.declared.column.Column.{Column}
 use Rattle.span_table.specs.Adding.{JoinsRuns}
 use Rattle.span_table.specs.Tables.{SpanTable, table_of}
-use Rattle.span_runs.specs.declared.apart.Summed.{Summed}
+use Rattle.span_runs.specs.declared.summed.Summed.{Summed}
 use Rattle.span_runs.specs.Apart.{AddsFile, AreSummed, IsAccounted, refusal_line, run_alone}
 use Rattle.span_runs.specs.Inputs.{AreFiles, most_read}
 use Rattle.span_runs.specs.Source.{AreFirst}
@@ -43,14 +43,17 @@ AreSummed-push known names name settings columns old new summed adds = record {
 }
 
 -- those of two groups
+pub AreFiles-append : (known : List ℕ → Option (List ℕ)) (names more : List (List ℕ)) (inputs others : List Input) → AreFiles known names inputs → AreFiles known more others → AreFiles known (names ++ more) (inputs ++ others)
+AreFiles-append known names more inputs others one other = record {
+  named = map-append (λ i. i.name) inputs others ∙ ap₂ (λ (xs ys : List (List ℕ)). xs ++ ys) one.named other.named;
+  held = All-append (λ i. AreFirst most_read (known i.name) i.bytes.items) inputs others one.held other.held;
+}
+
 pub AreSummed-append : (known : List ℕ → Option (List ℕ)) (names more : List (List ℕ)) (settings : Settings) (columns : List Column) (first second both : SpanTable) (lines later : Bytes) →
     AreSummed known names settings columns first lines → AreSummed known more settings columns second later → JoinsRuns first second both → AreSummed known (names ++ more) settings columns both (lines ++ later)
 AreSummed-append known names more settings columns first second both lines later one other joins = record {
   files = one.files ++ other.files;
-  read = record {
-    named = map-append (λ i. i.name) one.files other.files ∙ ap₂ (λ (xs ys : List (List ℕ)). xs ++ ys) one.read.named other.read.named;
-    held = All-append (λ i. AreFirst most_read (known i.name) i.bytes.items) one.files other.files one.read.held other.read.held;
-  };
+  read = AreFiles-append known names more one.files other.files one.read other.read;
   accounted = All-append (IsAccounted settings) one.files other.files one.accounted other.accounted;
   sum = joins columns (map (run_alone settings) one.files) (map (run_alone settings) other.files) one.sum other.sum ∙ (λ i. table_of columns (sym (map-append (run_alone settings) one.files other.files) i));
   told = ap₂ (λ (xs ys : Bytes). xs ++ ys) one.told other.told ∙ sym (flat_map-append refusal_line one.files other.files);

@@ -1,5 +1,5 @@
 -- Files each of which is a run of its own, summed into one table.
-use Rattle.std.specs.Prelude.{◌≡◌, ℕ, ◌<◌, List, [], ◌∷◌, ◌++◌, map, flat_map, All, Option, Result, IfOk}
+use Rattle.std.specs.Prelude.{◌≡◌, ℕ, ◌<◌, List, [], ◌∷◌, ◌++◌, map, flat_map, All, Option}
 use Rattle.span_event.specs.Text.{Bytes}
 use Rattle.span_ledger.specs.declared.entry.Entry.{Entry}
 use Rattle.span_read.specs.Document.{doc}
@@ -16,8 +16,7 @@ use Rattle.span_table.specs.Adding.{TakesRuns}
 use Rattle.span_table.specs.Columns.{Run}
 use Rattle.span_table.specs.Laws.{AreAlikeRuns}
 use Rattle.span_table.specs.Tables.{SpanTable, table_of}
-use Rattle.span_runs.specs.declared.apart.Summed.{Summed}
-use Rattle.span_runs.specs.declared.stop.Stop.{Stop}
+use Rattle.span_runs.specs.declared.summed.Summed.{Summed}
 use Rattle.span_runs.specs.Inputs.{AreFiles, most_read}
 use Rattle.span_runs.specs.Runs.{run_in_turn, run_of_files}
 use Rattle.span_runs.specs.Source.{AreFirst}
@@ -62,8 +61,3 @@ pub record AddsFile (known : List ℕ → Option (List ℕ)) (name : List ℕ) (
   pub accounted : IsAccounted settings file
   pub sum : TakesRuns old.sum (run_alone settings file ∷ []) new.sum
   pub lines : new.lines.items ≡ old.lines.items ++ refusal_line file
-
--- where files of these names were summed, if at all, and files of those, the result is what they come to together, if anything
-abbrev pub JoinsFiles : Result Summed Stop → Result Summed Stop → Result Summed Stop → Type 0
-JoinsFiles first second both = (known : List ℕ → Option (List ℕ)) (names more : List (List ℕ)) (settings : Settings) (columns : List Column) →
-    IfOk first (SumsFiles known names settings columns) → IfOk second (SumsFiles known more settings columns) → IfOk both (SumsFiles known (names ++ more) settings columns)

@@ -4,3 +4,4 @@ pub mod Listing
 pub mod Names
 pub mod Runs
 pub mod Source
+pub mod Stops

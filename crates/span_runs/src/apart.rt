@@ -1,39 +1,28 @@
 //! Files each of which is a run of its own, summed into one table in several jobs at once.
-ghost use Rattle.std.specs.Prelude.{◌≡◌, ◌<◌, ◌∷◌, ◌++◌, [], length, IfOk};
+ghost use Rattle.std.specs.Prelude.{◌≡◌, ◌<◌, ◌∷◌, ◌++◌, [], length, IfErr, IfOk};
 ghost use Rattle.std.specs.Thread.{IsSync};
-ghost use Rattle.span_collect.specs.FaultLines.{end_lines};
-ghost use Rattle.span_collect.specs.Run.{status_of};
+ghost use Rattle.span_collect.specs.Run.{IsNotCollected, status_of};
 ghost use Rattle.span_collect.specs.Seals.{SealedAccount};
-ghost use Rattle.span_table.specs.Adding.{JoinsRuns, TakesRuns};
-ghost use Rattle.span_table.specs.Tables.{table_of};
-ghost use Rattle.span_runs.specs.Apart.{AddsFile, JoinsFiles, SumsFiles};
 ghost use Rattle.span_runs.specs.Inputs.{most_read};
-ghost use Rattle.span_runs.specs.Runs.{run_of_files};
 ghost use Rattle.span_runs.specs.Source.{AreFirst};
+ghost use Rattle.span_runs.specs.Stops.{AddsOrStops, IsUnread, JoinsFiles, SaysCut, SumsOrHalts, SumsOrStops, cut_lines};
 
 use crate::cuts::cut;
 use crate::files::read_file;
 use crate::source::Source;
-use crate::stop::{Stop, StopCause};
+use crate::stop::{Halt, Stop, StopCause};
+use crate::summed::Summed;
 use span_collect::{
     Collected, Input, RunError, Settings, collect_to_ledger, fault_line_of, fault_lines,
 };
 use span_event::Text;
-use span_keyed_tracks::HashKeys;
-use span_table::{Column, TableSum};
+use span_table::Column;
 use std::alloc::{AllocError, Global};
 use std::random::RandomSource;
 use std::slice::from_ref;
 use std::sync::Wait;
 use std::sync::atomic::{AtomicU64, Ordering};
 use std::thread::{Threads, join_mut};
-
-/// The table of files that were each a run of its own, and the fault lines of those that are no trace, in the files' order.
-#[derive(Drop)]
-pub struct Summed {
-    pub sum: TableSum,
-    pub lines: Vec<u8>,
-}
 
 // What the jobs have in common.
 #[derive(Drop)]
@@ -45,64 +34,10 @@ struct Work<'a, S> {
     stopped: &'a AtomicU64,
 }
 
-impl Summed {
-    // No files.
-    fn of_none<R: RandomSource>(rt: &R, alloc: Global, columns: &[Column]) -> Result<Summed, Stop>
-        ensures { IfOk result (λ none. (none.sum ≡ table_of columns.now []) × (none.lines.items ≡ [])) }
-    {
-        let lines = Vec::new(alloc);
-        match TableSum::new(alloc, HashKeys::random(rt), columns) {
-            Ok(sum) => Ok(Summed { sum, lines }),
-            Err(_) => Err(Stop::at(lines, StopCause::Memory)),
-        }
-    }
-
-    // What stopped after these files.
-    fn stop(self, cause: StopCause) -> Stop {
-        Stop::at(self.lines, cause)
-    }
-
-    // With the run of a file, which was read or refused.
-    fn with_run(self, alloc: Global, file: &Input, collected: &Collected) -> Result<Summed, Stop>
-        requires { length collected.now.end.ends.items ≡ 1 }
-        ensures sum { IfOk result (λ more. TakesRuns self.sum
-            (run_of_files (file.now ∷ []) collected.now.end.ends.items collected.now.ledger.journal ∷ []) more.sum) }
-        ensures lines { IfOk result (λ more. more.lines.items
-            ≡ self.lines.items ++ end_lines (file.now ∷ []) collected.now.end.ends.items) }
-    {
-        let Summed { sum, mut lines } = self;
-        let end = &collected.end;
-        let Ok(told) = fault_lines(alloc, from_ref(file), &end.ends) else {
-            return Err(Stop::at(lines, StopCause::Memory));
-        };
-        let sum = match sum.add_run(&collected.ledger, 1, end.unread(), Some(&file.name)) {
-            Ok(sum) => sum,
-            Err(fault) => return Err(Stop::at(lines, StopCause::of_sum(fault))),
-        };
-        match lines.extend_from_slice(&told) {
-            Ok(()) => Ok(Summed { sum, lines }),
-            Err(_) => Err(Stop::at(lines, StopCause::Memory)),
-        }
-    }
-
-    // With the files after them.
-    fn with(self, other: Summed) -> Result<Summed, Stop>
-        ensures sum { IfOk result (λ both. JoinsRuns self.sum other.sum both.sum) }
-        ensures lines { IfOk result (λ both. both.lines.items ≡ self.lines.items ++ other.lines.items) }
-    {
-        let Summed { sum, mut lines } = self;
-        let Summed {
-            sum: more,
-            lines: told,
-        } = other;
-        let sum = match sum.add(more) {
-            Ok(sum) => sum,
-            Err(fault) => return Err(Stop::at(lines, StopCause::of_sum(fault))),
-        };
-        match lines.extend_from_slice(&told) {
-            Ok(()) => Ok(Summed { sum, lines }),
-            Err(_) => Err(Stop::at(lines, StopCause::Memory)),
-        }
+impl<'a, S> Work<'a, S> {
+    // Whether a file before this place has stopped.
+    fn has_stopped_before(&self, place: u64) -> bool {
+        self.stopped.load(Ordering::SeqCst) < place
     }
 }
 
@@ -127,7 +62,7 @@ pub fn sum_apart<S: Source + Sync, R: Threads + Wait + RandomSource + Sync>(
     columns: &[Column],
     jobs: u32,
 ) -> Result<Summed, Stop>
-    ensures { IfOk result (SumsFiles (S.bytes source.now).file names.now settings.now columns.now) }
+    ensures { SumsOrStops (S.bytes source.now).file names.now settings.now columns.now result }
 {
     let Ok(sizes) = sizes_of(alloc, source, names) else {
         return Err(Stop::of_memory(alloc));
@@ -145,7 +80,13 @@ pub fn sum_apart<S: Source + Sync, R: Threads + Wait + RandomSource + Sync>(
         place: 0,
         jobs,
     };
-    sum_in_jobs(rt, alloc, &work, all)
+    match sum_in_jobs(rt, alloc, &work, all) {
+        Ok(summed) => Ok(summed),
+        Err(Halt::Stopped(stop)) => Err(stop),
+        // A job gives up where another has stopped before it, and then that one decides. No contract says so of the place that jobs
+        // share, so what would follow if it were not so is said here.
+        Err(Halt::GaveUp) => sum_in_turn(rt, alloc, &work, names),
+    }
 }
 
 fn sizes_of<S: Source>(alloc: Global, source: &S, names: &[Text]) -> Result<Vec<u64>, AllocError>
@@ -165,12 +106,12 @@ fn sum_in_jobs<S: Source + Sync, R: Threads + Wait + RandomSource + Sync>(
     alloc: Global,
     work: &Work<S>,
     part: Part,
-) -> Result<Summed, Stop>
+) -> Result<Summed, Halt>
     requires { length part.sizes.now ≡ length part.names.now }
-    ensures { IfOk result (SumsFiles (S.bytes work.now.source.now).file part.entry.names.now work.now.settings work.now.columns.now) }
+    ensures { SumsOrHalts (S.bytes work.now.source.now).file part.entry.names.now work.now.settings work.now.columns.now result }
 {
     if part.jobs < 2 || part.names.len() < 2 {
-        return sum_in_turn(rt, alloc, work, part.names, part.place);
+        return sum_in_job(rt, alloc, work, part.names, part.place);
     }
     let half = part.jobs / 2;
     let at = cut(part.sizes, half, part.jobs);
@@ -200,52 +141,77 @@ fn sum_both<S: Source + Sync, R: Threads + Wait + RandomSource + Sync>(
     work: &Work<S>,
     front: Part,
     back: Part,
-) -> (Result<Summed, Stop>, Result<Summed, Stop>)
+) -> (Result<Summed, Halt>, Result<Summed, Halt>)
     requires front { length front.sizes.now ≡ length front.names.now }
     requires back { length back.sizes.now ≡ length back.names.now }
     requires jobs { (0 < front.jobs) × (0 < back.jobs) }
-    ensures front { IfOk result.0 (SumsFiles (S.bytes work.now.source.now).file front.entry.names.now work.now.settings work.now.columns.now) }
-    ensures back { IfOk result.1 (SumsFiles (S.bytes work.now.source.now).file back.entry.names.now work.now.settings work.now.columns.now) }
+    ensures front { SumsOrHalts (S.bytes work.now.source.now).file front.entry.names.now work.now.settings work.now.columns.now result.0 }
+    ensures back { SumsOrHalts (S.bytes work.now.source.now).file back.entry.names.now work.now.settings work.now.columns.now result.1 }
 {
     join_mut(
         rt,
-        &mut || -> Result<Summed, Stop>
+        &mut || -> Result<Summed, Halt>
             requires sync { IsSync R.row }
             requires sizes { length front.sizes.now ≡ length front.names.now }
-            ensures { IfOk result (SumsFiles (S.bytes work.entry.now.source.now).file front.entry.names.now work.entry.now.settings work.entry.now.columns.now) }
+            ensures { SumsOrHalts (S.bytes work.entry.now.source.now).file front.entry.names.now work.entry.now.settings work.entry.now.columns.now result }
         { sum_in_jobs(rt, alloc, work, front) },
-        &mut || -> Result<Summed, Stop>
+        &mut || -> Result<Summed, Halt>
             requires sync { IsSync R.row }
             requires sizes { length back.sizes.now ≡ length back.names.now }
-            ensures { IfOk result (SumsFiles (S.bytes work.entry.now.source.now).file back.entry.names.now work.entry.now.settings work.entry.now.columns.now) }
+            ensures { SumsOrHalts (S.bytes work.entry.now.source.now).file back.entry.names.now work.entry.now.settings work.entry.now.columns.now result }
         { sum_in_jobs(rt, alloc, work, back) },
     )
 }
 
-// Sums the files from this place on, one after another.
-fn sum_in_turn<S: Source, R: Threads + Wait + RandomSource + Sync>(
+// Sums the files from this place on, one after another, unless one before has stopped in another job.
+fn sum_in_job<S: Source, R: Threads + Wait + RandomSource + Sync>(
     rt: &R,
     alloc: Global,
     work: &Work<S>,
     names: &[Text],
     place: u64,
-) -> Result<Summed, Stop>
-    ensures { IfOk result (SumsFiles (S.bytes work.now.source.now).file names.now work.now.settings work.now.columns.now) }
+) -> Result<Summed, Halt>
+    ensures { SumsOrHalts (S.bytes work.now.source.now).file names.now work.now.settings work.now.columns.now result }
 {
-    let mut summed = Summed::of_none(rt, alloc, work.columns)?;
+    let mut summed = match Summed::of_none(rt, alloc, work.columns) {
+        Ok(none) => none,
+        Err(stop) => return Err(Halt::Stopped(stop)),
+    };
     let mut place = place;
     for name in names {
-        if work.stopped.load(Ordering::SeqCst) < place {
-            return Err(summed.stop(StopCause::GaveUp));
+        if work.has_stopped_before(place) {
+            return Err(Halt::GaveUp);
         }
         summed = match add_file(rt, alloc, work, name, summed) {
             Ok(more) => more,
             Err(stop) => {
                 work.stopped.store(place, Ordering::SeqCst);
-                return Err(stop);
+                return Err(Halt::Stopped(stop));
             }
         };
         place = place.saturating_add(1);
+    }
+    Ok(summed)
+}
+
+// Sums these files, one after another.
+fn sum_in_turn<S: Source, R: Threads + Wait + RandomSource + Sync>(
+    rt: &R,
+    alloc: Global,
+    work: &Work<S>,
+    names: &[Text],
+) -> Result<Summed, Stop>
+    ensures { SumsOrStops (S.bytes work.now.source.now).file names.now work.now.settings work.now.columns.now result }
+{
+    let mut summed = match Summed::of_none(rt, alloc, work.columns) {
+        Ok(none) => none,
+        Err(stop) => return Err(stop),
+    };
+    for name in names {
+        summed = match add_file(rt, alloc, work, name, summed) {
+            Ok(more) => more,
+            Err(stop) => return Err(stop),
+        };
     }
     Ok(summed)
 }
@@ -258,7 +224,7 @@ fn add_file<S: Source, R: Threads + Wait + RandomSource + Sync>(
     name: &Text,
     summed: Summed,
 ) -> Result<Summed, Stop>
-    ensures { IfOk result (λ more. AddsFile (S.bytes work.now.source.now).file name.now work.now.settings summed more) }
+    ensures { AddsOrStops (S.bytes work.now.source.now).file name.now work.now.settings summed result }
 {
     let file = match read_named(alloc, work.source, name) {
         Ok(file) => file,
@@ -282,6 +248,7 @@ fn read_named<S: Source>(alloc: Global, source: &S, name: &Text) -> Result<Input
     ensures name { IfOk result (λ file. file.name ≡ name.now) }
     ensures bytes { IfOk result
         (λ file. AreFirst most_read ((S.bytes source.now).file name.now) file.bytes.items) }
+    ensures unread { IfErr result (λ cause. IsUnread name.now cause) }
 {
     match name.try_clone(alloc) {
         Ok(name) => read_file(name, source),
@@ -300,6 +267,7 @@ fn collect_alone<R: Threads + Wait + RandomSource + Sync>(
     ensures status { IfOk result (λ collected. collected.end.status
         ≡ status_of collected.end.ends.items collected.end.asked collected.end.sealing) }
     ensures one { IfOk result (λ collected. length collected.end.ends.items ≡ 1) }
+    ensures refused { IfErr result (λ error. IsNotCollected error (file.now ∷ []) [] settings.now) }
 {
     match collect_to_ledger(rt, alloc, from_ref(file), &[], settings) {
         Ok(collected) => Ok(collected),
@@ -310,6 +278,7 @@ fn collect_alone<R: Threads + Wait + RandomSource + Sync>(
 // Why a run ended with 2: the line of its file, and that of a seal that was not taken.
 fn cut_of(alloc: Global, file: &Input, collected: &Collected) -> StopCause
     requires { length collected.now.end.ends.items ≡ 1 }
+    ensures { SaysCut (cut_lines file.now collected.now.end.ends.items collected.now.end.sealing) result }
 {
     match cut_lines(alloc, file, collected) {
         Ok(lines) => StopCause::Cut(lines),
@@ -319,6 +288,7 @@ fn cut_of(alloc: Global, file: &Input, collected: &Collected) -> StopCause
 
 fn cut_lines(alloc: Global, file: &Input, collected: &Collected) -> Result<Vec<u8>, AllocError>
     requires { length collected.now.end.ends.items ≡ 1 }
+    ensures { IfOk result (λ lines. lines.items ≡ cut_lines file.now collected.now.end.ends.items collected.now.end.sealing) }
 {
     let mut lines = fault_lines(alloc, from_ref(file), &collected.end.ends)?;
     if let Some(cause) = collected.end.sealing.cause {
@@ -329,19 +299,19 @@ fn cut_lines(alloc: Global, file: &Input, collected: &Collected) -> Result<Vec<u
 }
 
 // The files of two groups, of which those of the second come after those of the first.
-fn joined(first: Result<Summed, Stop>, second: Result<Summed, Stop>) -> Result<Summed, Stop>
+fn joined(first: Result<Summed, Halt>, second: Result<Summed, Halt>) -> Result<Summed, Halt>
     ensures { JoinsFiles first second result }
 {
     let first = match first {
         Ok(first) => first,
-        Err(stop) => return Err(stop),
+        Err(halt) => return Err(halt),
     };
     let second = match second {
         Ok(second) => second,
-        Err(stop) => return Err(stop.after(first.lines)),
+        Err(halt) => return Err(halt.after(first.lines)),
     };
     match first.with(second) {
         Ok(both) => Ok(both),
-        Err(stop) => Err(stop),
+        Err(stop) => Err(Halt::Stopped(stop)),
     }
 }

@@ -9,10 +9,12 @@ mod names;
 mod runs;
 mod source;
 mod stop;
+mod summed;
 
-pub use apart::{Summed, sum_apart};
+pub use apart::sum_apart;
 pub use files::{MOST_READ, read_file, read_standard};
 pub use names::{Named, names_of};
 pub use runs::table_of_run;
 pub use source::{Reason, Source, SourceFault};
 pub use stop::{Stop, StopCause};
+pub use summed::Summed;

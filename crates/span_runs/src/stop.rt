@@ -1,4 +1,7 @@
 //! Why files were not all summed.
+ghost use Rattle.std.specs.Prelude.{◌≡◌, [], IfErr};
+ghost use Rattle.span_runs.specs.declared.stop.StopCause.TheVariants.{Memory};
+ghost use Rattle.span_runs.specs.Stops.{ComesAfter, HaltsAfter, IsOfSum};
 
 use crate::source::Reason;
 use span_collect::RunError;
@@ -19,12 +22,12 @@ pub enum StopCause {
     Cut(Vec<u8>),
     /// There are 2^32 files or more.
     TooMany,
-    /// Another job had stopped at a file before.
-    GaveUp,
 }
 
 impl StopCause {
-    pub(crate) fn of_sum(fault: SumFault) -> StopCause {
+    pub(crate) fn of_sum(fault: SumFault) -> StopCause
+        ensures { IsOfSum result }
+    {
         match fault {
             SumFault::Memory => StopCause::Memory,
             SumFault::TooMany => StopCause::TooMany,
@@ -40,24 +43,50 @@ pub struct Stop {
 }
 
 impl Stop {
-    pub fn of_memory(alloc: Global) -> Stop {
-        Stop::at(Vec::new(alloc), StopCause::Memory)
-    }
-
-    pub(crate) fn at(lines: Vec<u8>, cause: StopCause) -> Stop {
-        Stop { lines, cause }
+    pub fn of_memory(alloc: Global) -> Stop
+        ensures { (result.lines.items ≡ []) × (result.cause ≡ Memory) }
+    {
+        Stop {
+            lines: Vec::new(alloc),
+            cause: StopCause::Memory,
+        }
     }
 
     // With the lines of files before.
-    pub(crate) fn after(self, lines: Vec<u8>) -> Stop {
+    fn after(self, lines: Vec<u8>) -> Stop
+        ensures { ComesAfter lines.items self result }
+    {
         let Stop {
             lines: later,
             cause,
         } = self;
         let mut lines = lines;
         match lines.extend_from_slice(&later) {
-            Ok(()) => Stop::at(lines, cause),
-            Err(_) => Stop::at(lines, StopCause::Memory),
+            Ok(()) => Stop { lines, cause },
+            Err(_) => Stop {
+                lines,
+                cause: StopCause::Memory,
+            },
+        }
+    }
+}
+
+/// Why a job ended before its files were all summed.
+#[derive(Drop)]
+pub(crate) enum Halt {
+    Stopped(Stop),
+    // Another job had stopped at a file before.
+    GaveUp,
+}
+
+impl Halt {
+    // With the lines of files before.
+    pub(crate) fn after(self, lines: Vec<u8>) -> Halt
+        ensures { HaltsAfter lines.items self result }
+    {
+        match self {
+            Halt::Stopped(stop) => Halt::Stopped(stop.after(lines)),
+            Halt::GaveUp => Halt::GaveUp,
         }
     }
 }

@@ -1,0 +1,133 @@
+-- Why files were not all summed: what stopped, and what is said of the files before it.
+use Rattle.std.specs.Prelude.{◌≡◌, ◌⊎◌, List, [], ◌∷◌, ◌++◌, flat_map, All, Option, Some, None, Result, MatchResult}
+use Rattle.span_event.specs.Text.{Bytes}
+use Rattle.span_ledger.specs.Refusal.{code_of}
+use Rattle.span_ledger.specs.declared.entry.Entry.{Entry}
+use Rattle.span_ledger.specs.declared.refusal.Cause.{Cause}
+use Rattle.span_collect.specs.declared.files.FileEnd.{FileEnd}
+use Rattle.span_collect.specs.declared.files.Input.{Input}
+use Rattle.span_collect.specs.declared.queries.Asked.{Asked}
+use Rattle.span_collect.specs.declared.runs.RunError.{RunError}
+use Rattle.span_collect.specs.declared.sealing.Sealing.{Sealing}
+use Rattle.span_collect.specs.declared.settings.Settings.{Settings}
+use Rattle.span_collect.specs.FaultLines.{end_lines, fault_line}
+use Rattle.span_collect.specs.Run.{IsNotCollected, status_of}
+use Rattle.span_collect.specs.Seals.{SealedAccount}
+use Rattle.span_runs.specs.declared.stop.Halt.{Halt}
+use Rattle.span_runs.specs.declared.stop.Halt.TheVariants.{Stopped, GaveUp}
+use Rattle.span_runs.specs.declared.stop.Stop.{Stop}
+use Rattle.span_runs.specs.declared.stop.StopCause.{StopCause}
+use Rattle.span_runs.specs.declared.stop.StopCause.TheVariants.{NotOpened, Memory, Run, Cut, TooMany}
+use Rattle.span_table.specs.declared.column.Column.{Column}
+use Rattle.span_runs.specs.declared.summed.Summed.{Summed}
+use Rattle.span_runs.specs.Apart.{AddsFile, IsAccounted, SumsFiles, refusal_line}
+use Rattle.span_runs.specs.Inputs.{AreFiles, most_read}
+use Rattle.span_runs.specs.Source.{AreFirst}
+
+-- the line of a seal that was not taken
+abbrev pub unsealed_line : Bytes → Option Cause → Bytes
+unsealed_line name None = []
+unsealed_line name (Some cause) = fault_line name (code_of cause)
+
+-- what is said of a file whose run ended with 2
+abbrev pub cut_lines : Input → List FileEnd → Sealing → Bytes
+cut_lines file ends sealing = end_lines (file ∷ []) ends ++ unsealed_line file.name sealing.cause
+
+-- the file was not opened, or memory was refused
+abbrev pub IsUnread : Bytes → StopCause → Type 0
+IsUnread name (NotOpened named reason) = named ≡ name
+IsUnread name Memory = Unit {0}
+IsUnread name cause = ⊥
+
+-- these are the lines of a run that ended with 2, or memory for them was refused
+abbrev pub SaysCut : Bytes → StopCause → Type 0
+SaysCut lines (Cut told) = told.items ≡ lines
+SaysCut lines Memory = Unit {0}
+SaysCut lines cause = ⊥
+
+-- what stops at no file of its own: memory was refused, or there are too many runs
+abbrev pub IsOfSum : StopCause → Type 0
+IsOfSum Memory = Unit {0}
+IsOfSum TooMany = Unit {0}
+IsOfSum cause = ⊥
+
+module _ (known : Bytes → Option Bytes) (settings : Settings) where
+  -- the file of this name was read, and its run was refused
+  pub record IsRefused (name : Bytes) (error : RunError) : Type 0 where
+    pub file : Input
+    pub named : file.name ≡ name
+    pub held : AreFirst most_read (known name) file.bytes.items
+    pub refused : IsNotCollected error (file ∷ []) [] settings
+
+  -- the file of this name was collected alone, and its run ended with 2, as these lines say
+  pub record IsCut (name lines : Bytes) : Type 0 where
+    pub file : Input
+    pub named : file.name ≡ name
+    pub held : AreFirst most_read (known name) file.bytes.items
+    pub ends : List FileEnd
+    pub asked : Asked
+    pub sealing : Sealing
+    pub journal : List Entry
+    pub account : SealedAccount (file ∷ []) [] settings ends asked sealing journal
+    pub status : status_of ends asked sealing ≡ 2
+    pub told : lines ≡ cut_lines file ends sealing
+
+  -- this stopped at the file of this name
+  abbrev pub StopsAt : Bytes → StopCause → Type 0
+  StopsAt name (NotOpened named reason) = named ≡ name
+  StopsAt name Memory = Unit {0}
+  StopsAt name (Run error) = IsRefused name error
+  StopsAt name (Cut lines) = IsCut name lines.items
+  StopsAt name TooMany = Unit {0}
+
+  -- this stopped before the files of these names
+  abbrev pub StopsBefore : List Bytes → StopCause → Type 0
+  StopsBefore [] cause = IsOfSum cause
+  StopsBefore (name ∷ later) cause = StopsAt name cause
+
+  -- The files of the first of these names were collected, each alone, and their lines are said; then something stopped.
+  pub record StopsAmong (names : List Bytes) (stop : Stop) : Type 0 where
+    pub done : List Bytes
+    pub later : List Bytes
+    pub split : names ≡ done ++ later
+    pub files : List Input
+    pub read : AreFiles known done files
+    pub accounted : All (IsAccounted settings) files
+    pub told : stop.lines.items ≡ flat_map refusal_line files
+    pub cause : StopsBefore later stop.cause
+
+  -- of a job the same, unless it gave up since another had stopped
+  abbrev pub HaltsAmong : List Bytes → Halt → Type 0
+  HaltsAmong names (Stopped stop) = StopsAmong names stop
+  HaltsAmong names GaveUp = Unit {0}
+
+-- a stop has these lines, and no file of its own
+abbrev pub IsStopOfSum : Bytes → Stop → Type 0
+IsStopOfSum lines stop = (stop.lines.items ≡ lines) × IsOfSum stop.cause
+
+-- a stop behind these lines, unless memory for its own was refused
+abbrev pub ComesAfter : Bytes → Stop → Stop → Type 0
+ComesAfter lines old new = ((new.lines.items ≡ lines ++ old.lines.items) × (new.cause ≡ old.cause)) ⊎ IsStopOfSum lines new
+
+abbrev pub HaltsAfter : Bytes → Halt → Halt → Type 0
+HaltsAfter lines (Stopped old) (Stopped new) = ComesAfter lines old new
+HaltsAfter lines GaveUp GaveUp = Unit {0}
+HaltsAfter lines old new = ⊥
+
+-- the files of these names were summed, or something stopped among them
+abbrev pub SumsOrStops : (Bytes → Option Bytes) → List Bytes → Settings → List Column → Result Summed Stop → Type 0
+SumsOrStops known names settings columns result = MatchResult result (SumsFiles known names settings columns) (StopsAmong known settings names)
+
+-- the same of a job
+abbrev pub SumsOrHalts : (Bytes → Option Bytes) → List Bytes → Settings → List Column → Result Summed Halt → Type 0
+SumsOrHalts known names settings columns result = MatchResult result (SumsFiles known names settings columns) (HaltsAmong known settings names)
+
+-- where this is what becomes of files of these names, and that of files of those, the result is what becomes of them together
+abbrev pub JoinsFiles : Result Summed Halt → Result Summed Halt → Result Summed Halt → Type 0
+JoinsFiles first second both = (known : Bytes → Option Bytes) (names more : List Bytes) (settings : Settings) (columns : List Column) →
+    SumsOrHalts known names settings columns first → SumsOrHalts known more settings columns second → SumsOrHalts known (names ++ more) settings columns both
+
+-- one more file is summed, or something stopped at it
+abbrev pub AddsOrStops : (Bytes → Option Bytes) → Bytes → Settings → Summed → Result Summed Stop → Type 0
+AddsOrStops known name settings old result =
+    MatchResult result (AddsFile known name settings old) (λ stop. (stop.lines.items ≡ old.lines.items) × StopsAt known settings name stop.cause)
