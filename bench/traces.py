@@ -29,6 +29,43 @@ def chrome_event_on(pid, tid, place):
     )
 
 
+# Category, scope and name of async spans, as Chrome has them.
+ASYNC_KINDS = [
+    ("cc,benchmark", "cc,benchmark", "PipelineReporter"),
+    ("benchmark,latencyInfo,rail,input.scrolling", "latency", "InputLatency::GestureScrollUpdate"),
+    ("netlog", "", "HTTP_STREAM_JOB_CONTROLLER"),
+    ("netlog", "", "URL_REQUEST"),
+    ("blink.resource", "", "ResourceLoad"),
+    ("viz,benchmark", "graphics.pipeline", "Graphics.Pipeline"),
+]
+# So many async spans are open at once, and their ends come in an order that the seed chooses.
+ASYNC_OPEN, ASYNC_SEED = 120, 20261127
+
+
+def async_event(place):
+    """The begin or the end of an async span as Chrome writes it, each with an id of its own; every seventh event is a complete one."""
+    if place % 7 == 6:
+        return chrome_event(place)
+    block, step = divmod(place - place // 7, 2 * ASYNC_OPEN)
+    begins = step < ASYNC_OPEN
+    span = ASYNC_OPEN * block + (step if begins else (77 * step + ASYNC_SEED) % ASYNC_OPEN)
+    cat, scope, name = ASYNC_KINDS[span % len(ASYNC_KINDS)]
+    return '{"pid":%d,"tid":%d,"ts":%d,"ph":"%s","cat":"%s","name":"%s",%s"id":"0x%x","args":{"%s":%d},"tts":%d}' % (
+        7000 + place % 3,
+        place % 16,
+        1000 + 13 * place,
+        "b" if begins else "e",
+        cat,
+        name,
+        '"scope":"%s",' % scope if scope else "",
+        # A number for each span: the factor is odd.
+        (ASYNC_SEED + 2_654_435_761 * span) % 2**32,
+        "sequence_number" if begins else "termination_status",
+        span % 1000 if begins else span % 4,
+        11 * place,
+    )
+
+
 def clang_event(place):
     """A complete event as clang's -ftime-trace writes it, on one thread."""
     return '{"pid":4242,"tid":4242,"ph":"X","ts":%d,"dur":%d,"name":"Source","args":{"detail":"/usr/include/c++/12/bits/header_%d.h"}}' % (
