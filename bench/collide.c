@@ -1,7 +1,7 @@
 // Prints keys of which all have the same low bits in a hash with its halves joined, so that they meet in one place of a map that
 // hashes by it: in the library's quick hash, whose seed is fixed and public, or, of a kind that begins with fixed, in SipHash-1-3 by
-// the fixed keys, which are 0. Arguments: the kind of key (name, process or thread; fixed_name, fixed_counter, fixed_process
-// or fixed_thread), how many, and how many bits. Found by trying one after the other.
+// the fixed keys, which are 0. Arguments: the kind of key (name, async_name, flow_name, process or thread; fixed_name, fixed_counter,
+// fixed_process or fixed_thread), how many, and how many bits. Found by trying one after the other.
 #include <inttypes.h>
 #include <stdio.h>
 #include <stdlib.h>
@@ -37,11 +37,38 @@ static uint64_t last_letters_of(uint64_t candidate)
     return letters_of(candidate >> 16);
 }
 
-// The last byte is the one that ends a text.
-static uint64_t hash_of_name(uint64_t candidate)
+// The byte that ends a text.
+static uint64_t with_end(uint64_t state)
+{
+    return with_number(state, 0xff | 0xff << 8 | 0xff << 16, 1);
+}
+
+static uint64_t with_empty_text(uint64_t state)
+{
+    return with_end(with_number(state, 0, 0));
+}
+
+static uint64_t with_name(uint64_t state, uint64_t candidate)
 {
     uint64_t first = letters_of(candidate), last = last_letters_of(candidate);
-    return with_number(folded_multiply(first ^ (SEED + 12), last ^ MULTIPLIER), 0xff | 0xff << 8 | 0xff << 16, 1);
+    return with_end(folded_multiply(first ^ (state + 12), last ^ MULTIPLIER));
+}
+
+static uint64_t hash_of_name(uint64_t candidate)
+{
+    return with_name(SEED, candidate);
+}
+
+// The name is the id of a flow without category and name, which come first. The id has no process.
+static uint64_t hash_of_flow(uint64_t candidate)
+{
+    return with_name(with_number(with_empty_text(with_empty_text(SEED)), 0, 8), candidate);
+}
+
+// The same of an async span without category and scope, which come first, and without a name, which comes last.
+static uint64_t hash_of_async(uint64_t candidate)
+{
+    return with_empty_text(hash_of_flow(candidate));
 }
 
 static uint64_t rotated(uint64_t word, int bits)
@@ -143,6 +170,8 @@ int main(int count, char **words)
         void (*print)(uint64_t);
     } kinds[] = {
         {"name", hash_of_name, print_name},
+        {"async_name", hash_of_async, print_name},
+        {"flow_name", hash_of_flow, print_name},
         {"fixed_name", fixed_hash_of_name, print_name},
         {"fixed_counter", fixed_hash_of_counter, print_name},
         {"process", hash_of_process, print_number},
