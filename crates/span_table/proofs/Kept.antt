@@ -23,7 +23,7 @@ use Rattle.span_table.proofs.AddedTables.{add_tables-parts, rows-back, rows_of-a
 use Rattle.span_table.proofs.Alike.{AddUpAlike, AddUpAlike-append, AddUpAlike-refl, AddUpAlike-sym, sums_at-append, summed-alike}
 use Rattle.span_table.proofs.OwnRows.{rows_of-own}
 use Rattle.span_table.proofs.Rows.{RowsRise-rows_of}
-use Rattle.span_table.proofs.Summing.{found-within}
+use Rattle.span_table.proofs.Summing.{found-within, with_sums-within}
 
 -- what is kept is what its own rows come to
 summed-own : (kept : SumsByKey) → RowsRise (map row_of kept) → kept ≡ summed (keyed_rows (map row_of kept))
@@ -53,13 +53,6 @@ AllWithin-summed n es within = each (keys_in key_cmp es)
     each : (ks : List TableKey) → All (IsWithin n) (values_of (map (entry_of (λ k. found k es)) ks))
     each [] = All-nil (IsWithin n)
     each (k ∷ ks) = All-cons (IsWithin n) (found k es) (values_of (map (entry_of (λ k. found k es)) ks)) (within k) (each ks)
-
-with_sums-within : (m n : ℕ) (a b : Sums) → IsWithin m a → IsWithin n b → IsWithin (m + n) (with_sums a b)
-with_sums-within m n a b first second = record {
-  count = omega (arith, first.count, second.count);
-  total = omega (arith, first.total, second.total);
-  self_time = omega (arith, first.self_time, second.self_time);
-}
 
 part-within : (n : ℕ) (a b : Sums) → IsWithin n (with_sums a b) → IsWithin n a
 part-within n a b within = record { count = omega (arith, within.count); total = omega (arith, within.total); self_time = omega (arith, within.self_time) }

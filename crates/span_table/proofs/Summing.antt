@@ -1,17 +1,17 @@
 -- What is kept of sums by key, once more are added.
-use Rattle.std.proofs.Common.{◌≡◌, ℕ, ◌≤◌, List, [], ◌∷◌, ◌++◌, map, Option, Some, None, sym, ap, subst, ◌∙◌, arith}
+use Rattle.std.proofs.Common.{◌≡◌, ℕ, ◌+◌, ◌≤◌, List, [], ◌∷◌, ◌++◌, map, Option, Some, None, sym, ap, subst, ◌∙◌, arith}
 use Rattle.std.specs.Prelude.{All, IfSome, OnOk, Result, Ok, Err, unwrap_or}
 use Rattle.std.specs.declared.alloc.AllocError.{AllocError}
 use Rattle.std.specs.List.Sorted.{IsStrictlySortedBy}
 use Rattle.std.specs.Map.{keys_of, lookup, values_of}
-use Rattle.std.proofs.lemmas.Map.Views.{IfSome-lookup_from_All}
+use Rattle.std.proofs.lemmas.Map.Views.{All-values-insert_entry, IfSome-lookup_from_All}
 use Rattle.std.specs.BTreeMap.{insert_entry, is_at}
 use Rattle.std.proofs.lemmas.List.Sums.{sum_by_push}
 use Rattle.span_keyed_tracks.specs.Keyed.{Keyed, keys_in, steps_at}
 use Rattle.span_keyed_tracks.proofs.Keyed.{entries_in-insert_entry, keys_of-made, kept_at-entries_in}
 use Rattle.span_keyed_tracks.proofs.Sorted.{ascending-sorted}
 use Rattle.span_table.specs.declared.sums.Sums.{Sums}
-use Rattle.span_table.specs.Collected.{AllWithin, GrowsBy, IsWithin, with_sums}
+use Rattle.span_table.specs.Collected.{AllWithin, GrowsBy, IsWithin, Takes, with_sums}
 use Rattle.span_table.specs.KeyLaws.{key_cmp_total, key_cmp-same}
 use Rattle.span_table.specs.Keys.{TableKey, key_cmp}
 use Rattle.span_table.specs.Tables.{KeyedSums, SumsByKey, summed, sums_together}
@@ -28,16 +28,6 @@ sums_together-push sums more =
 pub summed-sorted : (sums : KeyedSums) → IsStrictlySortedBy key_cmp (keys_of (summed sums))
 summed-sorted sums = rw (keys_of-made (λ key. sums_together (steps_at key_cmp key sums)) (keys_in key_cmp sums)) (ascending-sorted key_cmp_total (map (λ (e : Keyed TableKey Sums). e.key) sums))
 
--- sums are added to what is kept for their key, or to none
-pub summed-added : (sums : KeyedSums) (key : TableKey) (more now : Sums) (old new : SumsByKey) → old ≡ summed sums → now ≡ with_sums (unwrap_or (lookup (is_at (key_cmp key)) old) (sums_together [])) more →
-    new ≡ insert_entry key_cmp old key now → new ≡ summed (sums ++ record { key = key; step = more } ∷ [])
-summed-added sums key more now old new kept is written =
-    let e : Keyed TableKey Sums = record { key = key; step = more } in
-    let was : unwrap_or (lookup (is_at (key_cmp key)) old) (sums_together []) ≡ sums_together (steps_at key_cmp key sums) =
-    ap (λ es. unwrap_or (lookup (is_at (key_cmp key)) es) (sums_together [])) kept ∙ kept_at-entries_in key_cmp_total key_cmp-same sums_together sums key in
-    written ∙ entries_in-insert_entry key_cmp_total key_cmp-same sums_together sums e old now kept (subst (λ es. IsStrictlySortedBy key_cmp (keys_of es)) (sym kept) (summed-sorted sums))
-    (is ∙ ap (λ s. with_sums s more) was ∙ sym (sums_together-push (steps_at key_cmp key sums) more))
-
 -- what is within some number is within a greater one
 pub IsWithin-le : (m n : ℕ) (sums : Sums) → m ≤ n → IsWithin m sums → IsWithin n sums
 IsWithin-le m n sums low within = record { count = omega (arith, within.count); total = omega (arith, within.total); self_time = omega (arith, within.self_time) }
@@ -49,6 +39,33 @@ found-within n key es within = by (lookup (is_at (key_cmp key)) es) (IfSome-look
     by : (found : Option Sums) → IfSome found (IsWithin n) → IsWithin n (unwrap_or found (sums_together []))
     by None h = record { count = omega arith; total = omega arith; self_time = omega arith }
     by (Some sums) h = h
+
+-- two sums added are within both numbers added
+pub with_sums-within : (m n : ℕ) (a b : Sums) → IsWithin m a → IsWithin n b → IsWithin (m + n) (with_sums a b)
+with_sums-within m n a b first second = record {
+  count = omega (arith, first.count, second.count);
+  total = omega (arith, first.total, second.total);
+  self_time = omega (arith, first.self_time, second.self_time);
+}
+
+-- sums that are added to those of their key, or to none, are taken, and no key's grow by more
+pub sums-added : (key : TableKey) (was more now : Sums) (old new : SumsByKey) → unwrap_or (lookup (is_at (key_cmp key)) old) (sums_together []) ≡ was → now ≡ with_sums was more → new ≡ insert_entry key_cmp old key now →
+    Takes old new (record { key = key; step = more } ∷ []) × ((n : ℕ) → IsWithin n more → GrowsBy n old new)
+sums-added key was more now old new found is written = (takes, grows)
+  where
+    takes : Takes old new (record { key = key; step = more } ∷ [])
+    takes = λ sums kept.
+        let e : Keyed TableKey Sums = record { key = key; step = more } in
+        let here : was ≡ sums_together (steps_at key_cmp key sums) =
+        sym found ∙ ap (λ es. unwrap_or (lookup (is_at (key_cmp key)) es) (sums_together [])) kept ∙ kept_at-entries_in key_cmp_total key_cmp-same sums_together sums key in
+        written ∙ entries_in-insert_entry key_cmp_total key_cmp-same sums_together sums e old now kept (subst (λ es. IsStrictlySortedBy key_cmp (keys_of es)) (sym kept) (summed-sorted sums))
+        (is ∙ ap (λ s. with_sums s more) here ∙ sym (sums_together-push (steps_at key_cmp key sums) more))
+
+    grows : (n : ℕ) → IsWithin n more → GrowsBy n old new
+    grows = λ n its most within.
+        let mine = subst (IsWithin most) found (found-within most key old within) in
+        rw written
+        (All-values-insert_entry key_cmp key now (IsWithin (most + n)) old (λ k d low. IsWithin-le most (most + n) _ (omega arith) (within k d low)) (subst (IsWithin (most + n)) (sym is) (with_sums-within most n was more mine its)))
 
 -- sums that are within a number let what is kept grow by as much
 pub bounded : (n : ℕ) (result : Result (Unit {0}) AllocError) (more : Sums) (old new : SumsByKey) → IsWithin n more →

@@ -2,15 +2,13 @@
 ghost use Rattle.std.specs.Prelude.{◌≡◌, ◌+◌, ◌≤◌, ◌^◌, ◌∷◌, [], ℕ, map, IfOk, OnOk};
 ghost use Rattle.span_event.specs.Text.{Bytes};
 ghost use Rattle.span_table.specs.Adding.{keyed_rows};
-ghost use Rattle.span_table.specs.Collected.{AllWithin, GrowsBy, IsWithin, Takes, keyed_span_row, row_sums};
+ghost use Rattle.span_table.specs.Collected.{AllWithin, GrowsBy, Takes, keyed_span_row, row_sums};
 ghost use Rattle.std.specs.List.{list_any};
 ghost use Rattle.span_table.specs.Columns.{is_argument, value_at};
-ghost use Rattle.span_keyed_tracks.specs.Keyed.{kept_at};
-ghost use Rattle.span_table.specs.Keys.{key_cmp};
 ghost use Rattle.span_event.specs.Time.{distance};
 ghost use Rattle.span_ledger.specs.Order.{thread_of_row};
 ghost use Rattle.span_ledger.specs.Timed.{timed_spans};
-ghost use Rattle.span_table.specs.Tables.{RowsRise, keyed_span, row_of, run_sums, sums_together, thread_sums};
+ghost use Rattle.span_table.specs.Tables.{RowsRise, keyed_span, row_of, run_sums, thread_sums};
 
 use crate::column::Column;
 use crate::groups::Groups;
@@ -24,7 +22,7 @@ use std::alloc::{AllocError, Global};
 /// Adds the sums of a run's closed spans by columns.
 pub(crate) fn add_run(
     alloc: Global,
-    groups: &mut Groups<Sums>,
+    groups: &mut Groups,
     run: &LedgerRun,
     columns: &[Column],
 ) -> Result<(), AllocError>
@@ -47,7 +45,7 @@ fn has_argument(columns: &[Column]) -> bool
 // The sums of the rows of names, by columns of which none is an argument.
 fn add_rows(
     alloc: Global,
-    groups: &mut Groups<Sums>,
+    groups: &mut Groups,
     run: &LedgerRun,
     columns: &[Column],
 ) -> Result<(), AllocError>
@@ -65,7 +63,7 @@ fn add_rows(
 
 fn add_row(
     alloc: Global,
-    groups: &mut Groups<Sums>,
+    groups: &mut Groups,
     run: &LedgerRun,
     columns: &[Column],
     row: &SpanRow,
@@ -80,13 +78,13 @@ fn add_row(
         tid: row.tid,
     };
     let key = key_of(alloc, run, columns, thread, &row.name, &Args::empty(alloc))?;
-    add(groups, key, Sums::of_row(row))
+    groups.add(key, Sums::of_row(row))
 }
 
 // The sums of closed spans, one by one.
 fn add_spans(
     alloc: Global,
-    groups: &mut Groups<Sums>,
+    groups: &mut Groups,
     run: &LedgerRun,
     columns: &[Column],
 ) -> Result<(), AllocError>
@@ -104,7 +102,7 @@ fn add_spans(
 
 fn add_thread(
     alloc: Global,
-    groups: &mut Groups<Sums>,
+    groups: &mut Groups,
     run: &LedgerRun,
     columns: &[Column],
     thread: Thread,
@@ -142,7 +140,7 @@ fn timed_spans<'a>(
 
 fn add_span(
     alloc: Global,
-    groups: &mut Groups<Sums>,
+    groups: &mut Groups,
     run: &LedgerRun,
     columns: &[Column],
     thread: Thread,
@@ -156,7 +154,7 @@ fn add_span(
     let span = timed.span;
     let key = key_of(alloc, run, columns, thread, timed.name, &span.args)?;
     let sums = Sums::of_span(length(span.start, span.until), timed.self_time);
-    add(groups, key, sums)
+    groups.add(key, sums)
 }
 
 // How many microseconds there are from one time to another, if it is later.
@@ -189,10 +187,7 @@ fn key_of(
 }
 
 /// Adds the sums that another has kept.
-pub(crate) fn add_entries(
-    groups: &mut Groups<Sums>,
-    entries: Vec<(Key, Sums)>,
-) -> Result<(), AllocError>
+pub(crate) fn add_entries(groups: &mut Groups, entries: Vec<(Key, Sums)>) -> Result<(), AllocError>
     requires rise { RowsRise (map row_of groups.old) }
     requires others { RowsRise (map row_of entries.items) }
     requires mine { AllWithin (2 ^ 198) groups.old }
@@ -201,30 +196,7 @@ pub(crate) fn add_entries(
     ensures bound { OnOk result ((n : ℕ) → AllWithin n entries.items → GrowsBy n groups.old groups.new) }
 {
     for (key, sums) in entries {
-        add(groups, key, sums)?;
+        groups.add(key, sums)?;
     }
     Ok(())
-}
-
-// Adds sums to what is kept for a key.
-fn add(groups: &mut Groups<Sums>, key: Key, more: Sums) -> Result<(), AllocError>
-    requires all { AllWithin (2 ^ 200) groups.old }
-    requires more { IsWithin (2 ^ 200) more }
-    ensures takes { OnOk result (Takes groups.old groups.new (record { key = key; step = more } ∷ [])) }
-    ensures bound { OnOk result ((n : ℕ) → IsWithin n more → GrowsBy n groups.old groups.new) }
-{
-    let mut sums = sums_at(groups, &key);
-    sums.add(&more);
-    groups.put(key, sums)?;
-    Ok(())
-}
-
-// What is kept for a key; zeros where nothing is.
-fn sums_at(groups: &Groups<Sums>, key: &Key) -> Sums
-    ensures { result ≡ kept_at key_cmp (sums_together []) groups.now key.now }
-{
-    match groups.at(key) {
-        Some(sums) => sums,
-        None => Sums::of_none(),
-    }
 }

@@ -1,36 +1,35 @@
-//! What is kept for each key.
-ghost use Rattle.std.specs.Prelude.{◌≡◌, [], List, IfOk, OnOk};
-ghost use Rattle.std.specs.BTreeMap.{insert_entry, is_at};
-ghost use Rattle.std.specs.Map.{lookup};
-ghost use Rattle.span_table.specs.Keys.{key_cmp};
+//! The sums of each key.
+ghost use Rattle.std.specs.Prelude.{◌≡◌, ◌^◌, ◌∷◌, [], ℕ, IfOk, OnOk};
+ghost use Rattle.span_table.specs.Collected.{AllWithin, GrowsBy, IsWithin, Takes};
 
 use crate::key::Key;
+use crate::sums::Sums;
 use indexmap::IndexMap;
 use span_keyed_tracks::HashKeys;
 use std::alloc::{AllocError, Global};
 use std::marker::Model;
 
-/// What is kept for each key. A contract sees it in ascending order of keys.
+/// The sums of each key. A contract sees them in ascending order of keys.
 #[derive(Drop)]
-pub(crate) struct Groups<V> {
-    kept: IndexMap<Key, V, HashKeys>,
+pub(crate) struct Groups {
+    kept: IndexMap<Key, Sums, HashKeys>,
 }
 
-impl<V> Model for Groups<V> {
-    ghost use Rattle.std.specs.Prelude.{List};
+impl Model for Groups {
     ghost use Rattle.span_keyed_tracks.specs.Keyed.{AreDistinct, in_key_order};
-    ghost use Rattle.span_table.specs.Keys.{TableKey, key_cmp};
+    ghost use Rattle.span_table.specs.Keys.{key_cmp};
+    ghost use Rattle.span_table.specs.Tables.{SumsByKey};
 
-    ghost Value = { List (TableKey × V) };
+    ghost Value = { SumsByKey };
 
     ghost view = { λ g. in_key_order key_cmp g.kept.entries };
 
     ghost invariant = { λ g. AreDistinct key_cmp g.kept.entries };
 }
 
-impl<V: Copy> Groups<V> {
-    /// Nothing for any key. Takes no memory.
-    pub(crate) fn new(alloc: Global, keys: HashKeys) -> Groups<V>
+impl Groups {
+    /// No sums of any key. Takes no memory.
+    pub(crate) fn new(alloc: Global, keys: HashKeys) -> Groups
         ensures { result ≡ [] }
     {
         Groups {
@@ -42,24 +41,23 @@ impl<V: Copy> Groups<V> {
         *self.kept.allocator()
     }
 
-    pub(crate) fn at(&self, key: &Key) -> Option<V>
-        ensures { result ≡ lookup (is_at (key_cmp key.now)) self.now }
+    /// Adds sums to those of a key.
+    pub(crate) fn add(&mut self, key: Key, more: Sums) -> Result<(), AllocError>
+        requires all { AllWithin (2 ^ 200) self.old }
+        requires more { IsWithin (2 ^ 200) more }
+        ensures takes { OnOk result (Takes self.old self.new (record { key = key; step = more } ∷ [])) }
+        ensures bound { OnOk result ((n : ℕ) → IsWithin n more → GrowsBy n self.old self.new) }
     {
-        match self.kept.get(key) {
-            Some(value) => Some(*value),
-            None => None,
+        if let Some(sums) = self.kept.get_mut(&key) {
+            sums.add(&more);
+            return Ok(());
         }
-    }
-
-    pub(crate) fn put(&mut self, key: Key, value: V) -> Result<(), AllocError>
-        ensures { OnOk result (self.new ≡ insert_entry key_cmp self.old key value) }
-    {
-        self.kept.insert(key, value)?;
+        self.kept.insert(key, more)?;
         Ok(())
     }
 
-    /// The keys in ascending order, with what is kept for each.
-    pub(crate) fn into_entries(self) -> Result<Vec<(Key, V)>, AllocError>
+    /// The keys in ascending order, with the sums of each.
+    pub(crate) fn into_entries(self) -> Result<Vec<(Key, Sums)>, AllocError>
         ensures { IfOk result (λ entries. entries.items ≡ self) }
     {
         let Groups { kept } = self;
@@ -71,10 +69,10 @@ impl<V: Copy> Groups<V> {
 }
 
 // The entries in the order of their first uses.
-fn entries_of<V: Copy>(
+fn entries_of(
     alloc: Global,
-    kept: IndexMap<Key, V, HashKeys>,
-) -> Result<Vec<(Key, V)>, AllocError>
+    kept: IndexMap<Key, Sums, HashKeys>,
+) -> Result<Vec<(Key, Sums)>, AllocError>
     ensures { IfOk result (λ entries. entries.items ≡ kept.entries) }
 {
     let mut entries = Vec::with_capacity(alloc, kept.len())?;

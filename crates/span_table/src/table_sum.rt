@@ -10,7 +10,6 @@ use crate::column::{Column, copies_of};
 use crate::groups::Groups;
 use crate::heads::Head;
 use crate::run::LedgerRun;
-use crate::sums::Sums;
 use crate::table::{Table, rows_of};
 use span_event::Text;
 use span_keyed_tracks::HashKeys;
@@ -35,7 +34,7 @@ pub enum SumFault {
 pub struct TableSum {
     columns: Vec<Column>,
     head: Head,
-    groups: Groups<Sums>,
+    groups: Groups,
 }
 
 impl Model for TableSum {

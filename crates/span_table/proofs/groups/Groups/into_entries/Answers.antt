@@ -8,6 +8,7 @@ use Rattle.span_keyed_tracks.specs.Keyed.{ascending, in_key_order}
 use Rattle.span_keyed_tracks.proofs.InKeyOrder.{AreApart-distinct}
 use Rattle.span_keyed_tracks.proofs.KeyOrder.{IsDistinct-rows, ascending-rows}
 use Rattle.span_keyed_tracks.proofs.Sorting.{IsSorted-from_sort_by, sorted-ascending}
+use Rattle.span_table.specs.declared.sums.Sums.{Sums}
 use Rattle.span_table.specs.KeyLaws.{key_cmp_total, key_cmp-same}
 use Rattle.span_table.specs.Keys.{TableKey, key_cmp}
 use Rattle.span_table.proofs.groups.Groups.into_entries.Goals as goal
@@ -17,9 +18,9 @@ as_they_are [] = refl
 as_they_are (x ∷ xs) = ap (λ l. x ∷ l) (as_they_are xs)
 
 pub returns : goal.returns
-returns g c =
+returns c =
     let entries = c.self.inside.kept.entries in
-    let key = λ (e : TableKey × g.row.V.Denot). e.0 in
+    let key = λ (e : TableKey × Sums). e.0 in
     let total = on_total key key_cmp_total in
     let sorted = c.sort_unstable_by.new.self.items in
     let moved = subst (λ rows. IsPermutation rows sorted) c.in_ok-entries.ensures c.sort_unstable_by.ensures.permutation in
