@@ -9,6 +9,7 @@ pub mod Json
 pub mod JsonPieces
 pub mod Kept
 pub mod KeyLaws
+pub mod KeyWrites
 pub mod Keys
 pub mod Laws
 pub mod Lines

@@ -1,12 +1,11 @@
 //! By what the rows of a table are told apart.
-ghost use Rattle.std.specs.Prelude.{◌≡◌, Some, refl, IfOk};
+ghost use Rattle.std.specs.Prelude.{◌≡◌, Some, refl, fold};
 ghost use Rattle.std.specs.Cmp.{eq_by_cmp_equiv, partial_equiv_from_equiv, partial_order_from_total};
 ghost use Rattle.std.specs.Ordering.{eq_by_cmp};
-ghost use Rattle.std.specs.Hash as fed;
 ghost use Rattle.std.proofs.Common.{ap};
-ghost use Rattle.span_event.specs.contracts.args.ArgValueHash.TheImpl as value_hash;
 ghost use Rattle.span_table.specs.KeyLaws.{key_cmp_total, key_eq-same};
 ghost use Rattle.span_table.specs.Keys.{key_cmp};
+ghost use Rattle.span_table.specs.KeyWrites.{key_writes, value_writes};
 
 use span_event::ArgValue;
 use std::cmp::Ordering;
@@ -80,11 +79,35 @@ impl Ord for Key {
 }
 
 impl Hash for Key {
-    ghost hash_input = { fed.slice (fed.option (value_hash.ghosts).hash_input) };
+    ghost hash_input = { key_writes };
 
-    ghost respects_eq = { λ x y e. ap (fed.slice (fed.option (value_hash.ghosts).hash_input)) (key_eq-same x y e) };
+    ghost respects_eq = { λ x y e. ap key_writes (key_eq-same x y e) };
 
     fn hash<H: Hasher>(&self, state: &mut H) {
-        self.values.hash(state);
+        for value in &self.values {
+            hash_value(value, state);
+        }
+    }
+}
+
+// A value begins with a byte that no text has, so different keys give the hasher different bytes, though neither how many values there
+// are nor where a text ends is told.
+fn hash_value<H: Hasher>(value: &Option<ArgValue>, state: &mut H)
+    ensures { state.new ≡ fold H.write state.old (value_writes value.now) }
+{
+    match value {
+        None => state.write_u8(0xf8),
+        Some(ArgValue::Nil) => state.write_u8(0xf9),
+        Some(ArgValue::Flag(false)) => state.write_u8(0xfa),
+        Some(ArgValue::Flag(true)) => state.write_u8(0xfb),
+        Some(ArgValue::Whole(number)) => {
+            state.write_u8(0xfc);
+            state.write_i64(*number);
+        }
+        Some(ArgValue::Words(text)) => {
+            state.write_u8(0xfd);
+            state.write(text.as_str().as_bytes());
+        }
+        Some(ArgValue::Other) => state.write_u8(0xfe),
     }
 }
