@@ -1,11 +1,13 @@
 -- What is said of runs that failed.
-use Rattle.std.proofs.Common.{◌≡◌, ◌≤◌, ℕ, ◌⊎◌, List, inl, inr, sym, ◌∙◌, arith}
+use Rattle.std.proofs.Common.{◌≡◌, ◌≤◌, ℕ, ◌⊎◌, List, [], Option, Some, None, inl, inr, refl, sym, append-nil, ◌∙◌, arith}
 use mathlib.Core.Logic.{dite}
 use native.Mathlib.Decide.{ℕ_discrete}
 use Rattle.span_report.specs.Sink.{SinkState}
 use Rattle.span_collect.specs.declared.files.Input.{Input}
 use Rattle.span_collect.specs.declared.runs.RunEnd.{RunEnd}
-use Rattle.tracebook.specs.FaultLines.{Reports}
+use Rattle.std.specs.Io.KnownBytes.{Appends}
+use Rattle.tracebook.specs.FaultLines.{MayHint, Reports, SaysCause, SaysOrMemory, cause_text}
+use Rattle.span_runs.specs.declared.stop.StopCause.{StopCause}
 
 -- the status that is given is the run's, or 2
 pub Reports-status : {files : List Input} {run : RunEnd} {status : ℕ} {old new : SinkState} → Reports files run status old new → (status ≡ run.status) ⊎ (status ≡ 2)
@@ -22,3 +24,15 @@ Reports-le reports le = elim (Reports-status reports) [
   | inl same ↦ omega (arith, same, le)
   | inr two ↦ omega (arith, two)
 ]
+
+-- nothing more was said
+pub MayHint-none : (state : SinkState) → MayHint state state
+MayHint-none state = ([], inl (record { taken = same state.taken; failures = refl }))
+  where
+    same : (taken : Option (List ℕ)) → Appends taken taken []
+    same None = tt
+    same (Some bytes) = sym (append-nil bytes)
+
+-- a cause was said, and no hint
+pub SaysCause-alone : (cause : StopCause) (old new : SinkState) → SaysOrMemory (cause_text cause) old new → SaysCause cause old new
+SaysCause-alone cause old new says = (new, says, MayHint-none new)

@@ -1,6 +1,6 @@
 -- What is said where files or runs failed.
 use Rattle.std.specs.Prelude.{◌≡◌, ◌≢◌, ℕ, ◌≤◌, ◌⊎◌, List, [], ◌∷◌, ◌++◌, length, take, codes, Option, Some, None}
-use Rattle.span_event.specs.declared.fault.Fault.TheVariants.{Memory, NotOpened}
+use Rattle.span_event.specs.declared.fault.Fault.TheVariants.{FileCount, Memory, NotOpened}
 use Rattle.span_event.specs.Fault.{number_of}
 use Rattle.span_ledger.specs.Refusal.{code_of}
 use Rattle.span_ledger.specs.declared.refusal.Cause.{Cause}
@@ -8,7 +8,11 @@ use Rattle.span_report.specs.Sink.{SinkState, TakesBytes, Fails}
 use Rattle.span_collect.specs.declared.files.Input.{Input}
 use Rattle.span_collect.specs.declared.runs.RunEnd.{RunEnd}
 use Rattle.span_collect.specs.FaultLines.{end_lines, fault_line}
+use Rattle.span_collect.specs.Run.{run_code}
 use Rattle.span_collect.specs.Words.{numbered}
+use Rattle.span_runs.specs.declared.stop.Stop.{Stop}
+use Rattle.span_runs.specs.declared.stop.StopCause.{StopCause}
+use Rattle.span_runs.specs.declared.stop.StopCause.TheVariants as cause
 
 -- the line of a run as a whole
 abbrev pub run_line : ℕ → List ℕ
@@ -40,3 +44,23 @@ SaysOrMemory text old new = Says text old new ⊎ Says (run_line (number_of Memo
 pub record Reports (files : List Input) (run : RunEnd) (status : ℕ) (old new : SinkState) : Type 0 where
   pub silent : run.status ≡ 0 → (status ≡ 0) × (new ≡ old)
   pub said : run.status ≢ 0 → ((status ≡ run.status) × Says (fault_text files run) old new) ⊎ ((status ≡ 2) × Says (run_line (number_of Memory)) old new)
+
+-- something may have been said, as a hint
+abbrev pub MayHint : SinkState → SinkState → Type 0
+MayHint old new = (hint : List ℕ) × Says hint old new
+
+-- what is said of what stopped
+abbrev pub cause_text : StopCause → List ℕ
+cause_text (cause.NotOpened name reason) = unread_line name
+cause_text cause.Memory = run_line (number_of Memory)
+cause_text (cause.Run error) = run_line (run_code error)
+cause_text (cause.Cut lines) = lines.items
+cause_text cause.TooMany = run_line (number_of FileCount)
+
+-- what stopped was said, and then perhaps a hint
+abbrev pub SaysCause : StopCause → SinkState → SinkState → Type 0
+SaysCause cause old new = (middle : SinkState) × SaysOrMemory (cause_text cause) old middle × MayHint middle new
+
+-- the lines of the files before were said, and then what stopped
+abbrev pub SaysStop : Stop → SinkState → SinkState → Type 0
+SaysStop stop old new = (middle : SinkState) × Says stop.lines.items old middle × SaysCause stop.cause middle new

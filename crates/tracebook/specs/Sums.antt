@@ -3,7 +3,7 @@ use Rattle.std.specs.Prelude.{◌≡◌, ℕ, ◌≤◌, ◌⊎◌, ◌==◌, if
 use Rattle.span_event.specs.Text.{Bytes}
 use Rattle.span_report.specs.Sink.{SinkState, TakesBytes, Fails}
 use Rattle.span_collect.specs.declared.settings.Settings.{Settings}
-use Rattle.span_runs.specs.declared.apart.Summed.{Summed}
+use Rattle.span_runs.specs.declared.summed.Summed.{Summed}
 use Rattle.span_runs.specs.Apart.{SumsFiles}
 use Rattle.span_runs.specs.Source.{SourceBytes}
 use Rattle.span_table.specs.declared.column.Column.{Column}

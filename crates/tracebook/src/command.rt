@@ -59,11 +59,11 @@ pub enum Task {
 }
 
 /// What the words ask for; they leave out the program's own name. Words of which none begins with a hyphen name files.
-pub fn request_of(alloc: Global, words: &[Text]) -> Result<Request, AllocError>
-    ensures { IfOk result (AsksFor words.now) }
+pub fn request_of(alloc: Global, words: Vec<Text>) -> Result<Request, AllocError>
+    ensures { IfOk result (AsksFor words.items) }
 {
-    if has_options(words) {
-        return parsed_request(alloc, words);
+    if has_options(&words) {
+        return parsed_request(alloc, &words);
     }
     let settings = Settings {
         limit: DEFAULT_LIMIT,
@@ -71,7 +71,7 @@ pub fn request_of(alloc: Global, words: &[Text]) -> Result<Request, AllocError>
         strict: false,
     };
     let files = Named {
-        given: copies_of(alloc, words)?,
+        given: words,
         list: None,
     };
     let task = Task::Collect {
@@ -91,16 +91,6 @@ fn is_option(word: &Text) -> bool
     ensures { result ≡ is_option word.now }
 {
     word.as_str().as_bytes().starts_with(b"-")
-}
-
-fn copies_of(alloc: Global, words: &[Text]) -> Result<Vec<Text>, AllocError>
-    ensures { IfOk result (λ copies. copies.items ≡ words.now) }
-{
-    let mut copies = Vec::with_capacity(alloc, words.len())?;
-    for word in words {
-        copies.push(word.try_clone(alloc)?)?;
-    }
-    Ok(copies)
 }
 
 // What words with options ask for. What these mean is the library's to say.

@@ -2,7 +2,8 @@
 ghost use Rattle.std.specs.Prelude.{◌≡◌, ◌≤◌, ℕ, List, length, IfOk, string_bytes};
 ghost use Rattle.span_event.specs.declared.fault.Fault.TheVariants.{Memory};
 ghost use Rattle.span_event.specs.Fault.{number_of};
-ghost use Rattle.tracebook.specs.FaultLines.{Reports, Says, SaysOrMemory, fault_text, run_line, unread_line};
+ghost use Rattle.span_report.specs.Sink.{SinkState};
+ghost use Rattle.tracebook.specs.FaultLines.{MayHint, Reports, Says, SaysCause, SaysOrMemory, SaysStop, fault_text, run_line, unread_line};
 
 use crate::hints::{Hint, MANY_FILES, RefusalCounts, hint_of_bytes};
 use span_collect::{Collected, FileEnd, Input, RunEnd, fault_line_of, fault_lines, numbered_text};
@@ -106,7 +107,8 @@ pub(crate) fn fail<F: Faults>(alloc: Global, code: u16, faults: &mut F) -> u8
 
 /// Says why files were not all summed: the lines of those before the one that stopped, and why that did.
 pub(crate) fn fail_stop<F: Faults>(alloc: Global, stop: Stop, faults: &mut F) -> u8
-    ensures { result ≡ 2 }
+    ensures status { result ≡ 2 }
+    ensures said { SaysStop stop (F.state faults.old) (F.state faults.new) }
 {
     let Stop { lines, cause } = stop;
     say(&lines, faults);
@@ -116,12 +118,13 @@ pub(crate) fn fail_stop<F: Faults>(alloc: Global, stop: Stop, faults: &mut F) ->
 
 /// Says why files were not all read.
 pub(crate) fn fail_cause<F: Faults>(alloc: Global, cause: StopCause, faults: &mut F) -> u8
-    ensures { result ≡ 2 }
+    ensures status { result ≡ 2 }
+    ensures said { SaysCause cause (F.state faults.old) (F.state faults.new) }
 {
     match cause {
         StopCause::NotOpened(name, reason) => {
             let status = fail_at(alloc, &name, faults);
-            let _ = put_hint(alloc, &name, Hint::Unreadable(reason), faults);
+            put_hint(alloc, &name, Hint::Unreadable(reason), faults);
             drop(name);
             status
         }
@@ -133,7 +136,6 @@ pub(crate) fn fail_cause<F: Faults>(alloc: Global, cause: StopCause, faults: &mu
             FAILED
         }
         StopCause::TooMany => fail(alloc, Fault::FileCount.code(), faults),
-        StopCause::GaveUp => fail(alloc, Fault::Unaccounted.code(), faults),
     }
 }
 
@@ -148,7 +150,9 @@ fn fail_at<F: Faults>(alloc: Global, name: &Text, faults: &mut F) -> u8
 
 /// Says that a run was refused, with what may help.
 pub(crate) fn fail_run<F: Faults>(alloc: Global, code: u16, faults: &mut F) -> u8
-    ensures { result ≡ 2 }
+    ensures status { result ≡ 2 }
+    ensures said { (middle : SinkState) × SaysOrMemory (run_line code) (F.state faults.old) middle
+        × MayHint middle (F.state faults.new) }
 {
     let status = fail(alloc, code, faults);
     if faults.takes_hints() && code == Fault::FileCount.code() {
@@ -172,7 +176,7 @@ pub(crate) fn put_hints<F: Faults>(
     };
     for (file, end) in files.iter().zip(&collected.end.ends) {
         if let Some(hint) = hint_of_end(file, end, &counts) {
-            let _ = put_hint(alloc, &file.name, hint, faults);
+            put_hint(alloc, &file.name, hint, faults);
         }
     }
     drop(counts);
@@ -188,16 +192,19 @@ fn hint_of_end(file: &Input, end: &FileEnd, counts: &RefusalCounts) -> Option<Hi
     }
 }
 
-fn put_hint<F: Faults>(
-    alloc: Global,
-    name: &Text,
-    hint: Hint,
-    faults: &mut F,
-) -> Result<(), AllocError> {
-    if faults.takes_hints() {
-        let name = json_text(alloc, name)?;
-        let line = format!(in alloc; "hint: {name}: {hint}\n")?;
+// Says what may help with a file, where a person reads along. What finds no memory is left out.
+fn put_hint<F: Faults>(alloc: Global, name: &Text, hint: Hint, faults: &mut F)
+    ensures { MayHint (F.state faults.old) (F.state faults.new) }
+{
+    if !faults.takes_hints() {
+        return;
+    }
+    if let Ok(line) = hint_line(alloc, name, hint) {
         say(line.as_bytes(), faults);
     }
-    Ok(())
+}
+
+fn hint_line(alloc: Global, name: &Text, hint: Hint) -> Result<String, AllocError> {
+    let name = json_text(alloc, name)?;
+    format!(in alloc; "hint: {name}: {hint}\n")
 }

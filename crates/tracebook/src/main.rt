@@ -166,6 +166,6 @@ fn main(rt: HostRuntime) -> ExitCode {
         out: Writer::new(Cleared::new(&rt, rt.stderr(), shows_progress)),
         is_terminal,
     };
-    let status = perform(&rt, rt.alloc(), &words, &source, &mut out, &mut faults);
+    let status = perform(&rt, rt.alloc(), words, &source, &mut out, &mut faults);
     ExitCode::from(status)
 }

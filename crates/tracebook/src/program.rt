@@ -24,16 +24,16 @@ use std::thread::Threads;
 pub fn perform<R: Threads + Wait + RandomSource + Sync, S: Source + Sync, O: Sink, F: Faults>(
     rt: &R,
     alloc: Global,
-    words: &[Text],
+    words: Vec<Text>,
     source: &S,
     out: &mut O,
     faults: &mut F,
 ) -> u8
     ensures status { result ≤ 2 }
     ensures done { result < 2
-        → Asked words.now (λ request. Performs (S.bytes source.now) request result (O.state out.old) (O.state out.new)) }
+        → Asked words.items (λ request. Performs (S.bytes source.now) request result (O.state out.old) (O.state out.new)) }
     ensures failed { result ≡ 2 → (O.state out.new ≡ O.state out.old)
-        ⊎ Asked words.now (λ request. GivesUp (S.bytes source.now) request (O.state out.old) (O.state out.new)) }
+        ⊎ Asked words.items (λ request. GivesUp (S.bytes source.now) request (O.state out.old) (O.state out.new)) }
 {
     match request_of(alloc, words) {
         Ok(request) => perform_request(rt, alloc, request, source, out, faults),
