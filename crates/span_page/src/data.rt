@@ -1,7 +1,9 @@
 //! The data of a page.
 ghost use Rattle.std.specs.Prelude.{◌≡◌, ◌++◌, length, string_bytes, IfOk, OnOk};
 ghost use Rattle.std.specs.List.{join_with_byte};
+ghost use Rattle.span_ledger.specs.Parts.{process_parts};
 ghost use Rattle.span_report.specs.Lines.{json_text_of};
+ghost use Rattle.span_report.specs.Report.{report_of};
 ghost use Rattle.span_page.specs.Data.{all_stacks_json, data_of, graph_json, graphs_json, left_after, most_frames, threads_in, threads_of};
 ghost use Rattle.span_page.specs.Safe.{safe};
 
@@ -30,13 +32,25 @@ pub(crate) fn put_data(
     requires { length files.now ≡ length ends.now }
     ensures { OnOk result (out.new.items ≡ out.old.items ++ safe (data_of files.now ends.now ledger.now.journal)) }
 {
+    let (report, threads) = report_and_threads(alloc, ledger)?;
     out.extend_from_slice(b"{\"report\":")?;
-    put_safe_string(alloc, out, report_text(alloc, ledger)?)?;
+    put_safe_string(alloc, out, report)?;
     out.extend_from_slice(b",\"refused\":")?;
     put_safe_string(alloc, out, refusals_text(alloc, ledger, files, ends)?)?;
     out.extend_from_slice(b",\"stacks\":")?;
-    put_safe(out, stacks_text(alloc, ledger)?.as_bytes())?;
+    put_safe(out, stacks_text(alloc, ledger, &threads)?.as_bytes())?;
     out.extend_from_slice(b"}")
+}
+
+// The report, and its threads in its order.
+fn report_and_threads(alloc: Global, ledger: &Ledger) -> Result<(String, Vec<Thread>), AllocError>
+    ensures report { IfOk result (λ both. string_bytes both.0 ≡ report_of ledger.now.journal) }
+    ensures threads { IfOk result (λ both. both.1.items ≡ threads_of (process_parts ledger.now.journal)) }
+{
+    let parts = ledger.parts(alloc)?;
+    let report = report_text(alloc, ledger, &parts)?;
+    let threads = threads_of(alloc, &parts)?;
+    Ok((report, threads))
 }
 
 // Appends a text as a JSON text with escapes.
@@ -57,12 +71,12 @@ fn string_json(alloc: Global, text: String) -> Result<String, AllocError>
 
 // The stacks of each thread.
 #[tactic(auto, unfolding(crate::specs::Data::all_stacks_json), using(std::proofs::Common::append_assoc))]
-fn stacks_text(alloc: Global, ledger: &Ledger) -> Result<String, AllocError>
+fn stacks_text(alloc: Global, ledger: &Ledger, threads: &[Thread]) -> Result<String, AllocError>
+    requires { threads.now ≡ threads_of (process_parts ledger.now.journal) }
     ensures { IfOk result (λ text. string_bytes text ≡ all_stacks_json ledger.now.journal) }
 {
-    let threads = threads_of(alloc, &ledger.parts(alloc)?)?;
     let mut out = String::from_str(alloc, "[")?;
-    put_threads(alloc, &mut out, ledger, &threads)?;
+    put_threads(alloc, &mut out, ledger, threads)?;
     out.push(']')?;
     Ok(out)
 }

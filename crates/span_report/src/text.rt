@@ -1,5 +1,6 @@
 //! The text of a report: one walk over the processes of a ledger, their threads, and what each has.
 ghost use Rattle.std.specs.Prelude.{◌≡◌, ◌++◌, string_bytes, flat_map, OnOk, IfOk};
+ghost use Rattle.span_ledger.specs.Parts.{process_parts};
 ghost use Rattle.span_report.specs.Report.{head_lines, process_lines, report_of, thread_lines};
 
 use crate::lines::{Printed, first_line, put_counts, put_seals};
@@ -10,16 +11,21 @@ use std::alloc::{AllocError, Global};
 pub fn report(alloc: Global, ledger: &Ledger) -> Result<Vec<u8>, AllocError>
     ensures { IfOk result (λ text. text.items ≡ report_of ledger.now.journal) }
 {
-    let text = report_text(alloc, ledger)?;
+    let text = report_text(alloc, ledger, &ledger.parts(alloc)?)?;
     Ok(text.into_bytes())
 }
 
-/// As `report`, for texts that hold it.
-pub fn report_text(alloc: Global, ledger: &Ledger) -> Result<String, AllocError>
+/// As `report`, for texts that hold it and need the ledger's parts too, which take the most time and memory.
+pub fn report_text(
+    alloc: Global,
+    ledger: &Ledger,
+    parts: &[ProcessPart],
+) -> Result<String, AllocError>
+    requires { parts.now ≡ process_parts ledger.now.journal }
     ensures { IfOk result (λ text. string_bytes text ≡ report_of ledger.now.journal) }
 {
     let mut out = head(alloc, ledger.counts())?;
-    put_each(alloc, &mut out, &ledger.parts(alloc)?)?;
+    put_each(alloc, &mut out, parts)?;
     put_each(alloc, &mut out, &ledger.async_rows(alloc)?)?;
     put_each(alloc, &mut out, &ledger.flow_rows(alloc)?)?;
     Ok(out)
