@@ -2,12 +2,10 @@
 
 PREFIX ?= /usr/local
 DESTDIR ?=
-# What is installed and packed.
-PROGRAM ?= tracebook
 
 SOURCES := crates.txt HANDLES $(shell find crates -name out -prune -o -type f -print)
 
-.PHONY: all demo test check bench install dist clean
+.PHONY: all demo test check bench install clean
 
 all: tracebook
 
@@ -45,19 +43,14 @@ bench: tracebook
 	bench/threads
 	bench/workers
 
-install: $(PROGRAM)
+install: tracebook
 	install -d $(DESTDIR)$(PREFIX)/bin
-	install -m 755 $(PROGRAM) $(DESTDIR)$(PREFIX)/bin/tracebook
-	install -m 755 cluster/tracebook_dask.py $(DESTDIR)$(PREFIX)/bin/tracebook_dask
+	install -m 755 tracebook $(DESTDIR)$(PREFIX)/bin/tracebook
 	install -d $(DESTDIR)$(PREFIX)/share/man/man1
 	install -m 644 docs/tracebook.1 $(DESTDIR)$(PREFIX)/share/man/man1/tracebook.1
 	install -d $(DESTDIR)$(PREFIX)/share/bash-completion/completions
 	install -m 644 docs/tracebook.bash $(DESTDIR)$(PREFIX)/share/bash-completion/completions/tracebook
 
-# A package for Debian and a tar file, with the same files.
-dist: $(PROGRAM)
-	scripts/dist $(PROGRAM)
-
 clean:
 	rm -f tracebook build.log demo.html
-	rm -rf out crates/*/out
+	rm -rf crates/*/out

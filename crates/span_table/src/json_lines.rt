@@ -48,7 +48,7 @@ fn all_fit(rows: &[ShownRow]) -> bool
 }
 
 /// Whether the sums have 64 bits.
-pub fn fits(sums: &Sums) -> bool
+pub(crate) fn fits(sums: &Sums) -> bool
     ensures { result ≡ fit sums.now }
 {
     sums.count.as_u64().is_some()
@@ -57,7 +57,7 @@ pub fn fits(sums: &Sums) -> bool
 }
 
 /// Whether the numbers of the head have 64 bits.
-pub fn head_fits(head: &Head) -> bool
+pub(crate) fn head_fits(head: &Head) -> bool
     ensures { result ≡ head_fits head.now }
 {
     is_narrow(head.runs)
@@ -88,16 +88,15 @@ fn text_of(alloc: Global, table: &Table, rows: &[ShownRow]) -> Result<Vec<u8>, A
         ≡ json_head table.now.columns (length rows.now) table.now.head ++ flat_map (json_line table.now.columns) rows.now) }
 {
     let mut out = String::new(alloc);
-    put_json_head(alloc, &mut out, table.columns(), rows.len(), table.head())?;
+    put_first(alloc, &mut out, table.columns(), rows.len(), table.head())?;
     for shown in rows {
-        put_json_row(alloc, &mut out, table.columns(), shown.row)?;
+        put_row(alloc, &mut out, table.columns(), shown.row)?;
     }
     Ok(out.into_bytes())
 }
 
-/// Appends the first line of a table of so many rows.
 #[tactic(auto, using(crate::proofs::JsonPieces::json_head_pieces, std::proofs::Common::append_assoc))]
-pub fn put_json_head(
+fn put_first(
     alloc: Global,
     out: &mut String,
     columns: &[Column],
@@ -209,9 +208,8 @@ fn put_others(out: &mut String, counts: &HeadCounts) -> Result<(), AllocError>
     write!(out, "\"queries\":{queries},\"seals\":{seals}")
 }
 
-/// Appends the line of a row.
 #[tactic(auto, using(crate::proofs::JsonPieces::json_line_pieces, std::proofs::Common::append_assoc))]
-pub fn put_json_row(alloc: Global, out: &mut String, columns: &[Column], row: &Row) -> Result<(), AllocError>
+fn put_row(alloc: Global, out: &mut String, columns: &[Column], row: &Row) -> Result<(), AllocError>
     ensures { OnOk result (string_bytes out.new ≡ string_bytes out.old ++ json_line columns.now row.now) }
 {
     out.push('{')?;

@@ -2,7 +2,6 @@
 //! JSON Lines for machines.
 #![tactic(auto)]
 
-mod addition;
 mod changes;
 mod collected;
 mod column;
@@ -22,13 +21,12 @@ mod sums;
 mod table;
 mod table_sum;
 
-pub use addition::Addition;
 pub use changes::Both;
 pub use column::Column;
 pub use comparisons::comparison;
 pub use heads::{Head, HeadCounts};
 pub use json_changes::json_comparison;
-pub use json_lines::{JsonFault, fits, head_fits, json_table, put_json_head, put_json_row};
+pub use json_lines::{JsonFault, json_table};
 pub use key::Key;
 pub use rankings::ranking;
 pub use shown::Shown;

@@ -10,7 +10,7 @@ use crate::column::{Column, copies_of};
 use crate::groups::Groups;
 use crate::heads::Head;
 use crate::run::LedgerRun;
-use crate::table::{Table, table_of_groups};
+use crate::table::{Table, rows_of};
 use span_event::Text;
 use span_keyed_tracks::HashKeys;
 use span_ledger::Ledger;
@@ -160,6 +160,8 @@ impl TableSum {
             head,
             groups,
         } = self;
-        table_of_groups(columns, head, groups)
+        let alloc = groups.allocator();
+        let rows = rows_of(alloc, groups.into_entries()?)?;
+        Ok(Table::from_rows(columns, head, rows))
     }
 }

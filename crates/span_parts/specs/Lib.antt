@@ -1,5 +1,0 @@
-pub mod First
-pub mod Parts
-pub mod Rows
-pub mod Sum
-pub mod Tokens
