@@ -1,7 +1,7 @@
 -- The faults, each with its number and its word.
 use Rattle.std.specs.Prelude.{ℕ, List, [], ◌∷◌, Option, ◌==◌, find, codes}
 use Rattle.span_event.specs.declared.fault.Fault.{Fault}
-use Rattle.span_event.specs.declared.fault.Fault.TheVariants.{NotJson, NotTrace, TooLarge, TooMany, NotObject, NoPhase, NoTime, NotWhole, NoDuration, BadField, NoId, BadReach, BadSeries, NoOpenSpan, TimeGoesBack, NoOpenAsync, EndBeforeBegin, FlowOpen, NoFlow, NameDiffers, Memory, Full, Busy, CallersFull, FileCount, NotStarted, Unaccounted, Output, NotOpened, TooGreat, StacksTooLarge}
+use Rattle.span_event.specs.declared.fault.Fault.TheVariants.{NotJson, NotTrace, TooLarge, TooMany, NotObject, NoPhase, NoTime, NotWhole, NoDuration, BadField, NoId, BadReach, BadSeries, NoOpenSpan, TimeGoesBack, NoOpenAsync, EndBeforeBegin, FlowOpen, NoFlow, NameDiffers, Memory, Full, Busy, CallersFull, FileCount, NotStarted, Unaccounted, Output, NotOpened, NotTable, OtherColumns, TooGreat, StacksTooLarge}
 
 abbrev pub number_of : Fault → ℕ
 number_of NotJson = 1
@@ -33,6 +33,8 @@ number_of NotStarted = 42
 number_of Unaccounted = 43
 number_of Output = 51
 number_of NotOpened = 52
+number_of NotTable = 53
+number_of OtherColumns = 54
 number_of TooGreat = 55
 number_of StacksTooLarge = 56
 
@@ -66,6 +68,8 @@ word_of NotStarted = codes "NotStarted"
 word_of Unaccounted = codes "Unaccounted"
 word_of Output = codes "Output"
 word_of NotOpened = codes "NotOpened"
+word_of NotTable = codes "NotTable"
+word_of OtherColumns = codes "OtherColumns"
 word_of TooGreat = codes "TooGreat"
 word_of StacksTooLarge = codes "StacksTooLarge"
 
@@ -74,8 +78,8 @@ faults =
     NotJson ∷ NotTrace ∷ TooLarge ∷ TooMany ∷ NotObject ∷ NoPhase ∷ NoTime ∷ NotWhole ∷
     NoDuration ∷ BadField ∷ NoId ∷ BadReach ∷ BadSeries ∷ NoOpenSpan ∷ TimeGoesBack ∷
     NoOpenAsync ∷ EndBeforeBegin ∷ FlowOpen ∷ NoFlow ∷ NameDiffers ∷ Memory ∷ Full ∷ Busy ∷
-    CallersFull ∷ FileCount ∷ NotStarted ∷ Unaccounted ∷ Output ∷ NotOpened ∷ TooGreat ∷
-    StacksTooLarge ∷ []
+    CallersFull ∷ FileCount ∷ NotStarted ∷ Unaccounted ∷ Output ∷ NotOpened ∷ NotTable ∷
+    OtherColumns ∷ TooGreat ∷ StacksTooLarge ∷ []
 
 -- the fault that has this number, if there is one
 unfoldable pub fault_of : ℕ → Option Fault

@@ -63,6 +63,10 @@ pub enum Fault {
     Output = 51,
     /// 52: a file could not be opened or read.
     NotOpened = 52,
+    /// 53: a part to be added is not, byte for byte, the text of a table.
+    NotTable = 53,
+    /// 54: a part to be added has other columns than the first one, or lacks one that is asked for.
+    OtherColumns = 54,
     /// 55: a sum of a table that is told to a machine has more than 64 bits.
     TooGreat = 55,
     /// 56: the folded stacks have more names than they may.
@@ -111,6 +115,8 @@ impl Fault {
             Fault::Unaccounted => "Unaccounted",
             Fault::Output => "Output",
             Fault::NotOpened => "NotOpened",
+            Fault::NotTable => "NotTable",
+            Fault::OtherColumns => "OtherColumns",
             Fault::TooGreat => "TooGreat",
             Fault::StacksTooLarge => "StacksTooLarge",
         }
@@ -151,6 +157,8 @@ impl Fault {
             43 => Fault::Unaccounted,
             51 => Fault::Output,
             52 => Fault::NotOpened,
+            53 => Fault::NotTable,
+            54 => Fault::OtherColumns,
             55 => Fault::TooGreat,
             56 => Fault::StacksTooLarge,
             _ => return None,
