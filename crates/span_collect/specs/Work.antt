@@ -7,6 +7,8 @@ use Rattle.span_share.specs.Seats.{ShareId, Seated, IsSeatOf}
 use Rattle.span_collect.specs.declared.files.FileEnd.{FileEnd}
 use Rattle.span_collect.specs.declared.files.Input.{Input}
 use Rattle.span_collect.specs.declared.queries.Asked.{Asked}
+use Rattle.span_collect.specs.declared.workers.Worker.{Worker}
+use Rattle.span_collect.specs.declared.workers.Worker.TheVariants.{Thread, Here}
 use Rattle.span_collect.specs.Account.{Document, EndsAs, EachEndsAs, IsAsked, caller_named, callers_named, operations}
 
 -- a seat that owns one number, under which just these operations are recorded
@@ -36,6 +38,11 @@ pub record IsWorked (share : ShareId) (document : Document) (end : FileEnd) (sea
   pub alone : seat.owned ≡ seat.number ∷ []
   pub named : caller_named end ≡ Some seat.number
   pub ended : EndsAs seat.seen share.terms.limit document end
+
+-- the worker of a file: a thread that promises to have worked on it, or a new seat
+abbrev pub IsWorkerOf : ShareId → Input → Worker → Type 0
+IsWorkerOf share file (Thread handle) = IfSome handle (λ handle. (handle.promise.share.value ≡ share) × (handle.promise.file.value ≡ file))
+IsWorkerOf share file (Here seat) = IfSome seat (IsNewSeat share)
 
 -- a seat that has asked the queries and has met the workers of these files, whose numbers it owns in the files' order
 pub record HasMet (share : ShareId) (files : List Input) (asks : List Query) (ends : List FileEnd) (asked : Asked) (seat : Seated) : Type 0 where

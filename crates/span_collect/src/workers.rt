@@ -2,7 +2,7 @@
 ghost use Rattle.std.specs.Prelude.{◌≡◌, length, vec_capacity, All, IfSome, IfOk};
 ghost use Rattle.span_read.specs.Document.{doc};
 ghost use Rattle.span_share.specs.Seats.{IsSeatOf};
-ghost use Rattle.span_collect.specs.Work.{IsNewSeat, IsWorked, HasMet, IsReadyToWork};
+ghost use Rattle.span_collect.specs.Work.{IsNewSeat, IsWorked, IsWorkerOf, HasMet, IsReadyToWork};
 
 use crate::files::{FileEnd, Input};
 use crate::gate::Gate;
@@ -98,8 +98,59 @@ fn start_worker<'s, E, G: Gate, R: Wait + Sync>(
         .ok()
 }
 
+// The worker of one file: a thread, or nothing but its seat, with which the calling thread works. None where there is none.
+enum Worker {
+    Thread(Option<PromisedHandle<(FileEnd, Seat), Worked>>),
+    Here(Option<Seat>),
+}
+
+// Where no query is asked, the calling thread has nothing to do beside, so it is the first file's worker.
+fn worker_of<'s, E, G: Gate, R: Wait + Sync>(
+    rt: &'s R,
+    alloc: Global,
+    scope: &Scope<'s, E>,
+    share: &'s Share,
+    workplace: &Workplace<'s, G>,
+    place: u32,
+    asks: &[Query],
+    file: &'s Input,
+    seat: Option<Seat>,
+) -> Worker
+    requires { IfSome seat (IsNewSeat share.now) }
+    ensures { IsWorkerOf share.now file.now result }
+{
+    if place == 0 && asks.is_empty() {
+        return Worker::Here(seat);
+    }
+    Worker::Thread(start_worker(rt, alloc, scope, share, workplace, place, file, seat))
+}
+
+// How a worker's file ended, and its seat, if it has one.
+fn finish<G: Gate, R: Threads + Wait>(
+    rt: &R,
+    alloc: Global,
+    share: &Share,
+    workplace: &Workplace<G>,
+    place: u32,
+    file: &Input,
+    worker: Worker,
+) -> Option<(FileEnd, Seat)>
+    requires { IsWorkerOf share.now file.now worker }
+    ensures { IfSome result (λ worked. IsWorked share.now (doc file.now.bytes.items) worked.0 worked.1) }
+{
+    match worker {
+        Worker::Thread(handle) => Some(handle?.join(rt)),
+        Worker::Here(seat) => {
+            let mut seat = seat?;
+            let (gate, places) = (workplace.gate, workplace.places);
+            let end = work(rt, alloc, share, gate, places, place, file, &mut seat);
+            Some((end, seat))
+        }
+    }
+}
+
 // Starts the last file's worker and, by itself, those of the other files; the innermost call makes room for the entries and asks
-// the queries. Then joins the one worker and meets its seat.
+// the queries. Then waits for the one worker and meets its seat.
 fn work_all<'s, E, G: Gate, R: Threads + Wait + Sync>(
     rt: &'s R,
     alloc: Global,
@@ -131,13 +182,12 @@ fn work_all<'s, E, G: Gate, R: Threads + Wait + Sync>(
     };
     let place = others.len() as u32;
     let seat = seats.pop().flatten();
-    let handle = start_worker(rt, alloc, scope, share, workplace, place, file, seat);
+    let worker = worker_of(rt, alloc, scope, share, workplace, place, asks, file, seat);
     let asked = work_all(
         rt, alloc, scope, share, workplace, others, asks, seats, main, ends,
     );
-    let end = match handle {
-        Some(handle) => {
-            let (end, seat) = handle.join(rt);
+    let end = match finish(rt, alloc, share, workplace, place, file, worker) {
+        Some((end, seat)) => {
             share.meet(main, seat);
             end
         }

@@ -1,9 +1,7 @@
 use Rattle.std.proofs.Common.{arith}
 use Rattle.std.proofs.lemmas.Slice.Zip.{AllZip-long}
-use Rattle.span_read.specs.Document.{doc}
-use Rattle.span_collect.specs.Work.{IsWorked}
 use Rattle.span_collect.proofs.Meeting.{HasMet-joined, HasMet-not_started}
-use Rattle.span_collect.proofs.workers.+work_all.Goals.{in-Some-handle, in-None}
+use Rattle.span_collect.proofs.workers.+work_all.Goals.{in-Some-finish, in-None}
 use Rattle.span_collect.proofs.workers.+work_all.Goals as goal
 
 -- the other files have an end each, and there is room for one more
@@ -25,10 +23,9 @@ returns-clause-met g t c =
     let met = c.work_all-asked.ensures.met in
     let file = c.in-Some.file.now in
     let split = c.in-Some.ensures.cases.0 in
-    elim c.match-handle.branch [
-      | in-Some-handle w ↦
-          let worked : IsWorked share (doc file.bytes.items) w.join-end.result.0 w.join-end.result.1 = rw (w.in-Some-handle.ensures.share, w.in-Some-handle.ensures.file) at w.join-end.ensures in
-          rw (w.main-is, c.push_reserved.ensures.items, w.end-is, split) (HasMet-joined share others asks ends asked main met file w.join-end.result.0 w.join-end.result.1 w.meet.new.seat worked w.meet.ensures.seat w.meet.ensures.gathered)
+    elim c.match-finish.branch [
+      | in-Some-finish w ↦
+          rw (w.main-is, c.push_reserved.ensures.items, w.end-is, split) (HasMet-joined share others asks ends asked main met file w.in-Some-finish.end w.in-Some-finish.seat w.meet.new.seat w.in-Some-finish.ensures w.meet.ensures.seat w.meet.ensures.gathered)
       | in-None w ↦
           rw (w.main-is, c.push_reserved.ensures.items, w.end-is, split) (HasMet-not_started share others asks ends asked main met file)
     ]
