@@ -78,7 +78,7 @@ module _ (f : Head → ℕ) (adds : (heads : List Head) → f (heads_together he
           ∙ sym (ap (sum_by f) (map-append head_of part (flat_map (λ part. part) parts)) ∙ sum_by-append f (map head_of part) (map head_of (flat_map (λ part. part) parts)))
 
 -- heads, where each number of them is the same
-head-same : (a b : Head) → ((f : Head → ℕ) → ((heads : List Head) → f (heads_together heads) ≡ sum_by f heads) → f a ≡ f b) → a ≡ b
+pub head-same : (a b : Head) → ((f : Head → ℕ) → ((heads : List Head) → f (heads_together heads) ≡ sum_by f heads) → f a ≡ f b) → a ≡ b
 head-same a b same =
     let runs = same (λ (h : Head). h.runs) (λ heads. refl) in
     let files = same (λ (h : Head). h.files) (λ heads. refl) in

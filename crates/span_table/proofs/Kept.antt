@@ -1,22 +1,25 @@
--- What is kept of runs, once more is added.
+-- What is kept of runs and of rows, once more is added.
 use Rattle.std.proofs.Common.{◌≡◌, ℕ, ◌+◌, ◌*◌, ◌^◌, ◌<◌, List, [], ◌∷◌, ◌++◌, append-nil, map, refl, sym, ap, ap₂, subst, ◌∙◌, arith}
-use Rattle.std.specs.Prelude.{All, OnOk, Result, Ok, Err}
+use Rattle.std.specs.Prelude.{All, OnOk, Result, Ok, Err, true, ◌&&◌, nat_lt}
+use Rattle.std.proofs.lemmas.Bool.{ltb-true}
 use Rattle.std.specs.declared.alloc.AllocError.{AllocError}
 use Rattle.std.specs.List.Sorted.{IsStrictlySortedBy}
 use Rattle.std.specs.Map.{values_of}
 use Rattle.std.proofs.lemmas.List.Elements.{All-cons, All-nil}
 use Rattle.span_keyed_tracks.specs.Keyed.{entry_of, keys_in, steps_at}
 use Rattle.span_keyed_tracks.proofs.Keyed.{kept_at-entries_in}
+use Rattle.span_keyed_tracks.proofs.Matching.Closed.{both_true}
 use Rattle.span_table.specs.declared.column.Column.{Column}
 use Rattle.span_table.specs.declared.heads.Head.{Head}
 use Rattle.span_table.specs.declared.sums.Sums.{Sums}
 use Rattle.span_table.specs.declared.table.Row.{Row}
-use Rattle.span_table.specs.Adding.{JoinsRuns, TakesRuns, add_tables, keyed_rows, with_run}
-use Rattle.span_table.specs.Collected.{AllWithin, IsWithin, Takes, with_sums}
+use Rattle.span_table.specs.Adding.{JoinsRuns, TakesRuns, add_tables, keyed_row, keyed_rows, with_row, with_run}
+use Rattle.span_table.specs.Collected.{AllWithin, GrowsBy, IsWithin, Takes, with_sums}
 use Rattle.span_table.specs.Columns.{Run}
 use Rattle.span_table.specs.Heads.{IsHeadWithin}
 use Rattle.span_table.specs.KeyLaws.{key_cmp_total, key_cmp-same}
-use Rattle.span_table.specs.Kept.{IsKept}
+use Rattle.span_table.specs.Json.{fit}
+use Rattle.span_table.specs.Kept.{IsAdded, IsKept}
 use Rattle.span_table.specs.Keys.{TableKey, key_cmp}
 use Rattle.span_table.specs.Tables.{KeyedSums, RowsRise, SpanTable, SumsByKey, head_of, heads_together, row_of, rows_of, run_sums, summed, sums_together, table_of}
 use Rattle.span_table.proofs.AddedTables.{add_tables-parts, rows-back, rows_of-alike}
@@ -178,3 +181,34 @@ IsKept-none = record {
   rise = tt;
   within = All-nil (IsWithin (0 * 2 ^ 160));
 }
+
+-- nothing is kept of no tables
+pub IsAdded-none : IsAdded 0 0 (heads_together []) []
+IsAdded-none = record { few = omega arith; numbers = IsKept-none.numbers; rise = IsKept-none.rise; within = All-nil (IsWithin (0 * 2 ^ 64)) }
+
+-- sums that have 64 bits
+pub fit-within : (sums : Sums) → fit sums ≡ true → IsWithin (2 ^ 64) sums
+fit-within sums fits =
+    let all = both_true (nat_lt sums.count (2 ^ 64)) (nat_lt sums.total (2 ^ 64) && nat_lt sums.self_time (2 ^ 64)) fits in
+    let times = both_true (nat_lt sums.total (2 ^ 64)) (nat_lt sums.self_time (2 ^ 64)) all.1 in
+    let count = ltb-true sums.count (2 ^ 64) all.0 in
+    let total = ltb-true sums.total (2 ^ 64) times.0 in
+    let self_time = ltb-true sums.self_time (2 ^ 64) times.1 in
+    record { count = omega (arith, count); total = omega (arith, total); self_time = omega (arith, self_time) }
+
+-- what is kept stays within its bounds with one more row
+pub IsAdded-row : (heads rows : ℕ) (head : Head) (old new : SumsByKey) (row : Row) → fit row.sums ≡ true → IsAdded heads rows head old → Takes old new (keyed_row row ∷ []) →
+    ((n : ℕ) → IsWithin n row.sums → GrowsBy n old new) → IsAdded heads (rows + 1) head new
+IsAdded-row heads rows head old new row fits kept takes grows =
+    let more : rows * 2 ^ 64 + 2 ^ 64 ≡ (rows + 1) * 2 ^ 64 = omega arith in
+    record {
+      few = kept.few;
+      numbers = kept.numbers;
+      rise = rise-taken old new (keyed_row row ∷ []) kept.rise takes;
+      within = subst (λ n. AllWithin n new) more (grows (2 ^ 64) (fit-within row.sums fits) (rows * 2 ^ 64) kept.within);
+    }
+
+-- a row that is taken makes the table with this row
+pub with_row-taken : (columns : List Column) (head : Head) (old new : SumsByKey) (row : Row) → RowsRise (map row_of old) → Takes old new (keyed_row row ∷ []) →
+    table_kept columns head new ≡ with_row (table_kept columns head old) row
+with_row-taken columns head old new row rise takes = λ i. record { columns = columns; head = head; rows = rows-taken old new (keyed_row row ∷ []) rise takes i }

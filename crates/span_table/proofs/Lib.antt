@@ -8,8 +8,11 @@ pub mod Itself
 pub mod JsonPieces
 pub mod Kept
 pub mod OwnRows
+pub mod PartsTold
 pub mod Permuted
 pub mod Pieces
+pub mod Printed
+pub mod PrintedLines
 pub mod Rows
 pub mod SameTables
 pub mod Substrings

@@ -3,6 +3,7 @@ use Rattle.std.specs.Prelude.{◌≡◌, ℕ, List, [], ◌∷◌, ◌++◌, map
 use Rattle.std.specs.List.Sorted.{IsPermutation}
 use Rattle.span_keyed_tracks.specs.Keyed.{Keyed}
 use Rattle.span_table.specs.declared.column.Column.{Column}
+use Rattle.span_table.specs.declared.heads.Head.{Head}
 use Rattle.span_table.specs.declared.sums.Sums.{Sums}
 use Rattle.span_table.specs.declared.table.Row.{Row}
 use Rattle.span_table.specs.Keys.{TableKey}
@@ -22,6 +23,14 @@ add_tables columns tables = record {
   head = heads_together (map (λ (table : SpanTable). table.head) tables);
   rows = rows_of (flat_map (λ (table : SpanTable). keyed_rows table.rows) tables);
 }
+
+-- a table with the head of another added, and none of its rows
+abbrev pub with_head : SpanTable → Head → SpanTable
+with_head table head = record { columns = table.columns; head = heads_together (table.head ∷ head ∷ []); rows = table.rows }
+
+-- a table with a row of another added
+abbrev pub with_row : SpanTable → Row → SpanTable
+with_row table row = record { columns = table.columns; head = table.head; rows = rows_of (keyed_rows table.rows ++ keyed_row row ∷ []) }
 
 -- a table with a run added
 abbrev pub with_run : SpanTable → Run → SpanTable

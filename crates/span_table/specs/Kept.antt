@@ -1,12 +1,20 @@
--- What is kept of runs that are added: no run adds more than 2^160 to a sum of a key, and 2^64 to a number of the head.
-use Rattle.std.specs.Prelude.{◌*◌, ◌<◌, ◌^◌, map}
+-- What is kept of what is added.
+use Rattle.std.specs.Prelude.{ℕ, ◌*◌, ◌<◌, ◌^◌, map}
 use Rattle.span_table.specs.declared.heads.Head.{Head}
 use Rattle.span_table.specs.Collected.{AllWithin}
 use Rattle.span_table.specs.Heads.{IsHeadWithin}
 use Rattle.span_table.specs.Tables.{RowsRise, SumsByKey, row_of}
 
+-- of runs: none adds more than 2^160 to a sum of a key, and 2^64 to a number of the head
 pub record IsKept (head : Head) (sums : SumsByKey) : Type 0 where
   pub few : head.runs < 2 ^ 32
   pub numbers : IsHeadWithin (head.runs * 2 ^ 64) head
   pub rise : RowsRise (map row_of sums)
   pub within : AllWithin (head.runs * 2 ^ 160) sums
+
+-- of heads and rows of tables: none adds more than 2^64 to a number
+pub record IsAdded (heads rows : ℕ) (head : Head) (sums : SumsByKey) : Type 0 where
+  pub few : heads < 2 ^ 32
+  pub numbers : IsHeadWithin (heads * 2 ^ 64) head
+  pub rise : RowsRise (map row_of sums)
+  pub within : AllWithin (rows * 2 ^ 64) sums

@@ -14,9 +14,11 @@ pub mod Keys
 pub mod Laws
 pub mod Lines
 pub mod Pieces
+pub mod Printed
 pub mod Ranking
 pub mod Ranks
 pub mod Shown
 pub mod SumLaws
 pub mod Tables
 pub mod TextLaws
+pub mod Tokens

@@ -1,7 +1,11 @@
 //! The columns by which spans are summed.
-ghost use Rattle.std.specs.Prelude.{◌≡◌, option_copied, option_map, IfOk};
+ghost use Rattle.std.specs.Prelude.{◌≡◌, ◌≢◌, ◌<◌, [], ◌++◌, codes, length, option_copied, option_map, true, IfOk, IfSome, Some};
 ghost use Rattle.span_event.specs.declared.args.ArgValue.TheVariants.{Words};
+ghost use Rattle.span_event.specs.Text.{Bytes};
+ghost use Rattle.span_table.specs.declared.column.Column.{Column};
+ghost use Rattle.span_table.specs.declared.column.Column.TheVariants.{Argument};
 ghost use Rattle.span_table.specs.Columns.{column_name, is_argument, value_at};
+ghost use Rattle.span_table.specs.Printed.{is_column};
 
 use crate::run::LedgerRun;
 use span_event::{ArgValue, Args, Text, Thread};
@@ -22,6 +26,24 @@ pub enum Column {
 }
 
 impl Column {
+    /// The column of this name, as `name` gives it: `pid`, `tid`, `process`, `thread`, `name`, `file`, or `args.KEY` with whatever
+    /// KEY that is not empty. None where no column has the name.
+    pub fn named(alloc: Global, name: &str) -> Result<Option<Column>, AllocError>
+        ensures name { IfOk result (λ found. IfSome found (λ column. column_name column ≡ name.now)) }
+        ensures found { IfOk result (λ found. (column : Column) → is_column column ≡ true → column_name column ≡ name.now → found ≡ Some column) }
+        ensures key { IfOk result (λ found. found ≢ Some (Argument [])) }
+    {
+        match name {
+            "pid" => Ok(Some(Column::Pid)),
+            "tid" => Ok(Some(Column::Tid)),
+            "process" => Ok(Some(Column::Process)),
+            "thread" => Ok(Some(Column::Thread)),
+            "name" => Ok(Some(Column::Name)),
+            "file" => Ok(Some(Column::File)),
+            _ => argument_named(alloc, name),
+        }
+    }
+
     /// What the column is called.
     pub fn name(&self, alloc: Global) -> Result<Text, AllocError>
         ensures { IfOk result (λ name. name ≡ column_name self.now) }
@@ -84,6 +106,17 @@ impl Column {
     }
 }
 
+fn argument_named(alloc: Global, name: &str) -> Result<Option<Column>, AllocError>
+    ensures name { IfOk result (λ found. IfSome found (λ column. column_name column ≡ name.now)) }
+    ensures found { IfOk result (λ found. (key : Bytes) → 0 < length key → codes "args." ++ key ≡ name.now → found ≡ Some (Argument key)) }
+    ensures key { IfOk result (λ found. found ≢ Some (Argument [])) }
+{
+    match name.strip_prefix("args.") {
+        Some(key) if !key.is_empty() => Ok(Some(Column::Argument(Text::of(alloc, key)?))),
+        _ => Ok(None),
+    }
+}
+
 fn words_of(alloc: Global, name: Option<&Text>) -> Result<Option<ArgValue>, AllocError>
     ensures { IfOk result (λ value. value ≡ option_map Words (option_copied name.entry)) }
 {
@@ -103,7 +136,7 @@ fn copy_of(alloc: Global, value: Option<&ArgValue>) -> Result<Option<ArgValue>, 
 }
 
 /// Copies of the columns.
-pub(crate) fn copies_of(alloc: Global, columns: &[Column]) -> Result<Vec<Column>, AllocError>
+pub fn copies_of(alloc: Global, columns: &[Column]) -> Result<Vec<Column>, AllocError>
     ensures { IfOk result (λ copies. copies.items ≡ columns.now) }
 {
     let mut copies = Vec::with_capacity(alloc, columns.len())?;

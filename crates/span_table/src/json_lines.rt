@@ -3,10 +3,11 @@ ghost use Rattle.std.specs.Prelude.{◌≡◌, ◌^◌, nat_lt, ◌++◌, ◌∷
 ghost use Rattle.std.specs.List.{join_with_byte, list_all};
 ghost use Rattle.span_table.specs.declared.json_lines.JsonFault.TheVariants.{TooGreat};
 ghost use Rattle.span_table.specs.Json.{column_json, columns_json, counts_fit, fit, head_fits, json_fits, json_head, json_line, json_of, json_of_value};
-ghost use Rattle.span_table.specs.JsonPieces.{count_text, end_text, events_text, files_text, head_text, member_text, members_text, others_text, start_text, sums_text};
+ghost use Rattle.span_table.specs.JsonPieces.{count_text, end_text, events_text, files_text, head_text, member_text, members_text, others_text, start_text};
 
 use crate::column::Column;
 use crate::heads::{Head, HeadCounts};
+use crate::json_rows::{column_names, with_json_row};
 use crate::shown::{Shown, ShownRow};
 use crate::sums::Sums;
 use crate::table::{Row, Table};
@@ -48,7 +49,7 @@ fn all_fit(rows: &[ShownRow]) -> bool
 }
 
 /// Whether the sums have 64 bits.
-pub(crate) fn fits(sums: &Sums) -> bool
+pub fn fits(sums: &Sums) -> bool
     ensures { result ≡ fit sums.now }
 {
     sums.count.as_u64().is_some()
@@ -57,7 +58,7 @@ pub(crate) fn fits(sums: &Sums) -> bool
 }
 
 /// Whether the numbers of the head have 64 bits.
-pub(crate) fn head_fits(head: &Head) -> bool
+pub fn head_fits(head: &Head) -> bool
     ensures { result ≡ head_fits head.now }
 {
     is_narrow(head.runs)
@@ -84,19 +85,24 @@ fn is_narrow(number: u128) -> bool
 }
 
 fn text_of(alloc: Global, table: &Table, rows: &[ShownRow]) -> Result<Vec<u8>, AllocError>
+    requires { list_all (λ row. fit row.sums) rows.now ≡ true }
     ensures { IfOk result (λ text. text.items
         ≡ json_head table.now.columns (length rows.now) table.now.head ++ flat_map (json_line table.now.columns) rows.now) }
 {
     let mut out = String::new(alloc);
-    put_first(alloc, &mut out, table.columns(), rows.len(), table.head())?;
+    put_json_head(alloc, &mut out, table.columns(), rows.len(), table.head())?;
+    let columns = table.columns();
+    let names = column_names(alloc, columns)?;
+    let mut out = out.into_bytes();
     for shown in rows {
-        put_row(alloc, &mut out, table.columns(), shown.row)?;
+        out = with_json_row(out, columns, &names, shown.row)?;
     }
-    Ok(out.into_bytes())
+    Ok(out)
 }
 
+/// Appends the first line of a table of so many rows.
 #[tactic(auto, using(crate::proofs::JsonPieces::json_head_pieces, std::proofs::Common::append_assoc))]
-fn put_first(
+pub fn put_json_head(
     alloc: Global,
     out: &mut String,
     columns: &[Column],
@@ -206,29 +212,6 @@ fn put_others(out: &mut String, counts: &HeadCounts) -> Result<(), AllocError>
 {
     let (queries, seals) = (counts.queries, counts.seals);
     write!(out, "\"queries\":{queries},\"seals\":{seals}")
-}
-
-#[tactic(auto, using(crate::proofs::JsonPieces::json_line_pieces, std::proofs::Common::append_assoc))]
-fn put_row(alloc: Global, out: &mut String, columns: &[Column], row: &Row) -> Result<(), AllocError>
-    ensures { OnOk result (string_bytes out.new ≡ string_bytes out.old ++ json_line columns.now row.now) }
-{
-    out.push('{')?;
-    put_members(alloc, out, columns, row.key.values())?;
-    put_sums(alloc, out, &row.sums)?;
-    put_end(out)
-}
-
-#[tactic(auto, unfolding(crate::specs::JsonPieces::sums_text))]
-fn put_sums(alloc: Global, out: &mut String, sums: &Sums) -> Result<(), AllocError>
-    ensures { OnOk result (string_bytes out.new ≡ string_bytes out.old ++ sums_text sums.now) }
-{
-    let count = sums.count.shown(alloc)?;
-    let total = sums.total.shown(alloc)?;
-    let self_time = sums.self_time.shown(alloc)?;
-    write!(
-        out,
-        "\"count\":{count},\"total\":{total},\"self\":{self_time}"
-    )
 }
 
 /// Appends each column with its value and a comma, if it has a value.

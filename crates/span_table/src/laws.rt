@@ -1,6 +1,7 @@
 //! The facts that hold of every table.
 ghost use Rattle.span_table.specs.Adding.{AddingLosesNothing, DroppingAdds, OrderIsNothing};
 ghost use Rattle.span_table.specs.Laws.{KeysStandOnce, RowsAddUpToBusy, RowsAreSpanRows, TablesFollowFromActs};
+ghost use Rattle.span_table.specs.Printed.{PartsAreTold};
 ghost use Rattle.span_table.specs.TextLaws.{ComparisonsTurn, DifferencesTurn, RankingsHaveEachRow, TablesCompareWithThemselves};
 
 /// The table of runs follows from how many entries their journals have of each kind, and from their accepted acts on each topic, in
@@ -50,4 +51,9 @@ pub fn same_law()
 pub fn turn_law()
     ensures changes { ComparisonsTurn }
     ensures differences { DifferencesTurn }
+{}
+
+/// Two tables that are printed alike are the same. The function does nothing: its contract is the law.
+pub fn part_law()
+    ensures { PartsAreTold }
 {}

@@ -2,6 +2,7 @@
 //! JSON Lines for machines.
 #![tactic(auto)]
 
+mod addition;
 mod changes;
 mod collected;
 mod column;
@@ -10,6 +11,7 @@ mod groups;
 mod heads;
 mod json_changes;
 mod json_lines;
+mod json_rows;
 mod key;
 pub mod laws;
 mod lines;
@@ -21,12 +23,14 @@ mod sums;
 mod table;
 mod table_sum;
 
+pub use addition::Addition;
 pub use changes::Both;
-pub use column::Column;
+pub use column::{Column, copies_of};
 pub use comparisons::comparison;
 pub use heads::{Head, HeadCounts};
 pub use json_changes::json_comparison;
-pub use json_lines::{JsonFault, json_table};
+pub use json_lines::{JsonFault, fits, head_fits, json_table, put_json_head};
+pub use json_rows::{column_names, with_json_row};
 pub use key::Key;
 pub use rankings::ranking;
 pub use shown::Shown;

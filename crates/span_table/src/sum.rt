@@ -39,7 +39,7 @@ impl Sum {
         Sum { high: 0, low: 0 }
     }
 
-    pub(crate) fn of(number: u128) -> Sum
+    pub fn of(number: u128) -> Sum
         ensures { result ≡ number }
     {
         Sum {

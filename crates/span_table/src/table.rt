@@ -4,6 +4,7 @@ ghost use Rattle.span_table.specs.Columns.{run_of};
 ghost use Rattle.span_table.specs.Tables.{RowsRise, row_of, table_of};
 
 use crate::column::Column;
+use crate::groups::Groups;
 use crate::heads::Head;
 use crate::key::Key;
 use crate::run::LedgerRun;
@@ -97,8 +98,22 @@ impl Table {
     }
 }
 
-/// The rows of keys with their sums.
-pub(crate) fn rows_of(alloc: Global, sums: Vec<(Key, Sums)>) -> Result<Vec<Row>, AllocError>
+/// The table of what is kept, its rows put in order.
+pub(crate) fn table_of_groups(
+    columns: Vec<Column>,
+    head: Head,
+    groups: Groups,
+) -> Result<Table, AllocError>
+    requires { RowsRise (map row_of groups) }
+    ensures { IfOk result (λ table. table ≡ record { columns = columns.items; head = head; rows = map row_of groups }) }
+{
+    let alloc = groups.allocator();
+    let rows = rows_of(alloc, groups.into_entries()?)?;
+    Ok(Table::from_rows(columns, head, rows))
+}
+
+// The rows of keys with their sums.
+fn rows_of(alloc: Global, sums: Vec<(Key, Sums)>) -> Result<Vec<Row>, AllocError>
     ensures { IfOk result (λ rows. rows.items ≡ map row_of sums.items) }
 {
     let mut rows = Vec::with_capacity(alloc, sums.len())?;

@@ -10,7 +10,7 @@ use crate::column::{Column, copies_of};
 use crate::groups::Groups;
 use crate::heads::Head;
 use crate::run::LedgerRun;
-use crate::table::{Table, rows_of};
+use crate::table::{Table, table_of_groups};
 use span_event::Text;
 use span_keyed_tracks::HashKeys;
 use span_ledger::Ledger;
@@ -160,8 +160,6 @@ impl TableSum {
             head,
             groups,
         } = self;
-        let alloc = groups.allocator();
-        let rows = rows_of(alloc, groups.into_entries()?)?;
-        Ok(Table::from_rows(columns, head, rows))
+        table_of_groups(columns, head, groups)
     }
 }

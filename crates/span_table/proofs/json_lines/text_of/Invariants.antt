@@ -1,7 +1,7 @@
-use Rattle.std.proofs.Common.{◌≡◌, ◌++◌, length, take, flat_map, string_bytes}
+use Rattle.std.proofs.Common.{◌≡◌, ◌++◌, length, take, flat_map}
 use Rattle.span_table.specs.Json.{json_head, json_line}
 use Rattle.span_table.proofs.json_lines.text_of.Given as goal
 
 -- the first line, and the lines of those so far
 abbrev pub invariant-loop-shown : goal.invariant-loop-shown
-invariant-loop-shown l = string_bytes l.out ≡ json_head l.table.columns (length l.rows) l.table.head ++ flat_map (json_line l.table.columns) (take l.shown-index l.rows)
+invariant-loop-shown l = l.out.items ≡ json_head l.table.columns (length l.rows) l.table.head ++ flat_map (json_line l.table.columns) (take l.shown-index l.rows)

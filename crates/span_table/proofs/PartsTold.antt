@@ -1,0 +1,195 @@
+-- Two tables that are printed alike are the same.
+use Rattle.std.proofs.Common.{◌≡◌, ◌≢◌, ℕ, ◌^◌, ◌<◌, ◌==◌, cond, true, List, [], ◌∷◌, ◌++◌, All, drop, flat_map, get_or, length, map, refl, sym, ap, subst, ◌∙◌, Some, None, append_assoc, arith, codes}
+use Rattle.std.proofs.lemmas.Fmt.{decimal_injective, signed_decimal_injective}
+use Rattle.std.proofs.lemmas.List.Elements.{All-head, All-tail}
+use Rattle.json.specs.Lex.{tokens}
+use Rattle.json.specs.Print.{print}
+use Rattle.json.specs.Token.{Token, end_array, end_object, key}
+use Rattle.span_event.specs.declared.args.ArgValue.{ArgValue}
+use Rattle.span_event.specs.declared.args.ArgValue.TheVariants.{Nil, Flag, Whole, Words, Other}
+use Rattle.span_event.specs.Text.{Bytes}
+use Rattle.span_table.specs.declared.column.Column.{Column}
+use Rattle.span_table.specs.declared.column.Column.TheVariants.{Pid, Tid, Process, Thread, Name, File, Argument}
+use Rattle.span_table.specs.declared.heads.Head.{Head}
+use Rattle.span_table.specs.declared.sums.Sums.{Sums}
+use Rattle.span_table.specs.declared.table.Row.{Row}
+use Rattle.span_table.specs.Columns.{column_name}
+use Rattle.span_table.specs.Json.{fit, json_line}
+use Rattle.span_table.specs.Keys.{TableKey}
+use Rattle.span_table.specs.Printed.{AreDistinct, IsKeyOf, IsRowOf, IsTable, MayHave, PartsAreTold, text_of}
+use Rattle.span_table.specs.Tables.{SpanTable}
+use Rattle.span_table.specs.Tokens.{head_tokens, key_tokens, name_tokens, numbers_tokens, row_tokens, sums_tokens, value_tokens}
+use Rattle.span_table.proofs.Printed.{json_head-print, json_line-print}
+use Rattle.span_table.proofs.PrintedLines.{AreSmall, IsLine, head_small, print_head-IsLine, print_row-IsLine, sums_small, tokens-head, tokens-row, whole_fits}
+
+-- two texts are the same if their first lines are, and what follows these
+line-told : (a b r s : Bytes) → IsLine a → IsLine b → a ++ 10 ∷ r ≡ b ++ 10 ∷ s → (a ≡ b) × (r ≡ s)
+line-told [] [] r s h k e = (refl, ap (drop 1) e)
+line-told [] (y ∷ b) r s h k e = absurd (k.0 (sym (ap (λ l. get_or l 0 0) e)))
+line-told (x ∷ a) [] r s h k e = absurd (h.0 (ap (λ l. get_or l 0 0) e))
+line-told (x ∷ a) (y ∷ b) r s h k e =
+    let same : x ≡ y = ap (λ l. get_or l 0 0) e in
+    let rest = line-told a b r s h.1 k.1 (ap (drop 1) e) in
+    (λ i. same i ∷ rest.0 i, rest.1)
+
+-- the column that is called so
+column_called : Bytes → Column
+column_called name =
+    cond (get_or name 0 0 == 97) (Argument (drop 5 name))
+    (cond (get_or name 0 0 == 102) File
+    (cond (get_or name 0 0 == 110) Name
+    (cond (get_or name 0 0 == 112) (cond (get_or name 1 0 == 105) Pid Process) (cond (get_or name 1 0 == 105) Tid Thread))))
+
+column_called-name : (column : Column) → column_called (column_name column) ≡ column
+unfolding column_called
+column_called-name Pid = refl
+column_called-name Tid = refl
+column_called-name Process = refl
+column_called-name Thread = refl
+column_called-name Name = refl
+column_called-name File = refl
+column_called-name (Argument name) = refl
+
+-- two columns with the same name are the same
+pub column_name-injective : (column other : Column) → column_name column ≡ column_name other → column ≡ other
+column_name-injective column other e = sym (column_called-name column) ∙ ap column_called e ∙ column_called-name other
+
+-- no column is called `count`
+count-no_column : (column : Column) → column_name column ≢ codes "count"
+count-no_column Pid e = omega (arith, ap (λ l. get_or l 0 0) e)
+count-no_column Tid e = omega (arith, ap (λ l. get_or l 0 0) e)
+count-no_column Process e = omega (arith, ap (λ l. get_or l 0 0) e)
+count-no_column Thread e = omega (arith, ap (λ l. get_or l 0 0) e)
+count-no_column Name e = omega (arith, ap (λ l. get_or l 0 0) e)
+count-no_column File e = omega (arith, ap (λ l. get_or l 0 0) e)
+count-no_column (Argument name) e = omega (arith, ap (λ l. get_or l 0 0) e)
+
+names-told : (columns others : List Column) (ts us : List Token) → name_tokens columns ++ end_array ∷ ts ≡ name_tokens others ++ end_array ∷ us → (columns ≡ others) × (ts ≡ us)
+names-told [] [] ts us e = (refl, ap (drop 1) e)
+names-told [] (other ∷ others) ts us e = absurd (cc e)
+names-told (column ∷ columns) [] ts us e = absurd (cc e)
+names-told (column ∷ columns) (other ∷ others) ts us e =
+    let called : column_name column ≡ column_name other = cc e in
+    let same = column_name-injective column other called in
+    let rest = names-told columns others ts us (ap (drop 1) e) in
+    (λ i. same i ∷ rest.0 i, rest.1)
+
+value-told : (column : Column) (value second : ArgValue) (ts us : List Token) → MayHave column (Some value) → MayHave column (Some second) → value_tokens value ++ ts ≡ value_tokens second ++ us → (value ≡ second) × (ts ≡ us)
+value-told column Nil Nil ts us h k e = (refl, ap (drop 1) e)
+value-told column (Flag flag) (Flag other) ts us h k e = let same : flag ≡ other = cc e in (ap Flag same, ap (drop 1) e)
+value-told column (Whole whole) (Whole other) ts us h k e =
+    (ap Whole (signed_decimal_injective whole other (whole_fits column whole h).sfits (whole_fits column other k).sfits (cc e)), ap (drop 1) e)
+value-told column (Words text) (Words other) ts us h k e = let same : text ≡ other = cc e in (ap Words same, ap (drop 1) e)
+value-told column Other Other ts us h k e = (refl, ap (drop 2) e)
+value-told column value second ts us h k e = absurd (cc e)
+
+-- where a column that none of these is has a value, it stands first
+missing-told : (columns : List Column) (values : TableKey) (name : Bytes) (ts us : List Token) → All (λ other. name ≢ other) (map column_name columns) → name ≢ codes "count"
+    → key_tokens columns values ++ key (codes "count") ∷ ts ≡ key name ∷ us → ⊥
+missing-told [] values name ts us h k e = k (let same : name ≡ codes "count" = cc e in same)
+missing-told (column ∷ columns) [] name ts us h k e = k (let same : name ≡ codes "count" = cc e in same)
+missing-told (column ∷ columns) (None ∷ values) name ts us h k e = missing-told columns values name ts us (All-tail (λ other. name ≢ other) (column_name column) (map column_name columns) h) k e
+missing-told (column ∷ columns) (Some value ∷ values) name ts us h k e =
+    All-head (λ other. name ≢ other) (column_name column) (map column_name columns) h (let same : name ≡ column_name column = cc e in same)
+
+key-told : (columns : List Column) (values others : TableKey) (ts us : List Token) → AreDistinct (map column_name columns) → IsKeyOf columns values → IsKeyOf columns others
+    → key_tokens columns values ++ key (codes "count") ∷ ts ≡ key_tokens columns others ++ key (codes "count") ∷ us → (values ≡ others) × (ts ≡ us)
+key-told [] [] [] ts us d h k e = (refl, ap (drop 1) e)
+key-told [] [] (other ∷ others) ts us d h k e = absurd k
+key-told [] (value ∷ values) others ts us d h k e = absurd h
+key-told (column ∷ columns) [] others ts us d h k e = absurd h
+key-told (column ∷ columns) (value ∷ values) [] ts us d h k e = absurd k
+key-told (column ∷ columns) (None ∷ values) (None ∷ others) ts us d h k e = let rest = key-told columns values others ts us d.1 h.1 k.1 e in (λ i. None ∷ rest.0 i, rest.1)
+key-told (column ∷ columns) (None ∷ values) (Some second ∷ others) ts us d h k e = absurd (missing-told columns values (column_name column) ts _ d.0 (count-no_column column) e)
+key-told (column ∷ columns) (Some value ∷ values) (None ∷ others) ts us d h k e = absurd (missing-told columns others (column_name column) us _ d.0 (count-no_column column) (sym e))
+key-told (column ∷ columns) (Some value ∷ values) (Some second ∷ others) ts us d h k e =
+    let there = append_assoc (value_tokens value) (key_tokens columns values) (key (codes "count") ∷ ts) in
+    let back = append_assoc (value_tokens second) (key_tokens columns others) (key (codes "count") ∷ us) in
+    let same = value-told column value second (key_tokens columns values ++ key (codes "count") ∷ ts) (key_tokens columns others ++ key (codes "count") ∷ us) h.0 k.0 (sym there ∙ ap (drop 1) e ∙ back) in
+    let rest = key-told columns values others ts us d.1 h.1 k.1 same.1 in
+    (λ i. Some (same.0 i) ∷ rest.0 i, rest.1)
+
+sums-told : (sums others : Sums) → fit sums ≡ true → fit others ≡ true → sums_tokens sums ++ end_object ∷ [] ≡ sums_tokens others ++ end_object ∷ [] → sums ≡ others
+sums-told sums others h k e =
+    let a = sums_small sums h in
+    let b = sums_small others k in
+    let count : sums.count ≡ others.count = decimal_injective sums.count others.count a.0 b.0 (cc e) in
+    let total : sums.total ≡ others.total = decimal_injective sums.total others.total a.1 b.1 (cc e) in
+    let self : sums.self_time ≡ others.self_time = decimal_injective sums.self_time others.self_time a.2 b.2 (cc e) in
+    λ i. record { count = count i; total = total i; self_time = self i }
+
+row-told : (columns : List Column) (row other : Row) → AreDistinct (map column_name columns) → IsRowOf columns row → IsRowOf columns other → row_tokens columns row ≡ row_tokens columns other → row ≡ other
+row-told columns row other d h k e =
+    let same = key-told columns row.key other.key _ _ d h.key k.key (ap (drop 1) e) in
+    let sums = sums-told row.sums other.sums h.fits k.fits (ap (λ l. key (codes "count") ∷ l) same.1) in
+    λ i. record { key = same.0 i; sums = sums i }
+
+-- a line of a row, and what follows it
+row-first : (columns : List Column) (row : Row) (rest : Bytes) → json_line columns row ++ rest ≡ print (row_tokens columns row) ++ 10 ∷ rest
+row-first columns row rest = ap (λ l. l ++ rest) (json_line-print columns row) ∙ append_assoc (print (row_tokens columns row)) (10 ∷ []) rest
+
+rows-told : (columns : List Column) (rows others : List Row) → AreDistinct (map column_name columns) → All (IsRowOf columns) rows → All (IsRowOf columns) others → length rows ≡ length others
+    → flat_map (json_line columns) rows ≡ flat_map (json_line columns) others → rows ≡ others
+rows-told columns [] [] d h k l e = refl
+rows-told columns [] (other ∷ others) d h k l e = absurd (omega arith)
+rows-told columns (row ∷ rows) [] d h k l e = absurd (omega arith)
+rows-told columns (row ∷ rows) (other ∷ others) d h k l e =
+    let is = All-head (IsRowOf columns) row rows h in
+    let its = All-head (IsRowOf columns) other others k in
+    let more = flat_map (json_line columns) rows in
+    let rest = flat_map (json_line columns) others in
+    let lines = line-told (print (row_tokens columns row)) (print (row_tokens columns other)) more rest (print_row-IsLine columns row is) (print_row-IsLine columns other its)
+    (sym (row-first columns row more) ∙ e ∙ row-first columns other rest) in
+    let same = row-told columns row other d is its (sym (tokens-row columns row is) ∙ ap tokens lines.0 ∙ tokens-row columns other its) in
+    let all = rows-told columns rows others d (All-tail (IsRowOf columns) row rows h) (All-tail (IsRowOf columns) other others k) (omega arith) lines.1 in
+    λ i. same i ∷ all i
+
+-- rows of columns that are the same
+rows-with : (columns more : List Column) (rows others : List Row) → columns ≡ more → AreDistinct (map column_name columns) → All (IsRowOf columns) rows → All (IsRowOf more) others → length rows ≡ length others
+    → flat_map (json_line columns) rows ≡ flat_map (json_line more) others → rows ≡ others
+rows-with columns more rows others p d h k l e =
+    rows-told columns rows others d h (subst (λ c. All (IsRowOf c) others) (sym p) k) l (e ∙ ap (λ c. flat_map (json_line c) others) (sym p))
+
+numbers-told : (rows more : ℕ) (head other : Head) → rows < 2 ^ 64 → more < 2 ^ 64 → AreSmall head → AreSmall other
+    → numbers_tokens rows head ++ end_object ∷ [] ≡ numbers_tokens more other ++ end_object ∷ [] → (rows ≡ more) × (head ≡ other)
+numbers-told rows more head other few little small low e =
+    let count : rows ≡ more = decimal_injective rows more few little (cc e) in
+    let runs : head.runs ≡ other.runs = decimal_injective _ _ small.runs low.runs (cc e) in
+    let files : head.files ≡ other.files = decimal_injective _ _ small.files low.files (cc e) in
+    let unread : head.unread ≡ other.unread = decimal_injective _ _ small.unread low.unread (cc e) in
+    let accepted : head.counts.accepted ≡ other.counts.accepted = decimal_injective _ _ small.accepted low.accepted (cc e) in
+    let refused : head.counts.refused ≡ other.counts.refused = decimal_injective _ _ small.refused low.refused (cc e) in
+    let skipped : head.counts.skipped ≡ other.counts.skipped = decimal_injective _ _ small.skipped low.skipped (cc e) in
+    let queries : head.counts.queries ≡ other.counts.queries = decimal_injective _ _ small.queries low.queries (cc e) in
+    let seals : head.counts.seals ≡ other.counts.seals = decimal_injective _ _ small.seals low.seals (cc e) in (
+      count,
+      λ i. record {
+        runs = runs i;
+        files = files i;
+        unread = unread i;
+        counts = record { accepted = accepted i; refused = refused i; skipped = skipped i; queries = queries i; seals = seals i };
+      },
+    )
+
+-- the first line, and what follows it
+head-first : (table : SpanTable) → text_of table ≡ print (head_tokens table.columns (length table.rows) table.head) ++ 10 ∷ flat_map (json_line table.columns) table.rows
+head-first table =
+    let rest = flat_map (json_line table.columns) table.rows in
+    ap (λ l. l ++ rest) (json_head-print table.columns (length table.rows) table.head)
+    ∙ append_assoc (print (head_tokens table.columns (length table.rows) table.head)) (10 ∷ []) rest
+
+tables-told : (one other : SpanTable) → IsTable one → IsTable other → text_of one ≡ text_of other → one ≡ other
+tables-told one other is its e =
+    let lines = line-told (print (head_tokens one.columns (length one.rows) one.head)) (print (head_tokens other.columns (length other.rows) other.head))
+    (flat_map (json_line one.columns) one.rows) (flat_map (json_line other.columns) other.rows)
+    (print_head-IsLine one.columns (length one.rows) one.head is.few is.head) (print_head-IsLine other.columns (length other.rows) other.head its.few its.head)
+    (sym (head-first one) ∙ e ∙ head-first other) in
+    let heads = sym (tokens-head one.columns (length one.rows) one.head is.few is.head) ∙ ap tokens lines.0 ∙ tokens-head other.columns (length other.rows) other.head its.few its.head in
+    let columns = names-told one.columns other.columns (numbers_tokens (length one.rows) one.head ++ end_object ∷ []) (numbers_tokens (length other.rows) other.head ++ end_object ∷ []) (ap (drop 5) heads) in
+    let numbers = numbers-told (length one.rows) (length other.rows) one.head other.head is.few its.few (head_small one.head is.head) (head_small other.head its.head) columns.1 in
+    let rows = rows-with one.columns other.columns one.rows other.rows columns.0 is.columns.distinct is.rows its.rows numbers.0 lines.1 in
+    λ i. record { columns = columns.0 i; head = numbers.1 i; rows = rows i }
+
+-- two tables that are printed alike are the same
+pub parts-told : PartsAreTold
+parts-told text one other is its = tables-told one other is.is its.is (sym is.printed ∙ its.printed)

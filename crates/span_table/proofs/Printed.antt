@@ -1,0 +1,93 @@
+-- The lines of a table are their tokens, printed.
+use Rattle.std.proofs.Common.{◌≡◌, ℕ, true, false, List, [], ◌∷◌, ◌++◌, map, refl, sym, ap, ◌∙◌, Some, None, append_assoc, codes, decimal}
+use Rattle.json.specs.Token.{Token, end_array, end_object, key}
+use Rattle.json.specs.Print.{escape_byte, print, print_from, quoted}
+use Rattle.span_event.specs.declared.args.ArgValue.{ArgValue}
+use Rattle.span_event.specs.declared.args.ArgValue.TheVariants.{Nil, Flag, Whole, Words, Other}
+use Rattle.span_event.specs.Text.{Bytes}
+use Rattle.span_report.specs.Lines.{json_text_of}
+use Rattle.span_table.specs.declared.column.Column.{Column}
+use Rattle.span_table.specs.declared.heads.Head.{Head}
+use Rattle.span_table.specs.declared.sums.Sums.{Sums}
+use Rattle.span_table.specs.declared.table.Row.{Row}
+use Rattle.span_table.specs.Columns.{column_name}
+use Rattle.span_table.specs.Json.{column_json, json_head, json_line, json_of_value, with_commas}
+use Rattle.span_table.specs.JsonPieces.{count_text, end_text, events_text, files_text, head_text, members_text, others_text, start_text, sums_text}
+use Rattle.span_table.specs.Keys.{TableKey}
+use Rattle.span_table.specs.Tokens.{head_tokens, key_tokens, name_tokens, numbers_tokens, row_tokens, sums_tokens, value_tokens}
+use Rattle.span_table.proofs.JsonPieces.{json_head_pieces, json_line_pieces}
+
+-- a value, and then some more
+value-print : (value : ArgValue) (ts : List Token) → print_from false (value_tokens value ++ ts) ≡ json_of_value value ++ print_from true ts
+unfolding print_from json_text_of
+value-print Nil ts = refl
+value-print (Flag true) ts = refl
+value-print (Flag false) ts = refl
+value-print (Whole number) ts = refl
+value-print (Words text) ts = refl
+value-print Other ts = refl
+
+-- behind a value a key has a comma before it
+comma-print : (columns : List Column) (values : TableKey) (name : Bytes) (ts : List Token) → print_from true (key_tokens columns values ++ key name ∷ ts) ≡ 44 ∷ print_from false (key_tokens columns values ++ key name ∷ ts)
+unfolding print_from
+comma-print [] values name ts = refl
+comma-print (column ∷ columns) [] name ts = refl
+comma-print (column ∷ columns) (None ∷ values) name ts = comma-print columns values name ts
+comma-print (column ∷ columns) (Some value ∷ values) name ts = refl
+
+member-joined : (a b c d : Bytes) → (a ++ 58 ∷ []) ++ (b ++ 44 ∷ (c ++ d)) ≡ (((a ++ 58 ∷ b) ++ 44 ∷ []) ++ c) ++ d
+member-joined a b c d = simp append_assoc refl
+
+-- the values of a key, and then a member
+keys-print : (columns : List Column) (values : TableKey) (name : Bytes) (ts : List Token) → print_from false (key_tokens columns values ++ key name ∷ ts) ≡ members_text columns values ++ print_from false (key name ∷ ts)
+unfolding print_from json_text_of
+keys-print [] values name ts = refl
+keys-print (column ∷ columns) [] name ts = refl
+keys-print (column ∷ columns) (None ∷ values) name ts = keys-print columns values name ts
+keys-print (column ∷ columns) (Some value ∷ values) name ts =
+    let called = quoted (column_name column) in
+    let more = key_tokens columns values ++ key name ∷ ts in
+    let rest = comma-print columns values name ts ∙ ap (λ l. 44 ∷ l) (keys-print columns values name ts) in
+    ap (λ us. (called ++ 58 ∷ []) ++ print_from false us) (append_assoc (value_tokens value) (key_tokens columns values) (key name ∷ ts))
+    ∙ ap (λ l. (called ++ 58 ∷ []) ++ l) (value-print value more ∙ ap (λ l. json_of_value value ++ l) rest)
+    ∙ member-joined called (json_of_value value) (members_text columns values) (print_from false (key name ∷ ts))
+
+three-ended : (a b c : Bytes) → (a ++ 44 ∷ (b ++ 44 ∷ (c ++ 125 ∷ []))) ++ 10 ∷ [] ≡ (a ++ 44 ∷ (b ++ 44 ∷ c)) ++ 125 ∷ 10 ∷ []
+three-ended a b c = simp append_assoc refl
+
+sums-print : (sums : Sums) → print_from false (sums_tokens sums ++ end_object ∷ []) ++ 10 ∷ [] ≡ sums_text sums ++ end_text
+unfolding print_from escape_byte sums_text end_text
+sums-print sums = three-ended (codes "\"count\":" ++ decimal sums.count) (codes "\"total\":" ++ decimal sums.total) (codes "\"self\":" ++ decimal sums.self_time)
+
+-- the line of a row is its tokens, printed
+pub json_line-print : (columns : List Column) (row : Row) → json_line columns row ≡ print (row_tokens columns row) ++ 10 ∷ []
+unfolding print_from
+json_line-print columns row =
+    let sums = print_from false (sums_tokens row.sums ++ end_object ∷ []) in
+    json_line_pieces columns row
+    ∙ sym (ap (λ l. 123 ∷ (l ++ 10 ∷ [])) (keys-print columns row.key _ _)
+    ∙ ap (λ l. 123 ∷ l) (append_assoc (members_text columns row.key) sums (10 ∷ []) ∙ ap (λ l. members_text columns row.key ++ l) (sums-print row.sums)))
+
+-- the names of columns, and then some more
+names-print : (columns : List Column) (ts : List Token) → print_from false (name_tokens columns ++ end_array ∷ ts) ≡ with_commas (map column_json columns) ++ 93 ∷ print_from true ts
+unfolding print_from json_text_of
+names-print [] ts = refl
+names-print (column ∷ []) ts = refl
+names-print (column ∷ next ∷ columns) ts =
+    ap (λ l. quoted (column_name column) ++ 44 ∷ l) (names-print (next ∷ columns) ts)
+    ∙ sym (append_assoc (quoted (column_name column)) (44 ∷ with_commas (map column_json (next ∷ columns))) (93 ∷ print_from true ts))
+
+numbers-print : (rows : ℕ) (head : Head) → print_from true (numbers_tokens rows head ++ end_object ∷ []) ++ 10 ∷ [] ≡ count_text rows ++ (head_text head ++ end_text)
+unfolding print_from escape_byte count_text files_text events_text others_text end_text
+numbers-print rows head = simp append_assoc refl
+
+-- the first line is its tokens, printed
+pub json_head-print : (columns : List Column) (rows : ℕ) (head : Head) → json_head columns rows head ≡ print (head_tokens columns rows head) ++ 10 ∷ []
+unfolding print_from escape_byte start_text
+json_head-print columns rows head =
+    let names = with_commas (map column_json columns) in
+    let numbers = print_from true (numbers_tokens rows head ++ end_object ∷ []) in
+    json_head_pieces columns rows head
+    ∙ sym (ap (λ l. start_text ++ 91 ∷ (l ++ 10 ∷ [])) (names-print columns (numbers_tokens rows head ++ end_object ∷ []))
+    ∙ ap (λ l. start_text ++ 91 ∷ l) (append_assoc names (93 ∷ numbers) (10 ∷ []) ∙ ap (λ l. names ++ 93 ∷ l) (numbers-print rows head)
+    ∙ sym (append_assoc names (93 ∷ []) (count_text rows ++ (head_text head ++ end_text)))))

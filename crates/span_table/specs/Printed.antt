@@ -1,0 +1,94 @@
+-- Tables that may be printed as JSON Lines, and their text.
+use Rattle.std.specs.Prelude.{◌≡◌, ◌≢◌, ◌<◌, ◌≤◌, ◌^◌, ◌==◌, Bool, true, not, ◌&&◌, nat_lt, List, [], ◌∷◌, ◌++◌, All, flat_map, length, map, Some, None, FitsSigned, ⊤}
+use Rattle.std.specs.Int.{w64}
+use Rattle.std.specs.List.{list_any}
+use Rattle.std.specs.Str.{IsUtf8}
+use Rattle.span_event.specs.declared.args.ArgValue.TheVariants.{Whole, Words}
+use Rattle.span_event.specs.Text.{Bytes}
+use Rattle.span_table.specs.declared.column.Column.{Column}
+use Rattle.span_table.specs.declared.column.Column.TheVariants.{Pid, Tid, Process, Thread, Name, File, Argument}
+use Rattle.span_table.specs.declared.table.Row.{Row}
+use Rattle.span_table.specs.Columns.{Value, column_name}
+use Rattle.span_table.specs.Json.{fit, head_fits, json_head, json_line}
+use Rattle.span_table.specs.Keys.{TableKey}
+use Rattle.span_table.specs.Tables.{RowsRise, SpanTable}
+
+-- a number, which has 64 bits
+abbrev pub IsWhole : Value → Type 0
+IsWhole (Some (Whole number)) = FitsSigned w64 number
+IsWhole value = ⊥
+
+abbrev pub IsWords : Value → Type 0
+IsWords (Some (Words text)) = ⊤
+IsWords value = ⊥
+
+-- the name of a process or a thread, which may have none
+abbrev pub IsName : Value → Type 0
+IsName None = ⊤
+IsName value = IsWords value
+
+-- whatever an argument may be
+abbrev pub IsOfArgument : Value → Type 0
+IsOfArgument (Some (Whole number)) = FitsSigned w64 number
+IsOfArgument value = ⊤
+
+-- a value that a span may have in a column
+abbrev pub MayHave : Column → Value → Type 0
+MayHave Pid value = IsWhole value
+MayHave Tid value = IsWhole value
+MayHave Process value = IsName value
+MayHave Thread value = IsName value
+MayHave Name value = IsWords value
+MayHave File value = IsWords value
+MayHave (Argument key) value = IsOfArgument value
+
+-- a value for each column
+abbrev pub IsKeyOf : List Column → TableKey → Type 0
+IsKeyOf [] [] = ⊤
+IsKeyOf (column ∷ columns) (value ∷ key) = MayHave column value × IsKeyOf columns key
+IsKeyOf columns key = ⊥
+
+-- a row that a table by these columns may have
+pub record IsRowOf (columns : List Column) (row : Row) : Type 0 where
+  pub key : IsKeyOf columns row.key
+  pub some : 0 < row.sums.count
+  pub fits : fit row.sums ≡ true
+
+-- an argument's key has a byte, and no comma
+abbrev pub is_column : Column → Bool
+is_column (Argument key) = nat_lt 0 (length key) && not (list_any (λ byte. byte == 44) key)
+is_column column = true
+
+-- none comes twice
+abbrev pub AreDistinct : List Bytes → Type 0
+AreDistinct [] = ⊤
+AreDistinct (name ∷ names) = All (λ other. name ≢ other) names × AreDistinct names
+
+-- the columns that a table may have
+pub record AreColumns (columns : List Column) : Type 0 where
+  pub some : 0 < length columns
+  pub few : length columns ≤ 8
+  pub each : All (λ column. is_column column ≡ true) columns
+  pub distinct : AreDistinct (map column_name columns)
+
+-- a table that may be printed
+pub record IsTable (table : SpanTable) : Type 0 where
+  pub columns : AreColumns table.columns
+  pub head : head_fits table.head ≡ true
+  pub few : length table.rows < 2 ^ 64
+  pub rows : All (IsRowOf table.columns) table.rows
+  pub rise : RowsRise table.rows
+
+-- its text
+abbrev pub text_of : SpanTable → Bytes
+text_of table = json_head table.columns (length table.rows) table.head ++ flat_map (json_line table.columns) table.rows
+
+-- a part: the text of such a table
+pub record IsPart (text : Bytes) (table : SpanTable) : Type 0 where
+  pub is : IsTable table
+  pub utf8 : IsUtf8 text
+  pub printed : text ≡ text_of table
+
+-- two tables with the same text are the same
+abbrev pub PartsAreTold : Type 0
+PartsAreTold = (text : Bytes) (one other : SpanTable) → IsPart text one → IsPart text other → one ≡ other

@@ -1,0 +1,57 @@
+-- The tokens of the lines of a table.
+use Rattle.std.specs.Prelude.{ℕ, List, [], ◌∷◌, ◌++◌, map, Some, None, codes, decimal}
+use Rattle.std.specs.Fmt.{signed_decimal}
+use Rattle.json.specs.Token.{Token, begin_object, end_object, begin_array, end_array, key, string, number, boolean, null}
+use Rattle.span_event.specs.declared.args.ArgValue.{ArgValue}
+use Rattle.span_event.specs.declared.args.ArgValue.TheVariants.{Nil, Flag, Whole, Words, Other}
+use Rattle.span_ledger.specs.declared.rows.CountRow.{CountRow}
+use Rattle.span_table.specs.declared.column.Column.{Column}
+use Rattle.span_table.specs.declared.heads.Head.{Head}
+use Rattle.span_table.specs.declared.sums.Sums.{Sums}
+use Rattle.span_table.specs.declared.table.Row.{Row}
+use Rattle.span_table.specs.Columns.{column_name}
+use Rattle.span_table.specs.Keys.{TableKey}
+
+abbrev pub value_tokens : ArgValue → List Token
+value_tokens Nil = null ∷ []
+value_tokens (Flag flag) = boolean flag ∷ []
+value_tokens (Whole whole) = number (signed_decimal whole) ∷ []
+value_tokens (Words text) = string text ∷ []
+value_tokens Other = begin_object ∷ end_object ∷ []
+
+-- each column that has a value with it
+abbrev pub key_tokens : List Column → TableKey → List Token
+key_tokens [] values = []
+key_tokens (column ∷ columns) [] = []
+key_tokens (column ∷ columns) (None ∷ values) = key_tokens columns values
+key_tokens (column ∷ columns) (Some value ∷ values) = key (column_name column) ∷ (value_tokens value ++ key_tokens columns values)
+
+abbrev pub number_tokens : List ℕ → ℕ → List Token
+number_tokens name n = key name ∷ number (decimal n) ∷ []
+
+abbrev pub sums_tokens : Sums → List Token
+sums_tokens sums = number_tokens (codes "count") sums.count ++ (number_tokens (codes "total") sums.total ++ number_tokens (codes "self") sums.self_time)
+
+abbrev pub row_tokens : List Column → Row → List Token
+row_tokens columns row = begin_object ∷ (key_tokens columns row.key ++ (sums_tokens row.sums ++ end_object ∷ []))
+
+-- the names of columns
+abbrev pub name_tokens : List Column → List Token
+name_tokens columns = map (λ column. string (column_name column)) columns
+
+abbrev pub counts_tokens : CountRow → List Token
+counts_tokens counts =
+    number_tokens (codes "events") counts.accepted ++ (number_tokens (codes "refused") counts.refused ++ (number_tokens (codes "skipped") counts.skipped
+    ++ (number_tokens (codes "queries") counts.queries ++ number_tokens (codes "seals") counts.seals)))
+
+-- the numbers of the first line
+abbrev pub numbers_tokens : ℕ → Head → List Token
+numbers_tokens rows head =
+    number_tokens (codes "rows") rows ++ (number_tokens (codes "runs") head.runs ++ (number_tokens (codes "files") head.files
+    ++ (number_tokens (codes "unread") head.unread ++ counts_tokens head.counts)))
+
+-- the first line
+abbrev pub head_tokens : List Column → ℕ → Head → List Token
+head_tokens columns rows head =
+    begin_object ∷ key (codes "tracebook") ∷ number (codes "1") ∷ key (codes "columns") ∷ begin_array ∷
+    (name_tokens columns ++ (end_array ∷ (numbers_tokens rows head ++ end_object ∷ [])))
