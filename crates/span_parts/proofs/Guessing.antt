@@ -1,0 +1,114 @@
+-- What is found among the tokens of a line.
+use Rattle.std.proofs.Common.{◌≡◌, ◌≢◌, List, [], ◌∷◌, ◌++◌, true, map, refl, sym, ap, subst, ◌∙◌, append_assoc, codes, Some, None, arith, get_or}
+use Rattle.std.specs.Prelude.{All}
+use Rattle.std.specs.Borrow.{Bor}
+use Rattle.json.specs.Reads.{token_of}
+use Rattle.json.specs.Token.{Token, end_array, key, string}
+use Rattle.json.specs.declared.token.Token.{Token as Given}
+use Rattle.span_event.specs.Text.{Bytes}
+use Rattle.span_table.specs.declared.column.Column.{Column}
+use Rattle.span_table.specs.declared.column.Column.TheVariants.{Pid, Tid, Process, Thread, Name, File, Argument}
+use Rattle.span_event.specs.declared.args.ArgValue.{ArgValue}
+use Rattle.span_event.specs.declared.args.ArgValue.TheVariants.{Nil, Flag, Whole, Words, Other}
+use Rattle.span_table.specs.Columns.{Value, column_name}
+use Rattle.span_table.specs.Keys.{TableKey}
+use Rattle.span_table.specs.Printed.{AreDistinct, IsKeyOf, IsOfArgument, MayHave, is_column}
+use Rattle.span_table.specs.Tokens.{key_tokens, name_tokens, value_tokens}
+use Rattle.span_table.proofs.PrintedLines.{whole_fits}
+use Rattle.span_parts.specs.Guess.{Found, MayFollow}
+use Rattle.std.proofs.lemmas.List.{length-append}
+use Rattle.span_parts.proofs.Lists.{All-at, All-tail}
+
+-- a name that comes next is that of the first of some columns
+pub record NextColumn (columns later : List Column) (name : Bytes) (more rest : List Token) : Type 0 where
+  pub column : Column
+  pub others : List Column
+  pub split : later ≡ column ∷ others
+  pub is : is_column column ≡ true
+  pub named : column_name column ≡ name
+  pub follow : MayFollow (columns ++ column ∷ []) others
+  pub next : more ≡ name_tokens others ++ end_array ∷ rest
+
+pub next_column : (columns later : List Column) (name : Bytes) (more rest : List Token) → MayFollow columns later → string name ∷ more ≡ name_tokens later ++ end_array ∷ rest → NextColumn columns later name more rest
+next_column columns [] name more rest may next = absurd cc
+next_column columns (column ∷ others) name more rest may next = record {
+  column = column;
+  others = others;
+  split = refl;
+  is = All-at (λ c. is_column c ≡ true) [] column others may.each;
+  named = cc;
+  follow = record { each = All-tail (λ c. is_column c ≡ true) column others may.each; few = omega (arith, length-append columns (column ∷ []), may.few) };
+  next = cc;
+}
+
+-- where no name comes next there are no columns
+pub no_column : (later : List Column) (tokens rest : List Token) → ((name : Bytes) (more : List Token) → tokens ≢ string name ∷ more) → tokens ≡ name_tokens later ++ end_array ∷ rest → (later ≡ []) × (tokens ≡ end_array ∷ rest)
+no_column [] tokens rest none next = (refl, next)
+no_column (column ∷ later) tokens rest none next = absurd (none (column_name column) (name_tokens later ++ end_array ∷ rest) next)
+
+-- no column is called as the number of spans is
+count-name : (column : Column) → column_name column ≢ codes "count"
+count-name Pid same = let heads : 112 ≡ 99 = ap (λ l. get_or l 0 0) same in omega (arith, heads)
+count-name Tid same = let heads : 116 ≡ 99 = ap (λ l. get_or l 0 0) same in omega (arith, heads)
+count-name Process same = let heads : 112 ≡ 99 = ap (λ l. get_or l 0 0) same in omega (arith, heads)
+count-name Thread same = let heads : 116 ≡ 99 = ap (λ l. get_or l 0 0) same in omega (arith, heads)
+count-name Name same = let heads : 110 ≡ 99 = ap (λ l. get_or l 0 0) same in omega (arith, heads)
+count-name File same = let heads : 102 ≡ 99 = ap (λ l. get_or l 0 0) same in omega (arith, heads)
+count-name (Argument text) same = let heads : 97 ≡ 99 = ap (λ l. get_or l 0 0) same in omega (arith, heads)
+
+-- a key that is next, and not of this name
+record NextKey (name : Bytes) (tokens : List Token) : Type 0 where
+  pub other : Bytes
+  pub behind : List Token
+  pub next : tokens ≡ key other ∷ behind
+  pub differs : other ≢ name
+
+-- behind a column without a value comes the key of another column, or that of the number of spans
+next_key : (name : Bytes) (columns : List Column) (values : TableKey) (rest : List Token) → name ≢ codes "count" → All (λ other. name ≢ other) (map column_name columns) → NextKey name (key_tokens columns values ++ key (codes "count") ∷ rest)
+next_key name [] values rest uncounted differ = record { other = codes "count"; behind = rest; next = refl; differs = λ same. uncounted (sym same) }
+next_key name (column ∷ columns) [] rest uncounted differ = record { other = codes "count"; behind = rest; next = refl; differs = λ same. uncounted (sym same) }
+next_key name (column ∷ columns) (None ∷ values) rest uncounted differ = next_key name columns values rest uncounted (All-tail (λ other. name ≢ other) (column_name column) (map column_name columns) differ)
+next_key name (column ∷ columns) (Some value ∷ values) rest uncounted differ = record {
+  other = column_name column;
+  behind = (value_tokens value ++ key_tokens columns values) ++ key (codes "count") ∷ rest;
+  next = refl;
+  differs = λ same. All-at (λ other. name ≢ other) [] (column_name column) (map column_name columns) differ (sym same);
+}
+
+-- a value that a column may have, an argument may have
+IsOfArgument-any : (column : Column) (value : ArgValue) → MayHave column (Some value) → IsOfArgument (Some value)
+IsOfArgument-any column (Whole whole) may = whole_fits column whole may
+IsOfArgument-any column (Words text) may = tt
+IsOfArgument-any column (Flag flag) may = tt
+IsOfArgument-any column Nil may = tt
+IsOfArgument-any column Other may = tt
+
+-- what was found for the first name is the first value of the key
+pub record NextValue (names : List Bytes) (values : TableKey) (rest : List Token) (found : Value × Bor (List Given)) : Type 0 where
+  pub columns : List Column
+  pub later : TableKey
+  pub split : values ≡ found.0 ∷ later
+  pub keys : IsKeyOf columns later
+  pub named : names ≡ map column_name columns
+  pub next : map token_of found.1.now ≡ key_tokens columns later ++ key (codes "count") ∷ rest
+
+module _ (name : Bytes) (names : List Bytes) (tokens rest : List Token) (found : Value × Bor (List Given))
+    (there : (value : ArgValue) (left : List Token) → IsOfArgument (Some value) → tokens ≡ key name ∷ (value_tokens value ++ left) → Found (Some value) left found)
+    (missing : (other : Bytes) (left : List Token) → other ≢ name → tokens ≡ key other ∷ left → Found None (key other ∷ left) found) where
+  pub next_value : (columns : List Column) (values : TableKey) → AreDistinct (name ∷ names) → IsKeyOf columns values → name ∷ names ≡ map column_name columns → tokens ≡ key_tokens columns values ++ key (codes "count") ∷ rest → NextValue names values rest found
+  next_value [] values distinct keys named is = absurd cc
+  next_value (column ∷ columns) [] distinct keys named is = absurd keys
+  next_value (column ∷ columns) (None ∷ values) distinct keys named is =
+      let own : column_name column ≡ name = cc in
+      let others : names ≡ map column_name columns = cc in
+      let uncounted : name ≢ codes "count" = λ same. count-name column (own ∙ same) in
+      let next = next_key name columns values rest uncounted (subst (All (λ other. name ≢ other)) others distinct.0) in
+      let left = missing next.other next.behind next.differs (is ∙ next.next) in
+      record { columns = columns; later = values; split = ap (λ v. v ∷ values) (sym left.0); keys = keys.1; named = others; next = left.1 ∙ sym next.next }
+  next_value (column ∷ columns) (Some value ∷ values) distinct keys named is =
+      let own : column_name column ≡ name = cc in
+      let others : names ≡ map column_name columns = cc in
+      let behind = key_tokens columns values ++ key (codes "count") ∷ rest in
+      let left = there value behind (IsOfArgument-any column value keys.0)
+      (is ∙ (λ i. key (own i) ∷ append_assoc (value_tokens value) (key_tokens columns values) (key (codes "count") ∷ rest) i)) in
+      record { columns = columns; later = values; split = ap (λ v. v ∷ values) (sym left.0); keys = keys.1; named = others; next = left.1 }

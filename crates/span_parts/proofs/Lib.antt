@@ -1,0 +1,10 @@
+pub mod Added
+pub mod Guessing
+pub mod Lines
+pub mod Lists
+pub mod Picked
+pub mod Places
+pub mod Summing
+pub mod Taken
+pub mod Trees
+pub mod Whole

@@ -1,0 +1,23 @@
+-- The lines of a part, as tokens.
+use Rattle.std.proofs.Common.{◌≡◌, ℕ, List, [], ◌∷◌, ◌++◌, ap, ◌∙◌}
+use Rattle.std.proofs.lemmas.List.{append_cancel_right}
+use Rattle.json.specs.Lex.{tokens}
+use Rattle.json.specs.Print.{print}
+use Rattle.span_event.specs.Text.{Bytes}
+use Rattle.span_table.specs.declared.column.Column.{Column}
+use Rattle.span_table.specs.declared.heads.Head.{Head}
+use Rattle.span_table.specs.declared.table.Row.{Row}
+use Rattle.span_table.specs.Json.{json_head}
+use Rattle.span_table.specs.Tokens.{head_tokens, row_tokens}
+use Rattle.span_table.proofs.Printed.{json_head-print, json_line-print}
+use Rattle.span_table.proofs.PrintedLines.{tokens-head, tokens-row}
+use Rattle.span_parts.specs.First.{MayBegin}
+use Rattle.span_parts.specs.Rows.{IsRowLine}
+
+-- the tokens of a first line are those that were printed
+pub tokens-first : (columns : List Column) (rows : ℕ) (head : Head) (line : Bytes) → MayBegin columns rows head → line ++ 10 ∷ [] ≡ json_head columns rows head → tokens line ≡ head_tokens columns rows head
+tokens-first columns rows head line may is = ap tokens (append_cancel_right line (print (head_tokens columns rows head)) (10 ∷ []) (is ∙ json_head-print columns rows head)) ∙ tokens-head columns rows head may.few may.head_fits
+
+-- and those of the line of a row
+pub tokens-line : (columns : List Column) (row : Row) (line : Bytes) → IsRowLine columns line row → tokens line ≡ row_tokens columns row
+tokens-line columns row line is = ap tokens (append_cancel_right line (print (row_tokens columns row)) (10 ∷ []) (is.printed ∙ json_line-print columns row)) ∙ tokens-row columns row is.fits

@@ -1,0 +1,75 @@
+-- Rows that are added one by one, and the part that they make.
+use Rattle.std.proofs.Common.{◌≡◌, ℕ, ◌+◌, List, [], ◌∷◌, ◌++◌, map, refl, sym, ap, ◌∙◌, append_assoc, append-nil, arith}
+use Rattle.std.proofs.lemmas.List.{map-append}
+use Rattle.std.specs.Prelude.{flat_map, sum_by}
+use Rattle.std.proofs.lemmas.List.Sums.{sum_by-append}
+use Rattle.std.proofs.lemmas.Grind.{flat_map-append}
+use Rattle.span_table.specs.declared.column.Column.{Column}
+use Rattle.span_table.specs.declared.heads.Head.{Head}
+use Rattle.span_table.specs.declared.table.Row.{Row}
+use Rattle.span_table.specs.Adding.{add_tables, keyed_by, keyed_rows, with_columns, with_head, with_row}
+use Rattle.span_table.specs.Tables.{KeyedSums, RowsRise, SpanTable, heads_together, rows_of}
+use Rattle.span_table.proofs.AddedTables.{head-same, rows-back, rows_of-alike}
+use Rattle.span_table.proofs.Alike.{AddUpAlike-append, AddUpAlike-refl, AddUpAlike-sym}
+use Rattle.span_table.proofs.OwnRows.{rows_of-own}
+use Rattle.span_parts.specs.Rows.{row_at, with_rows}
+
+-- rows of rows and of more are those of all
+rows-then : (sums more : KeyedSums) → rows_of (keyed_rows (rows_of sums) ++ more) ≡ rows_of (sums ++ more)
+rows-then sums more = rows_of-alike (keyed_rows (rows_of sums) ++ more) (sums ++ more) (AddUpAlike-append (keyed_rows (rows_of sums)) more sums more (rows-back sums) (AddUpAlike-refl more))
+
+-- a table whose rows are those of some sums
+abbrev table_with : SpanTable → KeyedSums → SpanTable
+table_with table sums = record { columns = table.columns; head = table.head; rows = rows_of sums }
+
+-- rows added one by one are those of all
+with_rows-of : (places : List ℕ) (rows : List Row) (table : SpanTable) (sums : KeyedSums) → with_rows places rows (table_with table sums) ≡ table_with table (sums ++ map (keyed_by places) rows)
+with_rows-of places [] table sums = ap (table_with table) (sym (append-nil sums))
+with_rows-of places (row ∷ rows) table sums =
+    ap (with_rows places rows) (λ i. record { columns = table.columns; head = table.head; rows = rows-then sums (keyed_by places row ∷ []) i })
+    ∙ with_rows-of places rows table (sums ++ keyed_by places row ∷ [])
+    ∙ ap (table_with table) (append_assoc sums (keyed_by places row ∷ []) (map (keyed_by places) rows))
+
+-- the head and the rows of a part added are the part added
+pub with_rows-part : (places : List ℕ) (old part : SpanTable) → RowsRise old.rows →
+    with_rows places part.rows (with_head old part.head) ≡ add_tables old.columns (old ∷ with_columns places part ∷ [])
+with_rows-part places old part rise =
+    ap (λ l. with_rows places part.rows (record { columns = old.columns; head = heads_together (old.head ∷ part.head ∷ []); rows = l })) (sym (rows_of-own old.rows rise))
+    ∙ with_rows-of places part.rows (with_head old part.head) (keyed_rows old.rows)
+    ∙ (λ i. record { columns = old.columns; head = heads_together (old.head ∷ part.head ∷ []); rows = all i })
+  where
+    more : KeyedSums
+    more = map (keyed_by places) part.rows
+
+    all : rows_of (keyed_rows old.rows ++ more) ≡ rows_of (keyed_rows old.rows ++ (keyed_rows (rows_of more) ++ []))
+    all = rows_of-alike (keyed_rows old.rows ++ more) (keyed_rows old.rows ++ keyed_rows (rows_of more))
+        (AddUpAlike-append (keyed_rows old.rows) more (keyed_rows old.rows) (keyed_rows (rows_of more)) (AddUpAlike-refl (keyed_rows old.rows)) (AddUpAlike-sym (keyed_rows (rows_of more)) more (rows-back more)))
+        ∙ ap (λ l. rows_of (keyed_rows old.rows ++ l)) (sym (append-nil (keyed_rows (rows_of more))))
+
+-- one row more
+pub with_rows-push : (places : List ℕ) (rows : List Row) (row : Row) (table : SpanTable) → with_rows places (rows ++ row ∷ []) table ≡ with_row (with_rows places rows table) (row_at places row)
+with_rows-push places [] row table = refl
+with_rows-push places (first ∷ rows) row table = with_rows-push places rows row (with_row table (row_at places first))
+
+-- a table added to a sum is one more of those that it has
+pub add_tables-more : (columns : List Column) (tables : List SpanTable) (table : SpanTable) → add_tables columns (add_tables columns tables ∷ table ∷ []) ≡ add_tables columns (tables ++ table ∷ [])
+add_tables-more columns tables table = λ i. record { columns = columns; head = heads i; rows = rows i }
+  where
+    head_in : SpanTable → Head
+    head_in t = t.head
+
+    sums_in : SpanTable → KeyedSums
+    sums_in t = keyed_rows t.rows
+
+    heads : heads_together (heads_together (map head_in tables) ∷ table.head ∷ []) ≡ heads_together (map head_in (tables ++ table ∷ []))
+    heads = head-same (heads_together (heads_together (map head_in tables) ∷ table.head ∷ [])) (heads_together (map head_in (tables ++ table ∷ []))) (λ f adds.
+        adds (heads_together (map head_in tables) ∷ table.head ∷ [])
+        ∙ sum_by-append f (heads_together (map head_in tables) ∷ []) (table.head ∷ [])
+        ∙ ap (λ n. n + sum_by f (table.head ∷ [])) (one f (heads_together (map head_in tables)) ∙ adds (map head_in tables))
+        ∙ sym (adds (map head_in (tables ++ table ∷ [])) ∙ ap (sum_by f) (map-append head_in tables (table ∷ [])) ∙ sum_by-append f (map head_in tables) (table.head ∷ [])))
+      where
+        one : (f : Head → ℕ) (head : Head) → sum_by f (head ∷ []) ≡ f head
+        one f head = omega arith
+
+    rows : rows_of (keyed_rows (rows_of (flat_map sums_in tables)) ++ (keyed_rows table.rows ++ [])) ≡ rows_of (flat_map sums_in (tables ++ table ∷ []))
+    rows = rows-then (flat_map sums_in tables) (keyed_rows table.rows ++ []) ∙ ap rows_of (sym (flat_map-append sums_in tables (table ∷ [])))

@@ -1,0 +1,102 @@
+-- A part that is added makes the sum of it and of those before.
+use Rattle.std.proofs.Common.{◌≡◌, ◌≢◌, ℕ, List, [], ◌∷◌, ◌++◌, map, refl, sym, ap, subst, ◌∙◌}
+use Rattle.std.specs.Prelude.{flat_map}
+use Rattle.std.proofs.lemmas.List.{map-append}
+use Rattle.std.proofs.lemmas.List.Elements.{All-cons, All-nil, All-push}
+use Rattle.span_event.specs.Text.{Bytes}
+use Rattle.span_table.specs.declared.column.Column.{Column}
+use Rattle.span_table.specs.declared.table.Row.{Row}
+use Rattle.span_table.specs.Adding.{add_tables, keyed_rows, picked, with_columns, with_head, with_row}
+use Rattle.span_table.specs.Printed.{IsPart}
+use Rattle.span_table.specs.Tables.{RowsRise, SpanTable}
+use Rattle.span_table.proofs.Rows.{RowsRise-rows_of}
+use Rattle.span_parts.specs.declared.fault.PartFault.{PartFault}
+use Rattle.span_parts.specs.declared.fault.PartFault.TheVariants.{NotTable, OtherColumns, Memory, TooMany}
+use Rattle.span_parts.specs.Rows.{row_at, with_rows}
+use Rattle.span_parts.specs.Sum.{AreAt, AreParts, FailsToBegin, FirstFails, IsAdded, IsByThese, PartFails, PartSum, RefusesOthers, SumFails, TakesFirst, TakesPart, chosen}
+use Rattle.span_parts.proofs.Places.{picked-at}
+use Rattle.span_parts.proofs.Summing.{add_tables-more, with_rows-part}
+
+-- rows that are added leave the columns
+with_rows-columns : (places : List ℕ) (rows : List Row) (table : SpanTable) → (with_rows places rows table).columns ≡ table.columns
+with_rows-columns places [] table = refl
+with_rows-columns places (row ∷ rows) table = with_rows-columns places rows (with_row table (row_at places row))
+
+-- and so does a part
+pub IsByThese-added : (columns : List Column) (places : List ℕ) (text : Bytes) (old new : SpanTable) → IsByThese columns places old → IsAdded columns places text old new → IsByThese columns places new
+IsByThese-added columns places text old new by added = record {
+  fit = by.fit;
+  by = ap (λ (t : SpanTable). t.columns) added.sum ∙ with_rows-columns places added.part.rows (with_head old added.part.head) ∙ by.by;
+}
+
+AreParts-push : (texts : List Bytes) (parts : List SpanTable) (text : Bytes) (part : SpanTable) → AreParts texts parts → IsPart text part → AreParts (texts ++ text ∷ []) (parts ++ part ∷ [])
+AreParts-push [] [] text part are is = (is, tt)
+AreParts-push [] (other ∷ parts) text part are is = absurd are
+AreParts-push (other ∷ texts) [] text part are is = absurd are
+AreParts-push (other ∷ texts) (one ∷ parts) text part are is = (are.0, AreParts-push texts parts text part are.1 is)
+
+-- a sum of tables, with a part
+added-more : (columns : List Column) (places : List ℕ) (tables : List SpanTable) (old part : SpanTable) → old ≡ add_tables columns tables →
+    with_rows places part.rows (with_head old part.head) ≡ add_tables columns (tables ++ with_columns places part ∷ [])
+added-more columns places tables old part is =
+    with_rows-part places old part (subst (λ (t : SpanTable). RowsRise t.rows) (sym is) (RowsRise-rows_of (flat_map (λ (table : SpanTable). keyed_rows table.rows) tables)))
+    ∙ ap (λ (t : SpanTable). add_tables t.columns (t ∷ with_columns places part ∷ [])) is
+    ∙ add_tables-more columns tables (with_columns places part)
+
+pub TakesPart-added : (old : PartSum) (text : Bytes) (new : SpanTable) → IsAdded old.columns old.places text old.sum new → TakesPart text old (record { columns = old.columns; places = old.places; sum = new })
+TakesPart-added old text new added = record {
+  columns = refl;
+  places = refl;
+  sums = λ texts sums. record {
+    parts = sums.parts ++ added.part ∷ [];
+    are = AreParts-push texts sums.parts text added.part sums.are added.is;
+    columns = All-push (λ (part : SpanTable). part.columns ≡ old.columns) sums.parts added.part sums.columns added.by;
+    adds = added.sum ∙ added-more (picked old.places old.columns) old.places (map (with_columns old.places) sums.parts) old.sum added.part sums.adds
+        ∙ ap (add_tables (picked old.places old.columns)) (sym (map-append (with_columns old.places) sums.parts (added.part ∷ [])));
+  };
+}
+
+pub TakesFirst-added : (wanted columns : List Column) (places : List ℕ) (text : Bytes) (old new : SpanTable) → AreAt places (chosen wanted columns) columns → old ≡ add_tables (chosen wanted columns) [] →
+    IsAdded columns places text old new → TakesFirst wanted text (record { columns = columns; places = places; sum = new })
+TakesFirst-added wanted columns places text old new at none added = record {
+  chooses = at;
+  sums = record {
+    parts = added.part ∷ [];
+    are = (added.is, tt);
+    columns = All-cons (λ (part : SpanTable). part.columns ≡ columns) added.part [] added.by (All-nil (λ (part : SpanTable). part.columns ≡ columns));
+    adds = added.sum ∙ added-more (picked places columns) places [] old added.part (none ∙ ap (λ l. add_tables l []) (sym (picked-at places (chosen wanted columns) columns at)));
+  };
+}
+
+-- what refuses a part of other columns
+pub PartFails-others : (own columns : List Column) (text : Bytes) (fault : PartFault) → columns ≢ own → RefusesOthers columns text fault → PartFails own text fault
+PartFails-others own columns text NotTable differ fails = fails
+PartFails-others own columns text OtherColumns differ fails = record { part = fails.part; is = fails.is; other = λ same. differ (sym fails.by ∙ same) }
+PartFails-others own columns text Memory differ fails = tt
+PartFails-others own columns text TooMany differ fails = tt
+
+pub FirstFails-others : (wanted columns : List Column) (text : Bytes) (fault : PartFault) → ((places : List ℕ) → AreAt places (chosen wanted columns) columns → ⊥) → RefusesOthers columns text fault → FirstFails wanted text fault
+FirstFails-others wanted columns text NotTable none fails = fails
+FirstFails-others wanted columns text OtherColumns none fails = record { part = fails.part; is = fails.is; lacks = λ places at. none places (subst (λ l. AreAt places (chosen wanted l) l) fails.by at) }
+FirstFails-others wanted columns text Memory none fails = tt
+FirstFails-others wanted columns text TooMany none fails = tt
+
+-- what refuses a sum
+pub PartFails-sum : (own : List Column) (text : Bytes) (fault : PartFault) → SumFails text fault → PartFails own text fault
+PartFails-sum own text NotTable fails = fails
+PartFails-sum own text OtherColumns fails = absurd fails
+PartFails-sum own text Memory fails = tt
+PartFails-sum own text TooMany fails = tt
+
+pub FirstFails-sum : (wanted : List Column) (text : Bytes) (fault : PartFault) → SumFails text fault → FirstFails wanted text fault
+FirstFails-sum wanted text NotTable fails = fails
+FirstFails-sum wanted text OtherColumns fails = absurd fails
+FirstFails-sum wanted text Memory fails = tt
+FirstFails-sum wanted text TooMany fails = tt
+
+-- and what refuses its first line
+pub SumFails-begin : (text : Bytes) (fault : PartFault) → FailsToBegin text fault → SumFails text fault
+SumFails-begin text NotTable fails = fails
+SumFails-begin text OtherColumns fails = fails
+SumFails-begin text Memory fails = tt
+SumFails-begin text TooMany fails = tt

@@ -1,0 +1,59 @@
+-- Whatever the tree, what is printed of it is the table of its runs.
+use Rattle.std.proofs.Common.{◌≡◌, ℕ, List, [], ◌∷◌, ◌++◌, map, refl, sym, ap, ap₂, subst, ◌∙◌}
+use Rattle.std.specs.Prelude.{flat_map}
+use Rattle.span_event.specs.Text.{Bytes}
+use Rattle.span_table.specs.declared.column.Column.{Column}
+use Rattle.span_table.specs.Adding.{add_tables, picked, with_columns}
+use Rattle.span_table.specs.Printed.{IsPart, text_of}
+use Rattle.span_table.specs.Tables.{Run, SpanTable, table_of}
+use Rattle.span_table.proofs.AddedTables.{add_tables-parts, table_of-moved, table_of-picked}
+use Rattle.span_table.proofs.PartsTold.{parts-told}
+use Rattle.span_parts.proofs.Places.{picked-at}
+use Rattle.span_parts.specs.Sum.{AreAt, AreParts}
+use Rattle.span_parts.specs.Trees.{Trees, of_runs, of_parts, no_trees, tree, runs_in, runs_in_all, ArePrinted, TreesLoseNothing, TreesPrintAlike}
+
+-- the runs of each tree
+abbrev runs_each : Trees → List (List Run)
+runs_each no_trees = []
+runs_each (tree part parts) = runs_in part ∷ runs_each parts
+
+runs_each-all : (parts : Trees) → flat_map (λ runs. runs) (runs_each parts) ≡ runs_in_all parts
+runs_each-all no_trees = refl
+runs_each-all (tree part parts) = ap (λ l. runs_in part ++ l) (runs_each-all parts)
+
+-- tables of the same columns that are added, each by some of them, are the table of all runs by these
+sum-runs : (columns own : List Column) (places : List ℕ) (runs : List (List Run)) → AreAt places columns own →
+    add_tables (picked places own) (map (with_columns places) (map (table_of own) runs)) ≡ table_of columns (flat_map (λ part. part) runs)
+sum-runs columns own places runs at =
+    ap (add_tables (picked places own)) (each runs) ∙ add_tables-parts (picked places own) runs ∙ ap (λ l. table_of l (flat_map (λ part. part) runs)) (picked-at places columns own at)
+  where
+    each : (runs : List (List Run)) → map (with_columns places) (map (table_of own) runs) ≡ map (table_of (picked places own)) runs
+    each [] = refl
+    each (part ∷ parts) = ap₂ (λ (t : SpanTable) l. t ∷ l) (table_of-picked places own part) (each parts)
+
+mutual
+  pub trees-lose_nothing : TreesLoseNothing
+  trees-lose_nothing columns (of_runs runs) text printed = printed
+  trees-lose_nothing columns (of_parts parts) text (texts, sum, each, sums, at, is) =
+      let tables = parts-runs sum.columns parts texts sums.parts each sums.are in
+      subst (IsPart text)
+      (sums.adds ∙ ap (λ l. add_tables (picked sum.places sum.columns) (map (with_columns sum.places) l)) tables
+      ∙ sum-runs columns sum.columns sum.places (runs_each parts) at ∙ ap (table_of columns) (runs_each-all parts))
+      is
+
+  -- the parts are the tables of the runs of each tree
+  parts-runs : (columns : List Column) (parts : Trees) (texts : List Bytes) (tables : List SpanTable) → ArePrinted columns parts texts → AreParts texts tables → tables ≡ map (table_of columns) (runs_each parts)
+  parts-runs columns no_trees [] [] printed are = refl
+  parts-runs columns no_trees [] (table ∷ tables) printed are = absurd are
+  parts-runs columns no_trees (text ∷ texts) tables printed are = absurd printed
+  parts-runs columns (tree part parts) [] tables printed are = absurd printed
+  parts-runs columns (tree part parts) (text ∷ texts) [] printed are = absurd are
+  parts-runs columns (tree part parts) (text ∷ texts) (table ∷ tables) printed are =
+      ap₂ (λ (t : SpanTable) l. t ∷ l)
+      (parts-told text table (table_of columns (runs_in part)) are.0 (trees-lose_nothing columns part text printed.0))
+      (parts-runs columns parts texts tables printed.1 are.1)
+
+-- so two trees of the same runs are printed alike
+pub trees-print_alike : TreesPrintAlike
+trees-print_alike columns one other text told moved first second =
+    (trees-lose_nothing columns one text first).printed ∙ ap text_of (table_of-moved columns (runs_in one) (runs_in other) moved) ∙ sym (trees-lose_nothing columns other told second).printed

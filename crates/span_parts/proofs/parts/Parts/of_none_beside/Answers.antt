@@ -1,0 +1,31 @@
+use Rattle.std.proofs.Common.{[], sym, ap, subst, ◌∙◌}
+use Rattle.std.proofs.lemmas.List.Elements.{All-nil}
+use Rattle.span_table.specs.Adding.{add_tables, picked}
+use Rattle.span_table.specs.Printed.{AreColumns}
+use Rattle.span_table.specs.Tables.{SpanTable}
+use Rattle.span_parts.specs.Sum.{PartSum}
+use Rattle.span_parts.proofs.parts.Parts.of_none_beside.Goals as goal
+
+pub invariant_of-result : goal.invariant_of-result
+invariant_of-result c =
+    let columns = c.in_ok-copies_of.ensures ∙ c.deref.ensures.value in
+    let places = c.in_ok-copy_of_places.ensures ∙ c.deref-2.ensures.value in
+    record {
+      fit = subst AreColumns (sym columns) c.self.invariant.fit;
+      by = ap (λ (t : SpanTable). t.columns) c.in_ok-new.ensures ∙ c.columns.ensures ∙ c.self.invariant.by ∙ (λ i. picked (sym places i) (sym columns i));
+    }
+
+pub returns : goal.returns
+returns c =
+    let columns = c.in_ok-copies_of.ensures ∙ c.deref.ensures.value in
+    let places = c.in_ok-copy_of_places.ensures ∙ c.deref-2.ensures.value in
+    record {
+      columns = columns ∙ ap (λ (p : PartSum). p.columns) c.self.view_is;
+      places = places ∙ ap (λ (p : PartSum). p.places) c.self.view_is;
+      sums = record {
+        parts = [];
+        are = tt;
+        columns = All-nil _;
+        adds = c.in_ok-new.ensures ∙ ap (λ l. add_tables l []) (c.columns.ensures ∙ c.self.invariant.by ∙ (λ i. picked (sym places i) (sym columns i)));
+      };
+    }

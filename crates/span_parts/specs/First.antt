@@ -1,0 +1,36 @@
+-- The first line of a part.
+use Rattle.std.specs.Prelude.{◌≡◌, ℕ, ◌<◌, ◌^◌, true, List, [], ◌∷◌, ◌++◌, flat_map, length, Option, Some, None}
+use Rattle.std.specs.Str.{IsUtf8}
+use Rattle.span_event.specs.Text.{Bytes}
+use Rattle.span_table.specs.declared.column.Column.{Column}
+use Rattle.span_table.specs.declared.heads.Head.{Head}
+use Rattle.span_table.specs.Json.{head_fits, json_head, json_line}
+use Rattle.span_table.specs.Printed.{AreColumns, IsPart}
+use Rattle.span_table.specs.Tables.{SpanTable}
+use Rattle.span_parts.specs.declared.guess.FirstLine.{FirstLine}
+
+-- a first line that may be printed
+pub record MayBegin (columns : List Column) (rows : ℕ) (head : Head) : Type 0 where
+  pub columns_fit : AreColumns columns
+  pub few : rows < 2 ^ 64
+  pub head_fits : head_fits head ≡ true
+
+-- the line, without its end, is this one
+pub record IsFirstLine (line : Bytes) (first : FirstLine) : Type 0 where
+  pub may : MayBegin first.columns.items first.rows first.head
+  pub printed : line ++ 10 ∷ [] ≡ json_head first.columns.items first.rows first.head
+
+-- these are the columns, the number of rows and the head of a first line
+abbrev pub Says : List Column → ℕ → Head → Option FirstLine → Type 0
+Says columns rows head None = ⊥
+Says columns rows head (Some first) = (first.columns.items ≡ columns) × (first.rows ≡ rows) × (first.head ≡ head)
+
+-- A text begins with this line, and this is behind it. Any part with this text has these columns, this head and so many rows, whose
+-- lines are the rest.
+pub record Begins (text : Bytes) (first : FirstLine) (rest : Bytes) : Type 0 where
+  pub utf8 : IsUtf8 text
+  pub may : MayBegin first.columns.items first.rows first.head
+  pub printed : text ≡ json_head first.columns.items first.rows first.head ++ rest
+  pub columns : (part : SpanTable) → IsPart text part → part.columns ≡ first.columns.items
+  pub rows : (part : SpanTable) → IsPart text part → length part.rows ≡ first.rows
+  pub lines : (part : SpanTable) → IsPart text part → rest ≡ flat_map (json_line part.columns) part.rows

@@ -1,0 +1,51 @@
+-- Runs that are divided, and whose tables are printed and added in any way.
+use Rattle.std.specs.Prelude.{◌≡◌, List, [], ◌∷◌, ◌++◌}
+use Rattle.std.specs.List.Sorted.{IsPermutation}
+use Rattle.span_event.specs.Text.{Bytes}
+use Rattle.span_table.specs.declared.column.Column.{Column}
+use Rattle.span_table.specs.Printed.{IsPart}
+use Rattle.span_table.specs.Tables.{Run, table_of}
+use Rattle.span_parts.specs.Sum.{AreAt, PartSum, SumsParts}
+
+mutual
+  -- runs whose table is printed, or parts whose sum is
+  pub data Tree : Type 0 where
+    of_runs : List Run → Tree
+    of_parts : Trees → Tree
+
+  pub data Trees : Type 0 where
+    no_trees : Trees
+    tree : Tree → Trees → Trees
+
+abbrev mutual
+  -- all runs of a tree
+  pub runs_in : Tree → List Run
+  runs_in (of_runs runs) = runs
+  runs_in (of_parts parts) = runs_in_all parts
+
+  pub runs_in_all : Trees → List Run
+  runs_in_all no_trees = []
+  runs_in_all (tree part parts) = runs_in part ++ runs_in_all parts
+
+abbrev mutual
+  -- The text is printed of a tree, by these columns: it is that of the table of its runs; or of a sum, by these columns of its parts,
+  -- each of which was printed so.
+  pub IsPrinted : List Column → Tree → Bytes → Type 0
+  IsPrinted columns (of_runs runs) text = IsPart text (table_of columns runs)
+  IsPrinted columns (of_parts parts) text =
+      (texts : List Bytes) × (sum : PartSum) × ArePrinted sum.columns parts texts × SumsParts texts sum × AreAt sum.places columns sum.columns × IsPart text sum.sum
+
+  pub ArePrinted : List Column → Trees → List Bytes → Type 0
+  ArePrinted columns no_trees [] = Unit {0}
+  ArePrinted columns no_trees (text ∷ texts) = ⊥
+  ArePrinted columns (tree part parts) [] = ⊥
+  ArePrinted columns (tree part parts) (text ∷ texts) = IsPrinted columns part text × ArePrinted columns parts texts
+
+-- whatever the tree, what is printed is the table of all its runs
+abbrev pub TreesLoseNothing : Type 0
+TreesLoseNothing = (columns : List Column) (whole : Tree) (text : Bytes) → IsPrinted columns whole text → IsPart text (table_of columns (runs_in whole))
+
+-- two trees of the same runs, in whatever order, are printed alike
+abbrev pub TreesPrintAlike : Type 0
+TreesPrintAlike = (columns : List Column) (one other : Tree) (text told : Bytes) → IsPermutation (runs_in one) (runs_in other) →
+    IsPrinted columns one text → IsPrinted columns other told → text ≡ told

@@ -1,0 +1,27 @@
+//! Why a part is not added.
+
+use std::alloc::AllocError;
+
+/// Why a part is not added, and the sum is lost.
+#[derive(Clone, Copy, Debug, PartialEq, Eq)]
+pub enum PartFault {
+    /// The text is not that of a table that was printed.
+    NotTable,
+    /// Its columns are not those of the parts before it, or lack one that is asked for.
+    OtherColumns,
+    /// Memory was refused.
+    Memory,
+    /// There would be 2^32 parts or more.
+    TooMany,
+}
+
+impl From<AllocError> for PartFault {
+    ghost use Rattle.span_parts.specs.declared.fault.PartFault.TheVariants.{Memory};
+    ghost use Rattle.std.specs.Prelude.{◌≡◌};
+
+    ghost from_gives = { λ _ e. e ≡ Memory };
+
+    fn from(_refused: AllocError) -> PartFault {
+        PartFault::Memory
+    }
+}

@@ -1,0 +1,253 @@
+//! What a line would have to be, if a table was printed. It is printed again and compared, so an answer needs no trust; that none is
+//! missed is what the contracts say.
+ghost use Rattle.std.specs.Prelude.{◌≡◌, ◌≢◌, ◌<◌, ◌^◌, ◌++◌, ◌∷◌, ℕ, ℤ, FitsSigned, List, None, Some, true, codes, map, IfOk};
+ghost use Rattle.std.specs.Fmt.{signed_decimal};
+ghost use Rattle.std.specs.Int.{w64};
+ghost use Rattle.json.specs.Reads.{token_of};
+ghost use Rattle.json.specs.Token.{Token as Told, end_array, key};
+ghost use Rattle.span_event.specs.Text.{Bytes};
+ghost use Rattle.span_event.specs.declared.args.ArgValue.{ArgValue as TheValue};
+ghost use Rattle.span_event.specs.declared.args.ArgValue.TheVariants.{Whole};
+ghost use Rattle.span_table.specs.declared.column.Column.{Column as TheColumn};
+ghost use Rattle.span_table.specs.declared.heads.Head.{Head as TheHead};
+ghost use Rattle.span_table.specs.declared.sums.Sums.{Sums as TheSums};
+ghost use Rattle.span_table.specs.declared.table.Row.{Row as TheRow};
+ghost use Rattle.span_table.specs.Columns.{column_name};
+ghost use Rattle.span_table.specs.Json.{fit, head_fits};
+ghost use Rattle.span_table.specs.Keys.{TableKey};
+ghost use Rattle.span_table.specs.Printed.{AreColumns, AreDistinct, IsKeyOf, IsOfArgument, IsRowOf};
+ghost use Rattle.span_table.specs.Tokens.{counts_tokens, head_tokens, key_tokens, name_tokens, number_tokens, numbers_tokens, row_tokens, sums_tokens, value_tokens};
+ghost use Rattle.span_parts.specs.First.{MayBegin, Says};
+ghost use Rattle.span_parts.specs.Guess.{Found, Leaves, MayFollow};
+
+use crate::heads::MOST_COLUMNS;
+use crate::tokens::{after_one, key_after, number_after, text_after};
+use json::Token;
+use span_event::{ArgValue, Text};
+use span_table::{Column, Head, HeadCounts, Key, Row, Sum, Sums};
+use std::alloc::{AllocError, Global};
+
+/// The columns, the number of rows and the head of a first line.
+#[derive(Drop)]
+pub(crate) struct FirstLine {
+    pub(crate) columns: Vec<Column>,
+    pub(crate) rows: u64,
+    pub(crate) head: Head,
+}
+
+pub(crate) fn first_line_of(
+    alloc: Global,
+    tokens: &[Token],
+) -> Result<Option<FirstLine>, AllocError>
+    ensures { IfOk result (λ found. (columns : List TheColumn) (rows : ℕ) (head : TheHead) → MayBegin columns rows head
+        → map token_of tokens.now ≡ head_tokens columns rows head → Says columns rows head found) }
+{
+    let mut columns = Vec::new(alloc);
+    let Some(rest) = after_start(tokens) else {
+        return Ok(None);
+    };
+    let Some(rest) = put_columns(alloc, rest, &mut columns)? else {
+        return Ok(None);
+    };
+    let Some(rest) = after_one(rest) else {
+        return Ok(None);
+    };
+    match head_of(rest) {
+        Some((rows, head)) => Ok(Some(FirstLine {
+            columns,
+            rows,
+            head,
+        })),
+        None => Ok(None),
+    }
+}
+
+// What is behind `{"tracebook":1,"columns":[`.
+fn after_start<'t, 'a>(tokens: &'t [Token<'a>]) -> Option<&'t [Token<'a>]>
+    ensures { (a b c d e : Told) (rest : List Told) → map token_of tokens.now ≡ a ∷ b ∷ c ∷ d ∷ e ∷ rest → Leaves rest result }
+{
+    let object = after_one(tokens)?;
+    let version = after_one(after_one(object)?)?;
+    after_one(after_one(version)?)
+}
+
+// Adds columns of these names, but not more than may be, and gives the tokens behind them.
+fn put_columns<'t, 'a>(
+    alloc: Global,
+    tokens: &'t [Token<'a>],
+    columns: &mut Vec<Column>,
+) -> Result<Option<&'t [Token<'a>]>, AllocError>
+    ensures { IfOk result (λ left. (later : List TheColumn) (rest : List Told) → MayFollow columns.old.items later
+        → map token_of tokens.now ≡ name_tokens later ++ end_array ∷ rest
+        → Leaves (end_array ∷ rest) left × (columns.new.items ≡ columns.old.items ++ later)) }
+{
+    if columns.len() > MOST_COLUMNS {
+        return Ok(None);
+    }
+    let Some((name, rest)) = text_after(tokens) else {
+        return Ok(Some(tokens));
+    };
+    let Some(column) = Column::named(alloc, name)? else {
+        return Ok(None);
+    };
+    columns.push(column)?;
+    match put_columns(alloc, rest, columns) {
+        Ok(left) => Ok(left),
+        Err(refused) => Err(refused),
+    }
+}
+
+fn head_of(tokens: &[Token]) -> Option<(u64, Head)>
+    ensures { (rows : ℕ) (head : TheHead) (rest : List Told) → rows < 2 ^ 64 → head_fits head ≡ true
+        → map token_of tokens.now ≡ numbers_tokens rows head ++ rest → result ≡ Some (rows, head) }
+{
+    let (rows, rest) = number_after(tokens, "rows")?;
+    let (runs, rest) = number_after(rest, "runs")?;
+    let (files, rest) = number_after(rest, "files")?;
+    let (unread, rest) = number_after(rest, "unread")?;
+    let head = Head {
+        runs: u128::from(runs),
+        files: u128::from(files),
+        unread: u128::from(unread),
+        counts: counts_of(rest)?,
+    };
+    Some((rows, head))
+}
+
+fn counts_of(tokens: &[Token]) -> Option<HeadCounts>
+    ensures { (head : TheHead) (rest : List Told) → head_fits head ≡ true
+        → map token_of tokens.now ≡ counts_tokens head.counts ++ rest → result ≡ Some head.counts }
+{
+    let (accepted, rest) = number_after(tokens, "events")?;
+    let (refused, rest) = number_after(rest, "refused")?;
+    let (skipped, rest) = number_after(rest, "skipped")?;
+    let (queries, rest) = number_after(rest, "queries")?;
+    let (seals, _) = number_after(rest, "seals")?;
+    Some(HeadCounts {
+        accepted: u128::from(accepted),
+        refused: u128::from(refused),
+        skipped: u128::from(skipped),
+        queries: u128::from(queries),
+        seals: u128::from(seals),
+    })
+}
+
+/// The row of a table by columns of these names.
+pub(crate) fn row_of(
+    alloc: Global,
+    names: &[Text],
+    tokens: &[Token],
+) -> Result<Option<Row>, AllocError>
+    ensures { IfOk result (λ found. (columns : List TheColumn) (row : TheRow) → AreColumns columns → IsRowOf columns row
+        → names.now ≡ map column_name columns → map token_of tokens.now ≡ row_tokens columns row → found ≡ Some row) }
+{
+    let Some(members) = after_one(tokens) else {
+        return Ok(None);
+    };
+    let (key, rest) = key_of(alloc, names, members)?;
+    match sums_of(rest) {
+        Some(sums) => Ok(Some(Row { key, sums })),
+        None => Ok(None),
+    }
+}
+
+// A value for each name, and the tokens behind them.
+fn key_of<'t, 'a>(
+    alloc: Global,
+    names: &[Text],
+    tokens: &'t [Token<'a>],
+) -> Result<(Key, &'t [Token<'a>]), AllocError>
+    ensures { IfOk result (λ found. (columns : List TheColumn) (values : TableKey) (rest : List Told) → AreDistinct names.now
+        → IsKeyOf columns values → names.now ≡ map column_name columns
+        → map token_of tokens.now ≡ key_tokens columns values ++ key (codes "count") ∷ rest
+        → Found values (key (codes "count") ∷ rest) found) }
+{
+    let mut values = Vec::with_capacity(alloc, names.len())?;
+    let rest = put_values(alloc, names, tokens, &mut values)?;
+    Ok((Key::of(values), rest))
+}
+
+fn put_values<'t, 'a>(
+    alloc: Global,
+    names: &[Text],
+    tokens: &'t [Token<'a>],
+    values: &mut Vec<Option<ArgValue>>,
+) -> Result<&'t [Token<'a>], AllocError>
+    ensures { IfOk result (λ left. (columns : List TheColumn) (more : TableKey) (rest : List Told) → AreDistinct names.now
+        → IsKeyOf columns more → names.now ≡ map column_name columns
+        → map token_of tokens.now ≡ key_tokens columns more ++ key (codes "count") ∷ rest
+        → Found (values.old.items ++ more) (key (codes "count") ∷ rest) (values.new.items, left)) }
+{
+    let Some((name, names)) = names.split_first() else {
+        return Ok(tokens);
+    };
+    let (value, rest) = value_after(alloc, tokens, name.as_str())?;
+    values.push(value)?;
+    match put_values(alloc, names, rest, values) {
+        Ok(left) => Ok(left),
+        Err(refused) => Err(refused),
+    }
+}
+
+fn sums_of(tokens: &[Token]) -> Option<Sums>
+    ensures { (sums : TheSums) (rest : List Told) → fit sums ≡ true
+        → map token_of tokens.now ≡ sums_tokens sums ++ rest → result ≡ Some sums }
+{
+    let (count, rest) = number_after(tokens, "count")?;
+    let (total, rest) = number_after(rest, "total")?;
+    let (self_time, _) = number_after(rest, "self")?;
+    Some(Sums {
+        count: Sum::of(u128::from(count)),
+        total: Sum::of(u128::from(total)),
+        self_time: Sum::of(u128::from(self_time)),
+    })
+}
+
+// The value behind a key, if this key is next, and the tokens behind it.
+fn value_after<'t, 'a>(
+    alloc: Global,
+    tokens: &'t [Token<'a>],
+    name: &str,
+) -> Result<(Option<ArgValue>, &'t [Token<'a>]), AllocError>
+    ensures there { IfOk result (λ found. (value : TheValue) (rest : List Told) → IsOfArgument (Some value)
+        → map token_of tokens.now ≡ key name.now ∷ (value_tokens value ++ rest) → Found (Some value) rest found) }
+    ensures missing { IfOk result (λ found. (other : Bytes) (rest : List Told) → other ≢ name.now
+        → map token_of tokens.now ≡ key other ∷ rest → Found None (key other ∷ rest) found) }
+{
+    match key_after(tokens, name) {
+        Some(rest) => value_of(alloc, rest),
+        None => Ok((None, tokens)),
+    }
+}
+
+fn value_of<'t, 'a>(
+    alloc: Global,
+    tokens: &'t [Token<'a>],
+) -> Result<(Option<ArgValue>, &'t [Token<'a>]), AllocError>
+    ensures { IfOk result (λ found. (value : TheValue) (rest : List Told) → IsOfArgument (Some value)
+        → map token_of tokens.now ≡ value_tokens value ++ rest → Found (Some value) rest found) }
+{
+    let Some((first, rest)) = tokens.split_first() else {
+        return Ok((None, tokens));
+    };
+    Ok(match first {
+        Token::Null => (Some(ArgValue::Nil), rest),
+        Token::Bool(flag) => (Some(ArgValue::Flag(*flag)), rest),
+        Token::Number(text) => (whole_of(text), rest),
+        Token::String(text) => (Some(ArgValue::Words(Text::of(alloc, text)?)), rest),
+        Token::BeginObject => match after_one(rest) {
+            Some(rest) => (Some(ArgValue::Other), rest),
+            None => (None, tokens),
+        },
+        _ => (None, tokens),
+    })
+}
+
+fn whole_of(text: &str) -> Option<ArgValue>
+    ensures { (number : ℤ) → FitsSigned w64 number → text.now ≡ signed_decimal number → result ≡ Some (Whole number) }
+{
+    match text.parse::<i64>() {
+        Ok(number) => Some(ArgValue::Whole(number)),
+        Err(_) => None,
+    }
+}

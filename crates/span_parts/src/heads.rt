@@ -1,0 +1,120 @@
+//! The first line of a part.
+ghost use Rattle.std.specs.Prelude.{◌≡◌, ◌↔◌, ◌==◌, ◌++◌, ◌∷◌, [], ℕ, List, map, IfErr, IfOk, IfSome, IsTrue};
+ghost use Rattle.std.specs.List.{list_any};
+ghost use Rattle.span_event.specs.Text.{Bytes};
+ghost use Rattle.span_table.specs.declared.column.Column.{Column as TheColumn};
+ghost use Rattle.span_table.specs.declared.heads.Head.{Head as TheHead};
+ghost use Rattle.span_table.specs.Columns.{column_name};
+ghost use Rattle.span_table.specs.Json.{json_head};
+ghost use Rattle.span_table.specs.Printed.{AreColumns, AreDistinct, is_column};
+ghost use Rattle.span_parts.specs.First.{Begins, IsFirstLine, MayBegin, Says};
+ghost use Rattle.span_parts.specs.Sum.{FailsToBegin};
+
+use crate::fault::PartFault;
+use crate::guess::{FirstLine, first_line_of};
+use crate::room::{LineRoom, is_line};
+use crate::tokens::tokens_of;
+use span_event::Text;
+use span_table::{Column, column_names, head_fits, put_json_head};
+use std::alloc::{AllocError, Global};
+
+/// A table has at most so many.
+pub(crate) const MOST_COLUMNS: usize = 8;
+
+/// The first line of a part, and what is behind it.
+pub(crate) fn begin<'a>(
+    alloc: Global,
+    text: &'a [u8],
+    room: &mut LineRoom,
+) -> Result<(FirstLine, &'a str), PartFault>
+    ensures begins { IfOk result (λ begun. Begins text.now begun.0 begun.1.now) }
+    ensures fault { IfErr result (FailsToBegin text.now) }
+{
+    let Ok(text) = str::from_utf8(text) else {
+        return Err(PartFault::NotTable);
+    };
+    let Some((line, rest)) = text.split_once('\n') else {
+        return Err(PartFault::NotTable);
+    };
+    match head_of_line(alloc, line, room) {
+        Ok(Some(first)) => Ok((first, rest)),
+        Ok(None) => Err(PartFault::NotTable),
+        Err(_) => Err(PartFault::Memory),
+    }
+}
+
+// What was printed as this first line. None where it is none.
+fn head_of_line(
+    alloc: Global,
+    line: &str,
+    room: &mut LineRoom,
+) -> Result<Option<FirstLine>, AllocError>
+    ensures is { IfOk result (λ found. IfSome found (IsFirstLine line.now)) }
+    ensures found { IfOk result (λ found. (columns : List TheColumn) (rows : ℕ) (head : TheHead) → MayBegin columns rows head
+        → line.now ++ 10 ∷ [] ≡ json_head columns rows head → Says columns rows head found) }
+{
+    let tokens = tokens_of(alloc, line, &mut room.scratch)?;
+    let Some(first) = first_line_of(alloc, &tokens)? else {
+        return Ok(None);
+    };
+    let names = column_names(alloc, &first.columns)?;
+    if !are_columns(&first.columns, &names) {
+        return Ok(None);
+    }
+    if !head_fits(&first.head) {
+        return Ok(None);
+    }
+    if !is_head(alloc, &first, line)? {
+        return Ok(None);
+    }
+    Ok(Some(first))
+}
+
+// Whether this is printed as the line.
+fn is_head(alloc: Global, first: &FirstLine, line: &str) -> Result<bool, AllocError>
+    ensures { IfOk result (λ same. IsTrue same ↔ line.now ++ 10 ∷ [] ≡ json_head first.now.columns.items first.now.rows first.now.head) }
+{
+    let mut printed = String::new(alloc);
+    put_json_head(
+        alloc,
+        &mut printed,
+        &first.columns,
+        first.rows as usize,
+        first.head,
+    )?;
+    Ok(is_line(printed.as_bytes(), line))
+}
+
+fn are_columns(columns: &[Column], names: &[Text]) -> bool
+    requires { names.now ≡ map column_name columns.now }
+    ensures { IsTrue result ↔ AreColumns columns.now }
+{
+    !columns.is_empty()
+        && columns.len() <= MOST_COLUMNS
+        && columns.iter().all(|column| is_column(column))
+        && are_distinct(names)
+}
+
+fn is_column(column: &Column) -> bool
+    ensures { result ≡ is_column column.now }
+{
+    match column {
+        Column::Argument(key) => !key.as_str().is_empty() && !has_comma(key),
+        _ => true,
+    }
+}
+
+fn has_comma(key: &Text) -> bool
+    ensures { result ≡ list_any (λ byte. byte == 44) key.now }
+{
+    key.as_str().as_bytes().iter().any(|byte| *byte == b',')
+}
+
+fn are_distinct(names: &[Text]) -> bool
+    ensures { IsTrue result ↔ AreDistinct names.now }
+{
+    let Some((name, names)) = names.split_first() else {
+        return true;
+    };
+    !names.contains(name) && are_distinct(names)
+}

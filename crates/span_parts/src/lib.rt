@@ -1,0 +1,16 @@
+//! Parts: tables that were printed as JSON Lines. They are read back, byte for byte, and added.
+#![tactic(auto)]
+
+mod choice;
+mod fault;
+mod guess;
+mod heads;
+pub mod laws;
+mod parts;
+mod room;
+mod rows;
+mod sums;
+mod tokens;
+
+pub use fault::PartFault;
+pub use parts::Parts;

@@ -1,0 +1,131 @@
+//! Parts that are added.
+ghost use Rattle.std.specs.Prelude.{◌≡◌, IfErr, IfOk};
+ghost use Rattle.span_event.specs.Text.{Bytes};
+ghost use Rattle.span_parts.specs.First.{Begins, MayBegin};
+ghost use Rattle.span_parts.specs.Sum.{FirstFails, PartFails, RefusesOthers, TakesFirst, TakesNone, TakesPart};
+
+use crate::choice::{are_same, chosen, copy_of_places, places_of};
+use crate::fault::PartFault;
+use crate::guess::FirstLine;
+use crate::heads::begin;
+use crate::room::LineRoom;
+use crate::sums::{add_part, look_through};
+use span_keyed_tracks::HashKeys;
+use span_table::{Addition, Column, Table, copies_of};
+use std::alloc::{AllocError, Global};
+use std::marker::Model;
+
+/// The sum of parts by the same columns, of which some may be dropped.
+#[derive(Drop)]
+pub struct Parts {
+    // Those of each part.
+    columns: Vec<Column>,
+    // Which of them the sum has, in its order.
+    places: Vec<usize>,
+    sum: Addition,
+}
+
+impl Model for Parts {
+    ghost use Rattle.span_parts.specs.Sum.{IsByThese, PartSum};
+
+    ghost Value = { PartSum };
+
+    ghost view = { λ p. record { columns = p.columns.items; places = p.places.items; sum = p.sum } };
+
+    ghost invariant = { λ p. IsByThese p.columns.items p.places.items p.sum };
+}
+
+impl Parts {
+    /// The sum of the one part that this text is, by these columns, of which it has each, in any order; where none is named, by all
+    /// that it has. Maps that files fill are hashed by these keys.
+    pub fn of_first(
+        alloc: Global,
+        keys: HashKeys,
+        wanted: &[Column],
+        text: &[u8],
+    ) -> Result<Parts, PartFault>
+        ensures sum { IfOk result (TakesFirst wanted.now text.now) }
+        ensures fault { IfErr result (FirstFails wanted.now text.now) }
+    {
+        let mut room = LineRoom::new(alloc);
+        let (first, rest) = match begin(alloc, text, &mut room) {
+            Ok(begun) => begun,
+            Err(fault) => return Err(fault),
+        };
+        let wanted = chosen(wanted, &first.columns);
+        let places = match places_of(alloc, wanted, &first.columns) {
+            Ok(Some(places)) => places,
+            Ok(None) => return Err(fault_of_others(alloc, &first, rest, &mut room)),
+            Err(_) => return Err(PartFault::Memory),
+        };
+        let sum = match Addition::new(alloc, keys, wanted) {
+            Ok(sum) => sum,
+            Err(_) => return Err(PartFault::Memory),
+        };
+        match add_part(alloc, &places, &first, rest, sum, &mut room) {
+            Ok(sum) => Ok(Parts {
+                columns: first.columns,
+                places,
+                sum,
+            }),
+            Err(fault) => Err(fault),
+        }
+    }
+
+    /// The sum of no parts, by the same columns of parts like these.
+    pub fn of_none_beside(&self, alloc: Global, keys: HashKeys) -> Result<Parts, AllocError>
+        ensures { IfOk result (TakesNone self.now) }
+    {
+        Ok(Parts {
+            columns: copies_of(alloc, &self.columns)?,
+            places: copy_of_places(alloc, &self.places)?,
+            sum: Addition::new(alloc, keys, self.sum.columns())?,
+        })
+    }
+
+    /// With the part that this text is.
+    pub fn add(self, alloc: Global, text: &[u8]) -> Result<Parts, PartFault>
+        ensures sum { IfOk result (TakesPart text.now self) }
+        ensures fault { IfErr result (PartFails self.columns text.now) }
+    {
+        let Parts {
+            columns,
+            places,
+            sum,
+        } = self;
+        let mut room = LineRoom::new(alloc);
+        let (first, rest) = match begin(alloc, text, &mut room) {
+            Ok(begun) => begun,
+            Err(fault) => return Err(fault),
+        };
+        if !are_same(&first.columns, &columns) {
+            return Err(fault_of_others(alloc, &first, rest, &mut room));
+        }
+        match add_part(alloc, &places, &first, rest, sum, &mut room) {
+            Ok(sum) => Ok(Parts {
+                columns,
+                places,
+                sum,
+            }),
+            Err(fault) => Err(fault),
+        }
+    }
+
+    /// The table of the sum.
+    pub fn into_table(self) -> Result<Table, AllocError>
+        ensures { IfOk result (λ table. table ≡ self.sum) }
+    {
+        self.sum.into_table()
+    }
+}
+
+// Why a text that begins so is refused: for its columns, if it is a part.
+fn fault_of_others(alloc: Global, first: &FirstLine, rest: &str, room: &mut LineRoom) -> PartFault
+    requires { MayBegin first.now.columns.items first.now.rows first.now.head }
+    ensures { (text : Bytes) → Begins text first.now rest.now → RefusesOthers first.now.columns.items text result }
+{
+    match look_through(alloc, first, rest, room) {
+        Ok(()) => PartFault::OtherColumns,
+        Err(fault) => fault,
+    }
+}

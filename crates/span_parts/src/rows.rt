@@ -1,0 +1,119 @@
+//! The rows of a part.
+ghost use Rattle.std.specs.Prelude.{◌≡◌, ◌↔◌, ◌<◌, ◌++◌, ◌∷◌, [], true, FitsSigned, IfOk, IfSome, IsTrue, Some, map};
+ghost use Rattle.std.specs.Int.{w64};
+ghost use Rattle.span_table.specs.declared.table.Row.{Row as TheRow};
+ghost use Rattle.span_table.specs.Columns.{column_name};
+ghost use Rattle.span_table.specs.Json.{fit, json_line};
+ghost use Rattle.span_table.specs.Printed.{AreColumns, IsKeyOf, IsRowOf, IsWhole, MayHave};
+ghost use Rattle.span_parts.specs.Rows.{IsRowLine};
+
+use crate::guess;
+use crate::room::{LineRoom, is_line};
+use crate::tokens::tokens_of;
+use span_event::{ArgValue, Text};
+use span_table::{Column, Row, fits, with_json_row};
+use std::alloc::{AllocError, Global};
+use std::mem::replace;
+
+/// The row that was printed as this line, by columns of these names. None where none was.
+pub(crate) fn row_of_line(
+    alloc: Global,
+    columns: &[Column],
+    names: &[Text],
+    line: &str,
+    room: &mut LineRoom,
+) -> Result<Option<Row>, AllocError>
+    requires columns { AreColumns columns.now }
+    requires names { names.now ≡ map column_name columns.now }
+    ensures is { IfOk result (λ found. IfSome found (IsRowLine columns.now line.now)) }
+    ensures found { IfOk result (λ found. (row : TheRow) → IsRowLine columns.now line.now row → found ≡ Some row) }
+{
+    let tokens = tokens_of(alloc, line, &mut room.scratch)?;
+    let Some(row) = guess::row_of(alloc, names, &tokens)? else {
+        return Ok(None);
+    };
+    if !is_row_of(columns, &row) {
+        return Ok(None);
+    }
+    if !is_row(alloc, columns, names, &row, line, &mut room.printed)? {
+        return Ok(None);
+    }
+    Ok(Some(row))
+}
+
+// Whether the row is printed as this line.
+fn is_row(
+    alloc: Global,
+    columns: &[Column],
+    names: &[Text],
+    row: &Row,
+    line: &str,
+    printed: &mut Vec<u8>,
+) -> Result<bool, AllocError>
+    requires names { names.now ≡ map column_name columns.now }
+    requires fits { fit row.now.sums ≡ true }
+    ensures { IfOk result (λ same. IsTrue same ↔ line.now ++ 10 ∷ [] ≡ json_line columns.now row.now) }
+{
+    let mut out = replace(printed, Vec::new(alloc));
+    out.clear();
+    let out = with_json_row(out, columns, names, row)?;
+    let same = is_line(&out, line);
+    *printed = out;
+    Ok(same)
+}
+
+fn is_row_of(columns: &[Column], row: &Row) -> bool
+    ensures { IsTrue result ↔ IsRowOf columns.now row.now }
+{
+    fits(&row.sums) && has_spans(row) && is_key_of(columns, row.key.values())
+}
+
+// Whether a row, whose numbers have 64 bits, has a span.
+fn has_spans(row: &Row) -> bool
+    requires { fit row.now.sums ≡ true }
+    ensures { IsTrue result ↔ 0 < row.now.sums.count }
+{
+    match row.sums.count.as_u64() {
+        Some(count) => count > 0,
+        None => false,
+    }
+}
+
+fn is_key_of(columns: &[Column], values: &[Option<ArgValue>]) -> bool
+    ensures { IsTrue result ↔ IsKeyOf columns.now values.now }
+{
+    let Some((column, columns)) = columns.split_first() else {
+        return values.is_empty();
+    };
+    let Some((value, values)) = values.split_first() else {
+        return false;
+    };
+    may_have(column, value) && is_key_of(columns, values)
+}
+
+fn may_have(column: &Column, value: &Option<ArgValue>) -> bool
+    ensures { IsTrue result ↔ MayHave column.now value.now }
+{
+    match column {
+        Column::Pid | Column::Tid => is_whole(value),
+        Column::Process | Column::Thread => matches!(value, None | Some(ArgValue::Words(_))),
+        Column::Name | Column::File => matches!(value, Some(ArgValue::Words(_))),
+        Column::Argument(_) => is_whole(value) || !matches!(value, Some(ArgValue::Whole(_))),
+    }
+}
+
+fn is_whole(value: &Option<ArgValue>) -> bool
+    ensures { IsTrue result ↔ IsWhole value.now }
+{
+    match value {
+        Some(ArgValue::Whole(number)) => has_word(*number),
+        _ => false,
+    }
+}
+
+// Numbers of this type have 64 bits, which is all that is said here.
+fn has_word(_number: i64) -> bool
+    ensures { IsTrue result ↔ FitsSigned w64 _number }
+{
+    true
+}

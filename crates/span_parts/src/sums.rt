@@ -1,0 +1,193 @@
+//! The rows of a part, which are added one after another.
+ghost use Rattle.std.specs.Prelude.{◌≡◌, ◌++◌, ◌∷◌, [], true, List, ℕ, map, IfErr, IfOk, OnOk};
+ghost use Rattle.span_table.specs.declared.table.Row.{Row as TheRow};
+ghost use Rattle.span_table.specs.Adding.{picked, with_row};
+ghost use Rattle.span_table.specs.Columns.{column_name};
+ghost use Rattle.span_table.specs.Json.{fit};
+ghost use Rattle.span_table.specs.Printed.{AreColumns};
+ghost use Rattle.span_event.specs.Text.{Bytes};
+ghost use Rattle.span_parts.specs.First.{Begins, MayBegin};
+ghost use Rattle.span_parts.specs.Sum.{HasColumns, IsAdded, SumFails};
+ghost use Rattle.span_parts.specs.Rows.{AllAdded, IsNextRow, IsOfSum, RowFails, RowsFail, comes_after, row_at};
+
+use crate::fault::PartFault;
+use crate::guess::FirstLine;
+use crate::room::LineRoom;
+use crate::rows::row_of_line;
+use span_event::{ArgValue, Text};
+use span_keyed_tracks::HashKeys;
+use span_table::{Addition, Column, Key, Row, SumFault, column_names};
+use std::alloc::{AllocError, Global};
+
+/// Adds a part that begins so, and whose rows are this rest.
+pub(crate) fn add_part(
+    alloc: Global,
+    places: &[usize],
+    first: &FirstLine,
+    rest: &str,
+    sum: Addition,
+    room: &mut LineRoom,
+) -> Result<Addition, PartFault>
+    requires { MayBegin first.now.columns.items first.now.rows first.now.head }
+    ensures added { IfOk result (λ new. (text : Bytes) → Begins text first.now rest.now
+        → IsAdded first.now.columns.items places.now text sum new) }
+    ensures fault { IfErr result (λ fault. (text : Bytes) → Begins text first.now rest.now → SumFails text fault) }
+{
+    match sum.add_head(&first.head) {
+        Ok(sum) => match add_rows(alloc, &first.columns, places, rest, first.rows, sum, room) {
+            Ok(sum) => Ok(sum),
+            Err(fault) => Err(fault),
+        },
+        Err(_) => Err(PartFault::TooMany),
+    }
+}
+
+/// Looks whether a part begins so, and its rows are this rest.
+pub(crate) fn look_through(
+    alloc: Global,
+    first: &FirstLine,
+    rest: &str,
+    room: &mut LineRoom,
+) -> Result<(), PartFault>
+    requires { MayBegin first.now.columns.items first.now.rows first.now.head }
+    ensures is { OnOk result ((text : Bytes) → Begins text first.now rest.now → HasColumns first.now.columns.items text) }
+    ensures fault { IfErr result (λ fault. (text : Bytes) → Begins text first.now rest.now → SumFails text fault) }
+{
+    // All rows have one key, of no values, so there is nothing to keep.
+    let sum = Addition::new(alloc, HashKeys::fixed(), &[])?;
+    match add_part(alloc, &[], first, rest, sum, room) {
+        Ok(sum) => {
+            drop(sum);
+            Ok(())
+        }
+        Err(fault) => Err(fault),
+    }
+}
+
+// Adds the rows of a text, which are to be so many, each with the values at these places of its key.
+fn add_rows(
+    alloc: Global,
+    columns: &[Column],
+    places: &[usize],
+    text: &str,
+    count: u64,
+    sum: Addition,
+    room: &mut LineRoom,
+) -> Result<Addition, PartFault>
+    requires { AreColumns columns.now }
+    ensures added { IfOk result (AllAdded columns.now places.now text.now count sum) }
+    ensures fault { IfErr result (RowsFail columns.now text.now count) }
+{
+    let names = column_names(alloc, columns)?;
+    let mut sum = sum;
+    let mut last = None;
+    let mut rest = text;
+    let mut done = 0;
+    while let Some((line, after)) = rest.split_once('\n') {
+        let row = match next_row(alloc, columns, &names, line, &last, room) {
+            Ok(row) => row,
+            Err(fault) => return Err(fault),
+        };
+        sum = match add_row(alloc, sum, places, &row) {
+            Ok(sum) => sum,
+            Err(fault) => return Err(fault),
+        };
+        last = Some(row);
+        rest = after;
+        done += 1;
+    }
+    if !rest.is_empty() {
+        return Err(PartFault::NotTable);
+    }
+    if done != count {
+        return Err(PartFault::NotTable);
+    }
+    Ok(sum)
+}
+
+// The row of the next line, which comes after the last one.
+fn next_row(
+    alloc: Global,
+    columns: &[Column],
+    names: &[Text],
+    line: &str,
+    last: &Option<Row>,
+    room: &mut LineRoom,
+) -> Result<Row, PartFault>
+    requires columns { AreColumns columns.now }
+    requires names { names.now ≡ map column_name columns.now }
+    ensures row { IfOk result (IsNextRow columns.now line.now last.now) }
+    ensures only { IfOk result (λ row. (other : TheRow) → IsNextRow columns.now line.now last.now other → row ≡ other) }
+    ensures fault { IfErr result (RowFails columns.now line.now last.now) }
+{
+    match row_of_line(alloc, columns, names, line, room) {
+        Ok(Some(row)) if comes_after(&row, last) => Ok(row),
+        Ok(_) => Err(PartFault::NotTable),
+        Err(_) => Err(PartFault::Memory),
+    }
+}
+
+// Whether the row's key is greater than that of the last one, if there is one.
+fn comes_after(row: &Row, last: &Option<Row>) -> bool
+    ensures { result ≡ comes_after row.now last.now }
+{
+    match last {
+        Some(last) => last.key.cmp(&row.key).is_lt(),
+        None => true,
+    }
+}
+
+// With a row, which has the values at these places of this one's key.
+fn add_row(alloc: Global, sum: Addition, places: &[usize], row: &Row) -> Result<Addition, PartFault>
+    requires { fit row.now.sums ≡ true }
+    ensures added { IfOk result (λ new. new ≡ with_row sum (row_at places.now row.now)) }
+    ensures fault { IfErr result IsOfSum }
+{
+    let row = Row {
+        key: key_at(alloc, places, &row.key)?,
+        sums: row.sums,
+    };
+    match sum.add_row(row) {
+        Ok(sum) => Ok(sum),
+        Err(SumFault::Memory) => Err(PartFault::Memory),
+        Err(SumFault::TooMany) => Err(PartFault::TooMany),
+    }
+}
+
+// The values at these places of a key.
+fn key_at(alloc: Global, places: &[usize], key: &Key) -> Result<Key, AllocError>
+    ensures { IfOk result (λ made. made ≡ picked places.now key.now) }
+{
+    let mut values = Vec::with_capacity(alloc, places.len())?;
+    for place in places {
+        push_value(alloc, &mut values, key, *place)?;
+    }
+    Ok(Key::of(values))
+}
+
+// Appends the value at a place of a key, if it has one.
+fn push_value(
+    alloc: Global,
+    values: &mut Vec<Option<ArgValue>>,
+    key: &Key,
+    place: usize,
+) -> Result<(), AllocError>
+    ensures { OnOk result (values.new.items ≡ values.old.items ++ picked (place ∷ []) key.now) }
+{
+    match key.values().get(place) {
+        Some(value) => {
+            values.push(copy_of(alloc, value)?)?;
+            Ok(())
+        }
+        None => Ok(()),
+    }
+}
+
+fn copy_of(alloc: Global, value: &Option<ArgValue>) -> Result<Option<ArgValue>, AllocError>
+    ensures { IfOk result (λ copy. copy ≡ value.now) }
+{
+    match value {
+        Some(value) => Ok(Some(value.try_clone(alloc)?)),
+        None => Ok(None),
+    }
+}
