@@ -1,19 +1,21 @@
 #!/usr/bin/env python3
 """A plain model of the tables of docs/report.md: closed spans summed by columns, as a ranking, a comparison, and JSON Lines. Files are
-read and collected as for the report (report.py); like that, it is written from the pages alone.
+read and collected as for the report (report.py); like that, it is written from the pages alone. With --add they are tables, which are
+added up.
 
-usage: tables.py [--seal] [--strict] [--apart] (--top N | --json) [--by self|total|count] [--group-by COLUMNS] [--only TEXT].. [--skip TEXT]..
-                 [--base FILE].. FILE...
+usage: tables.py [--seal] [--strict] [--apart | --add] (--top N | --json) [--by self|total|count] [--group-by COLUMNS] [--only TEXT]..
+                 [--skip TEXT].. [--base FILE].. FILE...
 """
 import argparse
 import gc
+import json
 import sys
 from dataclasses import dataclass
 from json.encoder import encode_basestring as json_text
 
 from ledger import self_times
 from reading import is_whole
-from report import bytes_of, collect, count_lines, text_of
+from report import bytes_of, collect, text_of
 
 RANKED_BY = "pid,tid,thread,name"
 COMPARED_BY = "process,thread,name"
@@ -24,14 +26,15 @@ BY = {"self": 2, "total": 1, "count": 0}
 
 # Values, each in a tuple with its place in the order of kinds, so that they compare as keys do.
 MISSING, NIL, OTHER = (0,), (1,), (5,)
+FLAG, WHOLE, WORDS = 2, 3, 4
 
 
 def whole(number):
-    return (3, number)
+    return (WHOLE, number)
 
 
 def words(text):
-    return (4, text)
+    return (WORDS, text)
 
 
 def name_value(name):
@@ -45,7 +48,7 @@ def argument_value(args, key):
     if value is None:
         return NIL
     if type(value) is bool:
-        return (2, value)
+        return (FLAG, value)
     if type(value) is str:
         return words(value)
     return whole(value) if is_whole(value) else OTHER
@@ -95,37 +98,34 @@ class Run:
     name: str = ""
 
 
-@dataclass
-class Counts:
-    """What a head counts, over all runs."""
+# What a head counts, in the order of JSON Lines.
+COUNTS = ["runs", "files", "unread", "events", "refused", "skipped", "queries", "seals"]
 
-    accepted: int
-    refused: dict
-    skipped: int
-    seals: int
+
+def counts_of(run):
+    ledger = run.ledger
+    refused = sum(ledger.refused.values())
+    return dict(zip(COUNTS, [1, run.files, run.unread, ledger.accepted, refused, ledger.skipped, 0, ledger.seals]))
+
+
+def all_counts(each):
+    return {name: sum(counts[name] for counts in each) for name in COUNTS}
 
 
 @dataclass
 class Table:
     columns: list
-    runs: list
+    counts: dict
     rows: dict  # the sums of each key
-    tells_runs: bool
-
-    def counts(self):
-        ledgers = [run.ledger for run in self.runs]
-        refused = {0: sum(sum(ledger.refused.values()) for ledger in ledgers)}
-        accepted, skipped, seals = (sum(getattr(ledger, name) for ledger in ledgers) for name in ("accepted", "skipped", "seals"))
-        return Counts(accepted, refused, skipped, seals)
-
-    def sizes(self):
-        return [len(self.runs), sum(run.files for run in self.runs), sum(run.unread for run in self.runs)]
+    tells_runs: bool = True
 
     def head_lines(self):
         """The lines of the head behind its first, but for that of shown rows."""
-        yield from count_lines(self.counts())
+        yield "events {events} refused {refused} skipped {skipped} queries {queries}".format(**self.counts)
+        if self.counts["seals"]:
+            yield "seals {seals}".format(**self.counts)
         if self.tells_runs:
-            yield "runs {} files {} unread {}".format(*self.sizes())
+            yield "runs {runs} files {files} unread {unread}".format(**self.counts)
 
 
 def table_of(columns, runs, tells_runs=False):
@@ -136,7 +136,18 @@ def table_of(columns, runs, tells_runs=False):
                 for span, own in zip(thread.closed, self_times(thread.closed)):
                     key = tuple(value_of(column, run, number, span) for column in columns)
                     rows[key] = added(rows.get(key, NOTHING), (1, span[1] - span[0], own))
-    return Table(columns, runs, rows, tells_runs)
+    return Table(columns, all_counts([counts_of(run) for run in runs]), rows, tells_runs)
+
+
+def sum_of(tables, columns):
+    """The sum of tables, by these of their columns."""
+    rows = {}
+    for table in tables:
+        places = [table.columns.index(column) for column in columns]
+        for key, sums in table.rows.items():
+            kept = tuple(key[place] for place in places)
+            rows[kept] = added(rows.get(kept, NOTHING), sums)
+    return Table(columns, all_counts([table.counts for table in tables]), rows)
 
 
 @dataclass
@@ -147,7 +158,7 @@ class Wanted:
     skip: list
 
     def shows(self, key):
-        texts = [value[1] for value in key if value[0] == words("")[0]]
+        texts = [value[1] for value in key if value[0] == WORDS]
         return all(any(text in own for own in texts) for text in self.only) and not any(
             text in own for text in self.skip for own in texts
         )
@@ -234,7 +245,7 @@ class TooGreat(Exception):
 
 def json_value(value):
     kind = value[0]
-    if kind == words("")[0]:
+    if kind == WORDS:
         return json_text(value[1])
     if kind in (NIL[0], OTHER[0]):
         return {NIL: "null", OTHER: "{}"}[value]
@@ -260,8 +271,7 @@ def number_members(names, numbers):
 
 
 def head_members(table):
-    counts, names = table.counts(), ["runs", "files", "unread", "events", "refused", "skipped", "queries", "seals"]
-    return number_members(names, [*table.sizes(), counts.accepted, counts.refused[0], counts.skipped, 0, counts.seals])
+    return number_members(COUNTS, [table.counts[name] for name in COUNTS])
 
 
 def column_members(columns):
@@ -301,12 +311,85 @@ def text_or_none(lines):
         return None
 
 
+# Tables that were printed
+
+
+class Stopped(Exception):
+    """There is no text, and this line says why."""
+
+
+# The kinds of value that a column can have; an argument can have any.
+KINDS = {"pid": {WHOLE}, "tid": {WHOLE}, "process": {MISSING[0], WORDS}, "thread": {MISSING[0], WORDS}, "name": {WORDS}, "file": {WORDS}}
+
+
+def printed_value(column, members):
+    """The value of a column in the object of a row."""
+    value = argument_value(members, column)
+    if value[0] not in KINDS.get(column, {value[0]}):
+        raise ValueError(column)
+    return value
+
+
+def printed_number(members, name, least=0):
+    if type(members[name]) is not int or not least <= members[name] < BEYOND:
+        raise ValueError(name)
+    return members[name]
+
+
+def printed_sums(members):
+    return (printed_number(members, "count", 1), printed_number(members, "total"), printed_number(members, "self"))
+
+
+def table_of_text(data):
+    """The table of which JSON Lines print just these bytes; there is none with any other text, such as one that was cut off."""
+    head, *rows = [json.loads(line) for line in data.decode().split("\n")[:-1]] or [{}]
+    columns = columns_of(",".join(head["columns"]))
+    counts = {name: printed_number(head, name) for name in COUNTS}
+    keys = [tuple(printed_value(column, row) for column in columns) for row in rows]
+    table = Table(columns, counts, dict(zip(keys, map(printed_sums, rows))))
+    if json_of(table) != data:
+        raise ValueError("another text")
+    return table
+
+
+def table_of_file(name, data):
+    try:
+        return table_of_text(data)
+    except (ValueError, KeyError, TypeError, RecursionError):
+        raise Stopped(f"tracebook: {json_text(name)}: 53 NotTable") from None
+
+
+def bytes_or_stop(path):
+    try:
+        return bytes_of(path)
+    except OSError:
+        raise Stopped(f"tracebook: {json_text(path)}: 52 NotOpened") from None
+
+
+def tables_of_files(line):
+    """The tables of the base's files, and those of the others, or of standard input where there are none. All have the columns of the
+    first, and those that are asked for."""
+    tables = []
+    for path in [*line.base, *line.files] if line.files else [*line.base, None]:
+        name = "-" if path is None else path
+        table = table_of_file(name, sys.stdin.buffer.read() if path is None else bytes_or_stop(path))
+        first = tables[0] if tables else table
+        if table.columns != first.columns or not set(table.columns).issuperset(wanted_columns(line, table)):
+            raise Stopped(f"tracebook: {json_text(name)}: 54 OtherColumns")
+        tables.append(table)
+    return tables[: len(line.base)], tables[len(line.base) :]
+
+
+def wanted_columns(line, table):
+    return columns_of(line.group_by) if line.group_by else table.columns
+
+
 # The command line
 
 
 def words_of_line():
     parser = argparse.ArgumentParser(allow_abbrev=False)
-    for switch in "--seal", "--strict", "--json", "--apart":
+    for switch in "--seal", "--strict", "--json", "--apart", "--add":
         parser.add_argument(switch, action="store_true")
     parser.add_argument("--top", type=int)
     parser.add_argument("--by", choices=BY, default="self")
@@ -332,22 +415,45 @@ def table_of_files(line, columns, paths):
     return table_of(columns, [run for run, _ in together], line.apart), [fault for _, faults in together for fault in faults]
 
 
-def main():
-    gc.disable()  # Nothing here is let go in rings, and to look for them takes long.
-    line = words_of_line()
+def collected(line):
+    """The tables of the base, if there is one, and of the other files, and the lines of those that are refused."""
     columns = columns_of(line.group_by or (COMPARED_BY if line.top is None else RANKED_BY))
-    wanted, faults, base = Wanted(line.only, line.skip), [], None
-    if line.base:
-        base, faults = table_of_files(line, columns, line.base)
+    base, faults = table_of_files(line, columns, line.base) if line.base else (None, [])
     other, more = table_of_files(line, columns, line.files)
+    return base, other, faults + more
+
+
+def summed(line):
+    """The same of files that are tables, none of which is refused alone."""
+    base, others = tables_of_files(line)
+    columns = wanted_columns(line, others[0])
+    return sum_of(base, columns) if base else None, sum_of(others, columns), []
+
+
+def text_of_line(line):
+    """The text, and the lines of the files that are refused."""
+    base, other, faults = summed(line) if line.add else collected(line)
+    wanted = Wanted(line.only, line.skip)
     if line.json:
         text = json_comparison_of(base, other, wanted) if base else json_of(other, wanted)
     else:
         text = comparison_of(base, other, line.by, wanted) if base else ranking_of(other, line.top, line.by, wanted)
-    sys.stdout.buffer.write(text or b"")
-    for fault in faults + more if text else ["tracebook: 55 TooGreat"]:
+    if text is None:
+        raise Stopped("tracebook: 55 TooGreat")
+    return text, faults
+
+
+def main():
+    gc.disable()  # Nothing here is let go in rings, and to look for them takes long.
+    try:
+        text, faults = text_of_line(words_of_line())
+    except Stopped as stopped:
+        print(stopped, file=sys.stderr)
+        return 2
+    sys.stdout.buffer.write(text)
+    for fault in faults:
         print(fault, file=sys.stderr)
-    return 2 if text is None else 1 if faults + more else 0
+    return 1 if faults else 0
 
 
 if __name__ == "__main__":

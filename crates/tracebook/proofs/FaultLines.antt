@@ -6,8 +6,7 @@ use Rattle.span_report.specs.Sink.{SinkState}
 use Rattle.span_collect.specs.declared.files.Input.{Input}
 use Rattle.span_collect.specs.declared.runs.RunEnd.{RunEnd}
 use Rattle.std.specs.Io.KnownBytes.{Appends}
-use Rattle.tracebook.specs.FaultLines.{MayHint, Reports, SaysCause, SaysOrMemory, cause_text}
-use Rattle.span_runs.specs.declared.stop.StopCause.{StopCause}
+use Rattle.tracebook.specs.FaultLines.{MayHint, Reports, SaysAndHints, SaysOrMemory}
 
 -- the status that is given is the run's, or 2
 pub Reports-status : {files : List Input} {run : RunEnd} {status : ℕ} {old new : SinkState} → Reports files run status old new → (status ≡ run.status) ⊎ (status ≡ 2)
@@ -27,12 +26,12 @@ Reports-le reports le = elim (Reports-status reports) [
 
 -- nothing more was said
 pub MayHint-none : (state : SinkState) → MayHint state state
-MayHint-none state = ([], inl (record { taken = same state.taken; failures = refl }))
+MayHint-none state = ([], inl refl, inl (record { taken = same state.taken; failures = refl }))
   where
     same : (taken : Option (List ℕ)) → Appends taken taken []
     same None = tt
     same (Some bytes) = sym (append-nil bytes)
 
--- a cause was said, and no hint
-pub SaysCause-alone : (cause : StopCause) (old new : SinkState) → SaysOrMemory (cause_text cause) old new → SaysCause cause old new
-SaysCause-alone cause old new says = (new, says, MayHint-none new)
+-- this was said, and no hint
+pub SaysAndHints-alone : (text : List ℕ) (old new : SinkState) → SaysOrMemory text old new → SaysAndHints text old new
+SaysAndHints-alone text old new says = (new, says, MayHint-none new)

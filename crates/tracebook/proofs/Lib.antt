@@ -1,3 +1,4 @@
+mod Adding
 mod Changes
 mod Compared
 mod FaultLines

@@ -1,6 +1,6 @@
 -- What is said where files or runs failed.
 use Rattle.std.specs.Prelude.{◌≡◌, ◌≢◌, ℕ, ◌≤◌, ◌⊎◌, List, [], ◌∷◌, ◌++◌, length, take, codes, Option, Some, None}
-use Rattle.span_event.specs.declared.fault.Fault.TheVariants.{FileCount, Memory, NotOpened}
+use Rattle.span_event.specs.declared.fault.Fault.TheVariants.{FileCount, Memory, NotOpened, NotTable, OtherColumns}
 use Rattle.span_event.specs.Fault.{number_of}
 use Rattle.span_ledger.specs.Refusal.{code_of}
 use Rattle.span_ledger.specs.declared.refusal.Cause.{Cause}
@@ -13,6 +13,8 @@ use Rattle.span_collect.specs.Words.{numbered}
 use Rattle.span_runs.specs.declared.stop.Stop.{Stop}
 use Rattle.span_runs.specs.declared.stop.StopCause.{StopCause}
 use Rattle.span_runs.specs.declared.stop.StopCause.TheVariants as cause
+use Rattle.tracebook.specs.declared.added.AddStop.{AddStop}
+use Rattle.tracebook.specs.declared.added.AddStop.TheVariants as add
 
 -- the line of a run as a whole
 abbrev pub run_line : ℕ → List ℕ
@@ -45,9 +47,13 @@ pub record Reports (files : List Input) (run : RunEnd) (status : ℕ) (old new :
   pub silent : run.status ≡ 0 → (status ≡ 0) × (new ≡ old)
   pub said : run.status ≢ 0 → ((status ≡ run.status) × Says (fault_text files run) old new) ⊎ ((status ≡ 2) × Says (run_line (number_of Memory)) old new)
 
--- something may have been said, as a hint
+-- nothing, or a text that says that it is a hint
+abbrev pub IsHint : List ℕ → Type 0
+IsHint text = (text ≡ []) ⊎ ((rest : List ℕ) × (text ≡ codes "hint: " ++ rest))
+
+-- a hint may have been said
 abbrev pub MayHint : SinkState → SinkState → Type 0
-MayHint old new = (hint : List ℕ) × Says hint old new
+MayHint old new = (hint : List ℕ) × IsHint hint × Says hint old new
 
 -- what is said of what stopped
 abbrev pub cause_text : StopCause → List ℕ
@@ -57,10 +63,22 @@ cause_text (cause.Run error) = run_line (run_code error)
 cause_text (cause.Cut lines) = lines.items
 cause_text cause.TooMany = run_line (number_of FileCount)
 
+-- this was said, and then perhaps a hint
+abbrev pub SaysAndHints : List ℕ → SinkState → SinkState → Type 0
+SaysAndHints text old new = (middle : SinkState) × SaysOrMemory text old middle × MayHint middle new
+
 -- what stopped was said, and then perhaps a hint
 abbrev pub SaysCause : StopCause → SinkState → SinkState → Type 0
-SaysCause cause old new = (middle : SinkState) × SaysOrMemory (cause_text cause) old middle × MayHint middle new
+SaysCause cause old new = SaysAndHints (cause_text cause) old new
 
 -- the lines of the files before were said, and then what stopped
 abbrev pub SaysStop : Stop → SinkState → SinkState → Type 0
 SaysStop stop old new = (middle : SinkState) × Says stop.lines.items old middle × SaysCause stop.cause middle new
+
+-- what is said where tables were not all added
+abbrev pub stop_text : AddStop → List ℕ
+stop_text (add.NotOpened name reason) = unread_line name
+stop_text (add.NotTable name) = fault_line name (number_of NotTable)
+stop_text (add.OtherColumns name) = fault_line name (number_of OtherColumns)
+stop_text add.Memory = run_line (number_of Memory)
+stop_text add.FileCount = run_line (number_of FileCount)

@@ -1,3 +1,5 @@
+pub mod AddStops
+pub mod Added
 pub mod Comparison
 pub mod FaultLines
 pub mod Reading

@@ -8,7 +8,7 @@ use Rattle.span_collect.specs.declared.runs.RunEnd.{RunEnd}
 use Rattle.tracebook.specs.declared.command.Request.{Request}
 use Rattle.tracebook.specs.declared.command.Request.TheVariants.{Run, Show, Refuse}
 use Rattle.tracebook.specs.declared.command.Task.{Task}
-use Rattle.tracebook.specs.declared.command.Task.TheVariants.{Collect, Compare, Sum, CompareSums}
+use Rattle.tracebook.specs.declared.command.Task.TheVariants.{Collect, Compare, Sum, CompareSums, Add, CompareAdded}
 use Rattle.tracebook.specs.declared.comparison.ComparisonFault.{ComparisonFault}
 use Rattle.tracebook.specs.declared.comparison.ComparisonView.{ComparisonView}
 use Rattle.tracebook.specs.declared.view.View.{View}
@@ -17,6 +17,7 @@ use Rattle.tracebook.specs.declared.view.ViewFault.{ViewFault}
 use Rattle.span_runs.specs.declared.names.Named.{Named}
 use Rattle.span_runs.specs.Names.{AreNamed}
 use Rattle.span_runs.specs.Source.{SourceBytes}
+use Rattle.tracebook.specs.Added.{Adds, AddsPart, ComparesAdded, ComparesAddedPart}
 use Rattle.tracebook.specs.Comparison.{ComparisonLeaves, IsComparisonOf, greater}
 use Rattle.span_runs.specs.Inputs.{AreFiles, AreInputs}
 use Rattle.tracebook.specs.Sums.{ComparesSums, ComparesSumsPart, Sums, SumsPart}
@@ -105,6 +106,8 @@ Does source (Collect settings view) names status old new = Collects source names
 Does source (Compare settings view base) names status old new = Compares source base.items names settings view status old new
 Does source (Sum apart view) names status old new = Sums source names apart.settings view status old new
 Does source (CompareSums apart view base) names status old new = ComparesSums source base.items names apart.settings view status old new
+Does source (Add view) names status old new = Adds source names view status old new
+Does source (CompareAdded view base) names status old new = ComparesAdded source base.items names view status old new
 
 -- what was left where that ended with status 2
 abbrev pub DoesPart : SourceBytes → Task → List (List ℕ) → SinkState → SinkState → Type 0
@@ -112,6 +115,8 @@ DoesPart source (Collect settings view) names old new = CollectsPart source name
 DoesPart source (Compare settings view base) names old new = ComparesPart source base.items names settings view old new
 DoesPart source (Sum apart view) names old new = SumsPart source names apart.settings view old new
 DoesPart source (CompareSums apart view base) names old new = ComparesSumsPart source base.items names apart.settings view old new
+DoesPart source (Add view) names old new = AddsPart source names view old new
+DoesPart source (CompareAdded view base) names old new = ComparesAddedPart source base.items names view old new
 
 -- this holds of the names that are given, with those of a list
 abbrev pub WithNames : SourceBytes → Named → (List (List ℕ) → Type 0) → Type 0

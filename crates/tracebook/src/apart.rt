@@ -1,21 +1,21 @@
 //! Files each of which is a run of its own: their tables, summed and printed.
-ghost use Rattle.std.specs.Prelude.{◌≡◌, ◌<◌, ◌≤◌, ◌++◌, [], true, is_ok, IfOk, IfErr};
+ghost use Rattle.std.specs.Prelude.{◌≡◌, ◌<◌, ◌≤◌, ◌++◌, [], true, IfOk};
 ghost use Rattle.tracebook.specs.Comparison.{changes_text};
 ghost use Rattle.tracebook.specs.FaultLines.{Says};
 ghost use Rattle.tracebook.specs.Sums.{ComparesSums, ComparesSumsPart, Sums, SumsInputs, SumsPart, WritesAll, WritesPart};
 ghost use Rattle.tracebook.specs.Tables.{table_fits, table_text};
 
-use crate::comparison::{ComparisonView, changes_text};
-use crate::faults::{FAILED, Faults, fail, fail_stop, say};
+use crate::comparison::ComparisonView;
+use crate::faults::{Faults, fail, fail_stop, say};
 use crate::standard::Standard;
-use crate::tables::{TableView, table_text};
+use crate::sums::{write_runs_changes, write_runs_table};
+use crate::tables::TableView;
 use span_collect::Settings;
 use span_event::{Fault, Text};
-use span_report::{Sink, write_bytes};
+use span_report::Sink;
 use span_runs::{Source, Stop, Summed, sum_apart};
-use span_table::{Column, JsonFault};
+use span_table::Column;
 use std::alloc::Global;
-use std::mem::forget;
 use std::random::RandomSource;
 use std::slice::from_ref;
 use std::sync::Wait;
@@ -180,16 +180,10 @@ fn write_sum<O: Sink, F: Faults>(
     ensures said { result < 2 → Says summed.lines.items (F.state faults.old) (F.state faults.new) }
 {
     let Summed { sum, lines } = summed;
-    let text = match sum.into_table() {
-        Ok(table) => {
-            let text = table_text(alloc, &table, view, true);
-            // The program ends soon, and then the system frees all at once, where freeing one by one takes long.
-            forget(table);
-            text
-        }
-        Err(_) => Err(JsonFault::Memory),
-    };
-    write_told(alloc, text, &lines, out, faults)
+    match sum.into_table() {
+        Ok(table) => write_runs_table(alloc, table, view, &lines, out, faults),
+        Err(_) => fail(alloc, Fault::Memory.code(), faults),
+    }
 }
 
 fn write_comparison<O: Sink, F: Faults>(
@@ -215,44 +209,13 @@ fn write_comparison<O: Sink, F: Faults>(
         sum: later,
         lines: more,
     } = other;
-    let text = match (earlier.into_table(), later.into_table()) {
-        (Ok(earlier), Ok(later)) => {
-            let text = changes_text(alloc, &earlier, &later, view, true);
-            forget(earlier);
-            forget(later);
-            text
-        }
-        _ => Err(JsonFault::Memory),
-    };
     if lines.extend_from_slice(&more).is_err() {
         return fail(alloc, Fault::Memory.code(), faults);
     }
-    write_told(alloc, text, &lines, out, faults)
-}
-
-// Writes a text, if it was made, and then these fault lines.
-fn write_told<O: Sink, F: Faults>(
-    alloc: Global,
-    text: Result<Vec<u8>, JsonFault>,
-    lines: &[u8],
-    out: &mut O,
-    faults: &mut F,
-) -> u8
-    ensures status { result ≤ 2 }
-    ensures made { result < 2 → is_ok text ≡ true }
-    ensures done { IfOk text (λ made. result < 2 → WritesAll made.items lines.now result (O.state out.old) (O.state out.new)) }
-    ensures failed { IfOk text (λ made. result ≡ 2 → WritesPart made.items (O.state out.old) (O.state out.new)) }
-    ensures silent { IfErr text (λ fault. (result ≡ 2) × (O.state out.new ≡ O.state out.old)) }
-    ensures said { result < 2 → Says lines.now (F.state faults.old) (F.state faults.new) }
-{
-    let text = match text {
-        Ok(text) => text,
-        Err(JsonFault::Memory) => return fail(alloc, Fault::Memory.code(), faults),
-        Err(JsonFault::TooGreat) => return fail(alloc, Fault::TooGreat.code(), faults),
-    };
-    if write_bytes(&text, out).is_err() {
-        return fail(alloc, Fault::Output.code(), faults);
+    match (earlier.into_table(), later.into_table()) {
+        (Ok(earlier), Ok(later)) => {
+            write_runs_changes(alloc, earlier, later, view, &lines, out, faults)
+        }
+        _ => fail(alloc, Fault::Memory.code(), faults),
     }
-    say(lines, faults);
-    if lines.is_empty() { 0 } else { 1 }
 }

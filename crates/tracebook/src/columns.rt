@@ -1,6 +1,5 @@
 //! The columns of a table, as the command line names them.
 
-use span_event::Text;
 use span_table::Column;
 use std::alloc::{AllocError, Global};
 
@@ -8,17 +7,17 @@ const MOST: usize = 8;
 
 /// Said of a list that names none, more than may be, one twice, or one that is no column.
 pub(crate) const RULE: &str =
-    "the columns of '--group-by' are pid, tid, process, thread, name, args.KEY, and with '--apart' file: 1 to 8 of them, with commas between, none twice";
+    "the columns of '--group-by' are pid, tid, process, thread, name, args.KEY, and with '--apart' or '--add' file: 1 to 8 of them, with commas between, none twice";
 
 /// Said of the column `file` where a run may have several.
 pub(crate) const FILE_RULE: &str =
-    "the column 'file' goes with '--apart' alone; others are pid, tid, process, thread, name, args.KEY";
+    "the column 'file' goes with '--apart' and '--add' alone; others are pid, tid, process, thread, name, args.KEY";
 
 /// The columns with these names, which stand between commas. None where they are no columns.
 pub(crate) fn columns_of(alloc: Global, names: &str) -> Result<Option<Vec<Column>>, AllocError> {
     let mut columns = Vec::new(alloc);
     for name in names.split(',') {
-        let Some(column) = column_of(alloc, name)? else {
+        let Some(column) = Column::named(alloc, name)? else {
             return Ok(None);
         };
         if columns.len() == MOST || columns.contains(&column) {
@@ -27,21 +26,6 @@ pub(crate) fn columns_of(alloc: Global, names: &str) -> Result<Option<Vec<Column
         columns.push(column)?;
     }
     Ok(Some(columns))
-}
-
-fn column_of(alloc: Global, name: &str) -> Result<Option<Column>, AllocError> {
-    Ok(Some(match name {
-        "pid" => Column::Pid,
-        "tid" => Column::Tid,
-        "process" => Column::Process,
-        "thread" => Column::Thread,
-        "name" => Column::Name,
-        "file" => Column::File,
-        _ => match name.strip_prefix("args.") {
-            Some(key) if !key.is_empty() => Column::Argument(Text::of(alloc, key)?),
-            _ => return Ok(None),
-        },
-    }))
 }
 
 /// Those of a ranking, where the command line names none.

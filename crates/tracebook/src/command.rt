@@ -56,6 +56,15 @@ pub enum Task {
         view: ComparisonView,
         base: Vec<Text>,
     },
+    /// Add them, each of which is a table that was printed, and print this of their sum.
+    Add {
+        view: TableView,
+    },
+    /// Add the base files so, and the others, and print this of what changed.
+    CompareAdded {
+        view: ComparisonView,
+        base: Vec<Text>,
+    },
 }
 
 /// What the words ask for; they leave out the program's own name. Words of which none begins with a hyphen name files.
@@ -110,7 +119,7 @@ fn parsed_request(alloc: Global, words: &[Text]) -> Result<Request, AllocError> 
     let Some(columns) = asked_columns(alloc, &matches)? else {
         return refuse(alloc, &mut command, RULE);
     };
-    if columns.contains(&Column::File) && !matches.get_flag("apart") {
+    if columns.contains(&Column::File) && !is_any_given(&matches, &["apart", "add"]) {
         return refuse(alloc, &mut command, FILE_RULE);
     }
     request_of_matches(alloc, &matches, columns)
@@ -142,6 +151,11 @@ const BOUND: &[Bound] = &[
         option: "only",
         texts: TABLES,
         rule: "the argument '--only <TEXT>' goes with '--top <N>', '--json' and '--base <FILE>' alone",
+    },
+    Bound {
+        option: "add",
+        texts: TABLES,
+        rule: "the argument '--add' goes with '--top <N>', '--json' and '--base <FILE>' alone",
     },
     Bound {
         option: "apart",
@@ -181,7 +195,7 @@ fn is_any_given(matches: &ArgMatches<'_>, texts: &[&str]) -> bool {
 
 // A switch has a value even where it is not given.
 fn is_given(matches: &ArgMatches<'_>, option: &str) -> bool {
-    if option == "json" || option == "apart" {
+    if option == "json" || option == "apart" || option == "add" {
         return matches.get_flag(option);
     }
     matches.contains_id(option)
@@ -215,13 +229,16 @@ fn with_program<'a>(alloc: Global, words: &'a [Text]) -> Result<Vec<&'a str>, Al
     Ok(all)
 }
 
-// The columns that are asked for, or those of the text where none are. None where they are no columns.
+// The columns that are asked for, or those of the text where none are; none of tables that are added. None where they are no columns.
 fn asked_columns(
     alloc: Global,
     matches: &ArgMatches<'_>,
 ) -> Result<Option<Vec<Column>>, AllocError> {
     if let Some(names) = matches.get_str("group-by") {
         return columns_of(alloc, names);
+    }
+    if matches.get_flag("add") {
+        return Ok(Some(Vec::new(alloc)));
     }
     if matches.contains_id("top") {
         return Ok(Some(ranked(alloc)?));
@@ -270,14 +287,21 @@ fn task_of(
         let view = ComparisonView { options, form };
         return Ok(comparison_task(matches, settings, view, base));
     }
-    if matches.get_flag("apart") {
-        let apart = apart_of(matches, settings);
+    if is_any_given(matches, &["apart", "add"]) {
         let form = table_form(matches);
         let view = TableView { options, form };
-        return Ok(Task::Sum { apart, view });
+        return Ok(sum_task(matches, settings, view));
     }
     let view = view_of(matches, options);
     Ok(Task::Collect { settings, view })
+}
+
+fn sum_task(matches: &ArgMatches<'_>, settings: Settings, view: TableView) -> Task {
+    if matches.get_flag("add") {
+        return Task::Add { view };
+    }
+    let apart = apart_of(matches, settings);
+    Task::Sum { apart, view }
 }
 
 fn comparison_task(
@@ -289,6 +313,9 @@ fn comparison_task(
     if matches.get_flag("apart") {
         let apart = apart_of(matches, settings);
         return Task::CompareSums { apart, view, base };
+    }
+    if matches.get_flag("add") {
+        return Task::CompareAdded { view, base };
     }
     Task::Compare {
         settings,

@@ -3,7 +3,8 @@ ghost use Rattle.std.specs.Prelude.{◌≡◌, ◌≤◌, ℕ, List, length, IfO
 ghost use Rattle.span_event.specs.declared.fault.Fault.TheVariants.{Memory};
 ghost use Rattle.span_event.specs.Fault.{number_of};
 ghost use Rattle.span_report.specs.Sink.{SinkState};
-ghost use Rattle.tracebook.specs.FaultLines.{MayHint, Reports, Says, SaysCause, SaysOrMemory, SaysStop, fault_text, run_line, unread_line};
+ghost use Rattle.span_collect.specs.FaultLines.{fault_line};
+ghost use Rattle.tracebook.specs.FaultLines.{IsHint, MayHint, Reports, Says, SaysCause, SaysOrMemory, SaysStop, fault_text, run_line};
 
 use crate::hints::{Hint, MANY_FILES, RefusalCounts, hint_of_bytes};
 use span_collect::{Collected, FileEnd, Input, RunEnd, fault_line_of, fault_lines, numbered_text};
@@ -123,7 +124,7 @@ pub(crate) fn fail_cause<F: Faults>(alloc: Global, cause: StopCause, faults: &mu
 {
     match cause {
         StopCause::NotOpened(name, reason) => {
-            let status = fail_at(alloc, &name, faults);
+            let status = fail_at(alloc, &name, Fault::NotOpened.code(), faults);
             put_hint(alloc, &name, Hint::Unreadable(reason), faults);
             drop(name);
             status
@@ -139,12 +140,12 @@ pub(crate) fn fail_cause<F: Faults>(alloc: Global, cause: StopCause, faults: &mu
     }
 }
 
-// Says that a file could not be read.
-fn fail_at<F: Faults>(alloc: Global, name: &Text, faults: &mut F) -> u8
+/// Says what is wrong with a file, without which there is no text.
+pub(crate) fn fail_at<F: Faults>(alloc: Global, name: &Text, code: u16, faults: &mut F) -> u8
     ensures status { result ≡ 2 }
-    ensures said { SaysOrMemory (unread_line name.now) (F.state faults.old) (F.state faults.new) }
+    ensures said { SaysOrMemory (fault_line name.now code) (F.state faults.old) (F.state faults.new) }
 {
-    say_line(fault_line_of(alloc, name, Fault::NotOpened.code()), faults);
+    say_line(fault_line_of(alloc, name, code), faults);
     FAILED
 }
 
@@ -199,12 +200,16 @@ fn put_hint<F: Faults>(alloc: Global, name: &Text, hint: Hint, faults: &mut F)
     if !faults.takes_hints() {
         return;
     }
-    if let Ok(line) = hint_line(alloc, name, hint) {
-        say(line.as_bytes(), faults);
+    match hint_line(alloc, name, hint) {
+        Ok(line) => say(line.as_bytes(), faults),
+        Err(_) => {}
     }
 }
 
-fn hint_line(alloc: Global, name: &Text, hint: Hint) -> Result<String, AllocError> {
+fn hint_line(alloc: Global, name: &Text, hint: Hint) -> Result<String, AllocError>
+    ensures { IfOk result (λ line. IsHint (string_bytes line)) }
+{
     let name = json_text(alloc, name)?;
-    format!(in alloc; "hint: {name}: {hint}\n")
+    let told = format!(in alloc; "{name}: {hint}\n")?;
+    format!(in alloc; "hint: {told}")
 }

@@ -1,6 +1,7 @@
 //! Reports where the time went in trace event files.
 #![tactic(auto)]
 
+mod added;
 mod apart;
 mod columns;
 mod command;
@@ -13,6 +14,7 @@ mod program;
 mod progress;
 mod reading;
 mod standard;
+mod sums;
 mod tables;
 mod view;
 
@@ -31,8 +33,7 @@ use std::process::ExitCode;
 use std::{env, io};
 
 // Said before standard input is read from a terminal.
-const AT_TERMINAL: &str =
-    "hint: reading a trace from the terminal; --help shows how to name a file\n";
+const AT_TERMINAL: &str = "hint: reading from the terminal; --help shows how to name a file\n";
 
 // The real files and standard input.
 #[derive(Drop)]

@@ -23,10 +23,14 @@ time, total time or the number of spans
 
 const GROUP_BY_HELP: &str = r#"Sum the spans of a table by these columns, 1 to 8 of them: pid, tid,
 process, thread, name, args.KEY (an argument of the span), and with
---apart file; with --top, --json and --base"#;
+--apart file; with --add keep just these columns of the tables; with
+--top, --json and --base"#;
 
 const APART_HELP: &str = r#"Take each FILE as a run of its own, whatever processes they share, and
 sum their tables; any number of files; with --top, --json and --base"#;
+
+const ADD_HELP: &str = r#"Take each FILE as a table that --json printed, without --base, and add
+them; any number of files; with --top, --json and --base"#;
 
 const JOBS_HELP: &str = r#"How many files are read and collected at once with --apart, 1 to 64
 [default: the processors that the system grants]"#;
@@ -73,15 +77,18 @@ Status:
   0  every file was read, and the report is on standard output
   1  a file is not a trace, which standard error says; the report of the others
      is on standard output
-  2  usage error, a file could not be read, out of memory, or the limit was
-     reached: there is no report
+  2  usage error, a file could not be read or added, out of memory, or the limit
+     was reached: there is no report
 
 Examples:
   tracebook --top 20 --skip 'Total ' build.json
 shows the names that took the most self time, each with its process and thread,
 without clang's own sums.
   tracebook --top 20 --by total --group-by args.detail --only .h build.json
-shows which headers took the most time."#;
+shows which headers took the most time.
+  tracebook --apart --json --group-by name,args.detail a/*.json > a.jsonl
+  tracebook --add --top 20 a.jsonl b.jsonl
+adds what two machines summed."#;
 
 pub(crate) fn command_of<'a>(
     alloc: Global,
@@ -124,6 +131,7 @@ fn add_table_options(alloc: Global, arguments: &mut Vec<Arg<'_>>) -> Result<(), 
     arguments.push(json_option(alloc)?)?;
     arguments.push(switch(alloc, "apart", APART_HELP))?;
     arguments.push(jobs_option(alloc))?;
+    arguments.push(add_option(alloc)?)?;
     arguments.push(group_by_option(alloc))?;
     let only = list_option(alloc, "only", "TEXT", ONLY_HELP);
     arguments.push(only.value_parser(ValueParser::NonEmptyString))?;
@@ -158,6 +166,10 @@ fn jobs_option(alloc: Global) -> Arg<'static> {
         .allow_negative_numbers(true)
         .action(ArgAction::Set)
         .help(JOBS_HELP)
+}
+
+fn add_option(alloc: Global) -> Result<Arg<'static>, AllocError> {
+    switch(alloc, "add", ADD_HELP).conflicts_with_all(&["limit", "seal", "strict", "apart", "jobs"])
 }
 
 fn by_option(alloc: Global) -> Arg<'static> {
@@ -203,5 +215,5 @@ fn files_argument(alloc: Global) -> Arg<'static> {
         .value_name("FILE")
         .num_args(0..)
         .action(ArgAction::Append)
-        .help("A trace; without one, standard input is read")
+        .help("A trace, or a table with --add; without one, standard input is read")
 }

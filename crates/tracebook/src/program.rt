@@ -2,6 +2,7 @@
 ghost use Rattle.std.specs.Prelude.{◌≡◌, ◌<◌, ◌≤◌, ◌⊎◌, length};
 ghost use Rattle.tracebook.specs.Request.{Asked, Does, DoesPart, EndsWith, LeavesPart, Collects, CollectsPart, Compares, ComparesPart, ComparesWith, ComparisonPart, Performs, GivesUp};
 
+use crate::added::{add_files, compare_added};
 use crate::apart::{compare_sums, sum_files};
 use crate::command::{Request, Task, request_of};
 use crate::comparison::{ComparisonView, greater, run_comparison};
@@ -102,6 +103,10 @@ fn perform_task<R: Threads + Wait + RandomSource + Sync, S: Source + Sync, O: Si
         ),
         Task::CompareSums { apart, view, base } => {
             compare_sums(rt, alloc, &apart, &view, base, names, source, out, faults)
+        }
+        Task::Add { view } => add_files(rt, alloc, &view, names, source, out, faults),
+        Task::CompareAdded { view, base } => {
+            compare_added(rt, alloc, &view, base, names, source, out, faults)
         }
     }
 }

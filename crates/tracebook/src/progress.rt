@@ -21,7 +21,7 @@ pub(crate) struct Progress<'a> {
     begun: Option<Instant>,
     // How many milliseconds after that the line was written last.
     last: AtomicU64,
-    // How many files are opened, and how many there are where each is a run of its own, else 0.
+    // How many files are opened, and how many there are where each is a run of its own or a table, else 0.
     opened: AtomicU64,
     files: AtomicU64,
     // How many bytes of the latest file are read, and how many it has, where that is known.
@@ -46,7 +46,7 @@ impl<'a> Progress<'a> {
         }
     }
 
-    /// So many files are read, each for a run of its own.
+    /// So many files are read, each for itself.
     pub(crate) fn begin_apart(&self, files: u64) {
         self.files.store(files, Ordering::SeqCst);
     }

@@ -6,7 +6,7 @@ ghost use Rattle.tracebook.specs.Tables.{table_fits, table_text};
 use span_table::{By, Column, JsonFault, Shown, Table, json_table, ranking};
 use std::alloc::Global;
 
-/// Which table is printed: by which columns spans are summed, and which rows are shown.
+/// Which table is printed: by which columns spans are summed, and which rows are shown. Of tables that are added no columns are all.
 #[derive(Drop)]
 pub struct TableOptions {
     pub columns: Vec<Column>,

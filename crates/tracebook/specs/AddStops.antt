@@ -1,0 +1,98 @@
+-- Tables are added one after another, and the first file that stops decides.
+use Rattle.std.specs.Prelude.{◌≡◌, ◌⊎◌, List, [], ◌∷◌, ◌++◌}
+use Rattle.std.specs.List.{AllZip}
+use Rattle.span_event.specs.Text.{Bytes}
+use Rattle.span_parts.specs.declared.fault.PartFault.{PartFault}
+use Rattle.span_parts.specs.declared.fault.PartFault.TheVariants as part
+use Rattle.span_parts.specs.Sum.{HasOtherColumns, IsNoPart, LacksColumn, PartSum, SumsParts, TakesFirst, TakesPart}
+use Rattle.span_table.specs.declared.column.Column.{Column}
+use Rattle.tracebook.specs.declared.added.AddStop.{AddStop}
+use Rattle.tracebook.specs.declared.added.AddStop.TheVariants.{NotOpened, NotTable, OtherColumns, Memory, FileCount}
+use Rattle.tracebook.specs.Added.{AddsBeside, AddsChosen, IsText, Known}
+
+-- the sum of one file, by the columns that are asked for
+pub record BeginsWith (known : Known) (wanted : List Column) (name : Bytes) (sum : PartSum) : Type 0 where
+  pub text : Bytes
+  pub held : IsText known name text
+  pub takes : TakesFirst wanted text sum
+
+-- one more file is added
+pub record AddsFile (known : Known) (name : Bytes) (old new : PartSum) : Type 0 where
+  pub text : Bytes
+  pub held : IsText known name text
+  pub takes : TakesPart text old new
+
+-- more files are added, by the same columns
+pub record AddsMore (old new : PartSum) (known : Known) (names : List Bytes) : Type 0 where
+  pub texts : List Bytes
+  pub held : AllZip (IsText known) names texts
+  pub columns : new.columns ≡ old.columns
+  pub places : new.places ≡ old.places
+  pub sums : (before : List Bytes) → SumsParts before old → SumsParts (before ++ texts) new
+
+-- the file was read, and this holds of its text
+abbrev pub HoldsOfText : Known → Bytes → (Bytes → Type 0) → Type 0
+HoldsOfText known name Holds = (text : Bytes) × IsText known name text × Holds text
+
+-- the file was not read, or memory was refused
+abbrev pub IsUnread : Bytes → AddStop → Type 0
+IsUnread name (NotOpened named reason) = named ≡ name
+IsUnread name Memory = Unit {0}
+IsUnread name stop = ⊥
+
+-- this fault of the file's table stopped, or memory for its name was refused
+abbrev pub IsOfPart : Bytes → PartFault → AddStop → Type 0
+IsOfPart name fault (NotOpened named reason) = ⊥
+IsOfPart name fault (NotTable named) = (named ≡ name) × (fault ≡ part.NotTable)
+IsOfPart name fault (OtherColumns named) = (named ≡ name) × (fault ≡ part.OtherColumns)
+IsOfPart name fault Memory = Unit {0}
+IsOfPart name fault FileCount = fault ≡ part.TooMany
+
+-- this stopped at the file, whose table is by other columns where that holds of its text
+abbrev pub StopsAt : Known → (Bytes → Type 0) → Bytes → AddStop → Type 0
+StopsAt known IsOther name (NotOpened named reason) = named ≡ name
+StopsAt known IsOther name (NotTable named) = (named ≡ name) × HoldsOfText known name IsNoPart
+StopsAt known IsOther name (OtherColumns named) = (named ≡ name) × HoldsOfText known name IsOther
+StopsAt known IsOther name Memory = Unit {0}
+StopsAt known IsOther name FileCount = Unit {0}
+
+-- this stopped at the first file, or there is none
+abbrev pub StopsFirst : List Column → AddStop → Known → List Bytes → Type 0
+StopsFirst wanted stop known [] = stop ≡ FileCount
+StopsFirst wanted stop known (name ∷ later) = StopsAt known (LacksColumn wanted) name stop
+
+-- this stopped at the first of these, behind files that have these columns; where there is none, memory was refused
+abbrev pub StopsNext : List Column → AddStop → Known → List Bytes → Type 0
+StopsNext columns stop known [] = stop ≡ Memory
+StopsNext columns stop known (name ∷ later) = StopsAt known (HasOtherColumns columns) name stop
+
+-- the first of these files were added to a sum, and this stopped at the next
+pub record StopsMore (old : PartSum) (stop : AddStop) (known : Known) (names : List Bytes) : Type 0 where
+  pub done : List Bytes
+  pub later : List Bytes
+  pub split : names ≡ done ++ later
+  pub sum : PartSum
+  pub added : AddsMore old sum known done
+  pub cause : StopsNext old.columns stop known later
+
+-- the first of these files were added, by the columns that are asked for, and this stopped at the next
+pub record StopsLater (wanted : List Column) (stop : AddStop) (known : Known) (names : List Bytes) : Type 0 where
+  pub done : List Bytes
+  pub later : List Bytes
+  pub split : names ≡ done ++ later
+  pub sum : PartSum
+  pub added : AddsChosen wanted sum known done
+  pub cause : StopsNext sum.columns stop known later
+
+-- why these files were not all added
+abbrev pub Stops : List Column → AddStop → Known → List Bytes → Type 0
+Stops wanted stop known names = StopsFirst wanted stop known names ⊎ StopsLater wanted stop known names
+
+-- the first of these files were added, by the same columns as the base, and this stopped at the next
+pub record StopsBeside (base : PartSum) (stop : AddStop) (known : Known) (names : List Bytes) : Type 0 where
+  pub done : List Bytes
+  pub later : List Bytes
+  pub split : names ≡ done ++ later
+  pub sum : PartSum
+  pub added : AddsBeside base sum known done
+  pub cause : StopsNext base.columns stop known later

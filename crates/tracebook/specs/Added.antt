@@ -1,0 +1,72 @@
+-- Tables that were printed are added: what is printed of the sum.
+use Rattle.std.specs.Prelude.{◌≡◌, ◌⊎◌, ℕ, true, List, [], ◌∷◌, codes, Option}
+use Rattle.std.specs.List.{AllZip}
+use Rattle.span_event.specs.Text.{Bytes}
+use Rattle.span_report.specs.Sink.{SinkState}
+use Rattle.span_parts.specs.Sum.{Chooses, PartSum, SumsParts}
+use Rattle.span_runs.specs.Source.{AreFirst, SourceBytes}
+use Rattle.span_table.specs.declared.column.Column.{Column}
+use Rattle.tracebook.specs.declared.comparison.ComparisonView.{ComparisonView}
+use Rattle.tracebook.specs.declared.tables.TableView.{TableView}
+use Rattle.tracebook.specs.Comparison.{changes_text}
+use Rattle.tracebook.specs.Sums.{WritesAll, WritesPart}
+use Rattle.tracebook.specs.Tables.{table_fits, table_text}
+
+-- what is known of the bytes under each name
+abbrev pub Known : Type 0
+Known = Bytes → Option Bytes
+
+-- the most bytes that are read of a table
+abbrev pub most_added : ℕ
+most_added = 1099511627776
+
+-- the text is that of the file of this name, as far as it is read
+abbrev pub IsText : Known → Bytes → Bytes → Type 0
+IsText known name text = AreFirst most_added (known name) text
+
+-- this holds of the files of these names; of standard input, as the file `-`, where there are none
+abbrev pub OfInputs : SourceBytes → List Bytes → (Known → List Bytes → Type 0) → Type 0
+OfInputs source [] Holds = Holds (λ name. source.standard) (codes "-" ∷ [])
+OfInputs source (name ∷ names) Holds = Holds source.file (name ∷ names)
+
+-- the sum is that of the tables of these files
+pub record AddsFiles (known : Known) (names : List Bytes) (sum : PartSum) : Type 0 where
+  pub texts : List Bytes
+  pub held : AllZip (IsText known) names texts
+  pub sums : SumsParts texts sum
+
+-- the same by the columns that are asked for
+abbrev pub AddsChosen : List Column → PartSum → Known → List Bytes → Type 0
+AddsChosen wanted sum known names = AddsFiles known names sum × Chooses wanted sum
+
+-- the sum of these files has the same columns as another, at the same places
+pub record AddsBeside (base sum : PartSum) (known : Known) (names : List Bytes) : Type 0 where
+  pub added : AddsFiles known names sum
+  pub columns : sum.columns ≡ base.columns
+  pub places : sum.places ≡ base.places
+
+-- the files of these names were added, and this view of the sum is written
+pub record Adds (source : SourceBytes) (names : List Bytes) (view : TableView) (status : ℕ) (old new : SinkState) : Type 0 where
+  pub sum : PartSum
+  pub added : OfInputs source names (AddsChosen view.options.columns.items sum)
+  pub fits : table_fits view sum.sum ≡ true
+  pub written : WritesAll (table_text view true sum.sum) [] status old new
+
+-- nothing was written, or first bytes of that
+abbrev pub AddsPart : SourceBytes → List Bytes → TableView → SinkState → SinkState → Type 0
+AddsPart source names view old new = (new ≡ old)
+    ⊎ ((sum : PartSum) × OfInputs source names (AddsChosen view.options.columns.items sum) × WritesPart (table_text view true sum.sum) old new)
+
+-- the base's files were added, and the others by the same columns, and what changed between the sums is written
+pub record ComparesAdded (source : SourceBytes) (base_names names : List Bytes) (view : ComparisonView) (status : ℕ) (old new : SinkState) : Type 0 where
+  pub base : PartSum
+  pub other : PartSum
+  pub base_added : AddsChosen view.options.columns.items base source.file base_names
+  pub added : OfInputs source names (AddsBeside base other)
+  pub written : WritesAll (changes_text view true base.sum other.sum) [] status old new
+
+-- nothing was written, or first bytes of that
+abbrev pub ComparesAddedPart : SourceBytes → List Bytes → List Bytes → ComparisonView → SinkState → SinkState → Type 0
+ComparesAddedPart source base_names names view old new = (new ≡ old)
+    ⊎ ((base : PartSum) × (other : PartSum) × AddsChosen view.options.columns.items base source.file base_names
+    × OfInputs source names (AddsBeside base other) × WritesPart (changes_text view true base.sum other.sum) old new)

@@ -1,0 +1,87 @@
+//! Tables of several runs, as they are printed: their heads tell of the runs, and fault lines follow.
+ghost use Rattle.std.specs.Prelude.{◌≡◌, ◌<◌, ◌≤◌, true, is_ok, IfOk, IfErr};
+ghost use Rattle.tracebook.specs.Comparison.{changes_text};
+ghost use Rattle.tracebook.specs.FaultLines.{Says};
+ghost use Rattle.tracebook.specs.Sums.{WritesAll, WritesPart};
+ghost use Rattle.tracebook.specs.Tables.{table_fits, table_text};
+
+use crate::comparison::{ComparisonView, changes_text};
+use crate::faults::{FAILED, Faults, fail, say};
+use crate::tables::{TableView, table_text};
+use span_event::Fault;
+use span_report::{Sink, write_bytes};
+use span_table::{JsonFault, Table};
+use std::alloc::Global;
+use std::mem::forget;
+
+/// Writes a table, and then these fault lines.
+pub(crate) fn write_runs_table<O: Sink, F: Faults>(
+    alloc: Global,
+    table: Table,
+    view: &TableView,
+    lines: &[u8],
+    out: &mut O,
+    faults: &mut F,
+) -> u8
+    ensures status { result ≤ 2 }
+    ensures fits { result < 2 → table_fits view.now table ≡ true }
+    ensures done { result < 2
+        → WritesAll (table_text view.now true table) lines.now result (O.state out.old) (O.state out.new) }
+    ensures failed { result ≡ 2 → WritesPart (table_text view.now true table) (O.state out.old) (O.state out.new) }
+    ensures said { result < 2 → Says lines.now (F.state faults.old) (F.state faults.new) }
+{
+    let text = table_text(alloc, &table, view, true);
+    // The program ends soon, and then the system frees all at once, where freeing one by one takes long.
+    forget(table);
+    write_told(alloc, text, lines, out, faults)
+}
+
+/// Writes what changed between two tables, and then these fault lines.
+pub(crate) fn write_runs_changes<O: Sink, F: Faults>(
+    alloc: Global,
+    base: Table,
+    other: Table,
+    view: &ComparisonView,
+    lines: &[u8],
+    out: &mut O,
+    faults: &mut F,
+) -> u8
+    ensures status { result ≤ 2 }
+    ensures done { result < 2
+        → WritesAll (changes_text view.now true base other) lines.now result (O.state out.old) (O.state out.new) }
+    ensures failed { result ≡ 2 → WritesPart (changes_text view.now true base other) (O.state out.old) (O.state out.new) }
+    ensures said { result < 2 → Says lines.now (F.state faults.old) (F.state faults.new) }
+{
+    let text = changes_text(alloc, &base, &other, view, true);
+    // The program ends soon, and then the system frees all at once, where freeing one by one takes long.
+    forget(base);
+    forget(other);
+    write_told(alloc, text, lines, out, faults)
+}
+
+// Writes a text, if it was made, and then these fault lines.
+fn write_told<O: Sink, F: Faults>(
+    alloc: Global,
+    text: Result<Vec<u8>, JsonFault>,
+    lines: &[u8],
+    out: &mut O,
+    faults: &mut F,
+) -> u8
+    ensures status { result ≤ 2 }
+    ensures made { result < 2 → is_ok text ≡ true }
+    ensures done { IfOk text (λ made. result < 2 → WritesAll made.items lines.now result (O.state out.old) (O.state out.new)) }
+    ensures failed { IfOk text (λ made. result ≡ 2 → WritesPart made.items (O.state out.old) (O.state out.new)) }
+    ensures silent { IfErr text (λ fault. (result ≡ 2) × (O.state out.new ≡ O.state out.old)) }
+    ensures said { result < 2 → Says lines.now (F.state faults.old) (F.state faults.new) }
+{
+    let text = match text {
+        Ok(text) => text,
+        Err(JsonFault::Memory) => return fail(alloc, Fault::Memory.code(), faults),
+        Err(JsonFault::TooGreat) => return fail(alloc, Fault::TooGreat.code(), faults),
+    };
+    if write_bytes(&text, out).is_err() {
+        return fail(alloc, Fault::Output.code(), faults);
+    }
+    say(lines, faults);
+    if lines.is_empty() { 0 } else { 1 }
+}
