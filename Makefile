@@ -2,10 +2,12 @@
 
 PREFIX ?= /usr/local
 DESTDIR ?=
+# What is installed and packed.
+PROGRAM ?= tracebook
 
 SOURCES := crates.txt HANDLES $(shell find crates -name out -prune -o -type f -print)
 
-.PHONY: all demo test check bench install clean
+.PHONY: all demo test check bench install dist clean
 
 all: tracebook
 
@@ -28,8 +30,8 @@ check:
 	tests/run
 
 # Times the reading of traces beside that of other readers, the division of a thread's time, a report beside its reading, names
-# that were chosen to collide beside ordinary ones, traces in which each event is new, folded stacks and tables beside reports, and
-# whole runs over many threads and over several files.
+# that were chosen to collide beside ordinary ones, traces in which each event is new, folded stacks and tables beside reports, tables
+# that are added, and whole runs over many threads and over several files.
 bench: tracebook
 	cd crates/bench_reading && rt run < stdin
 	cd crates/bench_tracking && rt run < stdin
@@ -40,17 +42,23 @@ bench: tracebook
 	bench/folding
 	bench/tables
 	bench/build
+	bench/added
 	bench/threads
 	bench/workers
 
-install: tracebook
+install: $(PROGRAM)
 	install -d $(DESTDIR)$(PREFIX)/bin
-	install -m 755 tracebook $(DESTDIR)$(PREFIX)/bin/tracebook
+	install -m 755 $(PROGRAM) $(DESTDIR)$(PREFIX)/bin/tracebook
+	install -m 755 cluster/tracebook_dask.py $(DESTDIR)$(PREFIX)/bin/tracebook_dask
 	install -d $(DESTDIR)$(PREFIX)/share/man/man1
 	install -m 644 docs/tracebook.1 $(DESTDIR)$(PREFIX)/share/man/man1/tracebook.1
 	install -d $(DESTDIR)$(PREFIX)/share/bash-completion/completions
 	install -m 644 docs/tracebook.bash $(DESTDIR)$(PREFIX)/share/bash-completion/completions/tracebook
 
+# A package for Debian and a tar file, with the same files.
+dist: $(PROGRAM)
+	scripts/dist $(PROGRAM)
+
 clean:
 	rm -f tracebook build.log demo.html
-	rm -rf crates/*/out
+	rm -rf out crates/*/out
