@@ -4,7 +4,8 @@ use Rattle.std.specs.Prelude.{flat_map}
 use Rattle.span_event.specs.Text.{Bytes}
 use Rattle.span_table.specs.declared.column.Column.{Column}
 use Rattle.span_table.specs.Adding.{add_tables, picked, with_columns}
-use Rattle.span_table.specs.Printed.{IsPart, text_of}
+use Rattle.span_table.specs.Json.{text_of}
+use Rattle.span_table.specs.Printed.{IsPart}
 use Rattle.span_table.specs.Tables.{Run, SpanTable, table_of}
 use Rattle.span_table.proofs.AddedTables.{add_tables-parts, table_of-moved, table_of-picked}
 use Rattle.span_table.proofs.PartsTold.{parts-told}

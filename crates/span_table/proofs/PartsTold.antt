@@ -14,9 +14,9 @@ use Rattle.span_table.specs.declared.heads.Head.{Head}
 use Rattle.span_table.specs.declared.sums.Sums.{Sums}
 use Rattle.span_table.specs.declared.table.Row.{Row}
 use Rattle.span_table.specs.Columns.{column_name}
-use Rattle.span_table.specs.Json.{fit, json_line}
+use Rattle.span_table.specs.Json.{fit, json_line, text_of}
 use Rattle.span_table.specs.Keys.{TableKey}
-use Rattle.span_table.specs.Printed.{AreDistinct, IsKeyOf, IsRowOf, IsTable, MayHave, PartsAreTold, text_of}
+use Rattle.span_table.specs.Printed.{AreDistinct, IsKeyOf, IsRowOf, IsTable, MayHave, PartsAreTold}
 use Rattle.span_table.specs.Tables.{SpanTable}
 use Rattle.span_table.specs.Tokens.{head_tokens, key_tokens, name_tokens, numbers_tokens, row_tokens, sums_tokens, value_tokens}
 use Rattle.span_table.proofs.Printed.{json_head-print, json_line-print}

@@ -81,10 +81,16 @@ unfoldable pub json_head : List Column → ℕ → Head → Bytes
 json_head columns rows head =
     object_of (codes "\"tracebook\":1" ∷ member_of (codes "columns") (columns_json columns) ∷ number_member (codes "rows") rows ∷ head_members head) ++ 10 ∷ []
 
--- the first line, and then one for each row that is shown
+-- the first line, and then one for each row
+abbrev pub text_of : SpanTable → Bytes
+text_of table = json_head table.columns (length table.rows) table.head ++ flat_map (json_line table.columns) table.rows
+
+-- the table without the rows that aren't shown
+abbrev pub shown_table : Wanted → SpanTable → SpanTable
+shown_table wanted table = record { columns = table.columns; head = table.head; rows = shown_rows wanted table.rows }
+
 abbrev pub json_of : Wanted → SpanTable → Bytes
-json_of wanted table = let shown = shown_rows wanted table.rows in
-    json_head table.columns (length shown) table.head ++ flat_map (json_line table.columns) shown
+json_of wanted table = text_of (shown_table wanted table)
 
 -- the sums have 64 bits
 abbrev pub fit : Sums → Bool
@@ -99,9 +105,12 @@ counts_fit counts =
 abbrev pub head_fits : Head → Bool
 head_fits head = nat_lt head.runs (2 ^ 64) && (nat_lt head.files (2 ^ 64) && (nat_lt head.unread (2 ^ 64) && counts_fit head.counts))
 
--- the head, and all sums that are shown, have 64 bits
+-- the head and all sums have 64 bits
+abbrev pub numbers_fit : SpanTable → Bool
+numbers_fit table = head_fits table.head && list_all (λ (row : Row). fit row.sums) table.rows
+
 abbrev pub json_fits : Wanted → SpanTable → Bool
-json_fits wanted table = head_fits table.head && list_all (λ (row : Row). fit row.sums) (shown_rows wanted table.rows)
+json_fits wanted table = numbers_fit (shown_table wanted table)
 
 -- the sums of both sides
 abbrev pub both_members : Both → List Bytes

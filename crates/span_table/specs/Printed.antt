@@ -9,7 +9,7 @@ use Rattle.span_table.specs.declared.column.Column.{Column}
 use Rattle.span_table.specs.declared.column.Column.TheVariants.{Pid, Tid, Process, Thread, Name, File, Argument}
 use Rattle.span_table.specs.declared.table.Row.{Row}
 use Rattle.span_table.specs.Columns.{Value, column_name}
-use Rattle.span_table.specs.Json.{fit, head_fits, json_head, json_line}
+use Rattle.span_table.specs.Json.{fit, head_fits, numbers_fit, text_of}
 use Rattle.span_table.specs.Keys.{TableKey}
 use Rattle.span_table.specs.Tables.{RowsRise, SpanTable}
 
@@ -41,6 +41,18 @@ MayHave Thread value = IsName value
 MayHave Name value = IsWords value
 MayHave File value = IsWords value
 MayHave (Argument key) value = IsOfArgument value
+
+-- the numbers of a key have 64 bits, as far as there are columns
+abbrev pub KeyFits : List Column → TableKey → Type 0
+KeyFits [] key = ⊤
+KeyFits (column ∷ columns) [] = ⊤
+KeyFits (column ∷ columns) (value ∷ key) = IsOfArgument value × KeyFits columns key
+
+-- all numbers of a table have 64 bits, and so has that of its rows
+pub record AllFit (table : SpanTable) : Type 0 where
+  pub numbers : numbers_fit table ≡ true
+  pub few : length table.rows < 2 ^ 64
+  pub keys : All (λ row. KeyFits table.columns row.key) table.rows
 
 -- a value for each column
 abbrev pub IsKeyOf : List Column → TableKey → Type 0
@@ -78,10 +90,6 @@ pub record IsTable (table : SpanTable) : Type 0 where
   pub few : length table.rows < 2 ^ 64
   pub rows : All (IsRowOf table.columns) table.rows
   pub rise : RowsRise table.rows
-
--- its text
-abbrev pub text_of : SpanTable → Bytes
-text_of table = json_head table.columns (length table.rows) table.head ++ flat_map (json_line table.columns) table.rows
 
 -- a part: the text of such a table
 pub record IsPart (text : Bytes) (table : SpanTable) : Type 0 where

@@ -1,8 +1,9 @@
 //! The rows of a table for machines: JSON Lines.
-ghost use Rattle.std.specs.Prelude.{◌≡◌, ◌^◌, nat_lt, ◌++◌, ◌∷◌, true, false, map, flat_map, length, string_bytes, IfOk, IfErr, OnOk};
+ghost use Rattle.std.specs.Prelude.{◌≡◌, ◌<◌, ◌^◌, nat_lt, All, ◌++◌, ◌∷◌, true, false, map, flat_map, length, string_bytes, IfOk, IfErr, OnOk};
 ghost use Rattle.std.specs.List.{join_with_byte, list_all};
 ghost use Rattle.span_table.specs.declared.json_lines.JsonFault.TheVariants.{TooGreat};
-ghost use Rattle.span_table.specs.Json.{column_json, columns_json, counts_fit, fit, head_fits, json_fits, json_head, json_line, json_of, json_of_value};
+ghost use Rattle.span_table.specs.Json.{column_json, columns_json, counts_fit, fit, head_fits, json_fits, json_head, json_line, json_of, json_of_value, shown_table};
+ghost use Rattle.span_table.specs.Printed.{AllFit, KeyFits};
 ghost use Rattle.span_table.specs.JsonPieces.{count_text, end_text, events_text, files_text, head_text, member_text, members_text, others_text, start_text};
 
 use crate::column::Column;
@@ -27,7 +28,7 @@ pub enum JsonFault {
 /// The rows of a table that are shown, for machines.
 pub fn json_table(alloc: Global, table: &Table, shown: &Shown) -> Result<Vec<u8>, JsonFault>
     ensures text { IfOk result (λ text. text.items ≡ json_of shown.now table.now) }
-    ensures fits { OnOk result (json_fits shown.now table.now ≡ true) }
+    ensures fits { OnOk result (AllFit (shown_table shown.now table.now)) }
     ensures too_great { IfErr result (λ fault. fault ≡ TooGreat → json_fits shown.now table.now ≡ false) }
 {
     let Ok(rows) = shown.rows(alloc, table.rows()) else {
@@ -86,8 +87,10 @@ fn is_narrow(number: u128) -> bool
 
 fn text_of(alloc: Global, table: &Table, rows: &[ShownRow]) -> Result<Vec<u8>, AllocError>
     requires { list_all (λ row. fit row.sums) rows.now ≡ true }
-    ensures { IfOk result (λ text. text.items
+    ensures text { IfOk result (λ text. text.items
         ≡ json_head table.now.columns (length rows.now) table.now.head ++ flat_map (json_line table.now.columns) rows.now) }
+    ensures few { OnOk result (length rows.now < 2 ^ 64) }
+    ensures keys { OnOk result (All (λ row. KeyFits table.now.columns row.key) rows.now) }
 {
     let mut out = String::new(alloc);
     put_json_head(alloc, &mut out, table.columns(), rows.len(), table.head())?;

@@ -1,8 +1,9 @@
 //! The line of a row for machines, as the tokens that it is printed of.
-ghost use Rattle.std.specs.Prelude.{◌≡◌, ◌<◌, ◌^◌, ◌++◌, ◌∷◌, [], true, map, IfOk, OnOk};
+ghost use Rattle.std.specs.Prelude.{◌≡◌, ◌<◌, ◌^◌, ◌++◌, ◌∷◌, [], true, map, IfOk, OnOk, Some};
 ghost use Rattle.json.specs.Token.{key};
 ghost use Rattle.span_table.specs.Columns.{column_name};
 ghost use Rattle.span_table.specs.Json.{fit, json_line};
+ghost use Rattle.span_table.specs.Printed.{IsOfArgument, KeyFits};
 ghost use Rattle.span_table.specs.Tokens.{key_tokens, number_tokens, row_tokens, sums_tokens, value_tokens};
 
 use crate::column::Column;
@@ -33,7 +34,8 @@ pub fn with_json_row(
 ) -> Result<Vec<u8>, AllocError>
     requires names { names.now ≡ map column_name columns.now }
     requires fits { fit row.now.sums ≡ true }
-    ensures { IfOk result (λ new. new.items ≡ out.items ++ json_line columns.now row.now) }
+    ensures line { IfOk result (λ new. new.items ≡ out.items ++ json_line columns.now row.now) }
+    ensures key_fits { OnOk result (KeyFits columns.now row.now.key) }
 {
     let mut writer = Writer::new(out);
     match put_row(&mut writer, columns, names, row) {
@@ -65,6 +67,7 @@ fn put_row(
     requires fits { fit row.now.sums ≡ true }
     ensures before { OnOk result (writer.new.before ≡ writer.old.before) }
     ensures tokens { OnOk result (writer.new.tokens ≡ writer.old.tokens ++ row_tokens columns.now row.now) }
+    ensures key_fits { OnOk result (KeyFits columns.now row.now.key) }
 {
     writer.begin_object()?;
     put_members(writer, columns, names, row.key.values())?;
@@ -82,6 +85,7 @@ fn put_members(
     requires names { names.now ≡ map column_name columns.now }
     ensures before { OnOk result (writer.new.before ≡ writer.old.before) }
     ensures tokens { OnOk result (writer.new.tokens ≡ writer.old.tokens ++ key_tokens columns.now values.now) }
+    ensures key_fits { OnOk result (KeyFits columns.now values.now) }
 {
     let Some((_, columns)) = columns.split_first() else {
         return Ok(());
@@ -101,6 +105,7 @@ fn put_members(
 fn put_member(writer: &mut Writer, name: &Text, value: &ArgValue) -> Result<(), AllocError>
     ensures before { OnOk result (writer.new.before ≡ writer.old.before) }
     ensures tokens { OnOk result (writer.new.tokens ≡ writer.old.tokens ++ key name.now ∷ value_tokens value.now) }
+    ensures fits { OnOk result (IsOfArgument (Some value.now)) }
 {
     writer.key(name.as_str())?;
     put_value(writer, value)
@@ -109,6 +114,7 @@ fn put_member(writer: &mut Writer, name: &Text, value: &ArgValue) -> Result<(), 
 fn put_value(writer: &mut Writer, value: &ArgValue) -> Result<(), AllocError>
     ensures before { OnOk result (writer.new.before ≡ writer.old.before) }
     ensures tokens { OnOk result (writer.new.tokens ≡ writer.old.tokens ++ value_tokens value.now) }
+    ensures fits { OnOk result (IsOfArgument (Some value.now)) }
 {
     match value {
         ArgValue::Nil => writer.null(),

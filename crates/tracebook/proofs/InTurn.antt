@@ -23,7 +23,7 @@ use Rattle.tracebook.specs.declared.tables.TableView.{TableView}
 use Rattle.tracebook.specs.declared.view.View.{View}
 use Rattle.tracebook.specs.declared.view.View.TheVariants.{Report, Table, Refusals, Folded, Page}
 use Rattle.tracebook.specs.Comparison.{AreTooGreat, HasEnded, HasTooGreat, changes_of_runs, changes_text, compared_table, comparison_in_turn, greater}
-use Rattle.tracebook.specs.Tables.{asked_table, table_fits, table_text}
+use Rattle.tracebook.specs.Tables.{TableExceeds, asked_table, table_text}
 use Rattle.tracebook.specs.View.{ExceedsBits, ExceedsNames, text_of}
 use Rattle.tracebook.proofs.Compared.{greater-is}
 
@@ -56,7 +56,7 @@ module _ (files : List Input) (settings : Settings) (ends : List FileEnd) (asked
   -- and whether numbers for other programs have more bits
   pub ExceedsBits-in_turn : (view : View) → ExceedsBits view files ends journal → ExceedsBits view files (ends_from 1 files) (journal_in_turn settings files [])
   ExceedsBits-in_turn Report exceeds = exceeds
-  ExceedsBits-in_turn (Table view) exceeds = subst (λ (table : SpanTable). table_fits view table ≡ false) (table-in_turn view) exceeds
+  ExceedsBits-in_turn (Table view) exceeds = subst (λ (table : SpanTable). TableExceeds view table) (table-in_turn view) exceeds
   ExceedsBits-in_turn Refusals exceeds = exceeds
   ExceedsBits-in_turn Folded exceeds = exceeds
   ExceedsBits-in_turn Page exceeds = exceeds

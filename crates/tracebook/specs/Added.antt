@@ -10,7 +10,7 @@ use Rattle.tracebook.specs.declared.comparison.ComparisonView.{ComparisonView}
 use Rattle.tracebook.specs.declared.tables.TableView.{TableView}
 use Rattle.tracebook.specs.Comparison.{changes_text}
 use Rattle.tracebook.specs.Sums.{WritesAll, WritesPart}
-use Rattle.tracebook.specs.Tables.{table_fits, table_text}
+use Rattle.tracebook.specs.Tables.{TableFits, table_text}
 
 -- what is known of the bytes under each name
 abbrev pub Known : Type 0
@@ -49,7 +49,7 @@ pub record AddsBeside (base sum : PartSum) (known : Known) (names : List Bytes) 
 pub record Adds (source : SourceBytes) (names : List Bytes) (view : TableView) (status : ℕ) (old new : SinkState) : Type 0 where
   pub sum : PartSum
   pub added : OfInputs source names (AddsChosen view.options.columns.items sum)
-  pub fits : table_fits view sum.sum ≡ true
+  pub fits : TableFits view sum.sum
   pub written : WritesAll (table_text view true sum.sum) [] status old new
 
 -- nothing was written, or first bytes of that

@@ -10,7 +10,7 @@ use Rattle.span_table.specs.declared.column.Column.{Column}
 use Rattle.tracebook.specs.declared.comparison.ComparisonView.{ComparisonView}
 use Rattle.tracebook.specs.declared.tables.TableView.{TableView}
 use Rattle.tracebook.specs.Comparison.{changes_text}
-use Rattle.tracebook.specs.Tables.{table_fits, table_text}
+use Rattle.tracebook.specs.Tables.{TableFits, table_text}
 
 -- what files of these names come to, each a run of its own; standard input, as the file `-`, where there are none
 abbrev pub SumsInputs : SourceBytes → List (List ℕ) → Settings → List Column → Summed → Type 0
@@ -34,7 +34,7 @@ WritesPart text old new = (new ≡ old) ⊎ ((written : ℕ) × (written ≤ len
 pub record Sums (source : SourceBytes) (names : List (List ℕ)) (settings : Settings) (view : TableView) (status : ℕ) (old new : SinkState) : Type 0 where
   pub summed : Summed
   pub sums : SumsInputs source names settings view.options.columns.items summed
-  pub fits : table_fits view summed.sum ≡ true
+  pub fits : TableFits view summed.sum
   pub written : WritesAll (table_text view true summed.sum) summed.lines.items status old new
 
 -- nothing was written, or first bytes of that

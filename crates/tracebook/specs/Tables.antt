@@ -1,8 +1,9 @@
 -- The texts of tables.
-use Rattle.std.specs.Prelude.{Bool, true}
+use Rattle.std.specs.Prelude.{◌≡◌, Bool, false, ⊤}
 use Rattle.span_event.specs.Text.{Bytes}
 use Rattle.span_table.specs.Columns.{Run}
-use Rattle.span_table.specs.Json.{json_fits, json_of}
+use Rattle.span_table.specs.Json.{json_fits, json_of, shown_table}
+use Rattle.span_table.specs.Printed.{AllFit}
 use Rattle.span_table.specs.Ranking.{ranking_of}
 use Rattle.span_table.specs.Shown.{Wanted}
 use Rattle.span_table.specs.Tables.{SpanTable}
@@ -17,16 +18,24 @@ formed (Ranking most by) shown tells_runs table = ranking_of most by shown tells
 formed Json shown tells_runs table = json_of shown table
 
 -- numbers for other programs have 64 bits; for people they have no bound
-abbrev pub form_fits : TableForm → Wanted → SpanTable → Bool
-form_fits (Ranking most by) shown table = true
-form_fits Json shown table = json_fits shown table
+abbrev pub FormFits : TableForm → Wanted → SpanTable → Type 0
+FormFits (Ranking most by) shown table = ⊤
+FormFits Json shown table = AllFit (shown_table shown table)
+
+-- a number for other programs has more
+abbrev pub FormExceeds : TableForm → Wanted → SpanTable → Type 0
+FormExceeds (Ranking most by) shown table = ⊥
+FormExceeds Json shown table = json_fits shown table ≡ false
 
 -- what is printed of a table, whose head tells of runs or doesn't
 abbrev pub table_text : TableView → Bool → SpanTable → Bytes
 table_text view tells_runs table = formed view.form view.options.shown tells_runs table
 
-abbrev pub table_fits : TableView → SpanTable → Bool
-table_fits view table = form_fits view.form view.options.shown table
+abbrev pub TableFits : TableView → SpanTable → Type 0
+TableFits view table = FormFits view.form view.options.shown table
+
+abbrev pub TableExceeds : TableView → SpanTable → Type 0
+TableExceeds view table = FormExceeds view.form view.options.shown table
 
 -- the table of one run that is asked for
 abbrev pub asked_table : TableView → Run → SpanTable

@@ -26,7 +26,7 @@ use Rattle.tracebook.specs.declared.view.View.TheVariants.{Report, Table, Refusa
 use Rattle.tracebook.specs.declared.view.ViewFault.{ViewFault}
 use Rattle.tracebook.specs.declared.view.ViewFault.TheVariants.{Run, TooGreat, StacksTooLarge}
 use Rattle.span_runs.specs.Runs.{run_of_files}
-use Rattle.tracebook.specs.Tables.{asked_table, table_fits, table_text}
+use Rattle.tracebook.specs.Tables.{TableExceeds, TableFits, asked_table, table_text}
 
 abbrev pub text_of : View → List Input → TextOf
 text_of Report files ends journal = report_of journal
@@ -42,7 +42,7 @@ OfEnds = List FileEnd → List Entry → Type 0
 -- folded stacks have no more names than they may, numbers for other programs have 64 bits; any other text has no such bound
 abbrev pub Fits : View → List Input → OfEnds
 Fits Folded files ends journal = names_of journal ≤ most_names
-Fits (Table view) files ends journal = table_fits view (asked_table view (run_of_files files ends journal)) ≡ true
+Fits (Table view) files ends journal = TableFits view (asked_table view (run_of_files files ends journal))
 Fits view files ends journal = Unit {0}
 
 -- folded stacks are asked for, and have more names than they may
@@ -52,7 +52,7 @@ ExceedsNames view ends journal = ⊥
 
 -- numbers for other programs are asked for, and one has more than 64 bits
 abbrev pub ExceedsBits : View → List Input → OfEnds
-ExceedsBits (Table view) files ends journal = table_fits view (asked_table view (run_of_files files ends journal)) ≡ false
+ExceedsBits (Table view) files ends journal = TableExceeds view (asked_table view (run_of_files files ends journal))
 ExceedsBits view files ends journal = ⊥
 
 -- A run of these inputs, without queries, printed this view of them; unless the status is 2, that fits. Of separate inputs it is the

@@ -3,7 +3,7 @@ ghost use Rattle.std.specs.Prelude.{◌≡◌, ◌<◌, ◌≤◌, ◌++◌, [],
 ghost use Rattle.tracebook.specs.Comparison.{changes_text};
 ghost use Rattle.tracebook.specs.FaultLines.{Says};
 ghost use Rattle.tracebook.specs.Sums.{ComparesSums, ComparesSumsPart, Sums, SumsInputs, SumsPart, WritesAll, WritesPart};
-ghost use Rattle.tracebook.specs.Tables.{table_fits, table_text};
+ghost use Rattle.tracebook.specs.Tables.{TableFits, table_text};
 
 use crate::comparison::ComparisonView;
 use crate::faults::{Faults, fail, fail_stop, say};
@@ -173,7 +173,7 @@ fn write_sum<O: Sink, F: Faults>(
     faults: &mut F,
 ) -> u8
     ensures status { result ≤ 2 }
-    ensures fits { result < 2 → table_fits view.now summed.sum ≡ true }
+    ensures fits { result < 2 → TableFits view.now summed.sum }
     ensures done { result < 2
         → WritesAll (table_text view.now true summed.sum) summed.lines.items result (O.state out.old) (O.state out.new) }
     ensures failed { result ≡ 2 → WritesPart (table_text view.now true summed.sum) (O.state out.old) (O.state out.new) }

@@ -3,7 +3,7 @@ ghost use Rattle.std.specs.Prelude.{◌≡◌, ◌<◌, ◌≤◌, true, is_ok, 
 ghost use Rattle.tracebook.specs.Comparison.{changes_text};
 ghost use Rattle.tracebook.specs.FaultLines.{Says};
 ghost use Rattle.tracebook.specs.Sums.{WritesAll, WritesPart};
-ghost use Rattle.tracebook.specs.Tables.{table_fits, table_text};
+ghost use Rattle.tracebook.specs.Tables.{TableFits, table_text};
 
 use crate::comparison::{ComparisonView, changes_text};
 use crate::faults::{FAILED, Faults, fail, say};
@@ -24,7 +24,7 @@ pub(crate) fn write_runs_table<O: Sink, F: Faults>(
     faults: &mut F,
 ) -> u8
     ensures status { result ≤ 2 }
-    ensures fits { result < 2 → table_fits view.now table ≡ true }
+    ensures fits { result < 2 → TableFits view.now table }
     ensures done { result < 2
         → WritesAll (table_text view.now true table) lines.now result (O.state out.old) (O.state out.new) }
     ensures failed { result ≡ 2 → WritesPart (table_text view.now true table) (O.state out.old) (O.state out.new) }

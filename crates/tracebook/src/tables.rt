@@ -1,7 +1,7 @@
 //! The tables that the command line asks for, and their texts.
 ghost use Rattle.std.specs.Prelude.{◌≡◌, true, false, IfOk, IfErr, OnOk};
 ghost use Rattle.span_table.specs.declared.json_lines.JsonFault.TheVariants.{TooGreat};
-ghost use Rattle.tracebook.specs.Tables.{table_fits, table_text};
+ghost use Rattle.tracebook.specs.Tables.{TableExceeds, TableFits, table_text};
 
 use span_table::{By, Column, JsonFault, Shown, Table, json_table, ranking};
 use std::alloc::Global;
@@ -37,8 +37,8 @@ pub(crate) fn table_text(
     tells_runs: bool,
 ) -> Result<Vec<u8>, JsonFault>
     ensures text { IfOk result (λ text. text.items ≡ table_text view.now tells_runs table.now) }
-    ensures fits { OnOk result (table_fits view.now table.now ≡ true) }
-    ensures too_great { IfErr result (λ fault. fault ≡ TooGreat → table_fits view.now table.now ≡ false) }
+    ensures fits { OnOk result (TableFits view.now table.now) }
+    ensures too_great { IfErr result (λ fault. fault ≡ TooGreat → TableExceeds view.now table.now) }
 {
     let shown = &view.options.shown;
     match view.form {

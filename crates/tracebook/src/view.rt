@@ -4,7 +4,7 @@ ghost use Rattle.span_report.specs.Sink.{TakesBytes};
 ghost use Rattle.span_runs.specs.Runs.{run_of_files};
 ghost use Rattle.span_table.specs.declared.json_lines.JsonFault.TheVariants.{TooGreat};
 ghost use Rattle.tracebook.specs.declared.view.View.TheVariants.{Table as OfTable};
-ghost use Rattle.tracebook.specs.Tables.{asked_table, table_fits, table_text};
+ghost use Rattle.tracebook.specs.Tables.{TableExceeds, TableFits, asked_table, table_text};
 ghost use Rattle.tracebook.specs.View.{Fits, Prints, TextLeaves, ViewLeaves, of_folded, of_written, text_of, view_code};
 
 use crate::tables::{TableView, table_text};
@@ -172,10 +172,10 @@ fn text_of_run<R: RandomSource>(
 ) -> Result<Vec<u8>, JsonFault>
     ensures text { IfOk result (λ text. text.items ≡ table_text view.now false
         (asked_table view.now (run_of_files files.now collected.now.end.ends.items collected.now.ledger.journal))) }
-    ensures fits { OnOk result (table_fits view.now
-        (asked_table view.now (run_of_files files.now collected.now.end.ends.items collected.now.ledger.journal)) ≡ true) }
-    ensures too_great { IfErr result (λ fault. fault ≡ TooGreat → table_fits view.now
-        (asked_table view.now (run_of_files files.now collected.now.end.ends.items collected.now.ledger.journal)) ≡ false) }
+    ensures fits { OnOk result (TableFits view.now
+        (asked_table view.now (run_of_files files.now collected.now.end.ends.items collected.now.ledger.journal))) }
+    ensures too_great { IfErr result (λ fault. fault ≡ TooGreat → TableExceeds view.now
+        (asked_table view.now (run_of_files files.now collected.now.end.ends.items collected.now.ledger.journal))) }
 {
     let columns = &view.options.columns;
     let Ok(table) = table_of_run(rt, alloc, columns, files, collected) else {
