@@ -7,6 +7,7 @@ pub mod FewRows
 pub mod Itself
 pub mod JsonPieces
 pub mod Kept
+pub mod KeyPlaces
 pub mod OwnRows
 pub mod PartsTold
 pub mod Permuted

@@ -1,14 +1,15 @@
 -- How the sums of a table are collected: row by row of a ledger's names, or span by span.
-use Rattle.std.specs.Prelude.{◌≡◌, ℕ, ◌+◌, ◌≤◌, List, [], ◌++◌, All, map}
+use Rattle.std.specs.Prelude.{◌≡◌, ℕ, ◌+◌, ◌≤◌, List, [], ◌++◌, All, map, slice_get, Option, Some, None}
+use Rattle.std.specs.Ordering.{eq_by_cmp}
 use Rattle.span_keyed_tracks.specs.Keyed.{Keyed}
 use Rattle.span_ledger.specs.declared.rows.SpanRow.{SpanRow}
 use Rattle.span_ledger.specs.Order.{thread_of_span}
 use Rattle.span_ledger.specs.Rows.{span_rows}
-use Rattle.std.specs.Map.{values_of}
+use Rattle.std.specs.Map.{lookup, values_of}
 use Rattle.span_table.specs.declared.column.Column.{Column}
 use Rattle.span_table.specs.declared.sums.Sums.{Sums}
 use Rattle.span_table.specs.Columns.{Run, value_at}
-use Rattle.span_table.specs.Keys.{TableKey}
+use Rattle.span_table.specs.Keys.{TableKey, key_cmp}
 use Rattle.span_table.specs.Tables.{KeyedSums, SumsByKey, summed}
 
 -- the sums of a row
@@ -44,3 +45,12 @@ keyed_span_row columns run row = record { key = map (value_at run (thread_of_spa
 -- all of them
 abbrev pub row_sums : List Column → Run → KeyedSums
 row_sums columns run = map (keyed_span_row columns run) (span_rows run.journal)
+
+-- what stands at a place is kept of the key; where nothing does, nothing is kept of it
+abbrev pub IsKeptAs : SumsByKey → TableKey → Option (TableKey × Sums) → Type 0
+IsKeptAs kept key (Some entry) = (entry.0 ≡ key) × (lookup (eq_by_cmp key_cmp key) kept ≡ Some entry.1)
+IsKeptAs kept key None = lookup (eq_by_cmp key_cmp key) kept ≡ None
+
+-- this is the place of the key, or there is none
+abbrev pub IsPlaceOf : SumsByKey → TableKey → ℕ → Type 0
+IsPlaceOf kept key place = IsKeptAs kept key (slice_get kept place)

@@ -86,9 +86,9 @@ impl Addition {
     }
 
     /// With a row of a table. Fewer than 2^64 of them are added.
-    pub fn add_row(self, row: Row) -> Result<Addition, SumFault>
-        requires { fit row.sums ≡ true }
-        ensures { IfOk result (λ sum. sum ≡ with_row self row) }
+    pub fn add_row(self, row: &Row) -> Result<Addition, SumFault>
+        requires { fit row.now.sums ≡ true }
+        ensures { IfOk result (λ sum. sum ≡ with_row self row.now) }
     {
         if self.rows == u64::MAX {
             return Err(SumFault::TooMany);
@@ -100,8 +100,7 @@ impl Addition {
             heads,
             rows,
         } = self;
-        let Row { key, sums } = row;
-        match groups.add(key, sums) {
+        match groups.add_copy(&row.key, &row.sums) {
             Ok(()) => Ok(Addition {
                 columns,
                 head,

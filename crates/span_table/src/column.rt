@@ -126,7 +126,11 @@ fn words_of(alloc: Global, name: Option<&Text>) -> Result<Option<ArgValue>, Allo
     }
 }
 
-fn copy_of(alloc: Global, value: Option<&ArgValue>) -> Result<Option<ArgValue>, AllocError>
+/// The same value, if there is one.
+pub(crate) fn copy_of(
+    alloc: Global,
+    value: Option<&ArgValue>,
+) -> Result<Option<ArgValue>, AllocError>
     ensures { IfOk result (λ copy. copy ≡ option_copied value.entry) }
 {
     match value {

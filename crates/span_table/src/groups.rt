@@ -1,6 +1,9 @@
 //! The sums of each key.
-ghost use Rattle.std.specs.Prelude.{◌≡◌, ◌^◌, ◌∷◌, [], ℕ, IfOk, OnOk};
-ghost use Rattle.span_table.specs.Collected.{AllWithin, GrowsBy, IsWithin, Takes};
+ghost use Rattle.std.specs.Prelude.{◌≡◌, ◌^◌, ◌∷◌, [], ℕ, false, None, IfOk, IsTrue, OnOk};
+ghost use Rattle.std.specs.BTreeMap.{is_at};
+ghost use Rattle.std.specs.Map.{lookup};
+ghost use Rattle.span_table.specs.Collected.{AllWithin, GrowsBy, IsPlaceOf, IsWithin, Takes};
+ghost use Rattle.span_table.specs.Keys.{key_cmp};
 
 use crate::key::Key;
 use crate::sums::Sums;
@@ -9,10 +12,17 @@ use span_keyed_tracks::HashKeys;
 use std::alloc::{AllocError, Global};
 use std::marker::Model;
 
+// How far behind the last key one may stand that comes in order.
+const NEAR: usize = 64;
+
 /// The sums of each key. A contract sees them in ascending order of keys.
 #[derive(Drop)]
 pub(crate) struct Groups {
     kept: IndexMap<Key, Sums, HashKeys>,
+    // Where the last key stood that was there; and where the next one is looked for before it is hashed, if the last came in order, as
+    // the keys of tables do that are added.
+    last: usize,
+    next: Option<usize>,
 }
 
 impl Model for Groups {
@@ -34,6 +44,8 @@ impl Groups {
     {
         Groups {
             kept: IndexMap::with_hasher(alloc, keys),
+            last: 0,
+            next: None,
         }
     }
 
@@ -48,10 +60,52 @@ impl Groups {
         ensures takes { OnOk result (Takes self.old self.new (record { key = key; step = more } ∷ [])) }
         ensures bound { OnOk result ((n : ℕ) → IsWithin n more → GrowsBy n self.old self.new) }
     {
-        if let Some(sums) = self.kept.get_mut(&key) {
-            sums.add(&more);
+        if self.add_known(&key, &more) {
             return Ok(());
         }
+        self.insert(key, more)
+    }
+
+    /// Adds sums to those of a key, of which a copy is kept if it is new.
+    pub(crate) fn add_copy(&mut self, key: &Key, more: &Sums) -> Result<(), AllocError>
+        requires all { AllWithin (2 ^ 200) self.old }
+        requires more { IsWithin (2 ^ 200) more.now }
+        ensures takes { OnOk result (Takes self.old self.new (record { key = key.now; step = more.now } ∷ [])) }
+        ensures bound { OnOk result ((n : ℕ) → IsWithin n more.now → GrowsBy n self.old self.new) }
+    {
+        if self.add_known(key, more) {
+            return Ok(());
+        }
+        let key = key.try_clone(self.allocator())?;
+        self.insert(key, *more)
+    }
+
+    // Adds sums to those of a key, if there are any.
+    fn add_known(&mut self, key: &Key, more: &Sums) -> bool
+        requires all { AllWithin (2 ^ 200) self.old }
+        requires more { IsWithin (2 ^ 200) more.now }
+        ensures takes { IsTrue result → Takes self.old self.new (record { key = key.now; step = more.now } ∷ []) }
+        ensures bound { IsTrue result → (n : ℕ) → IsWithin n more.now → GrowsBy n self.old self.new }
+        ensures same { result ≡ false → self.new ≡ self.old }
+        ensures new { result ≡ false → lookup (is_at (key_cmp key.now)) self.new ≡ None }
+    {
+        let at = place_of(&self.kept, self.next, key);
+        let Some(sums) = self.kept.get_index_mut(at) else {
+            return false;
+        };
+        sums.add(more);
+        self.next = place_behind(self.last, at);
+        self.last = at;
+        true
+    }
+
+    // Keeps the sums of a new key.
+    fn insert(&mut self, key: Key, more: Sums) -> Result<(), AllocError>
+        requires new { lookup (is_at (key_cmp key)) self.old ≡ None }
+        requires all { AllWithin (2 ^ 200) self.old }
+        ensures takes { OnOk result (Takes self.old self.new (record { key = key; step = more } ∷ [])) }
+        ensures bound { OnOk result ((n : ℕ) → IsWithin n more → GrowsBy n self.old self.new) }
+    {
         self.kept.insert(key, more)?;
         Ok(())
     }
@@ -60,11 +114,36 @@ impl Groups {
     pub(crate) fn into_entries(self) -> Result<Vec<(Key, Sums)>, AllocError>
         ensures { IfOk result (λ entries. entries.items ≡ self) }
     {
-        let Groups { kept } = self;
+        let Groups { kept, .. } = self;
         let alloc = *kept.allocator();
         let mut entries = entries_of(alloc, kept)?;
         entries.sort_unstable_by(|a, b| a.0.cmp(&b.0));
         Ok(entries)
+    }
+}
+
+// The place behind a key, if it stands not far behind the last one.
+fn place_behind(last: usize, at: usize) -> Option<usize> {
+    if last < at && at - last <= NEAR {
+        at.checked_add(1)
+    } else {
+        None
+    }
+}
+
+// Where a key stands, which is first looked for here; behind all where there is none.
+fn place_of(kept: &IndexMap<Key, Sums, HashKeys>, guess: Option<usize>, key: &Key) -> usize
+    ensures { IsPlaceOf kept.now.entries key.now result }
+{
+    if let Some(at) = guess
+        && let Some((known, _)) = kept.get_index(at)
+        && known == key
+    {
+        return at;
+    }
+    match kept.get_index_of(key) {
+        Some(at) => at,
+        None => kept.len(),
     }
 }
 

@@ -1,5 +1,5 @@
 //! By what the rows of a table are told apart.
-ghost use Rattle.std.specs.Prelude.{◌≡◌, Some, refl, fold};
+ghost use Rattle.std.specs.Prelude.{◌≡◌, Some, refl, fold, IfOk};
 ghost use Rattle.std.specs.Cmp.{eq_by_cmp_equiv, partial_equiv_from_equiv, partial_order_from_total};
 ghost use Rattle.std.specs.Ordering.{eq_by_cmp};
 ghost use Rattle.std.proofs.Common.{ap};
@@ -7,7 +7,9 @@ ghost use Rattle.span_table.specs.KeyLaws.{key_cmp_total, key_eq-same};
 ghost use Rattle.span_table.specs.Keys.{key_cmp};
 ghost use Rattle.span_table.specs.KeyWrites.{key_writes, value_writes};
 
+use crate::column::copy_of;
 use span_event::ArgValue;
+use std::alloc::{AllocError, Global};
 use std::cmp::Ordering;
 use std::hash::{Hash, Hasher};
 use std::marker::Model;
@@ -37,6 +39,16 @@ impl Key {
         ensures { result.now ≡ self.now }
     {
         &self.values
+    }
+
+    pub(crate) fn try_clone(&self, alloc: Global) -> Result<Key, AllocError>
+        ensures { IfOk result (λ copy. copy ≡ self.now) }
+    {
+        let mut values = Vec::with_capacity(alloc, self.values.len())?;
+        for value in &self.values {
+            values.push(copy_of(alloc, value.as_ref())?)?;
+        }
+        Ok(Key { values })
     }
 }
 

@@ -4,8 +4,8 @@ use Rattle.span_table.specs.Tokens.{row_tokens}
 use Rattle.span_table.proofs.Printed.{json_line-print}
 use Rattle.span_table.proofs.json_rows.with_json_row.Goals as goal
 
-pub returns-in-Ok-with_line_feed : goal.returns-in-Ok-with_line_feed
-returns-in-Ok-with_line_feed c =
+pub returns-in-Ok-with_line_feed-clause-line : goal.returns-in-Ok-with_line_feed-clause-line
+returns-in-Ok-with_line_feed-clause-line c =
     let old = c.args.out.items in
     let columns = c.args.columns.now in
     let row = c.args.row.now in
