@@ -15,6 +15,7 @@ pub mod Pieces
 pub mod Printed
 pub mod PrintedLines
 pub mod Rows
+pub mod RunTables
 pub mod SameTables
 pub mod Substrings
 pub mod SumText

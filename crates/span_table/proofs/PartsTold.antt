@@ -1,7 +1,10 @@
 -- Two tables that are printed alike are the same.
 use Rattle.std.proofs.Common.{◌≡◌, ◌≢◌, ℕ, ◌^◌, ◌<◌, ◌==◌, cond, true, List, [], ◌∷◌, ◌++◌, All, drop, flat_map, get_or, length, map, refl, sym, ap, subst, ◌∙◌, Some, None, append_assoc, arith, codes}
+use Rattle.std.specs.List.{list_all}
+use Rattle.std.proofs.lemmas.Bool.{and_parts}
 use Rattle.std.proofs.lemmas.Fmt.{decimal_injective, signed_decimal_injective}
-use Rattle.std.proofs.lemmas.List.Elements.{All-head, All-tail}
+use Rattle.std.proofs.lemmas.List.Elements.{All-head, All-tail, All-weaker}
+use Rattle.std.proofs.lemmas.List.Sums.{AllPass-from_list_all}
 use Rattle.json.specs.Lex.{tokens}
 use Rattle.json.specs.Print.{print}
 use Rattle.json.specs.Token.{Token, end_array, end_object, key}
@@ -14,13 +17,13 @@ use Rattle.span_table.specs.declared.heads.Head.{Head}
 use Rattle.span_table.specs.declared.sums.Sums.{Sums}
 use Rattle.span_table.specs.declared.table.Row.{Row}
 use Rattle.span_table.specs.Columns.{column_name}
-use Rattle.span_table.specs.Json.{fit, json_line, text_of}
+use Rattle.span_table.specs.Json.{fit, head_fits, json_line, text_of}
 use Rattle.span_table.specs.Keys.{TableKey}
-use Rattle.span_table.specs.Printed.{AreDistinct, IsKeyOf, IsRowOf, IsTable, MayHave, PartsAreTold}
+use Rattle.span_table.specs.Printed.{AllFit, AreDistinct, IsOfArgument, IsPart, IsPrint, IsRowOf, IsTable, PartsAreTold}
 use Rattle.span_table.specs.Tables.{SpanTable}
 use Rattle.span_table.specs.Tokens.{head_tokens, key_tokens, name_tokens, numbers_tokens, row_tokens, sums_tokens, value_tokens}
 use Rattle.span_table.proofs.Printed.{json_head-print, json_line-print}
-use Rattle.span_table.proofs.PrintedLines.{AreSmall, IsLine, head_small, print_head-IsLine, print_row-IsLine, sums_small, tokens-head, tokens-row, whole_fits}
+use Rattle.span_table.proofs.PrintedLines.{AreSmall, IsLine, IsRowOf-told, IsTold, IsToldKey, head_small, print_head-IsLine, print_row-IsLine, sums_small, tokens-head, tokens-row}
 
 -- two texts are the same if their first lines are, and what follows these
 line-told : (a b r s : Bytes) → IsLine a → IsLine b → a ++ 10 ∷ r ≡ b ++ 10 ∷ s → (a ≡ b) × (r ≡ s)
@@ -74,14 +77,13 @@ names-told (column ∷ columns) (other ∷ others) ts us e =
     let rest = names-told columns others ts us (ap (drop 1) e) in
     (λ i. same i ∷ rest.0 i, rest.1)
 
-value-told : (column : Column) (value second : ArgValue) (ts us : List Token) → MayHave column (Some value) → MayHave column (Some second) → value_tokens value ++ ts ≡ value_tokens second ++ us → (value ≡ second) × (ts ≡ us)
-value-told column Nil Nil ts us h k e = (refl, ap (drop 1) e)
-value-told column (Flag flag) (Flag other) ts us h k e = let same : flag ≡ other = cc e in (ap Flag same, ap (drop 1) e)
-value-told column (Whole whole) (Whole other) ts us h k e =
-    (ap Whole (signed_decimal_injective whole other (whole_fits column whole h).sfits (whole_fits column other k).sfits (cc e)), ap (drop 1) e)
-value-told column (Words text) (Words other) ts us h k e = let same : text ≡ other = cc e in (ap Words same, ap (drop 1) e)
-value-told column Other Other ts us h k e = (refl, ap (drop 2) e)
-value-told column value second ts us h k e = absurd (cc e)
+value-told : (value second : ArgValue) (ts us : List Token) → IsOfArgument (Some value) → IsOfArgument (Some second) → value_tokens value ++ ts ≡ value_tokens second ++ us → (value ≡ second) × (ts ≡ us)
+value-told Nil Nil ts us h k e = (refl, ap (drop 1) e)
+value-told (Flag flag) (Flag other) ts us h k e = let same : flag ≡ other = cc e in (ap Flag same, ap (drop 1) e)
+value-told (Whole whole) (Whole other) ts us h k e = (ap Whole (signed_decimal_injective whole other h.sfits k.sfits (cc e)), ap (drop 1) e)
+value-told (Words text) (Words other) ts us h k e = let same : text ≡ other = cc e in (ap Words same, ap (drop 1) e)
+value-told Other Other ts us h k e = (refl, ap (drop 2) e)
+value-told value second ts us h k e = absurd (cc e)
 
 -- where a column that none of these is has a value, it stands first
 missing-told : (columns : List Column) (values : TableKey) (name : Bytes) (ts us : List Token) → All (λ other. name ≢ other) (map column_name columns) → name ≢ codes "count"
@@ -92,21 +94,23 @@ missing-told (column ∷ columns) (None ∷ values) name ts us h k e = missing-t
 missing-told (column ∷ columns) (Some value ∷ values) name ts us h k e =
     All-head (λ other. name ≢ other) (column_name column) (map column_name columns) h (let same : name ≡ column_name column = cc e in same)
 
-key-told : (columns : List Column) (values others : TableKey) (ts us : List Token) → AreDistinct (map column_name columns) → IsKeyOf columns values → IsKeyOf columns others
+key-told : (columns : List Column) (values others : TableKey) (ts us : List Token) → AreDistinct (map column_name columns) → IsToldKey columns values → IsToldKey columns others
     → key_tokens columns values ++ key (codes "count") ∷ ts ≡ key_tokens columns others ++ key (codes "count") ∷ us → (values ≡ others) × (ts ≡ us)
 key-told [] [] [] ts us d h k e = (refl, ap (drop 1) e)
-key-told [] [] (other ∷ others) ts us d h k e = absurd k
-key-told [] (value ∷ values) others ts us d h k e = absurd h
-key-told (column ∷ columns) [] others ts us d h k e = absurd h
-key-told (column ∷ columns) (value ∷ values) [] ts us d h k e = absurd k
-key-told (column ∷ columns) (None ∷ values) (None ∷ others) ts us d h k e = let rest = key-told columns values others ts us d.1 h.1 k.1 e in (λ i. None ∷ rest.0 i, rest.1)
+key-told [] [] (other ∷ others) ts us d h k e = absurd (omega (arith, k.0))
+key-told [] (value ∷ values) others ts us d h k e = absurd (omega (arith, h.0))
+key-told (column ∷ columns) [] others ts us d h k e = absurd (omega (arith, h.0))
+key-told (column ∷ columns) (value ∷ values) [] ts us d h k e = absurd (omega (arith, k.0))
+key-told (column ∷ columns) (None ∷ values) (None ∷ others) ts us d h k e =
+    let rest = key-told columns values others ts us d.1 (omega (arith, h.0), h.1.1) (omega (arith, k.0), k.1.1) e in
+    (λ i. None ∷ rest.0 i, rest.1)
 key-told (column ∷ columns) (None ∷ values) (Some second ∷ others) ts us d h k e = absurd (missing-told columns values (column_name column) ts _ d.0 (count-no_column column) e)
 key-told (column ∷ columns) (Some value ∷ values) (None ∷ others) ts us d h k e = absurd (missing-told columns others (column_name column) us _ d.0 (count-no_column column) (sym e))
 key-told (column ∷ columns) (Some value ∷ values) (Some second ∷ others) ts us d h k e =
     let there = append_assoc (value_tokens value) (key_tokens columns values) (key (codes "count") ∷ ts) in
     let back = append_assoc (value_tokens second) (key_tokens columns others) (key (codes "count") ∷ us) in
-    let same = value-told column value second (key_tokens columns values ++ key (codes "count") ∷ ts) (key_tokens columns others ++ key (codes "count") ∷ us) h.0 k.0 (sym there ∙ ap (drop 1) e ∙ back) in
-    let rest = key-told columns values others ts us d.1 h.1 k.1 same.1 in
+    let same = value-told value second (key_tokens columns values ++ key (codes "count") ∷ ts) (key_tokens columns others ++ key (codes "count") ∷ us) h.1.0 k.1.0 (sym there ∙ ap (drop 1) e ∙ back) in
+    let rest = key-told columns values others ts us d.1 (omega (arith, h.0), h.1.1) (omega (arith, k.0), k.1.1) same.1 in
     (λ i. Some (same.0 i) ∷ rest.0 i, rest.1)
 
 sums-told : (sums others : Sums) → fit sums ≡ true → fit others ≡ true → sums_tokens sums ++ end_object ∷ [] ≡ sums_tokens others ++ end_object ∷ [] → sums ≡ others
@@ -118,37 +122,37 @@ sums-told sums others h k e =
     let self : sums.self_time ≡ others.self_time = decimal_injective sums.self_time others.self_time a.2 b.2 (cc e) in
     λ i. record { count = count i; total = total i; self_time = self i }
 
-row-told : (columns : List Column) (row other : Row) → AreDistinct (map column_name columns) → IsRowOf columns row → IsRowOf columns other → row_tokens columns row ≡ row_tokens columns other → row ≡ other
+row-told : (columns : List Column) (row other : Row) → AreDistinct (map column_name columns) → IsTold columns row → IsTold columns other → row_tokens columns row ≡ row_tokens columns other → row ≡ other
 row-told columns row other d h k e =
     let same = key-told columns row.key other.key _ _ d h.key k.key (ap (drop 1) e) in
-    let sums = sums-told row.sums other.sums h.fits k.fits (ap (λ l. key (codes "count") ∷ l) same.1) in
+    let sums = sums-told row.sums other.sums h.sums k.sums (ap (λ l. key (codes "count") ∷ l) same.1) in
     λ i. record { key = same.0 i; sums = sums i }
 
 -- a line of a row, and what follows it
 row-first : (columns : List Column) (row : Row) (rest : Bytes) → json_line columns row ++ rest ≡ print (row_tokens columns row) ++ 10 ∷ rest
 row-first columns row rest = ap (λ l. l ++ rest) (json_line-print columns row) ∙ append_assoc (print (row_tokens columns row)) (10 ∷ []) rest
 
-rows-told : (columns : List Column) (rows others : List Row) → AreDistinct (map column_name columns) → All (IsRowOf columns) rows → All (IsRowOf columns) others → length rows ≡ length others
+rows-told : (columns : List Column) (rows others : List Row) → AreDistinct (map column_name columns) → All (IsTold columns) rows → All (IsTold columns) others → length rows ≡ length others
     → flat_map (json_line columns) rows ≡ flat_map (json_line columns) others → rows ≡ others
 rows-told columns [] [] d h k l e = refl
 rows-told columns [] (other ∷ others) d h k l e = absurd (omega arith)
 rows-told columns (row ∷ rows) [] d h k l e = absurd (omega arith)
 rows-told columns (row ∷ rows) (other ∷ others) d h k l e =
-    let is = All-head (IsRowOf columns) row rows h in
-    let its = All-head (IsRowOf columns) other others k in
+    let is = All-head (IsTold columns) row rows h in
+    let its = All-head (IsTold columns) other others k in
     let more = flat_map (json_line columns) rows in
     let rest = flat_map (json_line columns) others in
     let lines = line-told (print (row_tokens columns row)) (print (row_tokens columns other)) more rest (print_row-IsLine columns row is) (print_row-IsLine columns other its)
     (sym (row-first columns row more) ∙ e ∙ row-first columns other rest) in
     let same = row-told columns row other d is its (sym (tokens-row columns row is) ∙ ap tokens lines.0 ∙ tokens-row columns other its) in
-    let all = rows-told columns rows others d (All-tail (IsRowOf columns) row rows h) (All-tail (IsRowOf columns) other others k) (omega arith) lines.1 in
+    let all = rows-told columns rows others d (All-tail (IsTold columns) row rows h) (All-tail (IsTold columns) other others k) (omega arith) lines.1 in
     λ i. same i ∷ all i
 
 -- rows of columns that are the same
-rows-with : (columns more : List Column) (rows others : List Row) → columns ≡ more → AreDistinct (map column_name columns) → All (IsRowOf columns) rows → All (IsRowOf more) others → length rows ≡ length others
+rows-with : (columns more : List Column) (rows others : List Row) → columns ≡ more → AreDistinct (map column_name columns) → All (IsTold columns) rows → All (IsTold more) others → length rows ≡ length others
     → flat_map (json_line columns) rows ≡ flat_map (json_line more) others → rows ≡ others
 rows-with columns more rows others p d h k l e =
-    rows-told columns rows others d h (subst (λ c. All (IsRowOf c) others) (sym p) k) l (e ∙ ap (λ c. flat_map (json_line c) others) (sym p))
+    rows-told columns rows others d h (subst (λ c. All (IsTold c) others) (sym p) k) l (e ∙ ap (λ c. flat_map (json_line c) others) (sym p))
 
 numbers-told : (rows more : ℕ) (head other : Head) → rows < 2 ^ 64 → more < 2 ^ 64 → AreSmall head → AreSmall other
     → numbers_tokens rows head ++ end_object ∷ [] ≡ numbers_tokens more other ++ end_object ∷ [] → (rows ≡ more) × (head ≡ other)
@@ -178,8 +182,14 @@ head-first table =
     ap (λ l. l ++ rest) (json_head-print table.columns (length table.rows) table.head)
     ∙ append_assoc (print (head_tokens table.columns (length table.rows) table.head)) (10 ∷ []) rest
 
-tables-told : (one other : SpanTable) → IsTable one → IsTable other → text_of one ≡ text_of other → one ≡ other
-tables-told one other is its e =
+-- a table that its text tells
+record IsToldTable (table : SpanTable) : Type 0 where
+  pub head : head_fits table.head ≡ true
+  pub few : length table.rows < 2 ^ 64
+  pub rows : All (IsTold table.columns) table.rows
+
+tables-told : (one other : SpanTable) → AreDistinct (map column_name one.columns) → IsToldTable one → IsToldTable other → text_of one ≡ text_of other → one ≡ other
+tables-told one other distinct is its e =
     let lines = line-told (print (head_tokens one.columns (length one.rows) one.head)) (print (head_tokens other.columns (length other.rows) other.head))
     (flat_map (json_line one.columns) one.rows) (flat_map (json_line other.columns) other.rows)
     (print_head-IsLine one.columns (length one.rows) one.head is.few is.head) (print_head-IsLine other.columns (length other.rows) other.head its.few its.head)
@@ -187,9 +197,27 @@ tables-told one other is its e =
     let heads = sym (tokens-head one.columns (length one.rows) one.head is.few is.head) ∙ ap tokens lines.0 ∙ tokens-head other.columns (length other.rows) other.head its.few its.head in
     let columns = names-told one.columns other.columns (numbers_tokens (length one.rows) one.head ++ end_object ∷ []) (numbers_tokens (length other.rows) other.head ++ end_object ∷ []) (ap (drop 5) heads) in
     let numbers = numbers-told (length one.rows) (length other.rows) one.head other.head is.few its.few (head_small one.head is.head) (head_small other.head its.head) columns.1 in
-    let rows = rows-with one.columns other.columns one.rows other.rows columns.0 is.columns.distinct is.rows its.rows numbers.0 lines.1 in
+    let rows = rows-with one.columns other.columns one.rows other.rows columns.0 distinct is.rows its.rows numbers.0 lines.1 in
     λ i. record { columns = columns.0 i; head = numbers.1 i; rows = rows i }
+
+part-told : (table : SpanTable) → IsTable table → IsToldTable table
+part-told table is = record { head = is.head; few = is.few; rows = All-weaker (IsRowOf table.columns) (IsTold table.columns) (IsRowOf-told table.columns) table.rows is.rows }
+
+-- each key of the table has a value for each column
+abbrev pub HasWholeKeys : SpanTable → Type 0
+HasWholeKeys table = All (λ row. length row.key ≡ length table.columns) table.rows
+
+print-told : (table : SpanTable) → AllFit table → HasWholeKeys table → IsToldTable table
+print-told table fits whole =
+    let numbers = and_parts (head_fits table.head) (list_all (λ (row : Row). fit row.sums) table.rows) fits.numbers in
+    let sums = AllPass-from_list_all (λ (row : Row). fit row.sums) table.rows numbers.1 in
+    record { head = numbers.0; few = fits.few; rows = λ k d low. record { key = (whole k d low, fits.keys k d low); sums = sums k d low } }
+
+-- a table that was read of the text that is printed of another is this one
+pub prints-told : (text : Bytes) (part table : SpanTable) → IsPart text part → IsPrint text table → HasWholeKeys table → part ≡ table
+prints-told text part table is print whole =
+    tables-told part table is.is.columns.distinct (part-told part is.is) (print-told table print.fits whole) (sym is.printed ∙ print.printed)
 
 -- two tables that are printed alike are the same
 pub parts-told : PartsAreTold
-parts-told text one other is its = tables-told one other is.is its.is (sym is.printed ∙ its.printed)
+parts-told text one other is its = tables-told one other is.is.columns.distinct (part-told one is.is) (part-told other its.is) (sym is.printed ∙ its.printed)

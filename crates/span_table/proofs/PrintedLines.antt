@@ -1,5 +1,5 @@
 -- The tokens of the lines of a table are read back, and no line feed stands in such a line.
-use Rattle.std.proofs.Common.{◌≡◌, ◌≢◌, ℕ, ℤ, pos, negsuc, suc, ◌+◌, ◌/◌, ◌%◌, ◌^◌, ◌<◌, ◌≤◌, Bool, true, false, true≢false, cond, ◌&&◌, ◌||◌, ◌==◌, nat_lt, List, [], ◌∷◌, ◌++◌, All, refl, sym, ap, ◌∙◌, Some, None, arith, decimal, codes, FitsSigned}
+use Rattle.std.proofs.Common.{◌≡◌, ◌≢◌, ℕ, ℤ, pos, negsuc, suc, ◌+◌, ◌/◌, ◌%◌, ◌^◌, ◌<◌, ◌≤◌, Bool, true, false, true≢false, cond, ◌&&◌, ◌||◌, ◌==◌, nat_lt, List, [], ◌∷◌, ◌++◌, All, length, refl, sym, ap, ◌∙◌, Some, None, arith, decimal, codes, FitsSigned}
 use Rattle.std.specs.Prelude.{⊤}
 use Rattle.std.specs.Char.{digit_char}
 use Rattle.std.specs.Fmt.{signed_decimal}
@@ -24,9 +24,10 @@ use Rattle.span_table.specs.declared.column.Column.TheVariants.{Pid, Tid, Proces
 use Rattle.span_table.specs.declared.heads.Head.{Head}
 use Rattle.span_table.specs.declared.sums.Sums.{Sums}
 use Rattle.span_table.specs.declared.table.Row.{Row}
+use Rattle.span_table.specs.Columns.{Value}
 use Rattle.span_table.specs.Json.{fit, head_fits}
 use Rattle.span_table.specs.Keys.{TableKey}
-use Rattle.span_table.specs.Printed.{IsKeyOf, IsRowOf, MayHave}
+use Rattle.span_table.specs.Printed.{IsKeyOf, IsOfArgument, IsRowOf, KeyFits, MayHave}
 use Rattle.span_table.specs.Tokens.{counts_tokens, head_tokens, key_tokens, name_tokens, numbers_tokens, row_tokens, sums_tokens, value_tokens}
 
 -- no line feed is among the bytes
@@ -209,7 +210,7 @@ numbers-in_line rows head few small =
     (tt, (decimal-in_line rows few, (tt, (runs, (tt, (files, (tt, (unread, counts-in_line head small))))))))
 
 -- a number that a column has fits
-pub whole_fits : (column : Column) (whole : ℤ) → MayHave column (Some (Whole whole)) → FitsSigned w64 whole
+whole_fits : (column : Column) (whole : ℤ) → MayHave column (Some (Whole whole)) → FitsSigned w64 whole
 whole_fits Pid whole h = h
 whole_fits Tid whole h = h
 whole_fits Process whole h = absurd h
@@ -218,23 +219,51 @@ whole_fits Name whole h = absurd h
 whole_fits File whole h = absurd h
 whole_fits (Argument name) whole h = h
 
-value-in_line : (column : Column) (value : ArgValue) → MayHave column (Some value) → AreInLine (value_tokens value)
-value-in_line column Nil h = (tt, tt)
-value-in_line column (Flag flag) h = (tt, tt)
-value-in_line column (Whole whole) h = (signed_decimal-in_line whole (whole_fits column whole h), tt)
-value-in_line column (Words text) h = (tt, tt)
-value-in_line column Other h = (tt, (tt, tt))
+-- a value that a column may have, an argument may have
+pub IsOfArgument-any : (column : Column) (value : Value) → MayHave column value → IsOfArgument value
+IsOfArgument-any column None may = tt
+IsOfArgument-any column (Some Nil) may = tt
+IsOfArgument-any column (Some (Flag flag)) may = tt
+IsOfArgument-any column (Some (Whole whole)) may = whole_fits column whole may
+IsOfArgument-any column (Some (Words text)) may = tt
+IsOfArgument-any column (Some Other) may = tt
 
-key-in_line : (columns : List Column) (values : TableKey) → IsKeyOf columns values → AreInLine (key_tokens columns values)
+-- a key that a line tells: a value for each column, whose numbers have 64 bits
+abbrev pub IsToldKey : List Column → TableKey → Type 0
+IsToldKey columns values = (length values ≡ length columns) × KeyFits columns values
+
+IsKeyOf-told : (columns : List Column) (values : TableKey) → IsKeyOf columns values → IsToldKey columns values
+IsKeyOf-told [] [] h = (refl, tt)
+IsKeyOf-told [] (value ∷ values) h = absurd h
+IsKeyOf-told (column ∷ columns) [] h = absurd h
+IsKeyOf-told (column ∷ columns) (value ∷ values) h = let rest = IsKeyOf-told columns values h.1 in (ap suc rest.0, (IsOfArgument-any column value h.0, rest.1))
+
+-- a row that a line tells
+pub record IsTold (columns : List Column) (row : Row) : Type 0 where
+  pub key : IsToldKey columns row.key
+  pub sums : fit row.sums ≡ true
+
+-- so is each that a table may have
+pub IsRowOf-told : (columns : List Column) (row : Row) → IsRowOf columns row → IsTold columns row
+IsRowOf-told columns row is = record { key = IsKeyOf-told columns row.key is.key; sums = is.fits }
+
+value-in_line : (value : ArgValue) → IsOfArgument (Some value) → AreInLine (value_tokens value)
+value-in_line Nil h = (tt, tt)
+value-in_line (Flag flag) h = (tt, tt)
+value-in_line (Whole whole) h = (signed_decimal-in_line whole h, tt)
+value-in_line (Words text) h = (tt, tt)
+value-in_line Other h = (tt, (tt, tt))
+
+key-in_line : (columns : List Column) (values : TableKey) → KeyFits columns values → AreInLine (key_tokens columns values)
 key-in_line [] values h = tt
 key-in_line (column ∷ columns) [] h = tt
 key-in_line (column ∷ columns) (None ∷ values) h = key-in_line columns values h.1
-key-in_line (column ∷ columns) (Some value ∷ values) h = (tt, AreInLine-append (value_tokens value) _ (value-in_line column value h.0) (key-in_line columns values h.1))
+key-in_line (column ∷ columns) (Some value ∷ values) h = (tt, AreInLine-append (value_tokens value) _ (value-in_line value h.0) (key-in_line columns values h.1))
 
-row-in_line : (columns : List Column) (row : Row) → IsRowOf columns row → AreInLine (row_tokens columns row)
+row-in_line : (columns : List Column) (row : Row) → IsTold columns row → AreInLine (row_tokens columns row)
 row-in_line columns row is =
-    let sums = AreInLine-append (sums_tokens row.sums) (end_object ∷ []) (sums-in_line row.sums is.fits) (tt, tt) in
-    (tt, AreInLine-append (key_tokens columns row.key) (sums_tokens row.sums ++ end_object ∷ []) (key-in_line columns row.key is.key) sums)
+    let sums = AreInLine-append (sums_tokens row.sums) (end_object ∷ []) (sums-in_line row.sums is.sums) (tt, tt) in
+    (tt, AreInLine-append (key_tokens columns row.key) (sums_tokens row.sums ++ end_object ∷ []) (key-in_line columns row.key is.key.1) sums)
 
 names-in_line : (columns : List Column) → AreInLine (name_tokens columns)
 names-in_line [] = tt
@@ -250,7 +279,7 @@ head-in_line columns rows head few small =
     (tt, (tt, (one-in_line, (tt, (tt, AreInLine-append (name_tokens columns) _ (names-in_line columns) (tt, numbers))))))
 
 -- the tokens of a row are read back
-pub tokens-row : (columns : List Column) (row : Row) → IsRowOf columns row → tokens (print (row_tokens columns row)) ≡ row_tokens columns row
+pub tokens-row : (columns : List Column) (row : Row) → IsTold columns row → tokens (print (row_tokens columns row)) ≡ row_tokens columns row
 tokens-row columns row is = tokens-print (row_tokens columns row) (all_printable (row_tokens columns row) (row-in_line columns row is))
 
 -- those of the first line are read back
@@ -258,7 +287,7 @@ pub tokens-head : (columns : List Column) (rows : ℕ) (head : Head) → rows < 
 tokens-head columns rows head few fits = tokens-print (head_tokens columns rows head) (all_printable (head_tokens columns rows head) (head-in_line columns rows head few (head_small head fits)))
 
 -- the line of a row is one line
-pub print_row-IsLine : (columns : List Column) (row : Row) → IsRowOf columns row → IsLine (print (row_tokens columns row))
+pub print_row-IsLine : (columns : List Column) (row : Row) → IsTold columns row → IsLine (print (row_tokens columns row))
 print_row-IsLine columns row is = print-line false (row_tokens columns row) (row-in_line columns row is)
 
 -- the first line is one line
@@ -266,7 +295,7 @@ pub print_head-IsLine : (columns : List Column) (rows : ℕ) (head : Head) → r
 print_head-IsLine columns rows head few fits = print-line false (head_tokens columns rows head) (head-in_line columns rows head few (head_small head fits))
 
 -- no line feed stands in the line of a row
-pub print_row-line : (columns : List Column) (row : Row) → IsRowOf columns row → All (λ byte. byte ≢ 10) (print (row_tokens columns row))
+pub print_row-line : (columns : List Column) (row : Row) → IsTold columns row → All (λ byte. byte ≢ 10) (print (row_tokens columns row))
 print_row-line columns row is = All-from_recursion (λ byte. byte ≢ 10) (print (row_tokens columns row)) (print_row-IsLine columns row is)
 
 -- no line feed stands in the first line

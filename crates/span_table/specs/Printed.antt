@@ -1,5 +1,5 @@
 -- Tables that may be printed as JSON Lines, and their text.
-use Rattle.std.specs.Prelude.{◌≡◌, ◌≢◌, ◌<◌, ◌≤◌, ◌^◌, ◌==◌, Bool, true, not, ◌&&◌, nat_lt, List, [], ◌∷◌, All, length, map, Some, None, FitsSigned, ⊤}
+use Rattle.std.specs.Prelude.{◌≡◌, ◌≢◌, ◌<◌, ◌≤◌, ◌^◌, ◌==◌, Bool, true, not, ◌&&◌, nat_lt, List, [], ◌∷◌, All, is_some, length, map, Some, None, FitsSigned, ⊤}
 use Rattle.std.specs.Int.{w64}
 use Rattle.std.specs.List.{list_any}
 use Rattle.std.specs.Str.{IsUtf8}
@@ -8,10 +8,11 @@ use Rattle.span_event.specs.Text.{Bytes}
 use Rattle.span_table.specs.declared.column.Column.{Column}
 use Rattle.span_table.specs.declared.column.Column.TheVariants.{Pid, Tid, Process, Thread, Name, File, Argument}
 use Rattle.span_table.specs.declared.table.Row.{Row}
-use Rattle.span_table.specs.Columns.{Value, column_name}
-use Rattle.span_table.specs.Json.{fit, head_fits, numbers_fit, text_of}
+use Rattle.span_table.specs.Columns.{Run, Value, column_name}
+use Rattle.span_table.specs.Json.{fit, head_fits, numbers_fit, shown_table, text_of}
 use Rattle.span_table.specs.Keys.{TableKey}
-use Rattle.span_table.specs.Tables.{RowsRise, SpanTable}
+use Rattle.span_table.specs.Shown.{Wanted, wants_all}
+use Rattle.span_table.specs.Tables.{RowsRise, SpanTable, table_of}
 
 -- a number, which has 64 bits
 abbrev pub IsWhole : Value → Type 0
@@ -54,6 +55,15 @@ pub record AllFit (table : SpanTable) : Type 0 where
   pub few : length table.rows < 2 ^ 64
   pub keys : All (λ row. KeyFits table.columns row.key) table.rows
 
+-- the run has a file, if that is the column
+abbrev pub HasFile : Run → Column → Type 0
+HasFile run File = is_some run.file ≡ true
+HasFile run column = ⊤
+
+-- each run has a file, if that is a column
+abbrev pub HaveFiles : List Column → List Run → Type 0
+HaveFiles columns runs = All (λ run. All (HasFile run) columns) runs
+
 -- a value for each column
 abbrev pub IsKeyOf : List Column → TableKey → Type 0
 IsKeyOf [] [] = ⊤
@@ -91,7 +101,12 @@ pub record IsTable (table : SpanTable) : Type 0 where
   pub rows : All (IsRowOf table.columns) table.rows
   pub rise : RowsRise table.rows
 
--- a part: the text of such a table
+-- the text of a table, whose numbers have 64 bits
+pub record IsPrint (text : Bytes) (table : SpanTable) : Type 0 where
+  pub fits : AllFit table
+  pub printed : text ≡ text_of table
+
+-- a part: the text of a table that may be printed
 pub record IsPart (text : Bytes) (table : SpanTable) : Type 0 where
   pub is : IsTable table
   pub utf8 : IsUtf8 text
@@ -100,3 +115,12 @@ pub record IsPart (text : Bytes) (table : SpanTable) : Type 0 where
 -- two tables with the same text are the same
 abbrev pub PartsAreTold : Type 0
 PartsAreTold = (text : Bytes) (one other : SpanTable) → IsPart text one → IsPart text other → one ≡ other
+
+-- where all rows are wanted, what is shown of a table is the whole table
+abbrev pub AllIsShown : Type 0
+AllIsShown = (wanted : Wanted) (table : SpanTable) → wants_all wanted ≡ true → shown_table wanted table ≡ table
+
+-- what is printed of runs is a part, if they have their files, and its text is UTF-8
+abbrev pub PrintsAreParts : Type 0
+PrintsAreParts = (columns : List Column) (runs : List Run) (text : Bytes) → AreColumns columns → HaveFiles columns runs → IsUtf8 text →
+    IsPrint text (table_of columns runs) → IsPart text (table_of columns runs)

@@ -1,0 +1,169 @@
+-- The table of runs has a row for each key that a closed span has, so what is printed of it can be read back.
+use Rattle.std.proofs.Common.{◌≡◌, ℕ, ◌+◌, ◌<◌, ◌==◌, Bool, true, false, cond, not, ◌&&◌, ◌||◌, List, [], ◌∷◌, All, Contains, filter, flat_map, get_or, is_some, length, map, Option, Some, None, option_map, refl, sym, ap, ap₂, subst, ◌∙◌, arith}
+use Rattle.std.specs.Cmp.{IsTotalOrder, eq_by_cmp_equiv}
+use Rattle.std.specs.List.{list_all, list_any}
+use Rattle.std.specs.Ordering.{is_eq}
+use Rattle.std.specs.declared.cmp.Ordering.{Ordering}
+use Rattle.std.proofs.lemmas.Bool.{and_parts, eqb-true}
+use Rattle.std.proofs.lemmas.List.{length-map}
+use Rattle.std.proofs.lemmas.List.Elements.{All-append, All-contains, All-contains_itself, All-head, All-map, All-nil, All-tail, All-weaker}
+use Rattle.std.proofs.lemmas.List.Sums.{AllPass-from_list_all}
+use Rattle.std.proofs.lemmas.Map.Views.{list_any-from_Contains}
+use Rattle.span_event.specs.declared.args.ArgValue.TheVariants.{Words}
+use Rattle.span_event.specs.declared.thread.Thread.{Thread}
+use Rattle.span_event.specs.Args.{Arguments}
+use Rattle.span_event.specs.Text.{Bytes}
+use Rattle.span_keyed_tracks.specs.Keyed.{Keyed, entry_of, keys_in, steps_at}
+use Rattle.span_keyed_tracks.proofs.Keyed.{has_key}
+use Rattle.span_keyed_tracks.proofs.SameKeys.{All-ascending, step_keys}
+use Rattle.span_keyed_tracks.proofs.Uses.{is_eq-turned}
+use Rattle.span_ledger.specs.Journal.{accepted}
+use Rattle.span_ledger.specs.Rows.{names_of, thread_keys}
+use Rattle.span_ledger.specs.Timed.{Timed, timed_spans}
+use Rattle.span_table.specs.declared.column.Column.{Column}
+use Rattle.span_table.specs.declared.column.Column.TheVariants.{Pid, Tid, Process, Thread as OfThread, Name, File, Argument}
+use Rattle.span_table.specs.declared.sums.Sums.{Sums}
+use Rattle.span_table.specs.declared.table.Row.{Row}
+use Rattle.span_table.specs.Columns.{Run, value_at}
+use Rattle.span_table.specs.Json.{fit, head_fits}
+use Rattle.span_table.specs.KeyLaws.{key_cmp_total}
+use Rattle.span_table.specs.Keys.{TableKey, key_cmp}
+use Rattle.span_table.specs.Printed.{AllFit, AllIsShown, AreColumns, HasFile, HaveFiles, IsKeyOf, IsName, IsOfArgument, IsPart, IsPrint, IsTable, IsWords, KeyFits, MayHave, PrintsAreParts}
+use Rattle.span_table.specs.Shown.{is_wanted, key_has}
+use Rattle.span_table.specs.Tables.{KeyedSums, SpanTable, head_of, heads_together, keyed_span, row_of, rows_of, run_sums, sums_together, table_of, thread_sums}
+use Rattle.span_table.proofs.PartsTold.{HasWholeKeys, prints-told}
+use Rattle.span_table.proofs.Rows.{RowsRise-rows_of}
+use Rattle.span_table.proofs.Tallies.{tally, tally-cons}
+
+-- what holds of all that each gives holds of all that they give
+All-flat_map : {A B : Type 0} (P : B → Type 0) (f : A → List B) (xs : List A) → All (λ x. All P (f x)) xs → All P (flat_map f xs)
+All-flat_map P f [] all = All-nil P
+All-flat_map P f (x ∷ xs) all =
+    All-append P (f x) (flat_map f xs) (All-head (λ y. All P (f y)) x xs all) (All-flat_map P f xs (All-tail (λ y. All P (f y)) x xs all))
+
+-- what every value has, those of a list have
+All-every : {A : Type 0} (P : A → Type 0) → ((x : A) → P x) → (xs : List A) → All P xs
+All-every P each xs = λ k d low. each (get_or xs k d)
+
+-- where each step comes to something, so do those of a key that has one
+module _ {K A : Type 0} {cmp : K → K → Ordering} (o : IsTotalOrder cmp) (f : A → ℕ) where
+  tally-some : (key : K) (es : List (Keyed K A)) → All (λ (e : Keyed K A). 0 < f e.step) es → has_key cmp key (step_keys es) ≡ true → 0 < tally cmp f key es
+  tally-some key [] each has = absurd cc
+  tally-some key (e ∷ es) each has = by (is_eq (cmp key e.key)) refl (tally-some key es (All-tail (λ (x : Keyed K A). 0 < f x.step) e es each))
+    where
+      own : tally cmp f key (e ∷ es) ≡ cond (is_eq (cmp e.key key)) (f e.step) 0 + tally cmp f key es
+      own = tally-cons cmp f key e es
+
+      by : (b : Bool) → is_eq (cmp key e.key) ≡ b → (has_key cmp key (step_keys es) ≡ true → 0 < tally cmp f key es) → 0 < tally cmp f key (e ∷ es)
+      by true h rest =
+          let some = All-head (λ (x : Keyed K A). 0 < f x.step) e es each in
+          let mine = subst (λ b. tally cmp f key (e ∷ es) ≡ cond b (f e.step) 0 + tally cmp f key es) (is_eq-turned o e.key key ∙ h) own in
+          omega (arith, some, mine)
+      by false h rest = let later = rest (sym (ap (λ b. b || has_key cmp key (step_keys es)) h) ∙ has) in omega (arith, later, own)
+
+-- what holds of each key of sums, with what the sums of this key come to, holds of each row
+All-rows : (P : Row → Type 0) (es : KeyedSums) → ((k : TableKey) → Contains (step_keys es) k → P (record { key = k; sums = sums_together (steps_at key_cmp k es) })) → All P (rows_of es)
+All-rows P es each =
+    let keys = keys_in key_cmp es in
+    let made = entry_of (λ (k : TableKey). sums_together (steps_at key_cmp k es)) in
+    let known = All-weaker (Contains (step_keys es)) (λ k. P (row_of (made k))) each (step_keys es) (All-contains_itself (step_keys es)) in
+    All-map P row_of (map made keys) (All-map (λ (e : TableKey × Sums). P (row_of e)) made keys (All-ascending key_cmp (λ k. P (row_of (made k))) (step_keys es) known))
+
+-- what holds of the keys of sums holds of those of the rows
+All-keys : (P : TableKey → Type 0) (es : KeyedSums) → All (λ (e : Keyed TableKey Sums). P e.key) es → All (λ (row : Row). P row.key) (rows_of es)
+All-keys P es each = All-rows (λ row. P row.key) es (λ k has. All-contains P (step_keys es) k (All-map P (λ (e : Keyed TableKey Sums). e.key) es each) has)
+
+-- where each of some sums counts a span, each row does
+All-counts : (es : KeyedSums) → All (λ (e : Keyed TableKey Sums). 0 < e.step.count) es → All (λ (row : Row). 0 < row.sums.count) (rows_of es)
+All-counts es each =
+    All-rows (λ row. 0 < row.sums.count) es (λ k has. tally-some key_cmp_total (λ (s : Sums). s.count) k es each (list_any-from_Contains (eq_by_cmp_equiv key_cmp_total) k (step_keys es) has))
+
+-- what holds of the closed spans of a thread of a run, under their keys
+abbrev OfSpans : List Column → (Keyed TableKey Sums → Type 0) → Run → Type 0
+OfSpans columns P run = (thread : Thread) (t : Timed) → P (keyed_span columns run thread t)
+
+-- holds of all that are summed
+All-spans : (columns : List Column) (P : Keyed TableKey Sums → Type 0) (runs : List Run) → All (OfSpans columns P) runs → All P (flat_map (run_sums columns) runs)
+All-spans columns P runs each = All-flat_map P (run_sums columns) runs (All-weaker (OfSpans columns P) (λ run. All P (run_sums columns run)) of_run runs each)
+  where
+    of_run : (run : Run) → OfSpans columns P run → All P (run_sums columns run)
+    of_run run each =
+        All-flat_map P (thread_sums columns run) (thread_keys (accepted run.journal))
+        (All-every (λ thread. All P (thread_sums columns run thread))
+        (λ thread. All-map P (keyed_span columns run thread) (timed_spans run.journal thread) (All-every (λ t. P (keyed_span columns run thread t)) (each thread) (timed_spans run.journal thread)))
+        (thread_keys (accepted run.journal)))
+
+named : (name : Option Bytes) → IsName (option_map Words name)
+named None = tt
+named (Some name) = tt
+
+words : (file : Option Bytes) → is_some file ≡ true → IsWords (option_map Words file)
+words None some = absurd cc
+words (Some file) some = tt
+
+module _ (run : Run) (thread : Thread) (name : Bytes) (args : Arguments) where
+  -- a value that a span has in a column is one that the column may have, if its number fits
+  value_at-MayHave : (column : Column) → HasFile run column → IsOfArgument (value_at run thread name args column) → MayHave column (value_at run thread name args column)
+  value_at-MayHave Pid file fits = fits
+  value_at-MayHave Tid file fits = fits
+  value_at-MayHave Process file fits = named (names_of run.journal (thread.pid, None)).name
+  value_at-MayHave OfThread file fits = named (names_of run.journal (thread.pid, Some thread.tid)).name
+  value_at-MayHave Name file fits = tt
+  value_at-MayHave File file fits = words run.file file
+  value_at-MayHave (Argument key) file fits = fits
+
+  key-IsKeyOf : (columns : List Column) → All (HasFile run) columns → KeyFits columns (map (value_at run thread name args) columns) → IsKeyOf columns (map (value_at run thread name args) columns)
+  key-IsKeyOf [] files fits = tt
+  key-IsKeyOf (column ∷ columns) files fits =
+      (value_at-MayHave column (All-head (HasFile run) column columns files) fits.0, key-IsKeyOf columns (All-tail (HasFile run) column columns files) fits.1)
+
+module _ (columns : List Column) (runs : List Run) where
+  -- each key of the table of runs has a value for each column
+  table_of-HasWholeKeys : HasWholeKeys (table_of columns runs)
+  table_of-HasWholeKeys =
+      All-keys (λ key. length key ≡ length columns) (flat_map (run_sums columns) runs)
+      (All-spans columns (λ e. length e.key ≡ length columns) runs
+      (All-every (OfSpans columns (λ e. length e.key ≡ length columns)) (λ run thread t. length-map columns (value_at run thread t.span.name t.span.args)) runs))
+
+  -- a table that was read of what is printed of runs is the table of these
+  pub part-table_of : (text : Bytes) (part : SpanTable) → IsPart text part → IsPrint text (table_of columns runs) → part ≡ table_of columns runs
+  part-table_of text part is print = prints-told text part (table_of columns runs) is print table_of-HasWholeKeys
+
+  -- the table of runs that have their files, if its numbers have 64 bits, may be printed and read back
+  pub IsTable-table_of : AreColumns columns → HaveFiles columns runs → AllFit (table_of columns runs) → IsTable (table_of columns runs)
+  IsTable-table_of are files fits =
+      let es = flat_map (run_sums columns) runs in
+      let numbers = and_parts (head_fits (heads_together (map head_of runs))) (list_all (λ (row : Row). fit row.sums) (rows_of es)) fits.numbers in
+      let sums = AllPass-from_list_all (λ (row : Row). fit row.sums) (rows_of es) numbers.1 in
+      let keys = All-keys (λ key. KeyFits columns key → IsKeyOf columns key) es
+      (All-spans columns (λ e. KeyFits columns e.key → IsKeyOf columns e.key) runs
+      (All-weaker (λ run. All (HasFile run) columns) (OfSpans columns (λ e. KeyFits columns e.key → IsKeyOf columns e.key)) (λ run has thread t. key-IsKeyOf run thread t.span.name t.span.args columns has) runs files)) in
+      let counts = All-counts es (All-spans columns (λ e. 0 < e.step.count) runs (All-every (OfSpans columns (λ e. 0 < e.step.count)) (λ run thread t. omega arith) runs)) in
+      record {
+        columns = are;
+        head = numbers.0;
+        few = fits.few;
+        rows = λ k d low. record { key = keys k d low (fits.keys k d low); some = counts k d low; fits = sums k d low };
+        rise = RowsRise-rows_of es;
+      }
+
+-- so what is printed of such runs is a part
+pub prints-parts : PrintsAreParts
+prints-parts columns runs text are files utf8 print = record { is = IsTable-table_of columns runs are files print.fits; utf8 = utf8; printed = print.printed }
+
+filter-every : {A : Type 0} (p : A → Bool) → ((x : A) → p x ≡ true) → (xs : List A) → filter p xs ≡ xs
+filter-every p each [] = refl
+filter-every p each (x ∷ xs) = ap (λ b. cond b (x ∷ filter p xs) (filter p xs)) (each x) ∙ ap (λ l. x ∷ l) (filter-every p each xs)
+
+-- where all rows are wanted, what is shown of a table is the whole table
+pub shown_table-all : AllIsShown
+shown_table-all wanted table all = λ i. record { columns = table.columns; head = table.head; rows = filter-every (λ (row : Row). is_wanted wanted row.key) (λ row. each row.key) table.rows i }
+  where
+    none : (texts : List Bytes) → (length texts == 0) ≡ true → texts ≡ []
+    none [] e = refl
+    none (text ∷ texts) e = absurd (let no = eqb-true (length (text ∷ texts)) 0 e in omega (arith, no))
+
+    each : (key : TableKey) → is_wanted wanted key ≡ true
+    each key =
+        let parts = and_parts (length wanted.only == 0) (length wanted.skip == 0) all in
+        ap₂ (λ (only skip : List Bytes). list_all (key_has key) only && not (list_any (key_has key) skip)) (none wanted.only parts.0) (none wanted.skip parts.1)
