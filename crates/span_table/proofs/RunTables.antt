@@ -25,11 +25,11 @@ use Rattle.span_table.specs.declared.column.Column.TheVariants.{Pid, Tid, Proces
 use Rattle.span_table.specs.declared.sums.Sums.{Sums}
 use Rattle.span_table.specs.declared.table.Row.{Row}
 use Rattle.span_table.specs.Columns.{Run, value_at}
-use Rattle.span_table.specs.Json.{fit, head_fits}
+use Rattle.span_table.specs.Json.{fit, head_fits, shown_table, text_of}
 use Rattle.span_table.specs.KeyLaws.{key_cmp_total}
 use Rattle.span_table.specs.Keys.{TableKey, key_cmp}
-use Rattle.span_table.specs.Printed.{AllFit, AllIsShown, AreColumns, HasFile, HaveFiles, IsKeyOf, IsName, IsOfArgument, IsPart, IsPrint, IsTable, IsWords, KeyFits, MayHave, PrintsAreParts}
-use Rattle.span_table.specs.Shown.{is_wanted, key_has}
+use Rattle.span_table.specs.Printed.{AllFit, AllIsPrinted, AreColumns, HasFile, HaveFiles, IsKeyOf, IsName, IsOfArgument, IsPart, IsPrint, IsTable, IsWords, KeyFits, MayHave, PrintsAreParts}
+use Rattle.span_table.specs.Shown.{Wanted, is_wanted, key_has, wants_all}
 use Rattle.span_table.specs.Tables.{KeyedSums, SpanTable, head_of, heads_together, keyed_span, row_of, rows_of, run_sums, sums_together, table_of, thread_sums}
 use Rattle.span_table.proofs.PartsTold.{HasWholeKeys, prints-told}
 use Rattle.span_table.proofs.Rows.{RowsRise-rows_of}
@@ -156,7 +156,7 @@ filter-every p each [] = refl
 filter-every p each (x ∷ xs) = ap (λ b. cond b (x ∷ filter p xs) (filter p xs)) (each x) ∙ ap (λ l. x ∷ l) (filter-every p each xs)
 
 -- where all rows are wanted, what is shown of a table is the whole table
-pub shown_table-all : AllIsShown
+pub shown_table-all : (wanted : Wanted) (table : SpanTable) → wants_all wanted ≡ true → shown_table wanted table ≡ table
 shown_table-all wanted table all = λ i. record { columns = table.columns; head = table.head; rows = filter-every (λ (row : Row). is_wanted wanted row.key) (λ row. each row.key) table.rows i }
   where
     none : (texts : List Bytes) → (length texts == 0) ≡ true → texts ≡ []
@@ -167,3 +167,7 @@ shown_table-all wanted table all = λ i. record { columns = table.columns; head 
     each key =
         let parts = and_parts (length wanted.only == 0) (length wanted.skip == 0) all in
         ap₂ (λ (only skip : List Bytes). list_all (key_has key) only && not (list_any (key_has key) skip)) (none wanted.only parts.0) (none wanted.skip parts.1)
+
+-- so what JSON Lines have of it is its print
+pub json_of-print : AllIsPrinted
+json_of-print wanted table all fits = let same = shown_table-all wanted table all in record { fits = subst AllFit same fits; printed = ap text_of same }

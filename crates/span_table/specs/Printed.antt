@@ -9,7 +9,7 @@ use Rattle.span_table.specs.declared.column.Column.{Column}
 use Rattle.span_table.specs.declared.column.Column.TheVariants.{Pid, Tid, Process, Thread, Name, File, Argument}
 use Rattle.span_table.specs.declared.table.Row.{Row}
 use Rattle.span_table.specs.Columns.{Run, Value, column_name}
-use Rattle.span_table.specs.Json.{fit, head_fits, numbers_fit, shown_table, text_of}
+use Rattle.span_table.specs.Json.{fit, head_fits, json_of, numbers_fit, shown_table, text_of}
 use Rattle.span_table.specs.Keys.{TableKey}
 use Rattle.span_table.specs.Shown.{Wanted, wants_all}
 use Rattle.span_table.specs.Tables.{RowsRise, SpanTable, table_of}
@@ -116,9 +116,9 @@ pub record IsPart (text : Bytes) (table : SpanTable) : Type 0 where
 abbrev pub PartsAreTold : Type 0
 PartsAreTold = (text : Bytes) (one other : SpanTable) → IsPart text one → IsPart text other → one ≡ other
 
--- where all rows are wanted, what is shown of a table is the whole table
-abbrev pub AllIsShown : Type 0
-AllIsShown = (wanted : Wanted) (table : SpanTable) → wants_all wanted ≡ true → shown_table wanted table ≡ table
+-- where all rows are wanted, what JSON Lines have of a table is its print
+abbrev pub AllIsPrinted : Type 0
+AllIsPrinted = (wanted : Wanted) (table : SpanTable) → wants_all wanted ≡ true → AllFit (shown_table wanted table) → IsPrint (json_of wanted table) table
 
 -- what is printed of runs is a part, if they have their files, and its text is UTF-8
 abbrev pub PrintsAreParts : Type 0

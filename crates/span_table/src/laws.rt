@@ -1,7 +1,7 @@
 //! The facts that hold of every table.
 ghost use Rattle.span_table.specs.Adding.{AddingLosesNothing, DroppingAdds, OrderIsNothing};
 ghost use Rattle.span_table.specs.Laws.{KeysStandOnce, RowsAddUpToBusy, RowsAreSpanRows, TablesFollowFromActs};
-ghost use Rattle.span_table.specs.Printed.{AllIsShown, PartsAreTold, PrintsAreParts};
+ghost use Rattle.span_table.specs.Printed.{AllIsPrinted, PartsAreTold, PrintsAreParts};
 ghost use Rattle.span_table.specs.TextLaws.{ComparisonsTurn, DifferencesTurn, RankingsHaveEachRow, TablesCompareWithThemselves};
 
 /// The table of runs follows from how many entries their journals have of each kind, and from their accepted acts on each topic, in
@@ -58,9 +58,9 @@ pub fn part_law()
     ensures { PartsAreTold }
 {}
 
-/// Where all rows are shown, a table is printed whole; and what is printed of runs is a part, so it may be read back: if the text is
-/// UTF-8, and each run has a file where that is a column. The function does nothing: its contract is the law.
+/// Where all rows are wanted, what is written of a table is its print; and what is printed of runs is a part, so it may be read back:
+/// if the text is UTF-8, and each run has a file where that is a column. The function does nothing: its contract is the law.
 pub fn print_law()
-    ensures whole { AllIsShown }
+    ensures whole { AllIsPrinted }
     ensures parts { PrintsAreParts }
 {}

@@ -1,5 +1,5 @@
-use Rattle.span_table.proofs.RunTables.{prints-parts, shown_table-all}
+use Rattle.span_table.proofs.RunTables.{json_of-print, prints-parts}
 use Rattle.span_table.proofs.laws.print_law.Goals as goal
 
 pub returns : goal.returns
-returns c = record { whole = shown_table-all; parts = prints-parts }
+returns c = record { whole = json_of-print; parts = prints-parts }
