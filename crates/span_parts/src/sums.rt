@@ -1,5 +1,5 @@
 //! The rows of a part, which are added one after another.
-ghost use Rattle.std.specs.Prelude.{◌≡◌, ◌++◌, ◌∷◌, [], true, List, ℕ, map, IfErr, IfOk, OnOk};
+ghost use Rattle.std.specs.Prelude.{◌≡◌, ◌++◌, ◌∷◌, [], true, List, ℕ, map, IfErr, IfOk, IsTrue, OnOk};
 ghost use Rattle.span_table.specs.declared.table.Row.{Row as TheRow};
 ghost use Rattle.span_table.specs.Adding.{picked, with_row};
 ghost use Rattle.span_table.specs.Columns.{column_name};
@@ -143,15 +143,43 @@ fn add_row(alloc: Global, sum: Addition, places: &[usize], row: &Row) -> Result<
     ensures added { IfOk result (λ new. new ≡ with_row sum (row_at places.now row.now)) }
     ensures fault { IfErr result IsOfSum }
 {
+    if takes_all(places, row.key.values()) {
+        return add_whole_row(sum, row);
+    }
     let row = Row {
         key: key_at(alloc, places, &row.key)?,
         sums: row.sums,
     };
+    add_whole_row(sum, &row)
+}
+
+fn add_whole_row(sum: Addition, row: &Row) -> Result<Addition, PartFault>
+    requires { fit row.now.sums ≡ true }
+    ensures added { IfOk result (λ new. new ≡ with_row sum row.now) }
+    ensures fault { IfErr result IsOfSum }
+{
     match sum.add_row(row) {
         Ok(sum) => Ok(sum),
         Err(SumFault::Memory) => Err(PartFault::Memory),
         Err(SumFault::TooMany) => Err(PartFault::TooMany),
     }
+}
+
+// Whether these are the places of all the values, in their order.
+fn takes_all(places: &[usize], values: &[Option<ArgValue>]) -> bool
+    ensures { IsTrue result → picked places.now values.now ≡ values.now }
+{
+    if places.len() != values.len() {
+        return false;
+    }
+    let mut at = 0;
+    while at < places.len() {
+        if places[at] != at {
+            return false;
+        }
+        at += 1;
+    }
+    true
 }
 
 // The values at these places of a key.
