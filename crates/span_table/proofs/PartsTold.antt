@@ -1,10 +1,7 @@
 -- Two tables that are printed alike are the same.
 use Rattle.std.proofs.Common.{◌≡◌, ◌≢◌, ℕ, ◌^◌, ◌<◌, ◌==◌, cond, true, List, [], ◌∷◌, ◌++◌, All, drop, flat_map, get_or, length, map, refl, sym, ap, subst, ◌∙◌, Some, None, append_assoc, arith, codes}
-use Rattle.std.specs.List.{list_all}
-use Rattle.std.proofs.lemmas.Bool.{and_parts}
 use Rattle.std.proofs.lemmas.Fmt.{decimal_injective, signed_decimal_injective}
 use Rattle.std.proofs.lemmas.List.Elements.{All-head, All-tail, All-weaker}
-use Rattle.std.proofs.lemmas.List.Sums.{AllPass-from_list_all}
 use Rattle.json.specs.Lex.{tokens}
 use Rattle.json.specs.Print.{print}
 use Rattle.json.specs.Token.{Token, end_array, end_object, key}
@@ -23,7 +20,7 @@ use Rattle.span_table.specs.Printed.{AllFit, AreDistinct, IsOfArgument, IsPart, 
 use Rattle.span_table.specs.Tables.{SpanTable}
 use Rattle.span_table.specs.Tokens.{head_tokens, key_tokens, name_tokens, numbers_tokens, row_tokens, sums_tokens, value_tokens}
 use Rattle.span_table.proofs.Printed.{json_head-print, json_line-print}
-use Rattle.span_table.proofs.PrintedLines.{AreSmall, IsLine, IsRowOf-told, IsTold, IsToldKey, head_small, print_head-IsLine, print_row-IsLine, sums_small, tokens-head, tokens-row}
+use Rattle.span_table.proofs.PrintedLines.{AreSmall, IsLine, IsRowOf-told, IsTold, IsToldKey, head_small, numbers_fit-each, print_head-IsLine, print_row-IsLine, sums_small, tokens-head, tokens-row}
 
 -- two texts are the same if their first lines are, and what follows these
 line-told : (a b r s : Bytes) → IsLine a → IsLine b → a ++ 10 ∷ r ≡ b ++ 10 ∷ s → (a ≡ b) × (r ≡ s)
@@ -209,9 +206,8 @@ HasWholeKeys table = All (λ row. length row.key ≡ length table.columns) table
 
 print-told : (table : SpanTable) → AllFit table → HasWholeKeys table → IsToldTable table
 print-told table fits whole =
-    let numbers = and_parts (head_fits table.head) (list_all (λ (row : Row). fit row.sums) table.rows) fits.numbers in
-    let sums = AllPass-from_list_all (λ (row : Row). fit row.sums) table.rows numbers.1 in
-    record { head = numbers.0; few = fits.few; rows = λ k d low. record { key = (whole k d low, fits.keys k d low); sums = sums k d low } }
+    let numbers = numbers_fit-each table fits.numbers in
+    record { head = numbers.0; few = fits.few; rows = λ k d low. record { key = (whole k d low, fits.keys k d low); sums = numbers.1 k d low } }
 
 -- a table that was read of the text that is printed of another is this one
 pub prints-told : (text : Bytes) (part table : SpanTable) → IsPart text part → IsPrint text table → HasWholeKeys table → part ≡ table

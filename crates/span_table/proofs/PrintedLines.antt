@@ -4,11 +4,12 @@ use Rattle.std.specs.Prelude.{⊤}
 use Rattle.std.specs.Char.{digit_char}
 use Rattle.std.specs.Fmt.{signed_decimal}
 use Rattle.std.specs.Int.{w64}
-use Rattle.std.specs.List.{AllByRecursion}
+use Rattle.std.specs.List.{AllByRecursion, list_all}
 use Rattle.std.specs.Str.Parse.{AllDigits}
 use Rattle.std.proofs.lemmas.Bool.{and_parts, ltb-false, ltb-true}
 use Rattle.std.proofs.lemmas.Fmt.{decimal_is_IsNumeral}
 use Rattle.std.proofs.lemmas.List.Elements.{All-from_recursion}
+use Rattle.std.proofs.lemmas.List.Sums.{AllPass-from_list_all}
 use Rattle.std.proofs.lemmas.Str.Parse.{digit_from_value}
 use Rattle.json.specs.Lex.{tokens}
 use Rattle.json.specs.Print.{ArePrintable, IsNumber, IsPrintable, begins, ends, escape, escape_byte, escape_letter, print, print_from, quoted, separator, token_text}
@@ -25,9 +26,10 @@ use Rattle.span_table.specs.declared.heads.Head.{Head}
 use Rattle.span_table.specs.declared.sums.Sums.{Sums}
 use Rattle.span_table.specs.declared.table.Row.{Row}
 use Rattle.span_table.specs.Columns.{Value}
-use Rattle.span_table.specs.Json.{fit, head_fits}
+use Rattle.span_table.specs.Json.{fit, head_fits, numbers_fit}
 use Rattle.span_table.specs.Keys.{TableKey}
 use Rattle.span_table.specs.Printed.{IsKeyOf, IsOfArgument, IsRowOf, KeyFits, MayHave}
+use Rattle.span_table.specs.Tables.{SpanTable}
 use Rattle.span_table.specs.Tokens.{counts_tokens, head_tokens, key_tokens, name_tokens, numbers_tokens, row_tokens, sums_tokens, value_tokens}
 
 -- no line feed is among the bytes
@@ -156,6 +158,13 @@ sums_small sums h =
     let one = and_parts (nat_lt sums.count (2 ^ 64)) _ h in
     let two = and_parts (nat_lt sums.total (2 ^ 64)) _ one.1 in
     (ltb-true _ _ one.0, ltb-true _ _ two.0, ltb-true _ _ two.1)
+
+-- the numbers of a table, where all of them fit
+pub numbers_fit-each : (table : SpanTable) → numbers_fit table ≡ true → (head_fits table.head ≡ true) × All (λ row. fit row.sums ≡ true) table.rows
+numbers_fit-each table h =
+    let fits = λ (row : Row). fit row.sums in
+    let parts = and_parts (head_fits table.head) (list_all fits table.rows) h in
+    (parts.0, AllPass-from_list_all fits table.rows parts.1)
 
 sums-in_line : (sums : Sums) → fit sums ≡ true → AreInLine (sums_tokens sums)
 sums-in_line sums h =

@@ -7,7 +7,6 @@ use Rattle.std.specs.declared.cmp.Ordering.{Ordering}
 use Rattle.std.proofs.lemmas.Bool.{and_parts, eqb-true}
 use Rattle.std.proofs.lemmas.List.{length-map}
 use Rattle.std.proofs.lemmas.List.Elements.{All-append, All-contains, All-contains_itself, All-head, All-map, All-nil, All-tail, All-weaker}
-use Rattle.std.proofs.lemmas.List.Sums.{AllPass-from_list_all}
 use Rattle.std.proofs.lemmas.Map.Views.{list_any-from_Contains}
 use Rattle.span_event.specs.declared.args.ArgValue.TheVariants.{Words}
 use Rattle.span_event.specs.declared.thread.Thread.{Thread}
@@ -25,13 +24,14 @@ use Rattle.span_table.specs.declared.column.Column.TheVariants.{Pid, Tid, Proces
 use Rattle.span_table.specs.declared.sums.Sums.{Sums}
 use Rattle.span_table.specs.declared.table.Row.{Row}
 use Rattle.span_table.specs.Columns.{Run, value_at}
-use Rattle.span_table.specs.Json.{fit, head_fits, shown_table, text_of}
+use Rattle.span_table.specs.Json.{shown_table, text_of}
 use Rattle.span_table.specs.KeyLaws.{key_cmp_total}
 use Rattle.span_table.specs.Keys.{TableKey, key_cmp}
 use Rattle.span_table.specs.Printed.{AllFit, AllIsPrinted, AreColumns, HasFile, HaveFiles, IsKeyOf, IsName, IsOfArgument, IsPart, IsPrint, IsTable, IsWords, KeyFits, MayHave, PrintsAreParts}
 use Rattle.span_table.specs.Shown.{Wanted, is_wanted, key_has, wants_all}
-use Rattle.span_table.specs.Tables.{KeyedSums, SpanTable, head_of, heads_together, keyed_span, row_of, rows_of, run_sums, sums_together, table_of, thread_sums}
+use Rattle.span_table.specs.Tables.{KeyedSums, SpanTable, keyed_span, row_of, rows_of, run_sums, sums_together, table_of, thread_sums}
 use Rattle.span_table.proofs.PartsTold.{HasWholeKeys, prints-told}
+use Rattle.span_table.proofs.PrintedLines.{numbers_fit-each}
 use Rattle.span_table.proofs.Rows.{RowsRise-rows_of}
 use Rattle.span_table.proofs.Tallies.{tally, tally-cons}
 
@@ -78,20 +78,27 @@ All-counts : (es : KeyedSums) → All (λ (e : Keyed TableKey Sums). 0 < e.step.
 All-counts es each =
     All-rows (λ row. 0 < row.sums.count) es (λ k has. tally-some key_cmp_total (λ (s : Sums). s.count) k es each (list_any-from_Contains (eq_by_cmp_equiv key_cmp_total) k (step_keys es) has))
 
--- what holds of the closed spans of a thread of a run, under their keys
+-- what each closed span of a run has, under its key
 abbrev OfSpans : List Column → (Keyed TableKey Sums → Type 0) → Run → Type 0
 OfSpans columns P run = (thread : Thread) (t : Timed) → P (keyed_span columns run thread t)
 
--- holds of all that are summed
-All-spans : (columns : List Column) (P : Keyed TableKey Sums → Type 0) (runs : List Run) → All (OfSpans columns P) runs → All P (flat_map (run_sums columns) runs)
-All-spans columns P runs each = All-flat_map P (run_sums columns) runs (All-weaker (OfSpans columns P) (λ run. All P (run_sums columns run)) of_run runs each)
-  where
-    of_run : (run : Run) → OfSpans columns P run → All P (run_sums columns run)
-    of_run run each =
-        All-flat_map P (thread_sums columns run) (thread_keys (accepted run.journal))
-        (All-every (λ thread. All P (thread_sums columns run thread))
-        (λ thread. All-map P (keyed_span columns run thread) (timed_spans run.journal thread) (All-every (λ t. P (keyed_span columns run thread t)) (each thread) (timed_spans run.journal thread)))
-        (thread_keys (accepted run.journal)))
+module _ (columns : List Column) (P : Keyed TableKey Sums → Type 0) where
+  -- those of all runs have
+  All-spans : (runs : List Run) → All (OfSpans columns P) runs → All P (flat_map (run_sums columns) runs)
+  All-spans runs each = All-flat_map P (run_sums columns) runs (All-weaker (OfSpans columns P) (λ run. All P (run_sums columns run)) of_run runs each)
+    where
+      of_thread : (run : Run) (thread : Thread) → ((t : Timed) → P (keyed_span columns run thread t)) → All P (thread_sums columns run thread)
+      of_thread run thread each =
+          let spans = timed_spans run.journal thread in
+          All-map P (keyed_span columns run thread) spans (All-every (λ t. P (keyed_span columns run thread t)) each spans)
+
+      of_run : (run : Run) → OfSpans columns P run → All P (run_sums columns run)
+      of_run run each =
+          let threads = thread_keys (accepted run.journal) in
+          All-flat_map P (thread_sums columns run) threads (All-every (λ thread. All P (thread_sums columns run thread)) (λ thread. of_thread run thread (each thread)) threads)
+
+  All-spans-every : ((run : Run) → OfSpans columns P run) → (runs : List Run) → All P (flat_map (run_sums columns) runs)
+  All-spans-every each runs = All-spans runs (All-every (OfSpans columns P) each runs)
 
 named : (name : Option Bytes) → IsName (option_map Words name)
 named None = tt
@@ -101,8 +108,12 @@ words : (file : Option Bytes) → is_some file ≡ true → IsWords (option_map 
 words None some = absurd cc
 words (Some file) some = tt
 
+-- a key that a table may have, if its numbers have 64 bits
+abbrev MayBeKey : List Column → TableKey → Type 0
+MayBeKey columns key = KeyFits columns key → IsKeyOf columns key
+
 module _ (run : Run) (thread : Thread) (name : Bytes) (args : Arguments) where
-  -- a value that a span has in a column is one that the column may have, if its number fits
+  -- a value that a span has in a column is one that the column may have, if a number has 64 bits
   value_at-MayHave : (column : Column) → HasFile run column → IsOfArgument (value_at run thread name args column) → MayHave column (value_at run thread name args column)
   value_at-MayHave Pid file fits = fits
   value_at-MayHave Tid file fits = fits
@@ -112,39 +123,43 @@ module _ (run : Run) (thread : Thread) (name : Bytes) (args : Arguments) where
   value_at-MayHave File file fits = words run.file file
   value_at-MayHave (Argument key) file fits = fits
 
-  key-IsKeyOf : (columns : List Column) → All (HasFile run) columns → KeyFits columns (map (value_at run thread name args) columns) → IsKeyOf columns (map (value_at run thread name args) columns)
-  key-IsKeyOf [] files fits = tt
-  key-IsKeyOf (column ∷ columns) files fits =
-      (value_at-MayHave column (All-head (HasFile run) column columns files) fits.0, key-IsKeyOf columns (All-tail (HasFile run) column columns files) fits.1)
+  key-MayBeKey : (columns : List Column) → All (HasFile run) columns → MayBeKey columns (map (value_at run thread name args) columns)
+  key-MayBeKey [] files fits = tt
+  key-MayBeKey (column ∷ columns) files fits =
+      (value_at-MayHave column (All-head (HasFile run) column columns files) fits.0, key-MayBeKey columns (All-tail (HasFile run) column columns files) fits.1)
 
 module _ (columns : List Column) (runs : List Run) where
   -- each key of the table of runs has a value for each column
   table_of-HasWholeKeys : HasWholeKeys (table_of columns runs)
   table_of-HasWholeKeys =
       All-keys (λ key. length key ≡ length columns) (flat_map (run_sums columns) runs)
-      (All-spans columns (λ e. length e.key ≡ length columns) runs
-      (All-every (OfSpans columns (λ e. length e.key ≡ length columns)) (λ run thread t. length-map columns (value_at run thread t.span.name t.span.args)) runs))
+      (All-spans-every columns (λ e. length e.key ≡ length columns) (λ run thread t. length-map columns (value_at run thread t.span.name t.span.args)) runs)
+
+  -- and each row a span
+  table_of-counts : All (λ row. 0 < row.sums.count) (table_of columns runs).rows
+  table_of-counts = All-counts (flat_map (run_sums columns) runs) (All-spans-every columns (λ e. 0 < e.step.count) (λ run thread t. omega arith) runs)
+
+  table_of-keys : HaveFiles columns runs → All (λ row. MayBeKey columns row.key) (table_of columns runs).rows
+  table_of-keys files =
+      let of_spans = OfSpans columns (λ e. MayBeKey columns e.key) in
+      let each = All-weaker (λ (run : Run). All (HasFile run) columns) of_spans (λ run has thread t. key-MayBeKey run thread t.span.name t.span.args columns has) runs files in
+      All-keys (MayBeKey columns) (flat_map (run_sums columns) runs) (All-spans columns (λ e. MayBeKey columns e.key) runs each)
 
   -- a table that was read of what is printed of runs is the table of these
   pub part-table_of : (text : Bytes) (part : SpanTable) → IsPart text part → IsPrint text (table_of columns runs) → part ≡ table_of columns runs
   part-table_of text part is print = prints-told text part (table_of columns runs) is print table_of-HasWholeKeys
 
-  -- the table of runs that have their files, if its numbers have 64 bits, may be printed and read back
+  -- the table of runs that have their files, if its numbers have 64 bits, is one that can be read back
   pub IsTable-table_of : AreColumns columns → HaveFiles columns runs → AllFit (table_of columns runs) → IsTable (table_of columns runs)
   IsTable-table_of are files fits =
-      let es = flat_map (run_sums columns) runs in
-      let numbers = and_parts (head_fits (heads_together (map head_of runs))) (list_all (λ (row : Row). fit row.sums) (rows_of es)) fits.numbers in
-      let sums = AllPass-from_list_all (λ (row : Row). fit row.sums) (rows_of es) numbers.1 in
-      let keys = All-keys (λ key. KeyFits columns key → IsKeyOf columns key) es
-      (All-spans columns (λ e. KeyFits columns e.key → IsKeyOf columns e.key) runs
-      (All-weaker (λ run. All (HasFile run) columns) (OfSpans columns (λ e. KeyFits columns e.key → IsKeyOf columns e.key)) (λ run has thread t. key-IsKeyOf run thread t.span.name t.span.args columns has) runs files)) in
-      let counts = All-counts es (All-spans columns (λ e. 0 < e.step.count) runs (All-every (OfSpans columns (λ e. 0 < e.step.count)) (λ run thread t. omega arith) runs)) in
+      let numbers = numbers_fit-each (table_of columns runs) fits.numbers in
+      let keys = table_of-keys files in
       record {
         columns = are;
         head = numbers.0;
         few = fits.few;
-        rows = λ k d low. record { key = keys k d low (fits.keys k d low); some = counts k d low; fits = sums k d low };
-        rise = RowsRise-rows_of es;
+        rows = λ k d low. record { key = keys k d low (fits.keys k d low); some = table_of-counts k d low; fits = numbers.1 k d low };
+        rise = RowsRise-rows_of (flat_map (run_sums columns) runs);
       }
 
 -- so what is printed of such runs is a part

@@ -1,4 +1,4 @@
--- Tables that may be printed as JSON Lines, and their text.
+-- Tables that are printed as JSON Lines, and those whose text can be read back.
 use Rattle.std.specs.Prelude.{◌≡◌, ◌≢◌, ◌<◌, ◌≤◌, ◌^◌, ◌==◌, Bool, true, not, ◌&&◌, nat_lt, List, [], ◌∷◌, All, is_some, length, map, Some, None, FitsSigned, ⊤}
 use Rattle.std.specs.Int.{w64}
 use Rattle.std.specs.List.{list_any}
@@ -55,6 +55,11 @@ pub record AllFit (table : SpanTable) : Type 0 where
   pub few : length table.rows < 2 ^ 64
   pub keys : All (λ row. KeyFits table.columns row.key) table.rows
 
+-- the text of such a table
+pub record IsPrint (text : Bytes) (table : SpanTable) : Type 0 where
+  pub fits : AllFit table
+  pub printed : text ≡ text_of table
+
 -- the run has a file, if that is the column
 abbrev pub HasFile : Run → Column → Type 0
 HasFile run File = is_some run.file ≡ true
@@ -93,7 +98,7 @@ pub record AreColumns (columns : List Column) : Type 0 where
   pub each : All (λ column. is_column column ≡ true) columns
   pub distinct : AreDistinct (map column_name columns)
 
--- a table that may be printed
+-- a table whose text can be read back
 pub record IsTable (table : SpanTable) : Type 0 where
   pub columns : AreColumns table.columns
   pub head : head_fits table.head ≡ true
@@ -101,12 +106,7 @@ pub record IsTable (table : SpanTable) : Type 0 where
   pub rows : All (IsRowOf table.columns) table.rows
   pub rise : RowsRise table.rows
 
--- the text of a table, whose numbers have 64 bits
-pub record IsPrint (text : Bytes) (table : SpanTable) : Type 0 where
-  pub fits : AllFit table
-  pub printed : text ≡ text_of table
-
--- a part: the text of a table that may be printed
+-- a part: the text of such a table
 pub record IsPart (text : Bytes) (table : SpanTable) : Type 0 where
   pub is : IsTable table
   pub utf8 : IsUtf8 text
