@@ -26,7 +26,7 @@ use Rattle.span_parts.specs.declared.fault.PartFault.TheVariants.{NotTable, Othe
 use Rattle.span_parts.specs.Rows.{AllAdded, AreAdded, AreNoRows, AreRows, IsNextRow, IsOfSum, RowFails, RowsFail, comes_after, last_row, row_at}
 use Rattle.span_table.specs.Tokens.{row_tokens}
 use Rattle.span_table.proofs.Printed.{json_line-print}
-use Rattle.span_table.proofs.PrintedLines.{print_row-line}
+use Rattle.span_table.proofs.PrintedLines.{IsRowOf-told, print_row-line}
 use Rattle.span_parts.proofs.Lists.{All-at}
 use Rattle.span_parts.proofs.Summing.{with_rows-push}
 
@@ -100,7 +100,7 @@ module _ (columns : List Column) (places : List ℕ) (text rest : Bytes) (done :
           let fits : IsRowOf columns row = All-at (IsRowOf columns) added.rows row more (subst (All (IsRowOf columns)) whole are.each) in
           let cut = ends (print (row_tokens columns row)) (flat_map (json_line columns) more)
           (lines ∙ ap (λ l. l ++ flat_map (json_line columns) more) (json_line-print columns row) ∙ append_assoc (print (row_tokens columns row)) (10 ∷ []) (flat_map (json_line columns) more))
-          (print_row-line columns row fits) in
+          (print_row-line columns row (IsRowOf-told columns row fits)) in
           record {
             row = row;
             more = more;

@@ -9,12 +9,11 @@ use Rattle.span_event.specs.Text.{Bytes}
 use Rattle.span_table.specs.declared.column.Column.{Column}
 use Rattle.span_table.specs.declared.column.Column.TheVariants.{Pid, Tid, Process, Thread, Name, File, Argument}
 use Rattle.span_event.specs.declared.args.ArgValue.{ArgValue}
-use Rattle.span_event.specs.declared.args.ArgValue.TheVariants.{Nil, Flag, Whole, Words, Other}
 use Rattle.span_table.specs.Columns.{Value, column_name}
 use Rattle.span_table.specs.Keys.{TableKey}
-use Rattle.span_table.specs.Printed.{AreDistinct, IsKeyOf, IsOfArgument, MayHave, is_column}
+use Rattle.span_table.specs.Printed.{AreDistinct, IsKeyOf, IsOfArgument, is_column}
 use Rattle.span_table.specs.Tokens.{key_tokens, name_tokens, value_tokens}
-use Rattle.span_table.proofs.PrintedLines.{whole_fits}
+use Rattle.span_table.proofs.PrintedLines.{IsOfArgument-any}
 use Rattle.span_parts.specs.Guess.{Found, MayFollow}
 use Rattle.std.proofs.lemmas.List.{length-append}
 use Rattle.span_parts.proofs.Lists.{All-at, All-tail}
@@ -75,14 +74,6 @@ next_key name (column ∷ columns) (Some value ∷ values) rest uncounted differ
   differs = λ same. All-at (λ other. name ≢ other) [] (column_name column) (map column_name columns) differ (sym same);
 }
 
--- a value that a column may have, an argument may have
-IsOfArgument-any : (column : Column) (value : ArgValue) → MayHave column (Some value) → IsOfArgument (Some value)
-IsOfArgument-any column (Whole whole) may = whole_fits column whole may
-IsOfArgument-any column (Words text) may = tt
-IsOfArgument-any column (Flag flag) may = tt
-IsOfArgument-any column Nil may = tt
-IsOfArgument-any column Other may = tt
-
 -- what was found for the first name is the first value of the key
 pub record NextValue (names : List Bytes) (values : TableKey) (rest : List Token) (found : Value × Bor (List Given)) : Type 0 where
   pub columns : List Column
@@ -109,6 +100,6 @@ module _ (name : Bytes) (names : List Bytes) (tokens rest : List Token) (found :
       let own : column_name column ≡ name = cc in
       let others : names ≡ map column_name columns = cc in
       let behind = key_tokens columns values ++ key (codes "count") ∷ rest in
-      let left = there value behind (IsOfArgument-any column value keys.0)
+      let left = there value behind (IsOfArgument-any column (Some value) keys.0)
       (is ∙ (λ i. key (own i) ∷ append_assoc (value_tokens value) (key_tokens columns values) (key (codes "count") ∷ rest) i)) in
       record { columns = columns; later = values; split = ap (λ v. v ∷ values) (sym left.0); keys = keys.1; named = others; next = left.1 }

@@ -10,7 +10,7 @@ use Rattle.span_table.specs.declared.table.Row.{Row}
 use Rattle.span_table.specs.Json.{json_head}
 use Rattle.span_table.specs.Tokens.{head_tokens, row_tokens}
 use Rattle.span_table.proofs.Printed.{json_head-print, json_line-print}
-use Rattle.span_table.proofs.PrintedLines.{tokens-head, tokens-row}
+use Rattle.span_table.proofs.PrintedLines.{IsRowOf-told, tokens-head, tokens-row}
 use Rattle.span_parts.specs.First.{MayBegin}
 use Rattle.span_parts.specs.Rows.{IsRowLine}
 
@@ -20,4 +20,4 @@ tokens-first columns rows head line may is = ap tokens (append_cancel_right line
 
 -- and those of the line of a row
 pub tokens-line : (columns : List Column) (row : Row) (line : Bytes) → IsRowLine columns line row → tokens line ≡ row_tokens columns row
-tokens-line columns row line is = ap tokens (append_cancel_right line (print (row_tokens columns row)) (10 ∷ []) (is.printed ∙ json_line-print columns row)) ∙ tokens-row columns row is.fits
+tokens-line columns row line is = ap tokens (append_cancel_right line (print (row_tokens columns row)) (10 ∷ []) (is.printed ∙ json_line-print columns row)) ∙ tokens-row columns row (IsRowOf-told columns row is.fits)

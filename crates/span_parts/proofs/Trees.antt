@@ -5,10 +5,10 @@ use Rattle.span_event.specs.Text.{Bytes}
 use Rattle.span_table.specs.declared.column.Column.{Column}
 use Rattle.span_table.specs.Adding.{add_tables, picked, with_columns}
 use Rattle.span_table.specs.Json.{text_of}
-use Rattle.span_table.specs.Printed.{IsPart}
+use Rattle.span_table.specs.Printed.{IsPrint}
 use Rattle.span_table.specs.Tables.{Run, SpanTable, table_of}
 use Rattle.span_table.proofs.AddedTables.{add_tables-parts, table_of-moved, table_of-picked}
-use Rattle.span_table.proofs.PartsTold.{parts-told}
+use Rattle.span_table.proofs.RunTables.{part-table_of}
 use Rattle.span_parts.proofs.Places.{picked-at}
 use Rattle.span_parts.specs.Sum.{AreAt, AreParts}
 use Rattle.span_parts.specs.Trees.{Trees, of_runs, of_parts, no_trees, tree, runs_in, runs_in_all, ArePrinted, TreesLoseNothing, TreesPrintAlike}
@@ -35,12 +35,12 @@ sum-runs columns own places runs at =
 mutual
   pub trees-lose_nothing : TreesLoseNothing
   trees-lose_nothing columns (of_runs runs) text printed = printed
-  trees-lose_nothing columns (of_parts parts) text (texts, sum, each, sums, at, is) =
+  trees-lose_nothing columns (of_parts parts) text (texts, sum, each, sums, at, print) =
       let tables = parts-runs sum.columns parts texts sums.parts each sums.are in
-      subst (IsPart text)
+      subst (IsPrint text)
       (sums.adds ∙ ap (λ l. add_tables (picked sum.places sum.columns) (map (with_columns sum.places) l)) tables
       ∙ sum-runs columns sum.columns sum.places (runs_each parts) at ∙ ap (table_of columns) (runs_each-all parts))
-      is
+      print
 
   -- the parts are the tables of the runs of each tree
   parts-runs : (columns : List Column) (parts : Trees) (texts : List Bytes) (tables : List SpanTable) → ArePrinted columns parts texts → AreParts texts tables → tables ≡ map (table_of columns) (runs_each parts)
@@ -51,7 +51,7 @@ mutual
   parts-runs columns (tree part parts) (text ∷ texts) [] printed are = absurd are
   parts-runs columns (tree part parts) (text ∷ texts) (table ∷ tables) printed are =
       ap₂ (λ (t : SpanTable) l. t ∷ l)
-      (parts-told text table (table_of columns (runs_in part)) are.0 (trees-lose_nothing columns part text printed.0))
+      (part-table_of columns (runs_in part) text table are.0 (trees-lose_nothing columns part text printed.0))
       (parts-runs columns parts texts tables printed.1 are.1)
 
 -- so two trees of the same runs are printed alike

@@ -3,7 +3,7 @@ use Rattle.std.specs.Prelude.{◌≡◌, List, [], ◌∷◌, ◌++◌}
 use Rattle.std.specs.List.Sorted.{IsPermutation}
 use Rattle.span_event.specs.Text.{Bytes}
 use Rattle.span_table.specs.declared.column.Column.{Column}
-use Rattle.span_table.specs.Printed.{IsPart}
+use Rattle.span_table.specs.Printed.{IsPrint}
 use Rattle.span_table.specs.Tables.{Run, table_of}
 use Rattle.span_parts.specs.Sum.{AreAt, PartSum, SumsParts}
 
@@ -29,11 +29,11 @@ abbrev mutual
 
 abbrev mutual
   -- The text is printed of a tree, by these columns: it is that of the table of its runs; or of a sum, by these columns of its parts,
-  -- each of which was printed so.
+  -- each of which was printed so, and read back.
   pub IsPrinted : List Column → Tree → Bytes → Type 0
-  IsPrinted columns (of_runs runs) text = IsPart text (table_of columns runs)
+  IsPrinted columns (of_runs runs) text = IsPrint text (table_of columns runs)
   IsPrinted columns (of_parts parts) text =
-      (texts : List Bytes) × (sum : PartSum) × ArePrinted sum.columns parts texts × SumsParts texts sum × AreAt sum.places columns sum.columns × IsPart text sum.sum
+      (texts : List Bytes) × (sum : PartSum) × ArePrinted sum.columns parts texts × SumsParts texts sum × AreAt sum.places columns sum.columns × IsPrint text sum.sum
 
   pub ArePrinted : List Column → Trees → List Bytes → Type 0
   ArePrinted columns no_trees [] = Unit {0}
@@ -43,7 +43,7 @@ abbrev mutual
 
 -- whatever the tree, what is printed is the table of all its runs
 abbrev pub TreesLoseNothing : Type 0
-TreesLoseNothing = (columns : List Column) (whole : Tree) (text : Bytes) → IsPrinted columns whole text → IsPart text (table_of columns (runs_in whole))
+TreesLoseNothing = (columns : List Column) (whole : Tree) (text : Bytes) → IsPrinted columns whole text → IsPrint text (table_of columns (runs_in whole))
 
 -- two trees of the same runs, in whatever order, are printed alike
 abbrev pub TreesPrintAlike : Type 0

@@ -2,7 +2,7 @@
 ghost use Rattle.span_parts.specs.Trees.{TreesLoseNothing, TreesPrintAlike};
 
 /// However runs are divided, and in whatever order and groups the tables that are printed of them are added, the text is that of the
-/// table of all runs. The function does nothing: its contract is the law.
+/// table of all runs, whose numbers have 64 bits. The function does nothing: its contract is the law.
 pub fn tree_law()
     ensures nothing_lost { TreesLoseNothing }
     ensures alike { TreesPrintAlike }
