@@ -2,6 +2,7 @@ pub mod AddStops
 pub mod Added
 pub mod Comparison
 pub mod FaultLines
+pub mod Fleet
 pub mod Reading
 pub mod Request
 pub mod Sums

@@ -1,5 +1,5 @@
 -- What is printed of what was collected.
-use Rattle.std.specs.Prelude.{◌≡◌, ℕ, ◌<◌, ◌≤◌, true, false, List, [], length, take}
+use Rattle.std.specs.Prelude.{◌≡◌, ℕ, ◌<◌, ◌≤◌, false, List, [], length, take}
 use Rattle.span_event.specs.declared.fault.Fault.TheVariants.{TooGreat as TooGreatFault, StacksTooLarge as StacksFault}
 use Rattle.span_event.specs.Fault.{number_of}
 use Rattle.span_ledger.specs.declared.entry.Entry.{Entry}

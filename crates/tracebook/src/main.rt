@@ -9,6 +9,7 @@ mod comparison;
 mod faults;
 mod hints;
 mod inputs;
+mod laws;
 mod options;
 mod program;
 mod progress;

@@ -1,0 +1,49 @@
+-- What the program prints of files apart, and of tables that are added, is what is printed of trees of the files' runs.
+use Rattle.std.proofs.Common.{◌≡◌, true, List, [], ◌∷◌, map, refl, sym, ap, subst}
+use Rattle.span_event.specs.Text.{Bytes}
+use Rattle.span_collect.specs.declared.settings.Settings.{Settings}
+use Rattle.span_runs.specs.declared.summed.Summed.{Summed}
+use Rattle.span_runs.specs.Apart.{run_alone}
+use Rattle.span_runs.specs.Source.{SourceBytes}
+use Rattle.span_table.specs.declared.column.Column.{Column}
+use Rattle.span_table.specs.Printed.{IsPrint}
+use Rattle.span_table.specs.Tables.{Run, SpanTable, table_of}
+use Rattle.span_table.proofs.RunTables.{json_of-print}
+use Rattle.tracebook.specs.declared.tables.TableForm.{TableForm}
+use Rattle.tracebook.specs.declared.tables.TableView.{TableView}
+use Rattle.tracebook.specs.Fleet.{AddsAreTrees, AreRunsOf, IsWhole, SumsAreLeaves}
+use Rattle.tracebook.specs.Sums.{SumsInputs}
+use Rattle.tracebook.specs.Tables.{FormFits, TableFits, formed, table_text}
+
+-- a whole table that fits is printed
+table_text-whole : (view : TableView) (table : SpanTable) → IsWhole view → TableFits view table → IsPrint (table_text view true table) table
+table_text-whole view table whole fits =
+    subst (λ text. IsPrint text table) (sym (ap (λ (form : TableForm). formed form view.options.shown true table) whole.json))
+    (json_of-print view.options.shown table whole.all (subst (λ (form : TableForm). FormFits form view.options.shown table) whole.json fits))
+
+-- what files come to is the table of their runs
+SumsInputs-runs : (source : SourceBytes) (names : List Bytes) (settings : Settings) (columns : List Column) (summed : Summed) → SumsInputs source names settings columns summed →
+    (runs : List Run) × AreRunsOf source names settings runs × (summed.sum ≡ table_of columns runs)
+SumsInputs-runs source [] settings columns summed sums =
+    (map (run_alone settings) sums.files, record { files = sums.files; read = sums.read; accounted = sums.accounted; are = refl }, sums.sum)
+SumsInputs-runs source (name ∷ names) settings columns summed sums =
+    (map (run_alone settings) sums.files, record { files = sums.files; read = sums.read; accounted = sums.accounted; are = refl }, sums.sum)
+
+pub sums-leaves : SumsAreLeaves
+sums-leaves source names settings view status old new sums whole =
+    let found = SumsInputs-runs source names settings view.options.columns.items sums.summed sums.sums in
+    (found.0, found.1, subst (IsPrint (table_text view true sums.summed.sum)) found.2 (table_text-whole view sums.summed.sum whole sums.fits))
+
+pub adds-trees : AddsAreTrees
+adds-trees source [] view status old new adds whole = (
+  adds.added.0.texts,
+  adds.added.0.held,
+  λ parts printed.
+      (adds.added.0.texts, adds.sum, printed, adds.added.0.sums, adds.added.1, table_text-whole view adds.sum.sum whole adds.fits),
+)
+adds-trees source (name ∷ names) view status old new adds whole = (
+  adds.added.0.texts,
+  adds.added.0.held,
+  λ parts printed.
+      (adds.added.0.texts, adds.sum, printed, adds.added.0.sums, adds.added.1, table_text-whole view adds.sum.sum whole adds.fits),
+)

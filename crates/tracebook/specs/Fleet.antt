@@ -1,0 +1,44 @@
+-- Files that are summed on many machines, and tables that are added in whatever groups: what the program prints of them is what is
+-- printed of trees of their runs.
+use Rattle.std.specs.Prelude.{◌≡◌, ℕ, true, List, map, All}
+use Rattle.std.specs.List.{AllZip}
+use Rattle.span_event.specs.Text.{Bytes}
+use Rattle.span_report.specs.Sink.{SinkState}
+use Rattle.span_collect.specs.declared.files.Input.{Input}
+use Rattle.span_collect.specs.declared.settings.Settings.{Settings}
+use Rattle.span_parts.specs.Sum.{chosen}
+use Rattle.span_parts.specs.Trees.{ArePrinted, IsPrinted, Trees, of_parts, of_runs}
+use Rattle.span_runs.specs.Apart.{IsAccounted, run_alone}
+use Rattle.span_runs.specs.Inputs.{AreInputs}
+use Rattle.span_runs.specs.Source.{SourceBytes}
+use Rattle.span_table.specs.Shown.{wants_all}
+use Rattle.span_table.specs.Tables.{Run}
+use Rattle.tracebook.specs.declared.tables.TableForm.TheVariants.{Json}
+use Rattle.tracebook.specs.declared.tables.TableView.{TableView}
+use Rattle.tracebook.specs.Added.{Adds, IsText, OfInputs}
+use Rattle.tracebook.specs.Sums.{Sums}
+use Rattle.tracebook.specs.Tables.{table_text}
+
+-- the runs of the files of these names, each alone
+pub record AreRunsOf (source : SourceBytes) (names : List Bytes) (settings : Settings) (runs : List Run) : Type 0 where
+  pub files : List Input
+  pub read : AreInputs source names files
+  pub accounted : All (IsAccounted settings) files
+  pub are : runs ≡ map (run_alone settings) files
+
+-- a whole table is asked for, as JSON Lines
+pub record IsWhole (view : TableView) : Type 0 where
+  pub json : view.form ≡ Json
+  pub all : wants_all view.options.shown ≡ true
+
+-- what is printed of files apart is what a tree wants of their runs
+abbrev pub SumsAreLeaves : Type 0
+SumsAreLeaves = (source : SourceBytes) (names : List Bytes) (settings : Settings) (view : TableView) (status : ℕ) (old new : SinkState)
+    (sums : Sums source names settings view status old new) → IsWhole view →
+    (runs : List Run) × AreRunsOf source names settings runs × IsPrinted view.options.columns.items (of_runs runs) (table_text view true sums.summed.sum)
+
+-- what is printed of tables that are added is what a tree wants of a sum, whatever trees they were printed of
+abbrev pub AddsAreTrees : Type 0
+AddsAreTrees = (source : SourceBytes) (names : List Bytes) (view : TableView) (status : ℕ) (old new : SinkState) (adds : Adds source names view status old new) → IsWhole view →
+    (texts : List Bytes) × OfInputs source names (λ known names. AllZip (IsText known) names texts)
+    × ((parts : Trees) → ArePrinted adds.sum.columns parts texts → IsPrinted (chosen view.options.columns.items adds.sum.columns) (of_parts parts) (table_text view true adds.sum.sum))
