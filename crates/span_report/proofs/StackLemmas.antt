@@ -1,6 +1,7 @@
 pub mod Beginnings
 pub mod Counting
 pub mod Descending
+pub mod Labelling
 pub mod Links
 pub mod Members
 pub mod Nearing

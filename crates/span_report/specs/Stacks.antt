@@ -4,6 +4,8 @@ pub mod Descent
 pub mod Faults
 pub mod Folded
 pub mod Frames
+pub mod Labelled
+pub mod Labels
 pub mod Laws
 pub mod Microseconds
 pub mod Parts

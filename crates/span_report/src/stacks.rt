@@ -8,6 +8,8 @@ mod descent;
 mod ends;
 mod fault;
 mod frames;
+mod label;
+mod labelled;
 pub mod laws;
 mod output;
 mod parts;
@@ -16,6 +18,8 @@ mod text;
 mod walk;
 
 pub use fault::StacksFault;
+pub use label::SpanColumn;
+pub use labelled::LabelledSpans;
 pub use output::{FoldedFault, write_folded};
 pub use text::folded;
 pub use walk::{StackFrame, framed_stacks};

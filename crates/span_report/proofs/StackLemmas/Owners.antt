@@ -10,12 +10,12 @@ use Rattle.std.proofs.lemmas.List.Sums.{sum_by-cons}
 use Rattle.span_event.specs.Text.{Bytes, same_text}
 use Rattle.span_event.specs.Time.{distance}
 use Rattle.span_self_time.specs.Laws.{AreSpans}
-use Rattle.span_self_time.specs.Spans.{Span, count_from, covers, earliest, is_outranked, latest, named, outranks, self_time}
+use Rattle.span_self_time.specs.Spans.{Span, count_from, covers, earliest, is_outranked, latest, named, outranks, self_of, self_time}
 use Rattle.span_self_time.proofs.Counts.{count_from-covered, count_from-none, count_from-same, sum_by-count_from}
 use Rattle.span_self_time.proofs.Ranks.{outranks-itself}
 use Rattle.span_self_time.proofs.Tops.{one_if, sum_by-same}
-use Rattle.span_report.specs.Stacks.Laws.{TimesAddUpToSelf, ends_in}
-use Rattle.span_report.specs.Stacks.Microseconds.{Stack, has_frames, names_at, rank_order, ranked, stack_at}
+use Rattle.span_report.specs.Stacks.Laws.{ends_in}
+use Rattle.span_report.specs.Stacks.Microseconds.{Stack, folded_stacks, has_frames, names_at, rank_order, ranked, stack_at}
 use Rattle.span_report.proofs.StackLemmas.RankOrder.{outranks-before, ranked-permutation, ranked-sorted}
 use Rattle.span_report.proofs.StackLemmas.Times.{count_by-stacks_of, has_frames-names_at, sum_by-folded_stacks}
 
@@ -126,7 +126,9 @@ ends_in-framed : (name : Bytes) (stack : Stack) → (has_frames stack && ends_in
 ends_in-framed name [] = refl
 ends_in-framed name (frame ∷ frames) = refl
 
-pub times-self : TimesAddUpToSelf
+-- the times of the stacks that end in a name are its self time
+pub times-self : (spans : List (Span Bytes)) → AreSpans spans → (name : Bytes) →
+    sum_by (λ folded. folded.time) (filter (λ folded. ends_in name folded.stack) (folded_stacks spans)) ≡ self_of same_text name spans
 times-self spans are name =
     let from = earliest spans in
     let n = distance (earliest spans) (latest spans) in

@@ -6,6 +6,7 @@ use Rattle.std.specs.Ordering.{int_eq, match_ordering}
 use Rattle.std.specs.declared.cmp.Ordering.{Ordering}
 use Rattle.std.specs.declared.cmp.Ordering.TheVariants.{Less, Equal, Greater}
 use Rattle.std.proofs.lemmas.Simd.{map-map}
+use Rattle.span_event.specs.Text.{Bytes}
 use Rattle.span_event.specs.Time.{distance}
 use Rattle.span_event.specs.declared.thread.Thread.{Thread}
 use Rattle.span_self_time.specs.Spans.{Span, covers, earliest, latest, outranks}
@@ -16,12 +17,13 @@ use Rattle.span_track.specs.Nesting.{closed_spans}
 use Rattle.span_track.proofs.Threads.Renumbering.{closed_spans-renumbered}
 use Rattle.span_ledger.specs.declared.entry.Entry.{Entry}
 use Rattle.span_ledger.specs.Parts.{ProcessRows, ThreadRows}
-use Rattle.span_ledger.specs.Told.{thread_events}
 use Rattle.span_ledger.specs.Topics.{AreAlike, of_process}
 use Rattle.span_ledger.proofs.Topics.Rows.{rows-follow}
 use Rattle.span_ledger.proofs.Topics.Threads.{thread_events-alike}
+use Rattle.span_report.specs.declared.stacks.label.SpanColumn.{SpanColumn}
 use Rattle.span_report.specs.Stacks.Bounds.{beginnings}
 use Rattle.span_report.specs.Stacks.Folded.{stack_lines, thread_frame_count, thread_frames, thread_stacks}
+use Rattle.span_report.specs.Stacks.Labels.{label_of, labelled, labelled_spans, named_by}
 use Rattle.span_report.specs.Stacks.Laws.{StacksFollowFromActs}
 use Rattle.span_report.specs.Stacks.Microseconds.{Folded, Stack, folded, has_frames, microseconds, names_at, rank_order, ranked, stack_at, stack_order, stacks_of}
 
@@ -74,16 +76,25 @@ module _ {N : Type 0} (f : ℕ → ℕ) (rises : Rises f) where
       (map (λ u. stack_at-renumbered spans u i)
       (microseconds (earliest-renumbered spans i) (distance (earliest-renumbered spans i) (latest-renumbered spans i))))
 
-module _ (journal other : List Entry) (alike : AreAlike journal other) where
-  stacks_of-alike : (thread : Thread) → stacks_of (closed_spans (thread_events thread journal)) ≡ stacks_of (closed_spans (thread_events thread other))
-  stacks_of-alike thread = thread_events-alike thread (λ es. stacks_of (closed_spans es))
-      (λ f rises es. ap stacks_of (closed_spans-renumbered f es) ∙ stacks_of-renumbered f rises (closed_spans es))
+module _ (columns : List SpanColumn) where
+  -- no label looks at positions
+  labelled-renumbered : (f : ℕ → ℕ) (spans : List (Span Bytes)) → labelled columns (map (renumbered_span f) spans) ≡ map (renumbered_span f) (labelled columns spans)
+  labelled-renumbered f [] = refl
+  labelled-renumbered f (s ∷ spans) = ap (λ l. renumbered_span f (named_by (label_of columns s) s) ∷ l) (labelled-renumbered f spans)
+
+  stacks_of-labelled : (f : ℕ → ℕ) → Rises f → (spans : List (Span Bytes)) → stacks_of (labelled columns (map (renumbered_span f) spans)) ≡ stacks_of (labelled columns spans)
+  stacks_of-labelled f rises spans = ap stacks_of (labelled-renumbered f spans) ∙ stacks_of-renumbered f rises (labelled columns spans)
+
+module _ (journal other : List Entry) (alike : AreAlike journal other) (columns : List SpanColumn) where
+  stacks_of-alike : (thread : Thread) → stacks_of (labelled_spans columns journal thread) ≡ stacks_of (labelled_spans columns other thread)
+  stacks_of-alike thread = thread_events-alike thread (λ es. stacks_of (labelled columns (closed_spans es)))
+      (λ f rises es. ap (λ spans. stacks_of (labelled columns spans)) (closed_spans-renumbered f es) ∙ stacks_of-labelled columns f rises (closed_spans es))
       journal other (alike.acts (of_process thread.pid))
 
-  thread_stacks-alike : (thread : Thread) → thread_stacks journal thread ≡ thread_stacks other thread
+  thread_stacks-alike : (thread : Thread) → thread_stacks columns journal thread ≡ thread_stacks columns other thread
   thread_stacks-alike thread = ap (λ (stacks : List Stack). map (folded stacks) (ascending stack_order stacks)) (stacks_of-alike thread)
 
-  thread_frame_count-alike : (thread : Thread) → thread_frame_count journal thread ≡ thread_frame_count other thread
+  thread_frame_count-alike : (thread : Thread) → thread_frame_count columns journal thread ≡ thread_frame_count columns other thread
   thread_frame_count-alike thread = ap (λ (stacks : List Stack). length (ascending stack_order (flat_map beginnings stacks))) (stacks_of-alike thread)
 
 -- journals that are alike have the same stacks on each thread, and so the same text of them
@@ -91,10 +102,10 @@ pub stacks-alike : StacksFollowFromActs
 stacks-alike journal other alike = record {
   stacks = thread_stacks-alike journal other alike;
   frames = thread_frame_count-alike journal other alike;
-  text = λ i. flat_map (λ (process : ProcessRows). flat_map (λ (part : ThreadRows).
-      stack_lines (thread_frames process.row part.row) (thread_stacks-alike journal other alike (record { pid = part.row.pid; tid = part.row.tid }) i))
+  text = λ columns i. flat_map (λ (process : ProcessRows). flat_map (λ (part : ThreadRows).
+      stack_lines (thread_frames process.row part.row) (thread_stacks-alike journal other alike columns (record { pid = part.row.pid; tid = part.row.tid }) i))
       process.threads) ((rows-follow journal other alike).parts i);
-  names = λ i. sum_by (λ (process : ProcessRows). sum_by (λ (part : ThreadRows).
-      sum_by (λ (folded : Folded). length folded.stack) (thread_stacks-alike journal other alike (record { pid = part.row.pid; tid = part.row.tid }) i))
+  names = λ columns i. sum_by (λ (process : ProcessRows). sum_by (λ (part : ThreadRows).
+      sum_by (λ (folded : Folded). length folded.stack) (thread_stacks-alike journal other alike columns (record { pid = part.row.pid; tid = part.row.tid }) i))
       process.threads) ((rows-follow journal other alike).parts i);
 }

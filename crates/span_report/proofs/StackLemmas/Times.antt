@@ -12,11 +12,10 @@ use Rattle.span_event.specs.Text.{Bytes}
 use Rattle.span_event.specs.Time.{distance}
 use Rattle.span_event.proofs.Orders.{text_same}
 use Rattle.span_self_time.specs.Laws.{AreSpans}
-use Rattle.span_self_time.specs.Spans.{Span, count_from, covers, earliest, is_covered, latest}
+use Rattle.span_self_time.specs.Spans.{Span, busy_time, count_from, covers, earliest, is_covered, latest}
 use Rattle.span_self_time.proofs.Counts.{count_from-same}
 use Rattle.span_keyed_tracks.specs.Keyed.{ascending}
 use Rattle.span_ledger.proofs.Sorted.{ascending-sorted}
-use Rattle.span_report.specs.Stacks.Laws.{TimesAddUpToBusy}
 use Rattle.span_report.specs.Stacks.Microseconds.{Folded, Stack, folded, folded_stacks, has_frames, microseconds, names_at, ranked, same_stack, stack_at, stack_order, stacks_of}
 use Rattle.span_report.proofs.StackLemmas.RankOrder.{ranked-permutation}
 use Rattle.span_report.proofs.StackLemmas.Tallies.{sum_by-ascending}
@@ -84,7 +83,8 @@ and_true : (b : Bool) → (b && true) ≡ b
 and_true true = refl
 and_true false = refl
 
-pub times-busy : TimesAddUpToBusy
+-- the times of all stacks are the microseconds that spans cover
+pub times-busy : (spans : List (Span Bytes)) → AreSpans spans → sum_by (λ folded. folded.time) (folded_stacks spans) ≡ busy_time spans
 times-busy spans are =
     ap (sum_by (λ (f : Folded). f.time)) (sym (all-kept (folded_stacks spans)))
     ∙ sum_by-folded_stacks (λ stack. true) spans

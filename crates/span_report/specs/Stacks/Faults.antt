@@ -3,6 +3,7 @@ use Rattle.std.specs.Prelude.{◌≡◌, ℕ, ◌<◌, ◌≤◌, List, length, 
 use Rattle.span_event.specs.declared.fault.Fault.TheVariants.{Memory as MemoryFault, Output as OutputFault, StacksTooLarge as StacksFault}
 use Rattle.span_event.specs.Fault.{number_of}
 use Rattle.span_ledger.specs.declared.entry.Entry.{Entry}
+use Rattle.span_report.specs.declared.stacks.label.SpanColumn.{SpanColumn}
 use Rattle.span_report.specs.declared.stacks.output.FoldedFault.{FoldedFault}
 use Rattle.span_report.specs.declared.stacks.output.FoldedFault.TheVariants.{Memory, TooLarge, Output}
 use Rattle.span_report.specs.Sink.{SinkState, Fails}
@@ -15,8 +16,8 @@ folded_code TooLarge = number_of StacksFault
 folded_code (Output written) = number_of OutputFault
 
 -- want of memory and too many names leave the output as it was; a failed output took just the first `written` bytes of the text
-abbrev pub FoldedLeaves : FoldedFault → List Entry → SinkState → SinkState → Type 0
-FoldedLeaves Memory journal old new = new ≡ old
-FoldedLeaves TooLarge journal old new = (new ≡ old) × (most_names < names_of journal)
-FoldedLeaves (Output written) journal old new =
-    (names_of journal ≤ most_names) × (written ≤ length (folded_of journal)) × Fails old new (take written (folded_of journal))
+abbrev pub FoldedLeaves : FoldedFault → List SpanColumn → List Entry → SinkState → SinkState → Type 0
+FoldedLeaves Memory columns journal old new = new ≡ old
+FoldedLeaves TooLarge columns journal old new = (new ≡ old) × (most_names < names_of columns journal)
+FoldedLeaves (Output written) columns journal old new =
+    (names_of columns journal ≤ most_names) × (written ≤ length (folded_of columns journal)) × Fails old new (take written (folded_of columns journal))

@@ -1,14 +1,14 @@
 -- The folded stacks of a journal as a text.
 use Rattle.std.specs.Prelude.{ℕ, List, [], ◌∷◌, ◌++◌, flat_map, sum_by, decimal}
 use Rattle.span_event.specs.declared.thread.Thread.{Thread}
-use Rattle.span_track.specs.Nesting.{closed_spans}
 use Rattle.span_ledger.specs.declared.entry.Entry.{Entry}
 use Rattle.span_ledger.specs.declared.rows.ProcessRow.{ProcessRow}
 use Rattle.span_ledger.specs.declared.rows.ThreadRow.{ThreadRow}
 use Rattle.span_ledger.specs.Parts.{ProcessRows, ThreadRows, process_parts}
-use Rattle.span_ledger.specs.Told.{thread_events}
+use Rattle.span_report.specs.declared.stacks.label.SpanColumn.{SpanColumn}
 use Rattle.span_report.specs.Stacks.Bounds.{frame_count, names_in}
 use Rattle.span_report.specs.Stacks.Frames.{frame, owner_frame}
+use Rattle.span_report.specs.Stacks.Labels.{labelled_spans}
 use Rattle.span_report.specs.Stacks.Microseconds.{Folded, Stack, folded_stacks}
 
 -- the first two frames of the lines of a thread, which are its process and itself
@@ -26,14 +26,15 @@ stack_line start folded = start ++ (stack_frames folded.stack ++ (32 ∷ (decima
 abbrev pub stack_lines : List ℕ → List Folded → List ℕ
 stack_lines start stacks = flat_map (stack_line start) stacks
 
-module _ (journal : List Entry) where
+-- by labels of these columns
+module _ (columns : List SpanColumn) (journal : List Entry) where
   -- the folded stacks of a thread
   abbrev pub thread_stacks : Thread → List Folded
-  thread_stacks thread = folded_stacks (closed_spans (thread_events thread journal))
+  thread_stacks thread = folded_stacks (labelled_spans columns journal thread)
 
   -- how many frames they make
   abbrev pub thread_frame_count : Thread → ℕ
-  thread_frame_count thread = frame_count (closed_spans (thread_events thread journal))
+  thread_frame_count thread = frame_count (labelled_spans columns journal thread)
 
   abbrev pub thread_lines : ProcessRow → ThreadRows → List ℕ
   thread_lines process part = stack_lines (thread_frames process part.row) (thread_stacks (record { pid = part.row.pid; tid = part.row.tid }))

@@ -6,30 +6,35 @@ use Rattle.span_self_time.specs.Laws.{AreSpans}
 use Rattle.span_self_time.specs.Spans.{Span, busy_time, self_of}
 use Rattle.span_ledger.specs.declared.entry.Entry.{Entry}
 use Rattle.span_ledger.specs.Topics.{AreAlike}
+use Rattle.span_report.specs.declared.stacks.label.SpanColumn.{SpanColumn}
 use Rattle.span_report.specs.Stacks.Folded.{folded_of, names_of, thread_frame_count, thread_stacks}
+use Rattle.span_report.specs.Stacks.Labels.{labelled}
 use Rattle.span_report.specs.Stacks.Microseconds.{Stack, folded_stacks}
 
--- the last frame of the stack is this name
+-- the last frame of the stack is this label
 abbrev pub ends_in : Bytes → Stack → Bool
-ends_in name [] = false
-ends_in name (frame ∷ []) = same_text frame name
-ends_in name (frame ∷ next ∷ frames) = ends_in name (next ∷ frames)
+ends_in label [] = false
+ends_in label (frame ∷ []) = same_text frame label
+ends_in label (frame ∷ next ∷ frames) = ends_in label (next ∷ frames)
 
--- the times of the stacks add up to the busy time of the spans
+-- by whatever labels, the times of the stacks add up to the busy time of the spans
 abbrev pub TimesAddUpToBusy : Type 0
-TimesAddUpToBusy = (spans : List (Span Bytes)) → AreSpans spans → sum_by (λ folded. folded.time) (folded_stacks spans) ≡ busy_time spans
+TimesAddUpToBusy = (columns : List SpanColumn) (spans : List (Span Bytes)) → AreSpans spans
+    → sum_by (λ folded. folded.time) (folded_stacks (labelled columns spans)) ≡ busy_time spans
 
--- the times of the stacks that end in a name add up to the self time of that name
+-- the times of the stacks that end in a label add up to the self time of that label
 abbrev pub TimesAddUpToSelf : Type 0
-TimesAddUpToSelf = (spans : List (Span Bytes)) → AreSpans spans → (name : Bytes)
-    → sum_by (λ folded. folded.time) (filter (λ folded. ends_in name folded.stack) (folded_stacks spans)) ≡ self_of same_text name spans
+TimesAddUpToSelf = (columns : List SpanColumn) (spans : List (Span Bytes)) → AreSpans spans → (label : Bytes)
+    → sum_by (λ folded. folded.time) (filter (λ folded. ends_in label folded.stack) (folded_stacks (labelled columns spans)))
+    ≡ self_of same_text label (labelled columns spans)
 
--- two journals have the same stacks on each thread, as many frames of it, the same text of all stacks, and as many names in it
+-- by whatever labels, two journals have the same stacks on each thread, as many frames of it, the same text of all stacks, and as many
+-- names in it
 pub record HaveSameStacks (journal other : List Entry) : Type 0 where
-  pub stacks : (thread : Thread) → thread_stacks journal thread ≡ thread_stacks other thread
-  pub frames : (thread : Thread) → thread_frame_count journal thread ≡ thread_frame_count other thread
-  pub text : folded_of journal ≡ folded_of other
-  pub names : names_of journal ≡ names_of other
+  pub stacks : (columns : List SpanColumn) (thread : Thread) → thread_stacks columns journal thread ≡ thread_stacks columns other thread
+  pub frames : (columns : List SpanColumn) (thread : Thread) → thread_frame_count columns journal thread ≡ thread_frame_count columns other thread
+  pub text : (columns : List SpanColumn) → folded_of columns journal ≡ folded_of columns other
+  pub names : (columns : List SpanColumn) → names_of columns journal ≡ names_of columns other
 
 -- journals that have the same accepted acts on each topic have the same stacks
 abbrev pub StacksFollowFromActs : Type 0

@@ -6,6 +6,7 @@ ghost use Rattle.span_report.specs.Stacks.Faults.{FoldedLeaves, folded_code};
 ghost use Rattle.span_report.specs.Stacks.Folded.{folded_of, names_of};
 
 use super::fault::StacksFault;
+use super::label::SpanColumn;
 use super::text::folded;
 use crate::output::write_bytes;
 use crate::sink::Sink;
@@ -36,13 +37,20 @@ impl FoldedFault {
     }
 }
 
-/// Writes the folded stacks of the ledger's journal. The first fault of the output ends it, and nothing is tried again.
-pub fn write_folded<O: Sink>(alloc: Global, ledger: &Ledger, out: &mut O) -> Result<(), FoldedFault>
-    ensures ok { OnOk result (TakesBytes (O.state out.old) (O.state out.new) (folded_of ledger.now.journal)) }
-    ensures fits { OnOk result (names_of ledger.now.journal ≤ most_names) }
-    ensures fault { IfErr result (λ fault. FoldedLeaves fault ledger.now.journal (O.state out.old) (O.state out.new)) }
+/// Writes the folded stacks of the ledger's journal, by the labels of these columns. The first fault of the output ends it, and
+/// nothing is tried again.
+pub fn write_folded<O: Sink>(
+    alloc: Global,
+    ledger: &Ledger,
+    columns: &[SpanColumn],
+    out: &mut O,
+) -> Result<(), FoldedFault>
+    ensures ok { OnOk result (TakesBytes (O.state out.old) (O.state out.new) (folded_of columns.now ledger.now.journal)) }
+    ensures fits { OnOk result (names_of columns.now ledger.now.journal ≤ most_names) }
+    ensures fault { IfErr result
+        (λ fault. FoldedLeaves fault columns.now ledger.now.journal (O.state out.old) (O.state out.new)) }
 {
-    let text = match folded(alloc, ledger) {
+    let text = match folded(alloc, ledger, columns) {
         Ok(text) => text,
         Err(StacksFault::Memory) => return Err(FoldedFault::Memory),
         Err(StacksFault::TooLarge) => return Err(FoldedFault::TooLarge),

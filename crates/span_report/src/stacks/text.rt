@@ -9,7 +9,9 @@ ghost use Rattle.span_report.specs.Stacks.Walk.{folded_if};
 use super::descent::Descent;
 use super::fault::StacksFault;
 use super::frames::{put_frame, put_owner};
-use span_event::Text;
+use super::label::SpanColumn;
+use super::labelled::LabelledSpans;
+use span_event::{Text, Thread};
 use span_ledger::{Ledger, NamedSpan, ProcessPart, ProcessRow, ThreadPart, ThreadRow};
 use std::alloc::{AllocError, Global};
 
@@ -17,17 +19,22 @@ use std::alloc::{AllocError, Global};
 const MOST_NAMES: u32 = 67_108_864;
 
 /// The folded stacks of the ledger's journal: for each thread, in the order of a report, a line for each stack that it has for a
-/// microsecond or more. It says the process and the thread, the names of the spans that cover the microsecond, in ascending rank
-/// and parted by `;`, and then for how many microseconds. The process and the thread don't count as names.
-pub fn folded(alloc: Global, ledger: &Ledger) -> Result<Vec<u8>, StacksFault>
-    ensures text { IfOk result (λ text. text.items ≡ folded_of ledger.now.journal) }
-    ensures fits { OnOk result (names_of ledger.now.journal ≤ most_names) }
-    ensures full { result ≡ Err StacksFault.TooLarge → most_names < names_of ledger.now.journal }
+/// microsecond or more. It says the process and the thread, the labels of the spans that cover the microsecond, in ascending rank
+/// and parted by `;`, and then for how many microseconds. A label is what a span has in the columns. Labels count as names, the
+/// process and the thread don't.
+pub fn folded(
+    alloc: Global,
+    ledger: &Ledger,
+    columns: &[SpanColumn],
+) -> Result<Vec<u8>, StacksFault>
+    ensures text { IfOk result (λ text. text.items ≡ folded_of columns.now ledger.now.journal) }
+    ensures fits { OnOk result (names_of columns.now ledger.now.journal ≤ most_names) }
+    ensures full { result ≡ Err StacksFault.TooLarge → most_names < names_of columns.now ledger.now.journal }
 {
     let mut out = Vec::new(alloc);
     let mut left = MOST_NAMES;
     for part in &ledger.parts(alloc)? {
-        put_process(alloc, ledger, &mut out, &mut left, part)?;
+        put_process(alloc, ledger, columns, &mut out, &mut left, part)?;
     }
     Ok(out)
 }
@@ -36,16 +43,17 @@ pub fn folded(alloc: Global, ledger: &Ledger) -> Result<Vec<u8>, StacksFault>
 fn put_process(
     alloc: Global,
     ledger: &Ledger,
+    columns: &[SpanColumn],
     out: &mut Vec<u8>,
     left: &mut u32,
     process: &ProcessPart,
 ) -> Result<(), StacksFault>
-    ensures text { OnOk result (out.new.items ≡ out.old.items ++ process_lines ledger.now.journal process.now) }
-    ensures fits { OnOk result (left.new + process_names ledger.now.journal process.now ≡ left.old) }
-    ensures full { result ≡ Err StacksFault.TooLarge → left.old < process_names ledger.now.journal process.now }
+    ensures text { OnOk result (out.new.items ≡ out.old.items ++ process_lines columns.now ledger.now.journal process.now) }
+    ensures fits { OnOk result (left.new + process_names columns.now ledger.now.journal process.now ≡ left.old) }
+    ensures full { result ≡ Err StacksFault.TooLarge → left.old < process_names columns.now ledger.now.journal process.now }
 {
     for part in &process.threads {
-        put_thread(alloc, ledger, out, left, &process.row, part)?;
+        put_thread(alloc, ledger, columns, out, left, &process.row, part)?;
     }
     Ok(())
 }
@@ -53,19 +61,24 @@ fn put_process(
 fn put_thread(
     alloc: Global,
     ledger: &Ledger,
+    columns: &[SpanColumn],
     out: &mut Vec<u8>,
     left: &mut u32,
     process: &ProcessRow,
     part: &ThreadPart,
 ) -> Result<(), StacksFault>
-    ensures text { OnOk result (out.new.items ≡ out.old.items ++ thread_lines ledger.now.journal process.now part.now) }
-    ensures fits { OnOk result (left.new + thread_names ledger.now.journal part.now ≡ left.old) }
-    ensures full { result ≡ Err StacksFault.TooLarge → left.old < thread_names ledger.now.journal part.now }
+    ensures text { OnOk result (out.new.items ≡ out.old.items ++ thread_lines columns.now ledger.now.journal process.now part.now) }
+    ensures fits { OnOk result (left.new + thread_names columns.now ledger.now.journal part.now ≡ left.old) }
+    ensures full { result ≡ Err StacksFault.TooLarge → left.old < thread_names columns.now ledger.now.journal part.now }
 {
     let row = &part.row;
     let start = thread_frames(alloc, process, row)?;
-    let spans = ledger.closed_spans(alloc, row.pid, row.tid)?;
-    put_stacks(alloc, out, left, &start, spans)
+    let thread = Thread {
+        pid: row.pid,
+        tid: row.tid,
+    };
+    let labelled = LabelledSpans::of_thread(alloc, ledger, thread, columns)?;
+    put_stacks(alloc, out, left, &start, labelled.spans(alloc)?)
 }
 
 // Appends a line for each stack of the spans, in order. Only the text has each stack whole.

@@ -2,14 +2,14 @@
 ghost use Rattle.std.specs.Prelude.{◌≡◌, ◌<◌, ◌≤◌, [], length, map, Err, IfOk, OnErr, OnOk};
 ghost use Rattle.span_ledger.specs.Named.{AreThreadSpans};
 ghost use Rattle.span_report.specs.Stacks.Bounds.{frame_count};
-ghost use Rattle.span_report.specs.Stacks.Folded.{thread_frame_count, thread_stacks};
 ghost use Rattle.span_report.specs.Stacks.Microseconds.{folded_stacks};
 ghost use Rattle.span_report.specs.Stacks.Walk.{AreAscending, folded_after, stack_after};
 
 use super::descent::Descent;
 use super::fault::StacksFault;
+use super::labelled::LabelledSpans;
 use span_event::Text;
-use span_ledger::{Ledger, NamedSpan};
+use span_ledger::NamedSpan;
 use std::alloc::{AllocError, Global};
 use std::marker::Model;
 
@@ -44,27 +44,21 @@ impl<'a> StackFrame<'a> {
     }
 }
 
-/// The folded stacks of a thread of the ledger's journal, frame by frame, in the order of their lists of names. A stack that has no
-/// microsecond of its own is told too, if others begin with it. If there are more frames than `most`, none is told, and there were
-/// never more in memory.
-pub fn framed_stacks(
+/// The folded stacks of a thread's spans, frame by frame, in the order of their lists of labels. A stack that has no microsecond of
+/// its own is told too, if others begin with it. If there are more frames than `most`, none is told, and there were never more in
+/// memory.
+pub fn framed_stacks<'a>(
     alloc: Global,
-    ledger: &Ledger,
-    pid: i64,
-    tid: i64,
+    spans: &'a LabelledSpans,
     most: u32,
-) -> Result<Vec<StackFrame<'_>>, StacksFault>
-    ensures stacks { IfOk result (λ frames. folded_after [] frames.items
-        ≡ thread_stacks ledger.now.journal (record { pid = pid; tid = tid })) }
+) -> Result<Vec<StackFrame<'a>>, StacksFault>
+    ensures stacks { IfOk result (λ frames. folded_after [] frames.items ≡ folded_stacks spans.now) }
     ensures ascending { IfOk result (λ frames. AreAscending [] frames.items) }
-    ensures count { IfOk result (λ frames. length frames.items
-        ≡ thread_frame_count ledger.now.journal (record { pid = pid; tid = tid })) }
+    ensures count { IfOk result (λ frames. length frames.items ≡ frame_count spans.now) }
     ensures fits { IfOk result (λ frames. length frames.items ≤ most) }
-    ensures full { result ≡ Err StacksFault.TooLarge
-        → most < thread_frame_count ledger.now.journal (record { pid = pid; tid = tid }) }
+    ensures full { result ≡ Err StacksFault.TooLarge → most < frame_count spans.now }
 {
-    let spans = ledger.closed_spans(alloc, pid, tid)?;
-    frames_of(alloc, spans, most)
+    frames_of(alloc, spans.spans(alloc)?, most)
 }
 
 // Each stack of the spans once, in order.

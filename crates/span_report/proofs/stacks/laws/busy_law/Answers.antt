@@ -1,5 +1,5 @@
-use Rattle.span_report.proofs.StackLemmas.Times.{times-busy}
+use Rattle.span_report.proofs.StackLemmas.Labelling.{labelled-busy}
 use Rattle.span_report.proofs.stacks.laws.busy_law.Goals as goal
 
 pub returns : goal.returns
-returns c = times-busy
+returns c = labelled-busy

@@ -6,6 +6,6 @@ use Rattle.span_report.proofs.stacks.text.put_process.Given as goal
 -- the lines of the threads so far; the names of the others are to be taken from those that are left
 abbrev pub invariant-loop-part : goal.invariant-loop-part
 invariant-loop-part l = record {
-  text : l.out.items ≡ l.fn.out.items ++ flat_map (thread_lines l.ledger.journal l.process.row) (take l.part-index l.part-items);
-  names : l.fn.left + sum_by (thread_names l.ledger.journal) (drop l.part-index l.part-items) ≡ l.left + sum_by (thread_names l.ledger.journal) l.part-items;
+  text : l.out.items ≡ l.fn.out.items ++ flat_map (thread_lines l.columns l.ledger.journal l.process.row) (take l.part-index l.part-items);
+  names : l.fn.left + sum_by (thread_names l.columns l.ledger.journal) (drop l.part-index l.part-items) ≡ l.left + sum_by (thread_names l.columns l.ledger.journal) l.part-items;
 }
