@@ -1,7 +1,7 @@
 //! The texts, and what tests of several of them ask.
 
 use span_ledger::Ledger;
-use span_report::stacks::{FoldedFault, folded, write_folded};
+use span_report::stacks::{FoldedFault, SpanColumn, folded, write_folded};
 use span_report::{WriteFault, Writer, report, write_report};
 use span_test_support::{Output, is_whole_or_none, room_at_last};
 use std::alloc::{AllocError, AllocGlobal, Global};
@@ -13,22 +13,25 @@ use std::test::Fail;
 #[derive(Drop)]
 pub(crate) enum Printed<'a> {
     Report(&'a Ledger),
-    Stacks(&'a Ledger),
+    /// The folded stacks by labels of these columns.
+    Stacks(&'a Ledger, &'a [SpanColumn]),
 }
 
 impl<'a> Printed<'a> {
     fn text(&self, alloc: Global) -> Result<Vec<u8>, AllocError> {
         match self {
             Printed::Report(ledger) => report(alloc, ledger),
-            Printed::Stacks(ledger) => folded(alloc, ledger).map_err(|_| AllocError),
+            Printed::Stacks(ledger, columns) => {
+                folded(alloc, ledger, columns).map_err(|_| AllocError)
+            }
         }
     }
 
     fn write<W: Write>(&self, alloc: Global, output: &mut W) -> Result<(), WriteFault> {
         match self {
             Printed::Report(ledger) => write_report(alloc, ledger, &mut Writer::new(output)),
-            Printed::Stacks(ledger) => {
-                match write_folded(alloc, ledger, &mut Writer::new(output)) {
+            Printed::Stacks(ledger, columns) => {
+                match write_folded(alloc, ledger, columns, &mut Writer::new(output)) {
                     Ok(()) => Ok(()),
                     Err(FoldedFault::Output { written }) => Err(WriteFault::Output { written }),
                     Err(_) => Err(WriteFault::Memory),
