@@ -6,6 +6,7 @@ use Rattle.span_ledger.specs.Parts.{process_parts}
 use Rattle.span_ledger.specs.Topics.{AreAlike}
 use Rattle.span_ledger.proofs.Topics.Rows.{rows-follow}
 use Rattle.span_report.specs.Lines.{json_text_of}
+use Rattle.span_report.specs.Stacks.Labels.{by_name}
 use Rattle.span_report.specs.Stacks.Laws.{HaveSameStacks}
 use Rattle.span_report.specs.Stacks.Microseconds.{Folded}
 use Rattle.span_report.proofs.SameReports.{report_of-alike}
@@ -18,10 +19,10 @@ use Rattle.span_page.specs.Safe.{safe}
 -- the same graphs fit into what is left
 module _ (journal other : List Entry) (same : HaveSameStacks journal other) where
   graph_json-alike : (left : ℕ) (thread : Thread) → graph_json journal left thread ≡ graph_json other left thread
-  graph_json-alike left thread = ap₂ (λ (count : ℕ) (stacks : List Folded). cond (nat_lt left count) (codes "null") (stacks_json stacks)) (same.frames thread) (same.stacks thread)
+  graph_json-alike left thread = ap₂ (λ (count : ℕ) (stacks : List Folded). cond (nat_lt left count) (codes "null") (stacks_json stacks)) (same.frames by_name thread) (same.stacks by_name thread)
 
   left_after-alike : (left : ℕ) (thread : Thread) → left_after journal left thread ≡ left_after other left thread
-  left_after-alike left thread = ap (λ (count : ℕ). cond (nat_lt left count) left (left - count)) (same.frames thread)
+  left_after-alike left thread = ap (λ (count : ℕ). cond (nat_lt left count) left (left - count)) (same.frames by_name thread)
 
   graphs_json-alike : (left : ℕ) (threads : List Thread) → graphs_json journal left threads ≡ graphs_json other left threads
   graphs_json-alike left [] = refl

@@ -7,6 +7,7 @@ use Rattle.span_ledger.specs.Parts.{ProcessRows, ThreadRows, process_parts}
 use Rattle.span_report.specs.Lines.{json_text_of}
 use Rattle.span_report.specs.Report.{report_of}
 use Rattle.span_report.specs.Stacks.Folded.{thread_frame_count, thread_stacks}
+use Rattle.span_report.specs.Stacks.Labels.{by_name}
 use Rattle.span_report.specs.Stacks.Microseconds.{Folded}
 use Rattle.span_collect.specs.declared.files.FileEnd.{FileEnd}
 use Rattle.span_collect.specs.declared.files.Input.{Input}
@@ -39,7 +40,7 @@ threads_of parts = flat_map threads_in parts
 
 -- the stacks of a thread of a journal
 abbrev pub thread_json : List Entry → Thread → List ℕ
-thread_json journal thread = stacks_json (thread_stacks journal thread)
+thread_json journal thread = stacks_json (thread_stacks by_name journal thread)
 
 -- the most frames of all graphs of a page
 abbrev pub most_frames : ℕ
@@ -48,11 +49,11 @@ most_frames = 4194304
 module _ (journal : List Entry) where
   -- the stacks of a thread, if its graph has no more frames than these; and else nothing
   abbrev pub graph_json : ℕ → Thread → List ℕ
-  graph_json left thread = if nat_lt left (thread_frame_count journal thread) then codes "null" else thread_json journal thread
+  graph_json left thread = if nat_lt left (thread_frame_count by_name journal thread) then codes "null" else thread_json journal thread
 
   -- how many frames are left behind it
   abbrev pub left_after : ℕ → Thread → ℕ
-  left_after left thread = if nat_lt left (thread_frame_count journal thread) then left else left - thread_frame_count journal thread
+  left_after left thread = if nat_lt left (thread_frame_count by_name journal thread) then left else left - thread_frame_count by_name journal thread
 
   -- the graphs of threads, one after the other, as each fits into what those before it leave
   abbrev pub graphs_json : ℕ → List Thread → List (List ℕ)

@@ -15,7 +15,7 @@ use span_collect::{FileEnd, Input};
 use span_event::Thread;
 use span_ledger::{Ledger, ProcessPart};
 use span_report::report_text;
-use span_report::stacks::{StacksFault, framed_stacks};
+use span_report::stacks::{LabelledSpans, SpanColumn, StacksFault, framed_stacks};
 use std::alloc::{AllocError, Global};
 
 // How many frames the graphs of a page may have in all.
@@ -146,7 +146,8 @@ fn put_thread(
         ≡ string_bytes out.old ++ graph_json ledger.now.journal left thread.now) }
     ensures left { IfOk result (λ rest. rest ≡ left_after ledger.now.journal left thread.now) }
 {
-    match framed_stacks(alloc, ledger, thread.pid, thread.tid, left) {
+    let spans = LabelledSpans::of_thread(alloc, ledger, *thread, &[SpanColumn::Name])?;
+    match framed_stacks(alloc, &spans, left) {
         Ok(frames) => {
             put_stacks(alloc, out, &frames)?;
             Ok(left - frames.len() as u32)
