@@ -12,6 +12,8 @@ from selenium.webdriver.support.ui import Select, WebDriverWait
 
 LEVEL = 20  # pixels of a level of a flame graph
 PATIENCE = 60  # seconds in which the browser does what a page asked of it for its next turn
+WIDTH = 1200  # pixels
+DRAWN = "new Promise(done => requestAnimationFrame(() => requestAnimationFrame(done)))"
 
 COLORS = """
     const [canvas, points] = arguments;
@@ -38,10 +40,14 @@ def browser():
         options.add_argument(word)
     options.set_capability("goog:loggingPrefs", {"browser": "ALL", "performance": "ALL"})
     driver = webdriver.Chrome(options=options)
-    size = {"width": 1200, "height": 900, "deviceScaleFactor": 1, "mobile": False}
-    driver.execute_cdp_cmd("Emulation.setDeviceMetricsOverride", size)
+    resize(driver, WIDTH)
     driver.implicitly_wait(PATIENCE)  # An opened graph is made in the browser's next turn.
     return driver
+
+
+def resize(driver, width):
+    size = {"width": width, "height": 900, "deviceScaleFactor": 1, "mobile": False}
+    driver.execute_cdp_cmd("Emulation.setDeviceMetricsOverride", size)
 
 
 class Page:
@@ -57,6 +63,13 @@ class Page:
 
     def run(self, script, *values):
         return self.driver.execute_script(script, *values)
+
+    def wait(self):
+        """Until what was done is drawn."""
+        self.run(f"return {DRAWN}")
+
+    def resize(self, width=WIDTH):
+        resize(self.driver, width)
 
     def element(self, selector):
         return self.driver.find_element(By.CSS_SELECTOR, selector)

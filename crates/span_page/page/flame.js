@@ -38,9 +38,9 @@ class Graph {
     this.view = element("div", { className: "view", role: "tree", tabIndex: 0, ariaLabel: label }, this.spacer, this.item);
     this.view.setAttribute("aria-activedescendant", this.item.id);
     this.under = new Table("names", [
+      nameColumn((frame) => frame.name, { fill: (frame) => this.zoomButton(frame) }),
       numberColumn("total, \u00b5s", (frame) => frame.total, { bar: (frame) => fraction(frame.total, frame.parent.total) }),
       numberColumn("self, \u00b5s", (frame) => frame.self),
-      nameColumn((frame) => frame.name, { fill: (frame) => this.zoomButton(frame) }),
     ]);
     this.underTitle = element("summary");
     this.element = element("div", { className: "graph" },

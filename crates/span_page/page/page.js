@@ -120,7 +120,7 @@ function namesTable() {
   const share = numberColumn("of busy", (span) => span.self, { fill: (span) => shareText(span.self, span.thread.busy) });
   const count = numberColumn("count", (span) => span.count);
   const span = nameColumn((row) => row.name, { fill: graphButton });
-  const table = new Table("names", [self, share, total, count, processColumn, threadColumn, span], [
+  const table = new Table("names", [span, self, share, total, count, processColumn, threadColumn], [
     { title: "self", value: self.value, text: timeText },
     { title: "count", value: count.value, text: grouped },
   ]);
@@ -144,12 +144,12 @@ function otherTables() {
   const counts = (...names) => names.map((title) => numberColumn(title, (row) => row[title]));
   return [
     otherTable("Async spans", report.asyncs, [
-      total, ...counts("closed"), open, ...counts("points"), category, textColumn("scope", (row) => row.scope), id, plainName]),
-    otherTable("Flows", report.flows, [total, ...counts("ended"), open, category, id, plainName]),
+      plainName, total, ...counts("closed"), open, ...counts("points"), category, textColumn("scope", (row) => row.scope), id]),
+    otherTable("Flows", report.flows, [plainName, total, ...counts("ended"), open, category, id]),
     otherTable("Counters", report.counters, [
-      ...counts("samples", "least", "greatest", "last"), processColumn, id, plainName, textColumn("series", (row) => row.series)]),
+      plainName, textColumn("series", (row) => row.series), ...counts("samples", "least", "greatest", "last"), processColumn, id]),
     otherTable("Instants", report.instants, [
-      ...counts("count"), processColumn, threadColumn, textColumn("reach", (row) => row.reach), plainName]),
+      plainName, ...counts("count"), processColumn, threadColumn, textColumn("reach", (row) => row.reach)]),
   ].filter(({ rows }) => rows.length > 0);
 }
 

@@ -27,7 +27,8 @@ function compare(one, other) {
   return one < other ? -1 : one > other ? 1 : 0;
 }
 
-// The kinds of columns: `value` orders the rows, `fill` makes what stands in a cell. Processes and threads keep the report's order.
+// The kinds of columns: `value` orders the rows, `fill` makes what stands in a cell. Processes and threads keep the report's order. Names
+// are the first column, so that what a row is about is seen on any screen.
 
 const numberColumn = (title, value, more) => ({ title, value, kind: "number", fill: (row) => grouped(value(row)), ...more });
 const textColumn = (title, value) => ({ title, value, fill: (row) => nameElement(value(row)) });
@@ -35,20 +36,22 @@ const nameColumn = (value, more) => ({ ...textColumn("name", value), kind: "name
 const listedColumn = (title, value) => ({ title, value: (row) => value(row).at, fill: (row) => nameElement(value(row).label) });
 
 class Table {
-  /** `what` is what the rows are, as "names"; `sums` are the columns whose sums are told. The greatest of the first column lead. */
+  /** `what` is what the rows are, as "names"; `sums` are the columns whose sums are told. The greatest of the first number lead. */
   constructor(what, columns, sums = []) {
-    Object.assign(this, { what, columns, sums, given: [], rows: [], all: 0, sorted: columns[0], isDescending: true });
+    const sorted = columns.find(({ kind }) => kind === "number");
+    Object.assign(this, { what, columns, sums, given: [], rows: [], all: 0, sorted, isDescending: true });
     this.status = element("p", { className: "status", role: "status" });
-    this.head = element("tr", {}, ...columns.map((column) => this.headOf(column)));
-    this.body = element("tbody");
-    this.more = element("button", { type: "button", onclick: () => this.showMore() });
-    const table = element("table", { ariaLabel: what }, element("thead", {}, this.head), this.body);
+    this.head = element("tr", { role: "row" }, ...columns.map((column) => this.headOf(column)));
+    this.body = element("tbody", { role: "rowgroup" });
+    this.more = element("button", { type: "button", className: "more", onclick: () => this.showMore() });
+    // The roles are said, since the style takes rows apart on a narrow screen.
+    const table = element("table", { role: "table", ariaLabel: what }, element("thead", { role: "rowgroup" }, this.head), this.body);
     this.element = element("div", { className: "table" }, this.status, element("div", { className: "wide" }, table), this.more);
   }
 
   headOf(column) {
     const button = element("button", { type: "button", onclick: () => this.sortBy(column) }, column.title);
-    return element("th", { scope: "col", ariaSort: "none", className: column.kind ?? "" }, button);
+    return element("th", { role: "columnheader", scope: "col", ariaSort: "none", className: column.kind ?? "" }, button);
   }
 
   /** Shows these of all rows, in the order that was chosen; where that leaves a choice, in the order in which they are given. */
@@ -89,8 +92,9 @@ class Table {
   }
 
   rowOf(row) {
-    return element("tr", {}, ...this.columns.map((column) => {
-      const cell = element("td", { className: column.kind ?? "" }, column.fill(row));
+    return element("tr", { role: "row" }, ...this.columns.map((column) => {
+      const cell = element("td", { role: "cell", className: column.kind ?? "" }, column.fill(row));
+      cell.dataset.title = column.title;
       if (column.bar) setBar(cell, column.bar(row));
       return cell;
     }));

@@ -4,7 +4,7 @@ pub(crate) const HEAD: &str = r#"<!DOCTYPE html>
 <html lang="en">
 <head>
 <meta charset="utf-8">
-<meta http-equiv="Content-Security-Policy" content="default-src 'none'; script-src 'sha256-iMIgw6P5pPbtwG6w+LvBvj3XIuYSW5LYAkrtzvBRPdI='; style-src 'sha256-pEC+JvRN2YTxjxl5f4aflaLUpIjXWzCXq3bq7EkjD30='; base-uri 'none'; form-action 'none'">
+<meta http-equiv="Content-Security-Policy" content="default-src 'none'; script-src 'sha256-or8yNTW3h0vQCjHyBMu9ysINr+VZszAbuRr8p3vXjvw='; style-src 'sha256-oK/IBHWaUtSud9EFlUOcNhrx2UHEeV5NpxGaS3CIr9g='; base-uri 'none'; form-action 'none'">
 <meta name="viewport" content="width=device-width, initial-scale=1">
 <meta name="color-scheme" content="light dark">
 <title>tracebook</title>
@@ -74,6 +74,39 @@ summary { padding: 0.2rem 0.3rem; cursor: pointer; overflow: hidden; text-overfl
 .spacer { position: relative; }
 canvas { position: sticky; top: 0; display: block; width: 100%; }
 .unseen { position: absolute; width: 1px; height: 1px; overflow: hidden; clip-path: inset(50%); white-space: nowrap; }
+/* On a narrow screen a row stands as a few lines: its name, the number that has a bar, and the others, each behind its title. */
+@media screen and (max-width: 50rem) {
+  html { scroll-padding-top: 0.5rem; }
+  body { padding: 0 0.9rem 3rem; }
+  #narrowing { position: static; }
+  label, input, select { max-width: 100%; }
+  table, thead, tbody, th, td { display: block; }
+  tr { display: flex; flex-wrap: wrap; gap: 0 1rem; padding: 0.35rem 0; border-bottom: 1px solid var(--line); }
+  th, td, td.name, td.number, td.barred { width: auto; min-width: 0; max-width: 100%; padding: 0; border: 0; text-align: left;
+    white-space: normal; overflow-wrap: anywhere; }
+  td.name, td.barred { flex: 0 0 100%; }
+  td:empty { display: none; }
+  td:not(.name)::before { content: attr(data-title) " "; color: var(--quiet); }
+  td.barred::before { color: inherit; }
+  .busy { min-width: 0; }
+  .steps { flex-wrap: wrap; }
+  .told { flex: 0 0 100%; overflow-wrap: anywhere; }
+}
+/* In print all of a table is seen, so names are wrapped, and there is nothing to press. */
+@media print {
+  body { max-width: none; padding: 0; font-size: 12px; }
+  #narrowing { position: static; }
+  .wide { overflow: visible; }
+  th, td { padding: 0.1rem 0.4rem; white-space: normal; }
+  td { min-width: 4.5rem; max-width: none; overflow-wrap: anywhere; }
+  td.name { width: auto; min-width: 8rem; max-width: none; }
+  td.number, td.barred { min-width: 0; white-space: nowrap; }
+  th button { padding: 0; }
+  tr { break-inside: avoid; }
+  .barred { print-color-adjust: exact; }
+  canvas { height: auto !important; }
+  .more, .hint, .steps button { display: none; }
+}
 </style>
 </head>
 <body>
@@ -102,7 +135,7 @@ A click or Enter zooms into a frame, Escape or Backspace goes back, arrow keys m
 <p id="left-out" class="warning" hidden></p>
 <div id="graphs"></div>
 <p id="graphs-shown" class="status" role="status"></p>
-<button id="more-graphs" type="button" hidden>Show more threads</button>
+<button id="more-graphs" class="more" type="button" hidden>Show more threads</button>
 </section>
 <div id="others"></div>
 </main>
@@ -281,7 +314,8 @@ function compare(one, other) {
   return one < other ? -1 : one > other ? 1 : 0;
 }
 
-// The kinds of columns: `value` orders the rows, `fill` makes what stands in a cell. Processes and threads keep the report's order.
+// The kinds of columns: `value` orders the rows, `fill` makes what stands in a cell. Processes and threads keep the report's order. Names
+// are the first column, so that what a row is about is seen on any screen.
 
 const numberColumn = (title, value, more) => ({ title, value, kind: "number", fill: (row) => grouped(value(row)), ...more });
 const textColumn = (title, value) => ({ title, value, fill: (row) => nameElement(value(row)) });
@@ -289,20 +323,22 @@ const nameColumn = (value, more) => ({ ...textColumn("name", value), kind: "name
 const listedColumn = (title, value) => ({ title, value: (row) => value(row).at, fill: (row) => nameElement(value(row).label) });
 
 class Table {
-  /** `what` is what the rows are, as "names"; `sums` are the columns whose sums are told. The greatest of the first column lead. */
+  /** `what` is what the rows are, as "names"; `sums` are the columns whose sums are told. The greatest of the first number lead. */
   constructor(what, columns, sums = []) {
-    Object.assign(this, { what, columns, sums, given: [], rows: [], all: 0, sorted: columns[0], isDescending: true });
+    const sorted = columns.find(({ kind }) => kind === "number");
+    Object.assign(this, { what, columns, sums, given: [], rows: [], all: 0, sorted, isDescending: true });
     this.status = element("p", { className: "status", role: "status" });
-    this.head = element("tr", {}, ...columns.map((column) => this.headOf(column)));
-    this.body = element("tbody");
-    this.more = element("button", { type: "button", onclick: () => this.showMore() });
-    const table = element("table", { ariaLabel: what }, element("thead", {}, this.head), this.body);
+    this.head = element("tr", { role: "row" }, ...columns.map((column) => this.headOf(column)));
+    this.body = element("tbody", { role: "rowgroup" });
+    this.more = element("button", { type: "button", className: "more", onclick: () => this.showMore() });
+    // The roles are said, since the style takes rows apart on a narrow screen.
+    const table = element("table", { role: "table", ariaLabel: what }, element("thead", { role: "rowgroup" }, this.head), this.body);
     this.element = element("div", { className: "table" }, this.status, element("div", { className: "wide" }, table), this.more);
   }
 
   headOf(column) {
     const button = element("button", { type: "button", onclick: () => this.sortBy(column) }, column.title);
-    return element("th", { scope: "col", ariaSort: "none", className: column.kind ?? "" }, button);
+    return element("th", { role: "columnheader", scope: "col", ariaSort: "none", className: column.kind ?? "" }, button);
   }
 
   /** Shows these of all rows, in the order that was chosen; where that leaves a choice, in the order in which they are given. */
@@ -343,8 +379,9 @@ class Table {
   }
 
   rowOf(row) {
-    return element("tr", {}, ...this.columns.map((column) => {
-      const cell = element("td", { className: column.kind ?? "" }, column.fill(row));
+    return element("tr", { role: "row" }, ...this.columns.map((column) => {
+      const cell = element("td", { role: "cell", className: column.kind ?? "" }, column.fill(row));
+      cell.dataset.title = column.title;
       if (column.bar) setBar(cell, column.bar(row));
       return cell;
     }));
@@ -458,9 +495,9 @@ class Graph {
     this.view = element("div", { className: "view", role: "tree", tabIndex: 0, ariaLabel: label }, this.spacer, this.item);
     this.view.setAttribute("aria-activedescendant", this.item.id);
     this.under = new Table("names", [
+      nameColumn((frame) => frame.name, { fill: (frame) => this.zoomButton(frame) }),
       numberColumn("total, \u00b5s", (frame) => frame.total, { bar: (frame) => fraction(frame.total, frame.parent.total) }),
       numberColumn("self, \u00b5s", (frame) => frame.self),
-      nameColumn((frame) => frame.name, { fill: (frame) => this.zoomButton(frame) }),
     ]);
     this.underTitle = element("summary");
     this.element = element("div", { className: "graph" },
@@ -782,7 +819,7 @@ function namesTable() {
   const share = numberColumn("of busy", (span) => span.self, { fill: (span) => shareText(span.self, span.thread.busy) });
   const count = numberColumn("count", (span) => span.count);
   const span = nameColumn((row) => row.name, { fill: graphButton });
-  const table = new Table("names", [self, share, total, count, processColumn, threadColumn, span], [
+  const table = new Table("names", [span, self, share, total, count, processColumn, threadColumn], [
     { title: "self", value: self.value, text: timeText },
     { title: "count", value: count.value, text: grouped },
   ]);
@@ -806,12 +843,12 @@ function otherTables() {
   const counts = (...names) => names.map((title) => numberColumn(title, (row) => row[title]));
   return [
     otherTable("Async spans", report.asyncs, [
-      total, ...counts("closed"), open, ...counts("points"), category, textColumn("scope", (row) => row.scope), id, plainName]),
-    otherTable("Flows", report.flows, [total, ...counts("ended"), open, category, id, plainName]),
+      plainName, total, ...counts("closed"), open, ...counts("points"), category, textColumn("scope", (row) => row.scope), id]),
+    otherTable("Flows", report.flows, [plainName, total, ...counts("ended"), open, category, id]),
     otherTable("Counters", report.counters, [
-      ...counts("samples", "least", "greatest", "last"), processColumn, id, plainName, textColumn("series", (row) => row.series)]),
+      plainName, textColumn("series", (row) => row.series), ...counts("samples", "least", "greatest", "last"), processColumn, id]),
     otherTable("Instants", report.instants, [
-      ...counts("count"), processColumn, threadColumn, textColumn("reach", (row) => row.reach), plainName]),
+      plainName, ...counts("count"), processColumn, threadColumn, textColumn("reach", (row) => row.reach)]),
   ].filter(({ rows }) => rows.length > 0);
 }
 
