@@ -105,10 +105,10 @@ class Page:
 
 
 class Graph:
-    """The flame graph of a thread, by its place among those that are listed."""
+    """The flame graph of a thread, by the thread's place in the report, from 0."""
 
     def __init__(self, page, place):
-        self.page, self.section = page, f"#graphs > details:nth-child({place})"
+        self.page, self.section = page, f"#thread-{place}"
         if not page.element(self.section).get_property("open"):
             page.click(f"{self.section} > summary")
         self.canvas = page.element(f"{self.section} canvas")

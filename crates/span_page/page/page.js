@@ -28,7 +28,6 @@ const byId = (id) => document.getElementById(id);
 const add = (numbers) => numbers.reduce((sum, number) => sum + number, 0n);
 const data = JSON.parse(byId("data").textContent);
 const report = readReport(data.report);
-const greatest = (values) => values.reduce((most, value) => (value > most ? value : most), 0n);
 
 function showCounts() {
   const counts = [...report.counts, ["processes", report.processes.length], ["threads", report.threads.length]];
@@ -93,6 +92,11 @@ function fillChoice(select, all, items) {
   select.replaceChildren(element("option", { value: "" }, all), ...options);
 }
 
+/** The threads to choose from are those of the process that is narrowed to. */
+function fillThreads() {
+  fillChoice(byId("thread"), "all threads", byBusyTime(report.threads.filter(({ process }) => isOfPlace({ process }))));
+}
+
 function choose(what, items) {
   narrowed[what] = items[byId(what).value] ?? null;
   narrow();
@@ -101,7 +105,7 @@ function choose(what, items) {
 function chooseProcess() {
   narrowed.thread = null;
   choose("process", report.processes);
-  fillChoice(byId("thread"), "all threads", report.threads.filter((thread) => isOfPlace({ process: thread.process })));
+  fillThreads();
 }
 
 // The tables
@@ -115,8 +119,7 @@ const id = textColumn("id", (row) => row.id);
 const category = textColumn("category", (row) => row.category);
 
 function namesTable() {
-  const mostSelf = greatest(report.spans.map((span) => span.self));
-  const self = numberColumn("self, \u00b5s", (span) => span.self, { bar: (span) => fraction(span.self, mostSelf) });
+  const self = numberColumn("self, \u00b5s", (span) => span.self, { bar: (span, most) => fraction(span.self, most) });
   const share = numberColumn("of busy", (span) => span.self, { fill: (span) => shareText(span.self, span.thread.busy) });
   const count = numberColumn("count", (span) => span.count);
   const span = nameColumn((row) => row.name, { fill: graphButton });
@@ -158,7 +161,12 @@ function showRows() {
   narrowed.threads = new Set(tables[0].table.rows.map((row) => row.thread));
 }
 
-// The flame graphs, of which the busiest threads' are listed, in the order of the report
+// The flame graphs, of which the busiest threads' are listed, the busiest first
+
+/** Threads by busy time; equal ones keep the order of the report. */
+function byBusyTime(threads) {
+  return threads.toSorted((one, other) => compare(other.busy, one.busy));
+}
 
 /** Whether the graph of a thread is left out, since with it the page would have too many frames. */
 function isLeftOut(thread) {
@@ -171,8 +179,7 @@ function hasGraph(thread) {
 
 class Graphs {
   constructor() {
-    this.threads = report.threads.filter((thread) => isLeftOut(thread) || hasGraph(thread));
-    this.mostBusy = greatest(this.threads.map((thread) => thread.busy));
+    this.threads = byBusyTime(report.threads.filter((thread) => isLeftOut(thread) || hasGraph(thread)));
     Object.assign(this, { sections: new Map(), graphs: new Map(), most: FIRST_GRAPHS, marks: null, sought: null });
     byId("more-graphs").onclick = () => this.show(this.most + MORE_GRAPHS);
     byId("order").onchange = () => this.graphs.forEach((graph) => graph.order(this.isWidestFirst));
@@ -185,12 +192,12 @@ class Graphs {
   show(most = FIRST_GRAPHS) {
     this.most = most;
     const threads = this.threads.filter((thread) => narrowed.threads.has(thread));
-    const busiest = threads.toSorted((one, other) => compare(other.busy, one.busy)).slice(0, most);
-    const listed = threads.filter(isAmong(busiest, this.sought));
+    const listed = threads.filter((thread, at) => at < most || thread === this.sought);
     byId("graphs").replaceChildren(...listed.map((thread) => this.sectionOf(thread)));
+    for (const thread of listed) setBar(this.sectionOf(thread).querySelector(".busy"), fraction(thread.busy, threads[0].busy));
     byId("more-graphs").hidden = listed.length === threads.length;
     byId("graphs-shown").textContent = this.told(listed.length, threads.length);
-    return busiest;
+    return listed;
   }
 
   told(listed, narrowedTo) {
@@ -214,15 +221,15 @@ class Graphs {
   }
 
   makeSection(thread) {
+    const id = `thread-${thread.at}`;
     const numbers = element("span", { className: "busy" }, `busy ${timeText(thread.busy)}`);
-    setBar(numbers, fraction(thread.busy, this.mostBusy));
     const open = thread.open > 0n ? `, ${grouped(thread.open)} open` : "";
     const parts = [numbers, "thread ", nameElement(thread.label), " of process ", nameElement(thread.process.label)];
     if (isLeftOut(thread)) {
-      return element("p", { className: "left-out" }, ...parts, element("span", { className: "hint" }, `${open}, left out: too many frames`));
+      return element("p", { id, className: "left-out" }, ...parts, element("span", { className: "hint" }, `${open}, left out: too many frames`));
     }
     const summary = element("summary", {}, ...parts, element("span", { className: "hint" }, open));
-    return element("details", { ontoggle: () => this.graphOf(thread) }, summary);
+    return element("details", { id, ontoggle: () => this.graphOf(thread) }, summary);
   }
 
   graphOf(thread) {
@@ -253,11 +260,6 @@ class Graphs {
   }
 }
 
-/** Whether a thread is one of some, or is the one that is sought. */
-function isAmong(threads, sought) {
-  const among = new Set([...threads, sought]);
-  return (thread) => among.has(thread);
-}
 function showWarnings() {
   const found = warnings();
   byId("warnings").replaceChildren(...found);
@@ -276,7 +278,7 @@ function start() {
   byId("process").addEventListener("change", chooseProcess);
   byId("thread").addEventListener("change", () => choose("thread", report.threads));
   fillChoice(byId("process"), "all processes", report.processes);
-  fillChoice(byId("thread"), "all threads", report.threads);
+  fillThreads();
   showRows();
   graphs.showLeftOut();
   const busiest = graphs.show().find(hasGraph);

@@ -121,6 +121,10 @@ function shareText(part, whole) {
   return part > 0n && tenths === 0n ? "< 0.1 %" : `${grouped(tenths / 10n)}.${tenths % 10n} %`;
 }
 
+function greatest(numbers) {
+  return numbers.reduce((most, number) => (number > most ? number : most), 0n);
+}
+
 /** A part of a whole as a fraction, for what is drawn. */
 function fraction(part, whole) {
   return whole === 0n ? 0 : Number(part) / Number(whole);

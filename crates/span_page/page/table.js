@@ -28,7 +28,8 @@ function compare(one, other) {
 }
 
 // The kinds of columns: `value` orders the rows, `fill` makes what stands in a cell. Processes and threads keep the report's order. Names
-// are the first column, so that what a row is about is seen on any screen.
+// are the first column, so that what a row is about is seen on any screen. `bar` is how wide a bar is behind a number, as a fraction; it
+// is told the greatest number of all rows that are narrowed to.
 
 const numberColumn = (title, value, more) => ({ title, value, kind: "number", fill: (row) => grouped(value(row)), ...more });
 const textColumn = (title, value) => ({ title, value, fill: (row) => nameElement(value(row)) });
@@ -58,6 +59,7 @@ class Table {
   show(rows, all = rows) {
     this.given = rows;
     this.all = all.length;
+    this.greatest = new Map(this.columns.filter(({ bar }) => bar).map((column) => [column, greatest(rows.map(column.value))]));
     this.sort();
   }
 
@@ -95,7 +97,7 @@ class Table {
     return element("tr", { role: "row" }, ...this.columns.map((column) => {
       const cell = element("td", { role: "cell", className: column.kind ?? "" }, column.fill(row));
       cell.dataset.title = column.title;
-      if (column.bar) setBar(cell, column.bar(row));
+      if (column.bar) setBar(cell, column.bar(row, this.greatest.get(column)));
       return cell;
     }));
   }
