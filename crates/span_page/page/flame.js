@@ -16,11 +16,16 @@ function framesText(count) {
   return count === 1 ? "1 frame" : `${grouped(count)} frames`;
 }
 
+/** The frame with the most time, the first of several; of none it is undefined. */
+function widestOf(frames) {
+  return frames.reduce((widest, frame) => (frame.total > (widest?.total ?? -1n) ? frame : widest), undefined);
+}
+
 class Graph {
   constructor(thread, stacks, isWidestFirst) {
     this.frames = framesOf(`thread ${thread.label}`, stacks);
     this.root = this.zoomed = this.focused = this.frames[0];
-    Object.assign(this, { isWidestFirst, pointed: null, marks: null, history: [], levels: [], width: 0 });
+    Object.assign(this, { isWidestFirst, pointed: null, marks: null, marked: [], history: [], levels: [], width: 0 });
     this.makeElements(thread);
     this.listen();
     this.showUnder();
@@ -28,7 +33,7 @@ class Graph {
 
   makeElements(thread) {
     this.told = element("p", { className: "told", ariaLive: "polite" });
-    this.marked = element("p", { className: "status", role: "status" });
+    this.markedStatus = element("p", { className: "status", role: "status" });
     this.backButton = element("button", { type: "button", onclick: () => this.back() }, "Back");
     this.wholeButton = element("button", { type: "button", onclick: () => this.zoom(this.root) }, "Whole thread");
     this.canvas = element("canvas", { ariaHidden: "true" });
@@ -44,7 +49,7 @@ class Graph {
     ]);
     this.underTitle = element("summary");
     this.element = element("div", { className: "graph" },
-      element("div", { className: "steps" }, this.backButton, this.wholeButton, this.told), this.marked, this.view,
+      element("div", { className: "steps" }, this.backButton, this.wholeButton, this.told), this.markedStatus, this.view,
       element("details", { className: "under" }, this.underTitle, this.under.element));
   }
 
@@ -206,6 +211,7 @@ class Graph {
     this.view.scrollTop = LEVEL * Math.max(0, frame.level - 3);
     this.focus(frame);
     this.showUnder();
+    this.tellMarked();
   }
 
   showUnder() {
@@ -219,23 +225,46 @@ class Graph {
     this.layOut();
   }
 
-  /** Marks the frames whose names pass a test, and tells their time; those under one another count once. Null marks none. */
+  /** Marks the frames whose names pass a test, and tells of them. Null marks none. */
   mark(marks) {
     this.marks = marks;
-    this.marked.textContent = marks === null ? "" : this.markedText();
+    this.marked = marks === null ? [] : this.frames.slice(1).filter((frame) => marks(frame.name));
+    this.tellMarked();
     this.draw();
   }
 
+  /** Tells of the marked frames, and how many of them lie where they aren't drawn. */
+  tellMarked() {
+    const outside = this.marked.filter((frame) => !frame.isWithin(this.zoomed) && !this.zoomed.isWithin(frame)).length;
+    const told = outside === 0 ? "" : `; ${framesText(outside)} outside of what is zoomed into`;
+    this.markedStatus.textContent = this.marks === null ? "" : `${this.markedText()}${told}`;
+  }
+
+  /** The time of the marked frames, of which those under one another count once. */
   markedText() {
-    const covered = new Set();
-    let [count, time] = [0, 0n];
-    for (const frame of this.frames.slice(1)) {
-      const isMarked = this.marks(frame.name);
-      if (isMarked) count += 1;
-      if (isMarked && !covered.has(frame.parent)) time += frame.total;
-      if (isMarked || covered.has(frame.parent)) covered.add(frame);
+    let [time, outermost] = [0n, null];
+    for (const frame of this.marked) {
+      if (outermost !== null && frame.isWithin(outermost)) continue;
+      time += frame.total;
+      outermost = frame;
     }
+    const count = this.marked.length;
     const marked = count === 1 ? "1 frame marked," : `${framesText(count)} marked, together`;
     return `${marked} ${timeText(time)}, ${shareText(time, this.root.total)} of the thread's busy time`;
+  }
+
+  /** Shows a marked frame: leaves the zoom where none is drawn in it, and zooms into the widest where all are narrower than a pixel. */
+  reveal() {
+    this.layOut();
+    if (this.marked.length === 0) return;
+    if (!this.drawnMark()) this.zoom(this.root);
+    if (!this.drawnMark()) this.zoom(widestOf(this.marked));
+    this.focus(this.drawnMark() ?? this.zoomed);
+  }
+
+  /** The widest of the marked frames that are drawn. */
+  drawnMark() {
+    const drawn = this.levels.flat().map((box) => box.frame);
+    return widestOf(drawn.filter((frame) => frame !== this.root && this.marks(frame.name)));
   }
 }

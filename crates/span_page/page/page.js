@@ -255,6 +255,7 @@ class Graphs {
     section.open = true;
     const graph = this.graphOf(thread);
     graph.mark((other) => other === name);
+    graph.reveal();
     graph.view.focus({ preventScroll: true });
     section.scrollIntoView({ block: "start" });
   }

@@ -4,7 +4,7 @@ pub(crate) const HEAD: &str = r#"<!DOCTYPE html>
 <html lang="en">
 <head>
 <meta charset="utf-8">
-<meta http-equiv="Content-Security-Policy" content="default-src 'none'; script-src 'sha256-VCDtodsk6QBKshraugs1m1NCyEuKeEoaYdEEjzLsdZQ='; style-src 'sha256-oK/IBHWaUtSud9EFlUOcNhrx2UHEeV5NpxGaS3CIr9g='; base-uri 'none'; form-action 'none'">
+<meta http-equiv="Content-Security-Policy" content="default-src 'none'; script-src 'sha256-fKoOY5xK9ZyExYe6pDRy9n6Rk1f/cVqEO6uCf38e+w8='; style-src 'sha256-oK/IBHWaUtSud9EFlUOcNhrx2UHEeV5NpxGaS3CIr9g='; base-uri 'none'; form-action 'none'">
 <meta name="viewport" content="width=device-width, initial-scale=1">
 <meta name="color-scheme" content="light dark">
 <title>tracebook</title>
@@ -405,34 +405,44 @@ class Table {
 
 // The frames of a thread's stacks, and the boxes as which they are drawn: a frame is as wide as its time.
 
+/** A frame, which stands at a place among those of its thread; those under it are the next ones, and `size` counts it and them. */
 class Frame {
-  constructor(name, parent) {
-    Object.assign(this, { name, parent, level: parent ? parent.level + 1 : 0, self: 0n, total: 0n, children: [] });
+  constructor(name, parent, at) {
+    Object.assign(this, { name, parent, at, size: 1, level: parent ? parent.level + 1 : 0, self: 0n, total: 0n, children: [] });
+  }
+
+  /** Whether it is another frame or stands under it. */
+  isWithin({ at, size }) {
+    return at <= this.at && this.at < at + size;
   }
 }
 
 /** The frames of a thread, parents before their children. Each of its stacks says how many frames it shares with the one before. */
 function framesOf(label, stacks) {
-  const frames = [new Frame(label, null)];
+  const frames = [new Frame(label, null, 0)];
   const stack = [frames[0]];
   for (const [shared, names, time] of stacks) {
     stack.length = shared + 1;
     for (const name of names) {
-      const frame = new Frame(name, stack.at(-1));
+      const frame = new Frame(name, stack.at(-1), frames.length);
       frame.parent.children.push(frame);
       frames.push(frame);
       stack.push(frame);
     }
     stack.at(-1).self += BigInt(time);
   }
-  addTotals(frames);
+  addUp(frames);
   return frames;
 }
 
-function addTotals(frames) {
+/** Gives each frame the time of those under it, and their number. */
+function addUp(frames) {
   for (const frame of frames.toReversed()) {
     frame.total += frame.self;
-    if (frame.parent) frame.parent.total += frame.total;
+    if (frame.parent) {
+      frame.parent.total += frame.total;
+      frame.parent.size += frame.size;
+    }
   }
 }
 
@@ -479,11 +489,16 @@ function framesText(count) {
   return count === 1 ? "1 frame" : `${grouped(count)} frames`;
 }
 
+/** The frame with the most time, the first of several; of none it is undefined. */
+function widestOf(frames) {
+  return frames.reduce((widest, frame) => (frame.total > (widest?.total ?? -1n) ? frame : widest), undefined);
+}
+
 class Graph {
   constructor(thread, stacks, isWidestFirst) {
     this.frames = framesOf(`thread ${thread.label}`, stacks);
     this.root = this.zoomed = this.focused = this.frames[0];
-    Object.assign(this, { isWidestFirst, pointed: null, marks: null, history: [], levels: [], width: 0 });
+    Object.assign(this, { isWidestFirst, pointed: null, marks: null, marked: [], history: [], levels: [], width: 0 });
     this.makeElements(thread);
     this.listen();
     this.showUnder();
@@ -491,7 +506,7 @@ class Graph {
 
   makeElements(thread) {
     this.told = element("p", { className: "told", ariaLive: "polite" });
-    this.marked = element("p", { className: "status", role: "status" });
+    this.markedStatus = element("p", { className: "status", role: "status" });
     this.backButton = element("button", { type: "button", onclick: () => this.back() }, "Back");
     this.wholeButton = element("button", { type: "button", onclick: () => this.zoom(this.root) }, "Whole thread");
     this.canvas = element("canvas", { ariaHidden: "true" });
@@ -507,7 +522,7 @@ class Graph {
     ]);
     this.underTitle = element("summary");
     this.element = element("div", { className: "graph" },
-      element("div", { className: "steps" }, this.backButton, this.wholeButton, this.told), this.marked, this.view,
+      element("div", { className: "steps" }, this.backButton, this.wholeButton, this.told), this.markedStatus, this.view,
       element("details", { className: "under" }, this.underTitle, this.under.element));
   }
 
@@ -669,6 +684,7 @@ class Graph {
     this.view.scrollTop = LEVEL * Math.max(0, frame.level - 3);
     this.focus(frame);
     this.showUnder();
+    this.tellMarked();
   }
 
   showUnder() {
@@ -682,24 +698,47 @@ class Graph {
     this.layOut();
   }
 
-  /** Marks the frames whose names pass a test, and tells their time; those under one another count once. Null marks none. */
+  /** Marks the frames whose names pass a test, and tells of them. Null marks none. */
   mark(marks) {
     this.marks = marks;
-    this.marked.textContent = marks === null ? "" : this.markedText();
+    this.marked = marks === null ? [] : this.frames.slice(1).filter((frame) => marks(frame.name));
+    this.tellMarked();
     this.draw();
   }
 
+  /** Tells of the marked frames, and how many of them lie where they aren't drawn. */
+  tellMarked() {
+    const outside = this.marked.filter((frame) => !frame.isWithin(this.zoomed) && !this.zoomed.isWithin(frame)).length;
+    const told = outside === 0 ? "" : `; ${framesText(outside)} outside of what is zoomed into`;
+    this.markedStatus.textContent = this.marks === null ? "" : `${this.markedText()}${told}`;
+  }
+
+  /** The time of the marked frames, of which those under one another count once. */
   markedText() {
-    const covered = new Set();
-    let [count, time] = [0, 0n];
-    for (const frame of this.frames.slice(1)) {
-      const isMarked = this.marks(frame.name);
-      if (isMarked) count += 1;
-      if (isMarked && !covered.has(frame.parent)) time += frame.total;
-      if (isMarked || covered.has(frame.parent)) covered.add(frame);
+    let [time, outermost] = [0n, null];
+    for (const frame of this.marked) {
+      if (outermost !== null && frame.isWithin(outermost)) continue;
+      time += frame.total;
+      outermost = frame;
     }
+    const count = this.marked.length;
     const marked = count === 1 ? "1 frame marked," : `${framesText(count)} marked, together`;
     return `${marked} ${timeText(time)}, ${shareText(time, this.root.total)} of the thread's busy time`;
+  }
+
+  /** Shows a marked frame: leaves the zoom where none is drawn in it, and zooms into the widest where all are narrower than a pixel. */
+  reveal() {
+    this.layOut();
+    if (this.marked.length === 0) return;
+    if (!this.drawnMark()) this.zoom(this.root);
+    if (!this.drawnMark()) this.zoom(widestOf(this.marked));
+    this.focus(this.drawnMark() ?? this.zoomed);
+  }
+
+  /** The widest of the marked frames that are drawn. */
+  drawnMark() {
+    const drawn = this.levels.flat().map((box) => box.frame);
+    return widestOf(drawn.filter((frame) => frame !== this.root && this.marks(frame.name)));
   }
 }
 
@@ -960,6 +999,7 @@ class Graphs {
     section.open = true;
     const graph = this.graphOf(thread);
     graph.mark((other) => other === name);
+    graph.reveal();
     graph.view.focus({ preventScroll: true });
     section.scrollIntoView({ block: "start" });
   }
