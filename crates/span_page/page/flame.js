@@ -39,7 +39,7 @@ class Graph {
     this.canvas = element("canvas", { ariaHidden: "true" });
     this.item = element("div", { role: "treeitem", id: `focused-${thread.at}`, className: "unseen" });
     this.spacer = element("div", { className: "spacer", role: "none" }, this.canvas);
-    const label = `Flame graph of thread ${cut(thread.label, 100)}`;
+    const label = `Flame graph of thread ${brief(thread.label, LONGEST_NAME)}`;
     this.view = element("div", { className: "view", role: "tree", tabIndex: 0, ariaLabel: label }, this.spacer, this.item);
     this.view.setAttribute("aria-activedescendant", this.item.id);
     this.under = new Table("names", [
@@ -107,7 +107,7 @@ class Graph {
     ink.fillStyle = text;
     if (this.marks !== null && !isDim) ink.fillRect(x, y + LEVEL - 3, Math.max(1, width - 1), 2);
     const letters = Math.floor((width - 8) / LETTER);
-    if (letters >= 2) this.drawName(ink, cut(shown(frame.name), letters), x, y, width);
+    if (letters >= 2) this.drawName(ink, brief(frame.name, letters), x, y, width);
     if (frame !== this.focused && frame !== this.pointed) return;
     ink.strokeStyle = focus;
     ink.lineWidth = frame === this.focused ? 2 : 1;
@@ -139,7 +139,7 @@ class Graph {
   /** Tells of the frame under the pointer, or else of the focused one. */
   tell() {
     const frame = this.pointed ?? this.focused;
-    this.told.replaceChildren(nameElement(frame.name), element("span", {}, `${this.numbersOf(frame)} of the thread's busy time`));
+    this.told.replaceChildren(nameElement(frame.name, LONGEST_WHOLE), element("span", {}, `${this.numbersOf(frame)} of the thread's busy time`));
     this.describe(this.focused);
     this.backButton.disabled = this.history.length === 0;
     this.wholeButton.disabled = this.zoomed === this.root;
@@ -152,7 +152,7 @@ class Graph {
     this.item.ariaSetSize = String(siblings.length);
     this.item.ariaPosInSet = String(1 + siblings.findIndex((box) => box.frame === frame));
     this.item.ariaExpanded = frame.children.length > 0 ? "true" : null;
-    this.item.textContent = `${cut(shown(frame.name), LONGEST_NAME)}: ${this.numbersOf(frame)}, ${frame.children.length} under it`;
+    this.item.textContent = `${brief(frame.name, LONGEST_NAME)}: ${this.numbersOf(frame)}, ${frame.children.length} under it`;
   }
 
   numbersOf({ self, total }) {

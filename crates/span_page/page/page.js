@@ -88,7 +88,7 @@ function narrow() {
 }
 
 function fillChoice(select, all, items) {
-  const options = items.map((item) => element("option", { value: item.at }, cut(item.label, 80)));
+  const options = items.map((item) => element("option", { value: item.at }, brief(item.label, LONGEST_LABEL)));
   select.replaceChildren(element("option", { value: "" }, all), ...options);
 }
 

@@ -137,9 +137,15 @@ function shown(name) {
   return name === "" ? '""' : name.replace(UNSEEN, (letter) => "\\u" + letter.charCodeAt(0).toString(16).padStart(4, "0"));
 }
 
-/** The beginning of a text with an ellipsis where it is longer; a letter of two code units stays whole. */
+/** A text with an ellipsis for its middle where it is longer; no letter of two code units is divided. */
 function cut(text, most) {
   if (text.length <= most) return text;
-  const isHalf = /[\ud800-\udbff]/.test(text[most - 2] ?? "");
-  return text.slice(0, Math.max(0, most - (isHalf ? 2 : 1))) + "\u2026";
+  const end = Math.floor((most - 1) / 2);
+  const first = text.slice(0, most - 1 - end).replace(/[\ud800-\udbff]$/, "");
+  return `${first}\u2026${text.slice(text.length - end).replace(/^[\udc00-\udfff]/, "")}`;
+}
+
+/** A name as it is shown, cut to so many letters. It is cut before too, so that no long name is looked through each time it is drawn. */
+function brief(name, most) {
+  return cut(shown(cut(name, most)), most);
 }

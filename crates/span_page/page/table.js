@@ -2,8 +2,10 @@
 
 const FIRST_ROWS = 20;
 const MORE_ROWS = 200;
-const LONGEST_NAME = 400;
-const LONGEST_TITLE = 4000;
+// The most letters of a name, of what stands beside names, and of a name that is shown as a whole.
+const LONGEST_NAME = 160;
+const LONGEST_LABEL = 40;
+const LONGEST_WHOLE = 65536;
 
 function element(tag, properties = {}, ...children) {
   const made = Object.assign(document.createElement(tag), properties);
@@ -11,10 +13,9 @@ function element(tag, properties = {}, ...children) {
   return made;
 }
 
-/** A name as an element that keeps the direction of its letters to itself. */
-function nameElement(name) {
-  const text = shown(name);
-  return element("bdi", { title: cut(text, LONGEST_TITLE) }, cut(text, LONGEST_NAME));
+/** A name as an element that keeps the direction of its letters to itself. The whole of a long one is its title. */
+function nameElement(name, most = LONGEST_NAME) {
+  return element("bdi", { title: brief(name, LONGEST_WHOLE) }, brief(name, most));
 }
 
 /** Draws a bar behind what an element says, as wide as a fraction of it. */
@@ -32,9 +33,9 @@ function compare(one, other) {
 // is told the greatest number of all rows that are narrowed to.
 
 const numberColumn = (title, value, more) => ({ title, value, kind: "number", fill: (row) => grouped(value(row)), ...more });
-const textColumn = (title, value) => ({ title, value, fill: (row) => nameElement(value(row)) });
-const nameColumn = (value, more) => ({ ...textColumn("name", value), kind: "name", ...more });
-const listedColumn = (title, value) => ({ title, value: (row) => value(row).at, fill: (row) => nameElement(value(row).label) });
+const textColumn = (title, value) => ({ title, value, fill: (row) => nameElement(value(row), LONGEST_LABEL) });
+const nameColumn = (value, more) => ({ title: "name", value, kind: "name", fill: (row) => nameElement(value(row)), ...more });
+const listedColumn = (title, item) => ({ ...textColumn(title, (row) => item(row).label), value: (row) => item(row).at });
 
 class Table {
   /** `what` is what the rows are, as "names"; `sums` are the columns whose sums are told. The greatest of the first number lead. */

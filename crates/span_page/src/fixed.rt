@@ -4,7 +4,7 @@ pub(crate) const HEAD: &str = r#"<!DOCTYPE html>
 <html lang="en">
 <head>
 <meta charset="utf-8">
-<meta http-equiv="Content-Security-Policy" content="default-src 'none'; script-src 'sha256-fKoOY5xK9ZyExYe6pDRy9n6Rk1f/cVqEO6uCf38e+w8='; style-src 'sha256-oK/IBHWaUtSud9EFlUOcNhrx2UHEeV5NpxGaS3CIr9g='; base-uri 'none'; form-action 'none'">
+<meta http-equiv="Content-Security-Policy" content="default-src 'none'; script-src 'sha256-WpIKoqbeLx47/y0S3gUN+JIAHrWKYdXz2NNWQ/UmoHk='; style-src 'sha256-RanjAhMgVsKsU1v27st4inv8XsSAJb+EcHLTcLkcyVQ='; base-uri 'none'; form-action 'none'">
 <meta name="viewport" content="width=device-width, initial-scale=1">
 <meta name="color-scheme" content="light dark">
 <title>tracebook</title>
@@ -31,6 +31,7 @@ p { margin: 0.25rem 0; }
 #counts { display: flex; flex-wrap: wrap; gap: 0 1.1rem; color: var(--quiet); }
 #counts b { color: var(--text); font-variant-numeric: tabular-nums; }
 .warning { margin: 0.75rem 0; padding: 0.5rem 0.9rem; background: var(--warning); border-left: 4px solid var(--warning-line); }
+.warning li { overflow-wrap: anywhere; }
 .warning ul { margin: 0.25rem 0; padding-left: 1.2rem; }
 #narrowing { position: sticky; top: 0; z-index: 2; display: flex; flex-wrap: wrap; align-items: baseline; gap: 0.4rem 1.2rem;
   padding: 0.6rem 0; background: var(--paper); border-bottom: 1px solid var(--line); }
@@ -57,19 +58,18 @@ td.barred { min-width: 11rem; }
 .barred { background: linear-gradient(var(--bar-color), var(--bar-color)) left / var(--bar) 100% no-repeat; }
 td { max-width: 22rem; overflow: hidden; text-overflow: ellipsis; }
 td.name { width: 99%; min-width: 18rem; max-width: 40rem; white-space: normal; overflow-wrap: anywhere; }
-td.name bdi { display: -webkit-box; -webkit-box-orient: vertical; -webkit-line-clamp: 3; overflow: hidden; }
 button.name { border: 0; padding: 0; line-height: inherit; vertical-align: top; background: none; text-align: left; color: var(--link); }
 button.name:disabled { color: inherit; }
 button.name:hover:enabled { text-decoration: underline; }
 details, .left-out { margin: 0.35rem 0; }
-summary { padding: 0.2rem 0.3rem; cursor: pointer; overflow: hidden; text-overflow: ellipsis; }
+summary { padding: 0.2rem 0.3rem; cursor: pointer; overflow-wrap: anywhere; }
 #graphs > details, #graphs > .left-out, #others > details { border: 1px solid var(--line); border-radius: 6px; padding: 0.2rem 0.6rem; }
 .busy { display: inline-block; min-width: 17rem; margin-right: 0.8rem; padding: 0 0.4rem; font-variant-numeric: tabular-nums; }
 .graph { padding: 0.3rem 0 0.4rem; }
-.steps { display: flex; gap: 0.5rem; align-items: start; min-height: 3rem; }
+.steps { display: flex; gap: 0.5rem; align-items: start; }
 .steps button { white-space: nowrap; }
-.told { flex: 1; min-width: 0; margin: 0; font-variant-numeric: tabular-nums; }
-.told bdi { display: block; font-weight: 600; white-space: nowrap; overflow: hidden; text-overflow: ellipsis; }
+.told { flex: 1; min-width: 0; min-height: 4rem; margin: 0; font-variant-numeric: tabular-nums; }
+.told bdi { display: block; max-height: 2.5rem; overflow-y: auto; font-weight: 600; overflow-wrap: anywhere; }
 .view { overflow-x: hidden; overflow-y: auto; }
 .spacer { position: relative; }
 canvas { position: sticky; top: 0; display: block; width: 100%; }
@@ -104,6 +104,7 @@ canvas { position: sticky; top: 0; display: block; width: 100%; }
   th button { padding: 0; }
   tr { break-inside: avoid; }
   .barred { print-color-adjust: exact; }
+  .told bdi { max-height: none; }
   canvas { height: auto !important; }
   .more, .hint, .steps button { display: none; }
 }
@@ -282,19 +283,27 @@ function shown(name) {
   return name === "" ? '""' : name.replace(UNSEEN, (letter) => "\\u" + letter.charCodeAt(0).toString(16).padStart(4, "0"));
 }
 
-/** The beginning of a text with an ellipsis where it is longer; a letter of two code units stays whole. */
+/** A text with an ellipsis for its middle where it is longer; no letter of two code units is divided. */
 function cut(text, most) {
   if (text.length <= most) return text;
-  const isHalf = /[\ud800-\udbff]/.test(text[most - 2] ?? "");
-  return text.slice(0, Math.max(0, most - (isHalf ? 2 : 1))) + "\u2026";
+  const end = Math.floor((most - 1) / 2);
+  const first = text.slice(0, most - 1 - end).replace(/[\ud800-\udbff]$/, "");
+  return `${first}\u2026${text.slice(text.length - end).replace(/^[\udc00-\udfff]/, "")}`;
+}
+
+/** A name as it is shown, cut to so many letters. It is cut before too, so that no long name is looked through each time it is drawn. */
+function brief(name, most) {
+  return cut(shown(cut(name, most)), most);
 }
 
 // Tables that are sorted by a click on a column, and show a bounded number of rows.
 
 const FIRST_ROWS = 20;
 const MORE_ROWS = 200;
-const LONGEST_NAME = 400;
-const LONGEST_TITLE = 4000;
+// The most letters of a name, of what stands beside names, and of a name that is shown as a whole.
+const LONGEST_NAME = 160;
+const LONGEST_LABEL = 40;
+const LONGEST_WHOLE = 65536;
 
 function element(tag, properties = {}, ...children) {
   const made = Object.assign(document.createElement(tag), properties);
@@ -302,10 +311,9 @@ function element(tag, properties = {}, ...children) {
   return made;
 }
 
-/** A name as an element that keeps the direction of its letters to itself. */
-function nameElement(name) {
-  const text = shown(name);
-  return element("bdi", { title: cut(text, LONGEST_TITLE) }, cut(text, LONGEST_NAME));
+/** A name as an element that keeps the direction of its letters to itself. The whole of a long one is its title. */
+function nameElement(name, most = LONGEST_NAME) {
+  return element("bdi", { title: brief(name, LONGEST_WHOLE) }, brief(name, most));
 }
 
 /** Draws a bar behind what an element says, as wide as a fraction of it. */
@@ -323,9 +331,9 @@ function compare(one, other) {
 // is told the greatest number of all rows that are narrowed to.
 
 const numberColumn = (title, value, more) => ({ title, value, kind: "number", fill: (row) => grouped(value(row)), ...more });
-const textColumn = (title, value) => ({ title, value, fill: (row) => nameElement(value(row)) });
-const nameColumn = (value, more) => ({ ...textColumn("name", value), kind: "name", ...more });
-const listedColumn = (title, value) => ({ title, value: (row) => value(row).at, fill: (row) => nameElement(value(row).label) });
+const textColumn = (title, value) => ({ title, value, fill: (row) => nameElement(value(row), LONGEST_LABEL) });
+const nameColumn = (value, more) => ({ title: "name", value, kind: "name", fill: (row) => nameElement(value(row)), ...more });
+const listedColumn = (title, item) => ({ ...textColumn(title, (row) => item(row).label), value: (row) => item(row).at });
 
 class Table {
   /** `what` is what the rows are, as "names"; `sums` are the columns whose sums are told. The greatest of the first number lead. */
@@ -512,7 +520,7 @@ class Graph {
     this.canvas = element("canvas", { ariaHidden: "true" });
     this.item = element("div", { role: "treeitem", id: `focused-${thread.at}`, className: "unseen" });
     this.spacer = element("div", { className: "spacer", role: "none" }, this.canvas);
-    const label = `Flame graph of thread ${cut(thread.label, 100)}`;
+    const label = `Flame graph of thread ${brief(thread.label, LONGEST_NAME)}`;
     this.view = element("div", { className: "view", role: "tree", tabIndex: 0, ariaLabel: label }, this.spacer, this.item);
     this.view.setAttribute("aria-activedescendant", this.item.id);
     this.under = new Table("names", [
@@ -580,7 +588,7 @@ class Graph {
     ink.fillStyle = text;
     if (this.marks !== null && !isDim) ink.fillRect(x, y + LEVEL - 3, Math.max(1, width - 1), 2);
     const letters = Math.floor((width - 8) / LETTER);
-    if (letters >= 2) this.drawName(ink, cut(shown(frame.name), letters), x, y, width);
+    if (letters >= 2) this.drawName(ink, brief(frame.name, letters), x, y, width);
     if (frame !== this.focused && frame !== this.pointed) return;
     ink.strokeStyle = focus;
     ink.lineWidth = frame === this.focused ? 2 : 1;
@@ -612,7 +620,7 @@ class Graph {
   /** Tells of the frame under the pointer, or else of the focused one. */
   tell() {
     const frame = this.pointed ?? this.focused;
-    this.told.replaceChildren(nameElement(frame.name), element("span", {}, `${this.numbersOf(frame)} of the thread's busy time`));
+    this.told.replaceChildren(nameElement(frame.name, LONGEST_WHOLE), element("span", {}, `${this.numbersOf(frame)} of the thread's busy time`));
     this.describe(this.focused);
     this.backButton.disabled = this.history.length === 0;
     this.wholeButton.disabled = this.zoomed === this.root;
@@ -625,7 +633,7 @@ class Graph {
     this.item.ariaSetSize = String(siblings.length);
     this.item.ariaPosInSet = String(1 + siblings.findIndex((box) => box.frame === frame));
     this.item.ariaExpanded = frame.children.length > 0 ? "true" : null;
-    this.item.textContent = `${cut(shown(frame.name), LONGEST_NAME)}: ${this.numbersOf(frame)}, ${frame.children.length} under it`;
+    this.item.textContent = `${brief(frame.name, LONGEST_NAME)}: ${this.numbersOf(frame)}, ${frame.children.length} under it`;
   }
 
   numbersOf({ self, total }) {
@@ -832,7 +840,7 @@ function narrow() {
 }
 
 function fillChoice(select, all, items) {
-  const options = items.map((item) => element("option", { value: item.at }, cut(item.label, 80)));
+  const options = items.map((item) => element("option", { value: item.at }, brief(item.label, LONGEST_LABEL)));
   select.replaceChildren(element("option", { value: "" }, all), ...options);
 }
 
