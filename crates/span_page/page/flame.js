@@ -3,6 +3,7 @@
 const LEVEL = 20; // the height of a level in CSS pixels
 const MOST_SEEN = 32; // levels; what lies below them is reached by scrolling
 const LETTER = 6.7; // the width of a letter of the frames' font
+const GAP = 14; // between the pointer and what is told beside it
 const TREE_KEYS = { ArrowUp: "above", ArrowDown: "below", ArrowLeft: "before", ArrowRight: "after", Home: "zoomed" };
 
 /** A hue for a name, the same wherever the name stands. */
@@ -39,6 +40,7 @@ class Graph {
     this.canvas = element("canvas", { ariaHidden: "true" });
     this.item = element("div", { role: "treeitem", id: `focused-${thread.at}`, className: "unseen" });
     this.spacer = element("div", { className: "spacer", role: "none" }, this.canvas);
+    this.tip = element("div", { className: "tip", ariaHidden: "true", hidden: true });
     const label = `Flame graph of thread ${brief(thread.label, LONGEST_NAME)}`;
     this.view = element("div", { className: "view", role: "tree", tabIndex: 0, ariaLabel: label }, this.spacer, this.item);
     this.view.setAttribute("aria-activedescendant", this.item.id);
@@ -49,7 +51,8 @@ class Graph {
     ]);
     this.underTitle = element("summary");
     this.element = element("div", { className: "graph" },
-      element("div", { className: "steps" }, this.backButton, this.wholeButton, this.told), this.markedStatus, this.view,
+      element("div", { className: "steps" }, this.backButton, this.wholeButton, this.told), this.markedStatus,
+      element("div", { className: "stage" }, this.view, this.tip),
       element("details", { className: "under" }, this.underTitle, this.under.element));
   }
 
@@ -59,10 +62,11 @@ class Graph {
 
   listen() {
     const redraw = () => this.draw();
-    this.view.addEventListener("scroll", redraw);
-    this.view.addEventListener("focus", () => this.tell());
+    this.view.addEventListener("scroll", () => this.scroll());
+    this.view.addEventListener("focus", () => this.meetFocus());
+    this.view.addEventListener("blur", () => this.showTip(null));
     this.view.addEventListener("keydown", (event) => this.press(event));
-    this.canvas.addEventListener("pointermove", (event) => this.point(this.frameAt(event)));
+    this.canvas.addEventListener("pointermove", (event) => this.point(this.frameAt(event), event));
     this.canvas.addEventListener("pointerleave", () => this.point(null));
     this.canvas.addEventListener("click", (event) => this.zoom(this.frameAt(event) ?? this.zoomed));
     matchMedia("(prefers-color-scheme: dark)").addEventListener("change", redraw);
@@ -128,18 +132,51 @@ class Graph {
     return this.levels[level]?.find(({ x, width }) => x <= event.offsetX && event.offsetX < x + width)?.frame ?? null;
   }
 
-  point(frame) {
-    if (frame === this.pointed) return;
-    this.pointed = frame;
-    this.canvas.style.cursor = frame ? "pointer" : "";
-    this.draw();
+  /** Points at the frame under the pointer, or at none, and tells of it beside the pointer. */
+  point(frame, { offsetX, offsetY } = {}) {
+    if (frame !== this.pointed) {
+      this.pointed = frame;
+      this.canvas.style.cursor = frame ? "pointer" : "";
+      this.draw();
+      this.tell();
+    }
+    this.showTip(frame, { left: offsetX + GAP, top: offsetY - GAP, bottom: offsetY + GAP });
+  }
+
+  /** Tells of a frame beside a part of the view: below it, or above where the window has no room. Of no frame nothing is told. */
+  showTip(frame, { left, top, bottom } = {}) {
+    this.tip.hidden = frame === null;
+    if (frame === null) return;
+    this.tip.replaceChildren(...this.detailsOf(frame, LONGEST_NAME));
+    const { width, height } = this.tip.getBoundingClientRect();
+    const view = this.view.getBoundingClientRect();
+    const isBelow = view.top + bottom + height <= innerHeight;
+    this.tip.style.left = `${Math.max(0, Math.min(left, view.width - width))}px`;
+    this.tip.style.top = `${isBelow ? bottom : top - height}px`;
+  }
+
+  /** Tells of the focused frame beside it. */
+  showFocused() {
+    const box = this.levels[this.focused.level]?.find(({ frame }) => frame === this.focused);
+    const top = LEVEL * this.focused.level - this.view.scrollTop;
+    this.showTip(box ? this.focused : null, { left: box?.x, top: top - 2, bottom: top + LEVEL + 2 });
+  }
+
+  meetFocus() {
     this.tell();
+    if (this.view.matches(":focus-visible")) this.showFocused();
+  }
+
+  /** What is told beside a frame goes with it; the pointer stays where it is, above another frame. */
+  scroll() {
+    this.draw();
+    if (this.pointed) this.point(null);
+    else if (!this.tip.hidden) this.showFocused();
   }
 
   /** Tells of the frame under the pointer, or else of the focused one. */
   tell() {
-    const frame = this.pointed ?? this.focused;
-    this.told.replaceChildren(nameElement(frame.name, LONGEST_WHOLE), element("span", {}, `${this.numbersOf(frame)} of the thread's busy time`));
+    this.told.replaceChildren(...this.detailsOf(this.pointed ?? this.focused, LONGEST_WHOLE));
     this.describe(this.focused);
     this.backButton.disabled = this.history.length === 0;
     this.wholeButton.disabled = this.zoomed === this.root;
@@ -155,6 +192,11 @@ class Graph {
     this.item.textContent = `${brief(frame.name, LONGEST_NAME)}: ${this.numbersOf(frame)}, ${frame.children.length} under it`;
   }
 
+  /** The name of a frame, cut to so many letters, and its numbers. */
+  detailsOf(frame, most) {
+    return [nameElement(frame.name, most), element("span", {}, `${this.numbersOf(frame)} of the thread's busy time`)];
+  }
+
   numbersOf({ self, total }) {
     return `self ${timeText(self)}, total ${timeText(total)}, ${shareText(total, this.root.total)}`;
   }
@@ -165,6 +207,7 @@ class Graph {
     else if (event.key === "Escape" || event.key === "Backspace") this.back();
     else if (event.key in TREE_KEYS) this.focus(this.neighbour(TREE_KEYS[event.key]));
     else return;
+    this.showFocused();
     event.preventDefault();
   }
 
@@ -207,6 +250,7 @@ class Graph {
     this.zoomed = frame;
     this.pointed = null;
     this.focused = frame;
+    this.showTip(null);
     this.layOut();
     this.view.scrollTop = LEVEL * Math.max(0, frame.level - 3);
     this.focus(frame);

@@ -258,6 +258,7 @@ class Graphs {
     graph.reveal();
     graph.view.focus({ preventScroll: true });
     section.scrollIntoView({ block: "start" });
+    graph.showFocused();
   }
 }
 
