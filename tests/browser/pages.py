@@ -54,12 +54,22 @@ class Page:
     """A page that the browser has open."""
 
     def __init__(self, driver, program, words):
-        self.driver = driver
-        with tempfile.NamedTemporaryFile(suffix=".html") as file:
-            subprocess.run([program, "--page", *words], stdin=subprocess.DEVNULL, stdout=file, check=True)
-            driver.get_log("performance")
-            driver.get("file://" + file.name)
+        self.driver, self.file = driver, tempfile.NamedTemporaryFile(suffix=".html")
+        subprocess.run([program, "--page", *words], stdin=subprocess.DEVNULL, stdout=self.file, check=True)
+        self.url = f"file://{self.file.name}"
+        self.open()
+
+    def open(self, fragment=""):
+        """Opens the page anew, with this behind its address."""
+        self.driver.get("about:blank")
+        self.driver.get_log("performance")
+        self.driver.get(self.url + fragment)
         expect("a page that isn't ready", self.run("return document.querySelector('main').ariaBusy"), "false")
+
+    def fragment(self):
+        address = self.run("return location.href")
+        expect("the address without its fragment", address[: len(self.url)], self.url)
+        return address[len(self.url) :]
 
     def run(self, script, *values):
         return self.driver.execute_script(script, *values)
@@ -100,7 +110,7 @@ class Page:
         expect("messages on the console", self.driver.get_log("browser"), [])
         events = [json.loads(entry["message"])["message"] for entry in self.driver.get_log("performance")]
         fetched = [event["params"]["request"]["url"] for event in events if event["method"] == "Network.requestWillBeSent"]
-        expect("what the browser fetched", fetched, [self.driver.current_url])
+        expect("what the browser fetched", fetched, [self.url])
         expect("what the page fetched", self.run("return performance.getEntriesByType('resource').length"), 0)
 
 

@@ -240,10 +240,18 @@ class Graph {
   zoom(frame) {
     if (frame !== this.zoomed) this.history.push(this.zoomed);
     this.open(frame);
+    tellOfChange(this.element);
   }
 
   back() {
     if (this.history.length > 0) this.open(this.history.pop());
+    tellOfChange(this.element);
+  }
+
+  /** Opens a frame as if it had been zoomed into from the whole thread. */
+  start(frame) {
+    this.history = frame === this.root ? [] : [this.root];
+    this.open(frame);
   }
 
   open(frame) {

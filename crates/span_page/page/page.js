@@ -97,15 +97,13 @@ function fillThreads() {
   fillChoice(byId("thread"), "all threads", byBusyTime(report.threads.filter(({ process }) => isOfPlace({ process }))));
 }
 
-function choose(what, items) {
-  narrowed[what] = items[byId(what).value] ?? null;
-  narrow();
-}
-
-function chooseProcess() {
-  narrowed.thread = null;
-  choose("process", report.processes);
+/** Narrows to a process and a thread, or to all where they are null, and shows that they are chosen. */
+function narrowTo(process, thread) {
+  Object.assign(narrowed, { process, thread });
   fillThreads();
+  byId("process").value = process?.at ?? "";
+  byId("thread").value = thread?.at ?? "";
+  narrow();
 }
 
 // The tables
@@ -180,9 +178,13 @@ function hasGraph(thread) {
 class Graphs {
   constructor() {
     this.threads = byBusyTime(report.threads.filter((thread) => isLeftOut(thread) || hasGraph(thread)));
-    Object.assign(this, { sections: new Map(), graphs: new Map(), most: FIRST_GRAPHS, marks: null, sought: null });
+    Object.assign(this, { sections: new Map(), graphs: new Map(), most: FIRST_GRAPHS, marks: null, sought: new Set() });
     byId("more-graphs").onclick = () => this.show(this.most + MORE_GRAPHS);
-    byId("order").onchange = () => this.graphs.forEach((graph) => graph.order(this.isWidestFirst));
+    byId("order").onchange = () => this.order();
+  }
+
+  order() {
+    this.graphs.forEach((graph) => graph.order(this.isWidestFirst));
   }
 
   get isWidestFirst() {
@@ -192,7 +194,7 @@ class Graphs {
   show(most = FIRST_GRAPHS) {
     this.most = most;
     const threads = this.threads.filter((thread) => narrowed.threads.has(thread));
-    const listed = threads.filter((thread, at) => at < most || thread === this.sought);
+    const listed = threads.filter((thread, at) => at < most || this.sought.has(thread));
     byId("graphs").replaceChildren(...listed.map((thread) => this.sectionOf(thread)));
     for (const thread of listed) setBar(this.sectionOf(thread).querySelector(".busy"), fraction(thread.busy, threads[0].busy));
     byId("more-graphs").hidden = listed.length === threads.length;
@@ -247,18 +249,36 @@ class Graphs {
     this.graphs.forEach((graph) => graph.mark(marks));
   }
 
+  /** Opens the graph of a thread, which is listed from now on, however many are busier. */
+  open(thread) {
+    this.sought.add(thread);
+    if (!this.sectionOf(thread).isConnected) this.show(this.most);
+    this.sectionOf(thread).open = true;
+    return this.graphOf(thread);
+  }
+
   /** Opens the graph of a row's thread, with the row's name marked. */
   find({ thread, name }) {
-    const section = this.sectionOf(thread);
-    this.sought = thread;
-    if (!section.isConnected) this.show(this.most);
-    section.open = true;
-    const graph = this.graphOf(thread);
+    const graph = this.open(thread);
     graph.mark((other) => other === name);
     graph.reveal();
     graph.view.focus({ preventScroll: true });
-    section.scrollIntoView({ block: "start" });
+    this.sectionOf(thread).scrollIntoView({ block: "start" });
     graph.showFocused();
+  }
+
+  /** The frames that are zoomed into, each with its thread. */
+  zooms() {
+    return [...this.graphs].map(([thread, { zoomed: frame }]) => ({ thread, frame })).filter(({ frame }) => frame.parent !== null);
+  }
+
+  /** Zooms into these frames, by their places, and out of all others. */
+  showZooms(zooms) {
+    this.graphs.forEach((graph) => graph.start(graph.root));
+    for (const { thread, at } of zooms) {
+      const graph = this.open(thread);
+      graph.start(graph.frames[at] ?? graph.root);
+    }
   }
 }
 
@@ -277,16 +297,22 @@ function start() {
   byId("names").replaceChildren(tables[0].table.element);
   byId("others").replaceChildren(...tables.slice(1).map(({ home }) => home));
   byId("words").addEventListener("input", narrow);
-  byId("process").addEventListener("change", chooseProcess);
-  byId("thread").addEventListener("change", () => choose("thread", report.threads));
+  byId("process").addEventListener("change", () => narrowTo(report.processes[byId("process").value] ?? null, null));
+  byId("thread").addEventListener("change", () => narrowTo(narrowed.process, report.threads[byId("thread").value] ?? null));
   fillChoice(byId("process"), "all processes", report.processes);
-  fillThreads();
-  showRows();
   graphs.showLeftOut();
+  showKeptView();
   const busiest = graphs.show().find(hasGraph);
   if (busiest) graphs.sectionOf(busiest).open = true;
+  listenForViews();
   document.querySelector("main").ariaBusy = "false";
   performance.mark("ready");
+}
+
+function listenForViews() {
+  const main = document.querySelector("main");
+  for (const change of ["input", "change", "viewchange"]) main.addEventListener(change, keepView);
+  addEventListener("hashchange", showKeptView);
 }
 
 start();

@@ -28,6 +28,11 @@ function compare(one, other) {
   return one < other ? -1 : one > other ? 1 : 0;
 }
 
+/** Tells what is around an element that a person has changed the view. */
+function tellOfChange(element) {
+  element.dispatchEvent(new Event("viewchange", { bubbles: true }));
+}
+
 // The kinds of columns: `value` orders the rows, `fill` makes what stands in a cell. Processes and threads keep the report's order. Names
 // are the first column, so that what a row is about is seen on any screen. `bar` is how wide a bar is behind a number, as a fraction; it
 // is told the greatest number of all rows that are narrowed to.
@@ -37,11 +42,17 @@ const textColumn = (title, value) => ({ title, value, fill: (row) => nameElement
 const nameColumn = (value, more) => ({ title: "name", value, kind: "name", fill: (row) => nameElement(value(row)), ...more });
 const listedColumn = (title, item) => ({ ...textColumn(title, (row) => item(row).label), value: (row) => item(row).at });
 
+/** A column as an order names it: its title without the unit. */
+function wordOf(column) {
+  return column.title.split(",")[0];
+}
+
 class Table {
   /** `what` is what the rows are, as "names"; `sums` are the columns whose sums are told. The greatest of the first number lead. */
   constructor(what, columns, sums = []) {
-    const sorted = columns.find(({ kind }) => kind === "number");
-    Object.assign(this, { what, columns, sums, given: [], rows: [], all: 0, sorted, isDescending: true });
+    Object.assign(this, { what, columns, sums, given: [], rows: [], all: 0 });
+    this.order = null;
+    this.firstOrder = this.order;
     this.status = element("p", { className: "status", role: "status" });
     this.head = element("tr", { role: "row" }, ...columns.map((column) => this.headOf(column)));
     this.body = element("tbody", { role: "rowgroup" });
@@ -68,6 +79,19 @@ class Table {
     this.isDescending = this.sorted === column ? !this.isDescending : column.kind === "number";
     this.sorted = column;
     this.sort();
+    tellOfChange(this.element);
+  }
+
+  /** The order as a text, with a hyphen where what is greatest leads. */
+  get order() {
+    return `${this.isDescending ? "-" : ""}${wordOf(this.sorted)}`;
+  }
+
+  /** Takes an order for the rows that are shown next; any other text, or null, is the order at first. */
+  set order(text) {
+    const column = this.columns.find((one) => text === wordOf(one) || text === `-${wordOf(one)}`);
+    this.sorted = column ?? this.columns.find(({ kind }) => kind === "number");
+    this.isDescending = column === undefined || text.startsWith("-");
   }
 
   sort() {

@@ -4,7 +4,7 @@ pub(crate) const HEAD: &str = r#"<!DOCTYPE html>
 <html lang="en">
 <head>
 <meta charset="utf-8">
-<meta http-equiv="Content-Security-Policy" content="default-src 'none'; script-src 'sha256-RnI+/mVoH1dsRRvFJhucTyvpS9eGN3/w6IpiOfDY0wk='; style-src 'sha256-xvFyXKs+0++mS7iAD/vqE4XSTaEjRJI70yUmmNTSU7w='; base-uri 'none'; form-action 'none'">
+<meta http-equiv="Content-Security-Policy" content="default-src 'none'; script-src 'sha256-XcKfeitH6h+7Aumdcs4SuktRJ8q4C26QErGUGsy0R48='; style-src 'sha256-xvFyXKs+0++mS7iAD/vqE4XSTaEjRJI70yUmmNTSU7w='; base-uri 'none'; form-action 'none'">
 <meta name="viewport" content="width=device-width, initial-scale=1">
 <meta name="color-scheme" content="light dark">
 <title>tracebook</title>
@@ -123,13 +123,13 @@ canvas { position: sticky; top: 0; display: block; width: 100%; }
 <noscript><p class="warning">This page shows its numbers with a script, and scripts are off.</p></noscript>
 <section id="warnings" aria-label="Warnings" hidden></section>
 <div id="narrowing" role="search">
-<label>Name <input id="words" type="search" spellcheck="false" autocomplete="off" placeholder="words, or -word to leave out"></label>
+<label>Name <input id="words" type="search" maxlength="2000" spellcheck="false" autocomplete="off" placeholder="words, or -word to leave out"></label>
 <label>Process <select id="process"></select></label>
 <label>Thread <select id="thread"></select></label>
 </div>
 <section aria-labelledby="names-title">
 <h2 id="names-title">Names</h2>
-<p class="hint">Times are whole microseconds. A click on a column sorts; a click on a name marks it in its thread's flame graph.</p>
+<p class="hint">Times are whole microseconds. A click on a column sorts; a click on a name marks it in its thread's flame graph. The address shows the view again.</p>
 <div id="names"></div>
 </section>
 <section aria-labelledby="graphs-title">
@@ -146,7 +146,7 @@ A click or Enter zooms into a frame, Escape or Backspace goes back, arrow keys m
 </main>
 <script type="application/json" id="data">"#;
 
-pub(crate) const TAIL: &str = r#"</script>
+pub(crate) const TAIL: &str = r##"</script>
 <script type="module">
 // Reads the text of a report and that of refusals, and writes numbers and names for people. Times and counts are BigInts, since
 // they may need more digits than a number has.
@@ -330,6 +330,11 @@ function compare(one, other) {
   return one < other ? -1 : one > other ? 1 : 0;
 }
 
+/** Tells what is around an element that a person has changed the view. */
+function tellOfChange(element) {
+  element.dispatchEvent(new Event("viewchange", { bubbles: true }));
+}
+
 // The kinds of columns: `value` orders the rows, `fill` makes what stands in a cell. Processes and threads keep the report's order. Names
 // are the first column, so that what a row is about is seen on any screen. `bar` is how wide a bar is behind a number, as a fraction; it
 // is told the greatest number of all rows that are narrowed to.
@@ -339,11 +344,17 @@ const textColumn = (title, value) => ({ title, value, fill: (row) => nameElement
 const nameColumn = (value, more) => ({ title: "name", value, kind: "name", fill: (row) => nameElement(value(row)), ...more });
 const listedColumn = (title, item) => ({ ...textColumn(title, (row) => item(row).label), value: (row) => item(row).at });
 
+/** A column as an order names it: its title without the unit. */
+function wordOf(column) {
+  return column.title.split(",")[0];
+}
+
 class Table {
   /** `what` is what the rows are, as "names"; `sums` are the columns whose sums are told. The greatest of the first number lead. */
   constructor(what, columns, sums = []) {
-    const sorted = columns.find(({ kind }) => kind === "number");
-    Object.assign(this, { what, columns, sums, given: [], rows: [], all: 0, sorted, isDescending: true });
+    Object.assign(this, { what, columns, sums, given: [], rows: [], all: 0 });
+    this.order = null;
+    this.firstOrder = this.order;
     this.status = element("p", { className: "status", role: "status" });
     this.head = element("tr", { role: "row" }, ...columns.map((column) => this.headOf(column)));
     this.body = element("tbody", { role: "rowgroup" });
@@ -370,6 +381,19 @@ class Table {
     this.isDescending = this.sorted === column ? !this.isDescending : column.kind === "number";
     this.sorted = column;
     this.sort();
+    tellOfChange(this.element);
+  }
+
+  /** The order as a text, with a hyphen where what is greatest leads. */
+  get order() {
+    return `${this.isDescending ? "-" : ""}${wordOf(this.sorted)}`;
+  }
+
+  /** Takes an order for the rows that are shown next; any other text, or null, is the order at first. */
+  set order(text) {
+    const column = this.columns.find((one) => text === wordOf(one) || text === `-${wordOf(one)}`);
+    this.sorted = column ?? this.columns.find(({ kind }) => kind === "number");
+    this.isDescending = column === undefined || text.startsWith("-");
   }
 
   sort() {
@@ -725,10 +749,18 @@ class Graph {
   zoom(frame) {
     if (frame !== this.zoomed) this.history.push(this.zoomed);
     this.open(frame);
+    tellOfChange(this.element);
   }
 
   back() {
     if (this.history.length > 0) this.open(this.history.pop());
+    tellOfChange(this.element);
+  }
+
+  /** Opens a frame as if it had been zoomed into from the whole thread. */
+  start(frame) {
+    this.history = frame === this.root ? [] : [this.root];
+    this.open(frame);
   }
 
   open(frame) {
@@ -796,6 +828,60 @@ class Graph {
     const drawn = this.levels.flat().map((box) => box.frame);
     return widestOf(drawn.filter((frame) => frame !== this.root && this.marks(frame.name)));
   }
+}
+
+// Keeps what is narrowed to, sorted by and zoomed into behind the # of the address, so that a view can be sent along with the page. What
+// stands there is taken like what a person types and chooses, and left out where the page has nothing of that name.
+
+const MOST_ZOOMS = 20;
+
+/** A thread as it stands in an address. */
+function placeOf(thread) {
+  return `${thread.process.number}.${thread.number}`;
+}
+
+/** The view as a text; what is as it was at first isn't in it. */
+function viewText() {
+  const { table } = tables[0];
+  const members = [
+    ["words", byId("words").value],
+    ["process", narrowed.process?.number],
+    ["thread", narrowed.thread && placeOf(narrowed.thread)],
+    ["sort", table.order === table.firstOrder ? null : table.order],
+    ["order", graphs.isWidestFirst ? null : byId("order").value],
+    ...graphs.zooms().map(({ thread, frame }) => ["zoom", `${placeOf(thread)}.${frame.at}`]),
+  ];
+  return new URLSearchParams(members.filter(([, text]) => text)).toString();
+}
+
+function keepView() {
+  const text = viewText();
+  const address = location.href.split("#")[0] + (text === "" ? "" : `#${text}`);
+  if (address === location.href) return;
+  try {
+    history.replaceState(null, "", address);
+  } catch {
+    // Some browsers don't let a page change its address where it stands in a frame, or so often; then the view isn't kept.
+  }
+}
+
+function showKeptView() {
+  const view = new URLSearchParams(location.hash.slice(1));
+  const process = report.processes.find(({ number }) => number === view.get("process")) ?? null;
+  const thread = report.threads.find((one) => placeOf(one) === view.get("thread") && (process ?? one.process) === one.process) ?? null;
+  byId("words").value = (view.get("words") ?? "").slice(0, byId("words").maxLength);
+  byId("order").value = view.get("order") === "name" ? "name" : "widest";
+  tables[0].table.order = view.get("sort");
+  narrowTo(process, thread);
+  graphs.order();
+  graphs.showZooms(view.getAll("zoom").slice(0, MOST_ZOOMS).map(zoomOf).filter((zoom) => zoom !== null));
+}
+
+/** The thread and the place of a frame that an address names, or null where there is no such graph. */
+function zoomOf(text) {
+  const [, place, at] = /^(.+)\.(\d{1,9})$/.exec(text) ?? [];
+  const thread = report.threads.find((one) => placeOf(one) === place);
+  return thread && hasGraph(thread) ? { thread, at: Number(at) } : null;
 }
 
 // Puts the page together: counts and warnings, what narrows, the table of names, the flame graphs, and what else was traced.
@@ -897,15 +983,13 @@ function fillThreads() {
   fillChoice(byId("thread"), "all threads", byBusyTime(report.threads.filter(({ process }) => isOfPlace({ process }))));
 }
 
-function choose(what, items) {
-  narrowed[what] = items[byId(what).value] ?? null;
-  narrow();
-}
-
-function chooseProcess() {
-  narrowed.thread = null;
-  choose("process", report.processes);
+/** Narrows to a process and a thread, or to all where they are null, and shows that they are chosen. */
+function narrowTo(process, thread) {
+  Object.assign(narrowed, { process, thread });
   fillThreads();
+  byId("process").value = process?.at ?? "";
+  byId("thread").value = thread?.at ?? "";
+  narrow();
 }
 
 // The tables
@@ -980,9 +1064,13 @@ function hasGraph(thread) {
 class Graphs {
   constructor() {
     this.threads = byBusyTime(report.threads.filter((thread) => isLeftOut(thread) || hasGraph(thread)));
-    Object.assign(this, { sections: new Map(), graphs: new Map(), most: FIRST_GRAPHS, marks: null, sought: null });
+    Object.assign(this, { sections: new Map(), graphs: new Map(), most: FIRST_GRAPHS, marks: null, sought: new Set() });
     byId("more-graphs").onclick = () => this.show(this.most + MORE_GRAPHS);
-    byId("order").onchange = () => this.graphs.forEach((graph) => graph.order(this.isWidestFirst));
+    byId("order").onchange = () => this.order();
+  }
+
+  order() {
+    this.graphs.forEach((graph) => graph.order(this.isWidestFirst));
   }
 
   get isWidestFirst() {
@@ -992,7 +1080,7 @@ class Graphs {
   show(most = FIRST_GRAPHS) {
     this.most = most;
     const threads = this.threads.filter((thread) => narrowed.threads.has(thread));
-    const listed = threads.filter((thread, at) => at < most || thread === this.sought);
+    const listed = threads.filter((thread, at) => at < most || this.sought.has(thread));
     byId("graphs").replaceChildren(...listed.map((thread) => this.sectionOf(thread)));
     for (const thread of listed) setBar(this.sectionOf(thread).querySelector(".busy"), fraction(thread.busy, threads[0].busy));
     byId("more-graphs").hidden = listed.length === threads.length;
@@ -1047,18 +1135,36 @@ class Graphs {
     this.graphs.forEach((graph) => graph.mark(marks));
   }
 
+  /** Opens the graph of a thread, which is listed from now on, however many are busier. */
+  open(thread) {
+    this.sought.add(thread);
+    if (!this.sectionOf(thread).isConnected) this.show(this.most);
+    this.sectionOf(thread).open = true;
+    return this.graphOf(thread);
+  }
+
   /** Opens the graph of a row's thread, with the row's name marked. */
   find({ thread, name }) {
-    const section = this.sectionOf(thread);
-    this.sought = thread;
-    if (!section.isConnected) this.show(this.most);
-    section.open = true;
-    const graph = this.graphOf(thread);
+    const graph = this.open(thread);
     graph.mark((other) => other === name);
     graph.reveal();
     graph.view.focus({ preventScroll: true });
-    section.scrollIntoView({ block: "start" });
+    this.sectionOf(thread).scrollIntoView({ block: "start" });
     graph.showFocused();
+  }
+
+  /** The frames that are zoomed into, each with its thread. */
+  zooms() {
+    return [...this.graphs].map(([thread, { zoomed: frame }]) => ({ thread, frame })).filter(({ frame }) => frame.parent !== null);
+  }
+
+  /** Zooms into these frames, by their places, and out of all others. */
+  showZooms(zooms) {
+    this.graphs.forEach((graph) => graph.start(graph.root));
+    for (const { thread, at } of zooms) {
+      const graph = this.open(thread);
+      graph.start(graph.frames[at] ?? graph.root);
+    }
   }
 }
 
@@ -1077,20 +1183,26 @@ function start() {
   byId("names").replaceChildren(tables[0].table.element);
   byId("others").replaceChildren(...tables.slice(1).map(({ home }) => home));
   byId("words").addEventListener("input", narrow);
-  byId("process").addEventListener("change", chooseProcess);
-  byId("thread").addEventListener("change", () => choose("thread", report.threads));
+  byId("process").addEventListener("change", () => narrowTo(report.processes[byId("process").value] ?? null, null));
+  byId("thread").addEventListener("change", () => narrowTo(narrowed.process, report.threads[byId("thread").value] ?? null));
   fillChoice(byId("process"), "all processes", report.processes);
-  fillThreads();
-  showRows();
   graphs.showLeftOut();
+  showKeptView();
   const busiest = graphs.show().find(hasGraph);
   if (busiest) graphs.sectionOf(busiest).open = true;
+  listenForViews();
   document.querySelector("main").ariaBusy = "false";
   performance.mark("ready");
+}
+
+function listenForViews() {
+  const main = document.querySelector("main");
+  for (const change of ["input", "change", "viewchange"]) main.addEventListener(change, keepView);
+  addEventListener("hashchange", showKeptView);
 }
 
 start();
 </script>
 </body>
 </html>
-"#;
+"##;
