@@ -4,7 +4,7 @@ pub(crate) const HEAD: &str = r#"<!DOCTYPE html>
 <html lang="en">
 <head>
 <meta charset="utf-8">
-<meta http-equiv="Content-Security-Policy" content="default-src 'none'; script-src 'sha256-XcKfeitH6h+7Aumdcs4SuktRJ8q4C26QErGUGsy0R48='; style-src 'sha256-xvFyXKs+0++mS7iAD/vqE4XSTaEjRJI70yUmmNTSU7w='; base-uri 'none'; form-action 'none'">
+<meta http-equiv="Content-Security-Policy" content="default-src 'none'; script-src 'sha256-XcKfeitH6h+7Aumdcs4SuktRJ8q4C26QErGUGsy0R48='; style-src 'sha256-jCkMMgbJMwL8qvB+96kWIIFOiOUbmf1Tj4mmixJIQso='; base-uri 'none'; form-action 'none'">
 <meta name="viewport" content="width=device-width, initial-scale=1">
 <meta name="color-scheme" content="light dark">
 <title>tracebook</title>
@@ -110,7 +110,7 @@ canvas { position: sticky; top: 0; display: block; width: 100%; }
   .barred { print-color-adjust: exact; }
   .told bdi { max-height: none; }
   canvas { height: auto !important; }
-  .more, .hint, .tip, .steps button { display: none; }
+  .more, p.hint, .tip, .steps button { display: none; }
 }
 </style>
 </head>
