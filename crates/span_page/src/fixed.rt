@@ -4,7 +4,7 @@ pub(crate) const HEAD: &str = r#"<!DOCTYPE html>
 <html lang="en">
 <head>
 <meta charset="utf-8">
-<meta http-equiv="Content-Security-Policy" content="default-src 'none'; script-src 'sha256-XcKfeitH6h+7Aumdcs4SuktRJ8q4C26QErGUGsy0R48='; style-src 'sha256-jCkMMgbJMwL8qvB+96kWIIFOiOUbmf1Tj4mmixJIQso='; base-uri 'none'; form-action 'none'">
+<meta http-equiv="Content-Security-Policy" content="default-src 'none'; script-src 'sha256-XcKfeitH6h+7Aumdcs4SuktRJ8q4C26QErGUGsy0R48='; style-src 'sha256-q8brMQZibRWiDR0P6FRWyJ7ZUGs5Gn2ehJXRnyNPFSo='; base-uri 'none'; form-action 'none'">
 <meta name="viewport" content="width=device-width, initial-scale=1">
 <meta name="color-scheme" content="light dark">
 <title>tracebook</title>
@@ -79,7 +79,7 @@ summary { padding: 0.2rem 0.3rem; cursor: pointer; overflow-wrap: anywhere; }
 canvas { position: sticky; top: 0; display: block; width: 100%; }
 .unseen { position: absolute; width: 1px; height: 1px; overflow: hidden; clip-path: inset(50%); white-space: nowrap; }
 /* On a narrow screen a row stands as a few lines: its name, the number that has a bar, and the others, each behind its title. */
-@media screen and (max-width: 50rem) {
+@media screen and (max-width: 60rem) {
   html { scroll-padding-top: 0.5rem; }
   body { padding: 0 0.9rem 3rem; }
   #narrowing { position: static; }
