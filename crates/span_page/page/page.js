@@ -118,7 +118,8 @@ const category = textColumn("category", (row) => row.category);
 
 function namesTable() {
   const self = numberColumn("self, \u00b5s", (span) => span.self, { bar: (span, most) => fraction(span.self, most) });
-  const share = numberColumn("of busy", (span) => span.self, { fill: (span) => shareText(span.self, span.thread.busy) });
+  const share = numberColumn("of busy", (span) => fraction(span.self, span.thread.busy), {
+    fill: (span) => shareText(span.self, span.thread.busy) });
   const count = numberColumn("count", (span) => span.count);
   const span = nameColumn((row) => row.name, { fill: graphButton });
   const table = new Table("names", [span, self, share, total, count, processColumn, threadColumn], [

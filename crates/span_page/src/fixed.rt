@@ -4,7 +4,7 @@ pub(crate) const HEAD: &str = r#"<!DOCTYPE html>
 <html lang="en">
 <head>
 <meta charset="utf-8">
-<meta http-equiv="Content-Security-Policy" content="default-src 'none'; script-src 'sha256-XcKfeitH6h+7Aumdcs4SuktRJ8q4C26QErGUGsy0R48='; style-src 'sha256-q8brMQZibRWiDR0P6FRWyJ7ZUGs5Gn2ehJXRnyNPFSo='; base-uri 'none'; form-action 'none'">
+<meta http-equiv="Content-Security-Policy" content="default-src 'none'; script-src 'sha256-ZC6+fm9uPntmS4Fju0a/MDQZdxLwAymdk1CKJO1hcxU='; style-src 'sha256-q8brMQZibRWiDR0P6FRWyJ7ZUGs5Gn2ehJXRnyNPFSo='; base-uri 'none'; form-action 'none'">
 <meta name="viewport" content="width=device-width, initial-scale=1">
 <meta name="color-scheme" content="light dark">
 <title>tracebook</title>
@@ -1004,7 +1004,8 @@ const category = textColumn("category", (row) => row.category);
 
 function namesTable() {
   const self = numberColumn("self, \u00b5s", (span) => span.self, { bar: (span, most) => fraction(span.self, most) });
-  const share = numberColumn("of busy", (span) => span.self, { fill: (span) => shareText(span.self, span.thread.busy) });
+  const share = numberColumn("of busy", (span) => fraction(span.self, span.thread.busy), {
+    fill: (span) => shareText(span.self, span.thread.busy) });
   const count = numberColumn("count", (span) => span.count);
   const span = nameColumn((row) => row.name, { fill: graphButton });
   const table = new Table("names", [span, self, share, total, count, processColumn, threadColumn], [
