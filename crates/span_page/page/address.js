@@ -24,7 +24,7 @@ function viewText() {
 
 function keepView() {
   const text = viewText();
-  const address = location.href.split("#")[0] + (text === "" ? "" : `#${text}`);
+  const address = location.href.replace(/#.*$/, "") + (text === "" ? "" : `#${text}`);
   if (address === location.href) return;
   try {
     history.replaceState(null, "", address);

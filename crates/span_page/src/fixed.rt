@@ -4,7 +4,7 @@ pub(crate) const HEAD: &str = r#"<!DOCTYPE html>
 <html lang="en">
 <head>
 <meta charset="utf-8">
-<meta http-equiv="Content-Security-Policy" content="default-src 'none'; script-src 'sha256-ZC6+fm9uPntmS4Fju0a/MDQZdxLwAymdk1CKJO1hcxU='; style-src 'sha256-q8brMQZibRWiDR0P6FRWyJ7ZUGs5Gn2ehJXRnyNPFSo='; base-uri 'none'; form-action 'none'">
+<meta http-equiv="Content-Security-Policy" content="default-src 'none'; script-src 'sha256-1ORmVYlnr9LHTJcRGf4LGROXQ/62jbStBTL/ouNsKII='; style-src 'sha256-q8brMQZibRWiDR0P6FRWyJ7ZUGs5Gn2ehJXRnyNPFSo='; base-uri 'none'; form-action 'none'">
 <meta name="viewport" content="width=device-width, initial-scale=1">
 <meta name="color-scheme" content="light dark">
 <title>tracebook</title>
@@ -146,7 +146,7 @@ A click or Enter zooms into a frame, Escape or Backspace goes back, arrow keys m
 </main>
 <script type="application/json" id="data">"#;
 
-pub(crate) const TAIL: &str = r##"</script>
+pub(crate) const TAIL: &str = r#"</script>
 <script type="module">
 // Reads the text of a report and that of refusals, and writes numbers and names for people. Times and counts are BigInts, since
 // they may need more digits than a number has.
@@ -856,7 +856,7 @@ function viewText() {
 
 function keepView() {
   const text = viewText();
-  const address = location.href.split("#")[0] + (text === "" ? "" : `#${text}`);
+  const address = location.href.replace(/#.*$/, "") + (text === "" ? "" : `#${text}`);
   if (address === location.href) return;
   try {
     history.replaceState(null, "", address);
@@ -1206,4 +1206,4 @@ start();
 </script>
 </body>
 </html>
-"##;
+"#;
