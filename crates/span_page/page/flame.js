@@ -77,6 +77,7 @@ class Graph {
     const width = this.view.clientWidth;
     if (width === 0) return;
     this.width = width;
+    this.showTip(null); // Frames lie elsewhere now.
     this.levels = levelsOf(this.zoomed, width, this.isWidestFirst);
     if (!this.levels[this.focused.level]?.some((box) => box.frame === this.focused)) this.focused = this.zoomed;
     this.canvas.boxes = this.levels; // for scripts that look at the page: what is drawn, level by level, in CSS pixels
@@ -258,7 +259,6 @@ class Graph {
     this.zoomed = frame;
     this.pointed = null;
     this.focused = frame;
-    this.showTip(null);
     this.layOut();
     this.view.scrollTop = LEVEL * Math.max(0, frame.level - 3);
     this.focus(frame);

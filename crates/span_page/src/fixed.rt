@@ -4,7 +4,7 @@ pub(crate) const HEAD: &str = r#"<!DOCTYPE html>
 <html lang="en">
 <head>
 <meta charset="utf-8">
-<meta http-equiv="Content-Security-Policy" content="default-src 'none'; script-src 'sha256-1ORmVYlnr9LHTJcRGf4LGROXQ/62jbStBTL/ouNsKII='; style-src 'sha256-q8brMQZibRWiDR0P6FRWyJ7ZUGs5Gn2ehJXRnyNPFSo='; base-uri 'none'; form-action 'none'">
+<meta http-equiv="Content-Security-Policy" content="default-src 'none'; script-src 'sha256-cwbZ8c0T3GgYOPTn0CBqxJpfFxiwSKHO5rjhF2XqM8I='; style-src 'sha256-q8brMQZibRWiDR0P6FRWyJ7ZUGs5Gn2ehJXRnyNPFSo='; base-uri 'none'; form-action 'none'">
 <meta name="viewport" content="width=device-width, initial-scale=1">
 <meta name="color-scheme" content="light dark">
 <title>tracebook</title>
@@ -586,6 +586,7 @@ class Graph {
     const width = this.view.clientWidth;
     if (width === 0) return;
     this.width = width;
+    this.showTip(null); // Frames lie elsewhere now.
     this.levels = levelsOf(this.zoomed, width, this.isWidestFirst);
     if (!this.levels[this.focused.level]?.some((box) => box.frame === this.focused)) this.focused = this.zoomed;
     this.canvas.boxes = this.levels; // for scripts that look at the page: what is drawn, level by level, in CSS pixels
@@ -767,7 +768,6 @@ class Graph {
     this.zoomed = frame;
     this.pointed = null;
     this.focused = frame;
-    this.showTip(null);
     this.layOut();
     this.view.scrollTop = LEVEL * Math.max(0, frame.level - 3);
     this.focus(frame);
