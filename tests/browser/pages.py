@@ -53,9 +53,10 @@ def resize(driver, width):
 class Page:
     """A page that the browser has open."""
 
-    def __init__(self, driver, program, words):
+    def __init__(self, driver, program, words, status=0):
         self.driver, self.file = driver, tempfile.NamedTemporaryFile(suffix=".html")
-        subprocess.run([program, "--page", *words], stdin=subprocess.DEVNULL, stdout=self.file, check=True)
+        ended = subprocess.run([program, "--page", *words], stdin=subprocess.DEVNULL, stdout=self.file)
+        expect(f"the status of a page of {words}", ended.returncode, status)
         self.url = f"file://{self.file.name}"
         self.open()
 

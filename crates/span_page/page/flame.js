@@ -22,8 +22,16 @@ function widestOf(frames) {
   return frames.reduce((widest, frame) => (frame.total > (widest?.total ?? -1n) ? frame : widest), undefined);
 }
 
+/** A part of a label as a line: a name stands alone, and a detail behind its column. */
+function partElement({ column, value }, most) {
+  const line = valueElement(value, most);
+  if (column === "name") return element("strong", {}, line);
+  return element("span", {}, element("span", { className: "quiet" }, `${brief(column, LONGEST_LABEL)} `), line);
+}
+
 class Graph {
   constructor(thread, stacks, isWidestFirst) {
+    this.thread = thread;
     this.frames = framesOf(`thread ${thread.label}`, stacks);
     this.root = this.zoomed = this.focused = this.frames[0];
     Object.assign(this, { isWidestFirst, pointed: null, marks: null, marked: [], history: [], levels: [], width: 0 });
@@ -45,7 +53,7 @@ class Graph {
     this.view = element("div", { className: "view", role: "tree", tabIndex: 0, ariaLabel: label }, this.spacer, this.item);
     this.view.setAttribute("aria-activedescendant", this.item.id);
     this.under = new Table("names", [
-      nameColumn((frame) => frame.name, { fill: (frame) => this.zoomButton(frame) }),
+      nameColumn((frame) => frame.name, { title: spans.labelTitle, fill: (frame) => this.zoomButton(frame) }),
       numberColumn("total, \u00b5s", (frame) => frame.total, { bar: (frame) => fraction(frame.total, frame.parent.total) }),
       numberColumn("self, \u00b5s", (frame) => frame.self),
     ]);
@@ -193,9 +201,11 @@ class Graph {
     this.item.textContent = `${brief(frame.name, LONGEST_NAME)}: ${this.numbersOf(frame)}, ${frame.children.length} under it`;
   }
 
-  /** The name of a frame, cut to so many letters, and its numbers. */
+  /** The name of a frame, its details apart from it, each cut to so many letters, and its numbers. */
   detailsOf(frame, most) {
-    return [nameElement(frame.name, most), element("span", {}, `${this.numbersOf(frame)} of the thread's busy time`)];
+    const parts = frame === this.root ? plainParts(frame.name) : spans.framePartsOf(frame.name, this.thread);
+    const lines = parts.map((part) => partElement(part, most));
+    return [element("span", { className: "label" }, ...lines), element("span", {}, `${this.numbersOf(frame)} of the thread's busy time`)];
   }
 
   numbersOf({ self, total }) {

@@ -1,4 +1,4 @@
-// Puts the page together: counts and warnings, what narrows, the table of names, the flame graphs, and what else was traced.
+// Puts the page together: counts and warnings, what narrows, the table of spans, the flame graphs, and what else was traced.
 
 const FIRST_GRAPHS = 50;
 const MORE_GRAPHS = 200;
@@ -22,15 +22,15 @@ const REASONS = {
   NameDiffers: "it ends a span of another name than the open one",
 };
 
-const ONE = { events: "event", queries: "query", seals: "seal", processes: "process", threads: "thread" };
+const ONE = { files: "file", events: "event", queries: "query", seals: "seal", processes: "process", threads: "thread" };
 
 const byId = (id) => document.getElementById(id);
-const add = (numbers) => numbers.reduce((sum, number) => sum + number, 0n);
 const data = JSON.parse(byId("data").textContent);
 const report = readReport(data.report);
+const spans = new SpanTable(data.table, report.threads);
 
 function showCounts() {
-  const counts = [...report.counts, ["processes", report.processes.length], ["threads", report.threads.length]];
+  const counts = [["files", spans.files], ...report.counts, ["processes", report.processes.length], ["threads", report.threads.length]];
   const wordOf = (what, count) => (String(count) === "1" ? ONE[what] ?? what : what);
   const items = counts.map(([what, count]) => element("span", {}, element("b", {}, grouped(count)), ` ${wordOf(what, count)}`));
   byId("counts").replaceChildren(...items);
@@ -47,6 +47,10 @@ function warnings() {
   const [, refused] = report.counts.find(([what]) => what === "refused");
   const open = add(report.threads.map((thread) => thread.open));
   const found = [];
+  if (spans.unread > 0) {
+    const text = `Files that are no traces as a whole, of which nothing is here: ${grouped(spans.unread)}. Standard error said why.`;
+    found.push(element("p", { className: "warning" }, text));
+  }
   if (refused > 0n) {
     const text = "Events were refused. Times on their threads can be wrong: where a begin is refused, its end closes another span. "
       + "Elements are counted from 0.";
@@ -59,10 +63,10 @@ function warnings() {
   return found;
 }
 
-// What is narrowed to: rows of a process and a thread, whose names have all of some words and none of others. The threads are
-// those that have such rows in the table of names.
+// What is narrowed to: rows of a process and a thread, whose names have all of some words and none of others, and threads with frames
+// that are labelled so.
 
-const narrowed = { process: null, thread: null, wanted: [], unwanted: [], threads: new Set() };
+const narrowed = { process: null, thread: null, wanted: [], unwanted: [] };
 
 function isNamed(name) {
   const low = name.toLowerCase();
@@ -76,6 +80,19 @@ function isOfPlace({ process = narrowed.process, thread = narrowed.thread }) {
 
 function isNarrowedTo(row) {
   return isOfPlace(row) && isNamed(row.name);
+}
+
+/** A row of spans can be of any thread of its place. */
+function isSpanNarrowedTo({ place, words }) {
+  const isAnywhere = narrowed.process === null && narrowed.thread === null;
+  return isNamed(words) && (isAnywhere || place.threads.some((thread) => isOfPlace({ process: thread.process, thread })));
+}
+
+/** Whether a thread has a frame that is narrowed to; of a graph that is left out nothing is known. */
+function isThreadNarrowedTo(thread) {
+  if (!isOfPlace({ process: thread.process, thread })) return false;
+  const isAnyName = narrowed.wanted.length === 0 && narrowed.unwanted.length === 0;
+  return isAnyName || isLeftOut(thread) || labelsOf(thread).some(isNamed);
 }
 
 function narrow() {
@@ -116,30 +133,43 @@ const open = numberColumn("open", (row) => row.open);
 const id = textColumn("id", (row) => row.id);
 const category = textColumn("category", (row) => row.category);
 
-function namesTable() {
-  const self = numberColumn("self, \u00b5s", (span) => span.self, { bar: (span, most) => fraction(span.self, most) });
-  const share = numberColumn("of busy", (span) => fraction(span.self, span.thread.busy), {
-    fill: (span) => shareText(span.self, span.thread.busy) });
-  const count = numberColumn("count", (span) => span.count);
-  const span = nameColumn((row) => row.name, { fill: graphButton });
-  const table = new Table("names", [span, self, share, total, count, processColumn, threadColumn], [
+function spanTable() {
+  const self = numberColumn("self, \u00b5s", (row) => row.self, { bar: (row, most) => fraction(row.self, most) });
+  const share = numberColumn("of busy", (row) => fraction(row.self, row.place.busy), {
+    fill: (row) => shareText(row.self, row.place.busy) });
+  const count = numberColumn("count", (row) => row.count);
+  const [first, ...others] = keyColumns();
+  const isWide = ({ kind }) => kind !== undefined;
+  const columns = [{ ...first, fill: (row) => graphButton(row, first) }, ...others.filter(isWide)];
+  const table = new Table("rows", [...columns, self, share, total, count, ...others.filter((column) => !isWide(column))], [
     { title: "self", value: self.value, text: timeText },
     { title: "count", value: count.value, text: grouped },
   ]);
-  return { table, rows: report.spans, home: byId("names") };
+  table.onchoose = (row) => graphs.find(row);
+  return { table, rows: spans.rows, home: byId("names"), isShown: isSpanNarrowedTo };
 }
 
-/** The name of a row, which opens the flame graph of its thread where the name is. */
-function graphButton(row) {
-  const button = element("button", { type: "button", className: "name", onclick: () => graphs.find(row) }, nameElement(row.name));
-  button.disabled = !hasGraph(row.thread);
+/** A column for each of a key, those of labels first; these are wide. */
+function keyColumns() {
+  const columns = spans.columns.map((title, at) => {
+    const kind = title === "name" ? "name" : "detail";
+    const fill = (row) => valueElement(row.values[at]);
+    return keyColumn(title, (row) => row.values[at], isOfLabel(title) ? { kind, fill } : {});
+  });
+  return [...columns.filter(({ kind }) => kind), ...columns.filter(({ kind }) => !kind)];
+}
+
+/** What a row has in a column, for keys: a click, which the row gets too, opens a graph that has the row's frames. */
+function graphButton(row, column) {
+  const button = element("button", { type: "button", className: "name" }, column.fill(row));
+  button.disabled = !row.place.threads.some(hasGraph);
   return button;
 }
 
 function otherTable(title, rows, columns) {
   const table = new Table(title.toLowerCase(), columns);
   const home = element("details", {}, element("summary", {}, `${title} (${grouped(rows.length)})`), table.element);
-  return { table, rows, home };
+  return { table, rows, home, isShown: isNarrowedTo };
 }
 
 function otherTables() {
@@ -156,8 +186,7 @@ function otherTables() {
 }
 
 function showRows() {
-  for (const { table, rows } of tables) table.show(rows.filter(isNarrowedTo), rows);
-  narrowed.threads = new Set(tables[0].table.rows.map((row) => row.thread));
+  for (const { table, rows, isShown } of tables) table.show(rows.filter(isShown), rows);
 }
 
 // The flame graphs, of which the busiest threads' are listed, the busiest first
@@ -174,6 +203,14 @@ function isLeftOut(thread) {
 
 function hasGraph(thread) {
   return !isLeftOut(thread) && data.stacks[thread.at].length > 0;
+}
+
+const knownLabels = new Map();
+
+/** The labels of a thread's frames, each once. */
+function labelsOf(thread) {
+  if (!knownLabels.has(thread)) knownLabels.set(thread, [...new Set(data.stacks[thread.at].flatMap(([, labels]) => labels))]);
+  return knownLabels.get(thread);
 }
 
 class Graphs {
@@ -194,7 +231,7 @@ class Graphs {
 
   show(most = FIRST_GRAPHS) {
     this.most = most;
-    const threads = this.threads.filter((thread) => narrowed.threads.has(thread));
+    const threads = this.threads.filter(isThreadNarrowedTo);
     const listed = threads.filter((thread, at) => at < most || this.sought.has(thread));
     byId("graphs").replaceChildren(...listed.map((thread) => this.sectionOf(thread)));
     for (const thread of listed) setBar(this.sectionOf(thread).querySelector(".busy"), fraction(thread.busy, threads[0].busy));
@@ -258,10 +295,14 @@ class Graphs {
     return this.graphOf(thread);
   }
 
-  /** Opens the graph of a row's thread, with the row's name marked. */
-  find({ thread, name }) {
+  /** Opens the graph of the busiest thread that has frames of a row, with these marked; one that is narrowed to comes first. */
+  find({ place, label }) {
+    const threads = this.threads.filter((thread) => hasGraph(thread) && place.threads.includes(thread));
+    const having = threads.filter((thread) => labelsOf(thread).includes(label));
+    const thread = having.find(isThreadNarrowedTo) ?? having[0] ?? threads[0];
+    if (thread === undefined) return;
     const graph = this.open(thread);
-    graph.mark((other) => other === name);
+    graph.mark((other) => other === label);
     graph.reveal();
     graph.view.focus({ preventScroll: true });
     this.sectionOf(thread).scrollIntoView({ block: "start" });
@@ -289,7 +330,7 @@ function showWarnings() {
   byId("warnings").hidden = found.length === 0;
 }
 
-const tables = [namesTable(), ...otherTables()];
+const tables = [spanTable(), ...otherTables()];
 const graphs = new Graphs();
 
 function start() {

@@ -3,6 +3,8 @@
 
 /** Where the JSON text ends that begins at a place of a line. */
 function endOfText(line, start) {
+  const quote = line.indexOf('"', start + 1);
+  if (line[quote - 1] !== "\\") return quote + 1;
   let at = start + 1;
   while (line[at] !== '"') at += line[at] === "\\" ? 2 : 1;
   return at + 1;
@@ -39,9 +41,9 @@ function idOf(word) {
   return quote === 0 ? text : `${text} (process ${word.slice(0, quote - 1)})`;
 }
 
-/** A number with its name, if it has one, as it stands in tables and choices. */
-function labelOf(number, name) {
-  return name === null ? number : `${shown(name)} (${number})`;
+/** A name, or null, and the number with the name, as it stands in tables and choices. */
+function namesOf(number, name) {
+  return { name, label: name === null ? number : `${shown(name)} (${number})` };
 }
 
 /** How each line of a report is read, by its first word; a line stands under the process and the thread that were read last. */
@@ -49,12 +51,10 @@ const READERS = {
   events: (report, words) => report.counts.push(...pairsOf(words)),
   seals: (report, words) => report.counts.push(...pairsOf(words)),
   process: (report, [, number, name]) => report.processes.push({
-    number, at: report.processes.length, label: labelOf(number, nameOf(name)) }),
+    number, at: report.processes.length, ...namesOf(number, nameOf(name)) }),
   thread: (report, [, , number, name, , open, , busy]) => report.threads.push({
-    number, at: report.threads.length, label: labelOf(number, nameOf(name)),
+    number, at: report.threads.length, ...namesOf(number, nameOf(name)),
     process: report.processes.at(-1), open: BigInt(open), busy: BigInt(busy) }),
-  span: (report, [, count, total, self, name]) => report.spans.push({
-    ...standsUnder(report), name: JSON.parse(name), count: BigInt(count), total: BigInt(total), self: BigInt(self) }),
   instant: (report, [, reach, count, name]) => report.instants.push({
     ...standsUnder(report), name: JSON.parse(name), reach: REACHES[reach], count: BigInt(count) }),
   counter: (report, [, , name, id, series, , samples, , least, , greatest, , last]) => report.counters.push({
@@ -79,9 +79,10 @@ function standsUnder(report) {
   return { process: report.processes.at(-1), thread: report.threads.at(-1) };
 }
 
+/** Reads all but the lines of spans, which stand in the table. */
 function readReport(text) {
-  const report = { counts: [], processes: [], threads: [], spans: [], instants: [], counters: [], asyncs: [], flows: [] };
-  for (const line of text.split("\n").slice(1, -1)) {
+  const report = { counts: [], processes: [], threads: [], instants: [], counters: [], asyncs: [], flows: [] };
+  for (const line of text.split("\n").slice(1, -1).filter((one) => !one.startsWith("span "))) {
     const words = wordsOf(line);
     READERS[words[0]](report, words);
   }
@@ -119,6 +120,10 @@ function shareText(part, whole) {
   if (whole === 0n) return "";
   const tenths = (2000n * part + whole) / (2n * whole);
   return part > 0n && tenths === 0n ? "< 0.1 %" : `${grouped(tenths / 10n)}.${tenths % 10n} %`;
+}
+
+function add(numbers) {
+  return numbers.reduce((sum, number) => sum + number, 0n);
 }
 
 function greatest(numbers) {

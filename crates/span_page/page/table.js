@@ -18,6 +18,12 @@ function nameElement(name, most = LONGEST_NAME) {
   return element("bdi", { title: brief(name, LONGEST_WHOLE) }, brief(name, most));
 }
 
+/** A value of a key. What is neither a text nor a number stands back, so that null is another thing than the text "null". */
+function valueElement({ kind, word }, most = LONGEST_NAME) {
+  if (kind === KINDS.text) return nameElement(word, most);
+  return element("span", { className: kind === KINDS.whole ? "" : "quiet" }, word ?? "-");
+}
+
 /** Draws a bar behind what an element says, as wide as a fraction of it. */
 function setBar(element, width) {
   element.classList.add("barred");
@@ -33,13 +39,14 @@ function tellOfChange(element) {
   element.dispatchEvent(new Event("viewchange", { bubbles: true }));
 }
 
-// The kinds of columns: `value` orders the rows, `fill` makes what stands in a cell. Processes and threads keep the report's order. Names
-// are the first column, so that what a row is about is seen on any screen. `bar` is how wide a bar is behind a number, as a fraction; it
-// is told the greatest number of all rows that are narrowed to.
+// The kinds of columns: `value` orders the rows, by `order` if it says how, and `fill` makes what stands in a cell. Processes and threads
+// keep the report's order. Names are the first column, so that what a row is about is seen on any screen. `bar` is how wide a bar is
+// behind a number, as a fraction; it is told the greatest number of all rows that are narrowed to.
 
 const numberColumn = (title, value, more) => ({ title, value, kind: "number", fill: (row) => grouped(value(row)), ...more });
 const textColumn = (title, value) => ({ title, value, fill: (row) => nameElement(value(row), LONGEST_LABEL) });
 const nameColumn = (value, more) => ({ title: "name", value, kind: "name", fill: (row) => nameElement(value(row)), ...more });
+const keyColumn = (title, value, more) => ({ title, value, order: compareValues, fill: (row) => valueElement(value(row), LONGEST_LABEL), ...more });
 const listedColumn = (title, item) => ({ ...textColumn(title, (row) => item(row).label), value: (row) => item(row).at });
 
 /** A column as an order names it: its title without the unit. */
@@ -63,7 +70,7 @@ class Table {
   }
 
   headOf(column) {
-    const button = element("button", { type: "button", onclick: () => this.sortBy(column) }, column.title);
+    const button = element("button", { type: "button", onclick: () => this.sortBy(column) }, brief(column.title, LONGEST_LABEL));
     return element("th", { role: "columnheader", scope: "col", ariaSort: "none", className: column.kind ?? "" }, button);
   }
 
@@ -96,7 +103,8 @@ class Table {
 
   sort() {
     const { sorted, isDescending } = this;
-    this.rows = this.given.toSorted((one, other) => (isDescending ? -1 : 1) * compare(sorted.value(one), sorted.value(other)));
+    const order = sorted.order ?? compare;
+    this.rows = this.given.toSorted((one, other) => (isDescending ? -1 : 1) * order(sorted.value(one), sorted.value(other)));
     this.columns.forEach((column, at) => {
       this.head.cells[at].ariaSort = column !== sorted ? "none" : isDescending ? "descending" : "ascending";
     });
@@ -119,12 +127,17 @@ class Table {
   }
 
   rowOf(row) {
-    return element("tr", { role: "row" }, ...this.columns.map((column) => {
+    return element("tr", { role: "row", onclick: () => this.choose(row) }, ...this.columns.map((column) => {
       const cell = element("td", { role: "cell", className: column.kind ?? "" }, column.fill(row));
-      cell.dataset.title = column.title;
+      cell.dataset.title = brief(column.title, LONGEST_LABEL);
       if (column.bar) setBar(cell, column.bar(row, this.greatest.get(column)));
       return cell;
     }));
+  }
+
+  /** A click on a row chooses it, but for one that ends a selection of text. */
+  choose(row) {
+    if (getSelection().isCollapsed) this.onchoose?.(row);
   }
 
   /** Tells how many rows are shown, and the sums of all that are narrowed to, shown or not. */

@@ -4,7 +4,7 @@ pub(crate) const HEAD: &str = r#"<!DOCTYPE html>
 <html lang="en">
 <head>
 <meta charset="utf-8">
-<meta http-equiv="Content-Security-Policy" content="default-src 'none'; script-src 'sha256-cwbZ8c0T3GgYOPTn0CBqxJpfFxiwSKHO5rjhF2XqM8I='; style-src 'sha256-q8brMQZibRWiDR0P6FRWyJ7ZUGs5Gn2ehJXRnyNPFSo='; base-uri 'none'; form-action 'none'">
+<meta http-equiv="Content-Security-Policy" content="default-src 'none'; script-src 'sha256-UVubcn4EJKGy2UWEHkWgxdazmTUIpxWaOooJbc4+mwU='; style-src 'sha256-uO9OvdklSJNpmd638op5ygwR6B1lQnZHkbDsNlq77O0='; base-uri 'none'; form-action 'none'">
 <meta name="viewport" content="width=device-width, initial-scale=1">
 <meta name="color-scheme" content="light dark">
 <title>tracebook</title>
@@ -42,7 +42,7 @@ select { max-width: 22rem; }
 button { cursor: pointer; }
 button:disabled { cursor: default; color: var(--quiet); }
 :focus-visible { outline: 2px solid var(--focus); outline-offset: 1px; }
-.status, .hint { color: var(--quiet); }
+.status, .hint, .quiet { color: var(--quiet); }
 .status:empty { display: none; }
 .wide { overflow-x: auto; margin: 0.25rem 0; }
 table { border-collapse: collapse; width: 100%; }
@@ -58,6 +58,9 @@ td.barred { min-width: 11rem; }
 .barred { background: linear-gradient(var(--bar-color), var(--bar-color)) left / var(--bar) 100% no-repeat; }
 td { max-width: 22rem; overflow: hidden; text-overflow: ellipsis; }
 td.name { width: 99%; min-width: 18rem; max-width: 40rem; white-space: normal; overflow-wrap: anywhere; }
+td.name:has(+ td.detail) { width: 20%; min-width: 8rem; }
+td.detail { width: 60%; min-width: 14rem; max-width: 40rem; white-space: normal; overflow-wrap: anywhere; }
+#names tbody tr { cursor: pointer; }
 button.name { border: 0; padding: 0; line-height: inherit; vertical-align: top; background: none; text-align: left; color: var(--link); }
 button.name:disabled { color: inherit; }
 button.name:hover:enabled { text-decoration: underline; }
@@ -69,8 +72,8 @@ summary { padding: 0.2rem 0.3rem; cursor: pointer; overflow-wrap: anywhere; }
 .steps { display: flex; gap: 0.5rem; align-items: start; }
 .steps button { white-space: nowrap; }
 .told { flex: 1; min-width: 0; min-height: 4rem; margin: 0; font-variant-numeric: tabular-nums; }
-.told bdi, .tip bdi { display: block; font-weight: 600; overflow-wrap: anywhere; }
-.told bdi { max-height: 2.5rem; overflow-y: auto; }
+.label, .label > * { display: block; overflow-wrap: anywhere; }
+.told .label { max-height: 2.6rem; overflow-y: auto; }
 .stage { position: relative; }
 .tip { position: absolute; z-index: 1; width: max-content; max-width: min(34rem, 100%); padding: 0.3rem 0.6rem; pointer-events: none;
   background: var(--paper); border: 1px solid var(--quiet); border-radius: 4px; font-variant-numeric: tabular-nums; }
@@ -86,9 +89,9 @@ canvas { position: sticky; top: 0; display: block; width: 100%; }
   label, input, select { max-width: 100%; }
   table, thead, tbody, th, td { display: block; }
   tr { display: flex; flex-wrap: wrap; gap: 0 1rem; padding: 0.35rem 0; border-bottom: 1px solid var(--line); }
-  th, td, td.name, td.number, td.barred { width: auto; min-width: 0; max-width: 100%; padding: 0; border: 0; text-align: left;
+  th, td, td.name, td.name:has(+ td.detail), td.detail, td.number, td.barred { width: auto; min-width: 0; max-width: 100%; padding: 0; border: 0; text-align: left;
     white-space: normal; overflow-wrap: anywhere; }
-  td.name, td.barred { flex: 0 0 100%; }
+  td.name, td.detail, td.barred { flex: 0 0 100%; }
   td:empty { display: none; }
   td:not(.name)::before { content: attr(data-title) " "; color: var(--quiet); }
   td.barred::before { color: inherit; }
@@ -103,12 +106,12 @@ canvas { position: sticky; top: 0; display: block; width: 100%; }
   .wide { overflow: visible; }
   th, td { padding: 0.1rem 0.4rem; white-space: normal; }
   td { min-width: 4.5rem; max-width: none; overflow-wrap: anywhere; }
-  td.name { width: auto; min-width: 8rem; max-width: none; }
+  td.name, td.detail, td.name:has(+ td.detail) { width: auto; min-width: 7rem; max-width: none; }
   td.number, td.barred { min-width: 0; white-space: nowrap; }
   th button { padding: 0; }
   tr { break-inside: avoid; }
   .barred { print-color-adjust: exact; }
-  .told bdi { max-height: none; }
+  .told .label { max-height: none; }
   canvas { height: auto !important; }
   .more, p.hint, .tip, .steps button { display: none; }
 }
@@ -123,13 +126,13 @@ canvas { position: sticky; top: 0; display: block; width: 100%; }
 <noscript><p class="warning">This page shows its numbers with a script, and scripts are off.</p></noscript>
 <section id="warnings" aria-label="Warnings" hidden></section>
 <div id="narrowing" role="search">
-<label>Name <input id="words" type="search" maxlength="2000" spellcheck="false" autocomplete="off" placeholder="words, or -word to leave out"></label>
+<label>Words <input id="words" type="search" maxlength="2000" spellcheck="false" autocomplete="off" placeholder="to find, or -word to leave out"></label>
 <label>Process <select id="process"></select></label>
 <label>Thread <select id="thread"></select></label>
 </div>
 <section aria-labelledby="names-title">
-<h2 id="names-title">Names</h2>
-<p class="hint">Times are whole microseconds. A click on a column sorts; a click on a name marks it in its thread's flame graph. The address shows the view again.</p>
+<h2 id="names-title">Spans</h2>
+<p class="hint">Times are whole microseconds. A click on a column sorts; a click on a row marks its frames in a flame graph. The address shows the view again.</p>
 <div id="names"></div>
 </section>
 <section aria-labelledby="graphs-title">
@@ -153,6 +156,8 @@ pub(crate) const TAIL: &str = r#"</script>
 
 /** Where the JSON text ends that begins at a place of a line. */
 function endOfText(line, start) {
+  const quote = line.indexOf('"', start + 1);
+  if (line[quote - 1] !== "\\") return quote + 1;
   let at = start + 1;
   while (line[at] !== '"') at += line[at] === "\\" ? 2 : 1;
   return at + 1;
@@ -189,9 +194,9 @@ function idOf(word) {
   return quote === 0 ? text : `${text} (process ${word.slice(0, quote - 1)})`;
 }
 
-/** A number with its name, if it has one, as it stands in tables and choices. */
-function labelOf(number, name) {
-  return name === null ? number : `${shown(name)} (${number})`;
+/** A name, or null, and the number with the name, as it stands in tables and choices. */
+function namesOf(number, name) {
+  return { name, label: name === null ? number : `${shown(name)} (${number})` };
 }
 
 /** How each line of a report is read, by its first word; a line stands under the process and the thread that were read last. */
@@ -199,12 +204,10 @@ const READERS = {
   events: (report, words) => report.counts.push(...pairsOf(words)),
   seals: (report, words) => report.counts.push(...pairsOf(words)),
   process: (report, [, number, name]) => report.processes.push({
-    number, at: report.processes.length, label: labelOf(number, nameOf(name)) }),
+    number, at: report.processes.length, ...namesOf(number, nameOf(name)) }),
   thread: (report, [, , number, name, , open, , busy]) => report.threads.push({
-    number, at: report.threads.length, label: labelOf(number, nameOf(name)),
+    number, at: report.threads.length, ...namesOf(number, nameOf(name)),
     process: report.processes.at(-1), open: BigInt(open), busy: BigInt(busy) }),
-  span: (report, [, count, total, self, name]) => report.spans.push({
-    ...standsUnder(report), name: JSON.parse(name), count: BigInt(count), total: BigInt(total), self: BigInt(self) }),
   instant: (report, [, reach, count, name]) => report.instants.push({
     ...standsUnder(report), name: JSON.parse(name), reach: REACHES[reach], count: BigInt(count) }),
   counter: (report, [, , name, id, series, , samples, , least, , greatest, , last]) => report.counters.push({
@@ -229,9 +232,10 @@ function standsUnder(report) {
   return { process: report.processes.at(-1), thread: report.threads.at(-1) };
 }
 
+/** Reads all but the lines of spans, which stand in the table. */
 function readReport(text) {
-  const report = { counts: [], processes: [], threads: [], spans: [], instants: [], counters: [], asyncs: [], flows: [] };
-  for (const line of text.split("\n").slice(1, -1)) {
+  const report = { counts: [], processes: [], threads: [], instants: [], counters: [], asyncs: [], flows: [] };
+  for (const line of text.split("\n").slice(1, -1).filter((one) => !one.startsWith("span "))) {
     const words = wordsOf(line);
     READERS[words[0]](report, words);
   }
@@ -271,6 +275,10 @@ function shareText(part, whole) {
   return part > 0n && tenths === 0n ? "< 0.1 %" : `${grouped(tenths / 10n)}.${tenths % 10n} %`;
 }
 
+function add(numbers) {
+  return numbers.reduce((sum, number) => sum + number, 0n);
+}
+
 function greatest(numbers) {
   return numbers.reduce((most, number) => (number > most ? number : most), 0n);
 }
@@ -300,6 +308,124 @@ function brief(name, most) {
   return cut(shown(cut(name, most)), most);
 }
 
+// Reads the table of closed spans, which is JSON Lines: its columns, and rows with a key, whose values stand in the order of the columns,
+// and sums. A key says of which threads a row can be; the frames of a row are those of these threads that have its label.
+
+// Values, each with its kind, which is its place among the kinds as they are ordered, what orders it among those of its kind, and the word
+// that stands for it in a label.
+const KINDS = { missing: 0, null: 1, false: 2, true: 3, whole: 4, text: 5, other: 6 };
+const NOTHING = { kind: KINDS.missing, order: 0, word: null };
+
+/** What a column of a place has of a thread. */
+const PLACES = {
+  pid: (thread) => thread.process.number,
+  tid: (thread) => thread.number,
+  process: (thread) => thread.process.name,
+  thread: (thread) => thread.name,
+};
+
+const isPlace = (column) => Object.hasOwn(PLACES, column);
+const isOfLabel = (column) => column === "name" || column.startsWith("args.");
+
+const textValue = (word) => ({ kind: KINDS.text, order: word, word });
+
+/** The value of a JSON text. */
+function valueOf(text) {
+  if (text.startsWith('"')) return textValue(JSON.parse(text));
+  if (/^-?\d/.test(text)) return { kind: KINDS.whole, order: BigInt(text), word: text };
+  return text === "{}" ? { kind: KINDS.other, order: 0, word: "..." } : { kind: KINDS[text], order: 0, word: text };
+}
+
+function compareValues(one, other) {
+  return compare(one.kind, other.kind) || compare(one.order, other.order);
+}
+
+/** The members of the object on a line, with their JSON texts. The last of them are numbers. */
+function membersOf(line) {
+  const members = new Map();
+  for (let at = 1; at < line.length;) {
+    const colon = endOfText(line, at);
+    const comma = line[colon + 1] === '"' ? endOfText(line, colon + 1) : line.indexOf(",", colon);
+    const end = comma < 0 ? line.length - 1 : comma;
+    members.set(JSON.parse(line.slice(at, colon)), line.slice(colon + 1, end));
+    at = end + 1;
+  }
+  return members;
+}
+
+/** Lists of the items with a key, for each. */
+function byKey(items, keyOf) {
+  const lists = new Map();
+  for (const item of items) {
+    const key = keyOf(item);
+    if (!lists.has(key)) lists.set(key, []);
+    lists.get(key).push(item);
+  }
+  return lists;
+}
+
+/** The threads for each list of what these columns have of them, with their busy time. */
+function placesOf(columns, threads) {
+  const keyOf = (thread) => JSON.stringify(columns.map((column) => PLACES[column](thread)));
+  return new Map([...byKey(threads, keyOf)].map(([key, own]) => [key, { threads: own, busy: add(own.map(({ busy }) => busy)) }]));
+}
+
+const NOWHERE = { threads: [], busy: 0n };
+
+class SpanTable {
+  /** The table of a text, of the spans of these threads. */
+  constructor(text, threads) {
+    const [head, ...lines] = text.split("\n").slice(0, -1);
+    const { columns, files, unread } = JSON.parse(head);
+    const indexesOf = (isAsked) => columns.flatMap((column, at) => (isAsked(column) ? [at] : []));
+    this.inPlace = indexesOf(isPlace);
+    this.inLabel = indexesOf(isOfLabel);
+    this.inWords = indexesOf((column) => !isPlace(column));
+    this.labelTitle = this.inLabel.map((at) => columns[at]).join(" ") || "label";
+    // Values are known by their texts, since most stand in many rows.
+    Object.assign(this, { columns, files, unread, values: new Map(), places: placesOf(columns.filter(isPlace), threads), labelled: null });
+    this.rows = lines.map((line) => this.rowOf(membersOf(line)));
+  }
+
+  /** A row: the values of its key, its sums, the threads that it can be of, its label, and the words that are looked through for it. */
+  rowOf(members) {
+    const values = this.columns.map((column) => this.valueOf(members.get(column)));
+    const textOf = (indexes) => indexes.map((at) => values[at].word).filter((word) => word !== null).join(" ");
+    const [count, total, self] = ["count", "total", "self"].map((name) => BigInt(members.get(name)));
+    const place = this.places.get(JSON.stringify(this.inPlace.map((at) => values[at].word))) ?? NOWHERE;
+    return { values, count, total, self, place, label: textOf(this.inLabel), words: textOf(this.inWords) };
+  }
+
+  valueOf(text) {
+    if (text === undefined) return NOTHING;
+    if (!this.values.has(text)) this.values.set(text, valueOf(text));
+    return this.values.get(text);
+  }
+
+  /** The values that make a row's label, each with its column. */
+  partsOf({ values }) {
+    const parts = this.inLabel.map((at) => ({ column: this.columns[at], value: values[at] }));
+    return parts.filter(({ value }) => value !== NOTHING);
+  }
+
+  /** The same of a frame, by its label and its thread. If several rows have that label by other values, the label is the only part. */
+  framePartsOf(label, thread) {
+    this.labelled ??= byKey(this.rows, (row) => row.label);
+    const rows = (this.labelled.get(label) ?? []).filter(({ place }) => place.threads.includes(thread));
+    const [first, ...others] = rows.map((row) => this.partsOf(row));
+    return first?.length > 0 && others.every((parts) => areAlike(parts, first)) ? first : plainParts(label);
+  }
+}
+
+/** A label that is its only part. */
+function plainParts(label) {
+  return [{ column: "name", value: textValue(label) }];
+}
+
+function areAlike(parts, others) {
+  return parts.length === others.length && parts.every(({ column, value }, at) => column === others[at].column && value === others[at].value);
+}
+
 // Tables that are sorted by a click on a column, and show a bounded number of rows.
 
 const FIRST_ROWS = 20;
@@ -320,6 +446,12 @@ function nameElement(name, most = LONGEST_NAME) {
   return element("bdi", { title: brief(name, LONGEST_WHOLE) }, brief(name, most));
 }
 
+/** A value of a key. What is neither a text nor a number stands back, so that null is another thing than the text "null". */
+function valueElement({ kind, word }, most = LONGEST_NAME) {
+  if (kind === KINDS.text) return nameElement(word, most);
+  return element("span", { className: kind === KINDS.whole ? "" : "quiet" }, word ?? "-");
+}
+
 /** Draws a bar behind what an element says, as wide as a fraction of it. */
 function setBar(element, width) {
   element.classList.add("barred");
@@ -335,13 +467,14 @@ function tellOfChange(element) {
   element.dispatchEvent(new Event("viewchange", { bubbles: true }));
 }
 
-// The kinds of columns: `value` orders the rows, `fill` makes what stands in a cell. Processes and threads keep the report's order. Names
-// are the first column, so that what a row is about is seen on any screen. `bar` is how wide a bar is behind a number, as a fraction; it
-// is told the greatest number of all rows that are narrowed to.
+// The kinds of columns: `value` orders the rows, by `order` if it says how, and `fill` makes what stands in a cell. Processes and threads
+// keep the report's order. Names are the first column, so that what a row is about is seen on any screen. `bar` is how wide a bar is
+// behind a number, as a fraction; it is told the greatest number of all rows that are narrowed to.
 
 const numberColumn = (title, value, more) => ({ title, value, kind: "number", fill: (row) => grouped(value(row)), ...more });
 const textColumn = (title, value) => ({ title, value, fill: (row) => nameElement(value(row), LONGEST_LABEL) });
 const nameColumn = (value, more) => ({ title: "name", value, kind: "name", fill: (row) => nameElement(value(row)), ...more });
+const keyColumn = (title, value, more) => ({ title, value, order: compareValues, fill: (row) => valueElement(value(row), LONGEST_LABEL), ...more });
 const listedColumn = (title, item) => ({ ...textColumn(title, (row) => item(row).label), value: (row) => item(row).at });
 
 /** A column as an order names it: its title without the unit. */
@@ -365,7 +498,7 @@ class Table {
   }
 
   headOf(column) {
-    const button = element("button", { type: "button", onclick: () => this.sortBy(column) }, column.title);
+    const button = element("button", { type: "button", onclick: () => this.sortBy(column) }, brief(column.title, LONGEST_LABEL));
     return element("th", { role: "columnheader", scope: "col", ariaSort: "none", className: column.kind ?? "" }, button);
   }
 
@@ -398,7 +531,8 @@ class Table {
 
   sort() {
     const { sorted, isDescending } = this;
-    this.rows = this.given.toSorted((one, other) => (isDescending ? -1 : 1) * compare(sorted.value(one), sorted.value(other)));
+    const order = sorted.order ?? compare;
+    this.rows = this.given.toSorted((one, other) => (isDescending ? -1 : 1) * order(sorted.value(one), sorted.value(other)));
     this.columns.forEach((column, at) => {
       this.head.cells[at].ariaSort = column !== sorted ? "none" : isDescending ? "descending" : "ascending";
     });
@@ -421,12 +555,17 @@ class Table {
   }
 
   rowOf(row) {
-    return element("tr", { role: "row" }, ...this.columns.map((column) => {
+    return element("tr", { role: "row", onclick: () => this.choose(row) }, ...this.columns.map((column) => {
       const cell = element("td", { role: "cell", className: column.kind ?? "" }, column.fill(row));
-      cell.dataset.title = column.title;
+      cell.dataset.title = brief(column.title, LONGEST_LABEL);
       if (column.bar) setBar(cell, column.bar(row, this.greatest.get(column)));
       return cell;
     }));
+  }
+
+  /** A click on a row chooses it, but for one that ends a selection of text. */
+  choose(row) {
+    if (getSelection().isCollapsed) this.onchoose?.(row);
   }
 
   /** Tells how many rows are shown, and the sums of all that are narrowed to, shown or not. */
@@ -531,8 +670,16 @@ function widestOf(frames) {
   return frames.reduce((widest, frame) => (frame.total > (widest?.total ?? -1n) ? frame : widest), undefined);
 }
 
+/** A part of a label as a line: a name stands alone, and a detail behind its column. */
+function partElement({ column, value }, most) {
+  const line = valueElement(value, most);
+  if (column === "name") return element("strong", {}, line);
+  return element("span", {}, element("span", { className: "quiet" }, `${brief(column, LONGEST_LABEL)} `), line);
+}
+
 class Graph {
   constructor(thread, stacks, isWidestFirst) {
+    this.thread = thread;
     this.frames = framesOf(`thread ${thread.label}`, stacks);
     this.root = this.zoomed = this.focused = this.frames[0];
     Object.assign(this, { isWidestFirst, pointed: null, marks: null, marked: [], history: [], levels: [], width: 0 });
@@ -554,7 +701,7 @@ class Graph {
     this.view = element("div", { className: "view", role: "tree", tabIndex: 0, ariaLabel: label }, this.spacer, this.item);
     this.view.setAttribute("aria-activedescendant", this.item.id);
     this.under = new Table("names", [
-      nameColumn((frame) => frame.name, { fill: (frame) => this.zoomButton(frame) }),
+      nameColumn((frame) => frame.name, { title: spans.labelTitle, fill: (frame) => this.zoomButton(frame) }),
       numberColumn("total, \u00b5s", (frame) => frame.total, { bar: (frame) => fraction(frame.total, frame.parent.total) }),
       numberColumn("self, \u00b5s", (frame) => frame.self),
     ]);
@@ -702,9 +849,11 @@ class Graph {
     this.item.textContent = `${brief(frame.name, LONGEST_NAME)}: ${this.numbersOf(frame)}, ${frame.children.length} under it`;
   }
 
-  /** The name of a frame, cut to so many letters, and its numbers. */
+  /** The name of a frame, its details apart from it, each cut to so many letters, and its numbers. */
   detailsOf(frame, most) {
-    return [nameElement(frame.name, most), element("span", {}, `${this.numbersOf(frame)} of the thread's busy time`)];
+    const parts = frame === this.root ? plainParts(frame.name) : spans.framePartsOf(frame.name, this.thread);
+    const lines = parts.map((part) => partElement(part, most));
+    return [element("span", { className: "label" }, ...lines), element("span", {}, `${this.numbersOf(frame)} of the thread's busy time`)];
   }
 
   numbersOf({ self, total }) {
@@ -884,7 +1033,7 @@ function zoomOf(text) {
   return thread && hasGraph(thread) ? { thread, at: Number(at) } : null;
 }
 
-// Puts the page together: counts and warnings, what narrows, the table of names, the flame graphs, and what else was traced.
+// Puts the page together: counts and warnings, what narrows, the table of spans, the flame graphs, and what else was traced.
 
 const FIRST_GRAPHS = 50;
 const MORE_GRAPHS = 200;
@@ -908,15 +1057,15 @@ const REASONS = {
   NameDiffers: "it ends a span of another name than the open one",
 };
 
-const ONE = { events: "event", queries: "query", seals: "seal", processes: "process", threads: "thread" };
+const ONE = { files: "file", events: "event", queries: "query", seals: "seal", processes: "process", threads: "thread" };
 
 const byId = (id) => document.getElementById(id);
-const add = (numbers) => numbers.reduce((sum, number) => sum + number, 0n);
 const data = JSON.parse(byId("data").textContent);
 const report = readReport(data.report);
+const spans = new SpanTable(data.table, report.threads);
 
 function showCounts() {
-  const counts = [...report.counts, ["processes", report.processes.length], ["threads", report.threads.length]];
+  const counts = [["files", spans.files], ...report.counts, ["processes", report.processes.length], ["threads", report.threads.length]];
   const wordOf = (what, count) => (String(count) === "1" ? ONE[what] ?? what : what);
   const items = counts.map(([what, count]) => element("span", {}, element("b", {}, grouped(count)), ` ${wordOf(what, count)}`));
   byId("counts").replaceChildren(...items);
@@ -933,6 +1082,10 @@ function warnings() {
   const [, refused] = report.counts.find(([what]) => what === "refused");
   const open = add(report.threads.map((thread) => thread.open));
   const found = [];
+  if (spans.unread > 0) {
+    const text = `Files that are no traces as a whole, of which nothing is here: ${grouped(spans.unread)}. Standard error said why.`;
+    found.push(element("p", { className: "warning" }, text));
+  }
   if (refused > 0n) {
     const text = "Events were refused. Times on their threads can be wrong: where a begin is refused, its end closes another span. "
       + "Elements are counted from 0.";
@@ -945,10 +1098,10 @@ function warnings() {
   return found;
 }
 
-// What is narrowed to: rows of a process and a thread, whose names have all of some words and none of others. The threads are
-// those that have such rows in the table of names.
+// What is narrowed to: rows of a process and a thread, whose names have all of some words and none of others, and threads with frames
+// that are labelled so.
 
-const narrowed = { process: null, thread: null, wanted: [], unwanted: [], threads: new Set() };
+const narrowed = { process: null, thread: null, wanted: [], unwanted: [] };
 
 function isNamed(name) {
   const low = name.toLowerCase();
@@ -962,6 +1115,19 @@ function isOfPlace({ process = narrowed.process, thread = narrowed.thread }) {
 
 function isNarrowedTo(row) {
   return isOfPlace(row) && isNamed(row.name);
+}
+
+/** A row of spans can be of any thread of its place. */
+function isSpanNarrowedTo({ place, words }) {
+  const isAnywhere = narrowed.process === null && narrowed.thread === null;
+  return isNamed(words) && (isAnywhere || place.threads.some((thread) => isOfPlace({ process: thread.process, thread })));
+}
+
+/** Whether a thread has a frame that is narrowed to; of a graph that is left out nothing is known. */
+function isThreadNarrowedTo(thread) {
+  if (!isOfPlace({ process: thread.process, thread })) return false;
+  const isAnyName = narrowed.wanted.length === 0 && narrowed.unwanted.length === 0;
+  return isAnyName || isLeftOut(thread) || labelsOf(thread).some(isNamed);
 }
 
 function narrow() {
@@ -1002,30 +1168,43 @@ const open = numberColumn("open", (row) => row.open);
 const id = textColumn("id", (row) => row.id);
 const category = textColumn("category", (row) => row.category);
 
-function namesTable() {
-  const self = numberColumn("self, \u00b5s", (span) => span.self, { bar: (span, most) => fraction(span.self, most) });
-  const share = numberColumn("of busy", (span) => fraction(span.self, span.thread.busy), {
-    fill: (span) => shareText(span.self, span.thread.busy) });
-  const count = numberColumn("count", (span) => span.count);
-  const span = nameColumn((row) => row.name, { fill: graphButton });
-  const table = new Table("names", [span, self, share, total, count, processColumn, threadColumn], [
+function spanTable() {
+  const self = numberColumn("self, \u00b5s", (row) => row.self, { bar: (row, most) => fraction(row.self, most) });
+  const share = numberColumn("of busy", (row) => fraction(row.self, row.place.busy), {
+    fill: (row) => shareText(row.self, row.place.busy) });
+  const count = numberColumn("count", (row) => row.count);
+  const [first, ...others] = keyColumns();
+  const isWide = ({ kind }) => kind !== undefined;
+  const columns = [{ ...first, fill: (row) => graphButton(row, first) }, ...others.filter(isWide)];
+  const table = new Table("rows", [...columns, self, share, total, count, ...others.filter((column) => !isWide(column))], [
     { title: "self", value: self.value, text: timeText },
     { title: "count", value: count.value, text: grouped },
   ]);
-  return { table, rows: report.spans, home: byId("names") };
+  table.onchoose = (row) => graphs.find(row);
+  return { table, rows: spans.rows, home: byId("names"), isShown: isSpanNarrowedTo };
 }
 
-/** The name of a row, which opens the flame graph of its thread where the name is. */
-function graphButton(row) {
-  const button = element("button", { type: "button", className: "name", onclick: () => graphs.find(row) }, nameElement(row.name));
-  button.disabled = !hasGraph(row.thread);
+/** A column for each of a key, those of labels first; these are wide. */
+function keyColumns() {
+  const columns = spans.columns.map((title, at) => {
+    const kind = title === "name" ? "name" : "detail";
+    const fill = (row) => valueElement(row.values[at]);
+    return keyColumn(title, (row) => row.values[at], isOfLabel(title) ? { kind, fill } : {});
+  });
+  return [...columns.filter(({ kind }) => kind), ...columns.filter(({ kind }) => !kind)];
+}
+
+/** What a row has in a column, for keys: a click, which the row gets too, opens a graph that has the row's frames. */
+function graphButton(row, column) {
+  const button = element("button", { type: "button", className: "name" }, column.fill(row));
+  button.disabled = !row.place.threads.some(hasGraph);
   return button;
 }
 
 function otherTable(title, rows, columns) {
   const table = new Table(title.toLowerCase(), columns);
   const home = element("details", {}, element("summary", {}, `${title} (${grouped(rows.length)})`), table.element);
-  return { table, rows, home };
+  return { table, rows, home, isShown: isNarrowedTo };
 }
 
 function otherTables() {
@@ -1042,8 +1221,7 @@ function otherTables() {
 }
 
 function showRows() {
-  for (const { table, rows } of tables) table.show(rows.filter(isNarrowedTo), rows);
-  narrowed.threads = new Set(tables[0].table.rows.map((row) => row.thread));
+  for (const { table, rows, isShown } of tables) table.show(rows.filter(isShown), rows);
 }
 
 // The flame graphs, of which the busiest threads' are listed, the busiest first
@@ -1060,6 +1238,14 @@ function isLeftOut(thread) {
 
 function hasGraph(thread) {
   return !isLeftOut(thread) && data.stacks[thread.at].length > 0;
+}
+
+const knownLabels = new Map();
+
+/** The labels of a thread's frames, each once. */
+function labelsOf(thread) {
+  if (!knownLabels.has(thread)) knownLabels.set(thread, [...new Set(data.stacks[thread.at].flatMap(([, labels]) => labels))]);
+  return knownLabels.get(thread);
 }
 
 class Graphs {
@@ -1080,7 +1266,7 @@ class Graphs {
 
   show(most = FIRST_GRAPHS) {
     this.most = most;
-    const threads = this.threads.filter((thread) => narrowed.threads.has(thread));
+    const threads = this.threads.filter(isThreadNarrowedTo);
     const listed = threads.filter((thread, at) => at < most || this.sought.has(thread));
     byId("graphs").replaceChildren(...listed.map((thread) => this.sectionOf(thread)));
     for (const thread of listed) setBar(this.sectionOf(thread).querySelector(".busy"), fraction(thread.busy, threads[0].busy));
@@ -1144,10 +1330,14 @@ class Graphs {
     return this.graphOf(thread);
   }
 
-  /** Opens the graph of a row's thread, with the row's name marked. */
-  find({ thread, name }) {
+  /** Opens the graph of the busiest thread that has frames of a row, with these marked; one that is narrowed to comes first. */
+  find({ place, label }) {
+    const threads = this.threads.filter((thread) => hasGraph(thread) && place.threads.includes(thread));
+    const having = threads.filter((thread) => labelsOf(thread).includes(label));
+    const thread = having.find(isThreadNarrowedTo) ?? having[0] ?? threads[0];
+    if (thread === undefined) return;
     const graph = this.open(thread);
-    graph.mark((other) => other === name);
+    graph.mark((other) => other === label);
     graph.reveal();
     graph.view.focus({ preventScroll: true });
     this.sectionOf(thread).scrollIntoView({ block: "start" });
@@ -1175,7 +1365,7 @@ function showWarnings() {
   byId("warnings").hidden = found.length === 0;
 }
 
-const tables = [namesTable(), ...otherTables()];
+const tables = [spanTable(), ...otherTables()];
 const graphs = new Graphs();
 
 function start() {

@@ -1,0 +1,117 @@
+// Reads the table of closed spans, which is JSON Lines: its columns, and rows with a key, whose values stand in the order of the columns,
+// and sums. A key says of which threads a row can be; the frames of a row are those of these threads that have its label.
+
+// Values, each with its kind, which is its place among the kinds as they are ordered, what orders it among those of its kind, and the word
+// that stands for it in a label.
+const KINDS = { missing: 0, null: 1, false: 2, true: 3, whole: 4, text: 5, other: 6 };
+const NOTHING = { kind: KINDS.missing, order: 0, word: null };
+
+/** What a column of a place has of a thread. */
+const PLACES = {
+  pid: (thread) => thread.process.number,
+  tid: (thread) => thread.number,
+  process: (thread) => thread.process.name,
+  thread: (thread) => thread.name,
+};
+
+const isPlace = (column) => Object.hasOwn(PLACES, column);
+const isOfLabel = (column) => column === "name" || column.startsWith("args.");
+
+const textValue = (word) => ({ kind: KINDS.text, order: word, word });
+
+/** The value of a JSON text. */
+function valueOf(text) {
+  if (text.startsWith('"')) return textValue(JSON.parse(text));
+  if (/^-?\d/.test(text)) return { kind: KINDS.whole, order: BigInt(text), word: text };
+  return text === "{}" ? { kind: KINDS.other, order: 0, word: "..." } : { kind: KINDS[text], order: 0, word: text };
+}
+
+function compareValues(one, other) {
+  return compare(one.kind, other.kind) || compare(one.order, other.order);
+}
+
+/** The members of the object on a line, with their JSON texts. The last of them are numbers. */
+function membersOf(line) {
+  const members = new Map();
+  for (let at = 1; at < line.length;) {
+    const colon = endOfText(line, at);
+    const comma = line[colon + 1] === '"' ? endOfText(line, colon + 1) : line.indexOf(",", colon);
+    const end = comma < 0 ? line.length - 1 : comma;
+    members.set(JSON.parse(line.slice(at, colon)), line.slice(colon + 1, end));
+    at = end + 1;
+  }
+  return members;
+}
+
+/** Lists of the items with a key, for each. */
+function byKey(items, keyOf) {
+  const lists = new Map();
+  for (const item of items) {
+    const key = keyOf(item);
+    if (!lists.has(key)) lists.set(key, []);
+    lists.get(key).push(item);
+  }
+  return lists;
+}
+
+/** The threads for each list of what these columns have of them, with their busy time. */
+function placesOf(columns, threads) {
+  const keyOf = (thread) => JSON.stringify(columns.map((column) => PLACES[column](thread)));
+  return new Map([...byKey(threads, keyOf)].map(([key, own]) => [key, { threads: own, busy: add(own.map(({ busy }) => busy)) }]));
+}
+
+const NOWHERE = { threads: [], busy: 0n };
+
+class SpanTable {
+  /** The table of a text, of the spans of these threads. */
+  constructor(text, threads) {
+    const [head, ...lines] = text.split("\n").slice(0, -1);
+    const { columns, files, unread } = JSON.parse(head);
+    const indexesOf = (isAsked) => columns.flatMap((column, at) => (isAsked(column) ? [at] : []));
+    this.inPlace = indexesOf(isPlace);
+    this.inLabel = indexesOf(isOfLabel);
+    this.inWords = indexesOf((column) => !isPlace(column));
+    this.labelTitle = this.inLabel.map((at) => columns[at]).join(" ") || "label";
+    // Values are known by their texts, since most stand in many rows.
+    Object.assign(this, { columns, files, unread, values: new Map(), places: placesOf(columns.filter(isPlace), threads), labelled: null });
+    this.rows = lines.map((line) => this.rowOf(membersOf(line)));
+  }
+
+  /** A row: the values of its key, its sums, the threads that it can be of, its label, and the words that are looked through for it. */
+  rowOf(members) {
+    const values = this.columns.map((column) => this.valueOf(members.get(column)));
+    const textOf = (indexes) => indexes.map((at) => values[at].word).filter((word) => word !== null).join(" ");
+    const [count, total, self] = ["count", "total", "self"].map((name) => BigInt(members.get(name)));
+    const place = this.places.get(JSON.stringify(this.inPlace.map((at) => values[at].word))) ?? NOWHERE;
+    return { values, count, total, self, place, label: textOf(this.inLabel), words: textOf(this.inWords) };
+  }
+
+  valueOf(text) {
+    if (text === undefined) return NOTHING;
+    if (!this.values.has(text)) this.values.set(text, valueOf(text));
+    return this.values.get(text);
+  }
+
+  /** The values that make a row's label, each with its column. */
+  partsOf({ values }) {
+    const parts = this.inLabel.map((at) => ({ column: this.columns[at], value: values[at] }));
+    return parts.filter(({ value }) => value !== NOTHING);
+  }
+
+  /** The same of a frame, by its label and its thread. If several rows have that label by other values, the label is the only part. */
+  framePartsOf(label, thread) {
+    this.labelled ??= byKey(this.rows, (row) => row.label);
+    const rows = (this.labelled.get(label) ?? []).filter(({ place }) => place.threads.includes(thread));
+    const [first, ...others] = rows.map((row) => this.partsOf(row));
+    return first?.length > 0 && others.every((parts) => areAlike(parts, first)) ? first : plainParts(label);
+  }
+}
+
+/** A label that is its only part. */
+function plainParts(label) {
+  return [{ column: "name", value: textValue(label) }];
+}
+
+function areAlike(parts, others) {
+  return parts.length === others.length && parts.every(({ column, value }, at) => column === others[at].column && value === others[at].value);
+}
