@@ -5,7 +5,7 @@ use Rattle.std.proofs.lemmas.Bool.Decides.{nat_tests}
 use Rattle.span_event.specs.declared.thread.Thread.{Thread}
 use Rattle.span_ledger.specs.declared.entry.Entry.{Entry}
 use Rattle.span_report.specs.Stacks.Folded.{thread_frame_count}
-use Rattle.span_report.specs.Stacks.Labels.{by_name}
+use Rattle.span_report.specs.declared.stacks.label.SpanColumn.{SpanColumn}
 use Rattle.span_page.specs.Data.{graph_json, left_after, thread_json}
 
 fits : (left frames : ℕ) → frames ≤ left → nat_lt left frames ≡ false
@@ -14,15 +14,15 @@ fits left frames within = grind (arith, nat_tests)
 exceeds : (left frames : ℕ) → left < frames → nat_lt left frames ≡ true
 exceeds left frames more = grind (arith, nat_tests)
 
-module _ (journal : List Entry) (left : ℕ) (thread : Thread) where
-  pub graph-stands : thread_frame_count by_name journal thread ≤ left → graph_json journal left thread ≡ thread_json journal thread
-  graph-stands within = ap (λ b. cond b (codes "null") (thread_json journal thread)) (fits left (thread_frame_count by_name journal thread) within)
+module _ (labels : List SpanColumn) (journal : List Entry) (left : ℕ) (thread : Thread) where
+  pub graph-stands : thread_frame_count labels journal thread ≤ left → graph_json labels journal left thread ≡ thread_json labels journal thread
+  graph-stands within = ap (λ b. cond b (codes "null") (thread_json labels journal thread)) (fits left (thread_frame_count labels journal thread) within)
 
-  pub left-stands : thread_frame_count by_name journal thread ≤ left → left_after journal left thread ≡ left - thread_frame_count by_name journal thread
-  left-stands within = ap (λ b. cond b left (left - thread_frame_count by_name journal thread)) (fits left (thread_frame_count by_name journal thread) within)
+  pub left-stands : thread_frame_count labels journal thread ≤ left → left_after labels journal left thread ≡ left - thread_frame_count labels journal thread
+  left-stands within = ap (λ b. cond b left (left - thread_frame_count labels journal thread)) (fits left (thread_frame_count labels journal thread) within)
 
-  pub graph-none : left < thread_frame_count by_name journal thread → graph_json journal left thread ≡ codes "null"
-  graph-none more = ap (λ b. cond b (codes "null") (thread_json journal thread)) (exceeds left (thread_frame_count by_name journal thread) more)
+  pub graph-none : left < thread_frame_count labels journal thread → graph_json labels journal left thread ≡ codes "null"
+  graph-none more = ap (λ b. cond b (codes "null") (thread_json labels journal thread)) (exceeds left (thread_frame_count labels journal thread) more)
 
-  pub left-none : left < thread_frame_count by_name journal thread → left_after journal left thread ≡ left
-  left-none more = ap (λ b. cond b left (left - thread_frame_count by_name journal thread)) (exceeds left (thread_frame_count by_name journal thread) more)
+  pub left-none : left < thread_frame_count labels journal thread → left_after labels journal left thread ≡ left
+  left-none more = ap (λ b. cond b left (left - thread_frame_count labels journal thread)) (exceeds left (thread_frame_count labels journal thread) more)

@@ -5,6 +5,7 @@ use Rattle.std.proofs.Math.Facts.{no_eqb}
 use Rattle.std.specs.List.{join_with_byte}
 use Rattle.json.specs.Print.{escape}
 use Rattle.span_ledger.specs.declared.entry.Entry.{Entry}
+use Rattle.span_report.specs.declared.stacks.label.SpanColumn.{SpanColumn}
 use Rattle.span_ledger.specs.Parts.{process_parts}
 use Rattle.span_report.specs.Lines.{json_text_of}
 use Rattle.span_page.specs.Data.{all_stacks_json, graphs_json, most_frames, threads_of}
@@ -78,22 +79,24 @@ unfolding json_text_of
 safe-json text rest = safe_after-append 34 refl refl rest zero (34 ∷ escape text) (omega (arith))
 
 -- the stacks of threads, and what is behind them
-safe-stacks : (journal : List Entry) (rest : List ℕ) → safe (all_stacks_json journal ++ rest) ≡ safe (all_stacks_json journal) ++ safe rest
+safe-stacks : (labels : List SpanColumn) (journal : List Entry) (rest : List ℕ) → safe (all_stacks_json labels journal ++ rest) ≡ safe (all_stacks_json labels journal) ++ safe rest
 unfolding all_stacks_json
-safe-stacks journal rest =
-    safe_after-append 93 refl refl rest zero (91 ∷ join_with_byte 44 (graphs_json journal most_frames (threads_of (process_parts journal)))) (omega (arith))
+safe-stacks labels journal rest =
+    safe_after-append 93 refl refl rest zero (91 ∷ join_with_byte 44 (graphs_json labels journal most_frames (threads_of (process_parts journal)))) (omega (arith))
 
 -- the data with escapes, from its pieces
-pub safe-data : (report refused : List ℕ) (journal : List Entry) →
-    safe (codes "{\"report\":" ++ (json_text_of report ++ (codes ",\"refused\":" ++ (json_text_of refused ++ (codes ",\"stacks\":" ++ (all_stacks_json journal ++ codes "}"))))))
-    ≡ codes "{\"report\":" ++ (safe (json_text_of report) ++ (codes ",\"refused\":" ++ (safe (json_text_of refused) ++ (codes ",\"stacks\":" ++ (safe (all_stacks_json journal) ++ codes "}")))))
+pub safe-data : (report table refused : List ℕ) (labels : List SpanColumn) (journal : List Entry) →
+    safe (codes "{\"report\":" ++ (json_text_of report ++ (codes ",\"table\":" ++ (json_text_of table ++ (codes ",\"refused\":" ++ (json_text_of refused ++ (codes ",\"stacks\":" ++ (all_stacks_json labels journal ++ codes "}"))))))))
+    ≡ codes "{\"report\":" ++ (safe (json_text_of report) ++ (codes ",\"table\":" ++ (safe (json_text_of table) ++ (codes ",\"refused\":" ++ (safe (json_text_of refused) ++ (codes ",\"stacks\":" ++ (safe (all_stacks_json labels journal) ++ codes "}")))))))
 unfolding safe_byte
-safe-data report refused journal =
-    let stacks = codes ",\"stacks\":" ++ (all_stacks_json journal ++ codes "}") in
-    ap (λ (t : List ℕ). codes "{\"report\":" ++ t) (safe-json report (codes ",\"refused\":" ++ (json_text_of refused ++ stacks))
-    ∙ ap (λ (t : List ℕ). safe (json_text_of report) ++ (codes ",\"refused\":" ++ t)) (safe-json refused stacks
-    ∙ ap (λ (t : List ℕ). safe (json_text_of refused) ++ (codes ",\"stacks\":" ++ t)) (safe-stacks journal (codes "}"))))
+safe-data report table refused labels journal =
+    let stacks = codes ",\"stacks\":" ++ (all_stacks_json labels journal ++ codes "}") in
+    let refusals = codes ",\"refused\":" ++ (json_text_of refused ++ stacks) in
+    ap (λ (t : List ℕ). codes "{\"report\":" ++ t) (safe-json report (codes ",\"table\":" ++ (json_text_of table ++ refusals))
+    ∙ ap (λ (t : List ℕ). safe (json_text_of report) ++ (codes ",\"table\":" ++ t)) (safe-json table refusals
+    ∙ ap (λ (t : List ℕ). safe (json_text_of table) ++ (codes ",\"refused\":" ++ t)) (safe-json refused stacks
+    ∙ ap (λ (t : List ℕ). safe (json_text_of refused) ++ (codes ",\"stacks\":" ++ t)) (safe-stacks labels journal (codes "}")))))
 
 -- pieces that are appended one by one
-pub append-seven : (o a b c d e f g : List ℕ) → ((((((o ++ a) ++ b) ++ c) ++ d) ++ e) ++ f) ++ g ≡ o ++ (a ++ (b ++ (c ++ (d ++ (e ++ (f ++ g))))))
-append-seven o a b c d e f g = simp append_assoc refl
+pub append-nine : (o a b c d e f g h i : List ℕ) → ((((((((o ++ a) ++ b) ++ c) ++ d) ++ e) ++ f) ++ g) ++ h) ++ i ≡ o ++ (a ++ (b ++ (c ++ (d ++ (e ++ (f ++ (g ++ (h ++ i))))))))
+append-nine o a b c d e f g h i = simp append_assoc refl

@@ -6,7 +6,7 @@ use Rattle.span_ledger.specs.Parts.{process_parts}
 use Rattle.span_ledger.specs.Topics.{AreAlike}
 use Rattle.span_ledger.proofs.Topics.Rows.{rows-follow}
 use Rattle.span_report.specs.Lines.{json_text_of}
-use Rattle.span_report.specs.Stacks.Labels.{by_name}
+use Rattle.span_report.specs.declared.stacks.label.SpanColumn.{SpanColumn}
 use Rattle.span_report.specs.Stacks.Laws.{HaveSameStacks}
 use Rattle.span_report.specs.Stacks.Microseconds.{Folded}
 use Rattle.span_report.proofs.SameReports.{report_of-alike}
@@ -17,28 +17,29 @@ use Rattle.span_page.specs.Page.{head_text, page_of, tail_text}
 use Rattle.span_page.specs.Safe.{safe}
 
 -- the same graphs fit into what is left
-module _ (journal other : List Entry) (same : HaveSameStacks journal other) where
-  graph_json-alike : (left : ℕ) (thread : Thread) → graph_json journal left thread ≡ graph_json other left thread
-  graph_json-alike left thread = ap₂ (λ (count : ℕ) (stacks : List Folded). cond (nat_lt left count) (codes "null") (stacks_json stacks)) (same.frames by_name thread) (same.stacks by_name thread)
+module _ (labels : List SpanColumn) (journal other : List Entry) (same : HaveSameStacks journal other) where
+  graph_json-alike : (left : ℕ) (thread : Thread) → graph_json labels journal left thread ≡ graph_json labels other left thread
+  graph_json-alike left thread = ap₂ (λ (count : ℕ) (stacks : List Folded). cond (nat_lt left count) (codes "null") (stacks_json stacks)) (same.frames labels thread) (same.stacks labels thread)
 
-  left_after-alike : (left : ℕ) (thread : Thread) → left_after journal left thread ≡ left_after other left thread
-  left_after-alike left thread = ap (λ (count : ℕ). cond (nat_lt left count) left (left - count)) (same.frames by_name thread)
+  left_after-alike : (left : ℕ) (thread : Thread) → left_after labels journal left thread ≡ left_after labels other left thread
+  left_after-alike left thread = ap (λ (count : ℕ). cond (nat_lt left count) left (left - count)) (same.frames labels thread)
 
-  graphs_json-alike : (left : ℕ) (threads : List Thread) → graphs_json journal left threads ≡ graphs_json other left threads
+  graphs_json-alike : (left : ℕ) (threads : List Thread) → graphs_json labels journal left threads ≡ graphs_json labels other left threads
   graphs_json-alike left [] = refl
   graphs_json-alike left (thread ∷ later) =
       ap₂ (λ (graph : List ℕ) (graphs : List (List ℕ)). graph ∷ graphs) (graph_json-alike left thread)
-      (graphs_json-alike (left_after journal left thread) later ∙ ap (λ rest. graphs_json other rest later) (left_after-alike left thread))
+      (graphs_json-alike (left_after labels journal left thread) later ∙ ap (λ rest. graphs_json labels other rest later) (left_after-alike left thread))
 
-all_stacks_json-alike : (journal other : List Entry) → AreAlike journal other → all_stacks_json journal ≡ all_stacks_json other
+all_stacks_json-alike : (labels : List SpanColumn) (journal other : List Entry) → AreAlike journal other → all_stacks_json labels journal ≡ all_stacks_json labels other
 unfolding all_stacks_json
-all_stacks_json-alike journal other alike =
-    ap array_of (graphs_json-alike journal other (stacks-alike journal other alike) most_frames (threads_of (process_parts journal))
-    ∙ ap (λ parts. graphs_json other most_frames (threads_of parts)) (rows-follow journal other alike).parts)
+all_stacks_json-alike labels journal other alike =
+    ap array_of (graphs_json-alike labels journal other (stacks-alike journal other alike) most_frames (threads_of (process_parts journal))
+    ∙ ap (λ parts. graphs_json labels other most_frames (threads_of parts)) (rows-follow journal other alike).parts)
 
 pub page_of-alike : PagesFollowFromActs
 unfolding page_of
-page_of-alike files ends others journal other alike refusals = λ i. head_text ++ (safe (
+page_of-alike labels table files ends others journal other alike refusals = λ i. head_text ++ (safe (
     codes "{\"report\":" ++ (json_text_of (report_of-alike journal other alike i)
+    ++ (codes ",\"table\":" ++ (json_text_of table
     ++ (codes ",\"refused\":" ++ (json_text_of (refusals i)
-    ++ (codes ",\"stacks\":" ++ (all_stacks_json-alike journal other alike i ++ codes "}")))))) ++ tail_text)
+    ++ (codes ",\"stacks\":" ++ (all_stacks_json-alike labels journal other alike i ++ codes "}")))))))) ++ tail_text)

@@ -7,7 +7,7 @@ use Rattle.span_ledger.specs.Parts.{ProcessRows, ThreadRows, process_parts}
 use Rattle.span_report.specs.Lines.{json_text_of}
 use Rattle.span_report.specs.Report.{report_of}
 use Rattle.span_report.specs.Stacks.Folded.{thread_frame_count, thread_stacks}
-use Rattle.span_report.specs.Stacks.Labels.{by_name}
+use Rattle.span_report.specs.declared.stacks.label.SpanColumn.{SpanColumn}
 use Rattle.span_report.specs.Stacks.Microseconds.{Folded}
 use Rattle.span_collect.specs.declared.files.FileEnd.{FileEnd}
 use Rattle.span_collect.specs.declared.files.Input.{Input}
@@ -38,22 +38,22 @@ threads_in process = map (λ (part : ThreadRows). record { pid = part.row.pid; t
 abbrev pub threads_of : List ProcessRows → List Thread
 threads_of parts = flat_map threads_in parts
 
--- the stacks of a thread of a journal
-abbrev pub thread_json : List Entry → Thread → List ℕ
-thread_json journal thread = stacks_json (thread_stacks by_name journal thread)
+-- the stacks of a thread of a journal, of labels by these columns
+abbrev pub thread_json : List SpanColumn → List Entry → Thread → List ℕ
+thread_json labels journal thread = stacks_json (thread_stacks labels journal thread)
 
 -- the most frames of all graphs of a page
 abbrev pub most_frames : ℕ
 most_frames = 4194304
 
-module _ (journal : List Entry) where
+module _ (labels : List SpanColumn) (journal : List Entry) where
   -- the stacks of a thread, if its graph has no more frames than these; and else nothing
   abbrev pub graph_json : ℕ → Thread → List ℕ
-  graph_json left thread = if nat_lt left (thread_frame_count by_name journal thread) then codes "null" else thread_json journal thread
+  graph_json left thread = if nat_lt left (thread_frame_count labels journal thread) then codes "null" else thread_json labels journal thread
 
   -- how many frames are left behind it
   abbrev pub left_after : ℕ → Thread → ℕ
-  left_after left thread = if nat_lt left (thread_frame_count by_name journal thread) then left else left - thread_frame_count by_name journal thread
+  left_after left thread = if nat_lt left (thread_frame_count labels journal thread) then left else left - thread_frame_count labels journal thread
 
   -- the graphs of threads, one after the other, as each fits into what those before it leave
   abbrev pub graphs_json : ℕ → List Thread → List (List ℕ)
@@ -61,12 +61,13 @@ module _ (journal : List Entry) where
   graphs_json left (thread ∷ later) = graph_json left thread ∷ graphs_json (left_after left thread) later
 
 -- the stacks of each thread of a journal whose graph fits
-unfoldable pub all_stacks_json : List Entry → List ℕ
-all_stacks_json journal = array_of (graphs_json journal most_frames (threads_of (process_parts journal)))
+unfoldable pub all_stacks_json : List SpanColumn → List Entry → List ℕ
+all_stacks_json labels journal = array_of (graphs_json labels journal most_frames (threads_of (process_parts journal)))
 
--- the text of the report, that of the refusals, and the stacks of the threads
-abbrev pub data_of : List Input → List FileEnd → List Entry → List ℕ
-data_of files ends journal =
+-- the text of the report, that of a table of spans, that of the refusals, and the stacks of the threads
+abbrev pub data_of : List SpanColumn → List ℕ → List Input → List FileEnd → List Entry → List ℕ
+data_of labels table files ends journal =
     codes "{\"report\":" ++ (json_text_of (report_of journal)
+    ++ (codes ",\"table\":" ++ (json_text_of table
     ++ (codes ",\"refused\":" ++ (json_text_of (refusals_of files ends journal)
-    ++ (codes ",\"stacks\":" ++ (all_stacks_json journal ++ codes "}")))))
+    ++ (codes ",\"stacks\":" ++ (all_stacks_json labels journal ++ codes "}")))))))

@@ -1,10 +1,11 @@
 -- The facts that hold of every page.
-use Rattle.std.specs.Prelude.{◌≡◌, nat_eq, false, List, [], All}
+use Rattle.std.specs.Prelude.{◌≡◌, ℕ, nat_eq, false, List, [], All}
 use Rattle.span_ledger.specs.declared.entry.Entry.{Entry}
 use Rattle.span_ledger.specs.Topics.{AreAlike}
 use Rattle.span_collect.specs.declared.files.FileEnd.{FileEnd}
 use Rattle.span_collect.specs.declared.files.Input.{Input}
 use Rattle.span_collect.specs.Refusals.Text.{refusals_of}
+use Rattle.span_report.specs.declared.stacks.label.SpanColumn.{SpanColumn}
 use Rattle.span_report.specs.Stacks.Microseconds.{Folded}
 use Rattle.span_page.specs.Coded.{coded_after, decoded_after}
 use Rattle.span_page.specs.Data.{data_of}
@@ -13,14 +14,15 @@ use Rattle.span_page.specs.Safe.{safe}
 
 -- no byte of the data is `<`, so that nothing in them ends the element in which they stand
 abbrev pub DataEndNoElement : Type 0
-DataEndNoElement = (files : List Input) (ends : List FileEnd) (journal : List Entry) → All (λ byte. nat_eq byte 60 ≡ false) (safe (data_of files ends journal))
+DataEndNoElement = (labels : List SpanColumn) (table : List ℕ) (files : List Input) (ends : List FileEnd) (journal : List Entry) →
+    All (λ byte. nat_eq byte 60 ≡ false) (safe (data_of labels table files ends journal))
 
 -- the stacks that were coded are had back
 abbrev pub StacksAreHadBack : Type 0
 StacksAreHadBack = (stacks : List Folded) → decoded_after [] (coded_after [] stacks) ≡ stacks
 
--- journals that have the same accepted acts on each topic, and as many entries of each kind, have the same page, if the same is said of
--- what was refused
+-- journals that have the same accepted acts on each topic, and as many entries of each kind, have the same page with a table, if the same
+-- is said of what was refused
 abbrev pub PagesFollowFromActs : Type 0
-PagesFollowFromActs = (files : List Input) (ends others : List FileEnd) (journal other : List Entry) → AreAlike journal other →
-    refusals_of files ends journal ≡ refusals_of files others other → page_of files ends journal ≡ page_of files others other
+PagesFollowFromActs = (labels : List SpanColumn) (table : List ℕ) (files : List Input) (ends others : List FileEnd) (journal other : List Entry) → AreAlike journal other →
+    refusals_of files ends journal ≡ refusals_of files others other → page_of labels table files ends journal ≡ page_of labels table files others other

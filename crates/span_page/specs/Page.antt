@@ -3,6 +3,7 @@ use Rattle.std.specs.Prelude.{ℕ, List, ◌++◌}
 use Rattle.span_ledger.specs.declared.entry.Entry.{Entry}
 use Rattle.span_collect.specs.declared.files.FileEnd.{FileEnd}
 use Rattle.span_collect.specs.declared.files.Input.{Input}
+use Rattle.span_report.specs.declared.stacks.label.SpanColumn.{SpanColumn}
 use Rattle.span_page.specs.declared.fixed.TheConstants.{HEAD, TAIL}
 use Rattle.span_page.specs.Data.{data_of}
 use Rattle.span_page.specs.Safe.{safe}
@@ -14,6 +15,6 @@ head_text = HEAD.now
 unfoldable pub tail_text : List ℕ
 tail_text = TAIL.now
 
--- a fixed head, the data, and a fixed tail
-unfoldable pub page_of : List Input → List FileEnd → List Entry → List ℕ
-page_of files ends journal = head_text ++ (safe (data_of files ends journal) ++ tail_text)
+-- A fixed head, the data, and a fixed tail. Frames are labels by these columns, and the table of spans is this text.
+unfoldable pub page_of : List SpanColumn → List ℕ → List Input → List FileEnd → List Entry → List ℕ
+page_of labels table files ends journal = head_text ++ (safe (data_of labels table files ends journal) ++ tail_text)

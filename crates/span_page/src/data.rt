@@ -21,24 +21,32 @@ use std::alloc::{AllocError, Global};
 // How many frames the graphs of a page may have in all.
 const MOST_FRAMES: u32 = 4_194_304;
 
-// Appends the report and the refusals as they are printed, and the folded stacks of the threads, with escapes.
+// Appends the report, the table and the refusals as they are printed, and the folded stacks of the threads, with escapes.
 pub(crate) fn put_data(
     alloc: Global,
     out: &mut Vec<u8>,
     ledger: &Ledger,
     files: &[Input],
     ends: &[FileEnd],
+    labels: &[SpanColumn],
+    table: String,
 ) -> Result<(), AllocError>
     requires { length files.now ≡ length ends.now }
-    ensures { OnOk result (out.new.items ≡ out.old.items ++ safe (data_of files.now ends.now ledger.now.journal)) }
+    ensures { OnOk result (out.new.items ≡ out.old.items
+        ++ safe (data_of labels.now (string_bytes table) files.now ends.now ledger.now.journal)) }
 {
     let (report, threads) = report_and_threads(alloc, ledger)?;
     out.extend_from_slice(b"{\"report\":")?;
     put_safe_string(alloc, out, report)?;
+    out.extend_from_slice(b",\"table\":")?;
+    put_safe_string(alloc, out, table)?;
     out.extend_from_slice(b",\"refused\":")?;
     put_safe_string(alloc, out, refusals_text(alloc, ledger, files, ends)?)?;
     out.extend_from_slice(b",\"stacks\":")?;
-    put_safe(out, stacks_text(alloc, ledger, &threads)?.as_bytes())?;
+    put_safe(
+        out,
+        stacks_text(alloc, ledger, labels, &threads)?.as_bytes(),
+    )?;
     out.extend_from_slice(b"}")
 }
 
@@ -71,12 +79,17 @@ fn string_json(alloc: Global, text: String) -> Result<String, AllocError>
 
 // The stacks of each thread.
 #[tactic(auto, unfolding(crate::specs::Data::all_stacks_json), using(std::proofs::Common::append_assoc))]
-fn stacks_text(alloc: Global, ledger: &Ledger, threads: &[Thread]) -> Result<String, AllocError>
+fn stacks_text(
+    alloc: Global,
+    ledger: &Ledger,
+    labels: &[SpanColumn],
+    threads: &[Thread],
+) -> Result<String, AllocError>
     requires { threads.now ≡ threads_of (process_parts ledger.now.journal) }
-    ensures { IfOk result (λ text. string_bytes text ≡ all_stacks_json ledger.now.journal) }
+    ensures { IfOk result (λ text. string_bytes text ≡ all_stacks_json labels.now ledger.now.journal) }
 {
     let mut out = String::from_str(alloc, "[")?;
-    put_threads(alloc, &mut out, ledger, threads)?;
+    put_threads(alloc, &mut out, ledger, labels, threads)?;
     out.push(']')?;
     Ok(out)
 }
@@ -118,18 +131,19 @@ fn put_threads(
     alloc: Global,
     out: &mut String,
     ledger: &Ledger,
+    labels: &[SpanColumn],
     threads: &[Thread],
 ) -> Result<(), AllocError>
     ensures { OnOk result (string_bytes out.new
-        ≡ string_bytes out.old ++ join_with_byte 44 (graphs_json ledger.now.journal most_frames threads.now)) }
+        ≡ string_bytes out.old ++ join_with_byte 44 (graphs_json labels.now ledger.now.journal most_frames threads.now)) }
 {
     let Some((first, later)) = threads.split_first() else {
         return Ok(());
     };
-    let mut left = put_thread(alloc, out, ledger, first, MOST_FRAMES)?;
+    let mut left = put_thread(alloc, out, ledger, labels, first, MOST_FRAMES)?;
     for thread in later {
         out.push(',')?;
-        left = put_thread(alloc, out, ledger, thread, left)?;
+        left = put_thread(alloc, out, ledger, labels, thread, left)?;
     }
     Ok(())
 }
@@ -139,14 +153,15 @@ fn put_thread(
     alloc: Global,
     out: &mut String,
     ledger: &Ledger,
+    labels: &[SpanColumn],
     thread: &Thread,
     left: u32,
 ) -> Result<u32, AllocError>
     ensures json { OnOk result (string_bytes out.new
-        ≡ string_bytes out.old ++ graph_json ledger.now.journal left thread.now) }
-    ensures left { IfOk result (λ rest. rest ≡ left_after ledger.now.journal left thread.now) }
+        ≡ string_bytes out.old ++ graph_json labels.now ledger.now.journal left thread.now) }
+    ensures left { IfOk result (λ rest. rest ≡ left_after labels.now ledger.now.journal left thread.now) }
 {
-    let spans = LabelledSpans::of_thread(alloc, ledger, *thread, &[SpanColumn::Name])?;
+    let spans = LabelledSpans::of_thread(alloc, ledger, *thread, labels)?;
     match framed_stacks(alloc, &spans, left) {
         Ok(frames) => {
             put_stacks(alloc, out, &frames)?;

@@ -1,4 +1,4 @@
-//! A page for a browser: a run's report, its refusals and its folded stacks as data, and what shows them.
+//! A page for a browser: a run's report, a table of its spans, its refusals and its folded stacks as data, and what shows them.
 #![tactic(auto)]
 
 mod data;

@@ -1,5 +1,5 @@
 //! Writes the page of a run to a sink.
-ghost use Rattle.std.specs.Prelude.{◌≡◌, length, IfErr, OnOk};
+ghost use Rattle.std.specs.Prelude.{◌≡◌, length, string_bytes, IfErr, OnOk};
 ghost use Rattle.span_report.specs.Sink.{TakesBytes};
 ghost use Rattle.span_report.specs.Output.{WriteLeaves};
 ghost use Rattle.span_page.specs.Page.{page_of};
@@ -7,6 +7,7 @@ ghost use Rattle.span_page.specs.Page.{page_of};
 use crate::text::page;
 use span_collect::{FileEnd, Input};
 use span_ledger::Ledger;
+use span_report::stacks::SpanColumn;
 use span_report::{Sink, WriteFault, write_made};
 use std::alloc::Global;
 
@@ -17,13 +18,15 @@ pub fn write_page<O: Sink>(
     ledger: &Ledger,
     files: &[Input],
     ends: &[FileEnd],
+    labels: &[SpanColumn],
+    table: String,
     out: &mut O,
 ) -> Result<(), WriteFault>
     requires { length files.now ≡ length ends.now }
     ensures ok { OnOk result
-        (TakesBytes (O.state out.old) (O.state out.new) (page_of files.now ends.now ledger.now.journal)) }
-    ensures fault { IfErr result
-        (λ fault. WriteLeaves fault (page_of files.now ends.now ledger.now.journal) (O.state out.old) (O.state out.new)) }
+        (TakesBytes (O.state out.old) (O.state out.new) (page_of labels.now (string_bytes table) files.now ends.now ledger.now.journal)) }
+    ensures fault { IfErr result (λ fault. WriteLeaves fault
+        (page_of labels.now (string_bytes table) files.now ends.now ledger.now.journal) (O.state out.old) (O.state out.new)) }
 {
-    write_made(page(alloc, ledger, files, ends), out)
+    write_made(page(alloc, ledger, files, ends, labels, table), out)
 }

@@ -11,12 +11,13 @@ pub returns : goal.returns
 returns c =
     let before = string_bytes c.args.out.now in
     let out = string_bytes c.loop-thread.out in
+    let labels = c.args.labels.now in
     let journal = c.args.ledger.now.journal in
     let later = c.in-Some.later.now in
     let thread = c.in-Some.first.now in
-    let first = graph_json journal most_frames thread in
-    let behind = left_after journal most_frames thread in
-    let commas = λ (left : ℕ) (threads : List Thread). flat_map (λ (text : List ℕ). 44 ∷ text) (graphs_json journal left threads) in
+    let first = graph_json labels journal most_frames thread in
+    let behind = left_after labels journal most_frames thread in
+    let commas = λ (left : ℕ) (threads : List Thread). flat_map (λ (text : List ℕ). 44 ∷ text) (graphs_json labels journal left threads) in
     let none : drop c.loop-thread.thread-index later ≡ [] = drop_all c.loop-thread.thread-index later c.loop-thread-test.false in
     sym (append-nil out)
     ∙ ap (λ (rest : List Thread). out ++ commas c.loop-thread.left rest) (sym none)
@@ -24,5 +25,5 @@ returns c =
     ∙ ap (λ text. text ++ commas c.in_ok-left.left later) c.in_ok-left.ensures.json
     ∙ ap (λ left. (before ++ first) ++ commas left later) c.in_ok-left.ensures.left
     ∙ append_assoc before first (commas behind later)
-    ∙ ap (λ text. before ++ text) (sym (join_with_byte_cons first (graphs_json journal behind later)))
-    ∙ ap (λ (threads : List Thread). before ++ join_with_byte 44 (graphs_json journal most_frames threads)) (sym c.in-Some.ensures.cases.0)
+    ∙ ap (λ text. before ++ text) (sym (join_with_byte_cons first (graphs_json labels journal behind later)))
+    ∙ ap (λ (threads : List Thread). before ++ join_with_byte 44 (graphs_json labels journal most_frames threads)) (sym c.in-Some.ensures.cases.0)
