@@ -1,5 +1,5 @@
 -- What is printed of separate files is what they give where they are read in turn.
-use Rattle.std.proofs.Common.{◌≡◌, ◌<◌, false, List, [], sym, ap, subst, arith}
+use Rattle.std.proofs.Common.{◌≡◌, ◌<◌, false, List, [], sym, ap, subst, ◌∙◌, arith}
 use Rattle.span_ledger.specs.declared.entry.Entry.{Entry}
 use Rattle.span_ledger.specs.Topics.{AreAlike}
 use Rattle.span_report.proofs.SameReports.{report_of-alike}
@@ -14,6 +14,7 @@ use Rattle.span_collect.specs.InTurn.{AreSeparate, ends_from, journal_in_turn, t
 use Rattle.span_collect.specs.Run.{status_of}
 use Rattle.span_collect.specs.Seals.{SealedAccount}
 use Rattle.span_collect.proofs.InTurn.Accounted.{AreAlike-in_turn, refusals_of-in_turn}
+use Rattle.span_page.specs.Page.{page_of}
 use Rattle.span_page.proofs.SamePages.{page_of-alike}
 use Rattle.span_runs.specs.Runs.{run_in_turn, run_of_files}
 use Rattle.span_runs.proofs.InTurn.{table_of_run-in_turn}
@@ -40,26 +41,27 @@ module _ (files : List Input) (settings : Settings) (ends : List FileEnd) (asked
   text_of-in_turn Report = report_of-alike journal (journal_in_turn settings files []) alike
   text_of-in_turn (Table view) = ap (table_text view false) (table-in_turn view)
   text_of-in_turn Refusals = refusals_of-in_turn files [] settings ends asked sealing journal account separate below
-  text_of-in_turn Folded = (stacks-alike journal (journal_in_turn settings files []) alike).text
-  text_of-in_turn Page =
-      page_of-alike files ends (ends_from 1 files) journal (journal_in_turn settings files []) alike
+  text_of-in_turn (Folded labels) = (stacks-alike journal (journal_in_turn settings files []) alike).text labels.items
+  text_of-in_turn (Page view) =
+      page_of-alike view.labels.items (table_text view.table false (asked_table view.table (run_of_files files ends journal))) files ends (ends_from 1 files) journal (journal_in_turn settings files []) alike
       (refusals_of-in_turn files [] settings ends asked sealing journal account separate below)
+      ∙ ap (λ (table : SpanTable). page_of view.labels.items (table_text view.table false table) files (ends_from 1 files) (journal_in_turn settings files [])) (table-in_turn view.table)
 
   -- whether folded stacks have more names than they may
   pub ExceedsNames-in_turn : (view : View) → ExceedsNames view ends journal → ExceedsNames view (ends_from 1 files) (journal_in_turn settings files [])
   ExceedsNames-in_turn Report exceeds = exceeds
   ExceedsNames-in_turn (Table view) exceeds = exceeds
   ExceedsNames-in_turn Refusals exceeds = exceeds
-  ExceedsNames-in_turn Folded exceeds = rw (sym (stacks-alike journal (journal_in_turn settings files []) alike).names) exceeds
-  ExceedsNames-in_turn Page exceeds = exceeds
+  ExceedsNames-in_turn (Folded labels) exceeds = rw (sym ((stacks-alike journal (journal_in_turn settings files []) alike).names labels.items)) exceeds
+  ExceedsNames-in_turn (Page view) exceeds = exceeds
 
   -- and whether numbers for other programs have more bits
   pub ExceedsBits-in_turn : (view : View) → ExceedsBits view files ends journal → ExceedsBits view files (ends_from 1 files) (journal_in_turn settings files [])
   ExceedsBits-in_turn Report exceeds = exceeds
   ExceedsBits-in_turn (Table view) exceeds = subst (λ (table : SpanTable). TableExceeds view table) (table-in_turn view) exceeds
   ExceedsBits-in_turn Refusals exceeds = exceeds
-  ExceedsBits-in_turn Folded exceeds = exceeds
-  ExceedsBits-in_turn Page exceeds = exceeds
+  ExceedsBits-in_turn (Folded labels) exceeds = exceeds
+  ExceedsBits-in_turn (Page view) exceeds = subst (λ (table : SpanTable). TableExceeds view.table table) (table-in_turn view.table) exceeds
 
 -- two runs that ended, neither with 2
 module _ (view : ComparisonView) (base files : List Input) (settings : Settings) (base_run run : RunEnd) (base_journal journal : List Entry)

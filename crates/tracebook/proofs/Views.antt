@@ -1,8 +1,10 @@
 -- What is left of a view that was not written whole.
 use Rattle.std.proofs.Common.{◌≡◌, ◌<◌, List, [], ◌∙◌}
+use Rattle.std.specs.Global.{Vec}
 use Rattle.span_ledger.specs.declared.entry.Entry.{Entry}
 use Rattle.span_report.specs.declared.output.WriteFault.{WriteFault}
 use Rattle.span_report.specs.declared.output.WriteFault.TheVariants.{Memory, Output}
+use Rattle.span_report.specs.declared.stacks.label.SpanColumn.{SpanColumn}
 use Rattle.span_report.specs.declared.stacks.output.FoldedFault.{FoldedFault}
 use Rattle.span_report.specs.declared.stacks.output.FoldedFault.TheVariants.{Memory as Unfolded, TooLarge, Output as FoldedCut}
 use Rattle.span_report.specs.Output.{WriteLeaves}
@@ -33,11 +35,11 @@ TextLeaves-of_written view files Memory ends journal old new leaves = leaves
 TextLeaves-of_written view files (Output written) ends journal old new leaves = leaves
 
 -- of folded stacks
-pub TextLeaves-of_folded : (files : List Input) (fault : FoldedFault) (ends : List FileEnd) (journal : List Entry) (old new : SinkState) →
-    FoldedLeaves fault journal old new → TextLeaves Folded files (of_folded fault) ends journal old new
-TextLeaves-of_folded files Unfolded ends journal old new leaves = leaves
-TextLeaves-of_folded files TooLarge ends journal old new leaves = leaves
-TextLeaves-of_folded files (FoldedCut written) ends journal old new leaves = (leaves.1, leaves.2)
+pub TextLeaves-of_folded : (labels : Vec SpanColumn) (files : List Input) (fault : FoldedFault) (ends : List FileEnd) (journal : List Entry) (old new : SinkState) →
+    FoldedLeaves fault labels.items journal old new → TextLeaves (Folded labels) files (of_folded fault) ends journal old new
+TextLeaves-of_folded labels files Unfolded ends journal old new leaves = leaves
+TextLeaves-of_folded labels files TooLarge ends journal old new leaves = leaves
+TextLeaves-of_folded labels files (FoldedCut written) ends journal old new leaves = (leaves.1, leaves.2)
 
 -- a run of these inputs ended, not with 2, and this is left of its view
 module _ (view : View) (inputs : List Input) (settings : Settings) (run : RunEnd) (journal : List Entry) (old new : SinkState)

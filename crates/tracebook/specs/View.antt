@@ -32,27 +32,30 @@ abbrev pub text_of : View → List Input → TextOf
 text_of Report files ends journal = report_of journal
 text_of (Table view) files ends journal = table_text view false (asked_table view (run_of_files files ends journal))
 text_of Refusals files ends journal = refusals_of files ends journal
-text_of Folded files ends journal = folded_of journal
-text_of Page files ends journal = page_of files ends journal
+text_of (Folded labels) files ends journal = folded_of labels.items journal
+text_of (Page view) files ends journal = page_of view.labels.items (table_text view.table false (asked_table view.table (run_of_files files ends journal))) files ends journal
 
 -- what holds of files that ended so, and of their journal
 abbrev pub OfEnds : Type 1
 OfEnds = List FileEnd → List Entry → Type 0
 
--- folded stacks have no more names than they may, numbers for other programs have 64 bits; any other text has no such bound
+-- folded stacks have no more names than they may, numbers for other programs, and for a page, have 64 bits; any other text has no such
+-- bound
 abbrev pub Fits : View → List Input → OfEnds
-Fits Folded files ends journal = names_of journal ≤ most_names
+Fits (Folded labels) files ends journal = names_of labels.items journal ≤ most_names
 Fits (Table view) files ends journal = TableFits view (asked_table view (run_of_files files ends journal))
+Fits (Page view) files ends journal = TableFits view.table (asked_table view.table (run_of_files files ends journal))
 Fits view files ends journal = Unit {0}
 
 -- folded stacks are asked for, and have more names than they may
 abbrev pub ExceedsNames : View → OfEnds
-ExceedsNames Folded ends journal = most_names < names_of journal
+ExceedsNames (Folded labels) ends journal = most_names < names_of labels.items journal
 ExceedsNames view ends journal = ⊥
 
--- numbers for other programs are asked for, and one has more than 64 bits
+-- numbers for other programs or a page are asked for, and one has more than 64 bits
 abbrev pub ExceedsBits : View → List Input → OfEnds
 ExceedsBits (Table view) files ends journal = TableExceeds view (asked_table view (run_of_files files ends journal))
+ExceedsBits (Page view) files ends journal = TableExceeds view.table (asked_table view.table (run_of_files files ends journal))
 ExceedsBits view files ends journal = ⊥
 
 -- A run of these inputs, without queries, printed this view of them; unless the status is 2, that fits. Of separate inputs it is the

@@ -1,5 +1,6 @@
 //! The columns of a table, as the command line names them.
 
+use span_report::stacks::SpanColumn;
 use span_table::Column;
 use std::alloc::{AllocError, Global};
 
@@ -12,6 +13,10 @@ pub(crate) const RULE: &str =
 /// Said of the column `file` where a run may have several.
 pub(crate) const FILE_RULE: &str =
     "the column 'file' goes with '--apart' and '--add' alone; others are pid, tid, process, thread, name, args.KEY";
+
+/// Said of other columns of folded stacks.
+pub(crate) const LABEL_RULE: &str =
+    "the columns of '--group-by' with '--folded' are name, args.KEY: 1 to 8 of them, with commas between, none twice";
 
 /// The columns with these names, which stand between commas. None where they are no columns.
 pub(crate) fn columns_of(alloc: Global, names: &str) -> Result<Option<Vec<Column>>, AllocError> {
@@ -38,6 +43,17 @@ pub(crate) fn ranked(alloc: Global) -> Result<Vec<Column>, AllocError> {
     Ok(columns)
 }
 
+/// Those of a page: what its report has of a span.
+pub(crate) fn paged(alloc: Global) -> Result<Vec<Column>, AllocError> {
+    let mut columns = Vec::new(alloc);
+    columns.push(Column::Pid)?;
+    columns.push(Column::Process)?;
+    columns.push(Column::Tid)?;
+    columns.push(Column::Thread)?;
+    columns.push(Column::Name)?;
+    Ok(columns)
+}
+
 /// Those of a comparison and of JSON Lines: numbers differ from run to run.
 pub(crate) fn named(alloc: Global) -> Result<Vec<Column>, AllocError> {
     let mut columns = Vec::new(alloc);
@@ -45,4 +61,32 @@ pub(crate) fn named(alloc: Global) -> Result<Vec<Column>, AllocError> {
     columns.push(Column::Thread)?;
     columns.push(Column::Name)?;
     Ok(columns)
+}
+
+/// That of folded stacks.
+pub(crate) fn name_alone(alloc: Global) -> Result<Vec<Column>, AllocError> {
+    let mut columns = Vec::new(alloc);
+    columns.push(Column::Name)?;
+    Ok(columns)
+}
+
+/// Whether a span has values of its own in each of the columns, and not those of its process, thread or file.
+pub(crate) fn are_of_spans(columns: &[Column]) -> bool {
+    columns.iter().all(|column| matches!(column, Column::Name | Column::Argument(_)))
+}
+
+/// The columns in which a span has a value of its own, by which frames are labelled; where there is none, its name.
+pub(crate) fn labels_of(alloc: Global, columns: &[Column]) -> Result<Vec<SpanColumn>, AllocError> {
+    let mut labels = Vec::new(alloc);
+    for column in columns {
+        match column {
+            Column::Name => labels.push(SpanColumn::Name)?,
+            Column::Argument(key) => labels.push(SpanColumn::Argument(key.try_clone(alloc)?))?,
+            _ => {}
+        }
+    }
+    if labels.is_empty() {
+        labels.push(SpanColumn::Name)?;
+    }
+    Ok(labels)
 }

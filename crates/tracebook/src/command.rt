@@ -4,11 +4,14 @@ ghost use Rattle.std.specs.List.{list_any, starts_with};
 ghost use Rattle.tracebook.specs.Request.{AsksFor, is_option};
 
 use crate::apart::Apart;
-use crate::columns::{FILE_RULE, RULE, columns_of, named, ranked};
+use crate::columns::{
+    FILE_RULE, LABEL_RULE, RULE, are_of_spans, columns_of, labels_of, name_alone, named, paged,
+    ranked,
+};
 use crate::comparison::{ComparisonForm, ComparisonView};
 use crate::options::command_of;
 use crate::tables::{TableForm, TableOptions, TableView};
-use crate::view::View;
+use crate::view::{PageView, View};
 use clap::error::{Error, ErrorKind};
 use clap::{ArgMatches, Command};
 use span_collect::Settings;
@@ -122,6 +125,9 @@ fn parsed_request(alloc: Global, words: &[Text]) -> Result<Request, AllocError> 
     if columns.contains(&Column::File) && !is_any_given(&matches, &["apart", "add"]) {
         return refuse(alloc, &mut command, FILE_RULE);
     }
+    if matches.get_flag("folded") && !are_of_spans(&columns) {
+        return refuse(alloc, &mut command, LABEL_RULE);
+    }
     request_of_matches(alloc, &matches, columns)
 }
 
@@ -136,6 +142,8 @@ struct Bound {
 
 const TABLES: &[&str] = &["top", "json", "base"];
 
+const GROUPED: &[&str] = &["top", "json", "base", "folded", "page"];
+
 const BOUND: &[Bound] = &[
     Bound {
         option: "by",
@@ -144,8 +152,8 @@ const BOUND: &[Bound] = &[
     },
     Bound {
         option: "group-by",
-        texts: TABLES,
-        rule: "the argument '--group-by <COLUMNS>' goes with '--top <N>', '--json' and '--base <FILE>' alone",
+        texts: GROUPED,
+        rule: "the argument '--group-by <COLUMNS>' goes with '--top <N>', '--json', '--base <FILE>', '--folded' and '--page' alone",
     },
     Bound {
         option: "only",
@@ -193,9 +201,11 @@ fn is_any_given(matches: &ArgMatches<'_>, texts: &[&str]) -> bool {
     false
 }
 
+const SWITCHES: &[&str] = &["json", "apart", "add", "folded", "page"];
+
 // A switch has a value even where it is not given.
 fn is_given(matches: &ArgMatches<'_>, option: &str) -> bool {
-    if option == "json" || option == "apart" || option == "add" {
+    if SWITCHES.contains(&option) {
         return matches.get_flag(option);
     }
     matches.contains_id(option)
@@ -242,6 +252,12 @@ fn asked_columns(
     }
     if matches.contains_id("top") {
         return Ok(Some(ranked(alloc)?));
+    }
+    if matches.get_flag("folded") {
+        return Ok(Some(name_alone(alloc)?));
+    }
+    if matches.get_flag("page") {
+        return Ok(Some(paged(alloc)?));
     }
     Ok(Some(named(alloc)?))
 }
@@ -292,7 +308,7 @@ fn task_of(
         let view = TableView { options, form };
         return Ok(sum_task(matches, settings, view));
     }
-    let view = view_of(matches, options);
+    let view = view_of(alloc, matches, options)?;
     Ok(Task::Collect { settings, view })
 }
 
@@ -330,21 +346,27 @@ fn apart_of(matches: &ArgMatches<'_>, settings: Settings) -> Apart {
 }
 
 // What is printed instead of the report.
-fn view_of(matches: &ArgMatches<'_>, options: TableOptions) -> View {
+fn view_of(
+    alloc: Global,
+    matches: &ArgMatches<'_>,
+    options: TableOptions,
+) -> Result<View, AllocError> {
+    let form = table_form(matches);
     if matches.contains_id("top") || matches.get_flag("json") {
-        let form = table_form(matches);
-        return View::Table(TableView { options, form });
+        return Ok(View::Table(TableView { options, form }));
     }
     if matches.get_flag("refused") {
-        return View::Refusals;
+        return Ok(View::Refusals);
     }
     if matches.get_flag("folded") {
-        return View::Folded;
+        return Ok(View::Folded(labels_of(alloc, &options.columns)?));
     }
     if matches.get_flag("page") {
-        return View::Page;
+        let labels = labels_of(alloc, &options.columns)?;
+        let table = TableView { options, form };
+        return Ok(View::Page(PageView { table, labels }));
     }
-    View::Report
+    Ok(View::Report)
 }
 
 fn table_form(matches: &ArgMatches<'_>) -> TableForm {

@@ -3,7 +3,7 @@ ghost use Rattle.std.specs.Prelude.{◌≡◌, true, false, length, IfOk, IfErr,
 ghost use Rattle.span_report.specs.Sink.{TakesBytes};
 ghost use Rattle.span_runs.specs.Runs.{run_of_files};
 ghost use Rattle.span_table.specs.declared.json_lines.JsonFault.TheVariants.{TooGreat};
-ghost use Rattle.tracebook.specs.declared.view.View.TheVariants.{Table as OfTable};
+ghost use Rattle.tracebook.specs.declared.view.View.TheVariants.{Page as OfPage, Table as OfTable};
 ghost use Rattle.tracebook.specs.Tables.{TableExceeds, TableFits, asked_table, table_text};
 ghost use Rattle.tracebook.specs.View.{Fits, Prints, TextLeaves, ViewLeaves, of_folded, of_written, text_of, view_code};
 
@@ -12,7 +12,7 @@ use span_collect::refusals::write_refusals;
 use span_collect::{Collected, Input, RunError, Settings, collect_to_ledger, run_to_ledger};
 use span_event::Fault;
 use span_page::write_page;
-use span_report::stacks::{FoldedFault, write_folded};
+use span_report::stacks::{FoldedFault, SpanColumn, write_folded};
 use span_report::{Sink, WriteFault, write_bytes, write_report};
 use span_runs::table_of_run;
 use span_table::JsonFault;
@@ -30,10 +30,17 @@ pub enum View {
     Table(TableView),
     /// Which items of each file were refused.
     Refusals,
-    /// The folded stacks of each thread.
-    Folded,
+    /// The folded stacks of each thread, whose frames are labels by these columns.
+    Folded(Vec<SpanColumn>),
     /// A page for a browser.
-    Page,
+    Page(PageView),
+}
+
+/// What a page shows of spans: a table of the run, and frames that are labels by these columns.
+#[derive(Drop)]
+pub struct PageView {
+    pub table: TableView,
+    pub labels: Vec<SpanColumn>,
 }
 
 /// Why a view of a run was not written whole.
@@ -114,8 +121,8 @@ fn write_view<O: Sink, R: RandomSource>(
         View::Report => write_report(alloc, ledger, out).map_err(of_written),
         View::Table(table) => write_table(rt, alloc, files, collected, table, out),
         View::Refusals => write_refusals(alloc, ledger, files, ends, out).map_err(of_written),
-        View::Folded => write_folded(alloc, ledger, out).map_err(of_folded),
-        View::Page => write_page(alloc, ledger, files, ends, out).map_err(of_written),
+        View::Folded(labels) => write_folded(alloc, ledger, labels, out).map_err(of_folded),
+        View::Page(page) => write_page_view(rt, alloc, files, collected, page, out),
     }
 }
 
@@ -160,6 +167,44 @@ fn write_table<O: Sink, R: RandomSource>(
         Err(JsonFault::TooGreat) => return Err(ViewFault::TooGreat),
     };
     write_bytes(&text, out).map_err(|written| ViewFault::Run(RunError::Output { written }))
+}
+
+// Writes a page of what was collected.
+fn write_page_view<O: Sink, R: RandomSource>(
+    rt: &R,
+    alloc: Global,
+    files: &[Input],
+    collected: &Collected,
+    view: &PageView,
+    out: &mut O,
+) -> Result<(), ViewFault>
+    requires { length files.now ≡ length collected.now.end.ends.items }
+    ensures ok { OnOk result (TakesBytes (O.state out.old) (O.state out.new)
+        (text_of (OfPage view.now) files.now collected.now.end.ends.items collected.now.ledger.journal)) }
+    ensures fits { OnOk result (Fits (OfPage view.now) files.now collected.now.end.ends.items collected.now.ledger.journal) }
+    ensures fault { IfErr result (λ fault. TextLeaves (OfPage view.now) files.now fault
+        collected.now.end.ends.items collected.now.ledger.journal (O.state out.old) (O.state out.new)) }
+{
+    let text = match text_of_run(rt, alloc, files, collected, &view.table) {
+        Ok(text) => text,
+        Err(JsonFault::Memory) => return Err(ViewFault::Run(RunError::Memory)),
+        Err(JsonFault::TooGreat) => return Err(ViewFault::TooGreat),
+    };
+    // Names and values are text, and so is the rest, so this can't fail.
+    let Ok(table) = String::from_utf8(text) else {
+        return Err(ViewFault::Run(RunError::Memory));
+    };
+    let ends = &collected.end.ends;
+    write_page(
+        alloc,
+        &collected.ledger,
+        files,
+        ends,
+        &view.labels,
+        table,
+        out,
+    )
+    .map_err(of_written)
 }
 
 // The text of a table of what was collected.
