@@ -1,5 +1,5 @@
 //! The sums of each key.
-ghost use Rattle.std.specs.Prelude.{◌≡◌, ◌^◌, ◌∷◌, [], ℕ, false, None, IfOk, IsTrue, OnOk};
+ghost use Rattle.std.specs.Prelude.{◌≡◌, ◌^◌, ◌∷◌, [], ℕ, false, None, IfOk, IsTrue, OnErr, OnOk};
 ghost use Rattle.std.specs.BTreeMap.{is_at};
 ghost use Rattle.std.specs.Map.{lookup};
 ghost use Rattle.span_table.specs.Collected.{AllWithin, GrowsBy, IsPlaceOf, IsWithin, Takes};
@@ -59,6 +59,7 @@ impl Groups {
         requires more { IsWithin (2 ^ 200) more }
         ensures takes { OnOk result (Takes self.old self.new (record { key = key; step = more } ∷ [])) }
         ensures bound { OnOk result ((n : ℕ) → IsWithin n more → GrowsBy n self.old self.new) }
+        ensures err { OnErr result (self.new ≡ self.old) }
     {
         if self.add_known(&key, &more) {
             return Ok(());
@@ -72,6 +73,7 @@ impl Groups {
         requires more { IsWithin (2 ^ 200) more.now }
         ensures takes { OnOk result (Takes self.old self.new (record { key = key.now; step = more.now } ∷ [])) }
         ensures bound { OnOk result ((n : ℕ) → IsWithin n more.now → GrowsBy n self.old self.new) }
+        ensures err { OnErr result (self.new ≡ self.old) }
     {
         if self.add_known(key, more) {
             return Ok(());
@@ -105,6 +107,7 @@ impl Groups {
         requires all { AllWithin (2 ^ 200) self.old }
         ensures takes { OnOk result (Takes self.old self.new (record { key = key; step = more } ∷ [])) }
         ensures bound { OnOk result ((n : ℕ) → IsWithin n more → GrowsBy n self.old self.new) }
+        ensures err { OnErr result (self.new ≡ self.old) }
     {
         self.kept.insert(key, more)?;
         Ok(())

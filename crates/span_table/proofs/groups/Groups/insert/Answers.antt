@@ -29,4 +29,4 @@ returns c =
     in_key_order-put key_cmp_total key_cmp-same (λ a b. refl) es after key more c.self.invariant c.in_ok-insert.ensures.unique updates.1 updates.2 c.in_ok-insert.ensures.entries in
     let both = sums-added key (sums_together []) more more c.args.self.now (in_key_order key_cmp after) (ap (λ s. unwrap_or s (sums_together [])) c.requires.new) (none-added more)
     (written ∙ ap (λ (kept : SumsByKey). insert_entry key_cmp kept key more) c.self.view_is) in
-    record { takes = both.0; bound = both.1 }
+    record { takes = both.0; bound = both.1; err = tt }
