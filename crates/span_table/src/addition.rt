@@ -1,5 +1,5 @@
 //! Tables that are added as their rows come.
-ghost use Rattle.std.specs.Prelude.{◌≡◌, ◌+◌, ◌^◌, ◌≤◌, [], true, IfErr, IfOk, OnOk};
+ghost use Rattle.std.specs.Prelude.{◌≡◌, ◌+◌, ◌^◌, ◌≤◌, [], true, IfErr, IfOk, OnErr, OnOk};
 ghost use Rattle.span_table.specs.declared.table_sum.SumFault.TheVariants.{TooMany};
 ghost use Rattle.span_table.specs.Adding.{add_tables, with_head, with_row};
 ghost use Rattle.span_table.specs.Json.{fit, head_fits};
@@ -85,29 +85,20 @@ impl Addition {
         })
     }
 
-    /// With a row of a table. Fewer than 2^64 of them are added.
-    pub fn add_row(self, row: &Row) -> Result<Addition, SumFault>
+    /// Adds a row of a table. Fewer than 2^64 of them are added, and one that is refused changes nothing.
+    pub fn add_row(&mut self, row: &Row) -> Result<(), SumFault>
         requires { fit row.now.sums ≡ true }
-        ensures { IfOk result (λ sum. sum ≡ with_row self row.now) }
+        ensures added { OnOk result (self.new ≡ with_row self.old row.now) }
+        ensures refused { OnErr result (self.new ≡ self.old) }
     {
         if self.rows == u64::MAX {
             return Err(SumFault::TooMany);
         }
-        let Addition {
-            columns,
-            head,
-            mut groups,
-            heads,
-            rows,
-        } = self;
-        match groups.add_copy(&row.key, &row.sums) {
-            Ok(()) => Ok(Addition {
-                columns,
-                head,
-                groups,
-                heads,
-                rows: rows + 1,
-            }),
+        match self.groups.add_copy(&row.key, &row.sums) {
+            Ok(()) => {
+                self.rows += 1;
+                Ok(())
+            }
             Err(_) => Err(SumFault::Memory),
         }
     }

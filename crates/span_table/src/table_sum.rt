@@ -20,7 +20,7 @@ use std::marker::Model;
 // A sum has fewer runs than this, so that no number of it is too great.
 const RUNS: u128 = 1 << 32;
 
-/// Why nothing was added, and the sum is lost.
+/// Why nothing was added. A sum that was handed over is lost.
 #[derive(Clone, Copy, Debug, PartialEq, Eq)]
 pub enum SumFault {
     /// 31: memory was refused.
