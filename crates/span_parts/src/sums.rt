@@ -1,5 +1,5 @@
 //! The rows of a part, which are added one after another.
-ghost use Rattle.std.specs.Prelude.{◌≡◌, ◌++◌, ◌∷◌, [], true, List, ℕ, map, IfErr, IfOk, IsTrue, OnOk};
+ghost use Rattle.std.specs.Prelude.{◌≡◌, ◌++◌, ◌∷◌, [], true, List, ℕ, map, IfErr, IfOk, IsTrue, OnErr, OnOk};
 ghost use Rattle.span_table.specs.declared.table.Row.{Row as TheRow};
 ghost use Rattle.span_table.specs.Adding.{picked, with_row};
 ghost use Rattle.span_table.specs.Columns.{column_name};
@@ -33,13 +33,20 @@ pub(crate) fn add_part(
         → IsAdded first.now.columns.items places.now text sum new) }
     ensures fault { IfErr result (λ fault. (text : Bytes) → Begins text first.now rest.now → SumFails text fault) }
 {
-    match sum.add_head(&first.head) {
-        Ok(sum) => match add_rows(alloc, &first.columns, places, rest, first.rows, sum, room) {
-            Ok(sum) => Ok(sum),
-            Err(fault) => Err(fault),
-        },
-        Err(_) => Err(PartFault::TooMany),
-    }
+    let mut sum = match sum.add_head(&first.head) {
+        Ok(sum) => sum,
+        Err(_) => return Err(PartFault::TooMany),
+    };
+    add_rows(
+        alloc,
+        &first.columns,
+        places,
+        rest,
+        first.rows,
+        &mut sum,
+        room,
+    )?;
+    Ok(sum)
 }
 
 /// Looks whether a part begins so, and its rows are this rest.
@@ -64,22 +71,22 @@ pub(crate) fn look_through(
     }
 }
 
-// Adds the rows of a text, which are to be so many, each with the values at these places of its key.
+// Adds the rows of a text, which are to be so many, each with the values at these places of its key. Those before a fault are added
+// nevertheless.
 fn add_rows(
     alloc: Global,
     columns: &[Column],
     places: &[usize],
     text: &str,
     count: u64,
-    sum: Addition,
+    sum: &mut Addition,
     room: &mut LineRoom,
-) -> Result<Addition, PartFault>
+) -> Result<(), PartFault>
     requires { AreColumns columns.now }
-    ensures added { IfOk result (AllAdded columns.now places.now text.now count sum) }
+    ensures added { OnOk result (AllAdded columns.now places.now text.now count sum.old sum.new) }
     ensures fault { IfErr result (RowsFail columns.now text.now count) }
 {
     let names = column_names(alloc, columns)?;
-    let mut sum = sum;
     let mut last = None;
     let mut rest = text;
     let mut done = 0;
@@ -88,10 +95,7 @@ fn add_rows(
             Ok(row) => row,
             Err(fault) => return Err(fault),
         };
-        sum = match add_row(alloc, sum, places, &row) {
-            Ok(sum) => sum,
-            Err(fault) => return Err(fault),
-        };
+        add_row(alloc, sum, places, &row)?;
         last = Some(row);
         rest = after;
         done += 1;
@@ -102,7 +106,7 @@ fn add_rows(
     if done != count {
         return Err(PartFault::NotTable);
     }
-    Ok(sum)
+    Ok(())
 }
 
 // The row of the next line, which comes after the last one.
@@ -137,11 +141,12 @@ fn comes_after(row: &Row, last: &Option<Row>) -> bool
     }
 }
 
-// With a row, which has the values at these places of this one's key.
-fn add_row(alloc: Global, sum: Addition, places: &[usize], row: &Row) -> Result<Addition, PartFault>
+// Adds a row, which has the values at these places of this one's key.
+fn add_row(alloc: Global, sum: &mut Addition, places: &[usize], row: &Row) -> Result<(), PartFault>
     requires { fit row.now.sums ≡ true }
-    ensures added { IfOk result (λ new. new ≡ with_row sum (row_at places.now row.now)) }
+    ensures added { OnOk result (sum.new ≡ with_row sum.old (row_at places.now row.now)) }
     ensures fault { IfErr result IsOfSum }
+    ensures refused { OnErr result (sum.new ≡ sum.old) }
 {
     if takes_all(places, row.key.values()) {
         return add_whole_row(sum, row);
@@ -153,13 +158,14 @@ fn add_row(alloc: Global, sum: Addition, places: &[usize], row: &Row) -> Result<
     add_whole_row(sum, &row)
 }
 
-fn add_whole_row(sum: Addition, row: &Row) -> Result<Addition, PartFault>
+fn add_whole_row(sum: &mut Addition, row: &Row) -> Result<(), PartFault>
     requires { fit row.now.sums ≡ true }
-    ensures added { IfOk result (λ new. new ≡ with_row sum row.now) }
+    ensures added { OnOk result (sum.new ≡ with_row sum.old row.now) }
     ensures fault { IfErr result IsOfSum }
+    ensures refused { OnErr result (sum.new ≡ sum.old) }
 {
     match sum.add_row(row) {
-        Ok(sum) => Ok(sum),
+        Ok(()) => Ok(()),
         Err(SumFault::Memory) => Err(PartFault::Memory),
         Err(SumFault::TooMany) => Err(PartFault::TooMany),
     }
