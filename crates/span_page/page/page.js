@@ -149,14 +149,26 @@ function spanTable() {
   return { table, rows: spans.rows, home: byId("names"), isShown: isSpanNarrowedTo };
 }
 
+// The columns of numbers whose names have columns too. If both are there, they share one.
+const NUMBERS = { process: "pid", thread: "tid" };
+
 /** A column for each of a key, those of labels first; these are wide. */
 function keyColumns() {
-  const columns = spans.columns.map((title, at) => {
-    const kind = title === "name" ? "name" : "detail";
-    const fill = (row) => valueElement(row.values[at]);
-    return keyColumn(title, (row) => row.values[at], isOfLabel(title) ? { kind, fill } : {});
-  });
+  const named = spans.columns.map((title) => NUMBERS[title]);
+  const columns = spans.columns.filter((title) => !named.includes(title)).map(columnOfKey);
   return [...columns.filter(({ kind }) => kind), ...columns.filter(({ kind }) => !kind)];
+}
+
+function columnOfKey(title) {
+  const at = spans.columns.indexOf(title);
+  const number = spans.columns.indexOf(NUMBERS[title]);
+  if (number >= 0) {
+    const fill = ({ values }) => document.createTextNode(namesOf(values[number].word, values[at].word).label);
+    return keyColumn(title, (row) => row.values[number], { fill });
+  }
+  const kind = title === "name" ? "name" : "detail";
+  const fill = (row) => valueElement(row.values[at]);
+  return keyColumn(title, (row) => row.values[at], isOfLabel(title) ? { kind, fill } : {});
 }
 
 /** What a row has in a column, for keys: a click, which the row gets too, opens a graph that has the row's frames. */

@@ -4,7 +4,7 @@ pub(crate) const HEAD: &str = r#"<!DOCTYPE html>
 <html lang="en">
 <head>
 <meta charset="utf-8">
-<meta http-equiv="Content-Security-Policy" content="default-src 'none'; script-src 'sha256-UVubcn4EJKGy2UWEHkWgxdazmTUIpxWaOooJbc4+mwU='; style-src 'sha256-uO9OvdklSJNpmd638op5ygwR6B1lQnZHkbDsNlq77O0='; base-uri 'none'; form-action 'none'">
+<meta http-equiv="Content-Security-Policy" content="default-src 'none'; script-src 'sha256-0LJFm5tHgy97WUBkKa4XGJGUCFH72wizBsXK5JzSD+4='; style-src 'sha256-uO9OvdklSJNpmd638op5ygwR6B1lQnZHkbDsNlq77O0='; base-uri 'none'; form-action 'none'">
 <meta name="viewport" content="width=device-width, initial-scale=1">
 <meta name="color-scheme" content="light dark">
 <title>tracebook</title>
@@ -1184,14 +1184,26 @@ function spanTable() {
   return { table, rows: spans.rows, home: byId("names"), isShown: isSpanNarrowedTo };
 }
 
+// The columns of numbers whose names have columns too. If both are there, they share one.
+const NUMBERS = { process: "pid", thread: "tid" };
+
 /** A column for each of a key, those of labels first; these are wide. */
 function keyColumns() {
-  const columns = spans.columns.map((title, at) => {
-    const kind = title === "name" ? "name" : "detail";
-    const fill = (row) => valueElement(row.values[at]);
-    return keyColumn(title, (row) => row.values[at], isOfLabel(title) ? { kind, fill } : {});
-  });
+  const named = spans.columns.map((title) => NUMBERS[title]);
+  const columns = spans.columns.filter((title) => !named.includes(title)).map(columnOfKey);
   return [...columns.filter(({ kind }) => kind), ...columns.filter(({ kind }) => !kind)];
+}
+
+function columnOfKey(title) {
+  const at = spans.columns.indexOf(title);
+  const number = spans.columns.indexOf(NUMBERS[title]);
+  if (number >= 0) {
+    const fill = ({ values }) => document.createTextNode(namesOf(values[number].word, values[at].word).label);
+    return keyColumn(title, (row) => row.values[number], { fill });
+  }
+  const kind = title === "name" ? "name" : "detail";
+  const fill = (row) => valueElement(row.values[at]);
+  return keyColumn(title, (row) => row.values[at], isOfLabel(title) ? { kind, fill } : {});
 }
 
 /** What a row has in a column, for keys: a click, which the row gets too, opens a graph that has the row's frames. */
