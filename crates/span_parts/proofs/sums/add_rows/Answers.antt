@@ -46,9 +46,9 @@ returns-then-done-count-clause-fault c =
     let rest = c.loop-line.rest.now in
     AreNoRows-rest c.args.columns.now c.args.places.now c.args.text.now rest c.loop-line.done c.loop-line.last c.args.sum.now c.loop-line.sum c.loop-line.invariant.1 c.args.count
     (split_parts 10 rest None c.in_default.ensures.cases (omega arith))
-    (λ empty same. c.if-done-count.true same)
+    (λ empty same. omega (arith, same, c.if-done-count.true))
 
 pub returns-clause-added : goal.returns-clause-added
 returns-clause-added c =
     AllAdded-end c.args.columns.now c.args.places.now c.args.text.now c.loop-line.rest.now c.loop-line.done c.loop-line.last c.args.sum.now c.loop-line.sum c.loop-line.invariant.1 c.args.count
-    (nothing-left c.loop-line.rest.now c.if-not-is_empty.ensures) c.if-done-count.false
+    (nothing-left c.loop-line.rest.now c.if-not-is_empty.ensures) (omega (arith, c.if-done-count.false))
