@@ -97,8 +97,12 @@ fn text_of(alloc: Global, table: &Table, rows: &[ShownRow]) -> Result<Vec<u8>, A
     let columns = table.columns();
     let names = column_names(alloc, columns)?;
     let mut out = out.into_bytes();
+    // Each line is printed by itself, since behind a long text the writer of JSON first fills much room with zeros.
+    let mut line = Vec::new(alloc);
     for shown in rows {
-        out = with_json_row(out, columns, &names, shown.row)?;
+        line.clear();
+        line = with_json_row(line, columns, &names, shown.row)?;
+        out.extend_from_slice(&line)?;
     }
     Ok(out)
 }

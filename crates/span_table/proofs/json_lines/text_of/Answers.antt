@@ -19,15 +19,17 @@ loop-shown-preserved c =
     let more : take (i + 1) rows ≡ take i rows ++ row ∷ [] = take_more rows i row c.loop-shown-test.true ∙ ap (λ r. take i rows ++ r ∷ []) (sym c.shown-item.is) in
     let fits : KeyFits columns row.key =
     subst (λ (cs : List Column). KeyFits cs row.key) c.columns-columns.ensures
-    (subst (λ (r : Row). KeyFits c.columns-columns.result.now r.key) c.shown.view_is c.in_ok-out.ensures.key_fits) in
+    (subst (λ (r : Row). KeyFits c.columns-columns.result.now r.key) c.shown.view_is c.in_ok-line.ensures.key_fits) in
     let f : Row → Bytes = json_line columns in
     let head = json_head columns (length rows) c.args.table.now.head in
-    let line : c.in_ok-out.out.items ≡ c.loop-shown.out.items ++ f row =
-    subst (λ (cs : List Column). c.in_ok-out.out.items ≡ c.loop-shown.out.items ++ json_line cs row) c.columns-columns.ensures
-    (subst (λ (r : Row). c.in_ok-out.out.items ≡ c.loop-shown.out.items ++ json_line c.columns-columns.result.now r) c.shown.view_is c.in_ok-out.ensures.line) in
+    let printed : c.in_ok-line.line.items ≡ c.clear.new.self.items ++ f row =
+    subst (λ (cs : List Column). c.in_ok-line.line.items ≡ c.clear.new.self.items ++ json_line cs row) c.columns-columns.ensures
+    (subst (λ (r : Row). c.in_ok-line.line.items ≡ c.clear.new.self.items ++ json_line c.columns-columns.result.now r) c.shown.view_is c.in_ok-line.ensures.line) in
+    let line : c.in_ok-line.line.items ≡ f row = printed ∙ ap (λ l. l ++ f row) c.clear.ensures.items in
+    let appended = c.in_ok-extend_from_slice.ensures.items ∙ ap (λ l. c.loop-shown.out.items ++ l) (c.deref-in-loop-shown.ensures.value ∙ line) in
     let all : flat_map f (take (i + 1) rows) ≡ flat_map f (take i rows) ++ f row =
     ap (flat_map f) more ∙ flat_map-append f (take i rows) (row ∷ []) ∙ ap (λ l. flat_map f (take i rows) ++ l) (append-nil (f row)) in
     record {
-      text = line ∙ ap (λ l. l ++ f row) c.loop-shown.invariant.text ∙ append_assoc head (flat_map f (take i rows)) (f row) ∙ ap (λ l. head ++ l) (sym all);
+      text = appended ∙ ap (λ l. l ++ f row) c.loop-shown.invariant.text ∙ append_assoc head (flat_map f (take i rows)) (f row) ∙ ap (λ l. head ++ l) (sym all);
       keys = rw more (All-push (λ (r : Row). KeyFits columns r.key) (take i rows) row c.loop-shown.invariant.keys fits);
     }
