@@ -15,7 +15,7 @@ use span_page::write_page;
 use span_report::stacks::{FoldedFault, SpanColumn, write_folded};
 use span_report::{Sink, WriteFault, write_bytes, write_report};
 use span_runs::table_of_run;
-use span_table::JsonFault;
+use span_table::{JsonFault, Table};
 use std::alloc::Global;
 use std::mem::forget;
 use std::random::RandomSource;
@@ -161,7 +161,7 @@ fn write_table<O: Sink, R: RandomSource>(
     ensures fault { IfErr result (λ fault. TextLeaves (OfTable view.now) files.now fault
         collected.now.end.ends.items collected.now.ledger.journal (O.state out.old) (O.state out.new)) }
 {
-    let text = match text_of_run(rt, alloc, files, collected, view) {
+    let text = match text_of_run(rt, alloc, files, collected, view, true) {
         Ok(text) => text,
         Err(JsonFault::Memory) => return Err(ViewFault::Run(RunError::Memory)),
         Err(JsonFault::TooGreat) => return Err(ViewFault::TooGreat),
@@ -185,7 +185,7 @@ fn write_page_view<O: Sink, R: RandomSource>(
     ensures fault { IfErr result (λ fault. TextLeaves (OfPage view.now) files.now fault
         collected.now.end.ends.items collected.now.ledger.journal (O.state out.old) (O.state out.new)) }
 {
-    let text = match text_of_run(rt, alloc, files, collected, &view.table) {
+    let text = match text_of_run(rt, alloc, files, collected, &view.table, false) {
         Ok(text) => text,
         Err(JsonFault::Memory) => return Err(ViewFault::Run(RunError::Memory)),
         Err(JsonFault::TooGreat) => return Err(ViewFault::TooGreat),
@@ -207,13 +207,14 @@ fn write_page_view<O: Sink, R: RandomSource>(
     .map_err(of_written)
 }
 
-// The text of a table of what was collected.
+// The text of a table of what was collected; it may be the last that is made.
 fn text_of_run<R: RandomSource>(
     rt: &R,
     alloc: Global,
     files: &[Input],
     collected: &Collected,
     view: &TableView,
+    is_last: bool,
 ) -> Result<Vec<u8>, JsonFault>
     ensures text { IfOk result (λ text. text.items ≡ table_text view.now false
         (asked_table view.now (run_of_files files.now collected.now.end.ends.items collected.now.ledger.journal))) }
@@ -227,7 +228,15 @@ fn text_of_run<R: RandomSource>(
         return Err(JsonFault::Memory);
     };
     let text = table_text(alloc, &table, view, false);
-    // The program ends soon, and then the system frees all at once, where freeing one by one takes long.
-    forget(table);
+    let_go(table, is_last);
     text
+}
+
+fn let_go(table: Table, is_last: bool) {
+    if is_last {
+        // The program ends soon, and then the system frees all at once, where freeing one by one takes long.
+        forget(table);
+    } else {
+        drop(table);
+    }
 }
