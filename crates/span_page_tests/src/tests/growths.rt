@@ -1,9 +1,10 @@
 //! What a page is where a growth is refused. The test runs with each allocation refused in turn, by tests/refused_allocations.
 
-use super::{NESTED, NESTED_DATA, READ, file, holds};
+use super::{NESTED, NESTED_DATA, READ, TABLE, file, holds};
 use span_collect::Input;
 use span_ledger::Ledger;
 use span_page::write_page;
+use span_report::stacks::SpanColumn;
 use span_report::{WriteFault, Writer};
 use span_test_support::told_at_last;
 use std::alloc::{AllocError, AllocGlobal, Global};
@@ -15,6 +16,14 @@ fn file_at_last(alloc: Global) -> Result<Input, Fail> {
     match file(alloc) {
         Ok(file) => Ok(file),
         Err(_) => Ok(file(alloc)?),
+    }
+}
+
+// The table, asked for once more where memory for it was refused.
+fn table_at_last(alloc: Global) -> Result<String, AllocError> {
+    match String::from_str(alloc, TABLE) {
+        Ok(table) => Ok(table),
+        Err(_) => String::from_str(alloc, TABLE),
     }
 }
 
@@ -39,12 +48,16 @@ fn is_whole_or_none(written: Result<(), WriteFault>, out: &[u8]) -> bool {
 
 fn writes_whole_or_not(rt: &(impl Abort + AllocGlobal), ledger: &Ledger) -> Result<(), Fail> {
     let files = [file_at_last(rt.alloc())?];
+    let labels = [SpanColumn::Name];
+    let table = table_at_last(rt.alloc())?;
     let mut out = room_for_the_page(rt.alloc())?;
     let written = write_page(
         rt.alloc(),
         ledger,
         &files,
         &[READ],
+        &labels,
+        table,
         &mut Writer::new(&mut out),
     );
     assert!(rt; is_whole_or_none(written, &out));

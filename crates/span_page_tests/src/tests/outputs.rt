@@ -1,9 +1,10 @@
 //! Outputs that take a page, or fail.
 
-use super::{READ, file, page_of};
+use super::{READ, TABLE, file, page_of};
 use span_ledger::Ledger;
 use span_page::write_page;
 use span_report::Writer;
+use span_report::stacks::SpanColumn;
 use span_test_support::{Output, told};
 use std::alloc::AllocGlobal;
 use std::process::Abort;
@@ -18,12 +19,16 @@ fn takes(
     page: &str,
 ) -> Result<(), Fail> {
     let files = [file(rt.alloc())?];
+    let labels = [SpanColumn::Name];
+    let table = String::from_str(rt.alloc(), TABLE)?;
     let mut output = Output::of_room(rt.alloc(), room);
     let written = write_page(
         rt.alloc(),
         ledger,
         &files,
         &[READ],
+        &labels,
+        table,
         &mut Writer::new(&mut output),
     );
     if room < page.len() {
