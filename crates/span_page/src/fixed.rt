@@ -4,7 +4,7 @@ pub(crate) const HEAD: &str = r#"<!DOCTYPE html>
 <html lang="en">
 <head>
 <meta charset="utf-8">
-<meta http-equiv="Content-Security-Policy" content="default-src 'none'; script-src 'sha256-0LJFm5tHgy97WUBkKa4XGJGUCFH72wizBsXK5JzSD+4='; style-src 'sha256-uO9OvdklSJNpmd638op5ygwR6B1lQnZHkbDsNlq77O0='; base-uri 'none'; form-action 'none'">
+<meta http-equiv="Content-Security-Policy" content="default-src 'none'; script-src 'sha256-xTvgYX2VEzu9ptkl9xzDDcyllfpIvpsl3YdBRDS4mQI='; style-src 'sha256-uO9OvdklSJNpmd638op5ygwR6B1lQnZHkbDsNlq77O0='; base-uri 'none'; form-action 'none'">
 <meta name="viewport" content="width=device-width, initial-scale=1">
 <meta name="color-scheme" content="light dark">
 <title>tracebook</title>
@@ -1101,7 +1101,7 @@ function warnings() {
 // What is narrowed to: rows of a process and a thread, whose names have all of some words and none of others, and threads with frames
 // that are labelled so.
 
-const narrowed = { process: null, thread: null, wanted: [], unwanted: [] };
+const narrowed = { process: null, thread: null, wanted: [], unwanted: [], places: new Set() };
 
 function isNamed(name) {
   const low = name.toLowerCase();
@@ -1117,10 +1117,16 @@ function isNarrowedTo(row) {
   return isOfPlace(row) && isNamed(row.name);
 }
 
+/** The places of rows of spans that have a thread which is narrowed to. Many rows have one place, and a place may have many threads. */
+function placesNarrowedTo() {
+  const hasOne = ({ threads }) => threads.some((thread) => isOfPlace({ process: thread.process, thread }));
+  return new Set([...spans.places.values()].filter(hasOne));
+}
+
 /** A row of spans can be of any thread of its place. */
 function isSpanNarrowedTo({ place, words }) {
   const isAnywhere = narrowed.process === null && narrowed.thread === null;
-  return isNamed(words) && (isAnywhere || place.threads.some((thread) => isOfPlace({ process: thread.process, thread })));
+  return isNamed(words) && (isAnywhere || narrowed.places.has(place));
 }
 
 /** Whether a thread has a frame that is narrowed to; of a graph that is left out nothing is known. */
@@ -1233,6 +1239,7 @@ function otherTables() {
 }
 
 function showRows() {
+  narrowed.places = placesNarrowedTo();
   for (const { table, rows, isShown } of tables) table.show(rows.filter(isShown), rows);
 }
 
@@ -1344,7 +1351,8 @@ class Graphs {
 
   /** Opens the graph of the busiest thread that has frames of a row, with these marked; one that is narrowed to comes first. */
   find({ place, label }) {
-    const threads = this.threads.filter((thread) => hasGraph(thread) && place.threads.includes(thread));
+    const own = new Set(place.threads);
+    const threads = this.threads.filter((thread) => hasGraph(thread) && own.has(thread));
     const having = threads.filter((thread) => labelsOf(thread).includes(label));
     const thread = having.find(isThreadNarrowedTo) ?? having[0] ?? threads[0];
     if (thread === undefined) return;
