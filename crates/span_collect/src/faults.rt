@@ -54,13 +54,13 @@ pub fn fault_line_of(alloc: Global, name: &Text, code: u16) -> Result<String, Al
 }
 
 /// One line for each end other than `Read`, in order.
-pub fn fault_lines(alloc: Global, files: &[Input], ends: &[FileEnd]) -> Result<Vec<u8>, AllocError>
+pub fn fault_lines(alloc: Global, files: &[Input], ends: &[FileEnd]) -> Result<String, AllocError>
     requires { length files.now ≡ length ends.now }
-    ensures { IfOk result (λ lines. lines.items ≡ end_lines files.now ends.now) }
+    ensures { IfOk result (λ lines. string_bytes lines ≡ end_lines files.now ends.now) }
 {
     let mut out = String::new(alloc);
     for (place, file) in files.iter().enumerate() {
         put_end(alloc, &mut out, &file.name, ends[place])?;
     }
-    Ok(out.into_bytes())
+    Ok(out)
 }

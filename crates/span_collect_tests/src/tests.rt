@@ -310,7 +310,7 @@ fn ends_with(
     assert_eq!(rt; end.status, 1);
     assert!(rt; files.len() == end.ends.len());
     let faults = fault_lines(rt.alloc(), files, &end.ends)?;
-    assert!(rt; faults.as_slice() == lines.as_bytes());
+    assert!(rt; faults.as_str() == lines);
     Ok(())
 }
 

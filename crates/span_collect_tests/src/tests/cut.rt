@@ -58,7 +58,7 @@ fn has_lines(
 ) -> Result<(), Fail> {
     assert!(rt; files.len() == ends.len());
     let faults = fault_lines(rt.alloc(), files, ends)?;
-    assert!(rt; faults.as_slice() == lines.as_bytes());
+    assert!(rt; faults.as_str() == lines);
     Ok(())
 }
 
