@@ -1,14 +1,18 @@
 -- A text with escapes, piece by piece.
 use Rattle.std.proofs.Common.{◌≡◌, ◌≢◌, ℕ, zero, suc, ◌≤◌, Bool, true, false, ◌&&◌, cond, List, [], ◌∷◌, ◌++◌, length, nat_eq, refl, sym, ap, ap₂, ◌∙◌, append_assoc, append-nil, arith}
-use Rattle.std.specs.Prelude.{T, not, codes}
+use Rattle.std.specs.Prelude.{T, not, codes, map}
 use Rattle.std.proofs.Math.Facts.{no_eqb}
-use Rattle.std.specs.List.{join_with_byte}
+use Rattle.std.specs.List.{join_with_byte, starts_with}
 use Rattle.json.specs.Print.{escape}
 use Rattle.span_ledger.specs.declared.entry.Entry.{Entry}
 use Rattle.span_report.specs.declared.stacks.label.SpanColumn.{SpanColumn}
 use Rattle.span_ledger.specs.Parts.{process_parts}
 use Rattle.span_report.specs.Lines.{json_text_of}
-use Rattle.span_page.specs.Data.{all_stacks_json, graphs_json, most_frames, threads_of}
+use Rattle.span_collect.specs.declared.files.FileEnd.{FileEnd}
+use Rattle.span_collect.specs.declared.files.Input.{Input}
+use Rattle.span_collect.specs.FaultLines.{end_lines}
+use Rattle.span_collect.specs.Refusals.Text.{refusals_of}
+use Rattle.span_page.specs.Data.{all_stacks_json, array_of, graphs_json, names_json, rest_of, threads_of}
 use Rattle.span_page.specs.Safe.{safe, safe_after, safe_byte}
 
 -- what stands for a text that begins with a byte, by what it begins with
@@ -79,24 +83,80 @@ unfolding json_text_of
 safe-json text rest = safe_after-append 34 refl refl rest zero (34 ∷ escape text) (omega (arith))
 
 -- the stacks of threads, and what is behind them
-safe-stacks : (labels : List SpanColumn) (journal : List Entry) (rest : List ℕ) → safe (all_stacks_json labels journal ++ rest) ≡ safe (all_stacks_json labels journal) ++ safe rest
+safe-stacks : (left : ℕ) (labels : List SpanColumn) (journal : List Entry) (rest : List ℕ) → safe (all_stacks_json left labels journal ++ rest) ≡ safe (all_stacks_json left labels journal) ++ safe rest
 unfolding all_stacks_json
-safe-stacks labels journal rest =
-    safe_after-append 93 refl refl rest zero (91 ∷ join_with_byte 44 (graphs_json labels journal most_frames (threads_of (process_parts journal)))) (omega (arith))
+safe-stacks left labels journal rest =
+    safe_after-append 93 refl refl rest zero (91 ∷ join_with_byte 44 (graphs_json labels journal left (threads_of (process_parts journal)))) (omega (arith))
 
--- the data with escapes, from its pieces
-pub safe-data : (report table refused : List ℕ) (labels : List SpanColumn) (journal : List Entry) →
-    safe (codes "{\"report\":" ++ (json_text_of report ++ (codes ",\"table\":" ++ (json_text_of table ++ (codes ",\"refused\":" ++ (json_text_of refused ++ (codes ",\"stacks\":" ++ (all_stacks_json labels journal ++ codes "}"))))))))
-    ≡ codes "{\"report\":" ++ (safe (json_text_of report) ++ (codes ",\"table\":" ++ (safe (json_text_of table) ++ (codes ",\"refused\":" ++ (safe (json_text_of refused) ++ (codes ",\"stacks\":" ++ (safe (all_stacks_json labels journal) ++ codes "}")))))))
+-- the names of files, and what is behind them
+safe-names : (files : List Input) (rest : List ℕ) → safe (names_json files ++ rest) ≡ safe (names_json files) ++ safe rest
+unfolding names_json
+safe-names files rest = safe_after-append 93 refl refl rest zero (91 ∷ join_with_byte 44 (map (λ (file : Input). json_text_of file.name) files)) (omega (arith))
+
+-- A piece before a byte of no separator has its own escapes too, whatever it ends in.
+module _ (first : ℕ) (second : nat_eq 128 first ≡ false) (line : nat_eq 168 first ≡ false) (paragraph : nat_eq 169 first ≡ false) (rest : List ℕ) where
+  nothing : (one others : Bool) → others ≡ false → (one && others) ≡ false
+  nothing true others is = is
+  nothing false others is = refl
+
+  pub safe_after-before : (n : ℕ) (text : List ℕ) → n ≤ length text → safe_after n (text ++ first ∷ rest) ≡ safe_after n text ++ safe (first ∷ rest)
+  safe_after-before zero [] few = refl
+  safe_after-before (suc n) [] few = absurd (omega (arith, few))
+  safe_after-before (suc n) (byte ∷ text) few = safe_after-before n text (omega (arith, few))
+  safe_after-before zero (byte ∷ []) few =
+      ap₂ (λ l p. begun l p byte (first ∷ rest)) (nothing (nat_eq 226 byte) (nat_eq 128 first && starts_with nat_eq rest (168 ∷ [])) (ap (λ is. is && starts_with nat_eq rest (168 ∷ [])) second))
+      (nothing (nat_eq 226 byte) (nat_eq 128 first && starts_with nat_eq rest (169 ∷ [])) (ap (λ is. is && starts_with nat_eq rest (169 ∷ [])) second))
+      ∙ sym (ap (λ (t : List ℕ). t ++ safe (first ∷ rest)) (ap₂ (λ l p. begun l p byte []) (nothing (nat_eq 226 byte) false refl) (nothing (nat_eq 226 byte) false refl) ∙ append-nil (safe_byte byte)))
+  safe_after-before zero (byte ∷ next ∷ []) few =
+      ap₂ (λ l p. begun l p byte (next ∷ first ∷ rest)) (nothing (nat_eq 226 byte) (nat_eq 128 next && (nat_eq 168 first && true)) (nothing (nat_eq 128 next) (nat_eq 168 first && true) (ap (λ is. is && true) line)))
+      (nothing (nat_eq 226 byte) (nat_eq 128 next && (nat_eq 169 first && true)) (nothing (nat_eq 128 next) (nat_eq 169 first && true) (ap (λ is. is && true) paragraph)))
+      ∙ ap (λ (t : List ℕ). safe_byte byte ++ t) (safe_after-before zero (next ∷ []) (omega (arith)))
+      ∙ sym (append_assoc (safe_byte byte) (safe (next ∷ [])) (safe (first ∷ rest)))
+      ∙ sym (ap (λ (t : List ℕ). t ++ safe (first ∷ rest)) (ap₂ (λ l p. begun l p byte (next ∷ [])) (nothing (nat_eq 226 byte) (nat_eq 128 next && false) (nothing (nat_eq 128 next) false refl)) (nothing (nat_eq 226 byte) (nat_eq 128 next && false) (nothing (nat_eq 128 next) false refl))))
+  safe_after-before zero (byte ∷ next ∷ third ∷ text) few =
+      step 44 refl refl (first ∷ rest) ((nat_eq 226 byte && (nat_eq 128 next && (nat_eq 168 third && true)))) ((nat_eq 226 byte && (nat_eq 128 next && (nat_eq 169 third && true)))) byte
+      (next ∷ third ∷ (text ++ first ∷ rest)) (next ∷ third ∷ text) (safe_after-before 2 (next ∷ third ∷ text) (omega (arith))) (safe_after-before zero (next ∷ third ∷ text) (omega (arith)))
+
+-- the report of a run, and what is behind it
+pub safe-report : (report rest : List ℕ) → safe (codes "{\"report\":" ++ (json_text_of report ++ rest)) ≡ (codes "{\"report\":" ++ safe (json_text_of report)) ++ safe rest
 unfolding safe_byte
-safe-data report table refused labels journal =
-    let stacks = codes ",\"stacks\":" ++ (all_stacks_json labels journal ++ codes "}") in
-    let refusals = codes ",\"refused\":" ++ (json_text_of refused ++ stacks) in
-    ap (λ (t : List ℕ). codes "{\"report\":" ++ t) (safe-json report (codes ",\"table\":" ++ (json_text_of table ++ refusals))
-    ∙ ap (λ (t : List ℕ). safe (json_text_of report) ++ (codes ",\"table\":" ++ t)) (safe-json table refusals
-    ∙ ap (λ (t : List ℕ). safe (json_text_of table) ++ (codes ",\"refused\":" ++ t)) (safe-json refused stacks
-    ∙ ap (λ (t : List ℕ). safe (json_text_of refused) ++ (codes ",\"stacks\":" ++ t)) (safe-stacks labels journal (codes "}")))))
+safe-report report rest = ap (λ (t : List ℕ). codes "{\"report\":" ++ t) (safe-json report rest)
+
+-- a table, and what is behind it
+pub safe-table : (table rest : List ℕ) → safe (codes ",\"table\":" ++ (json_text_of table ++ rest)) ≡ codes ",\"table\":" ++ (safe (json_text_of table) ++ safe rest)
+unfolding safe_byte
+safe-table table rest = ap (λ (t : List ℕ). codes ",\"table\":" ++ t) (safe-json table rest)
+
+-- what a page has of a run beside its report, from its pieces
+pub safe-rest : (left : ℕ) (labels : List SpanColumn) (files : List Input) (ends : List FileEnd) (journal : List Entry) →
+    safe (rest_of left labels files ends journal)
+    ≡ codes ",\"refused\":" ++ (safe (json_text_of (refusals_of files ends journal)) ++ (codes ",\"files\":" ++ (safe (names_json files)
+    ++ (codes ",\"faults\":" ++ (safe (json_text_of (end_lines files ends)) ++ (codes ",\"stacks\":" ++ (safe (all_stacks_json left labels journal) ++ codes "}")))))))
+unfolding safe_byte
+safe-rest left labels files ends journal =
+    let stacks = codes ",\"stacks\":" ++ (all_stacks_json left labels journal ++ codes "}") in
+    let faults = codes ",\"faults\":" ++ (json_text_of (end_lines files ends) ++ stacks) in
+    ap (λ (t : List ℕ). codes ",\"refused\":" ++ t) (safe-json (refusals_of files ends journal) (codes ",\"files\":" ++ (names_json files ++ faults))
+    ∙ ap (λ (t : List ℕ). safe (json_text_of (refusals_of files ends journal)) ++ (codes ",\"files\":" ++ t)) (safe-names files faults
+    ∙ ap (λ (t : List ℕ). safe (names_json files) ++ (codes ",\"faults\":" ++ t)) (safe-json (end_lines files ends) stacks
+    ∙ ap (λ (t : List ℕ). safe (json_text_of (end_lines files ends)) ++ (codes ",\"stacks\":" ++ t)) (safe-stacks left labels journal (codes "}")))))
+
+-- the data of runs, from their pieces
+pub safe-runs : (texts : List (List ℕ)) (table : List ℕ) →
+    safe (codes "{\"runs\":" ++ (array_of texts ++ (codes ",\"table\":" ++ (json_text_of table ++ codes "}"))))
+    ≡ codes "{\"runs\":[" ++ (safe (join_with_byte 44 texts) ++ (codes "],\"table\":" ++ (safe (json_text_of table) ++ codes "}")))
+unfolding safe_byte
+safe-runs texts table =
+    let runs = join_with_byte 44 texts in
+    let behind = codes ",\"table\":" ++ (json_text_of table ++ codes "}") in
+    ap (λ (t : List ℕ). codes "{\"runs\":[" ++ t) (
+    ap safe (append_assoc runs (93 ∷ []) behind)
+    ∙ safe_after-before 93 refl refl refl behind zero runs (omega arith)
+    ∙ ap (λ (t : List ℕ). safe runs ++ (codes "],\"table\":" ++ t)) (safe-json table (codes "}")))
 
 -- pieces that are appended one by one
+pub append-four : (o a b c d : List ℕ) → (((o ++ a) ++ b) ++ c) ++ d ≡ o ++ (a ++ (b ++ (c ++ d)))
+append-four o a b c d = simp append_assoc refl
+
 pub append-nine : (o a b c d e f g h i : List ℕ) → ((((((((o ++ a) ++ b) ++ c) ++ d) ++ e) ++ f) ++ g) ++ h) ++ i ≡ o ++ (a ++ (b ++ (c ++ (d ++ (e ++ (f ++ (g ++ (h ++ i))))))))
 append-nine o a b c d e f g h i = simp append_assoc refl

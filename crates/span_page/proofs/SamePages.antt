@@ -11,7 +11,12 @@ use Rattle.span_report.specs.Stacks.Laws.{HaveSameStacks}
 use Rattle.span_report.specs.Stacks.Microseconds.{Folded}
 use Rattle.span_report.proofs.SameReports.{report_of-alike}
 use Rattle.span_report.proofs.StackLemmas.SameStacks.{stacks-alike}
-use Rattle.span_page.specs.Data.{all_stacks_json, array_of, graph_json, graphs_json, left_after, most_frames, stacks_json, threads_of}
+use Rattle.span_collect.specs.declared.files.FileEnd.{FileEnd}
+use Rattle.span_collect.specs.declared.files.Input.{Input}
+use Rattle.span_collect.specs.FaultLines.{end_lines}
+use Rattle.span_collect.specs.Refusals.Text.{refusals_of}
+use Rattle.span_page.specs.Data.{all_stacks_json, array_of, data_of, graph_json, graphs_json, left_after, left_behind, most_frames, names_json, rest_of, stacks_json, threads_of}
+use Rattle.span_page.specs.Runs.{run_json}
 use Rattle.span_page.specs.Laws.{PagesFollowFromActs}
 use Rattle.span_page.specs.Page.{head_text, page_of, tail_text}
 use Rattle.span_page.specs.Safe.{safe}
@@ -30,16 +35,41 @@ module _ (labels : List SpanColumn) (journal other : List Entry) (same : HaveSam
       ap₂ (λ (graph : List ℕ) (graphs : List (List ℕ)). graph ∷ graphs) (graph_json-alike left thread)
       (graphs_json-alike (left_after labels journal left thread) later ∙ ap (λ rest. graphs_json labels other rest later) (left_after-alike left thread))
 
-all_stacks_json-alike : (labels : List SpanColumn) (journal other : List Entry) → AreAlike journal other → all_stacks_json labels journal ≡ all_stacks_json labels other
-unfolding all_stacks_json
-all_stacks_json-alike labels journal other alike =
-    ap array_of (graphs_json-alike labels journal other (stacks-alike journal other alike) most_frames (threads_of (process_parts journal))
-    ∙ ap (λ parts. graphs_json labels other most_frames (threads_of parts)) (rows-follow journal other alike).parts)
+  left_behind-alike : (left : ℕ) (threads : List Thread) → left_behind labels journal left threads ≡ left_behind labels other left threads
+  left_behind-alike left [] = refl
+  left_behind-alike left (thread ∷ later) =
+      left_behind-alike (left_after labels journal left thread) later ∙ ap (λ rest. left_behind labels other rest later) (left_after-alike left thread)
+
+module _ (labels : List SpanColumn) (journal other : List Entry) (alike : AreAlike journal other) where
+  all_stacks_json-alike : (left : ℕ) → all_stacks_json left labels journal ≡ all_stacks_json left labels other
+  unfolding all_stacks_json
+  all_stacks_json-alike left =
+      ap array_of (graphs_json-alike labels journal other (stacks-alike journal other alike) left (threads_of (process_parts journal))
+      ∙ ap (λ parts. graphs_json labels other left (threads_of parts)) (rows-follow journal other alike).parts)
+
+  -- as many frames are left
+  pub left_behind-follows : (left : ℕ) → left_behind labels journal left (threads_of (process_parts journal)) ≡ left_behind labels other left (threads_of (process_parts other))
+  left_behind-follows left = left_behind-alike labels journal other (stacks-alike journal other alike) left (threads_of (process_parts journal))
+      ∙ ap (λ parts. left_behind labels other left (threads_of parts)) (rows-follow journal other alike).parts
+
+  module _ (files : List Input) (ends others : List FileEnd) (refusals : refusals_of files ends journal ≡ refusals_of files others other) (faults : end_lines files ends ≡ end_lines files others) where
+    rest_of-alike : (left : ℕ) → rest_of left labels files ends journal ≡ rest_of left labels files others other
+    rest_of-alike left = λ i.
+        codes ",\"refused\":" ++ (json_text_of (refusals i)
+        ++ (codes ",\"files\":" ++ (names_json files
+        ++ (codes ",\"faults\":" ++ (json_text_of (faults i)
+        ++ (codes ",\"stacks\":" ++ (all_stacks_json-alike left i ++ codes "}")))))))
+
+    -- a run has the same data
+    pub run_json-alike : (left : ℕ) → run_json labels left (record { files = files; ends = ends; journal = journal }) ≡ run_json labels left (record { files = files; ends = others; journal = other })
+    run_json-alike left = λ i. codes "{\"report\":" ++ (json_text_of (report_of-alike journal other alike i) ++ rest_of-alike left i)
+
+    data_of-alike : (table : List ℕ) → data_of labels table files ends journal ≡ data_of labels table files others other
+    data_of-alike table = λ i.
+        codes "{\"report\":" ++ (json_text_of (report_of-alike journal other alike i)
+        ++ (codes ",\"table\":" ++ (json_text_of table ++ rest_of-alike most_frames i)))
 
 pub page_of-alike : PagesFollowFromActs
 unfolding page_of
-page_of-alike labels table files ends others journal other alike refusals = λ i. head_text ++ (safe (
-    codes "{\"report\":" ++ (json_text_of (report_of-alike journal other alike i)
-    ++ (codes ",\"table\":" ++ (json_text_of table
-    ++ (codes ",\"refused\":" ++ (json_text_of (refusals i)
-    ++ (codes ",\"stacks\":" ++ (all_stacks_json-alike labels journal other alike i ++ codes "}")))))))) ++ tail_text)
+page_of-alike labels table files ends others journal other alike refusals faults =
+    ap (λ (text : List ℕ). head_text ++ (safe text ++ tail_text)) (data_of-alike labels journal other alike files ends others refusals faults table)

@@ -11,6 +11,7 @@ use Rattle.span_report.specs.declared.stacks.label.SpanColumn.{SpanColumn}
 use Rattle.span_report.specs.Stacks.Microseconds.{Folded}
 use Rattle.span_collect.specs.declared.files.FileEnd.{FileEnd}
 use Rattle.span_collect.specs.declared.files.Input.{Input}
+use Rattle.span_collect.specs.FaultLines.{end_lines}
 use Rattle.span_collect.specs.Refusals.Text.{refusals_of}
 use Rattle.span_page.specs.Coded.{Coded, coded_after}
 
@@ -60,14 +61,30 @@ module _ (labels : List SpanColumn) (journal : List Entry) where
   graphs_json left [] = []
   graphs_json left (thread ∷ later) = graph_json left thread ∷ graphs_json (left_after left thread) later
 
--- the stacks of each thread of a journal whose graph fits
-unfoldable pub all_stacks_json : List SpanColumn → List Entry → List ℕ
-all_stacks_json labels journal = array_of (graphs_json labels journal most_frames (threads_of (process_parts journal)))
+  -- how many frames are left behind them all
+  abbrev pub left_behind : ℕ → List Thread → ℕ
+  left_behind left [] = left
+  left_behind left (thread ∷ later) = left_behind (left_after left thread) later
 
--- the text of the report, that of a table of spans, that of the refusals, and the stacks of the threads
+-- the stacks of each thread of a journal whose graph fits into so many frames
+unfoldable pub all_stacks_json : ℕ → List SpanColumn → List Entry → List ℕ
+all_stacks_json left labels journal = array_of (graphs_json labels journal left (threads_of (process_parts journal)))
+
+-- the names of files
+unfoldable pub names_json : List Input → List ℕ
+names_json files = array_of (map (λ (file : Input). json_text_of file.name) files)
+
+-- what a page has of a run beside its report: which items were refused, the files' names, their fault lines, and the stacks of the
+-- threads whose graphs fit into so many frames
+abbrev pub rest_of : ℕ → List SpanColumn → List Input → List FileEnd → List Entry → List ℕ
+rest_of left labels files ends journal =
+    codes ",\"refused\":" ++ (json_text_of (refusals_of files ends journal)
+    ++ (codes ",\"files\":" ++ (names_json files
+    ++ (codes ",\"faults\":" ++ (json_text_of (end_lines files ends)
+    ++ (codes ",\"stacks\":" ++ (all_stacks_json left labels journal ++ codes "}")))))))
+
+-- the text of the report, that of a table of spans, and the rest
 abbrev pub data_of : List SpanColumn → List ℕ → List Input → List FileEnd → List Entry → List ℕ
 data_of labels table files ends journal =
     codes "{\"report\":" ++ (json_text_of (report_of journal)
-    ++ (codes ",\"table\":" ++ (json_text_of table
-    ++ (codes ",\"refused\":" ++ (json_text_of (refusals_of files ends journal)
-    ++ (codes ",\"stacks\":" ++ (all_stacks_json labels journal ++ codes "}")))))))
+    ++ (codes ",\"table\":" ++ (json_text_of table ++ rest_of most_frames labels files ends journal)))

@@ -4,6 +4,7 @@ use Rattle.span_ledger.specs.declared.entry.Entry.{Entry}
 use Rattle.span_ledger.specs.Topics.{AreAlike}
 use Rattle.span_collect.specs.declared.files.FileEnd.{FileEnd}
 use Rattle.span_collect.specs.declared.files.Input.{Input}
+use Rattle.span_collect.specs.FaultLines.{end_lines}
 use Rattle.span_collect.specs.Refusals.Text.{refusals_of}
 use Rattle.span_report.specs.declared.stacks.label.SpanColumn.{SpanColumn}
 use Rattle.span_report.specs.Stacks.Microseconds.{Folded}
@@ -22,7 +23,7 @@ abbrev pub StacksAreHadBack : Type 0
 StacksAreHadBack = (stacks : List Folded) → decoded_after [] (coded_after [] stacks) ≡ stacks
 
 -- journals that have the same accepted acts on each topic, and as many entries of each kind, have the same page with a table, if the same
--- is said of what was refused
+-- is said of what was refused, and of the files that failed
 abbrev pub PagesFollowFromActs : Type 0
 PagesFollowFromActs = (labels : List SpanColumn) (table : List ℕ) (files : List Input) (ends others : List FileEnd) (journal other : List Entry) → AreAlike journal other →
-    refusals_of files ends journal ≡ refusals_of files others other → page_of labels table files ends journal ≡ page_of labels table files others other
+    refusals_of files ends journal ≡ refusals_of files others other → end_lines files ends ≡ end_lines files others → page_of labels table files ends journal ≡ page_of labels table files others other

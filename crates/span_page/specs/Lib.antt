@@ -2,4 +2,5 @@ pub mod Coded
 pub mod Data
 pub mod Laws
 pub mod Page
+pub mod Runs
 pub mod Safe

@@ -1,17 +1,17 @@
 //! The data of a page.
-ghost use Rattle.std.specs.Prelude.{◌≡◌, ◌++◌, length, string_bytes, IfOk, OnOk};
+ghost use Rattle.std.specs.Prelude.{◌≡◌, ◌++◌, codes, length, map, string_bytes, IfOk, OnOk};
 ghost use Rattle.std.specs.List.{join_with_byte};
 ghost use Rattle.span_ledger.specs.Parts.{process_parts};
 ghost use Rattle.span_report.specs.Lines.{json_text_of};
 ghost use Rattle.span_report.specs.Report.{report_of};
-ghost use Rattle.span_page.specs.Data.{all_stacks_json, data_of, graph_json, graphs_json, left_after, most_frames, threads_in, threads_of};
+ghost use Rattle.span_page.specs.Data.{all_stacks_json, data_of, graph_json, graphs_json, left_after, left_behind, names_json, rest_of, threads_in, threads_of};
 ghost use Rattle.span_page.specs.Safe.{safe};
 
 use crate::safe::put_safe;
 use crate::stacks::put_stacks;
 use serde_json::Value;
 use span_collect::refusals::refusals_text;
-use span_collect::{FileEnd, Input};
+use span_collect::{FileEnd, Input, fault_lines};
 use span_event::Thread;
 use span_ledger::{Ledger, ProcessPart};
 use span_report::report_text;
@@ -19,9 +19,9 @@ use span_report::stacks::{LabelledSpans, SpanColumn, StacksFault, framed_stacks}
 use std::alloc::{AllocError, Global};
 
 // How many frames the graphs of a page may have in all.
-const MOST_FRAMES: u32 = 4_194_304;
+pub(crate) const MOST_FRAMES: u32 = 4_194_304;
 
-// Appends the report, the table and the refusals as they are printed, and the folded stacks of the threads, with escapes.
+// Appends the report, the table and the rest, with escapes.
 pub(crate) fn put_data(
     alloc: Global,
     out: &mut Vec<u8>,
@@ -35,19 +35,93 @@ pub(crate) fn put_data(
     ensures { OnOk result (out.new.items ≡ out.old.items
         ++ safe (data_of labels.now (string_bytes table) files.now ends.now ledger.now.journal)) }
 {
+    let threads = put_report(alloc, out, ledger)?;
+    out.extend_from_slice(b",\"table\":")?;
+    put_safe_string(alloc, out, table)?;
+    put_rest(
+        alloc,
+        out,
+        ledger,
+        files,
+        ends,
+        labels,
+        &threads,
+        MOST_FRAMES,
+    )?;
+    Ok(())
+}
+
+// Begins the data of a run with its report, with escapes, and answers its threads in the report's order.
+pub(crate) fn put_report(
+    alloc: Global,
+    out: &mut Vec<u8>,
+    ledger: &Ledger,
+) -> Result<Vec<Thread>, AllocError>
+    ensures text { OnOk result (out.new.items ≡ out.old.items
+        ++ (codes "{\"report\":" ++ safe (json_text_of (report_of ledger.now.journal)))) }
+    ensures threads { IfOk result (λ threads. threads.items ≡ threads_of (process_parts ledger.now.journal)) }
+{
     let (report, threads) = report_and_threads(alloc, ledger)?;
     out.extend_from_slice(b"{\"report\":")?;
     put_safe_string(alloc, out, report)?;
-    out.extend_from_slice(b",\"table\":")?;
-    put_safe_string(alloc, out, table)?;
+    Ok(threads)
+}
+
+// Appends what a page has of a run beside its report, with escapes, and ends the data. Answers how many frames are left behind its graphs.
+pub(crate) fn put_rest(
+    alloc: Global,
+    out: &mut Vec<u8>,
+    ledger: &Ledger,
+    files: &[Input],
+    ends: &[FileEnd],
+    labels: &[SpanColumn],
+    threads: &[Thread],
+    left: u32,
+) -> Result<u32, AllocError>
+    requires ends { length files.now ≡ length ends.now }
+    requires threads { threads.now ≡ threads_of (process_parts ledger.now.journal) }
+    ensures text { OnOk result (out.new.items ≡ out.old.items
+        ++ safe (rest_of left labels.now files.now ends.now ledger.now.journal)) }
+    ensures left { IfOk result (λ rest. rest ≡ left_behind labels.now ledger.now.journal left threads.now) }
+{
     out.extend_from_slice(b",\"refused\":")?;
     put_safe_string(alloc, out, refusals_text(alloc, ledger, files, ends)?)?;
+    out.extend_from_slice(b",\"files\":")?;
+    put_safe(out, names_text(alloc, files)?.as_bytes())?;
+    out.extend_from_slice(b",\"faults\":")?;
+    put_safe_string(alloc, out, fault_lines(alloc, files, ends)?)?;
     out.extend_from_slice(b",\"stacks\":")?;
-    put_safe(
-        out,
-        stacks_text(alloc, ledger, labels, &threads)?.as_bytes(),
-    )?;
-    out.extend_from_slice(b"}")
+    let (stacks, rest) = stacks_text(alloc, ledger, labels, threads, left)?;
+    put_safe(out, stacks.as_bytes())?;
+    out.extend_from_slice(b"}")?;
+    Ok(rest)
+}
+
+// The names of files.
+#[tactic(auto, unfolding(crate::specs::Data::names_json), using(std::proofs::Common::append_assoc))]
+fn names_text(alloc: Global, files: &[Input]) -> Result<String, AllocError>
+    ensures { IfOk result (λ text. string_bytes text ≡ names_json files.now) }
+{
+    let mut out = String::from_str(alloc, "[")?;
+    put_file_names(alloc, &mut out, files)?;
+    out.push(']')?;
+    Ok(out)
+}
+
+// Appends the names of files, parted by commas.
+fn put_file_names(alloc: Global, out: &mut String, files: &[Input]) -> Result<(), AllocError>
+    ensures { OnOk result (string_bytes out.new ≡ string_bytes out.old
+        ++ join_with_byte 44 (map (λ (file : Input). json_text_of file.name) files.now)) }
+{
+    let Some((first, later)) = files.split_first() else {
+        return Ok(());
+    };
+    put_string(alloc, out, first.name.as_str())?;
+    for file in later {
+        out.push(',')?;
+        put_string(alloc, out, file.name.as_str())?;
+    }
+    Ok(())
 }
 
 // The report, and its threads in its order.
@@ -62,7 +136,11 @@ fn report_and_threads(alloc: Global, ledger: &Ledger) -> Result<(String, Vec<Thr
 }
 
 // Appends a text as a JSON text with escapes.
-fn put_safe_string(alloc: Global, out: &mut Vec<u8>, text: String) -> Result<(), AllocError>
+pub(crate) fn put_safe_string(
+    alloc: Global,
+    out: &mut Vec<u8>,
+    text: String,
+) -> Result<(), AllocError>
     ensures { OnOk result (out.new.items ≡ out.old.items ++ safe (json_text_of (string_bytes text))) }
 {
     let json = string_json(alloc, text)?;
@@ -77,21 +155,23 @@ fn string_json(alloc: Global, text: String) -> Result<String, AllocError>
     Value::String(text).to_string(alloc)
 }
 
-// The stacks of each thread.
+// The stacks of each thread, and how many frames are left behind their graphs.
 #[tactic(auto, unfolding(crate::specs::Data::all_stacks_json), using(std::proofs::Common::append_assoc))]
 fn stacks_text(
     alloc: Global,
     ledger: &Ledger,
     labels: &[SpanColumn],
     threads: &[Thread],
-) -> Result<String, AllocError>
+    left: u32,
+) -> Result<(String, u32), AllocError>
     requires { threads.now ≡ threads_of (process_parts ledger.now.journal) }
-    ensures { IfOk result (λ text. string_bytes text ≡ all_stacks_json labels.now ledger.now.journal) }
+    ensures text { IfOk result (λ both. string_bytes both.0 ≡ all_stacks_json left labels.now ledger.now.journal) }
+    ensures left { IfOk result (λ both. both.1 ≡ left_behind labels.now ledger.now.journal left threads.now) }
 {
     let mut out = String::from_str(alloc, "[")?;
-    put_threads(alloc, &mut out, ledger, labels, threads)?;
+    let rest = put_threads(alloc, &mut out, ledger, labels, threads, left)?;
     out.push(']')?;
-    Ok(out)
+    Ok((out, rest))
 }
 
 // Appends the text as a JSON text.
@@ -126,26 +206,28 @@ fn put_threads_in(threads: &mut Vec<Thread>, process: &ProcessPart) -> Result<()
     Ok(())
 }
 
-// Appends the graph of each thread, parted by commas, as long as there are frames left for it.
+// Appends the graph of each thread, parted by commas, as long as there are frames left for it. Answers how many are left behind them.
 fn put_threads(
     alloc: Global,
     out: &mut String,
     ledger: &Ledger,
     labels: &[SpanColumn],
     threads: &[Thread],
-) -> Result<(), AllocError>
-    ensures { OnOk result (string_bytes out.new
-        ≡ string_bytes out.old ++ join_with_byte 44 (graphs_json labels.now ledger.now.journal most_frames threads.now)) }
+    left: u32,
+) -> Result<u32, AllocError>
+    ensures json { OnOk result (string_bytes out.new
+        ≡ string_bytes out.old ++ join_with_byte 44 (graphs_json labels.now ledger.now.journal left threads.now)) }
+    ensures left { IfOk result (λ rest. rest ≡ left_behind labels.now ledger.now.journal left threads.now) }
 {
     let Some((first, later)) = threads.split_first() else {
-        return Ok(());
+        return Ok(left);
     };
-    let mut left = put_thread(alloc, out, ledger, labels, first, MOST_FRAMES)?;
+    let mut rest = put_thread(alloc, out, ledger, labels, first, left)?;
     for thread in later {
         out.push(',')?;
-        left = put_thread(alloc, out, ledger, labels, thread, left)?;
+        rest = put_thread(alloc, out, ledger, labels, thread, rest)?;
     }
-    Ok(())
+    Ok(rest)
 }
 
 // Appends the stacks of a thread, or `null` where its graph has more frames than are left. Answers how many are left behind it.

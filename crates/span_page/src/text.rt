@@ -33,14 +33,14 @@ pub fn page(
 }
 
 #[tactic(auto, unfolding(crate::specs::Page::head_text))]
-fn head() -> &'static str
+pub(crate) fn head() -> &'static str
     ensures { result.now ≡ head_text }
 {
     HEAD
 }
 
 #[tactic(auto, unfolding(crate::specs::Page::tail_text))]
-fn tail() -> &'static str
+pub(crate) fn tail() -> &'static str
     ensures { result.now ≡ tail_text }
 {
     TAIL

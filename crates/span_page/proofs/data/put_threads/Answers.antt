@@ -2,28 +2,39 @@ use Rattle.std.proofs.Common.{◌++◌, ◌∷◌, [], ℕ, List, append-nil, fl
 use Rattle.std.proofs.lemmas.List.{drop_all}
 use Rattle.std.specs.List.{join_with_byte}
 use Rattle.span_event.specs.declared.thread.Thread.{Thread}
-use Rattle.span_page.specs.Data.{graph_json, graphs_json, left_after, most_frames}
+use Rattle.span_page.specs.Data.{graph_json, graphs_json, left_after, left_behind}
 use Rattle.span_page.proofs.Joined.{join_with_byte_cons}
 use Rattle.span_page.proofs.data.put_threads.Goals as goal
 
 -- the graph of the first thread, and those of each other with a comma before them
-pub returns : goal.returns
-returns c =
+pub returns-clause-json : goal.returns-clause-json
+returns-clause-json c =
     let before = string_bytes c.args.out.now in
     let out = string_bytes c.loop-thread.out in
     let labels = c.args.labels.now in
     let journal = c.args.ledger.now.journal in
     let later = c.in-Some.later.now in
     let thread = c.in-Some.first.now in
-    let first = graph_json labels journal most_frames thread in
-    let behind = left_after labels journal most_frames thread in
+    let first = graph_json labels journal c.args.left thread in
+    let behind = left_after labels journal c.args.left thread in
     let commas = λ (left : ℕ) (threads : List Thread). flat_map (λ (text : List ℕ). 44 ∷ text) (graphs_json labels journal left threads) in
     let none : drop c.loop-thread.thread-index later ≡ [] = drop_all c.loop-thread.thread-index later c.loop-thread-test.false in
     sym (append-nil out)
-    ∙ ap (λ (rest : List Thread). out ++ commas c.loop-thread.left rest) (sym none)
-    ∙ c.loop-thread.invariant
-    ∙ ap (λ text. text ++ commas c.in_ok-left.left later) c.in_ok-left.ensures.json
-    ∙ ap (λ left. (before ++ first) ++ commas left later) c.in_ok-left.ensures.left
+    ∙ ap (λ (others : List Thread). out ++ commas c.loop-thread.rest others) (sym none)
+    ∙ c.loop-thread.invariant.json
+    ∙ ap (λ text. text ++ commas c.in_ok-rest.rest later) c.in_ok-rest.ensures.json
+    ∙ ap (λ left. (before ++ first) ++ commas left later) c.in_ok-rest.ensures.left
     ∙ append_assoc before first (commas behind later)
     ∙ ap (λ text. before ++ text) (sym (join_with_byte_cons first (graphs_json labels journal behind later)))
-    ∙ ap (λ (threads : List Thread). before ++ join_with_byte 44 (graphs_json labels journal most_frames threads)) (sym c.in-Some.ensures.cases.0)
+    ∙ ap (λ (threads : List Thread). before ++ join_with_byte 44 (graphs_json labels journal c.args.left threads)) (sym c.in-Some.ensures.cases.0)
+
+pub returns-clause-left : goal.returns-clause-left
+returns-clause-left c =
+    let labels = c.args.labels.now in
+    let journal = c.args.ledger.now.journal in
+    let later = c.in-Some.later.now in
+    let none : drop c.loop-thread.thread-index later ≡ [] = drop_all c.loop-thread.thread-index later c.loop-thread-test.false in
+    ap (left_behind labels journal c.loop-thread.rest) (sym none)
+    ∙ c.loop-thread.invariant.left
+    ∙ ap (λ left. left_behind labels journal left later) c.in_ok-rest.ensures.left
+    ∙ ap (left_behind labels journal c.args.left) (sym c.in-Some.ensures.cases.0)

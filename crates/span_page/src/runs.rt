@@ -1,0 +1,90 @@
+//! A page of several runs, which come one after another.
+ghost use Rattle.std.specs.Prelude.{◌≡◌, [], List, length, string_bytes, IfOk};
+ghost use Rattle.span_page.specs.Runs.{Holds, ShownRun, TakesRun, page_of_runs};
+
+use crate::data::{MOST_FRAMES, put_report, put_rest, put_safe_string};
+use crate::text::{head, tail};
+use span_collect::{FileEnd, Input};
+use span_ledger::Ledger;
+use span_report::stacks::SpanColumn;
+use std::alloc::{AllocError, Global};
+use std::marker::Model;
+
+/// A page of runs, of which some are there.
+#[derive(Drop)]
+pub struct RunsPage {
+    text: Vec<u8>,
+    // How many frames are left for the graphs of later runs.
+    left: u32,
+    has_run: bool,
+}
+
+impl Model for RunsPage {
+    ghost use Rattle.span_page.specs.Runs.{BegunPage};
+
+    ghost Value = { BegunPage };
+
+    ghost view = { λ p. record { text = p.text.items; left = p.left; has_run = p.has_run } };
+}
+
+impl RunsPage {
+    /// The page of no runs.
+    pub fn begin(alloc: Global) -> Result<RunsPage, AllocError>
+        ensures { IfOk result (λ page. (labels : List SpanColumn) → Holds labels [] page) }
+    {
+        let mut text = Vec::new(alloc);
+        text.extend_from_slice(head().as_bytes())?;
+        text.extend_from_slice(b"{\"runs\":[")?;
+        Ok(RunsPage {
+            text,
+            left: MOST_FRAMES,
+            has_run: false,
+        })
+    }
+
+    /// With one more run: that of the ledger's journal, and of the files that were told to it, of which each has an end, in order. Frames
+    /// are labels by these columns.
+    pub fn with_run(
+        self,
+        alloc: Global,
+        ledger: &Ledger,
+        files: &[Input],
+        ends: &[FileEnd],
+        labels: &[SpanColumn],
+    ) -> Result<RunsPage, AllocError>
+        requires { length files.now ≡ length ends.now }
+        ensures { IfOk result (TakesRun labels.now
+            (record { files = files.now; ends = ends.now; journal = ledger.now.journal }) self) }
+    {
+        let RunsPage {
+            mut text,
+            left,
+            has_run,
+        } = self;
+        if has_run {
+            text.push(b',')?;
+        }
+        let threads = put_report(alloc, &mut text, ledger)?;
+        let left = put_rest(
+            alloc, &mut text, ledger, files, ends, labels, &threads, left,
+        )?;
+        Ok(RunsPage {
+            text,
+            left,
+            has_run: true,
+        })
+    }
+
+    /// The whole page, with the text of a table of spans, which is JSON Lines.
+    pub fn end(self, alloc: Global, table: String) -> Result<Vec<u8>, AllocError>
+        ensures { IfOk result (λ text. (labels : List SpanColumn) (runs : List ShownRun) → Holds labels runs self
+            → text.items ≡ page_of_runs labels (string_bytes table) runs) }
+    {
+        let RunsPage { mut text, .. } = self;
+        text.extend_from_slice(b"],\"table\":")?;
+        put_safe_string(alloc, &mut text, table)?;
+        text.extend_from_slice(b"}")?;
+        text.extend_from_slice(tail().as_bytes())?;
+        Ok(text)
+    }
+}
