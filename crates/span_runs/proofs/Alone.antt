@@ -1,6 +1,7 @@
 -- What was collected of one file alone.
-use Rattle.std.proofs.Common.{◌≡◌, ◌<◌, List, [], ◌∷◌, ◌++◌, length, refl, append-nil, ◌∙◌}
+use Rattle.std.proofs.Common.{◌≡◌, ℕ, ◌<◌, List, [], ◌∷◌, ◌++◌, length, Option, refl, ap, append-nil, ◌∙◌}
 use Rattle.std.proofs.lemmas.Slice.Zip.{AllZip-long}
+use Rattle.span_event.specs.Text.{Bytes}
 use Rattle.span_read.specs.Document.{doc}
 use Rattle.span_ledger.specs.declared.entry.Entry.{Entry}
 use Rattle.span_collect.specs.declared.files.FileEnd.{FileEnd}
@@ -19,7 +20,9 @@ use Rattle.span_table.specs.Columns.{Run}
 use Rattle.span_table.specs.Laws.{AreAlikeRuns, AreAllAlike}
 use Rattle.span_table.specs.Tables.{SpanTable}
 use Rattle.span_table.proofs.SameTables.{table_of-alike}
-use Rattle.span_runs.specs.Apart.{IsAccounted, refusal_line, run_alone}
+use Rattle.span_runs.specs.declared.file_run.FileRun.{FileRun}
+use Rattle.span_runs.specs.declared.summed.Summed.{Summed}
+use Rattle.span_runs.specs.Apart.{AddsFile, IsAccounted, IsFileRun, refusal_line, run_alone, run_of}
 use Rattle.span_runs.specs.Runs.{run_of_files}
 use Rattle.span_runs.proofs.InTurn.{AreAlikeRuns-in_turn}
 
@@ -62,3 +65,17 @@ module _ (file : Input) (settings : Settings) (ends : List FileEnd) (asked : Ask
   -- and its fault lines are its refusal line
   pub end_lines-alone : end_lines (file ∷ []) ends ≡ refusal_line file
   end_lines-alone = end_lines-in_turn (file ∷ []) [] settings ends asked sealing journal account (AreSeparate-one file) below ∙ append-nil (refusal_line file)
+
+-- a sum that takes the run of a file, and its lines, has the file
+pub AddsFile-run : (known : List ℕ → Option (List ℕ)) (name : List ℕ) (settings : Settings) (run : FileRun) (old new : Summed) → IsFileRun known name settings run →
+    TakesRuns old.sum (run_of run ∷ []) new.sum → new.lines.items ≡ old.lines.items ++ end_lines (run.file ∷ []) run.collected.end.ends.items → AddsFile known name settings old new
+AddsFile-run known name settings run old new is takes told =
+    let end = run.collected.end in
+    let journal = run.collected.ledger.journal in record {
+      file = run.file;
+      named = is.named;
+      held = is.held;
+      accounted = IsAccounted-alone run.file settings end.ends.items end.asked end.sealing journal is.account is.status;
+      sum = TakesRuns-alone run.file settings end.ends.items end.asked end.sealing journal is.account is.status old.sum new.sum takes;
+      lines = told ∙ ap (λ (line : Bytes). old.lines.items ++ line) (end_lines-alone run.file settings end.ends.items end.asked end.sealing journal is.account is.status);
+    }

@@ -1,5 +1,5 @@
 -- Files each of which is a run of its own, summed into one table.
-use Rattle.std.specs.Prelude.{◌≡◌, ℕ, ◌<◌, List, [], ◌∷◌, ◌++◌, map, flat_map, All, Option}
+use Rattle.std.specs.Prelude.{◌≡◌, ℕ, ◌<◌, List, [], ◌∷◌, ◌++◌, length, map, flat_map, All, Option}
 use Rattle.span_event.specs.Text.{Bytes}
 use Rattle.span_ledger.specs.declared.entry.Entry.{Entry}
 use Rattle.span_read.specs.Document.{doc}
@@ -16,6 +16,7 @@ use Rattle.span_table.specs.Adding.{TakesRuns}
 use Rattle.span_table.specs.Columns.{Run}
 use Rattle.span_table.specs.Laws.{AreAlikeRuns}
 use Rattle.span_table.specs.Tables.{SpanTable, table_of}
+use Rattle.span_runs.specs.declared.file_run.FileRun.{FileRun}
 use Rattle.span_runs.specs.declared.summed.Summed.{Summed}
 use Rattle.span_runs.specs.Inputs.{AreFiles, most_read}
 use Rattle.span_runs.specs.Runs.{run_in_turn, run_of_files}
@@ -35,6 +36,18 @@ pub record IsAccounted (settings : Settings) (file : Input) : Type 0 where
   pub account : SealedAccount (file ∷ []) [] settings ends asked sealing journal
   pub status : status_of ends asked sealing < 2
   pub alike : AreAlikeRuns (run_of_files (file ∷ []) ends journal) (run_alone settings file)
+
+-- The file of this name was read and collected alone, and its run ended, not with 2.
+pub record IsFileRun (known : List ℕ → Option (List ℕ)) (name : List ℕ) (settings : Settings) (run : FileRun) : Type 0 where
+  pub named : run.file.name ≡ name
+  pub held : AreFirst most_read (known name) run.file.bytes.items
+  pub account : SealedAccount (run.file ∷ []) [] settings run.collected.end.ends.items run.collected.end.asked run.collected.end.sealing run.collected.ledger.journal
+  pub status : status_of run.collected.end.ends.items run.collected.end.asked run.collected.end.sealing < 2
+  pub one : length run.collected.end.ends.items ≡ 1
+
+-- as a table takes it
+abbrev pub run_of : FileRun → Run
+run_of run = run_of_files (run.file ∷ []) run.collected.end.ends.items run.collected.ledger.journal
 
 -- the fault line of a file that is no trace; another has none
 abbrev pub refusal_line : Input → Bytes

@@ -1,25 +1,18 @@
 //! Files each of which is a run of its own, summed into one table in several jobs at once.
-ghost use Rattle.std.specs.Prelude.{◌≡◌, ◌<◌, ◌∷◌, ◌++◌, [], length, IfErr, IfOk};
+ghost use Rattle.std.specs.Prelude.{◌≡◌, ◌<◌, ◌++◌, length, IfOk};
 ghost use Rattle.std.specs.Thread.{IsSync};
-ghost use Rattle.span_collect.specs.Run.{IsNotCollected, status_of};
-ghost use Rattle.span_collect.specs.Seals.{SealedAccount};
-ghost use Rattle.span_runs.specs.Inputs.{most_read};
-ghost use Rattle.span_runs.specs.Source.{AreFirst};
-ghost use Rattle.span_runs.specs.Stops.{AddsOrStops, IsUnread, JoinsFiles, SaysCut, SumsOrHalts, SumsOrStops, cut_lines};
+ghost use Rattle.span_runs.specs.Stops.{AddsOrStops, JoinsFiles, SumsOrHalts, SumsOrStops};
 
 use crate::cuts::cut;
-use crate::files::read_file;
+use crate::file_run::collect_file;
 use crate::source::Source;
-use crate::stop::{Halt, Stop, StopCause};
+use crate::stop::{Halt, Stop};
 use crate::summed::Summed;
-use span_collect::{
-    Collected, Input, RunError, Settings, collect_to_ledger, fault_line_of, fault_lines,
-};
+use span_collect::Settings;
 use span_event::Text;
 use span_table::Column;
 use std::alloc::{AllocError, Global};
 use std::random::RandomSource;
-use std::slice::from_ref;
 use std::sync::Wait;
 use std::sync::atomic::{AtomicU64, Ordering};
 use std::thread::{Threads, join_mut};
@@ -226,76 +219,14 @@ fn add_file<S: Source, R: Threads + Wait + RandomSource + Sync>(
 ) -> Result<Summed, Stop>
     ensures { AddsOrStops (S.bytes work.now.source.now).file name.now work.now.settings summed result }
 {
-    let file = match read_named(alloc, work.source, name) {
-        Ok(file) => file,
+    let collected = match collect_file(rt, alloc, work.source, name, &work.settings) {
+        Ok(collected) => collected,
         Err(cause) => return Err(summed.stop(cause)),
     };
-    let collected = match collect_alone(rt, alloc, &file, &work.settings) {
-        Ok(collected) => collected,
-        Err(error) => return Err(summed.stop(StopCause::Run(error))),
-    };
-    if collected.end.status == 2 {
-        let cause = cut_of(alloc, &file, &collected);
-        return Err(summed.stop(cause));
-    }
-    match summed.with_run(alloc, &file, &collected) {
+    match summed.with_run(alloc, &collected) {
         Ok(more) => Ok(more),
         Err(stop) => Err(stop),
     }
-}
-
-fn read_named<S: Source>(alloc: Global, source: &S, name: &Text) -> Result<Input, StopCause>
-    ensures name { IfOk result (λ file. file.name ≡ name.now) }
-    ensures bytes { IfOk result
-        (λ file. AreFirst most_read ((S.bytes source.now).file name.now) file.bytes.items) }
-    ensures unread { IfErr result (λ cause. IsUnread name.now cause) }
-{
-    match name.try_clone(alloc) {
-        Ok(name) => read_file(name, source),
-        Err(_) => Err(StopCause::Memory),
-    }
-}
-
-fn collect_alone<R: Threads + Wait + RandomSource + Sync>(
-    rt: &R,
-    alloc: Global,
-    file: &Input,
-    settings: &Settings,
-) -> Result<Collected, RunError>
-    ensures account { IfOk result (λ collected. SealedAccount (file.now ∷ []) [] settings.now
-        collected.end.ends.items collected.end.asked collected.end.sealing collected.ledger.journal) }
-    ensures status { IfOk result (λ collected. collected.end.status
-        ≡ status_of collected.end.ends.items collected.end.asked collected.end.sealing) }
-    ensures one { IfOk result (λ collected. length collected.end.ends.items ≡ 1) }
-    ensures refused { IfErr result (λ error. IsNotCollected error (file.now ∷ []) [] settings.now) }
-{
-    match collect_to_ledger(rt, alloc, from_ref(file), &[], settings) {
-        Ok(collected) => Ok(collected),
-        Err(error) => Err(error),
-    }
-}
-
-// Why a run ended with 2: the line of its file, and that of a seal that was not taken.
-fn cut_of(alloc: Global, file: &Input, collected: &Collected) -> StopCause
-    requires { length collected.now.end.ends.items ≡ 1 }
-    ensures { SaysCut (cut_lines file.now collected.now.end.ends.items collected.now.end.sealing) result }
-{
-    match cut_lines(alloc, file, collected) {
-        Ok(lines) => StopCause::Cut(lines),
-        Err(_) => StopCause::Memory,
-    }
-}
-
-fn cut_lines(alloc: Global, file: &Input, collected: &Collected) -> Result<Vec<u8>, AllocError>
-    requires { length collected.now.end.ends.items ≡ 1 }
-    ensures { IfOk result (λ lines. lines.items ≡ cut_lines file.now collected.now.end.ends.items collected.now.end.sealing) }
-{
-    let mut lines = fault_lines(alloc, from_ref(file), &collected.end.ends)?;
-    if let Some(cause) = collected.end.sealing.cause {
-        let line = fault_line_of(alloc, &file.name, cause.code())?;
-        lines.extend_from_slice(line.as_bytes())?;
-    }
-    Ok(lines)
 }
 
 // The files of two groups, of which those of the second come after those of the first.

@@ -4,6 +4,7 @@
 
 mod apart;
 mod cuts;
+mod file_run;
 mod files;
 mod names;
 mod runs;
@@ -12,6 +13,7 @@ mod stop;
 mod summed;
 
 pub use apart::sum_apart;
+pub use file_run::{FileRun, collect_file};
 pub use files::{MOST_READ, read_file, read_standard};
 pub use names::{Named, names_of};
 pub use runs::table_of_run;

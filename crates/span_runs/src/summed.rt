@@ -3,11 +3,12 @@ ghost use Rattle.std.specs.Prelude.{◌≡◌, ◌∷◌, ◌++◌, [], length, 
 ghost use Rattle.span_collect.specs.FaultLines.{end_lines};
 ghost use Rattle.span_table.specs.Adding.{JoinsRuns, TakesRuns};
 ghost use Rattle.span_table.specs.Tables.{table_of};
-ghost use Rattle.span_runs.specs.Runs.{run_of_files};
+ghost use Rattle.span_runs.specs.Apart.{run_of};
 ghost use Rattle.span_runs.specs.Stops.{IsStopOfSum};
 
+use crate::file_run::FileRun;
 use crate::stop::{Stop, StopCause};
-use span_collect::{Collected, Input, fault_lines};
+use span_collect::fault_lines;
 use span_keyed_tracks::HashKeys;
 use span_table::{Column, TableSum};
 use std::alloc::Global;
@@ -22,8 +23,8 @@ pub struct Summed {
 }
 
 impl Summed {
-    // No files.
-    pub(crate) fn of_none<R: RandomSource>(
+    /// No files.
+    pub fn of_none<R: RandomSource>(
         rt: &R,
         alloc: Global,
         columns: &[Column],
@@ -38,8 +39,8 @@ impl Summed {
         }
     }
 
-    // What stopped after these files.
-    pub(crate) fn stop(self, cause: StopCause) -> Stop
+    /// What stopped after these files.
+    pub fn stop(self, cause: StopCause) -> Stop
         ensures { (result.lines ≡ self.lines) × (result.cause ≡ cause) }
     {
         Stop {
@@ -48,27 +49,22 @@ impl Summed {
         }
     }
 
-    // With the run of a file, which was read or refused.
-    pub(crate) fn with_run(
-        self,
-        alloc: Global,
-        file: &Input,
-        collected: &Collected,
-    ) -> Result<Summed, Stop>
-        requires { length collected.now.end.ends.items ≡ 1 }
-        ensures sum { IfOk result (λ more. TakesRuns self.sum
-            (run_of_files (file.now ∷ []) collected.now.end.ends.items collected.now.ledger.journal ∷ []) more.sum) }
+    /// With the run of a file, which was read or refused.
+    pub fn with_run(self, alloc: Global, run: &FileRun) -> Result<Summed, Stop>
+        requires { length run.now.collected.end.ends.items ≡ 1 }
+        ensures sum { IfOk result (λ more. TakesRuns self.sum (run_of run.now ∷ []) more.sum) }
         ensures lines { IfOk result (λ more. more.lines.items
-            ≡ self.lines.items ++ end_lines (file.now ∷ []) collected.now.end.ends.items) }
+            ≡ self.lines.items ++ end_lines (run.now.file ∷ []) run.now.collected.end.ends.items) }
         ensures stop { IfErr result (IsStopOfSum self.lines.items) }
     {
         let Summed { sum, lines } = self;
+        let FileRun { file, collected } = run;
         let end = &collected.end;
         let Ok(told) = fault_lines(alloc, from_ref(file), &end.ends) else {
             return Err(memory_after(lines));
         };
         match sum.add_run(&collected.ledger, 1, end.unread(), Some(&file.name)) {
-            Ok(sum) => with_lines(sum, lines, &told),
+            Ok(sum) => with_lines(sum, lines, told.as_bytes()),
             Err(fault) => Err(Stop {
                 lines,
                 cause: StopCause::of_sum(fault),

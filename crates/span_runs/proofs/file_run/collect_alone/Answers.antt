@@ -1,5 +1,5 @@
 use Rattle.span_runs.proofs.Alone.{length-alone}
-use Rattle.span_runs.proofs.apart.collect_alone.Goals as goal
+use Rattle.span_runs.proofs.file_run.collect_alone.Goals as goal
 
 -- there is one end for the file
 pub returns-in-Ok-clause-one : goal.returns-in-Ok-clause-one
