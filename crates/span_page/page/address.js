@@ -3,9 +3,15 @@
 
 const MOST_ZOOMS = 20;
 
-/** A thread as it stands in an address. */
-function placeOf(thread) {
-  return `${thread.process.number}.${thread.number}`;
+/** A file that is a run of its own, as it stands in an address: by its place from 1, since names may be long, or the same. */
+function fileNumberOf({ at }) {
+  return String(at + 1);
+}
+
+/** A process or a thread as it stands there, behind its file where there are several runs. */
+function placeOf({ file, process, number }) {
+  if (process) return `${placeOf(process)}.${number}`;
+  return isApart ? `${fileNumberOf(file)}.${number}` : number;
 }
 
 /** The view as a text; what is as it was at first isn't in it. */
@@ -13,7 +19,8 @@ function viewText() {
   const { table } = tables[0];
   const members = [
     ["words", byId("words").value],
-    ["process", narrowed.process?.number],
+    ["file", narrowed.file && fileNumberOf(narrowed.file)],
+    ["process", narrowed.process && placeOf(narrowed.process)],
     ["thread", narrowed.thread && placeOf(narrowed.thread)],
     ["sort", table.order === table.firstOrder ? null : table.order],
     ["order", graphs.isWidestFirst ? null : byId("order").value],
@@ -35,12 +42,14 @@ function keepView() {
 
 function showKeptView() {
   const view = new URLSearchParams(location.hash.slice(1));
-  const process = report.processes.find(({ number }) => number === view.get("process")) ?? null;
-  const thread = report.threads.find((one) => placeOf(one) === view.get("thread") && (process ?? one.process) === one.process) ?? null;
+  const file = filesToChoose().find((one) => fileNumberOf(one) === view.get("file")) ?? null;
+  const process = report.processes.find((one) => placeOf(one) === view.get("process") && isOf(file, one.file)) ?? null;
+  const isThread = (one) => placeOf(one) === view.get("thread") && isOf(file, one.file) && isOf(process, one.process);
+  const thread = report.threads.find(isThread) ?? null;
   byId("words").value = (view.get("words") ?? "").slice(0, byId("words").maxLength);
   byId("order").value = view.get("order") === "name" ? "name" : "widest";
   tables[0].table.order = view.get("sort");
-  narrowTo(process, thread);
+  narrowTo(file, process, thread);
   graphs.order();
   graphs.showZooms(view.getAll("zoom").slice(0, MOST_ZOOMS).map(zoomOf).filter((zoom) => zoom !== null));
 }

@@ -49,7 +49,8 @@ class Graph {
     this.item = element("div", { role: "treeitem", id: `focused-${thread.at}`, className: "unseen" });
     this.spacer = element("div", { className: "spacer", role: "none" }, this.canvas);
     this.tip = element("div", { className: "tip", ariaHidden: "true", hidden: true });
-    const label = `Flame graph of thread ${brief(thread.label, LONGEST_NAME)}`;
+    const inFile = isApart ? ` in ${brief(thread.file.name, LONGEST_NAME)}` : "";
+    const label = `Flame graph of thread ${brief(thread.label, LONGEST_NAME)}${inFile}`;
     this.view = element("div", { className: "view", role: "tree", tabIndex: 0, ariaLabel: label }, this.spacer, this.item);
     this.view.setAttribute("aria-activedescendant", this.item.id);
     this.under = new Table("names", [

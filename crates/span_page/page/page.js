@@ -1,81 +1,43 @@
-// Puts the page together: counts and warnings, what narrows, the table of spans, the flame graphs, and what else was traced.
+// Puts the page together: its head, what narrows, the table of spans, the flame graphs, and what else was traced.
 
 const FIRST_GRAPHS = 50;
 const MORE_GRAPHS = 200;
 const MOST_FRAMES = 4194304;
-const REASONS = {
-  NotObject: "the element isn't an object",
-  NoPhase: "it has no phase, or one that isn't a text",
-  NoTime: "it has no time",
-  NotWhole: "its time or length isn't a whole number of microseconds, or is out of range",
-  NoDuration: "it has no length",
-  BadField: "its process, thread, name, category, id or scope is of the wrong kind",
-  NoId: "it has no id",
-  BadReach: "it is an instant that is neither global nor of a process or thread",
-  BadSeries: "it has a counter whose value isn't a whole number",
-  NoOpenSpan: "it ends a span where none is open",
-  TimeGoesBack: "its time lies before that of an event before it",
-  NoOpenAsync: "it ends an async span that isn't open",
-  EndBeforeBegin: "it ends an async span before its begin",
-  FlowOpen: "it starts a flow that is open",
-  NoFlow: "it goes on with a flow that isn't open",
-  NameDiffers: "it ends a span of another name than the open one",
-};
-
-const ONE = { files: "file", events: "event", queries: "query", seals: "seal", processes: "process", threads: "thread" };
+const NO_RUNS = "A page of more than 64 files that are runs of their own has their counts and the table of their spans alone: there are no "
+  + "flame graphs here, and nothing else that was traced.";
 
 const byId = (id) => document.getElementById(id);
 const data = JSON.parse(byId("data").textContent);
-const report = readReport(data.report);
+const runs = data.runs ?? [data];
+// Whether there are several files, each a run of its own, so that numbers and names of processes can be those of several.
+const isApart = runs.length > 1;
+const report = readRuns(runs);
+const stacks = runs.flatMap((run) => run.stacks);
 const spans = new SpanTable(data.table, report.threads);
 
-function showCounts() {
-  const counts = [["files", spans.files], ...report.counts, ["processes", report.processes.length], ["threads", report.threads.length]];
-  const wordOf = (what, count) => (String(count) === "1" ? ONE[what] ?? what : what);
-  const items = counts.map(([what, count]) => element("span", {}, element("b", {}, grouped(count)), ` ${wordOf(what, count)}`));
-  byId("counts").replaceChildren(...items);
-}
-
-function refusalItem({ count, code, word, first, file }) {
-  const reason = REASONS[word] ? `: ${REASONS[word]}` : "";
-  const text = `${grouped(count)} \u00d7 ${code} ${word}${reason}; first at element ${grouped(first)} of `;
-  return element("li", {}, text, nameElement(file));
-}
-
-function warnings() {
-  const refusals = readRefusals(data.refused);
-  const [, refused] = report.counts.find(([what]) => what === "refused");
-  const open = add(report.threads.map((thread) => thread.open));
-  const found = [];
-  if (spans.unread > 0) {
-    const text = `Files that are no traces as a whole, of which nothing is here: ${grouped(spans.unread)}. Standard error said why.`;
-    found.push(element("p", { className: "warning" }, text));
-  }
-  if (refused > 0n) {
-    const text = "Events were refused. Times on their threads can be wrong: where a begin is refused, its end closes another span. "
-      + "Elements are counted from 0.";
-    found.push(element("div", { className: "warning" }, element("p", {}, text), element("ul", {}, ...refusals.map(refusalItem))));
-  }
-  if (open > 0n) {
-    const text = `Spans that are still open: ${grouped(open)}. They have no time; --seal closes them where the trace was cut off.`;
-    found.push(element("p", { className: "warning" }, text));
-  }
-  return found;
-}
-
-// What is narrowed to: rows of a process and a thread, whose names have all of some words and none of others, and threads with frames
+// What is narrowed to: rows of a file, a process and a thread, whose names have all of some words and none of others, and threads with frames
 // that are labelled so.
 
-const narrowed = { process: null, thread: null, wanted: [], unwanted: [], places: new Set() };
+const narrowed = { file: null, process: null, thread: null, wanted: [], unwanted: [], places: new Set() };
 
 function isNamed(name) {
   const low = name.toLowerCase();
   return narrowed.wanted.every((word) => low.includes(word)) && !narrowed.unwanted.some((word) => low.includes(word));
 }
 
-/** Whether a row is of the process and the thread that are narrowed to; one that belongs to none is of each. */
-function isOfPlace({ process = narrowed.process, thread = narrowed.thread }) {
-  return (narrowed.process === null || process === narrowed.process) && (narrowed.thread === null || thread === narrowed.thread);
+/** Whether something is what was chosen; where nothing was, anything is. */
+function isOf(chosen, own) {
+  return chosen === null || chosen === own;
+}
+
+/** Whether a row is of the file, the process and the thread that are narrowed to; one that belongs to none is of each in its file. */
+function isOfPlace({ file, process = narrowed.process, thread = narrowed.thread }) {
+  const owner = narrowed.file ?? narrowed.process?.file ?? narrowed.thread?.file ?? null;
+  return isOf(owner, file) && isOf(narrowed.process, process) && isOf(narrowed.thread, thread);
+}
+
+function isThreadOfPlace(thread) {
+  return isOfPlace({ file: thread.file, process: thread.process, thread });
 }
 
 function isNarrowedTo(row) {
@@ -84,19 +46,19 @@ function isNarrowedTo(row) {
 
 /** The places of rows of spans that have a thread which is narrowed to. Many rows have one place, and a place may have many threads. */
 function placesNarrowedTo() {
-  const hasOne = ({ threads }) => threads.some((thread) => isOfPlace({ process: thread.process, thread }));
+  const hasOne = ({ threads }) => threads.some(isThreadOfPlace);
   return new Set([...spans.places.values()].filter(hasOne));
 }
 
 /** A row of spans can be of any thread of its place. */
 function isSpanNarrowedTo({ place, words }) {
-  const isAnywhere = narrowed.process === null && narrowed.thread === null;
+  const isAnywhere = narrowed.file === null && narrowed.process === null && narrowed.thread === null;
   return isNamed(words) && (isAnywhere || narrowed.places.has(place));
 }
 
 /** Whether a thread has a frame that is narrowed to; of a graph that is left out nothing is known. */
 function isThreadNarrowedTo(thread) {
-  if (!isOfPlace({ process: thread.process, thread })) return false;
+  if (!isThreadOfPlace(thread)) return false;
   const isAnyName = narrowed.wanted.length === 0 && narrowed.unwanted.length === 0;
   return isAnyName || isLeftOut(thread) || labelsOf(thread).some(isNamed);
 }
@@ -110,20 +72,34 @@ function narrow() {
   graphs.mark(narrowed.wanted.length > 0 ? isNamed : null);
 }
 
-function fillChoice(select, all, items) {
-  const options = items.map((item) => element("option", { value: item.at }, brief(item.label, LONGEST_LABEL)));
+function filesToChoose() {
+  return isApart ? report.files : [];
+}
+
+/** A process or a thread as a choice: of several runs with its file, where marks keep the direction of each name to itself. */
+function choiceText({ label, file }) {
+  const text = brief(label, LONGEST_LABEL);
+  return isApart ? `\u2068${text}\u2069 in \u2068${brief(file.name, LONGEST_LABEL)}\u2069` : text;
+}
+
+function fillChoice(select, all, items, textOf) {
+  const options = items.map((item) => element("option", { value: item.at }, textOf(item)));
   select.replaceChildren(element("option", { value: "" }, all), ...options);
 }
 
-/** The threads to choose from are those of the process that is narrowed to. */
-function fillThreads() {
-  fillChoice(byId("thread"), "all threads", byBusyTime(report.threads.filter(({ process }) => isOfPlace({ process }))));
+/** The processes to choose from are those of the file that is narrowed to, and the threads those of it and of the process. */
+function fillChoices() {
+  const { file, process } = narrowed;
+  const threads = report.threads.filter((one) => isOf(file, one.file) && isOf(process, one.process));
+  fillChoice(byId("process"), "all processes", report.processes.filter((one) => isOf(file, one.file)), choiceText);
+  fillChoice(byId("thread"), "all threads", byBusyTime(threads), choiceText);
 }
 
-/** Narrows to a process and a thread, or to all where they are null, and shows that they are chosen. */
-function narrowTo(process, thread) {
-  Object.assign(narrowed, { process, thread });
-  fillThreads();
+/** Narrows to a file, a process and a thread, or to all where they are null, and shows that they are chosen. */
+function narrowTo(file, process, thread) {
+  Object.assign(narrowed, { file, process, thread });
+  fillChoices();
+  byId("file").value = file?.at ?? "";
   byId("process").value = process?.at ?? "";
   byId("thread").value = thread?.at ?? "";
   narrow();
@@ -133,6 +109,7 @@ function narrowTo(process, thread) {
 
 const processColumn = listedColumn("process", (row) => row.process);
 const threadColumn = listedColumn("thread", (row) => row.thread);
+const fileColumns = isApart ? [listedColumn("file", (row) => row.file)] : [];
 const plainName = nameColumn((row) => row.name);
 const total = numberColumn("total, \u00b5s", (row) => row.total);
 const open = numberColumn("open", (row) => row.open);
@@ -147,7 +124,8 @@ function spanTable() {
   const [first, ...others] = keyColumns();
   const isWide = ({ kind }) => kind !== undefined;
   const columns = [{ ...first, fill: (row) => graphButton(row, first) }, ...others.filter(isWide)];
-  const table = new Table("rows", [...columns, self, share, total, count, ...others.filter((column) => !isWide(column))], [
+  const numbers = runs.length > 0 ? [self, share, total, count] : [self, total, count];
+  const table = new Table("rows", [...columns, ...numbers, ...others.filter((column) => !isWide(column))], [
     { title: "self", value: self.value, text: timeText },
     { title: "count", value: count.value, text: grouped },
   ]);
@@ -185,7 +163,7 @@ function graphButton(row, column) {
 }
 
 function otherTable(title, rows, columns) {
-  const table = new Table(title.toLowerCase(), columns);
+  const table = new Table(title.toLowerCase(), [...columns, ...fileColumns]);
   const home = element("details", {}, element("summary", {}, `${title} (${grouped(rows.length)})`), table.element);
   return { table, rows, home, isShown: isNarrowedTo };
 }
@@ -217,18 +195,18 @@ function byBusyTime(threads) {
 
 /** Whether the graph of a thread is left out, since with it the page would have too many frames. */
 function isLeftOut(thread) {
-  return data.stacks[thread.at] === null;
+  return stacks[thread.at] === null;
 }
 
 function hasGraph(thread) {
-  return !isLeftOut(thread) && data.stacks[thread.at].length > 0;
+  return !isLeftOut(thread) && stacks[thread.at].length > 0;
 }
 
 const knownLabels = new Map();
 
 /** The labels of a thread's frames, each once. */
 function labelsOf(thread) {
-  if (!knownLabels.has(thread)) knownLabels.set(thread, [...new Set(data.stacks[thread.at].flatMap(([, labels]) => labels))]);
+  if (!knownLabels.has(thread)) knownLabels.set(thread, [...new Set(stacks[thread.at].flatMap(([, labels]) => labels))]);
   return knownLabels.get(thread);
 }
 
@@ -260,6 +238,7 @@ class Graphs {
   }
 
   told(listed, narrowedTo) {
+    if (runs.length === 0) return NO_RUNS;
     const all = this.threads.length;
     const idle = report.threads.length - all;
     return `${grouped(listed)} of ${grouped(narrowedTo)} threads shown`
@@ -284,6 +263,7 @@ class Graphs {
     const numbers = element("span", { className: "busy" }, `busy ${timeText(thread.busy)}`);
     const open = thread.open > 0n ? `, ${grouped(thread.open)} open` : "";
     const parts = [numbers, "thread ", nameElement(thread.label), " of process ", nameElement(thread.process.label)];
+    if (isApart) parts.push(" in ", nameElement(thread.file.name));
     if (isLeftOut(thread)) {
       return element("p", { id, className: "left-out" }, ...parts, element("span", { className: "hint" }, `${open}, left out: too many frames`));
     }
@@ -293,7 +273,7 @@ class Graphs {
 
   graphOf(thread) {
     if (!this.graphs.has(thread)) {
-      const graph = new Graph(thread, data.stacks[thread.at], this.isWidestFirst);
+      const graph = new Graph(thread, stacks[thread.at], this.isWidestFirst);
       this.graphs.set(thread, graph);
       this.sectionOf(thread).append(graph.element);
       graph.mark(this.marks);
@@ -344,24 +324,28 @@ class Graphs {
   }
 }
 
-function showWarnings() {
-  const found = warnings();
-  byId("warnings").replaceChildren(...found);
-  byId("warnings").hidden = found.length === 0;
-}
-
 const tables = [spanTable(), ...otherTables()];
 const graphs = new Graphs();
 
+/** Offers files to choose where there are several runs, and nothing that a page without its runs lacks. */
+function showChoices() {
+  fillChoice(byId("file"), "all files", filesToChoose(), ({ name }) => brief(name, LONGEST_NAME));
+  byId("file").parentElement.hidden = !isApart;
+  byId("over-files").hidden = !isApart || spans.columns.includes("file");
+  for (const part of document.querySelectorAll(".of-runs")) part.hidden = runs.length === 0;
+}
+
 function start() {
   showCounts();
+  showFiles();
   showWarnings();
+  showChoices();
   byId("names").replaceChildren(tables[0].table.element);
   byId("others").replaceChildren(...tables.slice(1).map(({ home }) => home));
   byId("words").addEventListener("input", narrow);
-  byId("process").addEventListener("change", () => narrowTo(report.processes[byId("process").value] ?? null, null));
-  byId("thread").addEventListener("change", () => narrowTo(narrowed.process, report.threads[byId("thread").value] ?? null));
-  fillChoice(byId("process"), "all processes", report.processes);
+  byId("file").addEventListener("change", () => narrowTo(report.files[byId("file").value] ?? null, null, null));
+  byId("process").addEventListener("change", () => narrowTo(narrowed.file, report.processes[byId("process").value] ?? null, null));
+  byId("thread").addEventListener("change", () => narrowTo(narrowed.file, narrowed.process, report.threads[byId("thread").value] ?? null));
   graphs.showLeftOut();
   showKeptView();
   const busiest = graphs.show().find(hasGraph);

@@ -46,47 +46,35 @@ function namesOf(number, name) {
   return { name, label: name === null ? number : `${shown(name)} (${number})` };
 }
 
-/** How each line of a report is read, by its first word; a line stands under the process and the thread that were read last. */
+/** How each line of a report is read, by its first word; a line stands under the file, the process and the thread that were read last. */
 const READERS = {
-  events: (report, words) => report.counts.push(...pairsOf(words)),
-  seals: (report, words) => report.counts.push(...pairsOf(words)),
   process: (report, [, number, name]) => report.processes.push({
-    number, at: report.processes.length, ...namesOf(number, nameOf(name)) }),
+    number, at: report.processes.length, ...namesOf(number, nameOf(name)), file: report.file }),
   thread: (report, [, , number, name, , open, , busy]) => report.threads.push({
     number, at: report.threads.length, ...namesOf(number, nameOf(name)),
-    process: report.processes.at(-1), open: BigInt(open), busy: BigInt(busy) }),
+    file: report.file, process: report.processes.at(-1), open: BigInt(open), busy: BigInt(busy) }),
   instant: (report, [, reach, count, name]) => report.instants.push({
-    ...standsUnder(report), name: JSON.parse(name), reach: REACHES[reach], count: BigInt(count) }),
+    file: report.file, process: report.processes.at(-1), thread: report.threads.at(-1),
+    name: JSON.parse(name), reach: REACHES[reach], count: BigInt(count) }),
   counter: (report, [, , name, id, series, , samples, , least, , greatest, , last]) => report.counters.push({
-    process: report.processes.at(-1), name: JSON.parse(name), id: idOf(id), series: JSON.parse(series),
+    file: report.file, process: report.processes.at(-1), name: JSON.parse(name), id: idOf(id), series: JSON.parse(series),
     samples: BigInt(samples), least: BigInt(least), greatest: BigInt(greatest), last: BigInt(last) }),
   async: (report, [, category, scope, id, name, , closed, , total, , open, , points]) => report.asyncs.push({
-    category: JSON.parse(category), scope: JSON.parse(scope), id: idOf(id), name: JSON.parse(name),
+    file: report.file, category: JSON.parse(category), scope: JSON.parse(scope), id: idOf(id), name: JSON.parse(name),
     closed: BigInt(closed), total: BigInt(total), open: BigInt(open), points: BigInt(points) }),
   flow: (report, [, category, name, id, , ended, , total, , open]) => report.flows.push({
-    category: JSON.parse(category), name: JSON.parse(name), id: idOf(id),
+    file: report.file, category: JSON.parse(category), name: JSON.parse(name), id: idOf(id),
     ended: BigInt(ended), total: BigInt(total), open: BigInt(open) }),
 };
 
 const REACHES = { g: "global", p: "process", t: "thread" };
 
-/** The words of a line of counts, two by two. */
-function pairsOf(words) {
-  return words.flatMap((word, at) => (at % 2 === 0 ? [[word, BigInt(words[at + 1])]] : []));
-}
-
-function standsUnder(report) {
-  return { process: report.processes.at(-1), thread: report.threads.at(-1) };
-}
-
-/** Reads all but the lines of spans, which stand in the table. */
-function readReport(text) {
-  const report = { counts: [], processes: [], threads: [], instants: [], counters: [], asyncs: [], flows: [] };
-  for (const line of text.split("\n").slice(1, -1).filter((one) => !one.startsWith("span "))) {
+/** Puts what the text of a report says to what was read before it. Its counts and the spans are left out: these stand in the table. */
+function readReport(report, text) {
+  for (const line of text.split("\n").filter((one) => !one.startsWith("span "))) {
     const words = wordsOf(line);
-    READERS[words[0]](report, words);
+    READERS[words[0]]?.(report, words);
   }
-  return report;
 }
 
 /** The lines that say why events of a file were refused. */

@@ -12,10 +12,12 @@ const PLACES = {
   tid: (thread) => thread.number,
   process: (thread) => thread.process.name,
   thread: (thread) => thread.name,
+  file: (thread) => thread.file?.name ?? null,
 };
 
 const isPlace = (column) => Object.hasOwn(PLACES, column);
 const isOfLabel = (column) => column === "name" || column.startsWith("args.");
+const isOfWords = (column) => column === "file" || isOfLabel(column);
 
 const textValue = (word) => ({ kind: KINDS.text, order: word, word });
 
@@ -66,14 +68,15 @@ class SpanTable {
   /** The table of a text, of the spans of these threads. */
   constructor(text, threads) {
     const [head, ...lines] = text.split("\n").slice(0, -1);
-    const { columns, files, unread } = JSON.parse(head);
+    const counts = JSON.parse(head);
+    const { columns } = counts;
     const indexesOf = (isAsked) => columns.flatMap((column, at) => (isAsked(column) ? [at] : []));
     this.inPlace = indexesOf(isPlace);
     this.inLabel = indexesOf(isOfLabel);
-    this.inWords = indexesOf((column) => !isPlace(column));
+    this.inWords = indexesOf(isOfWords);
     this.labelTitle = this.inLabel.map((at) => columns[at]).join(" ") || "label";
     // Values are known by their texts, since most stand in many rows.
-    Object.assign(this, { columns, files, unread, values: new Map(), places: placesOf(columns.filter(isPlace), threads), labelled: null });
+    Object.assign(this, { columns, counts, values: new Map(), places: placesOf(columns.filter(isPlace), threads), labelled: null });
     this.rows = lines.map((line) => this.rowOf(membersOf(line)));
   }
 

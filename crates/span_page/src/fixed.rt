@@ -4,7 +4,7 @@ pub(crate) const HEAD: &str = r#"<!DOCTYPE html>
 <html lang="en">
 <head>
 <meta charset="utf-8">
-<meta http-equiv="Content-Security-Policy" content="default-src 'none'; script-src 'sha256-xTvgYX2VEzu9ptkl9xzDDcyllfpIvpsl3YdBRDS4mQI='; style-src 'sha256-uO9OvdklSJNpmd638op5ygwR6B1lQnZHkbDsNlq77O0='; base-uri 'none'; form-action 'none'">
+<meta http-equiv="Content-Security-Policy" content="default-src 'none'; script-src 'sha256-PNxhVWCRy/beLkB9Myxy7Mas4IPQExdhGIeyY4Tem5c='; style-src 'sha256-z/4GHyAtxS/zcBHDOidENq7Nov/h13F0b0IzvPJ0fM0='; base-uri 'none'; form-action 'none'">
 <meta name="viewport" content="width=device-width, initial-scale=1">
 <meta name="color-scheme" content="light dark">
 <title>tracebook</title>
@@ -29,12 +29,19 @@ h1 { font-size: 1.3rem; margin: 0; }
 h2 { font-size: 1.1rem; margin: 1.5rem 0 0.25rem; }
 p { margin: 0.25rem 0; }
 #counts { display: flex; flex-wrap: wrap; gap: 0 1.1rem; color: var(--quiet); }
+#counts > * { min-width: 0; overflow-wrap: anywhere; }
+#files[open] { flex: 0 0 100%; }
+#files ul { margin: 0.25rem 0; padding-left: 1.2rem; columns: 24rem; overflow-wrap: anywhere; }
 #counts b { color: var(--text); font-variant-numeric: tabular-nums; }
 .warning { margin: 0.75rem 0; padding: 0.5rem 0.9rem; background: var(--warning); border-left: 4px solid var(--warning-line); }
 .warning li { overflow-wrap: anywhere; }
 .warning ul { margin: 0.25rem 0; padding-left: 1.2rem; }
-#narrowing { position: sticky; top: 0; z-index: 2; display: flex; flex-wrap: wrap; align-items: baseline; gap: 0.4rem 1.2rem;
+/* On a wide screen what narrows is one line, since that covers what is scrolled to. */
+#narrowing { position: sticky; top: 0; z-index: 2; display: flex; align-items: baseline; gap: 0.4rem 1.2rem;
   padding: 0.6rem 0; background: var(--paper); border-bottom: 1px solid var(--line); }
+#narrowing label:not([hidden]) { display: flex; align-items: baseline; gap: 0.3rem; min-width: 0; }
+#narrowing input, #narrowing select { min-width: 0; }
+#file { max-width: 16rem; }
 input, select, button { font: inherit; color: inherit; background: var(--paper); border: 1px solid var(--line); border-radius: 4px;
   padding: 0.15rem 0.5rem; }
 input { width: 21rem; max-width: 100%; }
@@ -85,7 +92,7 @@ canvas { position: sticky; top: 0; display: block; width: 100%; }
 @media screen and (max-width: 60rem) {
   html { scroll-padding-top: 0.5rem; }
   body { padding: 0 0.9rem 3rem; }
-  #narrowing { position: static; }
+  #narrowing { position: static; flex-wrap: wrap; }
   label, input, select { max-width: 100%; }
   table, thead, tbody, th, td { display: block; }
   tr { display: flex; flex-wrap: wrap; gap: 0 1rem; padding: 0.35rem 0; border-bottom: 1px solid var(--line); }
@@ -121,23 +128,26 @@ canvas { position: sticky; top: 0; display: block; width: 100%; }
 <header>
 <h1>tracebook</h1>
 <p id="counts"></p>
+<details id="files" hidden><summary>Names of the files</summary></details>
 </header>
 <main aria-busy="true">
 <noscript><p class="warning">This page shows its numbers with a script, and scripts are off.</p></noscript>
 <section id="warnings" aria-label="Warnings" hidden></section>
 <div id="narrowing" role="search">
 <label>Words <input id="words" type="search" maxlength="2000" spellcheck="false" autocomplete="off" placeholder="to find, or -word to leave out"></label>
-<label>Process <select id="process"></select></label>
-<label>Thread <select id="thread"></select></label>
+<label hidden>File <select id="file"></select></label>
+<label class="of-runs">Process <select id="process"></select></label>
+<label class="of-runs">Thread <select id="thread"></select></label>
 </div>
 <section aria-labelledby="names-title">
 <h2 id="names-title">Spans</h2>
-<p class="hint">Times are whole microseconds. A click on a column sorts; a click on a row marks its frames in a flame graph. The address shows the view again.</p>
+<p class="hint">Times are whole microseconds. A click on a column sorts<span class="of-runs">; a click on a row marks its frames in a flame graph</span>. The address shows the view again.
+<span id="over-files" hidden>Rows are sums over all files; with the column file, by --group-by, each file has its own.</span></p>
 <div id="names"></div>
 </section>
 <section aria-labelledby="graphs-title">
 <h2 id="graphs-title">Flame graphs</h2>
-<p class="hint"><label>Order
+<p class="hint of-runs"><label>Order
 <select id="order"><option value="widest">widest first</option><option value="name">by name</option></select></label>
 A click or Enter zooms into a frame, Escape or Backspace goes back, arrow keys move.</p>
 <p id="left-out" class="warning" hidden></p>
@@ -199,47 +209,35 @@ function namesOf(number, name) {
   return { name, label: name === null ? number : `${shown(name)} (${number})` };
 }
 
-/** How each line of a report is read, by its first word; a line stands under the process and the thread that were read last. */
+/** How each line of a report is read, by its first word; a line stands under the file, the process and the thread that were read last. */
 const READERS = {
-  events: (report, words) => report.counts.push(...pairsOf(words)),
-  seals: (report, words) => report.counts.push(...pairsOf(words)),
   process: (report, [, number, name]) => report.processes.push({
-    number, at: report.processes.length, ...namesOf(number, nameOf(name)) }),
+    number, at: report.processes.length, ...namesOf(number, nameOf(name)), file: report.file }),
   thread: (report, [, , number, name, , open, , busy]) => report.threads.push({
     number, at: report.threads.length, ...namesOf(number, nameOf(name)),
-    process: report.processes.at(-1), open: BigInt(open), busy: BigInt(busy) }),
+    file: report.file, process: report.processes.at(-1), open: BigInt(open), busy: BigInt(busy) }),
   instant: (report, [, reach, count, name]) => report.instants.push({
-    ...standsUnder(report), name: JSON.parse(name), reach: REACHES[reach], count: BigInt(count) }),
+    file: report.file, process: report.processes.at(-1), thread: report.threads.at(-1),
+    name: JSON.parse(name), reach: REACHES[reach], count: BigInt(count) }),
   counter: (report, [, , name, id, series, , samples, , least, , greatest, , last]) => report.counters.push({
-    process: report.processes.at(-1), name: JSON.parse(name), id: idOf(id), series: JSON.parse(series),
+    file: report.file, process: report.processes.at(-1), name: JSON.parse(name), id: idOf(id), series: JSON.parse(series),
     samples: BigInt(samples), least: BigInt(least), greatest: BigInt(greatest), last: BigInt(last) }),
   async: (report, [, category, scope, id, name, , closed, , total, , open, , points]) => report.asyncs.push({
-    category: JSON.parse(category), scope: JSON.parse(scope), id: idOf(id), name: JSON.parse(name),
+    file: report.file, category: JSON.parse(category), scope: JSON.parse(scope), id: idOf(id), name: JSON.parse(name),
     closed: BigInt(closed), total: BigInt(total), open: BigInt(open), points: BigInt(points) }),
   flow: (report, [, category, name, id, , ended, , total, , open]) => report.flows.push({
-    category: JSON.parse(category), name: JSON.parse(name), id: idOf(id),
+    file: report.file, category: JSON.parse(category), name: JSON.parse(name), id: idOf(id),
     ended: BigInt(ended), total: BigInt(total), open: BigInt(open) }),
 };
 
 const REACHES = { g: "global", p: "process", t: "thread" };
 
-/** The words of a line of counts, two by two. */
-function pairsOf(words) {
-  return words.flatMap((word, at) => (at % 2 === 0 ? [[word, BigInt(words[at + 1])]] : []));
-}
-
-function standsUnder(report) {
-  return { process: report.processes.at(-1), thread: report.threads.at(-1) };
-}
-
-/** Reads all but the lines of spans, which stand in the table. */
-function readReport(text) {
-  const report = { counts: [], processes: [], threads: [], instants: [], counters: [], asyncs: [], flows: [] };
-  for (const line of text.split("\n").slice(1, -1).filter((one) => !one.startsWith("span "))) {
+/** Puts what the text of a report says to what was read before it. Its counts and the spans are left out: these stand in the table. */
+function readReport(report, text) {
+  for (const line of text.split("\n").filter((one) => !one.startsWith("span "))) {
     const words = wordsOf(line);
-    READERS[words[0]](report, words);
+    READERS[words[0]]?.(report, words);
   }
-  return report;
 }
 
 /** The lines that say why events of a file were refused. */
@@ -308,6 +306,30 @@ function brief(name, most) {
   return cut(shown(cut(name, most)), most);
 }
 
+// Reads the runs of a page into one report. There is one run, of one file or of several that were collected together; or each file is a
+// run of its own, and then all that is read of a run knows its file. A page of very many such files has none of their runs.
+
+/** How the line of standard error for a file goes on behind the file's name; null where the file was read whole. */
+function endOf(line) {
+  return line === "" ? null : line.slice(endOfText(line, line.indexOf('"'))).replace(/^: /, "");
+}
+
+/** The files of all runs in their order, each with how it ended. */
+function filesOf(runs) {
+  return runs.flatMap(({ files }) => files).map(([name, line], at) => ({ name, label: name, at, end: endOf(line) }));
+}
+
+/** What was traced in all runs, one after another. */
+function readRuns(runs) {
+  const files = filesOf(runs);
+  const report = { files, processes: [], threads: [], instants: [], counters: [], asyncs: [], flows: [], file: null };
+  runs.forEach((run, at) => {
+    report.file = run.files.length === 1 ? files[at] : null;
+    readReport(report, run.report);
+  });
+  return report;
+}
+
 // Reads the table of closed spans, which is JSON Lines: its columns, and rows with a key, whose values stand in the order of the columns,
 // and sums. A key says of which threads a row can be; the frames of a row are those of these threads that have its label.
 
@@ -322,10 +344,12 @@ const PLACES = {
   tid: (thread) => thread.number,
   process: (thread) => thread.process.name,
   thread: (thread) => thread.name,
+  file: (thread) => thread.file?.name ?? null,
 };
 
 const isPlace = (column) => Object.hasOwn(PLACES, column);
 const isOfLabel = (column) => column === "name" || column.startsWith("args.");
+const isOfWords = (column) => column === "file" || isOfLabel(column);
 
 const textValue = (word) => ({ kind: KINDS.text, order: word, word });
 
@@ -376,14 +400,15 @@ class SpanTable {
   /** The table of a text, of the spans of these threads. */
   constructor(text, threads) {
     const [head, ...lines] = text.split("\n").slice(0, -1);
-    const { columns, files, unread } = JSON.parse(head);
+    const counts = JSON.parse(head);
+    const { columns } = counts;
     const indexesOf = (isAsked) => columns.flatMap((column, at) => (isAsked(column) ? [at] : []));
     this.inPlace = indexesOf(isPlace);
     this.inLabel = indexesOf(isOfLabel);
-    this.inWords = indexesOf((column) => !isPlace(column));
+    this.inWords = indexesOf(isOfWords);
     this.labelTitle = this.inLabel.map((at) => columns[at]).join(" ") || "label";
     // Values are known by their texts, since most stand in many rows.
-    Object.assign(this, { columns, files, unread, values: new Map(), places: placesOf(columns.filter(isPlace), threads), labelled: null });
+    Object.assign(this, { columns, counts, values: new Map(), places: placesOf(columns.filter(isPlace), threads), labelled: null });
     this.rows = lines.map((line) => this.rowOf(membersOf(line)));
   }
 
@@ -697,7 +722,8 @@ class Graph {
     this.item = element("div", { role: "treeitem", id: `focused-${thread.at}`, className: "unseen" });
     this.spacer = element("div", { className: "spacer", role: "none" }, this.canvas);
     this.tip = element("div", { className: "tip", ariaHidden: "true", hidden: true });
-    const label = `Flame graph of thread ${brief(thread.label, LONGEST_NAME)}`;
+    const inFile = isApart ? ` in ${brief(thread.file.name, LONGEST_NAME)}` : "";
+    const label = `Flame graph of thread ${brief(thread.label, LONGEST_NAME)}${inFile}`;
     this.view = element("div", { className: "view", role: "tree", tabIndex: 0, ariaLabel: label }, this.spacer, this.item);
     this.view.setAttribute("aria-activedescendant", this.item.id);
     this.under = new Table("names", [
@@ -984,9 +1010,15 @@ class Graph {
 
 const MOST_ZOOMS = 20;
 
-/** A thread as it stands in an address. */
-function placeOf(thread) {
-  return `${thread.process.number}.${thread.number}`;
+/** A file that is a run of its own, as it stands in an address: by its place from 1, since names may be long, or the same. */
+function fileNumberOf({ at }) {
+  return String(at + 1);
+}
+
+/** A process or a thread as it stands there, behind its file where there are several runs. */
+function placeOf({ file, process, number }) {
+  if (process) return `${placeOf(process)}.${number}`;
+  return isApart ? `${fileNumberOf(file)}.${number}` : number;
 }
 
 /** The view as a text; what is as it was at first isn't in it. */
@@ -994,7 +1026,8 @@ function viewText() {
   const { table } = tables[0];
   const members = [
     ["words", byId("words").value],
-    ["process", narrowed.process?.number],
+    ["file", narrowed.file && fileNumberOf(narrowed.file)],
+    ["process", narrowed.process && placeOf(narrowed.process)],
     ["thread", narrowed.thread && placeOf(narrowed.thread)],
     ["sort", table.order === table.firstOrder ? null : table.order],
     ["order", graphs.isWidestFirst ? null : byId("order").value],
@@ -1016,12 +1049,14 @@ function keepView() {
 
 function showKeptView() {
   const view = new URLSearchParams(location.hash.slice(1));
-  const process = report.processes.find(({ number }) => number === view.get("process")) ?? null;
-  const thread = report.threads.find((one) => placeOf(one) === view.get("thread") && (process ?? one.process) === one.process) ?? null;
+  const file = filesToChoose().find((one) => fileNumberOf(one) === view.get("file")) ?? null;
+  const process = report.processes.find((one) => placeOf(one) === view.get("process") && isOf(file, one.file)) ?? null;
+  const isThread = (one) => placeOf(one) === view.get("thread") && isOf(file, one.file) && isOf(process, one.process);
+  const thread = report.threads.find(isThread) ?? null;
   byId("words").value = (view.get("words") ?? "").slice(0, byId("words").maxLength);
   byId("order").value = view.get("order") === "name" ? "name" : "widest";
   tables[0].table.order = view.get("sort");
-  narrowTo(process, thread);
+  narrowTo(file, process, thread);
   graphs.order();
   graphs.showZooms(view.getAll("zoom").slice(0, MOST_ZOOMS).map(zoomOf).filter((zoom) => zoom !== null));
 }
@@ -1033,11 +1068,8 @@ function zoomOf(text) {
   return thread && hasGraph(thread) ? { thread, at: Number(at) } : null;
 }
 
-// Puts the page together: counts and warnings, what narrows, the table of spans, the flame graphs, and what else was traced.
+// The head of the page: how much there is, of which files, and what a reader has to know of the numbers.
 
-const FIRST_GRAPHS = 50;
-const MORE_GRAPHS = 200;
-const MOST_FRAMES = 4194304;
 const REASONS = {
   NotObject: "the element isn't an object",
   NoPhase: "it has no phase, or one that isn't a text",
@@ -1059,16 +1091,33 @@ const REASONS = {
 
 const ONE = { files: "file", events: "event", queries: "query", seals: "seal", processes: "process", threads: "thread" };
 
-const byId = (id) => document.getElementById(id);
-const data = JSON.parse(byId("data").textContent);
-const report = readReport(data.report);
-const spans = new SpanTable(data.table, report.threads);
+function countItem(what, count) {
+  return element("span", {}, element("b", {}, grouped(count)), ` ${String(count) === "1" ? ONE[what] ?? what : what}`);
+}
 
+/** The counts of all runs; processes and threads are known where the page has its runs. */
 function showCounts() {
-  const counts = [["files", spans.files], ...report.counts, ["processes", report.processes.length], ["threads", report.threads.length]];
-  const wordOf = (what, count) => (String(count) === "1" ? ONE[what] ?? what : what);
-  const items = counts.map(([what, count]) => element("span", {}, element("b", {}, grouped(count)), ` ${wordOf(what, count)}`));
-  byId("counts").replaceChildren(...items);
+  const told = ["events", "refused", "skipped", "queries", "seals"].map((what) => [what, spans.counts[what]]);
+  const known = [["processes", report.processes.length], ["threads", report.threads.length]];
+  const counts = [...told.filter(([what, count]) => what !== "seals" || count > 0), ...(runs.length > 0 ? known : [])];
+  const [file, ...others] = report.files;
+  const isOne = file !== undefined && others.length === 0;
+  const first = isOne ? element("span", {}, "file ", fileElement("b", file)) : countItem("files", spans.counts.files);
+  byId("counts").replaceChildren(first, ...counts.map(([what, count]) => countItem(what, count)));
+}
+
+/** A file, and how it ended where it wasn't read whole. */
+function fileElement(tag, { name, end }) {
+  return element(tag, {}, nameElement(name), end === null ? "" : `: ${end}`);
+}
+
+function fileItem(file) {
+  return fileElement("li", file);
+}
+
+function showFiles() {
+  byId("files").hidden = report.files.length < 2;
+  byId("files").append(element("ul", {}, ...report.files.map(fileItem)));
 }
 
 function refusalItem({ count, code, word, first, file }) {
@@ -1077,40 +1126,89 @@ function refusalItem({ count, code, word, first, file }) {
   return element("li", {}, text, nameElement(file));
 }
 
+/** A warning and its items, of which the last stand closed where there are very many. */
+function warning(text, items) {
+  if (items.length === 0) return element("p", { className: "warning" }, text);
+  const [first, more] = [items.slice(0, FIRST_ROWS), items.slice(FIRST_ROWS)].map((part) => element("ul", {}, ...part));
+  const closed = element("details", {}, element("summary", {}, `${grouped(more.children.length)} more`), more);
+  return element("div", { className: "warning" }, element("p", {}, text), first, ...(more.children.length > 0 ? [closed] : []));
+}
+
+/** Whether a file was refused as a whole, as the number says with which its end begins. */
+function isNoTrace({ end }) {
+  return /^[1-4] /.test(end);
+}
+
 function warnings() {
-  const refusals = readRefusals(data.refused);
-  const [, refused] = report.counts.find(([what]) => what === "refused");
+  const { unread, refused } = spans.counts;
   const open = add(report.threads.map((thread) => thread.open));
+  const stopped = report.files.filter((file) => file.end !== null && !isNoTrace(file));
   const found = [];
-  if (spans.unread > 0) {
-    const text = `Files that are no traces as a whole, of which nothing is here: ${grouped(spans.unread)}. Standard error said why.`;
-    found.push(element("p", { className: "warning" }, text));
+  if (unread > 0) {
+    const noTraces = report.files.filter(isNoTrace);
+    const text = `Files that are no traces as a whole, of which nothing is here: ${grouped(unread)}.`;
+    found.push(warning(noTraces.length > 0 ? text : `${text} Standard error said why.`, noTraces.map(fileItem)));
   }
-  if (refused > 0n) {
+  if (stopped.length > 0) found.push(warning("Files that are not here as a whole:", stopped.map(fileItem)));
+  if (refused > 0) {
     const text = "Events were refused. Times on their threads can be wrong: where a begin is refused, its end closes another span. "
       + "Elements are counted from 0.";
-    found.push(element("div", { className: "warning" }, element("p", {}, text), element("ul", {}, ...refusals.map(refusalItem))));
+    const refusals = runs.flatMap((run) => readRefusals(run.refused));
+    found.push(warning(text, refusals.map(refusalItem)));
   }
   if (open > 0n) {
     const text = `Spans that are still open: ${grouped(open)}. They have no time; --seal closes them where the trace was cut off.`;
-    found.push(element("p", { className: "warning" }, text));
+    found.push(warning(text, []));
   }
   return found;
 }
 
-// What is narrowed to: rows of a process and a thread, whose names have all of some words and none of others, and threads with frames
+function showWarnings() {
+  const found = warnings();
+  byId("warnings").replaceChildren(...found);
+  byId("warnings").hidden = found.length === 0;
+}
+
+// Puts the page together: its head, what narrows, the table of spans, the flame graphs, and what else was traced.
+
+const FIRST_GRAPHS = 50;
+const MORE_GRAPHS = 200;
+const MOST_FRAMES = 4194304;
+const NO_RUNS = "A page of more than 64 files that are runs of their own has their counts and the table of their spans alone: there are no "
+  + "flame graphs here, and nothing else that was traced.";
+
+const byId = (id) => document.getElementById(id);
+const data = JSON.parse(byId("data").textContent);
+const runs = data.runs ?? [data];
+// Whether there are several files, each a run of its own, so that numbers and names of processes can be those of several.
+const isApart = runs.length > 1;
+const report = readRuns(runs);
+const stacks = runs.flatMap((run) => run.stacks);
+const spans = new SpanTable(data.table, report.threads);
+
+// What is narrowed to: rows of a file, a process and a thread, whose names have all of some words and none of others, and threads with frames
 // that are labelled so.
 
-const narrowed = { process: null, thread: null, wanted: [], unwanted: [], places: new Set() };
+const narrowed = { file: null, process: null, thread: null, wanted: [], unwanted: [], places: new Set() };
 
 function isNamed(name) {
   const low = name.toLowerCase();
   return narrowed.wanted.every((word) => low.includes(word)) && !narrowed.unwanted.some((word) => low.includes(word));
 }
 
-/** Whether a row is of the process and the thread that are narrowed to; one that belongs to none is of each. */
-function isOfPlace({ process = narrowed.process, thread = narrowed.thread }) {
-  return (narrowed.process === null || process === narrowed.process) && (narrowed.thread === null || thread === narrowed.thread);
+/** Whether something is what was chosen; where nothing was, anything is. */
+function isOf(chosen, own) {
+  return chosen === null || chosen === own;
+}
+
+/** Whether a row is of the file, the process and the thread that are narrowed to; one that belongs to none is of each in its file. */
+function isOfPlace({ file, process = narrowed.process, thread = narrowed.thread }) {
+  const owner = narrowed.file ?? narrowed.process?.file ?? narrowed.thread?.file ?? null;
+  return isOf(owner, file) && isOf(narrowed.process, process) && isOf(narrowed.thread, thread);
+}
+
+function isThreadOfPlace(thread) {
+  return isOfPlace({ file: thread.file, process: thread.process, thread });
 }
 
 function isNarrowedTo(row) {
@@ -1119,19 +1217,19 @@ function isNarrowedTo(row) {
 
 /** The places of rows of spans that have a thread which is narrowed to. Many rows have one place, and a place may have many threads. */
 function placesNarrowedTo() {
-  const hasOne = ({ threads }) => threads.some((thread) => isOfPlace({ process: thread.process, thread }));
+  const hasOne = ({ threads }) => threads.some(isThreadOfPlace);
   return new Set([...spans.places.values()].filter(hasOne));
 }
 
 /** A row of spans can be of any thread of its place. */
 function isSpanNarrowedTo({ place, words }) {
-  const isAnywhere = narrowed.process === null && narrowed.thread === null;
+  const isAnywhere = narrowed.file === null && narrowed.process === null && narrowed.thread === null;
   return isNamed(words) && (isAnywhere || narrowed.places.has(place));
 }
 
 /** Whether a thread has a frame that is narrowed to; of a graph that is left out nothing is known. */
 function isThreadNarrowedTo(thread) {
-  if (!isOfPlace({ process: thread.process, thread })) return false;
+  if (!isThreadOfPlace(thread)) return false;
   const isAnyName = narrowed.wanted.length === 0 && narrowed.unwanted.length === 0;
   return isAnyName || isLeftOut(thread) || labelsOf(thread).some(isNamed);
 }
@@ -1145,20 +1243,34 @@ function narrow() {
   graphs.mark(narrowed.wanted.length > 0 ? isNamed : null);
 }
 
-function fillChoice(select, all, items) {
-  const options = items.map((item) => element("option", { value: item.at }, brief(item.label, LONGEST_LABEL)));
+function filesToChoose() {
+  return isApart ? report.files : [];
+}
+
+/** A process or a thread as a choice: of several runs with its file, where marks keep the direction of each name to itself. */
+function choiceText({ label, file }) {
+  const text = brief(label, LONGEST_LABEL);
+  return isApart ? `\u2068${text}\u2069 in \u2068${brief(file.name, LONGEST_LABEL)}\u2069` : text;
+}
+
+function fillChoice(select, all, items, textOf) {
+  const options = items.map((item) => element("option", { value: item.at }, textOf(item)));
   select.replaceChildren(element("option", { value: "" }, all), ...options);
 }
 
-/** The threads to choose from are those of the process that is narrowed to. */
-function fillThreads() {
-  fillChoice(byId("thread"), "all threads", byBusyTime(report.threads.filter(({ process }) => isOfPlace({ process }))));
+/** The processes to choose from are those of the file that is narrowed to, and the threads those of it and of the process. */
+function fillChoices() {
+  const { file, process } = narrowed;
+  const threads = report.threads.filter((one) => isOf(file, one.file) && isOf(process, one.process));
+  fillChoice(byId("process"), "all processes", report.processes.filter((one) => isOf(file, one.file)), choiceText);
+  fillChoice(byId("thread"), "all threads", byBusyTime(threads), choiceText);
 }
 
-/** Narrows to a process and a thread, or to all where they are null, and shows that they are chosen. */
-function narrowTo(process, thread) {
-  Object.assign(narrowed, { process, thread });
-  fillThreads();
+/** Narrows to a file, a process and a thread, or to all where they are null, and shows that they are chosen. */
+function narrowTo(file, process, thread) {
+  Object.assign(narrowed, { file, process, thread });
+  fillChoices();
+  byId("file").value = file?.at ?? "";
   byId("process").value = process?.at ?? "";
   byId("thread").value = thread?.at ?? "";
   narrow();
@@ -1168,6 +1280,7 @@ function narrowTo(process, thread) {
 
 const processColumn = listedColumn("process", (row) => row.process);
 const threadColumn = listedColumn("thread", (row) => row.thread);
+const fileColumns = isApart ? [listedColumn("file", (row) => row.file)] : [];
 const plainName = nameColumn((row) => row.name);
 const total = numberColumn("total, \u00b5s", (row) => row.total);
 const open = numberColumn("open", (row) => row.open);
@@ -1182,7 +1295,8 @@ function spanTable() {
   const [first, ...others] = keyColumns();
   const isWide = ({ kind }) => kind !== undefined;
   const columns = [{ ...first, fill: (row) => graphButton(row, first) }, ...others.filter(isWide)];
-  const table = new Table("rows", [...columns, self, share, total, count, ...others.filter((column) => !isWide(column))], [
+  const numbers = runs.length > 0 ? [self, share, total, count] : [self, total, count];
+  const table = new Table("rows", [...columns, ...numbers, ...others.filter((column) => !isWide(column))], [
     { title: "self", value: self.value, text: timeText },
     { title: "count", value: count.value, text: grouped },
   ]);
@@ -1220,7 +1334,7 @@ function graphButton(row, column) {
 }
 
 function otherTable(title, rows, columns) {
-  const table = new Table(title.toLowerCase(), columns);
+  const table = new Table(title.toLowerCase(), [...columns, ...fileColumns]);
   const home = element("details", {}, element("summary", {}, `${title} (${grouped(rows.length)})`), table.element);
   return { table, rows, home, isShown: isNarrowedTo };
 }
@@ -1252,18 +1366,18 @@ function byBusyTime(threads) {
 
 /** Whether the graph of a thread is left out, since with it the page would have too many frames. */
 function isLeftOut(thread) {
-  return data.stacks[thread.at] === null;
+  return stacks[thread.at] === null;
 }
 
 function hasGraph(thread) {
-  return !isLeftOut(thread) && data.stacks[thread.at].length > 0;
+  return !isLeftOut(thread) && stacks[thread.at].length > 0;
 }
 
 const knownLabels = new Map();
 
 /** The labels of a thread's frames, each once. */
 function labelsOf(thread) {
-  if (!knownLabels.has(thread)) knownLabels.set(thread, [...new Set(data.stacks[thread.at].flatMap(([, labels]) => labels))]);
+  if (!knownLabels.has(thread)) knownLabels.set(thread, [...new Set(stacks[thread.at].flatMap(([, labels]) => labels))]);
   return knownLabels.get(thread);
 }
 
@@ -1295,6 +1409,7 @@ class Graphs {
   }
 
   told(listed, narrowedTo) {
+    if (runs.length === 0) return NO_RUNS;
     const all = this.threads.length;
     const idle = report.threads.length - all;
     return `${grouped(listed)} of ${grouped(narrowedTo)} threads shown`
@@ -1319,6 +1434,7 @@ class Graphs {
     const numbers = element("span", { className: "busy" }, `busy ${timeText(thread.busy)}`);
     const open = thread.open > 0n ? `, ${grouped(thread.open)} open` : "";
     const parts = [numbers, "thread ", nameElement(thread.label), " of process ", nameElement(thread.process.label)];
+    if (isApart) parts.push(" in ", nameElement(thread.file.name));
     if (isLeftOut(thread)) {
       return element("p", { id, className: "left-out" }, ...parts, element("span", { className: "hint" }, `${open}, left out: too many frames`));
     }
@@ -1328,7 +1444,7 @@ class Graphs {
 
   graphOf(thread) {
     if (!this.graphs.has(thread)) {
-      const graph = new Graph(thread, data.stacks[thread.at], this.isWidestFirst);
+      const graph = new Graph(thread, stacks[thread.at], this.isWidestFirst);
       this.graphs.set(thread, graph);
       this.sectionOf(thread).append(graph.element);
       graph.mark(this.marks);
@@ -1379,24 +1495,28 @@ class Graphs {
   }
 }
 
-function showWarnings() {
-  const found = warnings();
-  byId("warnings").replaceChildren(...found);
-  byId("warnings").hidden = found.length === 0;
-}
-
 const tables = [spanTable(), ...otherTables()];
 const graphs = new Graphs();
 
+/** Offers files to choose where there are several runs, and nothing that a page without its runs lacks. */
+function showChoices() {
+  fillChoice(byId("file"), "all files", filesToChoose(), ({ name }) => brief(name, LONGEST_NAME));
+  byId("file").parentElement.hidden = !isApart;
+  byId("over-files").hidden = !isApart || spans.columns.includes("file");
+  for (const part of document.querySelectorAll(".of-runs")) part.hidden = runs.length === 0;
+}
+
 function start() {
   showCounts();
+  showFiles();
   showWarnings();
+  showChoices();
   byId("names").replaceChildren(tables[0].table.element);
   byId("others").replaceChildren(...tables.slice(1).map(({ home }) => home));
   byId("words").addEventListener("input", narrow);
-  byId("process").addEventListener("change", () => narrowTo(report.processes[byId("process").value] ?? null, null));
-  byId("thread").addEventListener("change", () => narrowTo(narrowed.process, report.threads[byId("thread").value] ?? null));
-  fillChoice(byId("process"), "all processes", report.processes);
+  byId("file").addEventListener("change", () => narrowTo(report.files[byId("file").value] ?? null, null, null));
+  byId("process").addEventListener("change", () => narrowTo(narrowed.file, report.processes[byId("process").value] ?? null, null));
+  byId("thread").addEventListener("change", () => narrowTo(narrowed.file, narrowed.process, report.threads[byId("thread").value] ?? null));
   graphs.showLeftOut();
   showKeptView();
   const busiest = graphs.show().find(hasGraph);
