@@ -27,3 +27,11 @@ def data_text(value):
 def page_text(value):
     head, tail = fixed_texts()
     return head + data_text(value) + tail
+
+
+def data_of(page):
+    """The value of the data between the fixed texts."""
+    head, tail = fixed_texts()
+    if not (page.startswith(head) and page.endswith(tail)):
+        raise ValueError("a page doesn't begin and end with the fixed texts")
+    return json.loads(page[len(head) : len(page) - len(tail)])

@@ -53,12 +53,20 @@ def resize(driver, width):
 class Page:
     """A page that the browser has open."""
 
-    def __init__(self, driver, program, words, status=0):
-        self.driver, self.file = driver, tempfile.NamedTemporaryFile(suffix=".html")
-        ended = subprocess.run([program, "--page", *words], stdin=subprocess.DEVNULL, stdout=self.file)
+    def __init__(self, driver, program, words, status=0, folder=None):
+        """The page of the program, which is run in the folder."""
+        file = tempfile.NamedTemporaryFile(suffix=".html")
+        ended = subprocess.run([program, "--page", *words], stdin=subprocess.DEVNULL, stdout=file, cwd=folder)
         expect(f"the status of a page of {words}", ended.returncode, status)
-        self.url = f"file://{self.file.name}"
+        self.take(driver, file)
+
+    def take(self, driver, file):
+        self.driver, self.file, self.url = driver, file, f"file://{file.name}"
         self.open()
+
+    def source(self):
+        with open(self.file.name, encoding="utf-8", newline="") as file:
+            return file.read()
 
     def open(self, fragment=""):
         """Opens the page anew, with this behind its address."""
@@ -113,6 +121,16 @@ class Page:
         fetched = [event["params"]["request"]["url"] for event in events if event["method"] == "Network.requestWillBeSent"]
         expect("what the browser fetched", fetched, [self.url])
         expect("what the page fetched", self.run("return performance.getEntriesByType('resource').length"), 0)
+
+
+class MadePage(Page):
+    """A page of another text than the program's."""
+
+    def __init__(self, driver, text):
+        file = tempfile.NamedTemporaryFile(suffix=".html")
+        file.write(text.encode())
+        file.flush()
+        self.take(driver, file)
 
 
 class Graph:
