@@ -20,9 +20,17 @@ const spans = new SpanTable(data.table, report.threads);
 
 const narrowed = { file: null, process: null, thread: null, wanted: [], unwanted: [], places: new Set() };
 
-function isNamed(name) {
+function isNamed(name, wanted = narrowed.wanted) {
   const low = name.toLowerCase();
-  return narrowed.wanted.every((word) => low.includes(word)) && !narrowed.unwanted.some((word) => low.includes(word));
+  return wanted.every((word) => low.includes(word)) && !narrowed.unwanted.some((word) => low.includes(word));
+}
+
+/** Tells of a label whether frames of a thread that have it are named so; where rows have files, words can be those of the thread's. */
+function labelTestOf({ file }) {
+  const own = spans.columns.includes("file") ? file.name.toLowerCase() : "";
+  const wanted = narrowed.wanted.filter((word) => !own.includes(word));
+  const isUnwanted = narrowed.unwanted.some((word) => own.includes(word));
+  return (label) => !isUnwanted && isNamed(label, wanted);
 }
 
 /** Whether something is what was chosen; where nothing was, anything is. */
@@ -60,7 +68,7 @@ function isSpanNarrowedTo({ place, words }) {
 function isThreadNarrowedTo(thread) {
   if (!isThreadOfPlace(thread)) return false;
   const isAnyName = narrowed.wanted.length === 0 && narrowed.unwanted.length === 0;
-  return isAnyName || isLeftOut(thread) || labelsOf(thread).some(isNamed);
+  return isAnyName || isLeftOut(thread) || labelsOf(thread).some(labelTestOf(thread));
 }
 
 function narrow() {
@@ -69,7 +77,7 @@ function narrow() {
   narrowed.unwanted = words.filter((word) => word.startsWith("-")).map((word) => word.slice(1));
   showRows();
   graphs.show();
-  graphs.mark(narrowed.wanted.length > 0 ? isNamed : null);
+  graphs.mark(narrowed.wanted.length > 0 ? labelTestOf : () => null);
 }
 
 function filesToChoose() {
@@ -213,7 +221,7 @@ function labelsOf(thread) {
 class Graphs {
   constructor() {
     this.threads = byBusyTime(report.threads.filter((thread) => isLeftOut(thread) || hasGraph(thread)));
-    Object.assign(this, { sections: new Map(), graphs: new Map(), most: FIRST_GRAPHS, marks: null, sought: new Set() });
+    Object.assign(this, { sections: new Map(), graphs: new Map(), most: FIRST_GRAPHS, testOf: () => null, sought: new Set() });
     byId("more-graphs").onclick = () => this.show(this.most + MORE_GRAPHS);
     byId("order").onchange = () => this.order();
   }
@@ -276,14 +284,15 @@ class Graphs {
       const graph = new Graph(thread, stacks[thread.at], this.isWidestFirst);
       this.graphs.set(thread, graph);
       this.sectionOf(thread).append(graph.element);
-      graph.mark(this.marks);
+      graph.mark(this.testOf(thread));
     }
     return this.graphs.get(thread);
   }
 
-  mark(marks) {
-    this.marks = marks;
-    this.graphs.forEach((graph) => graph.mark(marks));
+  /** Marks the frames whose labels pass the test of their thread, now and in graphs that are opened later. */
+  mark(testOf) {
+    this.testOf = testOf;
+    this.graphs.forEach((graph, thread) => graph.mark(testOf(thread)));
   }
 
   /** Opens the graph of a thread, which is listed from now on, however many are busier. */

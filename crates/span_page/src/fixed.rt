@@ -4,7 +4,7 @@ pub(crate) const HEAD: &str = r#"<!DOCTYPE html>
 <html lang="en">
 <head>
 <meta charset="utf-8">
-<meta http-equiv="Content-Security-Policy" content="default-src 'none'; script-src 'sha256-PNxhVWCRy/beLkB9Myxy7Mas4IPQExdhGIeyY4Tem5c='; style-src 'sha256-z/4GHyAtxS/zcBHDOidENq7Nov/h13F0b0IzvPJ0fM0='; base-uri 'none'; form-action 'none'">
+<meta http-equiv="Content-Security-Policy" content="default-src 'none'; script-src 'sha256-8q0fAtY5DtWnwUzIaFIaZYV0Ls+6p3jFGx5awoDwXWM='; style-src 'sha256-z/4GHyAtxS/zcBHDOidENq7Nov/h13F0b0IzvPJ0fM0='; base-uri 'none'; form-action 'none'">
 <meta name="viewport" content="width=device-width, initial-scale=1">
 <meta name="color-scheme" content="light dark">
 <title>tracebook</title>
@@ -1191,9 +1191,17 @@ const spans = new SpanTable(data.table, report.threads);
 
 const narrowed = { file: null, process: null, thread: null, wanted: [], unwanted: [], places: new Set() };
 
-function isNamed(name) {
+function isNamed(name, wanted = narrowed.wanted) {
   const low = name.toLowerCase();
-  return narrowed.wanted.every((word) => low.includes(word)) && !narrowed.unwanted.some((word) => low.includes(word));
+  return wanted.every((word) => low.includes(word)) && !narrowed.unwanted.some((word) => low.includes(word));
+}
+
+/** Tells of a label whether frames of a thread that have it are named so; where rows have files, words can be those of the thread's. */
+function labelTestOf({ file }) {
+  const own = spans.columns.includes("file") ? file.name.toLowerCase() : "";
+  const wanted = narrowed.wanted.filter((word) => !own.includes(word));
+  const isUnwanted = narrowed.unwanted.some((word) => own.includes(word));
+  return (label) => !isUnwanted && isNamed(label, wanted);
 }
 
 /** Whether something is what was chosen; where nothing was, anything is. */
@@ -1231,7 +1239,7 @@ function isSpanNarrowedTo({ place, words }) {
 function isThreadNarrowedTo(thread) {
   if (!isThreadOfPlace(thread)) return false;
   const isAnyName = narrowed.wanted.length === 0 && narrowed.unwanted.length === 0;
-  return isAnyName || isLeftOut(thread) || labelsOf(thread).some(isNamed);
+  return isAnyName || isLeftOut(thread) || labelsOf(thread).some(labelTestOf(thread));
 }
 
 function narrow() {
@@ -1240,7 +1248,7 @@ function narrow() {
   narrowed.unwanted = words.filter((word) => word.startsWith("-")).map((word) => word.slice(1));
   showRows();
   graphs.show();
-  graphs.mark(narrowed.wanted.length > 0 ? isNamed : null);
+  graphs.mark(narrowed.wanted.length > 0 ? labelTestOf : () => null);
 }
 
 function filesToChoose() {
@@ -1384,7 +1392,7 @@ function labelsOf(thread) {
 class Graphs {
   constructor() {
     this.threads = byBusyTime(report.threads.filter((thread) => isLeftOut(thread) || hasGraph(thread)));
-    Object.assign(this, { sections: new Map(), graphs: new Map(), most: FIRST_GRAPHS, marks: null, sought: new Set() });
+    Object.assign(this, { sections: new Map(), graphs: new Map(), most: FIRST_GRAPHS, testOf: () => null, sought: new Set() });
     byId("more-graphs").onclick = () => this.show(this.most + MORE_GRAPHS);
     byId("order").onchange = () => this.order();
   }
@@ -1447,14 +1455,15 @@ class Graphs {
       const graph = new Graph(thread, stacks[thread.at], this.isWidestFirst);
       this.graphs.set(thread, graph);
       this.sectionOf(thread).append(graph.element);
-      graph.mark(this.marks);
+      graph.mark(this.testOf(thread));
     }
     return this.graphs.get(thread);
   }
 
-  mark(marks) {
-    this.marks = marks;
-    this.graphs.forEach((graph) => graph.mark(marks));
+  /** Marks the frames whose labels pass the test of their thread, now and in graphs that are opened later. */
+  mark(testOf) {
+    this.testOf = testOf;
+    this.graphs.forEach((graph, thread) => graph.mark(testOf(thread)));
   }
 
   /** Opens the graph of a thread, which is listed from now on, however many are busier. */
