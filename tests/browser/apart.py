@@ -122,6 +122,8 @@ def check_head(page):
     page.press(Keys.ENTER)
     expect("whether names stand open after a key", page.run(shown), [True, True])
     expect("names of files", names_of_files(page), ["one.json", "cut.json: 1 NotJson", "two.json"])
+    below = "return files.getBoundingClientRect().top >= counts.getBoundingClientRect().bottom"
+    expect("whether names stand below the counts", page.run(below), True)
     warnings = page.run("return [...document.querySelectorAll('#warnings > *')].map(one => one.innerText.split(/\\n+/))")
     expect("warnings", warnings, [
         ["Files that are no traces as a whole, of which nothing is here: 1.", "cut.json: 1 NotJson"],
@@ -279,12 +281,22 @@ def try_together(driver, program, folder):
     expect("whether a file of a run can be chosen", page.run("return document.getElementById('file').checkVisibility()"), False)
     expect("processes of files together", len(options(page, "process")), 3)
     page.expect_silence()
+    data = data_of(page.source())
+    data["files"][2][1] = 'tracebook: "two.json": 32 Full after 5'
+    page = MadePage(driver, page_text(data))
+    warnings = page.run("return [...document.querySelectorAll('#warnings > *')].map(one => one.innerText.split(/\\n+/))")
+    expect("what is said of a file that was stopped", warnings[:2], [
+        ["Files that are no traces as a whole, of which nothing is here: 1.", "cut.json: 1 NotJson"],
+        ["Files that are not here as a whole:", "two.json: 32 Full after 5"],
+    ])
+    page.expect_silence()
 
 
 # Two files with the same numbers and names
 
 SAME = {
-    name: [named("process_name", 7, 1, "app"), named("thread_name", 7, 1, "main"), span(7, 1, "alpha", 0, length), span(7, 1, "beta", 10, length // 10)]
+    name: [named("process_name", 7, 1, "app"), named("thread_name", 7, 1, "main"),
+           span(7, 1, "alpha", 0, length), span(7, 1, "beta", 10, length // 10)]
     for name, length in [("a.json", 100), ("b.json", 300)]
 }
 SUMMED = [["alpha", "360", "90.0 %", "400", "2", "app (7)", "main (1)"], ["beta", "40", "10.0 %", "40", "2", "app (7)", "main (1)"]]
@@ -304,7 +316,8 @@ def try_same(driver, program, folder):
     expect("rows with a word of a file that no row has", (page.rows("#names"), lines_of_graphs(page)), ([], []))
     page.write("")
     page.click("#names tbody tr:nth-child(2) button")
-    expect("what a summed row marks in a file", Graph(page, 0).text(".graph > .status"), "1 frame marked, 10 \u00b5s, 10.0 % of the thread's busy time")
+    marked = Graph(page, 0).text(".graph > .status")
+    expect("what a summed row marks in a file", marked, "1 frame marked, 10 \u00b5s, 10.0 % of the thread's busy time")
     page.expect_silence()
 
     page = Page(driver, program, ["--apart", "--group-by", "file,name", *SAME], folder=folder)
@@ -402,7 +415,7 @@ def try_odd_names(driver, program, folder):
 def try_many(driver, program, folder):
     """64 files with many names each, as far as a page has runs, are ready and narrowed in time; one file more, and the page has no runs."""
     names = 1_563
-    many = {f"{at:02}.json": [span(7, 1, f"name {at} {name}", 10 * name, 1 + at % 3) for name in range(names)] for at in range(64)}
+    many = {f"{at:02}.json": [5, *(span(7, 1, f"name {at} {name}", 10 * name, 1 + at % 3) for name in range(names))] for at in range(64)}
     put_traces(folder, many)
     page = Page(driver, program, ["--apart", "--group-by", "file,pid,tid,name", *many], folder=folder)
     ready = ready_of(page, "the page of 64 files")
@@ -411,9 +424,16 @@ def try_many(driver, program, folder):
     expect("files to choose", options(page, "file"), ["all files", *many])
     page.click("#files summary")
     expect("names of 64 files", names_of_files(page), list(many))
-    expect("counts of 64 files", page.text("#counts").split(), f"64 files {64 * names:,} events 0 refused 0 skipped 0 queries 64 processes 64 threads".split())
-    narrowing = "const choice = document.getElementById('file'); choice.selectedIndex = 64; choice.dispatchEvent(new Event('change', { bubbles: true }))"
-    slowest = time_of(page, "narrowing to a file", narrowing)
+    expect("counts of 64 files", page.text("#counts").split(),
+           f"64 files {64 * names:,} events 64 refused 0 skipped 0 queries 64 processes 64 threads".split())
+    lengths = page.run("return [...document.querySelectorAll('#warnings ul')].map(list => list.children.length)")
+    expect("refusals that stand open and closed", lengths, [20, 44])
+    expect("what the closed ones are called", page.text("#warnings summary"), "44 more")
+    slowest = time_of(page, "narrowing to a file", """
+        const choice = document.getElementById("file");
+        choice.selectedIndex = 64;
+        choice.dispatchEvent(new Event("change", { bubbles: true }));
+    """)
     expect("rows of a file of 64", page.text("#names .status").split(";")[0], f"20 of {names:,} rows shown, narrowed from {64 * names:,}")
     expect("the graph of a file of 64", lines_of_graphs(page), ["1 of process 7 in 63.json"])
     slowest = max(slowest, time_of(page, "sorting by file", "document.querySelector('#names th:last-child button').click()"))
@@ -421,7 +441,7 @@ def try_many(driver, program, folder):
     page.expect_silence()
 
     put_traces(folder, {"64.json": [span(7, 1, "last", 0, 5), 5], "cut.json": "[{"})
-    few = [name for name in many][:63]
+    few = list(many)[:63]
     page = Page(driver, program, ["--apart", *few, "64.json", "cut.json"], status=1, folder=folder)
     check_without_runs(page, 63 * names + 1)
     page = Page(driver, program, ["--apart", "--group-by", "name,file", *few, "64.json", "cut.json"], status=1, folder=folder)
@@ -433,13 +453,14 @@ def try_many(driver, program, folder):
 
 def check_without_runs(page, spans):
     """A page of more than 64 files has counts and rows, says what it lacks, and offers nothing of it."""
-    expect("counts without runs", page.text("#counts").split(), f"65 files {spans:,} events 1 refused 0 skipped 0 queries".split())
+    expect("counts without runs", page.text("#counts").split(), f"65 files {spans:,} events 64 refused 0 skipped 0 queries".split())
     expect("what is said of files without runs", page.text("#warnings > :first-child"),
            "Files that are no traces as a whole, of which nothing is here: 1. Standard error said why.")
     expect("what is lacking", page.text("#graphs-shown"), "A page of more than 64 files that are runs of their own has their counts and the "
            "table of their spans alone: there are no flame graphs here, and nothing else that was traced.")
-    shown = "return [...document.querySelectorAll('#file, #process, #thread, #order, #files, #more-graphs, #left-out')].filter(one => one.checkVisibility()).length"
-    expect("what is offered without runs", page.run(shown), 0)
+    offers = "#file, #process, #thread, #order, #files, #more-graphs, #left-out, #over-files"
+    shown = "return [...document.querySelectorAll(arguments[0])].filter(one => one.checkVisibility()).map(one => one.id)"
+    expect("what is offered without runs", page.run(shown, offers), [])
     expect("what else is told", (page.run("return others.children.length"), page.text("#names-title + .hint")),
            (0, "Times are whole microseconds. A click on a column sorts. The address shows the view again."))
     page.write("last")

@@ -90,9 +90,12 @@ function choiceText({ label, file }) {
   return isApart ? `\u2068${text}\u2069 in \u2068${brief(file.name, LONGEST_LABEL)}\u2069` : text;
 }
 
+/** Fills a choice. Options are put in one by one, since there may be more threads than a call can have arguments. */
 function fillChoice(select, all, items, textOf) {
-  const options = items.map((item) => element("option", { value: item.at }, textOf(item)));
-  select.replaceChildren(element("option", { value: "" }, all), ...options);
+  const options = new DocumentFragment();
+  options.append(element("option", { value: "" }, all));
+  for (const item of items) options.append(element("option", { value: item.at }, textOf(item)));
+  select.replaceChildren(options);
 }
 
 /** The processes to choose from are those of the file that is narrowed to, and the threads those of it and of the process. */

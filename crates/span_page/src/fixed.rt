@@ -4,7 +4,7 @@ pub(crate) const HEAD: &str = r#"<!DOCTYPE html>
 <html lang="en">
 <head>
 <meta charset="utf-8">
-<meta http-equiv="Content-Security-Policy" content="default-src 'none'; script-src 'sha256-8q0fAtY5DtWnwUzIaFIaZYV0Ls+6p3jFGx5awoDwXWM='; style-src 'sha256-z/4GHyAtxS/zcBHDOidENq7Nov/h13F0b0IzvPJ0fM0='; base-uri 'none'; form-action 'none'">
+<meta http-equiv="Content-Security-Policy" content="default-src 'none'; script-src 'sha256-ZO1WSdsvwWYS2F3uVb5e3Iyzn67BP1kn9pGFI56lxUM='; style-src 'sha256-z/4GHyAtxS/zcBHDOidENq7Nov/h13F0b0IzvPJ0fM0='; base-uri 'none'; form-action 'none'">
 <meta name="viewport" content="width=device-width, initial-scale=1">
 <meta name="color-scheme" content="light dark">
 <title>tracebook</title>
@@ -1261,9 +1261,12 @@ function choiceText({ label, file }) {
   return isApart ? `\u2068${text}\u2069 in \u2068${brief(file.name, LONGEST_LABEL)}\u2069` : text;
 }
 
+/** Fills a choice. Options are put in one by one, since there may be more threads than a call can have arguments. */
 function fillChoice(select, all, items, textOf) {
-  const options = items.map((item) => element("option", { value: item.at }, textOf(item)));
-  select.replaceChildren(element("option", { value: "" }, all), ...options);
+  const options = new DocumentFragment();
+  options.append(element("option", { value: "" }, all));
+  for (const item of items) options.append(element("option", { value: item.at }, textOf(item)));
+  select.replaceChildren(options);
 }
 
 /** The processes to choose from are those of the file that is narrowed to, and the threads those of it and of the process. */
