@@ -208,18 +208,17 @@ def check_zooms(page):
 def check_odd_fragments(page):
     """What the page doesn't have of an address is left out, and so is what is of another file than the one that is narrowed to."""
     everything = ["", "all files", "all processes", "all threads"]
-    for fragment, now in [
-        ("#", everything), ("#file=0", everything), ("#file=4", everything), ("#file=__proto__", everything), ("#file=one.json", everything),
-        ("#file=", everything), ("#file=1.0", everything), ("#file=01", everything), ("#process=7&thread=7.1", everything),
-        ("#process=2.7&thread=9.7.1", everything), ("#zoom=7.1.2&zoom=4.7.1.2&zoom=2.7.1.2&zoom=1.7.1", everything),
-        ("#file=1&process=3.7&thread=3.7.3", ["", "one.json", "all processes", "all threads"]),
-        ("#process=3.7&thread=3.8.1", ["", "all files", "tool (7) in two.json", "all threads"]),
-        ("#file=3&file=1", ["", "two.json", "all processes", "all threads"]),
+    nothing = ["#", "#file=0", "#file=4", "#file=__proto__", "#file=one.json", "#file=", "#file=1.0", "#file=01", "#process=7&thread=7.1",
+               "#process=2.7&thread=9.7.1", "#zoom=7.1.2&zoom=4.7.1.2&zoom=2.7.1.2&zoom=1.7.1"]
+    for fragment, now, left in [
+        *((fragment, everything, "") for fragment in nothing),
+        ("#file=1&process=3.7&thread=3.7.3", ["", "one.json", "all processes", "all threads"], "#file=1"),
+        ("#process=3.7&thread=3.8.1", ["", "all files", "tool (7) in two.json", "all threads"], "#process=3.7"),
+        ("#file=3&file=1", ["", "two.json", "all processes", "all threads"], "#file=3"),
     ]:
         page.open(fragment)
         expect(f"choices of {fragment!r}", chosen(page), now)
-        zooms = "return [...graphs.querySelectorAll('.steps button:nth-child(1)')].some(one => !one.disabled)"
-        expect(f"whether {fragment!r} zooms", page.run(zooms), False)
+        expect(f"what is left of {fragment!r}", kept(page), left)
         page.expect_silence()
 
 
@@ -280,15 +279,6 @@ def try_together(driver, program, folder):
     expect("names of files together", names_of_files(page), ["one.json", "cut.json: 1 NotJson", "two.json"])
     expect("whether a file of a run can be chosen", page.run("return document.getElementById('file').checkVisibility()"), False)
     expect("processes of files together", len(options(page, "process")), 3)
-    page.expect_silence()
-    data = data_of(page.source())
-    data["files"][2][1] = 'tracebook: "two.json": 32 Full after 5'
-    page = MadePage(driver, page_text(data))
-    warnings = page.run("return [...document.querySelectorAll('#warnings > *')].map(one => one.innerText.split(/\\n+/))")
-    expect("what is said of a file that was stopped", warnings[:2], [
-        ["Files that are no traces as a whole, of which nothing is here: 1.", "cut.json: 1 NotJson"],
-        ["Files that are not here as a whole:", "two.json: 32 Full after 5"],
-    ])
     page.expect_silence()
 
 

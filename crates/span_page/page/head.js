@@ -21,19 +21,18 @@ const REASONS = {
 
 const ONE = { files: "file", events: "event", queries: "query", seals: "seal", processes: "process", threads: "thread" };
 
-function countItem(what, count) {
-  return element("span", {}, element("b", {}, grouped(count)), ` ${String(count) === "1" ? ONE[what] ?? what : what}`);
+function countItem([what, count]) {
+  return element("span", {}, element("b", {}, grouped(count)), ` ${count === 1 ? ONE[what] ?? what : what}`);
 }
 
-/** The counts of all runs; processes and threads are known where the page has its runs. */
+/** The counts of all runs, and the name of a file that is the only one. Processes and threads are known where the page has its runs. */
 function showCounts() {
-  const told = ["events", "refused", "skipped", "queries", "seals"].map((what) => [what, spans.counts[what]]);
+  const { files, seals } = spans.counts;
+  const told = ["events", "refused", "skipped", "queries", ...(seals > 0 ? ["seals"] : [])].map((what) => [what, spans.counts[what]]);
   const known = [["processes", report.processes.length], ["threads", report.threads.length]];
-  const counts = [...told.filter(([what, count]) => what !== "seals" || count > 0), ...(runs.length > 0 ? known : [])];
-  const [file, ...others] = report.files;
-  const isOne = file !== undefined && others.length === 0;
-  const first = isOne ? element("span", {}, "file ", fileElement("b", file)) : countItem("files", spans.counts.files);
-  byId("counts").replaceChildren(first, ...counts.map(([what, count]) => countItem(what, count)));
+  const counts = [...told, ...(runs.length > 0 ? known : [])];
+  const first = files === 1 ? element("span", {}, "file ", fileElement("b", report.files[0])) : countItem(["files", files]);
+  byId("counts").replaceChildren(first, ...counts.map(countItem));
 }
 
 /** A file, and how it ended where it wasn't read whole. */
@@ -64,22 +63,15 @@ function warning(text, items) {
   return element("div", { className: "warning" }, element("p", {}, text), first, ...(more.children.length > 0 ? [closed] : []));
 }
 
-/** Whether a file was refused as a whole, as the number says with which its end begins. */
-function isNoTrace({ end }) {
-  return /^[1-4] /.test(end);
-}
-
 function warnings() {
   const { unread, refused } = spans.counts;
   const open = add(report.threads.map((thread) => thread.open));
-  const stopped = report.files.filter((file) => file.end !== null && !isNoTrace(file));
   const found = [];
   if (unread > 0) {
-    const noTraces = report.files.filter(isNoTrace);
+    const noTraces = report.files.filter(({ end }) => end !== null);
     const text = `Files that are no traces as a whole, of which nothing is here: ${grouped(unread)}.`;
     found.push(warning(noTraces.length > 0 ? text : `${text} Standard error said why.`, noTraces.map(fileItem)));
   }
-  if (stopped.length > 0) found.push(warning("Files that are not here as a whole:", stopped.map(fileItem)));
   if (refused > 0) {
     const text = "Events were refused. Times on their threads can be wrong: where a begin is refused, its end closes another span. "
       + "Elements are counted from 0.";
