@@ -259,8 +259,9 @@ def try_threads(driver, program, folder):
 def try_one_apart(driver, program, folder):
     """A page of one file is of one run, whether or not it is one of its own: there is no file to choose, and the address has today's form."""
     put_traces(folder, THREADS)
-    for words in [["one.json"], ["--apart", "one.json"]]:
+    for words, share in [(["one.json"], "70.0 %"), (["--apart", "one.json"], "70.0 %"), (["--apart", "--group-by", "file,name", "one.json"], "46.7 %")]:
         page = Page(driver, program, words, folder=folder)
+        expect(f"the first row of {words}", page.rows("#names")[0][:3], ["alpha", "70", share])
         expect(f"the first count of {words}", page.text("#counts > :first-child"), "file one.json")
         expect(f"whether a file can be chosen with {words}", page.run("return document.getElementById('file').checkVisibility()"), False)
         expect(f"processes to choose with {words}", options(page, "process"), ["all processes", "app (7)"])
@@ -339,6 +340,14 @@ def try_same(driver, program, folder):
         told = Graph(page, place).text(".graph > .status")
         expect(f"what row {row} marks", told, f"1 frame marked, {marked} of the thread's busy time")
         expect(f"the focus after row {row}", page.run("return document.activeElement.closest('details').id"), f"thread-{place}")
+    page.expect_silence()
+
+    page = Page(driver, program, ["--apart", "--group-by", "file,name", "a.json", "a.json"], folder=folder)
+    twice = [["alpha", "180", "90.0 %", "200", "2", "a.json"], ["beta", "20", "10.0 %", "20", "2", "a.json"]]
+    graphs = "return [...document.querySelectorAll('#graphs > details')].map(graph => graph.id)"
+    for fragment, shown in [("", ["thread-0", "thread-1"]), ("#file=1", ["thread-0"]), ("#file=2", ["thread-1"]), ("#process=2.7", ["thread-1"])]:
+        page.open(fragment)
+        expect(f"rows and graphs of a file that is named twice, {fragment!r}", (page.rows("#names"), page.run(graphs)), (twice, shown))
     page.expect_silence()
 
 

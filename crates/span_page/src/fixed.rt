@@ -4,7 +4,7 @@ pub(crate) const HEAD: &str = r#"<!DOCTYPE html>
 <html lang="en">
 <head>
 <meta charset="utf-8">
-<meta http-equiv="Content-Security-Policy" content="default-src 'none'; script-src 'sha256-v6jq1RkpJEd+b0fVfcI5bmTQ6EJ9sEWum/RsSVqVdh0='; style-src 'sha256-z/4GHyAtxS/zcBHDOidENq7Nov/h13F0b0IzvPJ0fM0='; base-uri 'none'; form-action 'none'">
+<meta http-equiv="Content-Security-Policy" content="default-src 'none'; script-src 'sha256-v6jq1RkpJEd+b0fVfcI5bmTQ6EJ9sEWum/RsSVqVdh0='; style-src 'sha256-l0GSLk8mSCWf3MAzl3a1aPwdpnW8mPlPL5MC084zi/o='; base-uri 'none'; form-action 'none'">
 <meta name="viewport" content="width=device-width, initial-scale=1">
 <meta name="color-scheme" content="light dark">
 <title>tracebook</title>
@@ -109,7 +109,7 @@ canvas { position: sticky; top: 0; display: block; width: 100%; }
 /* In print all of a table is seen, so names are wrapped, and there is nothing to press. */
 @media print {
   body { max-width: none; padding: 0; font-size: 12px; }
-  #narrowing { position: static; }
+  #narrowing { position: static; flex-wrap: wrap; }
   .wide { overflow: visible; }
   th, td { padding: 0.1rem 0.4rem; white-space: normal; }
   td { min-width: 4.5rem; max-width: none; overflow-wrap: anywhere; }
