@@ -15,8 +15,8 @@ const report = readRuns(runs);
 const stacks = runs.flatMap((run) => run.stacks);
 const spans = new SpanTable(data.table, report.threads);
 
-// What is narrowed to: rows of a file, a process and a thread, whose names have all of some words and none of others, and threads with frames
-// that are labelled so.
+// What is narrowed to: rows of a file, a process and a thread, whose names have all of some words and none of others, and threads with
+// frames that are labelled so.
 
 const narrowed = { file: null, process: null, thread: null, wanted: [], unwanted: [], places: new Set() };
 
@@ -25,7 +25,7 @@ function isNamed(name, wanted = narrowed.wanted) {
   return wanted.every((word) => low.includes(word)) && !narrowed.unwanted.some((word) => low.includes(word));
 }
 
-/** Tells of a label whether frames of a thread that have it are named so; where rows have files, words can be those of the thread's. */
+/** Tests whether frames of a thread that have a label are named so. Where rows have files, words can be those of the thread's file. */
 function labelTestOf({ file }) {
   const own = spans.columns.includes("file") ? file.name.toLowerCase() : "";
   const wanted = narrowed.wanted.filter((word) => !own.includes(word));

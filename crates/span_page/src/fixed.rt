@@ -4,7 +4,7 @@ pub(crate) const HEAD: &str = r#"<!DOCTYPE html>
 <html lang="en">
 <head>
 <meta charset="utf-8">
-<meta http-equiv="Content-Security-Policy" content="default-src 'none'; script-src 'sha256-v6jq1RkpJEd+b0fVfcI5bmTQ6EJ9sEWum/RsSVqVdh0='; style-src 'sha256-l0GSLk8mSCWf3MAzl3a1aPwdpnW8mPlPL5MC084zi/o='; base-uri 'none'; form-action 'none'">
+<meta http-equiv="Content-Security-Policy" content="default-src 'none'; script-src 'sha256-p7mgwfASQrvW7ialIdmnDT7p5otdR6hJgPlYodZo1lk='; style-src 'sha256-l0GSLk8mSCWf3MAzl3a1aPwdpnW8mPlPL5MC084zi/o='; base-uri 'none'; form-action 'none'">
 <meta name="viewport" content="width=device-width, initial-scale=1">
 <meta name="color-scheme" content="light dark">
 <title>tracebook</title>
@@ -142,7 +142,7 @@ canvas { position: sticky; top: 0; display: block; width: 100%; }
 <section aria-labelledby="names-title">
 <h2 id="names-title">Spans</h2>
 <p class="hint">Times are whole microseconds. A click on a column sorts<span class="of-runs">; a click on a row marks its frames in a flame graph</span>. The address shows the view again.
-<span id="over-files" hidden>Rows are sums over all files; with the column file, by --group-by, each file has its own.</span></p>
+<span id="over-files" hidden>Rows are sums over all files; with the column file (--group-by) each file has its own.</span></p>
 <div id="names"></div>
 </section>
 <section aria-labelledby="graphs-title">
@@ -1178,8 +1178,8 @@ const report = readRuns(runs);
 const stacks = runs.flatMap((run) => run.stacks);
 const spans = new SpanTable(data.table, report.threads);
 
-// What is narrowed to: rows of a file, a process and a thread, whose names have all of some words and none of others, and threads with frames
-// that are labelled so.
+// What is narrowed to: rows of a file, a process and a thread, whose names have all of some words and none of others, and threads with
+// frames that are labelled so.
 
 const narrowed = { file: null, process: null, thread: null, wanted: [], unwanted: [], places: new Set() };
 
@@ -1188,7 +1188,7 @@ function isNamed(name, wanted = narrowed.wanted) {
   return wanted.every((word) => low.includes(word)) && !narrowed.unwanted.some((word) => low.includes(word));
 }
 
-/** Tells of a label whether frames of a thread that have it are named so; where rows have files, words can be those of the thread's. */
+/** Tests whether frames of a thread that have a label are named so. Where rows have files, words can be those of the thread's file. */
 function labelTestOf({ file }) {
   const own = spans.columns.includes("file") ? file.name.toLowerCase() : "";
   const wanted = narrowed.wanted.filter((word) => !own.includes(word));
