@@ -67,7 +67,7 @@ module _ (file : Input) (settings : Settings) (ends : List FileEnd) (asked : Ask
   end_lines-alone = end_lines-in_turn (file ∷ []) [] settings ends asked sealing journal account (AreSeparate-one file) below ∙ append-nil (refusal_line file)
 
 -- a sum that takes the run of a file, and its lines, has the file
-pub AddsFile-run : (known : List ℕ → Option (List ℕ)) (name : List ℕ) (settings : Settings) (run : FileRun) (old new : Summed) → IsFileRun known name settings run →
+abbrev pub AddsFile-run : (known : List ℕ → Option (List ℕ)) (name : List ℕ) (settings : Settings) (run : FileRun) (old new : Summed) → IsFileRun known name settings run →
     TakesRuns old.sum (run_of run ∷ []) new.sum → new.lines.items ≡ old.lines.items ++ end_lines (run.file ∷ []) run.collected.end.ends.items → AddsFile known name settings old new
 AddsFile-run known name settings run old new is takes told =
     let end = run.collected.end in

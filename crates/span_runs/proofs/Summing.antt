@@ -16,7 +16,7 @@ use Rattle.span_runs.specs.Inputs.{AreFiles, most_read}
 use Rattle.span_runs.specs.Source.{AreFirst}
 
 -- none
-pub AreSummed-none : (known : List ℕ → Option (List ℕ)) (settings : Settings) (columns : List Column) (table : SpanTable) (lines : Bytes) → table ≡ table_of columns [] → lines ≡ [] → AreSummed known [] settings columns table lines
+abbrev pub AreSummed-none : (known : List ℕ → Option (List ℕ)) (settings : Settings) (columns : List Column) (table : SpanTable) (lines : Bytes) → table ≡ table_of columns [] → lines ≡ [] → AreSummed known [] settings columns table lines
 AreSummed-none known settings columns table lines is none = record {
   files = [];
   read = record { named = refl; held = All-nil (λ input. AreFirst most_read (known input.name) input.bytes.items) };
@@ -32,7 +32,7 @@ AreFiles-push known names inputs name input files same first = record {
   held = All-push (λ i. AreFirst most_read (known i.name) i.bytes.items) inputs input files.held (rw same first);
 }
 
-pub AreSummed-push : (known : List ℕ → Option (List ℕ)) (names : List (List ℕ)) (name : List ℕ) (settings : Settings) (columns : List Column) (old new : Summed) →
+abbrev pub AreSummed-push : (known : List ℕ → Option (List ℕ)) (names : List (List ℕ)) (name : List ℕ) (settings : Settings) (columns : List Column) (old new : Summed) →
     AreSummed known names settings columns old.sum old.lines.items → AddsFile known name settings old new → AreSummed known (names ++ name ∷ []) settings columns new.sum new.lines.items
 AreSummed-push known names name settings columns old new summed adds = record {
   files = summed.files ++ adds.file ∷ [];
