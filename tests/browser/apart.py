@@ -367,9 +367,10 @@ def renamed(text, names):
     """A page whose files have other names."""
     data = data_of(text)
     for run in data["runs"]:
-        run["files"] = [[names.get(name, name), line.replace(json.dumps(name), json.dumps(names.get(name, name)))] for name, line in run["files"]]
+        run["files"] = [names.get(name, name) for name in run["files"]]
         for name, other in names.items():
-            run["refused"] = run["refused"].replace(json.dumps(name), json.dumps(other))
+            for text in ["refused", "faults"]:
+                run[text] = run[text].replace(json.dumps(name), json.dumps(other))
     for name, other in names.items():
         data["table"] = data["table"].replace(json.dumps(name), json.dumps(other))
     return page_text(data)

@@ -4,7 +4,7 @@ pub(crate) const HEAD: &str = r#"<!DOCTYPE html>
 <html lang="en">
 <head>
 <meta charset="utf-8">
-<meta http-equiv="Content-Security-Policy" content="default-src 'none'; script-src 'sha256-p7mgwfASQrvW7ialIdmnDT7p5otdR6hJgPlYodZo1lk='; style-src 'sha256-l0GSLk8mSCWf3MAzl3a1aPwdpnW8mPlPL5MC084zi/o='; base-uri 'none'; form-action 'none'">
+<meta http-equiv="Content-Security-Policy" content="default-src 'none'; script-src 'sha256-1f3wnUlC9ZFLGtyN/FFOirxwOqGSMIjgevezdzwxz+g='; style-src 'sha256-l0GSLk8mSCWf3MAzl3a1aPwdpnW8mPlPL5MC084zi/o='; base-uri 'none'; form-action 'none'">
 <meta name="viewport" content="width=device-width, initial-scale=1">
 <meta name="color-scheme" content="light dark">
 <title>tracebook</title>
@@ -309,14 +309,22 @@ function brief(name, most) {
 // Reads the runs of a page into one report. There is one run, of one file or of several that were collected together; or each file is a
 // run of its own, and then all that is read of a run knows its file. A page of very many such files has none of their runs.
 
-/** How the line of standard error for a file goes on behind the file's name; null where the file was read whole. */
-function endOf(line) {
-  return line === "" ? null : line.slice(endOfText(line, line.indexOf('"'))).replace(/^: /, "");
+/** The file that a fault line is of, and how it ended. */
+function faultOf(line) {
+  const start = line.indexOf('"');
+  const end = endOfText(line, start);
+  return { name: JSON.parse(line.slice(start, end)), end: line.slice(end).replace(/^: /, "") };
 }
 
-/** The files of all runs in their order, each with how it ended. */
+/** The files of a run in their order, each with how it ended, or null where it was read whole: then it has no fault line. */
+function filesOfRun({ files, faults }) {
+  const lines = faults.split("\n").slice(0, -1).map(faultOf);
+  return files.map((name) => ({ name, end: lines[0]?.name === name ? lines.shift().end : null }));
+}
+
+/** The files of all runs in their order. */
 function filesOf(runs) {
-  return runs.flatMap(({ files }) => files).map(([name, line], at) => ({ name, label: name, at, end: endOf(line) }));
+  return runs.flatMap(filesOfRun).map(({ name, end }, at) => ({ name, label: name, at, end }));
 }
 
 /** What was traced in all runs, one after another. */
