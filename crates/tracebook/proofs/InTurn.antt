@@ -13,7 +13,7 @@ use Rattle.span_collect.specs.declared.settings.Settings.{Settings}
 use Rattle.span_collect.specs.InTurn.{AreSeparate, ends_from, journal_in_turn, text_in_turn}
 use Rattle.span_collect.specs.Run.{status_of}
 use Rattle.span_collect.specs.Seals.{SealedAccount}
-use Rattle.span_collect.proofs.InTurn.Accounted.{AreAlike-in_turn, refusals_of-in_turn}
+use Rattle.span_collect.proofs.InTurn.Accounted.{AreAlike-in_turn, end_lines-in_turn, refusals_of-in_turn}
 use Rattle.span_page.specs.Page.{page_of}
 use Rattle.span_page.proofs.SamePages.{page_of-alike}
 use Rattle.span_runs.specs.Runs.{run_in_turn, run_of_files}
@@ -44,7 +44,7 @@ module _ (files : List Input) (settings : Settings) (ends : List FileEnd) (asked
   text_of-in_turn (Folded labels) = (stacks-alike journal (journal_in_turn settings files []) alike).text labels.items
   text_of-in_turn (Page view) =
       page_of-alike view.labels.items (table_text view.table false (asked_table view.table (run_of_files files ends journal))) files ends (ends_from 1 files) journal (journal_in_turn settings files []) alike
-      (refusals_of-in_turn files [] settings ends asked sealing journal account separate below)
+      (refusals_of-in_turn files [] settings ends asked sealing journal account separate below) (end_lines-in_turn files [] settings ends asked sealing journal account separate below)
       ∙ ap (λ (table : SpanTable). page_of view.labels.items (table_text view.table false table) files (ends_from 1 files) (journal_in_turn settings files [])) (table-in_turn view.table)
 
   -- whether folded stacks have more names than they may

@@ -5,4 +5,5 @@ mod FaultLines
 mod FleetTrees
 mod InTurn
 mod Parts
+mod RunPages
 mod Views

@@ -3,6 +3,7 @@ pub mod Added
 pub mod Comparison
 pub mod FaultLines
 pub mod Fleet
+pub mod Pages
 pub mod Reading
 pub mod Request
 pub mod Sums

@@ -8,7 +8,7 @@ use Rattle.span_collect.specs.declared.runs.RunEnd.{RunEnd}
 use Rattle.tracebook.specs.declared.command.Request.{Request}
 use Rattle.tracebook.specs.declared.command.Request.TheVariants.{Run, Show, Refuse}
 use Rattle.tracebook.specs.declared.command.Task.{Task}
-use Rattle.tracebook.specs.declared.command.Task.TheVariants.{Collect, Compare, Sum, CompareSums, Add, CompareAdded}
+use Rattle.tracebook.specs.declared.command.Task.TheVariants.{Collect, Compare, Sum, Pages as PagesTask, CompareSums, Add, CompareAdded}
 use Rattle.tracebook.specs.declared.comparison.ComparisonFault.{ComparisonFault}
 use Rattle.tracebook.specs.declared.comparison.ComparisonView.{ComparisonView}
 use Rattle.tracebook.specs.declared.view.View.{View}
@@ -20,6 +20,7 @@ use Rattle.span_runs.specs.Source.{SourceBytes}
 use Rattle.tracebook.specs.Added.{Adds, AddsPart, ComparesAdded, ComparesAddedPart}
 use Rattle.tracebook.specs.Comparison.{ComparisonLeaves, IsComparisonOf, greater}
 use Rattle.span_runs.specs.Inputs.{AreFiles, AreInputs}
+use Rattle.tracebook.specs.Pages.{Pages, PagesPart}
 use Rattle.tracebook.specs.Sums.{ComparesSums, ComparesSumsPart, Sums, SumsPart}
 use Rattle.tracebook.specs.View.{Prints, ViewLeaves}
 
@@ -105,6 +106,7 @@ abbrev pub Does : SourceBytes → Task → List (List ℕ) → ℕ → SinkState
 Does source (Collect settings view) names status old new = Collects source names settings view status old new
 Does source (Compare settings view base) names status old new = Compares source base.items names settings view status old new
 Does source (Sum apart view) names status old new = Sums source names apart.settings view status old new
+Does source (PagesTask apart view) names status old new = Pages source names apart.settings view status old new
 Does source (CompareSums apart view base) names status old new = ComparesSums source base.items names apart.settings view status old new
 Does source (Add view) names status old new = Adds source names view status old new
 Does source (CompareAdded view base) names status old new = ComparesAdded source base.items names view status old new
@@ -114,6 +116,7 @@ abbrev pub DoesPart : SourceBytes → Task → List (List ℕ) → SinkState →
 DoesPart source (Collect settings view) names old new = CollectsPart source names settings view old new
 DoesPart source (Compare settings view base) names old new = ComparesPart source base.items names settings view old new
 DoesPart source (Sum apart view) names old new = SumsPart source names apart.settings view old new
+DoesPart source (PagesTask apart view) names old new = PagesPart source names apart.settings view old new
 DoesPart source (CompareSums apart view base) names old new = ComparesSumsPart source base.items names apart.settings view old new
 DoesPart source (Add view) names old new = AddsPart source names view old new
 DoesPart source (CompareAdded view base) names old new = ComparesAddedPart source base.items names view old new

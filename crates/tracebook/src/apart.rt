@@ -154,7 +154,8 @@ fn sum_standard<R: Threads + Wait + RandomSource + Sync, S: Source + Sync>(
     sum_apart(rt, alloc, &standard, from_ref(&name), settings, columns, 1)
 }
 
-fn jobs_of<R: Threads>(rt: &R, apart: &Apart) -> u32 {
+/// How many jobs there are at once.
+pub(crate) fn jobs_of<R: Threads>(rt: &R, apart: &Apart) -> u32 {
     if let Some(jobs) = apart.jobs {
         return jobs;
     }

@@ -53,6 +53,11 @@ pub enum Task {
         apart: Apart,
         view: TableView,
     },
+    /// Collect each of them as a run of its own, and print a page of them.
+    Pages {
+        apart: Apart,
+        view: PageView,
+    },
     /// Sum the base files so, and the others, and print this of what changed.
     CompareSums {
         apart: Apart,
@@ -142,6 +147,8 @@ struct Bound {
 
 const TABLES: &[&str] = &["top", "json", "base"];
 
+const SUMMED: &[&str] = &["top", "json", "base", "page"];
+
 const GROUPED: &[&str] = &["top", "json", "base", "folded", "page"];
 
 const BOUND: &[Bound] = &[
@@ -167,8 +174,8 @@ const BOUND: &[Bound] = &[
     },
     Bound {
         option: "apart",
-        texts: TABLES,
-        rule: "the argument '--apart' goes with '--top <N>', '--json' and '--base <FILE>' alone",
+        texts: SUMMED,
+        rule: "the argument '--apart' goes with '--top <N>', '--json', '--base <FILE>' and '--page' alone",
     },
     Bound {
         option: "jobs",
@@ -304,20 +311,40 @@ fn task_of(
         return Ok(comparison_task(matches, settings, view, base));
     }
     if is_any_given(matches, &["apart", "add"]) {
-        let form = table_form(matches);
-        let view = TableView { options, form };
-        return Ok(sum_task(matches, settings, view));
+        return sum_task(alloc, matches, settings, options);
     }
     let view = view_of(alloc, matches, options)?;
     Ok(Task::Collect { settings, view })
 }
 
-fn sum_task(matches: &ArgMatches<'_>, settings: Settings, view: TableView) -> Task {
-    if matches.get_flag("add") {
-        return Task::Add { view };
-    }
+fn sum_task(
+    alloc: Global,
+    matches: &ArgMatches<'_>,
+    settings: Settings,
+    options: TableOptions,
+) -> Result<Task, AllocError> {
     let apart = apart_of(matches, settings);
-    Task::Sum { apart, view }
+    if matches.get_flag("page") {
+        let view = page_view(alloc, matches, options)?;
+        return Ok(Task::Pages { apart, view });
+    }
+    let form = table_form(matches);
+    let view = TableView { options, form };
+    if matches.get_flag("add") {
+        return Ok(Task::Add { view });
+    }
+    Ok(Task::Sum { apart, view })
+}
+
+fn page_view(
+    alloc: Global,
+    matches: &ArgMatches<'_>,
+    options: TableOptions,
+) -> Result<PageView, AllocError> {
+    let labels = labels_of(alloc, &options.columns)?;
+    let form = table_form(matches);
+    let table = TableView { options, form };
+    Ok(PageView { table, labels })
 }
 
 fn comparison_task(
@@ -351,8 +378,8 @@ fn view_of(
     matches: &ArgMatches<'_>,
     options: TableOptions,
 ) -> Result<View, AllocError> {
-    let form = table_form(matches);
     if matches.contains_id("top") || matches.get_flag("json") {
+        let form = table_form(matches);
         return Ok(View::Table(TableView { options, form }));
     }
     if matches.get_flag("refused") {
@@ -362,9 +389,7 @@ fn view_of(
         return Ok(View::Folded(labels_of(alloc, &options.columns)?));
     }
     if matches.get_flag("page") {
-        let labels = labels_of(alloc, &options.columns)?;
-        let table = TableView { options, form };
-        return Ok(View::Page(PageView { table, labels }));
+        return Ok(View::Page(page_view(alloc, matches, options)?));
     }
     Ok(View::Report)
 }

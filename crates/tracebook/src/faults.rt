@@ -42,7 +42,7 @@ pub(crate) fn report_faults<F: Faults>(
     }
     match fault_text(alloc, files, end) {
         Ok(lines) => {
-            say(&lines, faults);
+            say(lines.as_bytes(), faults);
             end.status
         }
         Err(_) => {
@@ -53,14 +53,14 @@ pub(crate) fn report_faults<F: Faults>(
 }
 
 // The lines of files, and one where a seal was not taken.
-fn fault_text(alloc: Global, files: &[Input], end: &RunEnd) -> Result<Vec<u8>, AllocError>
+fn fault_text(alloc: Global, files: &[Input], end: &RunEnd) -> Result<String, AllocError>
     requires { length files.now ≡ length end.now.ends.items }
-    ensures { IfOk result (λ text. text.items ≡ fault_text files.now end.now) }
+    ensures { IfOk result (λ text. string_bytes text ≡ fault_text files.now end.now) }
 {
     let mut text = fault_lines(alloc, files, &end.ends)?;
     if let Some(cause) = end.sealing.cause {
         let line = run_line(alloc, cause.code())?;
-        text.extend_from_slice(line.as_bytes())?;
+        text.push_str(line.as_str())?;
     }
     Ok(text)
 }

@@ -11,6 +11,7 @@ mod hints;
 mod inputs;
 mod laws;
 mod options;
+mod pages;
 mod program;
 mod progress;
 mod reading;

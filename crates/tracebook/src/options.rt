@@ -28,7 +28,8 @@ process, thread, name, args.KEY (an argument of the span), and with
 --page, name and args.KEY say what a frame is called"#;
 
 const APART_HELP: &str = r#"Take each FILE as a run of its own, whatever processes they share, and
-sum their tables; any number of files; with --top, --json and --base"#;
+sum their tables; any number of files; with --top, --json, --base and
+--page"#;
 
 const ADD_HELP: &str = r#"Take each FILE as a table that --json printed, without --base, and add
 them; any number of files; with --top, --json and --base"#;

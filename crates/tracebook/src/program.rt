@@ -8,6 +8,7 @@ use crate::command::{Request, Task, request_of};
 use crate::comparison::{ComparisonView, greater, run_comparison};
 use crate::faults::{FAILED, Faults, fail, fail_cause, fail_run, put_hints, report_faults, say};
 use crate::inputs::{inputs_of, pair_of};
+use crate::pages::page_files;
 use crate::view::{View, run_view};
 use span_collect::{Input, Settings};
 use span_event::{Fault, Text};
@@ -99,6 +100,9 @@ fn perform_task<R: Threads + Wait + RandomSource + Sync, S: Source + Sync, O: Si
             rt, alloc, &settings, &view, base, names, source, out, faults,
         ),
         Task::Sum { apart, view } => sum_files(
+            rt, alloc, &apart, &view, names, source, out, faults,
+        ),
+        Task::Pages { apart, view } => page_files(
             rt, alloc, &apart, &view, names, source, out, faults,
         ),
         Task::CompareSums { apart, view, base } => {

@@ -59,8 +59,8 @@ pub(crate) fn write_runs_changes<O: Sink, F: Faults>(
     write_told(alloc, text, lines, out, faults)
 }
 
-// Writes a text, if it was made, and then these fault lines.
-fn write_told<O: Sink, F: Faults>(
+/// Writes a text, if it was made, and then these fault lines.
+pub(crate) fn write_told<O: Sink, F: Faults>(
     alloc: Global,
     text: Result<Vec<u8>, JsonFault>,
     lines: &[u8],

@@ -1,6 +1,6 @@
 //! The tables that the command line asks for, and their texts.
-ghost use Rattle.std.specs.Prelude.{◌≡◌, true, false, IfOk, IfErr, OnOk};
-ghost use Rattle.span_table.specs.declared.json_lines.JsonFault.TheVariants.{TooGreat};
+ghost use Rattle.std.specs.Prelude.{◌≡◌, true, false, string_bytes, IfOk, IfErr, OnOk};
+ghost use Rattle.span_table.specs.declared.json_lines.JsonFault.TheVariants.{Memory, TooGreat};
 ghost use Rattle.tracebook.specs.Tables.{TableExceeds, TableFits, table_text};
 
 use span_table::{By, Column, JsonFault, Shown, Table, json_table, ranking};
@@ -49,5 +49,17 @@ pub(crate) fn table_text(
             }
         }
         TableForm::Json => json_table(alloc, table, shown),
+    }
+}
+
+/// The text of a table as one that is known to be UTF-8.
+pub(crate) fn string_of(text: Vec<u8>) -> Result<String, JsonFault>
+    ensures text { IfOk result (λ string. string_bytes string ≡ text.items) }
+    ensures memory { IfErr result (λ fault. fault ≡ Memory) }
+{
+    // Names and values are text, and so is the rest, so this can't fail.
+    match String::from_utf8(text) {
+        Ok(string) => Ok(string),
+        Err(_) => Err(JsonFault::Memory),
     }
 }

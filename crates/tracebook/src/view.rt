@@ -7,7 +7,7 @@ ghost use Rattle.tracebook.specs.declared.view.View.TheVariants.{Page as OfPage,
 ghost use Rattle.tracebook.specs.Tables.{TableExceeds, TableFits, asked_table, table_text};
 ghost use Rattle.tracebook.specs.View.{Fits, Prints, TextLeaves, ViewLeaves, of_folded, of_written, text_of, view_code};
 
-use crate::tables::{TableView, table_text};
+use crate::tables::{TableView, string_of, table_text};
 use span_collect::refusals::write_refusals;
 use span_collect::{Collected, Input, RunError, Settings, collect_to_ledger, run_to_ledger};
 use span_event::Fault;
@@ -190,8 +190,7 @@ fn write_page_view<O: Sink, R: RandomSource>(
         Err(JsonFault::Memory) => return Err(ViewFault::Run(RunError::Memory)),
         Err(JsonFault::TooGreat) => return Err(ViewFault::TooGreat),
     };
-    // Names and values are text, and so is the rest, so this can't fail.
-    let Ok(table) = String::from_utf8(text) else {
+    let Ok(table) = string_of(text) else {
         return Err(ViewFault::Run(RunError::Memory));
     };
     let ends = &collected.end.ends;

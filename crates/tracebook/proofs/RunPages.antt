@@ -1,0 +1,121 @@
+-- Files that are shown, one after another.
+use Rattle.std.proofs.Common.{◌≡◌, ℕ, ◌<◌, ◌≤◌, true, false, cond, List, [], ◌∷◌, ◌++◌, length, Option, inl, inr, sym, ap, subst, ◌∙◌, arith}
+use Rattle.std.specs.Prelude.{map, nat_le}
+use Rattle.std.proofs.lemmas.Bool.Decides.{nat_tests}
+use Rattle.std.proofs.lemmas.List.{map_push, length-map}
+use Rattle.span_event.specs.Text.{Bytes}
+use Rattle.span_collect.specs.declared.files.Input.{Input}
+use Rattle.span_collect.specs.declared.settings.Settings.{Settings}
+use Rattle.span_collect.specs.InTurn.{ends_from, journal_in_turn}
+use Rattle.span_collect.proofs.InTurn.Accounted.{AreAlike-in_turn, end_lines-in_turn, refusals_of-in_turn}
+use Rattle.span_collect.proofs.OneFile.{AreSeparate-one}
+use Rattle.span_report.specs.Sink.{SinkState}
+use Rattle.span_report.specs.declared.stacks.label.SpanColumn.{SpanColumn}
+use Rattle.span_page.specs.Runs.{BegunPage, Holds, ShownRun, TakesRun}
+use Rattle.span_page.proofs.RunsSoFar.{Holds-alike}
+use Rattle.span_page.proofs.SamePages.{left_behind-follows, run_json-alike}
+use Rattle.span_table.specs.Tables.{table_of}
+use Rattle.span_runs.specs.declared.file_run.FileRun.{FileRun}
+use Rattle.span_runs.specs.Apart.{IsFileRun}
+use Rattle.span_runs.specs.Inputs.{AreFiles}
+use Rattle.span_runs.specs.Source.{SourceBytes}
+use Rattle.span_runs.proofs.Summing.{AreSummed-none, AreSummed-push}
+use Rattle.tracebook.specs.declared.pages.ShownFiles.{ShownFiles}
+use Rattle.tracebook.specs.declared.view.PageView.{PageView}
+use Rattle.tracebook.specs.Tables.{TableFits}
+use Rattle.tracebook.specs.Pages.{AreHeld, AreShown, HoldsInputs, IsPageOf, Pages, PagesPart, ShowsFile, ShowsInputs, WritesPage, WritesPagePart, shown_alone, shown_run, shown_runs}
+
+-- what was collected of a file may stand for the run in which its items stand in their order
+pub TakesRun-alone : (labels : List SpanColumn) (known : Bytes → Option Bytes) (name : Bytes) (settings : Settings) (run : FileRun) (old new : BegunPage) →
+    IsFileRun known name settings run → TakesRun labels (shown_run run) old new → TakesRun labels (shown_alone settings run.file) old new
+TakesRun-alone labels known name settings run old new is takes runs holds =
+    let files = run.file ∷ [] in
+    let end = run.collected.end in
+    let journal = run.collected.ledger.journal in
+    let other = journal_in_turn settings files [] in
+    let separate = AreSeparate-one run.file in
+    let alike = AreAlike-in_turn files [] settings end.ends.items end.asked end.sealing journal is.account separate is.status in
+    Holds-alike labels runs (shown_run run) (shown_alone settings run.file) new
+    (run_json-alike labels journal other alike files end.ends.items (ends_from 1 files)
+    (refusals_of-in_turn files [] settings end.ends.items end.asked end.sealing journal is.account separate is.status)
+    (end_lines-in_turn files [] settings end.ends.items end.asked end.sealing journal is.account separate is.status))
+    (left_behind-follows labels journal other alike)
+    (takes runs holds)
+
+module _ (known : Bytes → Option Bytes) (settings : Settings) (view : PageView) where
+  -- no files
+  pub AreHeld-none : (shown : ShownFiles) → shown.summed.sum ≡ table_of view.table.options.columns.items [] → shown.summed.lines.items ≡ [] → Holds view.labels.items [] shown.page →
+      AreHeld (map (shown_alone settings)) known [] settings view shown
+  AreHeld-none shown sum lines runs = record {
+    sums = AreSummed-none known settings view.table.options.columns.items shown.summed.sum shown.summed.lines.items sum lines;
+    runs = runs;
+  }
+
+  -- one more file
+  pub AreHeld-push : (names : List Bytes) (name : Bytes) (old new : ShownFiles) → AreHeld (map (shown_alone settings)) known names settings view old →
+      ShowsFile known name settings view old new → AreHeld (map (shown_alone settings)) known (names ++ name ∷ []) settings view new
+  AreHeld-push names name old new held shows = record {
+    sums = AreSummed-push known names name settings view.table.options.columns.items old.summed new.summed held.sums shows.adds;
+    runs = subst (λ (runs : List ShownRun). Holds view.labels.items runs new.page) (sym (map_push (shown_alone settings) held.sums.files shows.adds.file))
+        (shows.page (map (shown_alone settings) held.sums.files) held.runs);
+  }
+
+  -- there are as many files as names
+  length-files : (names : List Bytes) (files : List Input) → AreFiles known names files → length files ≡ length names
+  length-files names files are = sym (length-map files (λ (file : Input). file.name)) ∙ ap length are.named
+
+  shown_runs-few : (files : List Input) → length files ≤ 64 → shown_runs settings files ≡ map (shown_alone settings) files
+  shown_runs-few files few = ap (λ is. cond is (map (shown_alone settings) files) []) (yes few)
+    where
+      yes : length files ≤ 64 → nat_le (length files) 64 ≡ true
+      yes low = grind (arith, nat_tests)
+
+  shown_runs-many : (files : List Input) → 64 < length files → shown_runs settings files ≡ []
+  shown_runs-many files many = ap (λ is. cond is (map (shown_alone settings) files) []) (no many)
+    where
+      no : 64 < length files → nat_le (length files) 64 ≡ false
+      no high = grind (arith, nat_tests)
+
+  -- the runs of few files are shown
+  pub AreHeld-few : (names : List Bytes) (shown : ShownFiles) → length names ≤ 64 → AreHeld (map (shown_alone settings)) known names settings view shown → AreHeld (shown_runs settings) known names settings view shown
+  AreHeld-few names shown few held = record {
+    sums = held.sums;
+    runs = subst (λ (runs : List ShownRun). Holds view.labels.items runs shown.page)
+        (sym (shown_runs-few held.sums.files (rw (length-files names held.sums.files held.sums.read) few))) held.runs;
+  }
+
+  -- those of many are not
+  pub AreHeld-many : (names : List Bytes) (shown : ShownFiles) → 64 < length names → AreHeld (λ files. []) known names settings view shown → AreHeld (shown_runs settings) known names settings view shown
+  AreHeld-many names shown many held = record {
+    sums = held.sums;
+    runs = subst (λ (runs : List ShownRun). Holds view.labels.items runs shown.page)
+        (sym (shown_runs-many held.sums.files (rw (length-files names held.sums.files held.sums.read) many))) held.runs;
+  }
+
+-- a text that is the page of what is held shows the files
+AreShown-held : (known : Bytes → Option Bytes) (names : List Bytes) (settings : Settings) (view : PageView) (shown : ShownFiles) (text : Bytes) →
+    AreHeld (shown_runs settings) known names settings view shown → IsPageOf view shown text → AreShown known names settings view shown.summed text
+AreShown-held known names settings view shown text held is = record { sums = held.sums; page = is (shown_runs settings held.sums.files) held.runs }
+
+pub ShowsInputs-held : (source : SourceBytes) (names : List Bytes) (settings : Settings) (view : PageView) (shown : ShownFiles) (text : Bytes) →
+    HoldsInputs source names settings view shown → IsPageOf view shown text → ShowsInputs source names settings view shown.summed text
+ShowsInputs-held source [] settings view shown text = AreShown-held (λ name. source.standard) _ settings view shown text
+ShowsInputs-held source (name ∷ names) settings view shown text = AreShown-held source.file (name ∷ names) settings view shown text
+
+-- what was held is written as a page
+pub Pages-written : (source : SourceBytes) (names : List Bytes) (settings : Settings) (view : PageView) (shown : ShownFiles) (status : ℕ) (old new : SinkState) →
+    HoldsInputs source names settings view shown → TableFits view.table shown.summed.sum → WritesPage view shown status old new → Pages source names settings view status old new
+Pages-written source names settings view shown status old new held fits (text, is, written) = record {
+  summed = shown.summed;
+  text = text;
+  shows = ShowsInputs-held source names settings view shown text held is;
+  fits = fits;
+  written = written;
+}
+
+-- or a part of it is
+pub PagesPart-written : (source : SourceBytes) (names : List Bytes) (settings : Settings) (view : PageView) (shown : ShownFiles) (old new : SinkState) →
+    HoldsInputs source names settings view shown → WritesPagePart view shown old new → PagesPart source names settings view old new
+PagesPart-written source names settings view shown old new held (inl silent) = inl silent
+PagesPart-written source names settings view shown old new held (inr (text, is, written)) =
+    inr (shown.summed, text, ShowsInputs-held source names settings view shown text held is, written)

@@ -1,0 +1,83 @@
+-- A page of files each of which is a run of its own.
+use Rattle.std.specs.Prelude.{◌≡◌, ℕ, ◌⊎◌, nat_le, if◌then◌else◌, List, [], ◌∷◌, length, map, true, Option, codes}
+use Rattle.span_event.specs.Text.{Bytes}
+use Rattle.span_report.specs.Sink.{SinkState}
+use Rattle.span_collect.specs.declared.files.Input.{Input}
+use Rattle.span_collect.specs.declared.settings.Settings.{Settings}
+use Rattle.span_collect.specs.InTurn.{ends_from, journal_in_turn}
+use Rattle.span_page.specs.Runs.{Holds, ShownRun, TakesRun, page_of_runs}
+use Rattle.span_runs.specs.declared.summed.Summed.{Summed}
+use Rattle.span_runs.specs.declared.file_run.FileRun.{FileRun}
+use Rattle.span_runs.specs.Apart.{AddsFile, AreSummed}
+use Rattle.span_runs.specs.Source.{SourceBytes}
+use Rattle.tracebook.specs.declared.pages.ShownFiles.{ShownFiles}
+use Rattle.tracebook.specs.declared.view.PageView.{PageView}
+use Rattle.tracebook.specs.Sums.{WritesAll, WritesPart}
+use Rattle.tracebook.specs.Tables.{TableFits, table_text}
+
+-- the run of a file alone, in which its items stand in their order, as a page shows it
+abbrev pub shown_alone : Settings → Input → ShownRun
+shown_alone settings file = record { files = file ∷ []; ends = ends_from 1 (file ∷ []); journal = journal_in_turn settings (file ∷ []) [] }
+
+-- the most files whose runs a page shows
+abbrev pub most_shown : ℕ
+most_shown = 64
+
+-- the runs that a page of files shows: of more there is just the table of their sum
+abbrev pub shown_runs : Settings → List Input → List ShownRun
+shown_runs settings files = if nat_le (length files) most_shown then map (shown_alone settings) files else []
+
+-- Each of the files of these names was collected alone, and the text is the page of their runs with the table of their sum.
+pub record AreShown (known : Bytes → Option Bytes) (names : List Bytes) (settings : Settings) (view : PageView) (summed : Summed) (text : Bytes) : Type 0 where
+  pub sums : AreSummed known names settings view.table.options.columns.items summed.sum summed.lines.items
+  pub page : text ≡ page_of_runs view.labels.items (table_text view.table true summed.sum) (shown_runs settings sums.files)
+
+-- the same of standard input, as the file `-`, where there are no names
+abbrev pub ShowsInputs : SourceBytes → List Bytes → Settings → PageView → Summed → Bytes → Type 0
+ShowsInputs source [] settings view summed text = AreShown (λ name. source.standard) (codes "-" ∷ []) settings view summed text
+ShowsInputs source (name ∷ names) settings view summed text = AreShown source.file (name ∷ names) settings view summed text
+
+-- the files of these names were collected, each alone, and their page is written
+pub record Pages (source : SourceBytes) (names : List Bytes) (settings : Settings) (view : PageView) (status : ℕ) (old new : SinkState) : Type 0 where
+  pub summed : Summed
+  pub text : Bytes
+  pub shows : ShowsInputs source names settings view summed text
+  pub fits : TableFits view.table summed.sum
+  pub written : WritesAll text summed.lines.items status old new
+
+-- nothing was written, or first bytes of that
+abbrev pub PagesPart : SourceBytes → List Bytes → Settings → PageView → SinkState → SinkState → Type 0
+PagesPart source names settings view old new = (new ≡ old)
+    ⊎ ((summed : Summed) × (text : Bytes) × ShowsInputs source names settings view summed text × WritesPart text old new)
+
+-- Each of the files of these names was collected alone, and is summed; the page has these runs of them so far.
+pub record AreHeld (runs_of : List Input → List ShownRun) (known : Bytes → Option Bytes) (names : List Bytes) (settings : Settings) (view : PageView) (shown : ShownFiles) : Type 0 where
+  pub sums : AreSummed known names settings view.table.options.columns.items shown.summed.sum shown.summed.lines.items
+  pub runs : Holds view.labels.items (runs_of sums.files) shown.page
+
+-- the same of standard input, as the file `-`, where there are no names
+abbrev pub HoldsInputs : SourceBytes → List Bytes → Settings → PageView → ShownFiles → Type 0
+HoldsInputs source [] settings view shown = AreHeld (shown_runs settings) (λ name. source.standard) (codes "-" ∷ []) settings view shown
+HoldsInputs source (name ∷ names) settings view shown = AreHeld (shown_runs settings) source.file (name ∷ names) settings view shown
+
+-- the text is the page of the runs that are held
+abbrev pub IsPageOf : PageView → ShownFiles → Bytes → Type 0
+IsPageOf view shown text = (runs : List ShownRun) → Holds view.labels.items runs shown.page →
+    text ≡ page_of_runs view.labels.items (table_text view.table true shown.summed.sum) runs
+
+-- that text is written
+abbrev pub WritesPage : PageView → ShownFiles → ℕ → SinkState → SinkState → Type 0
+WritesPage view shown status old new = (text : Bytes) × IsPageOf view shown text × WritesAll text shown.summed.lines.items status old new
+
+-- nothing was written, or first bytes of it
+abbrev pub WritesPagePart : PageView → ShownFiles → SinkState → SinkState → Type 0
+WritesPagePart view shown old new = (new ≡ old) ⊎ ((text : Bytes) × IsPageOf view shown text × WritesPart text old new)
+
+-- what was collected of a file, as a page shows it
+abbrev pub shown_run : FileRun → ShownRun
+shown_run run = record { files = run.file ∷ []; ends = run.collected.end.ends.items; journal = run.collected.ledger.journal }
+
+-- one more file is shown
+pub record ShowsFile (known : Bytes → Option Bytes) (name : Bytes) (settings : Settings) (view : PageView) (old new : ShownFiles) : Type 0 where
+  pub adds : AddsFile known name settings old.summed new.summed
+  pub page : TakesRun view.labels.items (shown_alone settings adds.file) old.page new.page

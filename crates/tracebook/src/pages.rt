@@ -1,0 +1,278 @@
+//! A page of files each of which is a run of its own.
+ghost use Rattle.std.specs.Prelude.{◌≡◌, ◌<◌, ◌≤◌, [], List, true, length, map, IfOk, OnOk};
+ghost use Rattle.span_page.specs.Runs.{Holds, ShownRun, TakesRun, page_of_runs};
+ghost use Rattle.span_table.specs.Tables.{table_of};
+ghost use Rattle.tracebook.specs.FaultLines.{Says};
+ghost use Rattle.tracebook.specs.Pages.{AreHeld, HoldsInputs, Pages, PagesPart, ShowsFile, WritesPage, WritesPagePart, shown_alone, shown_run, shown_runs};
+ghost use Rattle.tracebook.specs.Tables.{TableFits, table_text};
+
+use crate::apart::{Apart, jobs_of};
+use crate::faults::{Faults, fail, fail_stop};
+use crate::standard::Standard;
+use crate::sums::write_told;
+use crate::tables::{string_of, table_text};
+use crate::view::PageView;
+use span_collect::Settings;
+use span_event::{Fault, Text};
+use span_page::RunsPage;
+use span_report::Sink;
+use span_report::stacks::SpanColumn;
+use span_runs::{FileRun, Source, Stop, StopCause, Summed, collect_file, sum_apart};
+use span_table::{JsonFault, Table};
+use std::alloc::{AllocError, Global};
+use std::mem::forget;
+use std::random::RandomSource;
+use std::slice::from_ref;
+use std::sync::Wait;
+use std::thread::Threads;
+
+// The most files whose runs a page shows.
+const MOST_SHOWN: usize = 64;
+
+// Files that were each a run of its own, as they are summed, and the page of their runs.
+#[derive(Drop)]
+struct ShownFiles {
+    summed: Summed,
+    page: RunsPage,
+}
+
+/// Prints a page of the files of these names, or of standard input where there are none. Where it shows their runs, they are collected
+/// one after another.
+pub(crate) fn page_files<
+    R: Threads + Wait + RandomSource + Sync,
+    S: Source + Sync,
+    O: Sink,
+    F: Faults,
+>(
+    rt: &R,
+    alloc: Global,
+    apart: &Apart,
+    view: &PageView,
+    names: Vec<Text>,
+    source: &S,
+    out: &mut O,
+    faults: &mut F,
+) -> u8
+    ensures status { result ≤ 2 }
+    ensures done { result < 2
+        → Pages (S.bytes source.now) names.items apart.now.settings view.now result (O.state out.old) (O.state out.new) }
+    ensures failed { result ≡ 2
+        → PagesPart (S.bytes source.now) names.items apart.now.settings view.now (O.state out.old) (O.state out.new) }
+{
+    source.begin_apart(names.len() as u64);
+    match show_inputs(rt, alloc, apart, view, &names, source) {
+        Ok(shown) => {
+            source.end();
+            write_shown(alloc, shown, view, out, faults)
+        }
+        Err(stop) => fail_stop(alloc, stop, faults),
+    }
+}
+
+// The files of these names, or standard input, as the file `-`, where there are none.
+fn show_inputs<R: Threads + Wait + RandomSource + Sync, S: Source + Sync>(
+    rt: &R,
+    alloc: Global,
+    apart: &Apart,
+    view: &PageView,
+    names: &[Text],
+    source: &S,
+) -> Result<ShownFiles, Stop>
+    ensures { IfOk result (HoldsInputs (S.bytes source.now) names.now apart.now.settings view.now) }
+{
+    if !names.is_empty() {
+        return show_files(rt, alloc, apart, view, names, source);
+    }
+    show_standard(rt, alloc, apart, view, source)
+}
+
+fn show_standard<R: Threads + Wait + RandomSource + Sync, S: Source + Sync>(
+    rt: &R,
+    alloc: Global,
+    apart: &Apart,
+    view: &PageView,
+    source: &S,
+) -> Result<ShownFiles, Stop>
+    ensures { IfOk result (HoldsInputs (S.bytes source.now) [] apart.now.settings view.now) }
+{
+    let Ok(name) = Text::of(alloc, "-") else {
+        return Err(Stop::of_memory(alloc));
+    };
+    let standard = Standard { source };
+    show_files(rt, alloc, apart, view, from_ref(&name), &standard)
+}
+
+fn show_files<R: Threads + Wait + RandomSource + Sync, S: Source + Sync>(
+    rt: &R,
+    alloc: Global,
+    apart: &Apart,
+    view: &PageView,
+    names: &[Text],
+    source: &S,
+) -> Result<ShownFiles, Stop>
+    ensures { IfOk result
+        (AreHeld (shown_runs apart.now.settings) (S.bytes source.now).file names.now apart.now.settings view.now) }
+{
+    if names.len() <= MOST_SHOWN {
+        return show_in_turn(rt, alloc, &apart.settings, view, names, source);
+    }
+    show_sum(rt, alloc, apart, view, names, source)
+}
+
+// The sum of files alone.
+fn show_sum<R: Threads + Wait + RandomSource + Sync, S: Source + Sync>(
+    rt: &R,
+    alloc: Global,
+    apart: &Apart,
+    view: &PageView,
+    names: &[Text],
+    source: &S,
+) -> Result<ShownFiles, Stop>
+    ensures { IfOk result
+        (AreHeld (λ files. []) (S.bytes source.now).file names.now apart.now.settings view.now) }
+{
+    let Ok(page) = RunsPage::begin(alloc) else {
+        return Err(Stop::of_memory(alloc));
+    };
+    let columns = &view.table.options.columns;
+    let jobs = jobs_of(rt, apart);
+    match sum_apart(rt, alloc, source, names, &apart.settings, columns, jobs) {
+        Ok(summed) => Ok(ShownFiles { summed, page }),
+        Err(stop) => Err(stop),
+    }
+}
+
+// The sum of files, and the run of each.
+fn show_in_turn<R: Threads + Wait + RandomSource + Sync, S: Source>(
+    rt: &R,
+    alloc: Global,
+    settings: &Settings,
+    view: &PageView,
+    names: &[Text],
+    source: &S,
+) -> Result<ShownFiles, Stop>
+    ensures { IfOk result
+        (AreHeld (map (shown_alone settings.now)) (S.bytes source.now).file names.now settings.now view.now) }
+{
+    let mut shown = match show_none(rt, alloc, view) {
+        Ok(none) => none,
+        Err(stop) => return Err(stop),
+    };
+    for name in names {
+        shown = match show_file(rt, alloc, settings, view, name, source, shown) {
+            Ok(more) => more,
+            Err(stop) => return Err(stop),
+        };
+    }
+    Ok(shown)
+}
+
+fn show_none<R: RandomSource>(rt: &R, alloc: Global, view: &PageView) -> Result<ShownFiles, Stop>
+    ensures sum { IfOk result
+        (λ none. none.summed.sum ≡ table_of view.now.table.options.columns.items []) }
+    ensures lines { IfOk result (λ none. none.summed.lines.items ≡ []) }
+    ensures runs { IfOk result (λ none. Holds view.now.labels.items [] none.page) }
+{
+    let summed = match Summed::of_none(rt, alloc, &view.table.options.columns) {
+        Ok(summed) => summed,
+        Err(stop) => return Err(stop),
+    };
+    match RunsPage::begin(alloc) {
+        Ok(page) => Ok(ShownFiles { summed, page }),
+        Err(_) => Err(Stop::of_memory(alloc)),
+    }
+}
+
+// With the file of this name.
+fn show_file<R: Threads + Wait + RandomSource + Sync, S: Source>(
+    rt: &R,
+    alloc: Global,
+    settings: &Settings,
+    view: &PageView,
+    name: &Text,
+    source: &S,
+    shown: ShownFiles,
+) -> Result<ShownFiles, Stop>
+    ensures { IfOk result (ShowsFile (S.bytes source.now).file name.now settings.now view.now shown) }
+{
+    let ShownFiles { summed, page } = shown;
+    let taken = match collect_file(rt, alloc, source, name, settings) {
+        Ok(taken) => taken,
+        Err(cause) => return Err(summed.stop(cause)),
+    };
+    let Ok(page) = with_run(alloc, page, &taken, &view.labels) else {
+        return Err(summed.stop(StopCause::Memory));
+    };
+    match summed.with_run(alloc, &taken) {
+        Ok(summed) => Ok(ShownFiles { summed, page }),
+        Err(stop) => Err(stop),
+    }
+}
+
+fn with_run(
+    alloc: Global,
+    page: RunsPage,
+    run: &FileRun,
+    labels: &[SpanColumn],
+) -> Result<RunsPage, AllocError>
+    requires { length run.now.collected.end.ends.items ≡ 1 }
+    ensures { IfOk result (TakesRun labels.now (shown_run run.now) page) }
+{
+    let collected = &run.collected;
+    page.with_run(
+        alloc,
+        &collected.ledger,
+        from_ref(&run.file),
+        &collected.end.ends,
+        labels,
+    )
+}
+
+// Writes the page, and then the fault lines of files that are no trace.
+fn write_shown<O: Sink, F: Faults>(
+    alloc: Global,
+    shown: ShownFiles,
+    view: &PageView,
+    out: &mut O,
+    faults: &mut F,
+) -> u8
+    ensures status { result ≤ 2 }
+    ensures fits { result < 2 → TableFits view.now.table shown.summed.sum }
+    ensures done { result < 2 → WritesPage view.now shown result (O.state out.old) (O.state out.new) }
+    ensures failed { result ≡ 2 → WritesPagePart view.now shown (O.state out.old) (O.state out.new) }
+    ensures said { result < 2 → Says shown.summed.lines.items (F.state faults.old) (F.state faults.new) }
+{
+    let ShownFiles { summed, page } = shown;
+    let Summed { sum, lines } = summed;
+    let Ok(table) = sum.into_table() else {
+        return fail(alloc, Fault::Memory.code(), faults);
+    };
+    let text = page_text(alloc, table, page, view);
+    write_told(alloc, text, &lines, out, faults)
+}
+
+fn page_text(
+    alloc: Global,
+    table: Table,
+    page: RunsPage,
+    view: &PageView,
+) -> Result<Vec<u8>, JsonFault>
+    ensures text { IfOk result (λ text. (runs : List ShownRun) → Holds view.now.labels.items runs page
+        → text.items ≡ page_of_runs view.now.labels.items (table_text view.now.table true table) runs) }
+    ensures fits { OnOk result (TableFits view.now.table table) }
+{
+    let lines = match table_text(alloc, &table, &view.table, true) {
+        Ok(lines) => lines,
+        Err(fault) => return Err(fault),
+    };
+    // The program ends soon, and then the system frees all at once, where freeing one by one takes long.
+    forget(table);
+    let lines = match string_of(lines) {
+        Ok(lines) => lines,
+        Err(fault) => return Err(fault),
+    };
+    match page.end(alloc, lines) {
+        Ok(text) => Ok(text),
+        Err(_) => Err(JsonFault::Memory),
+    }
+}
