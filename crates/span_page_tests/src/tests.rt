@@ -14,6 +14,7 @@ use std::test::Fail;
 mod deep;
 mod growths;
 mod outputs;
+mod runs;
 
 // What the head of a page ends with, and what its tail begins with.
 const BEFORE_DATA: &str = r#"<script type="application/json" id="data">"#;
@@ -73,7 +74,7 @@ fn gives(rt: &(impl Abort + AllocGlobal), events: &str, want: &str) -> Result<()
 }
 
 const NONE: &str =
-    r#"{"report":"tracebook 1\nevents 0 refused 0 skipped 0 queries 0\n","table":"{\"columns\":[\"\u003c\"]}\n","refused":"tracebook 1\nevents 0 refused 0 skipped 0 queries 0\n","stacks":[]}"#;
+    r#"{"report":"tracebook 1\nevents 0 refused 0 skipped 0 queries 0\n","table":"{\"columns\":[\"\u003c\"]}\n","refused":"tracebook 1\nevents 0 refused 0 skipped 0 queries 0\n","files":["a.json"],"faults":"","stacks":[]}"#;
 
 #[test]
 fn without_events_there_are_no_stacks(rt: HostRuntime) -> Result<(), Fail> {
@@ -85,7 +86,7 @@ const NESTED: &str =
     {"ph":"X","name":"<&>","ts":2,"dur":4,"pid":1,"tid":1},{"ph":"i","name":"i","ts":1,"pid":1,"tid":2},5]"#;
 
 const NESTED_DATA: &str =
-    r#"{"report":"tracebook 1\nevents 4 refused 1 skipped 0 queries 0\nprocess 1 -\nthread 1 1 - open 0 busy 10\nspan        1                4                4 \"\u003c\u0026\u003e\"\nspan        1               10                4 \"a\"\nspan        1                6                2 \"b\"\nthread 1 2 - open 0 busy 0\ninstant t        1 \"i\"\n","table":"{\"columns\":[\"\u003c\"]}\n","refused":"tracebook 1\nevents 4 refused 1 skipped 0 queries 0\nrefused        1 11 NotObject first 4 \"a.json\"\n","stacks":[[[0,["a"],"4"],[1,["b"],"2"],[2,["\u003c\u0026\u003e"],"4"]],[]]}"#;
+    r#"{"report":"tracebook 1\nevents 4 refused 1 skipped 0 queries 0\nprocess 1 -\nthread 1 1 - open 0 busy 10\nspan        1                4                4 \"\u003c\u0026\u003e\"\nspan        1               10                4 \"a\"\nspan        1                6                2 \"b\"\nthread 1 2 - open 0 busy 0\ninstant t        1 \"i\"\n","table":"{\"columns\":[\"\u003c\"]}\n","refused":"tracebook 1\nevents 4 refused 1 skipped 0 queries 0\nrefused        1 11 NotObject first 4 \"a.json\"\n","files":["a.json"],"faults":"","stacks":[[[0,["a"],"4"],[1,["b"],"2"],[2,["\u003c\u0026\u003e"],"4"]],[]]}"#;
 
 #[test]
 fn stacks_are_coded_by_what_they_have_from_the_one_before(rt: HostRuntime) -> Result<(), Fail> {
@@ -97,7 +98,7 @@ const LABELLED: &str =
     {"ph":"X","name":"Source","ts":2,"dur":3,"pid":1,"tid":1,"args":{"detail":"b.h"}}]"#;
 
 const LABELLED_DATA: &str =
-    r#"{"report":"tracebook 1\nevents 2 refused 0 skipped 0 queries 0\nprocess 1 -\nthread 1 1 - open 0 busy 10\nspan        2               13               10 \"Source\"\n","table":"{\"columns\":[\"\u003c\"]}\n","refused":"tracebook 1\nevents 2 refused 0 skipped 0 queries 0\n","stacks":[[[0,["Source a.h"],"7"],[1,["Source b.h"],"3"]]]}"#;
+    r#"{"report":"tracebook 1\nevents 2 refused 0 skipped 0 queries 0\nprocess 1 -\nthread 1 1 - open 0 busy 10\nspan        2               13               10 \"Source\"\n","table":"{\"columns\":[\"\u003c\"]}\n","refused":"tracebook 1\nevents 2 refused 0 skipped 0 queries 0\n","files":["a.json"],"faults":"","stacks":[[[0,["Source a.h"],"7"],[1,["Source b.h"],"3"]]]}"#;
 
 #[test]
 fn frames_are_labels(rt: HostRuntime) -> Result<(), Fail> {

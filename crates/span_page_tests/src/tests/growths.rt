@@ -28,7 +28,7 @@ fn table_at_last(alloc: Global) -> Result<String, AllocError> {
 }
 
 /// More bytes than the page has, so that the output doesn't grow.
-const ROOM: usize = 65_536;
+const ROOM: usize = 131_072;
 
 // Room for the page, asked for once more where it was refused.
 fn room_for_the_page(alloc: Global) -> Result<Vec<u8>, AllocError> {
