@@ -6,13 +6,13 @@ use Rattle.span_event.specs.declared.event.Phase.{Phase}
 use Rattle.span_event.specs.declared.event.Phase.TheVariants.{SpanBegin, SpanEnd, Complete, AsyncBegin, AsyncPoint, AsyncEnd, FlowStart, FlowStep, FlowEnd, Counter, Instant, Meta}
 use Rattle.span_event.specs.Args.{AllWhole}
 
--- the greatest time and length, in microseconds: 2^53 - 1
+-- the greatest time and length, in the unit of the run: 2^62 - 1, so that the end of an event stays below 2^63
 abbrev pub greatest_time : ℕ
-greatest_time = 9007199254740991
+greatest_time = 4611686018427387903
 
--- the least time: -(2^53 - 1)
+-- the least time: -(2^62 - 1)
 abbrev pub least_time : ℤ
-least_time = negsuc 9007199254740990
+least_time = negsuc 4611686018427387902
 
 abbrev pub IsTime : ℤ → Type 0
 IsTime t = (least_time ≤ℤ t) × (t ≤ℤ pos greatest_time)

@@ -1,4 +1,4 @@
--- How far times lie apart, in microseconds.
+-- How far times lie apart, in the unit of the run.
 use Rattle.std.specs.Prelude.{ℕ, ℤ, pos, negsuc, ◌-ℤ◌}
 
 -- a whole number, but 0 in the place of a negative one

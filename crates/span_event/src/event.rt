@@ -125,7 +125,7 @@ impl Ord for Reach {
     }
 }
 
-/// One event of a trace. Times and lengths are whole microseconds.
+/// One event of a trace. Times and lengths are whole numbers of the run's unit.
 ///
 /// A field that the phase does not read has its default: `ts` 0 at `Meta`, `dur` 0 but at `Complete`, no `key`,
 /// an empty `scope`, no `reach`.
@@ -136,9 +136,9 @@ pub struct Event {
     pub reach: Option<Reach>,
     pub name: Text,
     pub cat: Text,
-    /// From -9007199254740991 to 9007199254740991.
+    /// From -4611686018427387903 to 4611686018427387903.
     pub ts: i64,
-    /// From 0 to 9007199254740991.
+    /// From 0 to 4611686018427387903.
     pub dur: u64,
     pub pid: i64,
     pub tid: i64,

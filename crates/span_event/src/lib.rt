@@ -11,6 +11,7 @@ mod items;
 mod short;
 mod text;
 mod thread;
+mod unit;
 
 pub use args::{ArgValue, Args, merge_args};
 pub use boxed_id::BoxedId;
@@ -20,3 +21,4 @@ pub use item::{Field, Item, ItemFault};
 pub use items::Items;
 pub use text::Text;
 pub use thread::Thread;
+pub use unit::Unit;

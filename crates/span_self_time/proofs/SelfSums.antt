@@ -37,7 +37,7 @@ cond-le true n = omega arith
 cond-le false n = omega arith
 
 -- so far and the next of them stay within the busy time
-pub self_sum-le : (name : ℕ) (spans : List ClosedSpan) (i : ℕ) (s : ClosedSpan) → AreClosed (map span_of spans) → i < length spans → s ≡ get_or spans i s → self_sum (map span_of spans) name (map span_of (take i spans)) + self_time (map span_of spans) (span_of s) ≤ 2 ^ 55
+pub self_sum-le : (name : ℕ) (spans : List ClosedSpan) (i : ℕ) (s : ClosedSpan) → AreClosed (map span_of spans) → i < length spans → s ≡ get_or spans i s → self_sum (map span_of spans) name (map span_of (take i spans)) + self_time (map span_of spans) (span_of s) < 2 ^ 64
 unfolding self_sum
 self_sum-le name spans i s closed within read =
     let all = map span_of spans in

@@ -1,5 +1,5 @@
 -- The totals of the names of closed spans.
-use Rattle.std.proofs.Common.{◌≡◌, ℕ, ◌+◌, ◌*◌, ◌≤◌, ◌^◌, ◌==◌, Bool, true, false, cond, ◌≤ℤ◌, List, [], ◌∷◌, ◌++◌, length, nat_eq, refl, sym, ap, ◌∙◌, eqb-true, arith, All, append-nil}
+use Rattle.std.proofs.Common.{◌<◌, ◌≡◌, ℕ, ◌+◌, ◌*◌, ◌≤◌, ◌^◌, ◌==◌, Bool, true, false, cond, ◌≤ℤ◌, List, [], ◌∷◌, ◌++◌, length, nat_eq, refl, sym, ap, ◌∙◌, eqb-true, arith, All, append-nil}
 use Rattle.std.specs.List.{sum_by}
 use Rattle.std.proofs.lemmas.Int.{ints}
 use Rattle.std.proofs.lemmas.List.Sums.{sum_by_push, sum_by-cons, length-filter, count_by-le-length}
@@ -30,16 +30,16 @@ pub count-le-length : (spans : List (Span ℕ)) (name : ℕ) → (total_for span
 count-le-length spans name =
     omega (arith, length-filter (λ (s : Span ℕ). nat_eq s.name name) spans, count_by-le-length (λ (s : Span ℕ). nat_eq s.name name) spans)
 
--- no length is greater than 2 ^ 55
-pub length_of-le : (s : Span ℕ) → s.start ≤ℤ s.until → IsInTime s → length_of s ≤ 2 ^ 55
+-- each length is below 2 ^ 64
+pub length_of-le : (s : Span ℕ) → s.start ≤ℤ s.until → IsInTime s → length_of s < 2 ^ 64
 length_of-le s lasts in_time = let e = add-distance s.start s.until lasts in omega (arith, ints, e)
 
-pub total-le : (spans : List (Span ℕ)) (name : ℕ) → AreSpans spans → All IsInTime spans → (total_for spans name).total ≤ length spans * 2 ^ 55
+pub total-le : (spans : List (Span ℕ)) (name : ℕ) → AreSpans spans → All IsInTime spans → (total_for spans name).total ≤ length spans * 2 ^ 64
 total-le [] name are in_time = omega arith
 total-le (s ∷ spans) name are in_time =
     by_test (nat_eq s.name name) (length_of-le s are.0 (All-head IsInTime s spans in_time)) (total-le spans name are.2 (All-tail IsInTime s spans in_time))
   where
-    by_test : (b : Bool) → length_of s ≤ 2 ^ 55 → (total_for spans name).total ≤ length spans * 2 ^ 55 → sum_by (λ s. length_of s) (cond b (s ∷ named nat_eq name spans) (named nat_eq name spans)) ≤ length (s ∷ spans) * 2 ^ 55
+    by_test : (b : Bool) → length_of s < 2 ^ 64 → (total_for spans name).total ≤ length spans * 2 ^ 64 → sum_by (λ s. length_of s) (cond b (s ∷ named nat_eq name spans) (named nat_eq name spans)) ≤ length (s ∷ spans) * 2 ^ 64
     by_test true here rest = omega (arith, sum_by-cons (λ s. length_of s) s (named nat_eq name spans))
     by_test false here rest = omega arith
 

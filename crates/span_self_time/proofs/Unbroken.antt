@@ -1,5 +1,5 @@
 -- In a stretch of time in which no span starts or ends, what the spans cover stays.
-use Rattle.std.proofs.Common.{◌≡◌, ℕ, ◌+◌, ℤ, pos, ◌≤ℤ◌, ◌<ℤ◌, Bool, not, cond, ◌&&◌, ◌||◌, ◌∙◌, sym, ◌≤◌, ◌^◌, arith, List, [], ◌∷◌, map, refl, ap, ap₂, All}
+use Rattle.std.proofs.Common.{◌<◌, ◌≡◌, ℕ, ◌+◌, ℤ, pos, ◌≤ℤ◌, ◌<ℤ◌, Bool, not, cond, ◌&&◌, ◌||◌, ◌∙◌, sym, ◌^◌, arith, List, [], ◌∷◌, map, refl, ap, ap₂, All}
 use Rattle.std.proofs.lemmas.Int.{ints, clamps}
 use Rattle.std.proofs.lemmas.List.Elements.{All-head, All-tail}
 use Rattle.span_self_time.specs.declared.span.ClosedSpan.{ClosedSpan}
@@ -48,7 +48,7 @@ counted_from-step spans c u v end b first then unbroken here =
     count_from-unbroken (counts (map span_of spans) c) (counts (map span_of spans) c u) u v end first then (counts-unbroken spans c u v unbroken)
     ∙ ap (λ t. cond t (distance u v) 0 + counted_from (map span_of spans) c v end) (sym here)
 
-pub counted_from-le : (spans : List (Span ℕ)) (c : Counted) (u end : ℤ) → u ≤ℤ end → least_time ≤ℤ u → end ≤ℤ greatest_until → counted_from spans c u end ≤ 2 ^ 55
+pub counted_from-le : (spans : List (Span ℕ)) (c : Counted) (u end : ℤ) → u ≤ℤ end → least_time ≤ℤ u → end ≤ℤ greatest_until → counted_from spans c u end < 2 ^ 64
 unfolding counted_from
 counted_from-le spans c u end forward from to =
     omega (arith, ints, add-distance u end forward, count_from-le (counts spans c) u (distance u end))
@@ -75,7 +75,7 @@ IsSpanned-in_time (s ∷ spans) in_time =
     let rest = IsSpanned-in_time spans (All-tail IsInTime s spans in_time) in
     record { from = omega (arith, ints, clamps); first = omega (arith, ints, clamps); then = omega (arith, ints, clamps); to = omega (arith, ints, clamps) }
 
-pub busy_time-le : (spans : List (Span ℕ)) → All IsInTime spans → busy_time spans ≤ 2 ^ 55
+pub busy_time-le : (spans : List (Span ℕ)) → All IsInTime spans → busy_time spans < 2 ^ 64
 busy_time-le spans in_time =
     let spanned = IsSpanned-in_time spans in_time in
     omega (arith, counted_from-is spans Covered (earliest spans) (latest spans), counted_from-le spans Covered (earliest spans) (latest spans) (omega (arith, ints)) spanned.from spanned.to)

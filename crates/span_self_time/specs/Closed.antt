@@ -13,7 +13,7 @@ span_of s = record { name = s.name; start = s.start; until = s.until; at = s.at;
 
 -- the greatest time and the greatest length of an event together
 abbrev pub greatest_until : ℤ
-greatest_until = pos 18014398509481982
+greatest_until = pos 9223372036854775806
 
 abbrev pub IsInTime : Span ℕ → Type 0
 IsInTime s = (least_time ≤ℤ s.start) × (s.until ≤ℤ greatest_until)

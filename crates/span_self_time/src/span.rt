@@ -47,7 +47,6 @@ pub(crate) fn distance(from: i64, to: i64) -> u64
     requires from_in_time { least_time ≤ℤ from }
     requires to_in_time { to ≤ℤ greatest_until }
     ensures value { result ≡ distance from to }
-    ensures small { result ≤ 2 ^ 55 }
 {
-    (to - from) as u64
+    to.abs_diff(from)
 }

@@ -1,5 +1,5 @@
 -- That a descent stays ready, and what is left of each stack, from its start on and as frames are told.
-use Rattle.std.proofs.Common.{◌≡◌, ℕ, ◌+◌, ◌<◌, ◌≤◌, ◌^◌, ◌&&◌, cond, List, [], ◌∷◌, ◌++◌, length, map, take, drop, refl, sym, ap, ap₂, subst, ◌∙◌, arith, append_assoc}
+use Rattle.std.proofs.Common.{◌≡◌, ℕ, ◌+◌, ◌<◌, ◌^◌, ◌&&◌, cond, List, [], ◌∷◌, ◌++◌, length, map, take, drop, refl, sym, ap, ap₂, subst, ◌∙◌, arith, append_assoc}
 use Rattle.std.specs.List.{AllByRecursion, count_by}
 use Rattle.std.specs.List.Sorted.{IsPermutation, IsSorted}
 use Rattle.std.specs.declared.cmp.Ordering.TheVariants.{Less, Greater}
@@ -46,7 +46,7 @@ module _ (d : Descent) (s : Stretch) (time : ℕ) (found : List Part) (split : I
   each-found : AllByRecursion (λ p. (p.below ≡ 0) × IsSound d.spans p.over) d.parts.items
   each-found = AllByRecursion-permutation (λ p. (p.below ≡ 0) × IsSound d.spans p.over) found d.parts.items moved (split.sound tt)
 
-  pub IsReady-new : IsSorted nearness d.parts.items → d.found.items ≡ [] → distance s.from s.until ≤ 2 ^ 55 → IsReady d
+  pub IsReady-new : IsSorted nearness d.parts.items → d.found.items ≡ [] → distance s.from s.until < 2 ^ 64 → IsReady d
   IsReady-new sorted none small = record {
     near = Near-sorted d.parts.items sorted;
     ahead = subst (λ (last : Stack). AllByRecursion (IsAhead last) d.parts.items) (sym last-empty)

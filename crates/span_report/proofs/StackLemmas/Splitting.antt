@@ -108,7 +108,7 @@ counts-popped spans last stack first part parts found more time own whole below 
     omega (arith, counted, off, own_of, parted, cond-add (same_stack stack base) time own)
 
 -- own time is no more than what was left of the stack
-pub own-small : (base : Stack) (a b time whole : ℕ) → a + (b + cond (same_stack base base) time 0) ≡ whole → whole ≤ 2 ^ 55 → time ≤ 2 ^ 55
+pub own-small : (base : Stack) (a b time whole : ℕ) → a + (b + cond (same_stack base base) time 0) ≡ whole → whole < 2 ^ 64 → time < 2 ^ 64
 own-small base a b time whole counted small =
     let own : cond (same_stack base base) time 0 ≡ time = ap (λ c. cond c time 0) (same-itself base) in
     omega (arith, counted, small, own)

@@ -23,7 +23,7 @@ pub record IsReady (descent : Descent) : Type 0 where
   pub near : Near descent.parts.items
   pub ahead : AllByRecursion (IsAhead (told_last descent)) descent.parts.items
   pub sound : AllByRecursion (λ p. IsSound descent.spans p.over) descent.parts.items
-  pub small : (stack : Stack) → left_of descent stack ≤ 2 ^ 55
+  pub small : (stack : Stack) → left_of descent stack < 2 ^ 64
   pub none : descent.found.items ≡ []
 
 -- all microseconds of the spans are left

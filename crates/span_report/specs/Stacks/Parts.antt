@@ -1,5 +1,5 @@
 -- The time of a thread in parts: a stack stands through each, and on it may stand some of the spans in ascending rank.
-use Rattle.std.specs.Prelude.{◌≡◌, ◌⊎◌, ℕ, ◌+◌, ◌<◌, ◌≤◌, ◌^◌, ℤ, ◌≤ℤ◌, ◌<ℤ◌, All, false, if◌then◌else◌, List, [], ◌∷◌, ◌++◌, length, drop, take, sum_by, slice_index_or}
+use Rattle.std.specs.Prelude.{◌≡◌, ◌⊎◌, ℕ, ◌+◌, ◌<◌, ◌≤◌, ℤ, ◌≤ℤ◌, ◌<ℤ◌, All, false, if◌then◌else◌, List, [], ◌∷◌, ◌++◌, length, drop, take, sum_by, slice_index_or}
 use Rattle.std.specs.Int.{int_max}
 use Rattle.std.specs.List.{AllByRecursion}
 use Rattle.std.specs.Ordering.{nat_cmp, ordering_then}
@@ -116,4 +116,3 @@ module _ (spans : List (Span Bytes)) where
     pub counts : (base : Stack) → length base ≡ below → (stack : Stack)
         → left base new stack + (if same_stack stack base then time else 0) ≡ left base old stack + times_on base s stack
     pub sound : AllByRecursion (λ p. (p.below ≡ below) × IsSound p.over) old → AllByRecursion (λ p. (p.below ≡ below) × IsSound p.over) new
-    pub small : time ≤ 2 ^ 55

@@ -55,9 +55,8 @@ fn distance(from: i64, until: i64) -> u64
     requires forward { from ≤ℤ until }
     requires until_in_time { until ≤ℤ greatest_until }
     ensures value { result ≡ distance from until }
-    ensures small { result ≤ 2 ^ 55 }
 {
-    (until - from) as u64
+    until.abs_diff(from)
 }
 
 // Which of two parts comes nearer: that with more frames, and of as many that with the lesser name.

@@ -1,5 +1,5 @@
 -- That the parts of a name are together as long as its self time, and all parts as long as the busy time.
-use Rattle.std.proofs.Common.{◌≡◌, ◌≤◌, ◌<◌, ◌^◌, length, ℕ, ◌+◌, Bool, false, cond, nat_eq, ℤ, ◌≤ℤ◌, List, [], ◌∷◌, Option, Some, None, refl, sym, ap, ◌∙◌, arith, All}
+use Rattle.std.proofs.Common.{◌≡◌, ◌≤◌, ℕ, ◌+◌, Bool, false, cond, nat_eq, ℤ, ◌≤ℤ◌, List, [], ◌∷◌, Option, Some, None, refl, sym, ap, ◌∙◌, arith, All}
 use Rattle.std.specs.List.{sum_by}
 use Rattle.std.specs.Option.{is_some}
 use Rattle.std.proofs.lemmas.Int.{ints}
@@ -75,18 +75,3 @@ named_length-self_of spans parts closed are name =
 pub whole_length-busy_time : (spans : List (Span ℕ)) (parts : List Part) → AreClosed spans → AreParts (owners_of spans) parts → whole_length parts ≡ busy_time spans
 whole_length-busy_time spans parts closed are =
     sum_by-parts is_some refl spans parts closed are ∙ sum_by-self_time spans closed.are
-
--- no part is empty
-length-le-whole : (owners : Owners) (t : ℤ) (parts : List Part) → AreFuture owners t parts → length parts ≤ whole_length parts
-length-le-whole owners t [] are = omega arith
-length-le-whole owners t (p ∷ parts) are =
-    let here = add-distance p.segment.start p.segment.until (omega (arith, ints, are.2)) in
-    let some : 0 < part_length p = omega (arith, ints, are.2, here) in
-    omega (arith, sum_by-cons (λ (x : Part). part_length x) p parts, some, length-le-whole owners p.segment.until parts are.5)
-
--- there are fewer parts than microseconds
-pub length-le-parts : (owners : Owners) (parts : List Part) → AreParts owners parts → length parts ≤ 2 ^ 55
-length-le-parts owners parts are =
-    let all = whole_length-le owners least_time parts are.each in
-    let whole = add-distance least_time greatest_until all.0 in
-    omega (arith, ints, length-le-whole owners least_time parts are.each, all.1, whole)

@@ -12,6 +12,8 @@ use Rattle.span_self_time.specs.Closed.{greatest_until}
 use Rattle.span_self_time.specs.Division.{Owners, taken, SelfTimes, own_in, between}
 use Rattle.span_self_time.specs.Division.Stacks.{part_length, named_length, whole_length, AreSums, parts_of, piece, IsTakenTo, IsNextPart, IsGained}
 use Rattle.span_self_time.proofs.Counts.{add-distance, distance-add}
+use Rattle.span_self_time.proofs.Stacks.Cursor.{StartsFrom, AreFuture-later}
+use Rattle.span_self_time.proofs.Stacks.Ends.{reverse-push}
 use Rattle.span_self_time.proofs.Stacks.PartLengths.{named_length-le, whole_length-le, whole_length-le_past}
 
 sum_by-reverse : {A : Type 0} (f : A → ℕ) (xs : List A) → sum_by f (reverse xs) ≡ sum_by f xs
@@ -142,38 +144,52 @@ part-le-own own busy from until p past future sums first then last =
       distance-add from until p.segment.until then last,
     )
 
--- no running time is greater than the whole time
-pub record AreSmall (own : SelfTimes) (busy : ℕ) : Type 0 where
-  pub of_names : (name : ℕ) → own_in own name ≤ 2 ^ 55
-  pub of_all : busy ≤ 2 ^ 55
+-- no running time and so much more is greater than the whole time
+pub record AreSmall (own : SelfTimes) (busy more : ℕ) : Type 0 where
+  pub of_names : (name : ℕ) → own_in own name + more < 2 ^ 64
+  pub of_all : busy + more < 2 ^ 64
 
-whole-small : (t : ℤ) → least_time ≤ℤ t → t ≤ℤ greatest_until → distance least_time t + distance t greatest_until ≤ 2 ^ 55
-whole-small t h k = omega (arith, ints, add-distance least_time t h, add-distance t greatest_until k)
-
-pub AreSmall-taken : (s : Span ℕ) (t : ℤ) (past future : List Part) (owners : Owners) (own : SelfTimes) (busy : ℕ) → IsTakenTo s t past future owners → AreSums own busy (parts_of past future) → AreSmall own busy
-AreSmall-taken s t past future owners own busy at sums =
+-- the gap between the parts before t and those behind n
+pub AreSmall-gap : (s : Span ℕ) (t n : ℤ) (past future : List Part) (owners : Owners) (own : SelfTimes) (busy : ℕ) → t ≤ℤ n → StartsFrom n (reverse future) → IsTakenTo s t past future owners → AreSums own busy (parts_of past future) → AreSmall own busy (distance t n)
+AreSmall-gap s t n past future owners own busy forward starts at sums =
     let before = whole_length-le_past (taken s owners) t (reverse past) at.before in
-    let after = whole_length-le owners t (reverse future) at.after in
-    let whole : whole_length (parts_of past future) ≤ 2 ^ 55 =
-    omega (arith, whole-small t before.0 after.0, before.1, after.1, sum_by-parts_of (λ (x : Part). part_length x) past future, sum_by-reverse (λ (x : Part). part_length x) past, sum_by-reverse (λ (x : Part). part_length x) future) in
+    let after = whole_length-le owners n (reverse future) (AreFuture-later owners t n (reverse future) forward starts at.after) in
+    let times : distance least_time t + distance t n + distance n greatest_until < 2 ^ 64 =
+    omega (arith, ints, add-distance least_time t before.0, add-distance t n forward, add-distance n greatest_until after.0) in
+    let whole : whole_length (parts_of past future) + distance t n < 2 ^ 64 =
+    omega (arith, times, before.1, after.1, sum_by-parts_of (λ (x : Part). part_length x) past future, sum_by-reverse (λ (x : Part). part_length x) past, sum_by-reverse (λ (x : Part). part_length x) future) in
     record {
       of_names = λ name. omega (arith, sums.of_names name, named_length-le name (parts_of past future), whole);
       of_all = omega (arith, sums.of_all, whole);
     }
 
-pub AreSmall-next : (s : Span ℕ) (from : ℤ) (p : Part) (past future : List Part) (owners : Owners) (own : SelfTimes) (busy : ℕ) → IsNextPart s from p past future owners → AreSums own busy (p ∷ parts_of past future) → AreSmall own busy
-AreSmall-next s from p past future owners own busy next sums =
+-- the gap before a part that is taken out
+pub AreSmall-before : (s : Span ℕ) (t : ℤ) (p : Part) (past future : List Part) (owners : Owners) (own : SelfTimes) (busy : ℕ) → t ≤ℤ p.segment.start → IsTakenTo s t past (future ++ p ∷ []) owners → AreSums own busy (p ∷ parts_of past future) → AreSmall own busy (distance t p.segment.start)
+AreSmall-before s t p past future owners own busy forward at sums =
+    let starts : StartsFrom p.segment.start (reverse (future ++ p ∷ [])) = rw (reverse-push future p) (omega (arith, ints)) in
+    AreSmall-gap s t p.segment.start past (future ++ p ∷ []) owners own busy forward starts at (AreSums-same own busy _ _ (λ f. sum_by-last f p past future) sums)
+
+-- the parts with the one that is taken out are no longer than the whole time
+whole-next : (s : Span ℕ) (from : ℤ) (p : Part) (past future : List Part) (owners : Owners) → IsNextPart s from p past future owners → part_length p + (whole_length past + whole_length future) < 2 ^ 64
+whole-next s from p past future owners next =
     let before = whole_length-le_past (taken s owners) p.segment.start (reverse past) next.before in
     let after = whole_length-le owners p.segment.until (reverse future) next.after in
-    let within : p.segment.start ≤ℤ greatest_until = omega (arith, ints, next.within, after.0) in
-    let split = distance-add p.segment.start p.segment.until greatest_until (omega (arith, ints, next.within)) after.0 in
-    let whole : whole_length (p ∷ parts_of past future) ≤ 2 ^ 55 =
-    omega (arith, whole-small p.segment.start before.0 within, split, before.1, after.1, whole_length-next p past future, sum_by-reverse (λ (x : Part). part_length x) past, sum_by-reverse (λ (x : Part). part_length x) future) in
-    record {
-      of_names = λ name. omega (arith, sums.of_names name, named_length-le name (p ∷ parts_of past future), whole);
-      of_all = omega (arith, sums.of_all, whole);
-    }
+    let lasts : p.segment.start ≤ℤ p.segment.until = omega (arith, ints, next.within) in
+    let times : distance least_time p.segment.start + distance p.segment.start p.segment.until + distance p.segment.until greatest_until < 2 ^ 64 =
+    omega (arith, ints, add-distance least_time p.segment.start before.0, add-distance p.segment.start p.segment.until lasts, add-distance p.segment.until greatest_until after.0) in
+    omega (arith, times, before.1, after.1, sum_by-reverse (λ (x : Part). part_length x) past, sum_by-reverse (λ (x : Part). part_length x) future)
 
-pub AreSmall-next_of : (s : Span ℕ) (t : ℤ) (p : Part) (past future : List Part) (owners : Owners) (own : SelfTimes) (busy : ℕ) → IsTakenTo s t past (future ++ p ∷ []) owners → AreSums own busy (p ∷ parts_of past future) → AreSmall own busy
-AreSmall-next_of s t p past future owners own busy at sums =
-    AreSmall-taken s t past (future ++ p ∷ []) owners own busy at (AreSums-same own busy _ _ (λ f. sum_by-last f p past future) sums)
+-- what of the part its owner has lost, any name may gain
+pub ceded-small : (s : Span ℕ) (from until : ℤ) (p : Part) (past future : List Part) (owners : Owners) (old lost : SelfTimes) (busy name : ℕ)
+    → from ≤ℤ until → until ≤ℤ p.segment.until → IsNextPart s from p past future owners → AreSums old busy (p ∷ parts_of past future)
+    → own_in lost name + cond (p.segment.name == name) (distance from until) 0 ≡ own_in old name → own_in lost name + distance from until < 2 ^ 64
+ceded-small s from until p past future owners old lost busy name forward last next sums loses =
+    by_test (p.segment.name == name) loses (sums.of_names name ∙ named_length-next name p past future)
+  where
+    by_test : (b : Bool) → own_in lost name + cond b (distance from until) 0 ≡ own_in old name → own_in old name ≡ cond b (part_length p) 0 + (named_length name past + named_length name future) → own_in lost name + distance from until < 2 ^ 64
+    by_test true gives all =
+        omega (arith, whole-next s from p past future owners next, named_length-le name past, named_length-le name future)
+    by_test false gives all =
+        let start = distance-add p.segment.start from p.segment.until next.within.0 (omega (arith, ints, next.within.1)) in
+        let end = distance-add from until p.segment.until forward last in
+        omega (arith, start, end, whole-next s from p past future owners next, named_length-le name past, named_length-le name future)

@@ -1,5 +1,5 @@
 -- What a span has when it has taken a stretch.
-use Rattle.std.proofs.Common.{◌≡◌, ◌≢◌, ◌⊎◌, inl, inr, ◌≤◌, ℕ, ◌+◌, cond, nat_eq, ℤ, ◌≤ℤ◌, ◌<ℤ◌, IsSome, IfSome, Option, Some, None, refl, sym, ap, ◌∙◌, subst, eq-eqb, arith}
+use Rattle.std.proofs.Common.{◌<◌, ◌^◌, Bool, true, ◌≡◌, ◌≢◌, ◌⊎◌, inl, inr, ◌≤◌, ℕ, ◌+◌, cond, nat_eq, ℤ, ◌≤ℤ◌, ◌<ℤ◌, IsSome, IfSome, Option, Some, None, refl, sym, ap, ◌∙◌, subst, eq-eqb, arith}
 use Rattle.std.specs.Option.{option_map, is_some}
 use Rattle.std.proofs.lemmas.Int.{ints, by_lt_z}
 use Rattle.indexmap.specs.IndexMap.{get}
@@ -10,9 +10,9 @@ use Rattle.span_event.specs.Time.{distance}
 use Rattle.span_self_time.specs.Spans.{Span}
 use Rattle.span_self_time.specs.Division.{Owners, SelfTimes, own_in, owner_of, taken}
 use Rattle.span_self_time.specs.Division.TimeMap.Stretches.{at, IsDivided, IsEnd, IsPut}
-use Rattle.span_self_time.specs.Division.TimeMap.{has_name, AreTimes, IsTimeMap, IsEntrant, IsTaking, taken_to}
+use Rattle.span_self_time.specs.Division.TimeMap.{has_name, time_of, AreTimes, IsTimeMap, IsEntrant, IsTaking, taken_to}
 use Rattle.span_self_time.proofs.TimeMap.StretchOwners.{by_eq_z, IsSome-None}
-use Rattle.span_self_time.proofs.TimeMap.Times.{IsReplaced, time_of-replaced, distance-time_of}
+use Rattle.span_self_time.proofs.TimeMap.Times.{IsReplaced, time_of-replaced, time_of-le, distance-time_of}
 use Rattle.span_self_time.proofs.TimeMap.Advancing.{IsClaimed, IsReplaced-taken, IsDivided-given, IsEnd-given, keeps-given, taken_to-after, taken_to-on, taken_to-start, taken_to-until}
 use Rattle.span_self_time.proofs.Owners.{taken-after}
 use Rattle.span_self_time.proofs.TimeMap.Barring.{AreBarred-taken}
@@ -24,6 +24,17 @@ held-length (Some p) own busy owners new t n r d times change length =
     let least = distance-time_of (has_name p.segment.name) owners t n (Some (owner_of p)) change.first (omega (arith, ints, change.lasts)) change.last change.was (eq-eqb p.segment.name p.segment.name refl) in
     omega (arith, least, length, times.of_names p.segment.name)
 
+-- the running times have room for what the span takes, once who held it has lost it
+pub charged-small : (q : Option (Span ℕ) → Bool) (v : Option Part) (s : Span ℕ) (old new : Owners) (t n : ℤ) (had d : ℕ) → IsReplaced old new t n (option_map owner_of v) (Some s) → q (Some s) ≡ true → had ≡ time_of q old → d ≡ distance t n → had + d < 2 ^ 64 + cond (q (option_map owner_of v)) d 0
+charged-small q v s old new t n had d change passes has length =
+    let gained = ap (λ b. cond b (distance t n) 0) passes in
+    let lost = ap (λ x. cond (q (option_map owner_of v)) x 0) length in
+    omega (arith, has, length, gained, lost, time_of-replaced q old new t n (option_map owner_of v) (Some s) change, time_of-le q new)
+
+pub is_some-owner : (v : Option Part) → is_some (option_map owner_of v) ≡ is_some v
+is_some-owner None = refl
+is_some-owner (Some p) = refl
+
 pub AreTimes-charged : (v : Option Part) (s : Span ℕ) (own more : SelfTimes) (busy busier : ℕ) (old new : Owners) (t n : ℤ) (d : ℕ) → IsReplaced old new t n (option_map owner_of v) (Some s) → AreTimes own busy old → d ≡ distance t n
     → ((name : ℕ) → own_in more name + cond (has_name name (option_map owner_of v)) d 0 ≡ own_in own name + cond (nat_eq s.name name) d 0) → busier + cond (is_some v) d 0 ≡ busy + d → AreTimes more busier new
 AreTimes-charged v s own more busy busier old new t n d change times length charged all = record {
@@ -33,12 +44,9 @@ AreTimes-charged v s own more busy busier old new t n d change times length char
       omega (arith, charged name, gained, lost, times.of_names name, time_of-replaced (has_name name) old new t n (option_map owner_of v) (Some s) change);
   of_all =
       let lost = ap (λ x. cond (is_some (option_map owner_of v)) x 0) length in
-      omega (arith, all, lost, length, times.of_all, time_of-replaced is_some old new t n (option_map owner_of v) (Some s) change, same v);
+      let same = ap (λ b. cond b d 0) (is_some-owner v) in
+      omega (arith, all, lost, length, times.of_all, time_of-replaced is_some old new t n (option_map owner_of v) (Some s) change, same);
 }
-  where
-    same : (v : Option Part) → cond (is_some v) d 0 ≡ cond (is_some (option_map owner_of v)) d 0
-    same None = refl
-    same (Some p) = refl
 
 -- what joining at t does to the stretches
 pub record IsJoining (t : ℤ) (old new : Stretches) : Type 0 where

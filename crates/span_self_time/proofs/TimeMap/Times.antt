@@ -1,5 +1,5 @@
 -- How the time in which an owner passes a test changes as a stretch changes hands.
-use Rattle.std.proofs.Common.{◌≡◌, ◌≤◌, ◌^◌, ℕ, ◌+◌, Bool, true, false, cond, ℤ, pos, ◌-ℤ◌, ◌≤ℤ◌, ◌<ℤ◌, Option, None, ap, ◌∙◌, arith}
+use Rattle.std.proofs.Common.{◌<◌, ◌-◌, ◌≡◌, ◌≤◌, ◌^◌, ℕ, ◌+◌, Bool, true, false, cond, ℤ, pos, ◌-ℤ◌, ◌≤ℤ◌, ◌<ℤ◌, Option, None, ap, ◌∙◌, arith}
 use Rattle.std.proofs.lemmas.Int.{ints}
 use Rattle.span_event.specs.Time.{distance}
 use Rattle.span_self_time.specs.Spans.{Span, count_from}
@@ -58,11 +58,11 @@ distance-time_of q owners t n p first lasts last belongs passes = from least_tim
         let here = ap (λ c. cond c (distance t n) 0) passes in
         omega (arith, all, here)
 
-pub time_of-le : (q : Option (Span ℕ) → Bool) (owners : Owners) → time_of q owners ≤ 2 ^ 55
+pub time_of-le : (q : Option (Span ℕ) → Bool) (owners : Owners) → time_of q owners < 2 ^ 64
 unfolding time_of
 time_of-le q owners = from least_time greatest_until (omega (arith, ints)) (omega (arith, ints))
   where
-    from : (a b : ℤ) → a ≤ℤ b → (b -ℤ a) ≤ℤ pos (2 ^ 55) → count_from a (distance a b) (λ u. q (owners u)) ≤ 2 ^ 55
+    from : (a b : ℤ) → a ≤ℤ b → (b -ℤ a) ≤ℤ pos (2 ^ 64 - 1) → count_from a (distance a b) (λ u. q (owners u)) < 2 ^ 64
     from a b forward short =
         let whole = add-distance a b forward in
         let few = count_from-le (λ u. q (owners u)) a (distance a b) in

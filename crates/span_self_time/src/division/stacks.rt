@@ -98,7 +98,8 @@ impl Stacks {
         self.own.reserve(1)?;
         self.rewind(span.span_start)?;
         self.advance(span.span_start)?;
-        self.past.reserve(2 * self.future.len() + 2)?;
+        self.past
+            .reserve(self.future.len().saturating_add(1).saturating_mul(2))?;
         keep_name(&mut self.own, span.segment.name);
         let entered = self.enter(span);
         let time = self.go_through(span, entered);

@@ -193,12 +193,13 @@ impl TimeMap {
         until
     }
 
-    // The name gains the time, and who held it loses it.
+    // Who held the time loses it, and then the name gains it.
     fn charge(&mut self, name: u32, held: &Option<Part>, length: u64)
         requires some { 0 < length }
         requires kept { IsSome (get nat_eq self.old.own name) }
-        requires small { own_in self.old.own name + length < 2 ^ 64 }
-        requires busy { self.old.busy + length < 2 ^ 64 }
+        requires small { own_in self.old.own name + length
+            < 2 ^ 64 + (if has_name name (option_map owner_of held.now) then length else 0) }
+        requires busy { self.old.busy + length < 2 ^ 64 + (if is_some held.now then length else 0) }
         requires held { IfSome held.now (λ part. length ≤ own_in self.old.own part.segment.name) }
         ensures own { (other : ℕ)
             → own_in self.new.own other + (if has_name other (option_map owner_of held.now) then length else 0)
@@ -209,10 +210,10 @@ impl TimeMap {
         ensures stretches { self.new.stretches ≡ self.old.stretches }
         ensures ties { self.new.ties ≡ self.old.ties }
     {
-        gain_own(&mut self.own, name, length);
         match held {
             Some(part) => lose_own(&mut self.own, part.segment.name, length),
             None => self.busy += length,
         }
+        gain_own(&mut self.own, name, length);
     }
 }

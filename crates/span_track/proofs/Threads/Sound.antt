@@ -1,9 +1,9 @@
 -- That a track stays sound from event to event.
-use Rattle.std.proofs.Common.{◌≡◌, ℕ, ◌+◌, ◌<◌, ◌^◌, ◌≢◌, ℤ, negsuc, ◌≤ℤ◌, List, [], ◌∷◌, ◌++◌, Option, Some, None, true, false, cond, refl, arith, All, length-append, get_or, length}
+use Rattle.std.proofs.Common.{◌≡◌, ℕ, ◌+◌, ◌<◌, ◌^◌, ◌≢◌, ℤ, ◌≤ℤ◌, List, [], ◌∷◌, ◌++◌, Option, Some, None, true, false, cond, refl, arith, All, length-append, get_or, length}
 use Rattle.std.specs.Prelude.{int_lt}
 use Rattle.std.proofs.lemmas.Int.{ints}
 use Rattle.std.proofs.lemmas.List.Elements.{All-weaker, All-push, All-pop, All-head, All-tail, All-nil, All-cons}
-use Rattle.span_event.specs.Event.{IsTime}
+use Rattle.span_event.specs.Event.{IsTime, least_time}
 use Rattle.span_self_time.specs.Spans.{Span}
 use Rattle.span_track.specs.Nesting.{Begin, later}
 use Rattle.span_track.specs.Thread.{ThreadSpans, HasRoom, IsNext, IsSealTime, goes_back}
@@ -47,7 +47,7 @@ IsSealTime-event ts in_time = (in_time.0, omega (arith, ints, in_time.1))
 -- a begin that may be taken keeps the track sound
 pub IsSound-with_begin : (t : ThreadSpans ℕ) (b : Begin ℕ) → IsSound t → HasRoom t → IsNext b.at t → IsTime b.ts → goes_back b.ts t.last ≡ false → IsSound (with_begin t b)
 IsSound-with_begin t b sound room next in_time later = record {
-  from = All-push (λ (c : Begin ℕ). negsuc 9007199254740990 ≤ℤ c.ts) t.opened b sound.from in_time.0;
+  from = All-push (λ (c : Begin ℕ). least_time ≤ℤ c.ts) t.opened b sound.from in_time.0;
   up_to = All-push (λ (c : Begin ℕ). IsUpTo c.ts (Some b.ts)) t.opened b (All-IsUpTo-later b.ts t.last t.opened later sound.up_to) (omega (arith, ints));
   apart = All-push (λ (c : Begin ℕ). All (λ s. s.at ≢ c.at) t.closed) t.opened b sound.apart (All-weaker (λ (s : Span ℕ). s.at < b.at) (λ (s : Span ℕ). s.at ≢ b.at) (λ s h same. omega arith) t.closed next.1);
   rising = AreRising-append t.opened b sound.rising next.0;
@@ -72,7 +72,7 @@ IsSound-with_whole t s sound room next in_time = record {
 
 -- what may be said of the span that an end closes
 pub record MayClose (b : Begin ℕ) (closed : List (Span ℕ)) (ts : ℤ) : Type 0 where
-  pub from : negsuc 9007199254740990 ≤ℤ b.ts
+  pub from : least_time ≤ℤ b.ts
   pub lasts : b.ts ≤ℤ ts
   pub apart : All (λ s. s.at ≢ b.at) closed
   pub few : length closed + 1 < 2 ^ 32
@@ -80,7 +80,7 @@ pub record MayClose (b : Begin ℕ) (closed : List (Span ℕ)) (ts : ℤ) : Type
 -- the last open span of a sound track may close
 pub MayClose-sound : (opened : List (Begin ℕ)) (closed : List (Span ℕ)) (last latest : Option ℤ) (b : Begin ℕ) (ts : ℤ) → IsSound (record { opened = opened ++ b ∷ []; closed = closed; last = last; latest = latest }) → goes_back ts last ≡ false → MayClose b closed ts
 MayClose-sound opened closed last latest b ts sound later =
-    let from = All-pop (λ (c : Begin ℕ). negsuc 9007199254740990 ≤ℤ c.ts) (opened ++ b ∷ []) opened (Some b) refl sound.from in
+    let from = All-pop (λ (c : Begin ℕ). least_time ≤ℤ c.ts) (opened ++ b ∷ []) opened (Some b) refl sound.from in
     let up_to = All-pop (λ (c : Begin ℕ). IsUpTo c.ts last) (opened ++ b ∷ []) opened (Some b) refl sound.up_to in
     let apart = All-pop (λ (c : Begin ℕ). All (λ s. s.at ≢ c.at) closed) (opened ++ b ∷ []) opened (Some b) refl sound.apart in
     record {
@@ -94,7 +94,7 @@ MayClose-sound opened closed last latest b ts sound later =
 pub IsSound-with_end : (opened : List (Begin ℕ)) (closed : List (Span ℕ)) (last latest : Option ℤ) (b : Begin ℕ) (s : Span ℕ) (ts : ℤ) → s.at ≡ b.at → IsTime ts →
     IsSound (record { opened = opened ++ b ∷ []; closed = closed; last = last; latest = latest }) → goes_back ts last ≡ false → IsSound (record { opened = opened; closed = closed ++ s ∷ []; last = Some ts; latest = later latest ts })
 IsSound-with_end opened closed last latest b s ts same_at in_time sound later =
-    let from = All-pop (λ (c : Begin ℕ). negsuc 9007199254740990 ≤ℤ c.ts) (opened ++ b ∷ []) opened (Some b) refl sound.from in
+    let from = All-pop (λ (c : Begin ℕ). least_time ≤ℤ c.ts) (opened ++ b ∷ []) opened (Some b) refl sound.from in
     let up_to = All-pop (λ (c : Begin ℕ). IsUpTo c.ts last) (opened ++ b ∷ []) opened (Some b) refl sound.up_to in
     let apart = All-pop (λ (c : Begin ℕ). All (λ x. x.at ≢ c.at) closed) (opened ++ b ∷ []) opened (Some b) refl sound.apart in
     let rising = AreRising-front opened b sound.rising in

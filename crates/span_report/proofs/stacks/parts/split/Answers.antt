@@ -10,6 +10,18 @@ use Rattle.span_report.specs.Stacks.Parts.{IsSound, left, times_on}
 use Rattle.span_report.proofs.StackLemmas.Splitting.{counts-bare, counts-push, rest_of}
 use Rattle.span_report.proofs.stacks.parts.split.Goals as goal
 
+pub overflow_add-time : goal.overflow_add-time
+overflow_add-time c =
+    let rest = c.loop-part.rest in
+    let part = c.in-Some.part in
+    let whole = c.args.whole.now in
+    let first = c.in-Some.ensures.first in
+    let from : to_z w64 (of_z w64 part.over.from) ≡ part.over.from = search rules in
+    let start : to_z w64 (of_z w64 rest.from) ≡ rest.from = search rules in
+    let time : c.distance-time.result ≡ distance rest.from part.over.from = rw (from, start) at c.distance-time.ensures.value in
+    let all = distance-add rest.from part.over.from rest.until first.from (omega (arith, ints, first.lasts, first.until)) in
+    omega (arith, ints, c.loop-part.invariant.small, time, all, add-distance whole.from whole.until c.requires.forward, c.requires.from, c.requires.until)
+
 pub loop-part-preserved : goal.loop-part-preserved
 loop-part-preserved c =
     let spans = c.args.spans.now in
@@ -64,5 +76,4 @@ returns c =
       counts = λ base deep stack. subst (λ n. left spans base c.loop-part.found.items stack + cond (same_stack stack base) (c.loop-part.time + n) 0 ≡ left spans base c.args.found.now.items stack + times_on spans base whole stack) (sym time)
           (counts-bare spans base stack c.loop-part.found.items c.loop-part.time (left spans base c.args.found.now.items stack + times_on spans base whole stack) rest before.forward bare (before.counts base deep stack));
       sound = before.sound;
-      small = omega (arith, ints, before.small, time, add-distance whole.from whole.until c.requires.forward, c.requires.from, c.requires.until);
     }

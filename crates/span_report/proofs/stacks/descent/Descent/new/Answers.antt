@@ -1,4 +1,4 @@
-use Rattle.std.proofs.Common.{◌≡◌, ◌≤◌, ◌^◌, List, arith, rules, refl, ap, subst, ◌∙◌, to_z, of_z, w64}
+use Rattle.std.proofs.Common.{◌<◌, ◌≡◌, ◌^◌, List, arith, rules, refl, ap, subst, ◌∙◌, to_z, of_z, w64}
 use Rattle.std.proofs.lemmas.Int.{ints}
 use Rattle.span_event.specs.Time.{distance}
 use Rattle.span_self_time.specs.Spans.{earliest, latest}
@@ -41,8 +41,8 @@ returns-clause-ready c =
     let split = subst (λ (l : List Part). IsSplit c.in_ok-spans.spans 0 whole c.in_ok-split.field-0 l c.split.new.found.items) c.new-parts.ensures.items (rw (from, until) at c.in_ok-split.ensures) in
     let d : Descent = record { spans = c.in_ok-spans.spans; parts = c.sort_unstable_by.new.self; found = c.new-2.result; stack = c.new-3.result } in
     let end = add-distance (earliest spans) (latest spans) (omega (arith, ints, earliest-le spans, le-latest spans)) in
-    let short : distance (earliest spans) (latest spans) ≤ 2 ^ 55 = omega (arith, ints, end, least-le-earliest spans c.requires.in_time, latest-le-greatest spans c.requires.in_time) in
-    let small : distance whole.from whole.until ≤ 2 ^ 55 = rw (first, last) short in
+    let short : distance (earliest spans) (latest spans) < 2 ^ 64 = omega (arith, ints, end, least-le-earliest spans c.requires.in_time, latest-le-greatest spans c.requires.in_time) in
+    let small : distance whole.from whole.until < 2 ^ 64 = rw (first, last) short in
     IsReady-new d whole c.in_ok-split.field-0 c.split.new.found.items split c.sort_unstable_by.ensures.permutation c.new-3.ensures.items
     (IsSorted-from_sort_by nearness-total c.sort_unstable_by.new.self.items c.sort_unstable_by.ensures.sorted (λ a r f' call. search rules)) c.new-2.ensures.items small
 

@@ -6,10 +6,11 @@ use Rattle.span_event.specs.Text.{Bytes}
 use Rattle.span_self_time.specs.Spans.{Span}
 use Rattle.span_report.specs.declared.stacks.parts.Part.{Part}
 use Rattle.span_report.specs.Stacks.Descent.{IsNextSplit, left_of, told_last}
-use Rattle.span_report.specs.Stacks.Microseconds.{same_stack}
+use Rattle.span_report.specs.Stacks.Microseconds.{Stack, same_stack}
 use Rattle.span_report.specs.Stacks.Parts.{IsSound, IsSplit, left, part_stack}
 use Rattle.span_report.proofs.StackLemmas.Nearing.{AllByRecursion-front, AllByRecursion-last}
 use Rattle.span_report.proofs.StackLemmas.Splitting.{counts-popped, own-small}
+use Rattle.span_report.proofs.stacks.descent.Descent.split_next.Goals.{In_ok-time}
 use Rattle.span_report.proofs.stacks.descent.Descent.split_next.Goals as goal
 
 pub loop-part-init : goal.loop-part-init
@@ -52,38 +53,49 @@ split-requires-clause-next c =
     let within = (popped-holds (λ (p : Part). IsSound c.args.self.now.spans p.over) c.args.self.now.parts.items c.loop-part.self.parts.items c.pop_like.new.self.parts.items c.loop-part.invariant.popped.0 c.in-Some.part c.loop-part.invariant.popped.1 c.in-Some.ensures.parts c.requires.ready.sound).within in
     subst (λ (l : List (Span Bytes)). c.in-Some.part.over.next ≤ length l) (sym (c.in-Some.ensures.spans ∙ c.loop-part.invariant.spans)) within
 
+-- the part that was taken off is split among those that were found
+split : (c : In_ok-time) → IsSplit c.args.self.now.spans (c.args.first.now.below + 1) c.in-Some.part.over c.in_ok-time.field-0 c.loop-part.self.found.items c.split.new.found.items
+split c =
+    subst (λ (l : List Part). IsSplit c.args.self.now.spans (c.args.first.now.below + 1) c.in-Some.part.over c.in_ok-time.field-0 l c.split.new.found.items) c.in-Some.ensures.found
+    (subst (λ (l : List (Span Bytes)). IsSplit l (c.args.first.now.below + 1) c.in-Some.part.over c.in_ok-time.field-0 c.pop_like.new.self.found.items c.split.new.found.items) (c.in-Some.ensures.spans ∙ c.loop-part.invariant.spans) c.in_ok-time.ensures)
+
+-- what the parts that were taken off had, once one more is split
+counted : (c : In_ok-time) (stack : Stack) →
+    left c.args.self.now.spans (told_last c.args.self.now) c.pop_like.new.self.parts.items stack
+    + (left c.args.self.now.spans (part_stack (told_last c.args.self.now) c.args.first.now) c.split.new.found.items stack + cond (same_stack stack (part_stack (told_last c.args.self.now) c.args.first.now)) (c.loop-part.time + c.in_ok-time.field-0) 0)
+    ≡ left_of c.args.self.now stack
+counted c stack =
+    let old = c.args.self.now in
+    let first = c.args.first.now in
+    let last = told_last old in
+    let base = part_stack last first in
+    let off = c.in-Some.ensures in
+    let before = c.loop-part.invariant in
+    let within : first.below ≤ length last = omega (arith, c.requires.below, length-map old.stack.items (λ (name : Bor Bytes). name.now)) in
+    counts-popped old.spans last stack first c.in-Some.part c.pop_like.new.self.parts.items c.loop-part.self.found.items c.split.new.found.items c.loop-part.time c.in_ok-time.field-0 (left_of old stack) off.below off.name within (split c)
+    (subst (λ (l : List Part). left old.spans last l stack + (left old.spans base c.loop-part.self.found.items stack + cond (same_stack stack base) c.loop-part.time 0) ≡ left_of old stack) off.parts (before.counts stack))
+
 pub overflow_add-time : goal.overflow_add-time
 overflow_add-time c =
     let old = c.args.self.now in
     let base = part_stack (told_last old) c.args.first.now in
-    let time = own-small base _ _ c.loop-part.time (left_of old base) (c.loop-part.invariant.counts base) (c.requires.ready.small base) in
-    omega (arith, time, c.in_ok-time.ensures.small)
+    omega (arith, own-small base _ _ _ (left_of old base) (counted (goal.at.overflow_add-time c).In_ok-time base) (c.requires.ready.small base))
 
 pub loop-part-smaller : goal.loop-part-smaller
 loop-part-smaller c = omega (arith, ap (λ (l : List Part). length l) c.in-Some.ensures.parts, length_push c.pop_like.new.self.parts.items c.in-Some.part)
 
 pub loop-part-preserved : goal.loop-part-preserved
 loop-part-preserved c =
-    let old = c.args.self.now in
-    let first = c.args.first.now in
-    let last = told_last old in
-    let base = part_stack last first in
+    let at = (goal.at.loop-part-preserved c).In_ok-time in
     let part = c.in-Some.part in
     let off = c.in-Some.ensures in
     let before = c.loop-part.invariant in
-    let parts = c.pop_like.new.self.parts.items in
-    let more = c.split.new.found.items in
-    let own = c.in_ok-time.field-0 in
-    let within : first.below ≤ length last = omega (arith, c.requires.below, length-map old.stack.items (λ (name : Bor Bytes). name.now)) in
-    let split = subst (λ (l : List Part). IsSplit old.spans (first.below + 1) part.over own l more) off.found
-    (subst (λ (l : List (Span Bytes)). IsSplit l (first.below + 1) part.over own c.pop_like.new.self.found.items more) (off.spans ∙ before.spans) c.in_ok-time.ensures) in
     record {
       spans = off.spans ∙ before.spans;
       stack = off.stack ∙ before.stack;
-      popped = (part ∷ before.popped.0, before.popped.1 ∙ ap (λ (l : List Part). l ++ before.popped.0) off.parts ∙ append_assoc parts (part ∷ []) before.popped.0);
-      counts = λ stack. counts-popped old.spans last stack first part parts c.loop-part.self.found.items more c.loop-part.time own (left_of old stack) off.below off.name within split
-          (subst (λ (l : List Part). left old.spans last l stack + (left old.spans base c.loop-part.self.found.items stack + cond (same_stack stack base) c.loop-part.time 0) ≡ left_of old stack) off.parts (before.counts stack));
-      found = split.sound before.found;
+      popped = (part ∷ before.popped.0, before.popped.1 ∙ ap (λ (l : List Part). l ++ before.popped.0) off.parts ∙ append_assoc c.pop_like.new.self.parts.items (part ∷ []) before.popped.0);
+      counts = counted at;
+      found = (split at).sound before.found;
     }
 
 pub returns : goal.returns

@@ -1,25 +1,16 @@
-use Rattle.std.proofs.Common.{rules, ◌≡◌, ◌≤ℤ◌, ℕ, length, reverse, w64, to_z, of_z, sym, ap, ◌∙◌, subst, arith, List, length-append}
+use Rattle.std.proofs.Common.{rules, ◌≡◌, ◌≤ℤ◌, ℕ, w64, to_z, of_z, sym, ap, ◌∙◌, subst, arith, List}
 use Rattle.std.proofs.lemmas.Int.{ints}
-use Rattle.std.proofs.lemmas.List.{length-reverse}
 use Rattle.span_self_time.specs.declared.segment.Part.{Part}
 use Rattle.span_self_time.specs.declared.division.stacks.Stacks.{Stacks}
 use Rattle.span_self_time.specs.Division.{Owners, owner_of, own_in, IsNew, AreParts}
 use Rattle.span_self_time.specs.Division.Stacks.{AreStacks, IsAtStart, IsEntering}
 use Rattle.span_self_time.proofs.Stacks.Taking.{AreParts-empty}
-use Rattle.span_self_time.proofs.Stacks.PartLengths.{length-le-parts}
 use Rattle.span_self_time.proofs.division.stacks.Stacks.add.Goals.{In_ok-advance, After-keep_name}
 use Rattle.span_self_time.proofs.division.stacks.Stacks.add.Goals as goal
 
 pub returns-then-span-clause-ok : goal.returns-then-span-clause-ok
 returns-then-span-clause-ok c = λ owners is new settled.
     record { parts = AreParts-empty (owner_of c.args.span.now) _ owners (omega (arith, ints, c.if-span.true)) is.parts; sums = is.sums }
-
-pub overflow_add-len : goal.overflow_add-len
-overflow_add-len c =
-    let is = c.requires.is.holds.0 in
-    let few = length-le-parts _ _ is.parts in
-    let same = ap length (c.in_ok-advance.ensures.moved.parts ∙ c.in_ok-rewind.ensures.moved.parts) in
-    omega (arith, few, same, length-append c.advance.new.self.past.items (reverse c.advance.new.self.future.items), length-reverse c.advance.new.self.future.items, c.len.ensures)
 
 -- the cursor has moved to the start of the span
 at_start : (c : In_ok-advance) (owners : Owners) → AreStacks owners c.args.self.now → IsNew (owner_of c.args.span.now) owners → IsAtStart (owner_of c.args.span.now) c.advance.new.self.past.items c.advance.new.self.future.items owners

@@ -6,7 +6,7 @@ use Rattle.span_event.specs.Time.{distance}
 use Rattle.span_self_time.specs.Division.{owner_of, taken}
 use Rattle.span_self_time.specs.Division.Stacks.{piece}
 use Rattle.span_self_time.proofs.Stacks.Taking.{IsTakenUpTo, IsTakenTo-ceded, IsOnly-taken, IsTakenUpTo-next, piece-none, ArePast-ceded, Belong-ceded}
-use Rattle.span_self_time.proofs.Stacks.PartSums.{AreSums-ceded, AreSmall-next, part-le-own, distance-positive}
+use Rattle.span_self_time.proofs.Stacks.PartSums.{AreSums-ceded, ceded-small, part-le-own, distance-positive}
 use Rattle.span_self_time.proofs.division.stacks.Stacks.cede.Goals.{After-min-until}
 use Rattle.span_self_time.proofs.division.stacks.Stacks.cede.Goals as goal
 
@@ -73,9 +73,12 @@ gain-requires-clause-kept c = c.lose_own.ensures.kept c.args.span.now.segment.na
 
 pub gain-requires-clause-small : goal.gain-requires-clause-small
 gain-requires-clause-small c =
+    let at = (goal.at.gain-requires-clause-small c).After-min-until in
     let is = c.requires.next.holds in
-    let small = AreSmall-next _ _ _ _ _ _ _ _ is.next is.sums in
-    omega (arith, c.distance.ensures.value, c.distance.ensures.small, small.of_names c.args.span.now.segment.name, c.lose_own.ensures.sum c.args.span.now.segment.name)
+    let up = up_to at in
+    let name = c.args.span.now.segment.name in
+    let lost = rw (from_is at, until_is at) at (rw c.distance.ensures.value at c.lose_own.ensures.sum name) in
+    rw (from_is at, until_is at) (ceded-small _ c.args.from c.min-until.result _ c.args.self.now.past.items c.args.self.now.future.items _ _ c.lose_own.new.own _ name (omega (arith, ints, up.forward)) up.within is.next is.sums lost)
 
 pub push_between-requires-2 : goal.push_between-requires-2
 push_between-requires-2 c = omega (arith, c.requires.next.holds.room_behind, ap vec_len c.gain.ensures.future, ap vec_capacity c.gain.ensures.future)

@@ -4,14 +4,17 @@ use Rattle.std.proofs.lemmas.Int.{ints}
 use Rattle.span_event.specs.Time.{distance}
 use Rattle.span_self_time.specs.Division.{owner_of, taken}
 use Rattle.span_self_time.proofs.Stacks.Taking.{IsGapBefore-taken, IsNextPart-filled, IsNextPart-at, IsOnly-taken, piece-none}
-use Rattle.span_self_time.proofs.Stacks.PartSums.{AreSums-filled_before, AreSmall-next_of}
+use Rattle.span_self_time.proofs.Stacks.PartSums.{AreSums-filled_before, AreSmall-before}
 use Rattle.span_self_time.proofs.division.stacks.Stacks.fill_before.Goals as goal
 
 pub overflow_add-self : goal.overflow_add-self
 overflow_add-self c =
     let is = c.requires.ahead.holds in
-    let small = AreSmall-next_of _ _ _ _ _ _ _ _ is.taken is.sums in
-    omega (arith, small.of_all, c.distance.ensures.small)
+    let time : to_z w64 (of_z w64 c.args.time) ≡ c.args.time = search rules in
+    let start : to_z w64 (of_z w64 c.args.part.now.segment.start) ≡ c.args.part.now.segment.start = search rules in
+    let length : c.distance.result ≡ distance c.args.time c.args.part.now.segment.start = rw (time, start) at c.distance.ensures.value in
+    let small = AreSmall-before _ _ _ _ _ _ _ _ (omega (arith, ints, c.if-time-part.true)) is.taken is.sums in
+    omega (arith, small.of_all, length)
 
 pub gain-requires-clause-from_in_time : goal.gain-requires-clause-from_in_time
 gain-requires-clause-from_in_time c =
@@ -32,8 +35,10 @@ gain-requires-clause-kept c = c.requires.ahead.holds.kept
 pub gain-requires-clause-small : goal.gain-requires-clause-small
 gain-requires-clause-small c =
     let is = c.requires.ahead.holds in
-    let small = AreSmall-next_of _ _ _ _ _ _ _ _ is.taken is.sums in
-    omega (arith, small.of_names c.args.span.now.segment.name, c.distance.ensures.small, c.distance.ensures.value)
+    let time : to_z w64 (of_z w64 c.args.time) ≡ c.args.time = search rules in
+    let start : to_z w64 (of_z w64 c.args.part.now.segment.start) ≡ c.args.part.now.segment.start = search rules in
+    let small = AreSmall-before _ _ _ _ _ _ _ _ (omega (arith, ints, c.if-time-part.true)) is.taken is.sums in
+    rw (time, start) (small.of_names c.args.span.now.segment.name)
 
 pub returns-then-time-part : goal.returns-then-time-part
 returns-then-time-part c = λ owners is.

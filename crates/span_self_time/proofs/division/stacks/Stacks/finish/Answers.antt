@@ -4,14 +4,18 @@ use Rattle.span_event.specs.Time.{distance}
 use Rattle.span_self_time.specs.Division.{owner_of, taken}
 use Rattle.span_self_time.proofs.Stacks.Cursor.{StartsFrom-starts_before}
 use Rattle.span_self_time.proofs.Stacks.Taking.{AreParts-taken, AreParts-filled, Belong-gap, IsOnly-taken}
-use Rattle.span_self_time.proofs.Stacks.PartSums.{AreSums-filled, AreSmall-taken}
+use Rattle.span_self_time.proofs.Stacks.PartSums.{AreSums-filled, AreSmall-gap}
 use Rattle.span_self_time.proofs.division.stacks.Stacks.finish.Goals as goal
 
 pub overflow_add-self : goal.overflow_add-self
 overflow_add-self c =
     let is = c.requires.taken.holds in
-    let small = AreSmall-taken _ _ _ _ _ _ _ is.taken is.sums in
-    omega (arith, small.of_all, c.distance.ensures.small)
+    let time : to_z w64 (of_z w64 c.args.time) ≡ c.args.time = search rules in
+    let until : to_z w64 (of_z w64 c.args.span.now.span_until) ≡ c.args.span.now.span_until = search rules in
+    let length : c.distance.result ≡ distance c.args.time c.args.span.now.span_until = rw (time, until) at c.distance.ensures.value in
+    let starts = StartsFrom-starts_before c.args.span.now.span_until (reverse c.args.self.now.future.items) is.taken.in_time.1 c.requires.gap in
+    let small = AreSmall-gap _ _ _ _ _ _ _ _ (omega (arith, ints, c.if-time-span.true)) starts is.taken is.sums in
+    omega (arith, small.of_all, length)
 
 pub gain-requires-clause-room : goal.gain-requires-clause-room
 gain-requires-clause-room c = omega (arith, c.requires.taken.holds.room (omega (arith, ints, c.if-time-span.true)))
@@ -22,8 +26,11 @@ gain-requires-clause-kept c = c.requires.taken.holds.kept
 pub gain-requires-clause-small : goal.gain-requires-clause-small
 gain-requires-clause-small c =
     let is = c.requires.taken.holds in
-    let small = AreSmall-taken _ _ _ _ _ _ _ is.taken is.sums in
-    omega (arith, small.of_names c.args.span.now.segment.name, c.distance.ensures.small, c.distance.ensures.value)
+    let time : to_z w64 (of_z w64 c.args.time) ≡ c.args.time = search rules in
+    let until : to_z w64 (of_z w64 c.args.span.now.span_until) ≡ c.args.span.now.span_until = search rules in
+    let starts = StartsFrom-starts_before c.args.span.now.span_until (reverse c.args.self.now.future.items) is.taken.in_time.1 c.requires.gap in
+    let small = AreSmall-gap _ _ _ _ _ _ _ _ (omega (arith, ints, c.if-time-span.true)) starts is.taken is.sums in
+    rw (time, until) (small.of_names c.args.span.now.segment.name)
 
 pub returns-then-time-span : goal.returns-then-time-span
 returns-then-time-span c = λ owners is.

@@ -1,4 +1,4 @@
-use Rattle.std.proofs.Common.{rules, ◌≡◌, Some, sym, ap, subst, w64, to_z, of_z, arith, IsSome, refl}
+use Rattle.std.proofs.Common.{option_map, eq-eqb, rules, ◌≡◌, Some, sym, ap, subst, w64, to_z, of_z, IsSome, refl}
 use Rattle.std.specs.Option.{is_some}
 use Rattle.span_self_time.specs.declared.segment.Part.{Part}
 use Rattle.span_self_time.specs.declared.division.time_map.stretches.Stretches.{Stretches}
@@ -7,24 +7,40 @@ use Rattle.span_self_time.specs.Division.{owner_of, between}
 use Rattle.span_self_time.specs.Division.TimeMap.Stretches.{at, IsPut}
 use Rattle.span_self_time.specs.Division.TimeMap.{IsTaking, taken_to, has_name}
 use Rattle.span_self_time.proofs.TimeMap.Advancing.{IsClaimed, IsReplaced-taken}
-use Rattle.span_self_time.proofs.TimeMap.Times.{time_of-le}
-use Rattle.span_self_time.proofs.TimeMap.Charging.{held-length, AreTimes-charged, IsJoining, IsGiven, IsTaking-taken}
+use Rattle.span_self_time.proofs.TimeMap.Times.{IsReplaced}
+use Rattle.span_self_time.proofs.TimeMap.Charging.{held-length, charged-small, is_some-owner, AreTimes-charged, IsJoining, IsGiven, IsTaking-taken}
+use Rattle.span_self_time.proofs.division.time_map.TimeMap.take.Goals.{After-distance}
 use Rattle.span_self_time.proofs.division.time_map.TimeMap.take.Goals as goal
 
 pub end_of-until-requires-clause-divided : goal.end_of-until-requires-clause-divided
 end_of-until-requires-clause-divided c = record { owners = taken_to (owner_of c.args.span.now) c.args.time c.requires.taking.owners; holds = c.requires.taking.holds.1.divided }
 
+-- the span takes the stretch
+change : (c : After-distance) → IsReplaced (taken_to (owner_of c.args.span.now) c.args.time c.requires.taking.owners) (taken_to (owner_of c.args.span.now) c.end_of-until.result c.requires.taking.owners) c.args.time c.end_of-until.result (option_map owner_of c.args.held) (Some (owner_of c.args.span.now))
+change c =
+    let s = owner_of c.args.span.now in
+    let t = c.args.time in
+    let n = c.end_of-until.result in
+    let time : to_z w64 (of_z w64 t) ≡ t = search rules in
+    let claim : IsClaimed s t n c.args.held c.args.self.now = record { within = c.requires.within; here = c.requires.held; claimed = c.requires.claimed; next = rw time at c.end_of-until.ensures } in
+    IsReplaced-taken s t n c.args.held c.args.self.now c.requires.taking.owners c.requires.taking.holds.0 c.requires.taking.holds.1 claim
+
+length : (c : After-distance) → c.distance.result ≡ distance c.args.time c.end_of-until.result
+length c =
+    let time : to_z w64 (of_z w64 c.args.time) ≡ c.args.time = search rules in
+    let until : to_z w64 (of_z w64 c.end_of-until.result) ≡ c.end_of-until.result = search rules in
+    rw (time, until) at c.distance.ensures.value
+
 pub charge-requires-clause-small : goal.charge-requires-clause-small
 charge-requires-clause-small c =
-    let is = c.requires.taking.holds.1 in
-    let few = time_of-le (has_name c.args.span.now.segment.name) (taken_to (owner_of c.args.span.now) c.args.time c.requires.taking.owners) in
-    omega (arith, is.times.of_names c.args.span.now.segment.name, few, c.distance.ensures.small)
+    let at = (goal.at.charge-requires-clause-small c).After-distance in
+    let name = c.args.span.now.segment.name in
+    charged-small (has_name name) c.args.held (owner_of c.args.span.now) _ _ c.args.time c.end_of-until.result _ _ (change at) (eq-eqb name name refl) (c.requires.taking.holds.1.times.of_names name) (length at)
 
 pub charge-requires-clause-busy : goal.charge-requires-clause-busy
 charge-requires-clause-busy c =
-    let is = c.requires.taking.holds.1 in
-    let few = time_of-le is_some (taken_to (owner_of c.args.span.now) c.args.time c.requires.taking.owners) in
-    omega (arith, is.times.of_all, few, c.distance.ensures.small)
+    let at = (goal.at.charge-requires-clause-busy c).After-distance in
+    rw (is_some-owner c.args.held) at (charged-small is_some c.args.held (owner_of c.args.span.now) _ _ c.args.time c.end_of-until.result _ _ (change at) refl c.requires.taking.holds.1.times.of_all (length at))
 
 pub charge-requires-clause-held : goal.charge-requires-clause-held
 charge-requires-clause-held c =
