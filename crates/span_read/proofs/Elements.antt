@@ -6,6 +6,7 @@ use Rattle.serde_json.specs.Events.{items_len}
 use Rattle.serde_json.specs.Find.{as_array, get_member}
 use Rattle.serde_json.proofs.Views.{get_member-put, get_member-put_other}
 use Rattle.span_event.specs.declared.item.Item.{Item}
+use Rattle.span_event.specs.declared.unit.Unit.{Unit}
 use Rattle.span_read.specs.declared.error.ReadError.TheVariants.{TooMany}
 use Rattle.span_read.specs.Document.{elements_of, items_of, doc_of_elements, most_items}
 use Rattle.span_read.specs.Element.{item_of_data}
@@ -15,25 +16,25 @@ items_len-items_before : (bs : List Data) (ds : Items) → items_len (items_befo
 items_len-items_before [] ds = omega arith
 items_len-items_before (b ∷ bs) ds = let more = items_len-items_before bs ds in omega arith
 
-items_of-items_before : (bs : List Data) → items_of (items_before bs no_items) ≡ map item_of_data bs
-items_of-items_before [] = refl
-items_of-items_before (b ∷ bs) = ap (λ is. item_of_data b ∷ is) (items_of-items_before bs)
+items_of-items_before : (unit : Unit) (bs : List Data) → items_of unit (items_before bs no_items) ≡ map (item_of_data unit) bs
+items_of-items_before unit [] = refl
+items_of-items_before unit (b ∷ bs) = ap (λ is. item_of_data unit b ∷ is) (items_of-items_before unit bs)
 
 -- the items of the elements so far, up to the limit, and whether there were more
-pub record AreCollected (too_many : Bool) (is : List Item) (ds : List Data) : Type 0 where
+pub record AreCollected (unit : Unit) (too_many : Bool) (is : List Item) (ds : List Data) : Type 0 where
   pub within : length is ≤ most_items
-  pub all : too_many ≡ false → map item_of_data ds ≡ is
+  pub all : too_many ≡ false → map (item_of_data unit) ds ≡ is
   pub over : too_many ≡ true → (length is ≡ most_items) × (most_items < length ds)
 
-pub AreCollected-push : (too_many : Bool) (is : List Item) (ds : List Data) (d : Data) → length is < most_items → AreCollected too_many is ds → AreCollected too_many (is ++ item_of_data d ∷ []) (ds ++ d ∷ [])
-AreCollected-push too_many is ds d few are = record {
-  within = omega (arith, length-append is (item_of_data d ∷ []));
-  all = λ h. map_push item_of_data ds d ∙ ap (λ is. is ++ item_of_data d ∷ []) (are.all h);
+pub AreCollected-push : (unit : Unit) (too_many : Bool) (is : List Item) (ds : List Data) (d : Data) → length is < most_items → AreCollected unit too_many is ds → AreCollected unit too_many (is ++ item_of_data unit d ∷ []) (ds ++ d ∷ [])
+AreCollected-push unit too_many is ds d few are = record {
+  within = omega (arith, length-append is (item_of_data unit d ∷ []));
+  all = λ h. map_push (item_of_data unit) ds d ∙ ap (λ is. is ++ item_of_data unit d ∷ []) (are.all h);
   over = λ h. absurd (omega (arith, (are.over h).0));
 }
 
-pub AreCollected-over : (too_many : Bool) (is : List Item) (ds : List Data) (d : Data) → most_items ≤ length is → AreCollected too_many is ds → AreCollected true is (ds ++ d ∷ [])
-AreCollected-over too_many is ds d full are = record {
+pub AreCollected-over : (unit : Unit) (too_many : Bool) (is : List Item) (ds : List Data) (d : Data) → most_items ≤ length is → AreCollected unit too_many is ds → AreCollected unit true is (ds ++ d ∷ [])
+AreCollected-over unit too_many is ds d full are = record {
   within = are.within;
   all = λ h. absurd cc;
   over = λ h. (omega (arith, are.within), omega (arith, length-append ds (d ∷ []), as_many too_many refl));
@@ -41,23 +42,23 @@ AreCollected-over too_many is ds d full are = record {
   where
     as_many : (b : Bool) → too_many ≡ b → most_items ≤ length ds
     as_many true h = omega (arith, (are.over h).1)
-    as_many false h = omega (arith, ap length (are.all h), length-map ds item_of_data)
+    as_many false h = omega (arith, ap length (are.all h), length-map ds (item_of_data unit))
 
-doc_of_elements-over : (too_many : Bool) (is : List Item) (ds : List Data) → AreCollected too_many is ds → too_many ≡ true → Err TooMany ≡ doc_of_elements (Some (items_before ds no_items))
-doc_of_elements-over too_many is ds are more =
+doc_of_elements-over : (unit : Unit) (too_many : Bool) (is : List Item) (ds : List Data) → AreCollected unit too_many is ds → too_many ≡ true → Err TooMany ≡ doc_of_elements unit (Some (items_before ds no_items))
+doc_of_elements-over unit too_many is ds are more =
     let over : most_items < items_len (items_before ds no_items) = omega (arith, items_len-items_before ds no_items, (are.over more).1) in
     search (rules, tests)
 
-doc_of_elements-all : (too_many : Bool) (is : List Item) (ds : List Data) → AreCollected too_many is ds → too_many ≡ false → doc_of_elements (Some (items_before ds no_items)) ≡ Ok is
-doc_of_elements-all too_many is ds are whole =
-    let within : items_len (items_before ds no_items) ≤ most_items = omega (arith, items_len-items_before ds no_items, are.within, ap length (are.all whole), length-map ds item_of_data) in
-    let kept : doc_of_elements (Some (items_before ds no_items)) ≡ Ok (items_of (items_before ds no_items)) = search (rules, tests) in
-    kept ∙ ap Ok (items_of-items_before ds ∙ are.all whole)
+doc_of_elements-all : (unit : Unit) (too_many : Bool) (is : List Item) (ds : List Data) → AreCollected unit too_many is ds → too_many ≡ false → doc_of_elements unit (Some (items_before ds no_items)) ≡ Ok is
+doc_of_elements-all unit too_many is ds are whole =
+    let within : items_len (items_before ds no_items) ≤ most_items = omega (arith, items_len-items_before ds no_items, are.within, ap length (are.all whole), length-map ds (item_of_data unit)) in
+    let kept : doc_of_elements unit (Some (items_before ds no_items)) ≡ Ok (items_of unit (items_before ds no_items)) = search (rules, tests) in
+    kept ∙ ap Ok (items_of-items_before unit ds ∙ are.all whole)
 
 -- what is found of the items, with the limit
-pub doc_of_elements-collected : (too_many : Bool) (is : List Item) (ds : List Data) → AreCollected too_many is ds → (if too_many then Err TooMany else Ok is) ≡ doc_of_elements (Some (items_before ds no_items))
-doc_of_elements-collected true is ds are = doc_of_elements-over true is ds are refl
-doc_of_elements-collected false is ds are = sym (doc_of_elements-all false is ds are refl)
+pub doc_of_elements-collected : (unit : Unit) (too_many : Bool) (is : List Item) (ds : List Data) → AreCollected unit too_many is ds → (if too_many then Err TooMany else Ok is) ≡ doc_of_elements unit (Some (items_before ds no_items))
+doc_of_elements-collected unit true is ds are = doc_of_elements-over unit true is ds are refl
+doc_of_elements-collected unit false is ds are = sym (doc_of_elements-all unit false is ds are refl)
 
 -- the last member of the name counts
 pub elements_of-put : (k : List ℕ) (d : Data) (ms : Members) → k ≡ codes "traceEvents" → elements_of (object (put k d ms)) ≡ as_array d

@@ -1,12 +1,12 @@
 -- Members without a fault give a good event, so each item of an element is good.
-use Rattle.std.proofs.Common.{◌≡◌, ℕ, ℤ, pos, negsuc, ◌≤◌, ◌≤ℤ◌, List, [], ◌∷◌, Bool, true, false, ◌&&◌, ◌||◌, Option, Some, None, IsSome, IfSome, ◌⊎◌, inl, inr, is_some, All, unwrap_or, option_map, option_and_then, codes, if◌then◌else◌, refl, sym, subst, ◌∙◌, arith}
+use Rattle.std.proofs.Common.{◌≡◌, ℕ, ℤ, pos, negsuc, neg_ℤ, ◌≤◌, ◌≤ℤ◌, List, [], ◌∷◌, Bool, true, false, ◌&&◌, ◌||◌, Option, Some, None, IsSome, IfSome, ◌⊎◌, inl, inr, is_some, All, unwrap_or, option_map, option_and_then, codes, if◌then◌else◌, refl, sym, subst, ◌∙◌, arith}
 use Rattle.std.specs.List.{AllByRecursion as ByRecursion}
 use Rattle.std.specs.Int.RustNames.{int_le}
 use Rattle.std.proofs.lemmas.Int.{ints}
 use Rattle.std.proofs.lemmas.List.Elements.{All-from_recursion}
 use Rattle.serde_json.specs.Data.{Data, null, boolean, number, string, array, object, Items, no_items, item}
 use Rattle.span_read.specs.declared.fields.FieldValue.{FieldValue}
-use Rattle.span_read.specs.declared.fields.FieldValue.TheVariants.{Plain, Pairs}
+use Rattle.span_read.specs.declared.fields.FieldValue.TheVariants.{Plain, Float, Pairs}
 use Rattle.span_event.specs.declared.args.ArgValue.{ArgValue}
 use Rattle.span_event.specs.declared.args.ArgValue.TheVariants.{Whole, Words, Flag, Nil, Other}
 use Rattle.span_event.specs.declared.event.Phase.{Phase}
@@ -17,15 +17,18 @@ use Rattle.span_event.specs.declared.item.Item.{Item}
 use Rattle.span_event.specs.declared.item.Item.TheVariants.{Good, Bad}
 use Rattle.span_event.specs.declared.item.ItemFault.{ItemFault}
 use Rattle.span_event.specs.declared.item.ItemFault.TheVariants.{NotWhole, BadField, NoId, BadReach, BadSeries}
-use Rattle.span_event.specs.Event.{IsTime, IsKnownAt, IsGood, IsGoodAt, least_time, greatest_time}
+use Rattle.span_event.specs.Event.{IsTime, IsKnownAt, IsGood, IsGoodAt, greatest_time}
 use Rattle.span_event.specs.Item.{IsGoodItem}
 use Rattle.span_read.specs.Phase.{reads_time, reads_duration, reads_id, needs_id, reads_reach, wants_whole_args, phase_of}
 use Rattle.span_read.specs.declared.fields.Fields.{Fields}
-use Rattle.span_read.specs.Fields.{fields_of, whole, words, pairs, is_time_from, whole_or_zero, duration_or_zero, id_text, parts_key, key_of, reach_of, args_of}
+use Rattle.span_read.specs.Fields.{fields_of, whole, words, pairs, whole_or_zero, id_text, parts_key, key_of, reach_of, args_of}
+use Rattle.span_read.specs.Time.{nanoseconds_of, time_in, within}
 use Rattle.span_event.specs.Args.{value_of, AllWhole, all_whole}
-use Rattle.span_read.specs.Element.{unless, where_read, time_fault, duration_fault, id_fault, first_fault, faults, fault_of, event_of, item_of_phase, item_of_letter, item_of_fields, item_of_data}
+use Rattle.span_read.specs.Element.{unless, where_read, time_fault, duration_fault, is_length, time_or_zero, duration_or_zero, id_fault, first_fault, faults, fault_of, event_of, item_of_phase, item_of_letter, item_of_fields, item_of_data}
 use Rattle.span_read.specs.Document.{items_of}
 use Rattle.span_event.specs.Time.{natural}
+use Rattle.span_event.specs.declared.unit.Unit.{Unit}
+use Rattle.span_event.specs.declared.unit.Unit.TheVariants.{Microseconds, Nanoseconds}
 
 -- ---- no fault in a list is no fault in each
 
@@ -44,33 +47,47 @@ holds false fault none = cc
 abbrev key_record : Option ℤ → List ℕ → IdKey
 key_record home id = record { home = home; id = id }
 
-within : (low high z : ℤ) → (int_le low z && int_le z high) ≡ true → (low ≤ℤ z) × (z ≤ℤ high)
-within low high z h = (grind (arith, ints), grind (arith, ints))
-
-time_of_number : (o : Option ℤ) → is_time_from least_time o ≡ true → IsTime (unwrap_or o (pos 0))
-time_of_number None right = cc
-time_of_number (Some z) right = within _ _ z right
-
 zero_time : IsTime (pos 0)
 zero_time = (omega (arith, ints), omega (arith, ints))
 
+-- a number is in range where a test says so
+within_is : (greatest : ℕ) (n z : ℤ) → within greatest n ≡ Some z → (neg_ℤ (pos greatest) ≤ℤ z) × (z ≤ℤ pos greatest)
+within_is greatest n z is = by_test (int_le (neg_ℤ (pos greatest)) n && int_le n (pos greatest)) refl is
+  where
+    by_test : (b : Bool) → (int_le (neg_ℤ (pos greatest)) n && int_le n (pos greatest)) ≡ b → (if b then Some n else None) ≡ Some z → (neg_ℤ (pos greatest) ≤ℤ z) × (z ≤ℤ pos greatest)
+    by_test true h same = let here : n ≡ z = cc in rw (← here) (grind (arith, ints), grind (arith, ints))
+    by_test false h none = cc
+
+in_range : (greatest : ℕ) (o : Option ℤ) (z : ℤ) → option_and_then (within greatest) o ≡ Some z → (neg_ℤ (pos greatest) ≤ℤ z) × (z ≤ℤ pos greatest)
+in_range greatest None z none = cc
+in_range greatest (Some n) z is = within_is greatest n z is
+
+-- a time in either unit is in the range of all times
+time_of_number : (unit : Unit) (v : FieldValue) (z : ℤ) → time_in unit v ≡ Some z → IsTime z
+time_of_number Microseconds v z is = let here = in_range 9007199254740991 (whole v) z is in (omega (arith, ints, here), omega (arith, ints, here))
+time_of_number Nanoseconds v z is = let here = in_range greatest_time (nanoseconds_of v) z is in (omega (arith, ints, here), omega (arith, ints, here))
+
 -- the time of an event, where it is read, is in range; else it is 0
-time_at : (read : Bool) (f : Option FieldValue) → where_read read (time_fault f) ≡ None → IsTime (if read then whole_or_zero f else pos 0)
-time_at false f none = zero_time
-time_at true None none = cc
-time_at true (Some v) none = time_of_number (whole v) (holds _ NotWhole none)
+time_at : (unit : Unit) (read : Bool) (f : Option FieldValue) → where_read read (time_fault unit f) ≡ None → IsTime (if read then time_or_zero unit f else pos 0)
+time_at unit false f none = zero_time
+time_at unit true None none = cc
+time_at unit true (Some v) none = by (time_in unit v) refl (holds _ NotWhole none)
+  where
+    by : (o : Option ℤ) → time_in unit v ≡ o → is_some o ≡ true → IsTime (unwrap_or o (pos 0))
+    by None is right = cc
+    by (Some z) is right = time_of_number unit v z is
 
 natural-within : (z : ℤ) → z ≤ℤ pos greatest_time → natural z ≤ greatest_time
 natural-within (pos n) below = omega (arith, ints)
 natural-within (negsuc n) below = omega arith
 
-duration_of_number : (o : Option ℤ) → is_time_from (pos 0) o ≡ true → natural (unwrap_or o (pos 0)) ≤ greatest_time
-duration_of_number None right = cc
-duration_of_number (Some z) right = natural-within z (within (pos 0) (pos greatest_time) z right).1
-
-duration_at : (f : Option FieldValue) → duration_fault f ≡ None → duration_or_zero f ≤ greatest_time
-duration_at None none = cc
-duration_at (Some v) none = duration_of_number (whole v) (holds _ NotWhole none)
+duration_at : (unit : Unit) (f : Option FieldValue) → duration_fault unit f ≡ None → duration_or_zero unit f ≤ greatest_time
+duration_at unit None none = cc
+duration_at unit (Some v) none = by (time_in unit v) refl (holds _ NotWhole none)
+  where
+    by : (o : Option ℤ) → time_in unit v ≡ o → is_length o ≡ true → natural (unwrap_or o (pos 0)) ≤ greatest_time
+    by None is right = cc
+    by (Some z) is right = natural-within z (time_of_number unit v z is).1
 
 -- whether there is a key doesn't turn on the process
 same_home : (home other : Option ℤ) (t : Option (List ℕ)) → is_some (option_map (key_record home) t) ≡ is_some (option_map (key_record other) t)
@@ -84,12 +101,14 @@ is_some-parts_key pid None None = refl
 
 pub is_some-key_of : (pid : ℤ) (id id2 : Option FieldValue) → is_some (key_of pid id id2) ≡ is_some (key_of (pos 0) id id2)
 is_some-key_of pid (Some (Plain v)) id2 = refl
+is_some-key_of pid (Some (Float x)) id2 = refl
 is_some-key_of pid (Some (Pairs ps)) id2 = refl
 is_some-key_of pid None (Some v) = is_some-parts_key pid (value_of (codes "global") (pairs v)) (value_of (codes "local") (pairs v))
 is_some-key_of pid None None = refl
 
 key_at_zero : (id id2 : Option FieldValue) → id_fault id id2 ≡ None → unless (is_some id || is_some id2) NoId ≡ None → is_some (key_of (pos 0) id id2) ≡ true
 key_at_zero (Some (Plain v)) id2 right there = holds _ (BadField Id) right
+key_at_zero (Some (Float x)) id2 right there = holds _ (BadField Id) right
 key_at_zero (Some (Pairs ps)) id2 right there = holds _ (BadField Id) right
 key_at_zero None (Some v) right there = holds _ (BadField Id) right
 key_at_zero None None right there = cc
@@ -110,6 +129,7 @@ home_of_parts pid None None = tt
 
 home_of_key : (pid : ℤ) (id id2 : Option FieldValue) → IfSome (key_of pid id id2) (IsKnownAt pid)
 home_of_key pid (Some (Plain v)) id2 = home_of_text None (id_text v) pid (inl refl)
+home_of_key pid (Some (Float x)) id2 = tt
 home_of_key pid (Some (Pairs ps)) id2 = tt
 home_of_key pid None (Some v) = home_of_parts pid (value_of (codes "global") (pairs v)) (value_of (codes "local") (pairs v))
 home_of_key pid None None = tt
@@ -129,65 +149,65 @@ AllWhole-from_test ((name, Other) ∷ ps) right = cc
 -- ---- phase by phase
 
 -- what the absence of each fault says of an event
-record NoFaults (phase : Phase) (f : Fields) : Type 0 where
-  no_time : where_read (reads_time phase) (time_fault f.ts) ≡ None
-  no_duration : where_read (reads_duration phase) (duration_fault f.dur) ≡ None
+record NoFaults (unit : Unit) (phase : Phase) (f : Fields) : Type 0 where
+  no_time : where_read (reads_time phase) (time_fault unit f.ts) ≡ None
+  no_duration : where_read (reads_duration phase) (duration_fault unit f.dur) ≡ None
   no_id : where_read (reads_id phase) (id_fault f.id f.id2) ≡ None
   no_lack : where_read (needs_id phase) (unless (is_some f.id || is_some f.id2) NoId) ≡ None
   no_reach : where_read (reads_reach phase) (unless (is_some (reach_of f.s)) BadReach) ≡ None
   no_series : where_read (wants_whole_args phase) (unless (all_whole (args_of f.args)) BadSeries) ≡ None
 
-no_faults : (phase : Phase) (f : Fields) → fault_of phase f ≡ None → NoFaults phase f
-no_faults phase f none =
-    let each = all_none (faults phase f) none in
+no_faults : (unit : Unit) (phase : Phase) (f : Fields) → fault_of unit phase f ≡ None → NoFaults unit phase f
+no_faults unit phase f none =
+    let each = all_none (faults unit phase f) none in
     let from_id = each.1.1.1.1.1.1 in
     record { no_time = each.0; no_duration = each.1.0; no_id = from_id.0; no_lack = from_id.1.1.0; no_reach = from_id.1.1.1.0; no_series = from_id.1.1.1.1.0 }
 
-good_at : (phase : Phase) (f : Fields) → NoFaults phase f → IsGoodAt phase (event_of phase f)
-good_at SpanBegin f none = (refl, refl, refl, refl)
-good_at SpanEnd f none = (refl, refl, refl, refl)
-good_at Complete f none = (duration_at f.dur none.no_duration, refl, refl, refl)
-good_at AsyncBegin f none = (refl, key_there _ _ _ none.no_id none.no_lack, refl)
-good_at AsyncPoint f none = (refl, key_there _ _ _ none.no_id none.no_lack, refl)
-good_at AsyncEnd f none = (refl, key_there _ _ _ none.no_id none.no_lack, refl)
-good_at FlowStart f none = (refl, key_there _ _ _ none.no_id none.no_lack, refl, refl)
-good_at FlowStep f none = (refl, key_there _ _ _ none.no_id none.no_lack, refl, refl)
-good_at FlowEnd f none = (refl, key_there _ _ _ none.no_id none.no_lack, refl, refl)
-good_at Counter f none = (refl, refl, refl, AllWhole-from_test (args_of f.args) (holds _ BadSeries none.no_series))
-good_at Instant f none = (refl, refl, refl, holds _ BadReach none.no_reach)
-good_at Meta f none = (refl, refl, refl, refl, refl)
+good_at : (unit : Unit) (phase : Phase) (f : Fields) → NoFaults unit phase f → IsGoodAt phase (event_of unit phase f)
+good_at unit SpanBegin f none = (refl, refl, refl, refl)
+good_at unit SpanEnd f none = (refl, refl, refl, refl)
+good_at unit Complete f none = (duration_at unit f.dur none.no_duration, refl, refl, refl)
+good_at unit AsyncBegin f none = (refl, key_there _ _ _ none.no_id none.no_lack, refl)
+good_at unit AsyncPoint f none = (refl, key_there _ _ _ none.no_id none.no_lack, refl)
+good_at unit AsyncEnd f none = (refl, key_there _ _ _ none.no_id none.no_lack, refl)
+good_at unit FlowStart f none = (refl, key_there _ _ _ none.no_id none.no_lack, refl, refl)
+good_at unit FlowStep f none = (refl, key_there _ _ _ none.no_id none.no_lack, refl, refl)
+good_at unit FlowEnd f none = (refl, key_there _ _ _ none.no_id none.no_lack, refl, refl)
+good_at unit Counter f none = (refl, refl, refl, AllWhole-from_test (args_of f.args) (holds _ BadSeries none.no_series))
+good_at unit Instant f none = (refl, refl, refl, holds _ BadReach none.no_reach)
+good_at unit Meta f none = (refl, refl, refl, refl, refl)
 
-IsGood-event_of : (phase : Phase) (f : Fields) → NoFaults phase f → IsGood (event_of phase f)
-IsGood-event_of phase f none = record { in_time = time_at (reads_time phase) f.ts none.no_time; by_home = home_at (reads_id phase) (whole_or_zero f.pid) f.id f.id2; by_phase = good_at phase f none }
+IsGood-event_of : (unit : Unit) (phase : Phase) (f : Fields) → NoFaults unit phase f → IsGood (event_of unit phase f)
+IsGood-event_of unit phase f none = record { in_time = time_at unit (reads_time phase) f.ts none.no_time; by_home = home_at (reads_id phase) (whole_or_zero f.pid) f.id f.id2; by_phase = good_at unit phase f none }
 
 -- ---- the items
 
-good_item_at : (phase : Phase) (f : Fields) (fault : Option ItemFault) → fault_of phase f ≡ fault → IsGoodItem (unwrap_or (option_map Bad fault) (Good (event_of phase f)))
-good_item_at phase f None is = IsGood-event_of phase f (no_faults phase f is)
-good_item_at phase f (Some fault) is = tt
+good_item_at : (unit : Unit) (phase : Phase) (f : Fields) (fault : Option ItemFault) → fault_of unit phase f ≡ fault → IsGoodItem (unwrap_or (option_map Bad fault) (Good (event_of unit phase f)))
+good_item_at unit phase f None is = IsGood-event_of unit phase f (no_faults unit phase f is)
+good_item_at unit phase f (Some fault) is = tt
 
-good_item_of_phase : (f : Fields) (phase : Option Phase) → IsGoodItem (item_of_phase f phase)
-good_item_of_phase f None = tt
-good_item_of_phase f (Some phase) = good_item_at phase f _ refl
+good_item_of_phase : (unit : Unit) (f : Fields) (phase : Option Phase) → IsGoodItem (item_of_phase unit f phase)
+good_item_of_phase unit f None = tt
+good_item_of_phase unit f (Some phase) = good_item_at unit phase f _ refl
 
-good_item_of_letter : (f : Fields) (letter : Option (List ℕ)) → IsGoodItem (item_of_letter f letter)
-good_item_of_letter f None = tt
-good_item_of_letter f (Some letter) = good_item_of_phase f (phase_of letter)
+good_item_of_letter : (unit : Unit) (f : Fields) (letter : Option (List ℕ)) → IsGoodItem (item_of_letter unit f letter)
+good_item_of_letter unit f None = tt
+good_item_of_letter unit f (Some letter) = good_item_of_phase unit f (phase_of letter)
 
-pub IsGoodItem-item_of_fields : (f : Fields) → IsGoodItem (item_of_fields f)
-IsGoodItem-item_of_fields f = good_item_of_letter f (option_and_then words f.ph)
+pub IsGoodItem-item_of_fields : (unit : Unit) (f : Fields) → IsGoodItem (item_of_fields unit f)
+IsGoodItem-item_of_fields unit f = good_item_of_letter unit f (option_and_then words f.ph)
 
-pub IsGoodItem-item_of_data : (d : Data) → IsGoodItem (item_of_data d)
-IsGoodItem-item_of_data (object ms) = IsGoodItem-item_of_fields (fields_of ms)
-IsGoodItem-item_of_data null = tt
-IsGoodItem-item_of_data (boolean b) = tt
-IsGoodItem-item_of_data (number n) = tt
-IsGoodItem-item_of_data (string s) = tt
-IsGoodItem-item_of_data (array ds) = tt
+pub IsGoodItem-item_of_data : (unit : Unit) (d : Data) → IsGoodItem (item_of_data unit d)
+IsGoodItem-item_of_data unit (object ms) = IsGoodItem-item_of_fields unit (fields_of ms)
+IsGoodItem-item_of_data unit null = tt
+IsGoodItem-item_of_data unit (boolean b) = tt
+IsGoodItem-item_of_data unit (number n) = tt
+IsGoodItem-item_of_data unit (string s) = tt
+IsGoodItem-item_of_data unit (array ds) = tt
 
-are_good : (ds : Items) → ByRecursion IsGoodItem (items_of ds)
-are_good no_items = tt
-are_good (item d ds) = (IsGoodItem-item_of_data d, are_good ds)
+are_good : (unit : Unit) (ds : Items) → ByRecursion IsGoodItem (items_of unit ds)
+are_good unit no_items = tt
+are_good unit (item d ds) = (IsGoodItem-item_of_data unit d, are_good unit ds)
 
-pub All-good_items_of : (ds : Items) (items : List Item) → items ≡ items_of ds → All IsGoodItem items
-All-good_items_of ds items is = All-from_recursion IsGoodItem items (subst (ByRecursion IsGoodItem) (sym is) (are_good ds))
+pub All-good_items_of : (unit : Unit) (ds : Items) (items : List Item) → items ≡ items_of unit ds → All IsGoodItem items
+All-good_items_of unit ds items is = All-from_recursion IsGoodItem items (subst (ByRecursion IsGoodItem) (sym is) (are_good unit ds))

@@ -3,11 +3,13 @@ pub mod Bracket
 pub mod Documents
 pub mod Elements
 pub mod Ends
+pub mod FloatBits
 pub mod Good
 pub mod Grammar
 pub mod LastByte
 pub mod Leaves
 pub mod NameOrder
 pub mod Slots
+pub mod Times
 pub mod Turns
 pub mod Unclosed

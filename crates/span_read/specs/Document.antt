@@ -8,6 +8,7 @@ use Rattle.serde_json.specs.Events.{items_len}
 use Rattle.serde_json.specs.Find.{get_member, as_array}
 use Rattle.serde_json.specs.Read.{read}
 use Rattle.span_event.specs.declared.item.Item.{Item}
+use Rattle.span_event.specs.declared.unit.Unit.{Unit}
 use Rattle.span_read.specs.declared.error.ReadError.{ReadError}
 use Rattle.span_read.specs.declared.error.ReadError.TheVariants.{TooLarge, NotJson, NotTrace, TooMany}
 use Rattle.span_read.specs.Element.{item_of_data}
@@ -58,18 +59,18 @@ elements_of (array ds) = Some ds
 elements_of (object ms) = option_and_then as_array (get_member (codes "traceEvents") ms)
 elements_of _ = None
 
-abbrev pub items_of : Items → List Item
-items_of no_items = []
-items_of (item d ds) = item_of_data d ∷ items_of ds
+abbrev pub items_of : Unit → Items → List Item
+items_of unit no_items = []
+items_of unit (item d ds) = item_of_data unit d ∷ items_of unit ds
 
-abbrev pub doc_of_elements : Option Items → Result (List Item) ReadError
-doc_of_elements None = Err NotTrace
-doc_of_elements (Some ds) = if nat_lt most_items (items_len ds) then Err TooMany else Ok (items_of ds)
+abbrev pub doc_of_elements : Unit → Option Items → Result (List Item) ReadError
+doc_of_elements unit None = Err NotTrace
+doc_of_elements unit (Some ds) = if nat_lt most_items (items_len ds) then Err TooMany else Ok (items_of unit ds)
 
-abbrev pub doc_of_document : Option Data → Result (List Item) ReadError
-doc_of_document None = Err NotJson
-doc_of_document (Some d) = doc_of_elements (elements_of d)
+abbrev pub doc_of_document : Unit → Option Data → Result (List Item) ReadError
+doc_of_document unit None = Err NotJson
+doc_of_document unit (Some d) = doc_of_elements unit (elements_of d)
 
--- the items of a file's bytes, or the first reason why it is refused
-abbrev pub doc : List ℕ → Result (List Item) ReadError
-doc bytes = if nat_lt most_bytes (length bytes) then Err TooLarge else doc_of_document (document bytes)
+-- the items of a file's bytes in a run of that unit, or the first reason why the file is refused
+abbrev pub doc : Unit → List ℕ → Result (List Item) ReadError
+doc unit bytes = if nat_lt most_bytes (length bytes) then Err TooLarge else doc_of_document unit (document bytes)

@@ -1,6 +1,7 @@
 -- What one element of a trace is: a good event, its first fault, or an event of a phase that is not used.
-use Rattle.std.specs.Prelude.{ℕ, pos, List, [], ◌∷◌, ◌||◌, Bool, true, false, Option, Some, None, is_some, option_map, option_and_then, unwrap_or, if◌then◌else◌}
+use Rattle.std.specs.Prelude.{ℕ, ℤ, pos, List, [], ◌∷◌, ◌||◌, Bool, true, false, Option, Some, None, is_some, option_map, option_and_then, unwrap_or, if◌then◌else◌}
 use Rattle.std.specs.Option.{option_or}
+use Rattle.std.specs.Int.RustNames.{int_le}
 use Rattle.serde_json.specs.Data.{Data, object}
 use Rattle.span_event.specs.declared.event.Event.{Event}
 use Rattle.span_event.specs.declared.event.Phase.{Phase}
@@ -13,9 +14,11 @@ use Rattle.span_event.specs.declared.item.ItemFault.{ItemFault}
 use Rattle.span_event.specs.declared.item.ItemFault.TheVariants.{NotObject, NoPhase, NoTime, NotWhole, NoDuration, BadField, NoId, BadReach, BadSeries}
 use Rattle.span_read.specs.Phase.{phase_of, reads_time, reads_duration, needs_id, reads_id, reads_scope, reads_reach, wants_whole_args}
 use Rattle.span_read.specs.declared.fields.Fields.{Fields}
-use Rattle.span_read.specs.Fields.{fields_of, whole, words, is_time_from, whole_or_zero, text_or_empty, duration_or_zero, key_of, reach_of, args_of}
+use Rattle.span_read.specs.Fields.{fields_of, whole, words, whole_or_zero, text_or_empty, key_of, reach_of, args_of}
+use Rattle.span_read.specs.Time.{time_in}
 use Rattle.span_event.specs.Args.{all_whole}
-use Rattle.span_event.specs.Event.{least_time}
+use Rattle.span_event.specs.Time.{natural}
+use Rattle.span_event.specs.declared.unit.Unit.{Unit}
 
 -- the fault where the test fails
 abbrev pub unless : Bool → ItemFault → Option ItemFault
@@ -27,13 +30,25 @@ abbrev pub where_read : Bool → Option ItemFault → Option ItemFault
 where_read true fault = fault
 where_read false fault = None
 
-abbrev pub time_fault : Option FieldValue → Option ItemFault
-time_fault None = Some NoTime
-time_fault (Some v) = unless (is_time_from least_time (whole v)) NotWhole
+abbrev pub time_fault : Unit → Option FieldValue → Option ItemFault
+time_fault unit None = Some NoTime
+time_fault unit (Some v) = unless (is_some (time_in unit v)) NotWhole
 
-abbrev pub duration_fault : Option FieldValue → Option ItemFault
-duration_fault None = Some NoDuration
-duration_fault (Some v) = unless (is_time_from (pos 0) (whole v)) NotWhole
+-- a length is there, and not negative
+abbrev pub is_length : Option ℤ → Bool
+is_length None = false
+is_length (Some z) = int_le (pos 0) z
+
+abbrev pub duration_fault : Unit → Option FieldValue → Option ItemFault
+duration_fault unit None = Some NoDuration
+duration_fault unit (Some v) = unless (is_length (time_in unit v)) NotWhole
+
+abbrev pub time_or_zero : Unit → Option FieldValue → ℤ
+time_or_zero unit f = unwrap_or (option_and_then (time_in unit) f) (pos 0)
+
+-- a duration is never negative
+abbrev pub duration_or_zero : Unit → Option FieldValue → ℕ
+duration_or_zero unit f = natural (time_or_zero unit f)
 
 -- a missing `pid` or `tid` is 0
 abbrev pub whole_fault : Field → Option FieldValue → Option ItemFault
@@ -56,10 +71,10 @@ first_fault [] = None
 first_fault (f ∷ fs) = option_or f (first_fault fs)
 
 -- what may be wrong with an event's fields, in the order in which they are looked at
-abbrev pub faults : Phase → Fields → List (Option ItemFault)
-faults phase f =
-    where_read (reads_time phase) (time_fault f.ts)
-    ∷ where_read (reads_duration phase) (duration_fault f.dur)
+abbrev pub faults : Unit → Phase → Fields → List (Option ItemFault)
+faults unit phase f =
+    where_read (reads_time phase) (time_fault unit f.ts)
+    ∷ where_read (reads_duration phase) (duration_fault unit f.dur)
     ∷ whole_fault Pid f.pid
     ∷ whole_fault Tid f.tid
     ∷ text_fault Name f.name
@@ -72,17 +87,17 @@ faults phase f =
     ∷ []
 
 -- the first fault of an event's fields
-abbrev pub fault_of : Phase → Fields → Option ItemFault
-fault_of phase f = first_fault (faults phase f)
+abbrev pub fault_of : Unit → Phase → Fields → Option ItemFault
+fault_of unit phase f = first_fault (faults unit phase f)
 
 -- the event that fields without a fault give
-abbrev pub event_of : Phase → Fields → Event
-event_of phase f = record {
+abbrev pub event_of : Unit → Phase → Fields → Event
+event_of unit phase f = record {
   phase = phase;
   name = text_or_empty f.name;
   cat = text_or_empty f.cat;
-  ts = if reads_time phase then whole_or_zero f.ts else pos 0;
-  dur = if reads_duration phase then duration_or_zero f.dur else 0;
+  ts = if reads_time phase then time_or_zero unit f.ts else pos 0;
+  dur = if reads_duration phase then duration_or_zero unit f.dur else 0;
   pid = whole_or_zero f.pid;
   tid = whole_or_zero f.tid;
   key = if reads_id phase then key_of (whole_or_zero f.pid) f.id f.id2 else None;
@@ -92,19 +107,19 @@ event_of phase f = record {
 }
 
 -- the item of an event's fields at their phase, if that is one that is used
-abbrev pub item_of_phase : Fields → Option Phase → Item
-item_of_phase f None = Other
-item_of_phase f (Some phase) = unwrap_or (option_map Bad (fault_of phase f)) (Good (event_of phase f))
+abbrev pub item_of_phase : Unit → Fields → Option Phase → Item
+item_of_phase unit f None = Other
+item_of_phase unit f (Some phase) = unwrap_or (option_map Bad (fault_of unit phase f)) (Good (event_of unit phase f))
 
 -- the item of an object whose `ph` is that text, if it is one
-abbrev pub item_of_letter : Fields → Option (List ℕ) → Item
-item_of_letter f None = Bad NoPhase
-item_of_letter f (Some letter) = item_of_phase f (phase_of letter)
+abbrev pub item_of_letter : Unit → Fields → Option (List ℕ) → Item
+item_of_letter unit f None = Bad NoPhase
+item_of_letter unit f (Some letter) = item_of_phase unit f (phase_of letter)
 
-abbrev pub item_of_fields : Fields → Item
-item_of_fields f = item_of_letter f (option_and_then words f.ph)
+abbrev pub item_of_fields : Unit → Fields → Item
+item_of_fields unit f = item_of_letter unit f (option_and_then words f.ph)
 
--- the item of an element
-abbrev pub item_of_data : Data → Item
-item_of_data (object ms) = item_of_fields (fields_of ms)
-item_of_data _ = Bad NotObject
+-- the item of an element, in a run of that unit
+abbrev pub item_of_data : Unit → Data → Item
+item_of_data unit (object ms) = item_of_fields unit (fields_of ms)
+item_of_data unit _ = Bad NotObject

@@ -1,10 +1,9 @@
 -- The fields of an event, each as a member of the element's object gives it. A member that is null is there.
-use Rattle.std.specs.Prelude.{ℕ, ℤ, pos, ◌&&◌, List, [], ◌∷◌, Bool, false, Option, Some, None, option_map, option_and_then, unwrap_or, codes}
+use Rattle.std.specs.Prelude.{ℤ, pos, List, [], ◌∷◌, Option, Some, None, option_map, option_and_then, unwrap_or, codes}
 use Rattle.std.specs.Option.{option_or}
-use Rattle.std.specs.Int.RustNames.{int_le}
 use Rattle.std.specs.Fmt.{signed_decimal}
 use Rattle.std.specs.Map.{lookup}
-use Rattle.serde_json.specs.Data.{Data, null, boolean, number, string, object, Members, no_members, member}
+use Rattle.serde_json.specs.Data.{Data, null, boolean, number, float, string, object, Members, no_members, member}
 use Rattle.serde_json.specs.Find.{get_member, as_i64}
 use Rattle.span_event.specs.declared.args.ArgValue.{ArgValue}
 use Rattle.span_event.specs.declared.args.ArgValue.TheVariants.{Whole, Words, Flag, Nil, Other}
@@ -13,11 +12,9 @@ use Rattle.span_event.specs.declared.event.Reach.{Reach}
 use Rattle.span_event.specs.declared.event.Reach.TheVariants.{Global, Process, Thread}
 use Rattle.span_read.specs.declared.fields.Fields.{Fields}
 use Rattle.span_read.specs.declared.fields.FieldValue.{FieldValue}
-use Rattle.span_read.specs.declared.fields.FieldValue.TheVariants.{Plain, Pairs}
+use Rattle.span_read.specs.declared.fields.FieldValue.TheVariants.{Plain, Float, Pairs}
 use Rattle.span_event.specs.Args.{Arguments, as_text, as_whole, value_of}
-use Rattle.span_event.specs.Event.{greatest_time}
 use Rattle.span_event.specs.Text.{Bytes, same_text}
-use Rattle.span_event.specs.Time.{natural}
 
 -- a value by its kind; a number is whole if it fits 64 bits with its sign, and `1.0`, `1e3` and `-0` are not whole
 abbrev pub arg_value : Data → ArgValue
@@ -31,9 +28,10 @@ abbrev pub pairs_of : Members → Arguments
 pairs_of no_members = []
 pairs_of (member name d ms) = (name, arg_value d) ∷ pairs_of ms
 
--- of an object its members are read, by their kinds
+-- of an object its members are read, by their kinds, and of a number with a point or an exponent its value
 abbrev pub field_value : Data → FieldValue
 field_value (object ms) = Pairs (pairs_of ms)
+field_value (number (float x)) = Float x
 field_value d = Plain (arg_value d)
 
 abbrev pub field_at : Bytes → Members → Option FieldValue
@@ -59,31 +57,22 @@ fields_of ms = record {
 -- the number or the text that a field is
 abbrev pub whole : FieldValue → Option ℤ
 whole (Plain v) = as_whole v
-whole (Pairs ps) = None
+whole _ = None
 
 abbrev pub words : FieldValue → Option Bytes
 words (Plain v) = as_text v
-words (Pairs ps) = None
+words _ = None
 
 -- what is no object has no members
 abbrev pub pairs : FieldValue → Arguments
-pairs (Plain v) = []
 pairs (Pairs ps) = ps
+pairs _ = []
 
 abbrev pub whole_or_zero : Option FieldValue → ℤ
 whole_or_zero f = unwrap_or (option_and_then whole f) (pos 0)
 
 abbrev pub text_or_empty : Option FieldValue → Bytes
 text_or_empty f = unwrap_or (option_and_then words f) []
-
--- a duration is never negative
-abbrev pub duration_or_zero : Option FieldValue → ℕ
-duration_or_zero f = natural (whole_or_zero f)
-
--- a whole number that is this one or more, and not above the greatest time
-abbrev pub is_time_from : ℤ → Option ℤ → Bool
-is_time_from least None = false
-is_time_from least (Some z) = int_le least z && int_le z (pos greatest_time)
 
 -- an id is a text, or a whole number, which is read as its decimal text
 abbrev pub id_text : ArgValue → Option Bytes
@@ -99,10 +88,10 @@ parts_key pid (Some global) local = key_with None global
 parts_key pid None (Some local) = key_with (Some pid) local
 parts_key pid None None = None
 
--- the key that `id` gives, which must be no object, or else `id2`
+-- the key that `id` gives, which must be a text or a whole number, or else `id2`
 abbrev pub key_of : ℤ → Option FieldValue → Option FieldValue → Option IdKey
 key_of pid (Some (Plain v)) id2 = key_with None v
-key_of pid (Some (Pairs ps)) id2 = None
+key_of pid (Some _) id2 = None
 key_of pid None (Some id2) = parts_key pid (value_of (codes "global") (pairs id2)) (value_of (codes "local") (pairs id2))
 key_of pid None None = None
 

@@ -8,4 +8,5 @@ pub mod Phase
 pub mod ReadError
 pub mod Refusal
 pub mod Slots
+pub mod Time
 pub mod Tokens

@@ -4,18 +4,19 @@ use Rattle.json.specs.Token.{Token}
 use Rattle.json.specs.Json.{value, items, members, parse_map, if_last}
 use Rattle.serde_json.specs.Data.{Data, array, object, Items, item, Members, no_members}
 use Rattle.serde_json.specs.Read.{of_json, of_items, of_members, converted}
-use Rattle.span_event.specs.declared.args.ArgValue.{ArgValue}
 use Rattle.span_event.specs.declared.args.ArgValue.TheVariants as arg
 use Rattle.span_read.specs.declared.document.End.{End}
 use Rattle.span_read.specs.declared.document.End.TheVariants as end
 use Rattle.span_read.specs.declared.tokens.head.Head.{Head}
-use Rattle.span_read.specs.declared.tokens.head.Head.TheVariants.{Object, Array, Words, Whole, Flag, Nil, Other}
+use Rattle.span_read.specs.declared.tokens.head.Head.TheVariants.{Object, Array, Words, Whole, Float, Flag, Nil, Other}
 use Rattle.span_read.specs.declared.tokens.number.Number.{Number}
 use Rattle.span_read.specs.declared.tokens.number.Number.TheVariants as number
 use Rattle.span_read.specs.declared.error.stop.Stop.{Stop}
 use Rattle.span_read.specs.declared.error.stop.Stop.TheVariants.{NotJson}
 use Rattle.span_read.specs.Ending.{with_bracket}
-use Rattle.span_read.specs.Fields.{arg_value}
+use Rattle.span_read.specs.declared.fields.FieldValue.{FieldValue}
+use Rattle.span_read.specs.declared.fields.FieldValue.TheVariants as field
+use Rattle.span_read.specs.Fields.{field_value}
 
 -- the data of the value that the tokens begin with, and the tokens after it
 abbrev pub data_at : ℕ → List Token → Option (Data × List Token)
@@ -52,26 +53,28 @@ is_leaf (object ms) = false
 is_leaf _ = true
 
 -- a leaf of that value was taken, however deep it stands
-pub record TakesLeaf (v : ArgValue) (old new : List Token) : Type 0 where
+pub record TakesLeaf (v : FieldValue) (old new : List Token) : Type 0 where
   pub found : Data
   pub reads : (depth : ℕ) → data_at depth old ≡ Some (found, new)
   pub leaf : is_leaf found ≡ true
-  pub kind : arg_value found ≡ v
+  pub kind : field_value found ≡ v
 
 -- the beginning of a value was taken
 abbrev pub TakesHead : Head → List Token → List Token → Type 0
 TakesHead Object old new = old ≡ Token.begin_object ∷ new
 TakesHead Array old new = old ≡ Token.begin_array ∷ new
-TakesHead (Words s) old new = TakesLeaf (arg.Words s.now) old new
-TakesHead (Whole n) old new = TakesLeaf (arg.Whole n) old new
-TakesHead (Flag b) old new = TakesLeaf (arg.Flag b) old new
-TakesHead Nil old new = TakesLeaf arg.Nil old new
-TakesHead Other old new = TakesLeaf arg.Other old new
+TakesHead (Words s) old new = TakesLeaf (field.Plain (arg.Words s.now)) old new
+TakesHead (Whole n) old new = TakesLeaf (field.Plain (arg.Whole n)) old new
+TakesHead (Float x) old new = TakesLeaf (field.Float x) old new
+TakesHead (Flag b) old new = TakesLeaf (field.Plain (arg.Flag b)) old new
+TakesHead Nil old new = TakesLeaf (field.Plain arg.Nil) old new
+TakesHead Other old new = TakesLeaf (field.Plain arg.Other) old new
 
 -- what a number is read as; nothing where it is too large for a float
-abbrev pub kind_of : Number → Option ArgValue
-kind_of (number.Whole n) = Some (arg.Whole n)
-kind_of number.Other = Some arg.Other
+abbrev pub kind_of : Number → Option FieldValue
+kind_of (number.Whole n) = Some (field.Plain (arg.Whole n))
+kind_of (number.Float x) = Some (field.Float x)
+kind_of number.Other = Some (field.Plain arg.Other)
 kind_of number.TooLarge = None
 
 -- ---- loops

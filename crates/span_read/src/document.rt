@@ -8,7 +8,7 @@ ghost use Rattle.span_read.specs.Document.{elements_of, doc_of_elements, doc_of_
 ghost use Rattle.span_read.specs.Element.{item_of_data};
 ghost use Rattle.span_read.specs.declared.error.ReadError.TheVariants.{TooMany};
 ghost use Rattle.span_read.specs.Ending.{ended, with_bracket};
-ghost use Rattle.span_read.specs.Tokens.{data_at, data_of_all, TakesValue, TakesArray, TakesElements, IsNotJson};
+ghost use Rattle.span_read.specs.Tokens.{data_at, data_of_all, TakesValue, TakesArray, TakesObject, TakesElements, IsNotJson};
 
 use crate::element::item_of_fields;
 use crate::error::ReadError;
@@ -16,11 +16,10 @@ use crate::error::stop::Stop;
 use crate::fields::Fields;
 use crate::tokens::Tokens;
 use crate::tokens::head::{Head, head_of, next_head};
-use crate::tokens::kept::{KeptMembers, read_members, read_object};
+use crate::tokens::kept::read_members;
 use crate::tokens::pass::{pass_array, pass_begun, pass_object, pass_value};
 use json::{Invalid, Token};
-use span_event::{Item, ItemFault, Items};
-use std::alloc::Global;
+use span_event::{Item, ItemFault, Items, Unit};
 
 const MOST_ITEMS: usize = 4_194_304;
 
@@ -28,24 +27,29 @@ const MOST_ITEMS: usize = 4_194_304;
 pub(crate) type Found = Result<Items, ReadError>;
 
 /// Reads the document that all the tokens are, or that they are with a closing bracket behind them.
-pub(crate) fn read_all(tokens: &mut Tokens<'_>, depth: usize, bracket: bool) -> Result<Found, Stop>
+pub(crate) fn read_all(
+    tokens: &mut Tokens<'_>,
+    unit: Unit,
+    depth: usize,
+    bracket: bool,
+) -> Result<Found, Stop>
     ensures found { IfOk result (λ found.
-        found ≡ doc_of_document (data_of_all depth (ended bracket tokens.old.reader))) }
+        found ≡ doc_of_document unit (data_of_all depth (ended bracket tokens.old.reader))) }
     ensures refused { IsNotJson result → data_of_all depth (ended bracket tokens.old.reader) ≡ None }
 {
     if bracket {
-        read_unclosed(tokens, depth)
+        read_unclosed(tokens, unit, depth)
     } else {
-        read_whole(tokens, depth)
+        read_whole(tokens, unit, depth)
     }
 }
 
 /// The document that all the tokens are.
-fn read_whole(tokens: &mut Tokens<'_>, depth: usize) -> Result<Found, Stop>
-    ensures found { IfOk result (λ found. found ≡ doc_of_document (data_of_all depth tokens.old.reader)) }
+fn read_whole(tokens: &mut Tokens<'_>, unit: Unit, depth: usize) -> Result<Found, Stop>
+    ensures found { IfOk result (λ found. found ≡ doc_of_document unit (data_of_all depth tokens.old.reader)) }
     ensures refused { IsNotJson result → data_of_all depth tokens.old.reader ≡ None }
 {
-    let found = read_document(tokens, depth)?;
+    let found = read_document(tokens, unit, depth)?;
     if tokens.reader.next().is_some() {
         return Err(Stop::NotJson);
     }
@@ -53,53 +57,56 @@ fn read_whole(tokens: &mut Tokens<'_>, depth: usize) -> Result<Found, Stop>
 }
 
 /// The array that all the tokens are but for its closing bracket.
-fn read_unclosed(tokens: &mut Tokens<'_>, depth: usize) -> Result<Found, Stop>
-    ensures found { IfOk result (λ found. found ≡ doc_of_document (data_of_all depth (with_bracket tokens.old.reader))) }
+fn read_unclosed(tokens: &mut Tokens<'_>, unit: Unit, depth: usize) -> Result<Found, Stop>
+    ensures found { IfOk result (λ found. found ≡ doc_of_document unit (data_of_all depth (with_bracket tokens.old.reader))) }
     ensures refused { IsNotJson result → data_of_all depth (with_bracket tokens.old.reader) ≡ None }
 {
     let token = tokens.reader.next().ok_or(Invalid)?;
     let Token::BeginArray = token else {
         return Err(Stop::NotJson);
     };
-    match collect_elements(tokens, depth)? {
+    match collect_elements(tokens, unit, depth)? {
         (found, End::Text) => Ok(found),
         // The bracket behind the text would be left over.
         (_, End::Bracket) => Err(Stop::NotJson),
     }
 }
 
-fn read_document(tokens: &mut Tokens<'_>, depth: usize) -> Result<Found, Stop>
+fn read_document(tokens: &mut Tokens<'_>, unit: Unit, depth: usize) -> Result<Found, Stop>
     ensures found { IfOk result (λ found. TakesValue depth tokens.old.reader tokens.new.reader
-        (λ d. found ≡ doc_of_elements (elements_of d))) }
+        (λ d. found ≡ doc_of_elements unit (elements_of d))) }
     ensures refused { IsNotJson result → data_at depth tokens.old.reader ≡ None }
 {
     match next_head(&mut tokens.reader)? {
-        Head::Object => read_object(tokens, depth),
-        Head::Array => read_elements(tokens, depth),
+        Head::Object => read_object(tokens, unit, depth),
+        Head::Array => read_elements(tokens, unit, depth),
         _ => Ok(Err(ReadError::NotTrace)),
     }
 }
 
-impl KeptMembers for Found {
-    ghost of = { λ ms. doc_of_elements (elements_of (object ms)) };
-
-    fn none(_alloc: Global) -> Found {
-        Err(ReadError::NotTrace)
+/// What the last member `traceEvents` of an object has, whose bracket was taken.
+fn read_object(tokens: &mut Tokens<'_>, unit: Unit, depth: usize) -> Result<Found, Stop>
+    ensures found { IfOk result (λ found. TakesObject depth tokens.old.reader tokens.new.reader
+        (λ ms. found ≡ doc_of_elements unit (elements_of (object ms)))) }
+    ensures refused { IsNotJson result → data_at depth (spec.begin_object ∷ tokens.old.reader) ≡ None }
+{
+    if depth == 0 {
+        return Err(Stop::NotJson);
     }
-
-    fn keep(&mut self, name: &str, tokens: &mut Tokens<'_>, depth: usize) -> Result<(), Stop> {
+    let mut found = Err(ReadError::NotTrace);
+    'members: while let Some(name) = tokens.reader.next_key()? {
         if name == "traceEvents" {
-            *self = read_trace_events(tokens, depth)?;
+            found = read_trace_events(tokens, unit, depth - 1)?;
         } else {
-            pass_value(&mut tokens.reader, depth)?;
+            pass_value(&mut tokens.reader, depth - 1)?;
         }
-        Ok(())
     }
+    Ok(found)
 }
 
-fn read_trace_events(tokens: &mut Tokens<'_>, depth: usize) -> Result<Found, Stop>
+fn read_trace_events(tokens: &mut Tokens<'_>, unit: Unit, depth: usize) -> Result<Found, Stop>
     ensures found { IfOk result (λ found. TakesValue depth tokens.old.reader tokens.new.reader
-        (λ d. found ≡ doc_of_elements (as_array d))) }
+        (λ d. found ≡ doc_of_elements unit (as_array d))) }
     ensures refused { IsNotJson result → data_at depth tokens.old.reader ≡ None }
 {
     match next_head(&mut tokens.reader)? {
@@ -107,18 +114,18 @@ fn read_trace_events(tokens: &mut Tokens<'_>, depth: usize) -> Result<Found, Sto
             pass_object(&mut tokens.reader, depth)?;
             Ok(Err(ReadError::NotTrace))
         }
-        Head::Array => read_elements(tokens, depth),
+        Head::Array => read_elements(tokens, unit, depth),
         _ => Ok(Err(ReadError::NotTrace)),
     }
 }
 
 /// The rest of an array whose bracket was taken, with the bracket that closes it.
-fn read_elements(tokens: &mut Tokens<'_>, depth: usize) -> Result<Found, Stop>
+fn read_elements(tokens: &mut Tokens<'_>, unit: Unit, depth: usize) -> Result<Found, Stop>
     ensures found { IfOk result (λ found. TakesArray depth tokens.old.reader tokens.new.reader
-        (λ ds. found ≡ doc_of_elements (Some ds))) }
+        (λ ds. found ≡ doc_of_elements unit (Some ds))) }
     ensures refused { IsNotJson result → data_at depth (spec.begin_array ∷ tokens.old.reader) ≡ None }
 {
-    match collect_elements(tokens, depth)? {
+    match collect_elements(tokens, unit, depth)? {
         (found, End::Bracket) => Ok(found),
         (_, End::Text) => Err(Stop::NotJson),
     }
@@ -131,9 +138,9 @@ enum End {
 }
 
 /// The rest of an array whose bracket was taken. Past the limit no item is kept, but the text is read on, since it may be no JSON.
-fn collect_elements(tokens: &mut Tokens<'_>, depth: usize) -> Result<(Found, End), Stop>
+fn collect_elements(tokens: &mut Tokens<'_>, unit: Unit, depth: usize) -> Result<(Found, End), Stop>
     ensures found { IfOk result (λ end. TakesElements end.1 depth tokens.old.reader tokens.new.reader
-        (λ ds. end.0 ≡ doc_of_elements (Some ds))) }
+        (λ ds. end.0 ≡ doc_of_elements unit (Some ds))) }
     ensures refused { IsNotJson result
         → (bracket : Bool) → data_at depth (spec.begin_array ∷ ended bracket tokens.old.reader) ≡ None }
 {
@@ -151,7 +158,7 @@ fn collect_elements(tokens: &mut Tokens<'_>, depth: usize) -> Result<(Found, End
             pass_begun(&mut tokens.reader, token, depth - 1)?;
             too_many = true;
         } else {
-            let item = read_item(tokens, token, depth - 1, &mut fields)?;
+            let item = read_item(tokens, unit, token, depth - 1, &mut fields)?;
             items.push(item)?;
         }
     }
@@ -173,19 +180,20 @@ fn found_of(items: Vec<Item>, too_many: bool) -> Found
 /// they aren't made anew for each element.
 fn read_item(
     tokens: &mut Tokens<'_>,
+    unit: Unit,
     token: Token<'_>,
     depth: usize,
     fields: &mut Fields,
 ) -> Result<Item, Stop>
     ensures item { IfOk result (λ item. TakesValue depth (token_of token.entry ∷ tokens.old.reader) tokens.new.reader
-        (λ d. item_of_data d ≡ item)) }
+        (λ d. item_of_data unit d ≡ item)) }
     ensures refused { IsNotJson result → data_at depth (token_of token.entry ∷ tokens.old.reader) ≡ None }
 {
     match head_of(token)? {
         Head::Object => {
             fields.clear();
             read_members(tokens, depth, fields)?;
-            Ok(item_of_fields(tokens.alloc, fields)?)
+            Ok(item_of_fields(tokens.alloc, unit, fields)?)
         }
         Head::Array => {
             pass_array(&mut tokens.reader, depth)?;

@@ -7,6 +7,7 @@ ghost use Rattle.span_read.specs.Element.{item_of_data, item_of_fields};
 mod event;
 mod id;
 mod members;
+mod time;
 
 use crate::element::event::event_of;
 use crate::error::refusal::Refusal;
@@ -14,26 +15,30 @@ use crate::fields::Fields;
 use crate::phase::phase_of;
 use crate::value_fields::fields_of_members;
 use serde_json::Value;
-use span_event::{Item, ItemFault};
+use span_event::{Item, ItemFault, Unit};
 use std::alloc::{AllocError, Global};
 
-/// The item that a value of a trace's array is. A fault of the item is no error of the call.
-pub fn item_of(alloc: Global, value: &Value) -> Result<Item, AllocError>
-    ensures item { IfOk result (λ item. item ≡ item_of_data (view value.now)) }
+/// The item that a value of a trace's array is, in a run of this unit. A fault of the item is no error of the call.
+pub fn item_of(alloc: Global, unit: Unit, value: &Value) -> Result<Item, AllocError>
+    ensures item { IfOk result (λ item. item ≡ item_of_data unit (view value.now)) }
     ensures good { IfOk result IsGoodItem }
 {
     match value {
         Value::Object(members) => {
             let mut fields = fields_of_members(alloc, members)?;
-            item_of_fields(alloc, &mut fields)
+            item_of_fields(alloc, unit, &mut fields)
         }
         _ => Ok(Item::Bad(ItemFault::NotObject)),
     }
 }
 
 /// Texts and arguments are taken out of the fields.
-pub(crate) fn item_of_fields(alloc: Global, fields: &mut Fields) -> Result<Item, AllocError>
-    ensures { IfOk result (λ item. item ≡ item_of_fields fields.old) }
+pub(crate) fn item_of_fields(
+    alloc: Global,
+    unit: Unit,
+    fields: &mut Fields,
+) -> Result<Item, AllocError>
+    ensures { IfOk result (λ item. item ≡ item_of_fields unit fields.old) }
 {
     let letter = match fields.ph.take() {
         Some(value) => value.into_words(),
@@ -45,7 +50,7 @@ pub(crate) fn item_of_fields(alloc: Global, fields: &mut Fields) -> Result<Item,
     let Some(phase) = phase_of(letter.as_str()) else {
         return Ok(Item::Other);
     };
-    match event_of(alloc, phase, fields) {
+    match event_of(alloc, unit, phase, fields) {
         Ok(event) => Ok(Item::Good(event)),
         Err(Refusal::Fault(fault)) => Ok(Item::Bad(fault)),
         Err(Refusal::Memory) => Err(AllocError),

@@ -3,10 +3,12 @@ ghost use Rattle.std.specs.Prelude.{◌≡◌};
 
 use span_event::{ArgValue, Args, Text};
 
-/// A member's value by its kind; of an object the members, by theirs.
+/// A member's value by its kind; of an object the members, by theirs. A number with a point or an exponent, or too large for a
+/// whole one, is kept as the float that it is, which only a time reads.
 #[derive(Drop)]
 pub(crate) enum FieldValue {
     Plain(ArgValue),
+    Float(f64),
     Pairs(Args),
 }
 

@@ -2,23 +2,39 @@
 ghost use Rattle.std.specs.Prelude.{◌≡◌, ◌≢◌, ◌<◌, ◌↔◌, length, IfOk, IfErr, Ok, Err, All};
 ghost use Rattle.span_read.specs.Document.{doc, most_bytes};
 ghost use Rattle.span_event.specs.Item.{IsGoodItem};
+ghost use Rattle.span_event.specs.declared.unit.Unit.TheVariants.{Microseconds};
 ghost use Rattle.span_read.specs.declared.error.ReadError.TheVariants.{TooLarge, Memory};
 
 use crate::candidates::read_first;
 use crate::error::ReadError;
-use span_event::Items;
+use span_event::{Items, Unit};
 use std::alloc::Global;
 use std::str;
 
 const MOST_BYTES: usize = 67_108_864;
 
-/// The items of a trace file, in the order in which its elements stand.
+/// The items of a trace file in whole microseconds: `read_items_in` with `Unit::Microseconds`.
+pub fn read_items(alloc: Global, bytes: &[u8]) -> Result<Items, ReadError>
+    ensures items { IfOk result (λ items. doc Microseconds bytes.now ≡ Ok items) }
+    ensures refused { IfErr result (λ error. error ≢ Memory → doc Microseconds bytes.now ≡ Err error) }
+    ensures good { IfOk result (All IsGoodItem) }
+    ensures too_large { (result ≡ Err TooLarge) ↔ (most_bytes < length bytes.now) }
+{
+    read_items_in(alloc, Unit::Microseconds, bytes)
+}
+
+/// The items of a trace file, in the order in which its elements stand, with times in the unit.
 ///
 /// A file is refused for the first of these that applies: 3 `TooLarge`, 1 `NotJson`, 2 `NotTrace`, 4 `TooMany`.
 /// 31 `Memory` can come at any step after the first.
-pub fn read_items(alloc: Global, bytes: &[u8]) -> Result<Items, ReadError>
-    ensures items { IfOk result (λ items. doc bytes.now ≡ Ok items) }
-    ensures refused { IfErr result (λ error. error ≢ Memory → doc bytes.now ≡ Err error) }
+///
+/// Under microseconds a time is a whole number from -(2^53 - 1) to 2^53 - 1, and a length one from 0 on. Under nanoseconds both are
+/// any numbers of microseconds: each is taken as the whole number of nanoseconds that is nearest to it, or to the float that JSON
+/// readers read it as where it has a point or an exponent, and may have a size of at most 2^62 - 1. An element whose time or length
+/// is another is an item with the fault 14 `NotWhole`.
+pub fn read_items_in(alloc: Global, unit: Unit, bytes: &[u8]) -> Result<Items, ReadError>
+    ensures items { IfOk result (λ items. doc unit bytes.now ≡ Ok items) }
+    ensures refused { IfErr result (λ error. error ≢ Memory → doc unit bytes.now ≡ Err error) }
     ensures good { IfOk result (All IsGoodItem) }
     ensures too_large { (result ≡ Err TooLarge) ↔ (most_bytes < length bytes.now) }
 {
@@ -26,7 +42,7 @@ pub fn read_items(alloc: Global, bytes: &[u8]) -> Result<Items, ReadError>
         return Err(ReadError::TooLarge);
     }
     match str::from_utf8(bytes) {
-        Ok(text) => read_first(alloc, text),
+        Ok(text) => read_first(alloc, unit, text),
         Err(_) => Err(ReadError::NotJson),
     }
 }

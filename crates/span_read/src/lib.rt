@@ -16,8 +16,8 @@ mod value_fields;
 
 pub use element::item_of;
 pub use error::ReadError;
-pub use file::read_items;
+pub use file::{read_items, read_items_in};
 pub use span_event::{
-    ArgValue, Args, BoxedId, Event, Field, IdKey, Item, ItemFault, Items, Phase, Reach, Text,
+    ArgValue, Args, BoxedId, Event, Field, IdKey, Item, ItemFault, Items, Phase, Reach, Text, Unit,
     merge_args,
 };

@@ -9,15 +9,10 @@ use crate::tokens::head::{Head, next_head};
 use crate::tokens::kept::{KeptMembers, KeptValue, read_members};
 use crate::tokens::pass::{pass_array, pass_object};
 use span_event::ArgValue;
-use std::alloc::Global;
 use std::mem::replace;
 
 impl KeptMembers for Fields {
     ghost of = { fields_of };
-
-    fn none(_alloc: Global) -> Fields {
-        Fields::default()
-    }
 
     #[inline(always)]
     fn keep(&mut self, name: &str, tokens: &mut Tokens<'_>, depth: usize) -> Result<(), Stop> {
@@ -29,10 +24,6 @@ impl KeptMembers for Fields {
 
 impl KeptMembers for ArgMap {
     ghost of = { pairs_of };
-
-    fn none(alloc: Global) -> ArgMap {
-        ArgMap::new(alloc)
-    }
 
     #[inline(always)]
     fn keep(&mut self, name: &str, tokens: &mut Tokens<'_>, depth: usize) -> Result<(), Stop> {
@@ -64,6 +55,7 @@ impl KeptValue for FieldValue {
                 Ok(FieldValue::Plain(ArgValue::Words(words)))
             }
             Head::Whole(number) => Ok(FieldValue::Plain(ArgValue::Whole(number))),
+            Head::Float(number) => Ok(FieldValue::Float(number)),
             Head::Flag(flag) => Ok(FieldValue::Plain(ArgValue::Flag(flag))),
             Head::Nil => Ok(FieldValue::Plain(ArgValue::Nil)),
             Head::Other => Ok(FieldValue::Plain(ArgValue::Other)),
@@ -92,7 +84,7 @@ impl KeptValue for ArgValue {
             Head::Whole(number) => Ok(ArgValue::Whole(number)),
             Head::Flag(flag) => Ok(ArgValue::Flag(flag)),
             Head::Nil => Ok(ArgValue::Nil),
-            Head::Other => Ok(ArgValue::Other),
+            Head::Float(_) | Head::Other => Ok(ArgValue::Other),
         }
     }
 }

@@ -1,10 +1,11 @@
 //! The fields of an event, as the members of a `serde_json` object give them.
 ghost use Rattle.std.specs.Prelude.{◌≡◌, IfOk};
-ghost use Rattle.serde_json.specs.View.{view, members_view};
+ghost use Rattle.serde_json.specs.Data.{number};
+ghost use Rattle.serde_json.specs.View.{view, members_view, number_view};
 ghost use Rattle.span_read.specs.Fields.{arg_value, pairs_of, field_value, field_at, fields_of};
 
 use crate::fields::{FieldValue, Fields};
-use serde_json::{Map, Value};
+use serde_json::{Map, Number, Value};
 use span_event::{ArgValue, Args, Text};
 use std::alloc::{AllocError, Global};
 
@@ -43,7 +44,26 @@ fn field_value(alloc: Global, value: &Value) -> Result<FieldValue, AllocError>
 {
     match value {
         Value::Object(members) => Ok(FieldValue::Pairs(args_of_members(alloc, members)?)),
+        Value::Number(number) => Ok(number_field(number)),
         _ => Ok(FieldValue::Plain(arg_value(alloc, value)?)),
+    }
+}
+
+fn number_field(value: &Number) -> FieldValue
+    ensures { result ≡ field_value (number (number_view value.now)) }
+{
+    match value.as_f64() {
+        Some(float) if value.is_f64() => FieldValue::Float(float),
+        _ => FieldValue::Plain(number_value(value)),
+    }
+}
+
+fn number_value(value: &Number) -> ArgValue
+    ensures { result ≡ arg_value (number (number_view value.now)) }
+{
+    match value.as_i64() {
+        Some(whole) => ArgValue::Whole(whole),
+        None => ArgValue::Other,
     }
 }
 
@@ -63,10 +83,7 @@ fn arg_value(alloc: Global, value: &Value) -> Result<ArgValue, AllocError>
     match value {
         Value::Null => Ok(ArgValue::Nil),
         Value::Bool(flag) => Ok(ArgValue::Flag(*flag)),
-        Value::Number(number) => match number.as_i64() {
-            Some(whole) => Ok(ArgValue::Whole(whole)),
-            None => Ok(ArgValue::Other),
-        },
+        Value::Number(number) => Ok(number_value(number)),
         Value::String(text) => Ok(ArgValue::Words(Text::of(alloc, text.as_str())?)),
         Value::Array(_) | Value::Object(_) => Ok(ArgValue::Other),
     }

@@ -11,16 +11,21 @@ use crate::element::members::{
 use crate::error::refusal::Refusal;
 use crate::fields::Fields;
 use crate::phase::needs_id;
-use span_event::{Event, Field, ItemFault, Phase};
+use span_event::{Event, Field, ItemFault, Phase, Unit};
 use std::alloc::Global;
 
-pub(crate) fn event_of(alloc: Global, phase: Phase, fields: &mut Fields) -> Result<Event, Refusal>
-    ensures right { IfOk result (λ event. fault_of phase fields.old ≡ None) }
-    ensures event { IfOk result (λ event. event ≡ event_of phase fields.old) }
-    ensures refused { IfErr result (IsForFault (fault_of phase fields.old)) }
+pub(crate) fn event_of(
+    alloc: Global,
+    unit: Unit,
+    phase: Phase,
+    fields: &mut Fields,
+) -> Result<Event, Refusal>
+    ensures right { IfOk result (λ event. fault_of unit phase fields.old ≡ None) }
+    ensures event { IfOk result (λ event. event ≡ event_of unit phase fields.old) }
+    ensures refused { IfErr result (IsForFault (fault_of unit phase fields.old)) }
 {
-    let ts = take_time(phase, &fields.ts)?;
-    let dur = take_duration(phase, &fields.dur)?;
+    let ts = take_time(unit, phase, &fields.ts)?;
+    let dur = take_duration(unit, phase, &fields.dur)?;
     let pid = take_whole(Field::Pid, &fields.pid)?;
     let tid = take_whole(Field::Tid, &fields.tid)?;
     let name = take_text(alloc, Field::Name, fields.name.take())?;

@@ -2,24 +2,21 @@
 ghost use Rattle.std.specs.Prelude.{◌≡◌, is_some, pos, [], None, IfOk, if◌then◌else◌};
 ghost use Rattle.std.specs.Result.{result_err};
 ghost use Rattle.span_read.specs.Phase.{reads_time, reads_duration, reads_scope, reads_reach, wants_whole_args};
-ghost use Rattle.span_read.specs.Element.{where_read, time_fault, duration_fault, whole_fault, text_fault, unless};
-ghost use Rattle.span_read.specs.Fields.{whole_or_zero, text_or_empty, duration_or_zero, reach_of, args_of};
+ghost use Rattle.span_read.specs.Element.{where_read, time_fault, duration_fault, time_or_zero, duration_or_zero, whole_fault, text_fault, unless};
+ghost use Rattle.span_read.specs.Fields.{whole_or_zero, text_or_empty, reach_of, args_of};
 ghost use Rattle.span_event.specs.declared.item.Field.TheVariants.{Scope};
 ghost use Rattle.span_event.specs.declared.item.ItemFault.TheVariants.{BadReach, BadSeries};
 ghost use Rattle.span_event.specs.Args.{all_whole};
 
+use crate::element::time::time_in;
 use crate::fields::FieldValue;
 use crate::phase::reads_scope;
-use span_event::{ArgValue, Args, Field, ItemFault, Phase, Reach, Text};
+use span_event::{ArgValue, Args, Field, ItemFault, Phase, Reach, Text, Unit};
 use std::alloc::Global;
 
-const LEAST_TIME: i64 = -9_007_199_254_740_991;
-
-const GREATEST_TIME: i64 = 9_007_199_254_740_991;
-
-pub(crate) fn take_time(phase: Phase, ts: &Option<FieldValue>) -> Result<i64, ItemFault>
-    ensures fault { result_err result ≡ where_read (reads_time phase) (time_fault ts.now) }
-    ensures value { IfOk result (λ taken. taken ≡ (if reads_time phase then whole_or_zero ts.now else pos 0)) }
+pub(crate) fn take_time(unit: Unit, phase: Phase, ts: &Option<FieldValue>) -> Result<i64, ItemFault>
+    ensures fault { result_err result ≡ where_read (reads_time phase) (time_fault unit ts.now) }
+    ensures value { IfOk result (λ taken. taken ≡ (if reads_time phase then time_or_zero unit ts.now else pos 0)) }
 {
     if phase == Phase::Meta {
         return Ok(0);
@@ -27,15 +24,16 @@ pub(crate) fn take_time(phase: Phase, ts: &Option<FieldValue>) -> Result<i64, It
     let Some(time) = ts else {
         return Err(ItemFault::NoTime);
     };
-    match time.whole() {
-        Some(time) if LEAST_TIME <= time && time <= GREATEST_TIME => Ok(time),
-        _ => Err(ItemFault::NotWhole),
-    }
+    time_in(unit, time).ok_or(ItemFault::NotWhole)
 }
 
-pub(crate) fn take_duration(phase: Phase, dur: &Option<FieldValue>) -> Result<u64, ItemFault>
-    ensures fault { result_err result ≡ where_read (reads_duration phase) (duration_fault dur.now) }
-    ensures value { IfOk result (λ taken. taken ≡ (if reads_duration phase then duration_or_zero dur.now else 0)) }
+pub(crate) fn take_duration(
+    unit: Unit,
+    phase: Phase,
+    dur: &Option<FieldValue>,
+) -> Result<u64, ItemFault>
+    ensures fault { result_err result ≡ where_read (reads_duration phase) (duration_fault unit dur.now) }
+    ensures value { IfOk result (λ taken. taken ≡ (if reads_duration phase then duration_or_zero unit dur.now else 0)) }
 {
     if phase != Phase::Complete {
         return Ok(0);
@@ -43,8 +41,8 @@ pub(crate) fn take_duration(phase: Phase, dur: &Option<FieldValue>) -> Result<u6
     let Some(duration) = dur else {
         return Err(ItemFault::NoDuration);
     };
-    match duration.whole() {
-        Some(duration) if 0 <= duration && duration <= GREATEST_TIME => Ok(duration as u64),
+    match time_in(unit, duration) {
+        Some(duration) if 0 <= duration => Ok(duration as u64),
         _ => Err(ItemFault::NotWhole),
     }
 }
@@ -123,7 +121,7 @@ pub(crate) fn take_args(
     let args = match args {
         Some(FieldValue::Pairs(args)) => args,
         Some(FieldValue::Plain(_value)) => Args::empty(alloc),
-        None => Args::empty(alloc),
+        Some(FieldValue::Float(_)) | None => Args::empty(alloc),
     };
     if phase == Phase::Counter && !all_whole(&args) {
         Err(ItemFault::BadSeries)

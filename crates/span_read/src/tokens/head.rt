@@ -14,6 +14,7 @@ pub(crate) enum Head<'a> {
     Array,
     Words(&'a str),
     Whole(i64),
+    Float(f64),
     Flag(bool),
     Nil,
     Other,
@@ -40,6 +41,7 @@ pub(crate) fn head_of<'a>(token: Token<'a>) -> Result<Head<'a>, Invalid>
         Token::String(text) => Ok(Head::Words(text)),
         Token::Number(text) => match number_of(text) {
             Number::Whole(number) => Ok(Head::Whole(number)),
+            Number::Float(number) => Ok(Head::Float(number)),
             Number::Other => Ok(Head::Other),
             Number::TooLarge => Err(Invalid),
         },

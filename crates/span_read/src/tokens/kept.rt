@@ -6,7 +6,6 @@ ghost use Rattle.span_read.specs.Tokens.{data_at, TakesValue, TakesObject, IsNot
 
 use crate::error::stop::Stop;
 use crate::tokens::Tokens;
-use std::alloc::Global;
 
 /// What is kept of a value of any kind.
 pub(crate) trait KeptValue: Drop {
@@ -22,10 +21,6 @@ pub(crate) trait KeptValue: Drop {
 pub(crate) trait KeptMembers: Drop {
     ghost of: { Members → Self };
 
-    /// What is kept of no members.
-    fn none(alloc: Global) -> Self
-        ensures { result ≡ of no_members };
-
     /// Reads the value of one more member, and keeps what is wanted of it.
     fn keep(&mut self, name: &str, tokens: &mut Tokens<'_>, depth: usize) -> Result<(), Stop>
         ensures kept { OnOk result (TakesValue depth tokens.old.reader tokens.new.reader
@@ -33,19 +28,7 @@ pub(crate) trait KeptMembers: Drop {
         ensures refused { IsNotJson result → data_at depth tokens.old.reader ≡ None };
 }
 
-/// The rest of an object whose bracket was taken.
-#[inline(always)]
-pub(crate) fn read_object<K: KeptMembers>(tokens: &mut Tokens<'_>, depth: usize) -> Result<K, Stop>
-    ensures kept { IfOk result (λ kept. TakesObject depth tokens.old.reader tokens.new.reader
-        (λ ms. kept ≡ K.of ms)) }
-    ensures refused { IsNotJson result → data_at depth (Token.begin_object ∷ tokens.old.reader) ≡ None }
-{
-    let mut kept = K::none(tokens.alloc);
-    read_members(tokens, depth, &mut kept)?;
-    Ok(kept)
-}
-
-/// As `read_object`, into what nothing was kept in, and which is not moved.
+/// The rest of an object whose bracket was taken, into what nothing was kept in.
 #[inline(never)]
 pub(crate) fn read_members<K: KeptMembers>(
     tokens: &mut Tokens<'_>,

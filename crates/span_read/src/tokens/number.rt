@@ -2,7 +2,7 @@
 ghost use Rattle.std.specs.Prelude.{◌≡◌, ◌==◌, ◌<◌, IsTrue, length, slice_index, true, false, option_map, Some, None};
 ghost use Rattle.serde_json.specs.Data.{number};
 ghost use Rattle.serde_json.specs.Read.{number_of, number_from, float_of};
-ghost use Rattle.span_read.specs.Fields.{arg_value};
+ghost use Rattle.span_read.specs.Fields.{field_value};
 ghost use Rattle.span_read.specs.Tokens.{kind_of};
 
 use fast_float::Numeral;
@@ -10,6 +10,8 @@ use fast_float::Numeral;
 /// A number in a text, by its kind.
 pub(crate) enum Number {
     Whole(i64),
+    Float(f64),
+    /// From 2^63 on.
     Other,
     /// Too large for a float, so that the text that it stands in is refused.
     TooLarge,
@@ -17,7 +19,7 @@ pub(crate) enum Number {
 
 #[inline(always)]
 pub(crate) fn number_of(text: &str) -> Number
-    ensures { kind_of result ≡ option_map (λ n. arg_value (number n)) (number_of text.now) }
+    ensures { kind_of result ≡ option_map (λ n. field_value (number n)) (number_of text.now) }
 {
     let bytes = text.as_bytes();
     if has_minus(bytes) {
@@ -37,7 +39,7 @@ fn has_minus(bytes: &[u8]) -> bool
 
 #[inline(always)]
 fn unsigned_value(numeral: &Numeral<'_>) -> Number
-    ensures { kind_of result ≡ option_map (λ n. arg_value (number n)) (number_from false numeral.now) }
+    ensures { kind_of result ≡ option_map (λ n. field_value (number n)) (number_from false numeral.now) }
 {
     match numeral.to_u64() {
         Some(n) => if n <= i64::MAX as u64 {
@@ -51,7 +53,7 @@ fn unsigned_value(numeral: &Numeral<'_>) -> Number
 
 #[inline(always)]
 fn negative_value(numeral: &Numeral<'_>) -> Number
-    ensures { kind_of result ≡ option_map (λ n. arg_value (number n)) (number_from true numeral.now) }
+    ensures { kind_of result ≡ option_map (λ n. field_value (number n)) (number_from true numeral.now) }
 {
     if let Some(n) = numeral.to_i64(true) {
         if n < 0 {
@@ -62,10 +64,11 @@ fn negative_value(numeral: &Numeral<'_>) -> Number
 }
 
 fn float_value(negative: bool, numeral: &Numeral<'_>) -> Number
-    ensures { kind_of result ≡ option_map (λ n. arg_value (number n)) (float_of negative numeral.now) }
+    ensures { kind_of result ≡ option_map (λ n. field_value (number n)) (float_of negative numeral.now) }
 {
-    if numeral.to_float::<f64>(negative).is_finite() {
-        Number::Other
+    let number = numeral.to_float::<f64>(negative);
+    if number.is_finite() {
+        Number::Float(number)
     } else {
         Number::TooLarge
     }

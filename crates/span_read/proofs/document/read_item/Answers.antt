@@ -9,7 +9,7 @@ pub returns-in_ok-item_of_fields-in-Object-clause-item : goal.returns-in_ok-item
 returns-in_ok-item_of_fields-in-Object-clause-item c =
     let ts = c.args.tokens.now.reader in
     let opened : token_of c.args.token ∷ ts ≡ Token.begin_object ∷ ts = grind (arith, c.in_ok-head_of.ensures.head ts) in
-    object_value c.args.depth _ ts _ _ _ opened (λ ms is. ap item_of_fields (sym is) ∙ sym c.in_ok-item_of_fields-in-Object.ensures) c.in_ok-read_members-in-Object.ensures.kept
+    object_value c.args.depth _ ts _ _ _ opened (λ ms is. ap (item_of_fields c.args.unit) (sym is) ∙ sym c.in_ok-item_of_fields-in-Object.ensures) c.in_ok-read_members-in-Object.ensures.kept
 
 pub returns-in_ok-pass_array-in-Array-clause-item : goal.returns-in_ok-pass_array-in-Array-clause-item
 returns-in_ok-pass_array-in-Array-clause-item c =

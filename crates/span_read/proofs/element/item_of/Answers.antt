@@ -8,4 +8,4 @@ use Rattle.span_read.proofs.element.item_of.Goals as goal
 pub returns-in_ok-fields-in-Object-clause-good : goal.returns-in_ok-fields-in-Object-clause-good
 returns-in_ok-fields-in-Object-clause-good c =
     let fields = c.in_ok-fields-in-Object.fields in
-    IfOk-weaker c.item_of_fields.result (λ item. item ≡ item_of_fields fields) IsGoodItem (λ item is. subst IsGoodItem (sym is) (IsGoodItem-item_of_fields fields)) c.item_of_fields.ensures
+    IfOk-weaker c.item_of_fields.result (λ item. item ≡ item_of_fields c.args.unit fields) IsGoodItem (λ item is. subst IsGoodItem (sym is) (IsGoodItem-item_of_fields c.args.unit fields)) c.item_of_fields.ensures

@@ -35,6 +35,12 @@ returns-in-Whole-clause-head c = λ ts.
     let leaf = number_taken c.in-Number.text.now _ ts is (number_of c.in-Number.text.now) _ refl (sym c.in-Whole.ensures) in
     grind (arith, leaf)
 
+pub returns-in-Float-clause-head : goal.returns-in-Float-clause-head
+returns-in-Float-clause-head c = λ ts.
+    let is : token_of c.args.token ∷ ts ≡ Token.number c.in-Number.text.now ∷ ts = grind arith in
+    let leaf = number_taken c.in-Number.text.now _ ts is (number_of c.in-Number.text.now) _ refl (sym c.in-Float.ensures) in
+    grind (arith, leaf)
+
 pub returns-in-Other-clause-head : goal.returns-in-Other-clause-head
 returns-in-Other-clause-head c = λ ts.
     let is : token_of c.args.token ∷ ts ≡ Token.number c.in-Number.text.now ∷ ts = grind arith in

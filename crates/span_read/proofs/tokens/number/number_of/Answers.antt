@@ -2,12 +2,12 @@ use Rattle.std.proofs.Common.{◌≡◌, ℕ, List, drop, get_or, Bool, true, fa
 use Rattle.fast_float.specs.Text.{Parts, scan}
 use Rattle.serde_json.specs.Data.{Num, number}
 use Rattle.serde_json.specs.Read.{number_of, number_from}
-use Rattle.span_event.specs.declared.args.ArgValue.{ArgValue}
-use Rattle.span_read.specs.Fields.{arg_value}
+use Rattle.span_read.specs.declared.fields.FieldValue.{FieldValue}
+use Rattle.span_read.specs.Fields.{field_value}
 use Rattle.span_read.proofs.tokens.number.number_of.Goals as goal
 
-abbrev kind : Num → ArgValue
-kind n = arg_value (number n)
+abbrev kind : Num → FieldValue
+kind n = field_value (number n)
 
 -- a number without its sign, and then with it
 number_of-signed : (s : List ℕ) (minus : Bool) (parts : Parts) → minus ≡ (get_or s 0 0 == 45) → parts ≡ scan (if minus then drop 1 s else s) → option_map kind (number_from minus parts) ≡ option_map kind (number_of s)

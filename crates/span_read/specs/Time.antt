@@ -1,0 +1,32 @@
+-- A time or a length, as a field gives it in the unit of a run.
+use Rattle.std.specs.Prelude.{ℕ, ◌*◌, ℤ, pos, neg_ℤ, ◌*ℤ◌, ◌&&◌, Option, Some, None, option_map, option_and_then, if◌then◌else◌}
+use Rattle.std.specs.Int.RustNames.{int_le}
+use Rattle.std.specs.Float.{Float, fin}
+use Rattle.std.specs.Float.Ieee.{up, down}
+use Rattle.std.specs.Float.Ieee.Nearest.{closest}
+use Rattle.fast_float.specs.Text.{with_sign}
+use Rattle.span_event.specs.Event.{greatest_time}
+use Rattle.span_event.specs.declared.unit.Unit.{Unit}
+use Rattle.span_event.specs.declared.unit.Unit.TheVariants.{Microseconds, Nanoseconds}
+use Rattle.span_read.specs.declared.fields.FieldValue.{FieldValue}
+use Rattle.span_read.specs.declared.fields.FieldValue.TheVariants as field
+use Rattle.span_read.specs.Fields.{whole}
+
+-- a float of microseconds, m * 2 ^ e, as whole nanoseconds: the number nearest to 1000 * m * 2 ^ e, and of two as near the even one; 2 ^ e is the fraction up e / down e
+abbrev pub nanoseconds : Float → Option ℤ
+nanoseconds (fin negative m e) = Some (with_sign negative (closest (1000 * (m * up e)) (down e)))
+nanoseconds _ = None
+
+-- a field's number of microseconds, as whole nanoseconds
+abbrev pub nanoseconds_of : FieldValue → Option ℤ
+nanoseconds_of (field.Float x) = nanoseconds x
+nanoseconds_of v = option_map (λ n. pos 1000 *ℤ n) (whole v)
+
+-- the number, if its size is in range
+abbrev pub within : ℕ → ℤ → Option ℤ
+within greatest n = if int_le (neg_ℤ (pos greatest)) n && int_le n (pos greatest) then Some n else None
+
+-- how many of the unit a field says, if it says a number that the unit takes: whole microseconds up to 2^53 - 1, or any number up to 2^62 - 1 nanoseconds
+abbrev pub time_in : Unit → FieldValue → Option ℤ
+time_in Microseconds v = option_and_then (within 9007199254740991) (whole v)
+time_in Nanoseconds v = option_and_then (within greatest_time) (nanoseconds_of v)
