@@ -2,14 +2,19 @@
 mod agreement;
 mod documents;
 mod elements;
+mod times;
 mod values;
 
-use span_read::{Item, read_items};
+use span_read::{Item, Unit, read_items_in};
 use std::alloc::{AllocError, Global};
 
 // One word for each item of a text, or the word of its refusal.
 fn described(alloc: Global, bytes: &[u8]) -> Result<String, AllocError> {
-    match read_items(alloc, bytes) {
+    described_in(alloc, Unit::Microseconds, bytes)
+}
+
+fn described_in(alloc: Global, unit: Unit, bytes: &[u8]) -> Result<String, AllocError> {
+    match read_items_in(alloc, unit, bytes) {
         Ok(items) => {
             let mut words = String::new(alloc);
             for item in items.into_list() {

@@ -1,6 +1,6 @@
 // Texts are read element by element, and by a value of the whole text and the items of its elements: both must agree.
 use serde_json::Value;
-use span_read::{item_of, read_items};
+use span_read::{Unit, item_of, read_items_in};
 use std::alloc::{AllocError, AllocGlobal, Global};
 use std::process::Abort;
 use std::str;
@@ -30,7 +30,7 @@ fn document_of(alloc: Global, bytes: &[u8]) -> Result<Option<Value>, Fail> {
     Ok(Value::from_str(alloc, closed.as_str()).ok())
 }
 
-fn items_of_value(alloc: Global, document: &Value) -> Result<String, Fail> {
+fn items_of_value(alloc: Global, unit: Unit, document: &Value) -> Result<String, Fail> {
     let elements = match document {
         Value::Object(_) => document.get("traceEvents"),
         _ => Some(document),
@@ -40,7 +40,7 @@ fn items_of_value(alloc: Global, document: &Value) -> Result<String, Fail> {
     };
     let mut shown = String::new(alloc);
     for element in elements {
-        let item = item_of(alloc, element)?;
+        let item = item_of(alloc, unit, element)?;
         let line = format!(in alloc; "{item:?} ");
         drop(item);
         shown.push_str(line?.as_str())?;
@@ -48,10 +48,10 @@ fn items_of_value(alloc: Global, document: &Value) -> Result<String, Fail> {
     Ok(shown)
 }
 
-fn read_by_value(alloc: Global, bytes: &[u8]) -> Result<String, Fail> {
+fn read_by_value(alloc: Global, unit: Unit, bytes: &[u8]) -> Result<String, Fail> {
     match document_of(alloc, bytes)? {
         Some(document) => {
-            let items = items_of_value(alloc, &document);
+            let items = items_of_value(alloc, unit, &document);
             drop(document);
             items
         }
@@ -59,8 +59,8 @@ fn read_by_value(alloc: Global, bytes: &[u8]) -> Result<String, Fail> {
     }
 }
 
-fn read_by_element(alloc: Global, bytes: &[u8]) -> Result<String, AllocError> {
-    match read_items(alloc, bytes) {
+fn read_by_element(alloc: Global, unit: Unit, bytes: &[u8]) -> Result<String, AllocError> {
+    match read_items_in(alloc, unit, bytes) {
         Ok(items) => {
             let mut shown = String::new(alloc);
             for item in items.into_list() {
@@ -74,10 +74,16 @@ fn read_by_element(alloc: Global, bytes: &[u8]) -> Result<String, AllocError> {
     }
 }
 
-fn agree(alloc: Global, bytes: &[u8]) -> Result<bool, Fail> {
-    let by_element = read_by_element(alloc, bytes)?;
-    let by_value = read_by_value(alloc, bytes)?;
+fn agree_in(alloc: Global, unit: Unit, bytes: &[u8]) -> Result<bool, Fail> {
+    let by_element = read_by_element(alloc, unit, bytes)?;
+    let by_value = read_by_value(alloc, unit, bytes)?;
     Ok(by_element.as_str() == by_value.as_str())
+}
+
+fn agree(alloc: Global, bytes: &[u8]) -> Result<bool, Fail> {
+    let in_microseconds = agree_in(alloc, Unit::Microseconds, bytes)?;
+    let in_nanoseconds = agree_in(alloc, Unit::Nanoseconds, bytes)?;
+    Ok(in_microseconds && in_nanoseconds)
 }
 
 fn expect_agree(rt: &(impl Abort + AllocGlobal), text: &str) -> Result<(), Fail> {
@@ -85,7 +91,7 @@ fn expect_agree(rt: &(impl Abort + AllocGlobal), text: &str) -> Result<(), Fail>
     Ok(())
 }
 
-const TEXTS: [&str; 8] = [
+const TEXTS: [&str; 9] = [
     r#"[{"ph":"X","ts":-1,"dur":2,"pid":3,"tid":4,"name":"a\u00e9","cat":"c","args":{"k":[1,{"l":2}],"b":null,"b":"w"}}]"#,
     r#"{"traceEvents":[{"ph":"b","ts":1,"id2":{"local":5,"global":"g"},"scope":"s"}],"other":{"a":[]},"traceEvents":[]}"#,
     r#" [ {"ph":"C","ts":1e2,"ph":"C","ts":7,"args":{"z":-9,"a":0}} , 5 , "x" ] , "#,
@@ -94,6 +100,7 @@ const TEXTS: [&str; 8] = [
     r#"[true,{"ph":"e","ts":9007199254740992,"id":-0},{"ph":"f","ts":0,"id":{}},{"ph":"M","args":[]}"#,
     "[{\"ph\":\"\\ud83d\\ude00\",\"ts\":1},{\"\\u0070h\":\"E\",\"ts\":1}]\n",
     r#"[{"ph":"s","ts":1,"id":123456789012345678901234567890,"name":"n","pid":9223372036854775807}]"#,
+    r#"[{"ph":"X","ts":-1.25e2,"dur":0.0625},{"ph":"i","ts":18446744073709551615}]"#,
 ];
 
 #[test]

@@ -1,7 +1,7 @@
 // Single elements: their fields, their faults, and which fault comes first.
 use super::{described, word_of};
 use serde_json::Value;
-use span_read::{Event, Field, IdKey, Item, ItemFault, Phase, Reach, item_of, read_items};
+use span_read::{Event, Field, IdKey, Item, ItemFault, Phase, Reach, Unit, item_of, read_items};
 use std::alloc::{AllocError, AllocGlobal, Global};
 use std::process::Abort;
 use std::test::Fail;
@@ -23,7 +23,7 @@ fn event_of(alloc: Global, text: &str) -> Result<Option<Event>, Fail> {
 
 fn word_of_element(alloc: Global, text: &str) -> Result<String, Fail> {
     let value = Value::from_str(alloc, text)?;
-    let item = item_of(alloc, &value);
+    let item = item_of(alloc, Unit::Microseconds, &value);
     drop(value);
     let item = item?;
     let word = word_of(alloc, &item);

@@ -1,6 +1,8 @@
 // Texts and arguments, their copies, and two arguments merged.
 use serde_json::Value;
-use span_read::{ArgValue, Args, BoxedId, Event, IdKey, Item, Reach, Text, item_of, merge_args};
+use span_read::{
+    ArgValue, Args, BoxedId, Event, IdKey, Item, Reach, Text, Unit, item_of, merge_args,
+};
 use std::alloc::{AllocError, AllocGlobal, Global};
 use std::process::Abort;
 use std::test::Fail;
@@ -8,7 +10,7 @@ use std::test::Fail;
 fn event_with(alloc: Global, args: &str) -> Result<Event, Fail> {
     let text = format!(in alloc; r#"{{"ph":"b","ts":1,"name":"a","id":"5","args":{args}}}"#)?;
     let value = Value::from_str(alloc, text.as_str())?;
-    let item = item_of(alloc, &value);
+    let item = item_of(alloc, Unit::Microseconds, &value);
     drop(value);
     match item? {
         Item::Good(event) => Ok(event),
