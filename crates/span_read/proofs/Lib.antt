@@ -1,5 +1,6 @@
 pub mod ArgMaps
 pub mod Bracket
+pub mod Decimals
 pub mod Documents
 pub mod Elements
 pub mod Ends

@@ -1,5 +1,6 @@
 pub use Rattle.span_event.specs.Item
 pub mod ArgMap
+pub mod Decimals
 pub mod Document
 pub mod Element
 pub mod Ending

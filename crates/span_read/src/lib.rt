@@ -8,6 +8,7 @@ mod element;
 mod error;
 mod fields;
 mod file;
+pub mod laws;
 mod phase;
 mod recent;
 mod token_fields;
