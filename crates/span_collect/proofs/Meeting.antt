@@ -2,6 +2,7 @@
 use Rattle.std.proofs.lemmas.Slice.Zip.{all_zipped_more}
 use Rattle.std.proofs.Common.{◌≡◌, ℕ, ◌≤◌, List, [], ◌∷◌, ◌++◌, length, map, take, Option, Some, None, Ok, Err, Contains, refl, sym, subst, ap, ap₂, ◌∙◌, append-nil, length-append, arith, inl, inr}
 use Rattle.std.proofs.lemmas.List.Elements.{filter_map-append}
+use Rattle.span_event.specs.declared.unit.Unit.{Unit}
 use Rattle.span_read.specs.Document.{doc}
 use Rattle.span_ledger.specs.declared.entry.Entry.{Entry}
 use Rattle.span_ledger.specs.declared.query.Query.{Query}
@@ -50,14 +51,14 @@ later-named P (Refused own code) ends all caller at = all caller (Contains-later
 later-named P (Stopped own done cause) ends all caller at = all caller (Contains-later own (callers_named ends) caller at)
 later-named P NotStarted ends all caller at = all caller at
 
-pub EachEndsAs-later : (limit : ℕ) (old new : List Entry) (files : List Input) (ends : List FileEnd) → length old ≤ length new → ((caller : ℕ) → Contains (callers_named ends) caller → operations new caller ≡ operations old caller) →
-    EachEndsAs old limit files ends → EachEndsAs new limit files ends
-EachEndsAs-later limit old new [] [] grows same ended = tt
-EachEndsAs-later limit old new [] (end ∷ ends) grows same ended = ended
-EachEndsAs-later limit old new (file ∷ files) [] grows same ended = ended
-EachEndsAs-later limit old new (file ∷ files) (end ∷ ends) grows same ended = (
-  EndsAs-later limit old new (doc file.bytes.items) end grows (first-named (λ c. operations new c ≡ operations old c) end ends same) ended.0,
-  EachEndsAs-later limit old new files ends grows (later-named (λ c. operations new c ≡ operations old c) end ends same) ended.1,
+pub EachEndsAs-later : (unit : Unit) (limit : ℕ) (old new : List Entry) (files : List Input) (ends : List FileEnd) → length old ≤ length new → ((caller : ℕ) → Contains (callers_named ends) caller → operations new caller ≡ operations old caller) →
+    EachEndsAs unit old limit files ends → EachEndsAs unit new limit files ends
+EachEndsAs-later unit limit old new [] [] grows same ended = tt
+EachEndsAs-later unit limit old new [] (end ∷ ends) grows same ended = ended
+EachEndsAs-later unit limit old new (file ∷ files) [] grows same ended = ended
+EachEndsAs-later unit limit old new (file ∷ files) (end ∷ ends) grows same ended = (
+  EndsAs-later limit old new (doc unit file.bytes.items) end grows (first-named (λ c. operations new c ≡ operations old c) end ends same) ended.0,
+  EachEndsAs-later unit limit old new files ends grows (later-named (λ c. operations new c ≡ operations old c) end ends same) ended.1,
 )
 
 -- the queries that were asked stay so in a longer journal that has the same operations of caller 0
@@ -78,27 +79,27 @@ callers_named-end (Stopped own done cause) caller at = let same : own ≡ caller
 callers_named-end NotStarted caller at = absurd cc
 
 -- what a seat that owns 0 has asked, before it meets anybody
-pub HasMet-asked : (share : ShareId) (asks : List Query) (done : ℕ) (cause : Option Cause) (asked : Asked) (seat : Seated) → HasRecorded share (asking (take done asks)) seat → seat.number ≡ 0 → asked ≡ record { done = done; cause = cause } →
-    StopsAsking seat.seen share.terms.limit asks done cause → HasMet share [] asks [] asked seat
-HasMet-asked share asks done cause asked seat has first is stop = subst (λ a. HasMet share [] asks [] a seat) (sym is) (record {
+pub HasMet-asked : (unit : Unit) (share : ShareId) (asks : List Query) (done : ℕ) (cause : Option Cause) (asked : Asked) (seat : Seated) → HasRecorded share (asking (take done asks)) seat → seat.number ≡ 0 → asked ≡ record { done = done; cause = cause } →
+    StopsAsking seat.seen share.terms.limit asks done cause → HasMet unit share [] asks [] asked seat
+HasMet-asked unit share asks done cause asked seat has first is stop = subst (λ a. HasMet unit share [] asks [] a seat) (sym is) (record {
   sound = has.sound;
   owned = has.alone ∙ ap (λ n. n ∷ []) first;
   ended = tt;
   queries = record { recorded = ap (operations seat.seen) (sym first) ∙ has.recorded; stop = stop };
 })
 
-module _ (share : ShareId) (files : List Input) (asks : List Query) (ends : List FileEnd) (asked : Asked) (main : Seated) (met : HasMet share files asks ends asked main) (file : Input) where
+module _ (unit : Unit) (share : ShareId) (files : List Input) (asks : List Query) (ends : List FileEnd) (asked : Asked) (main : Seated) (met : HasMet unit share files asks ends asked main) (file : Input) where
   -- one worker more is met
-  pub HasMet-joined : (end : FileEnd) (worker after : Seated) → IsWorked share (doc file.bytes.items) end worker → IsSeatOf share after → Gathers main worker after → HasMet share (files ++ file ∷ []) asks (ends ++ end ∷ []) asked after
+  pub HasMet-joined : (end : FileEnd) (worker after : Seated) → IsWorked share (doc unit file.bytes.items) end worker → IsSeatOf share after → Gathers main worker after → HasMet unit share (files ++ file ∷ []) asks (ends ++ end ∷ []) asked after
   HasMet-joined end worker after worked seat gathers = record {
     sound = seat;
     owned = gathers.owned
         ∙ ap₂ (λ (a b : List ℕ). a ++ b) met.owned worked.alone
         ∙ ap (λ l. 0 ∷ (callers_named ends ++ l)) (sym (callers_named-end end worker.number worked.named))
         ∙ ap (λ l. 0 ∷ l) (sym (filter_map-append caller_named ends (end ∷ [])));
-    ended = all_zipped_more (λ (f : Input) (e : FileEnd). EndsAs after.seen share.terms.limit (doc f.bytes.items) e) files ends file end
-        (EachEndsAs-later share.terms.limit main.seen after.seen files ends grows (λ c at. kept c (Contains-later 0 (callers_named ends) c at)) met.ended)
-        (EndsAs-later share.terms.limit worker.seen after.seen (doc file.bytes.items) end (BeginsWith-length after.seen worker.seen gathers.seen_other.begins) of_worker worked.ended);
+    ended = all_zipped_more (λ (f : Input) (e : FileEnd). EndsAs after.seen share.terms.limit (doc unit f.bytes.items) e) files ends file end
+        (EachEndsAs-later unit share.terms.limit main.seen after.seen files ends grows (λ c at. kept c (Contains-later 0 (callers_named ends) c at)) met.ended)
+        (EndsAs-later share.terms.limit worker.seen after.seen (doc unit file.bytes.items) end (BeginsWith-length after.seen worker.seen gathers.seen_other.begins) of_worker worked.ended);
     queries = IsAsked-later share.terms.limit main.seen after.seen asks asked grows (kept 0 (Contains-here 0 (callers_named ends))) met.queries;
   }
     where
@@ -115,10 +116,10 @@ module _ (share : ShareId) (files : List Input) (asks : List Query) (ends : List
           ap (map (λ (e : Entry). e.op)) (gathers.seen_other.lists c (subst (λ l. Contains l c) (sym worked.alone) (subst (λ n. Contains (worker.number ∷ []) n) own (Contains-here worker.number []))))
 
   -- one file was not started
-  pub HasMet-not_started : HasMet share (files ++ file ∷ []) asks (ends ++ NotStarted ∷ []) asked main
+  pub HasMet-not_started : HasMet unit share (files ++ file ∷ []) asks (ends ++ NotStarted ∷ []) asked main
   HasMet-not_started = record {
     sound = met.sound;
     owned = met.owned ∙ ap (λ l. 0 ∷ l) (sym (filter_map-append caller_named ends (NotStarted ∷ []) ∙ append-nil (callers_named ends)));
-    ended = all_zipped_more (λ (f : Input) (e : FileEnd). EndsAs main.seen share.terms.limit (doc f.bytes.items) e) files ends file NotStarted met.ended tt;
+    ended = all_zipped_more (λ (f : Input) (e : FileEnd). EndsAs main.seen share.terms.limit (doc unit f.bytes.items) e) files ends file NotStarted met.ended tt;
     queries = met.queries;
   }

@@ -1,5 +1,6 @@
 -- What one file gives alone is what it gives in turn.
 use Rattle.std.proofs.Common.{◌≡◌, ℕ, zero, suc, List, [], ◌∷◌, ◌++◌, Bool, false, cond, map, Ok, Err, refl, ap, subst, ◌∙◌, append-nil}
+use Rattle.span_event.specs.declared.unit.Unit.{Unit}
 use Rattle.span_read.specs.Document.{doc}
 use Rattle.span_ledger.specs.declared.entry.Entry.{Entry}
 use Rattle.span_ledger.specs.declared.entry.Op.{Op}
@@ -14,23 +15,23 @@ use Rattle.span_collect.specs.Run.{TextOf, WritesOneFile, end_by, journal_by}
 use Rattle.span_collect.specs.Seals.{seals_of, with_seals}
 
 -- one file has nothing in common with another
-pub AreSeparate-one : (file : Input) → AreSeparate (file ∷ [])
-AreSeparate-one file zero zero one other apart at at' = absurd (apart refl)
-AreSeparate-one file zero (suc w) one other apart at at' = absurd cc
-AreSeparate-one file (suc v) w one other apart at at' = absurd cc
+pub AreSeparate-one : (unit : Unit) (file : Input) → AreSeparate unit (file ∷ [])
+AreSeparate-one unit file zero zero one other apart at at' = absurd (apart refl)
+AreSeparate-one unit file zero (suc w) one other apart at at' = absurd cc
+AreSeparate-one unit file (suc v) w one other apart at at' = absurd cc
 
 journal_by-items : (strict : Bool) (document : Document) → sequential strict (map (λ op. (1, op)) (telling (items_in document))) ≡ journal_by strict 1 document
 journal_by-items strict (Ok items) = refl
 journal_by-items strict (Err error) = refl
 
 -- the journal of one file that is read in turn, without a query and unsealed, is the one that caller 1 makes of it
-journal_in_turn-one : (settings : Settings) (file : Input) → settings.seal ≡ false → journal_in_turn settings (file ∷ []) [] ≡ journal_by settings.strict 1 (doc file.bytes.items)
+journal_in_turn-one : (settings : Settings) (file : Input) → settings.seal ≡ false → journal_in_turn settings (file ∷ []) [] ≡ journal_by settings.strict 1 (doc settings.unit file.bytes.items)
 journal_in_turn-one settings file unsealed =
-    let told = told_in_turn settings.strict (file ∷ []) [] in
-    let calls = map (λ (op : Op). (1, op)) (telling (items_in (doc file.bytes.items))) in
+    let told = told_in_turn settings.unit settings.strict (file ∷ []) [] in
+    let calls = map (λ (op : Op). (1, op)) (telling (items_in (doc settings.unit file.bytes.items))) in
     ap (λ (seal : Bool). cond seal (with_seals settings.strict told (seals_of told)) told) unsealed
     ∙ ap (sequential settings.strict) (append-nil (calls ++ []) ∙ append-nil calls)
-    ∙ journal_by-items settings.strict (doc file.bytes.items)
+    ∙ journal_by-items settings.strict (doc settings.unit file.bytes.items)
 
 -- a text of one file that was written as in turn is that of what caller 1 tells
 pub WritesOneFile-in_turn : (text : TextOf) (files : List Input) (asks : List Query) (settings : Settings) (status : ℕ) (old new : SinkState) →
@@ -38,4 +39,4 @@ pub WritesOneFile-in_turn : (text : TextOf) (files : List Input) (asks : List Qu
 WritesOneFile-in_turn text files asks settings status old new in_turn below unsealed file one none =
     let alone : WritesAsInTurn text (file ∷ []) [] settings status old new =
     subst (λ qs. WritesAsInTurn text (file ∷ []) qs settings status old new) none (subst (λ fs. WritesAsInTurn text fs asks settings status old new) one in_turn) in
-    subst (λ (journal : List Entry). TakesBytes old new (text (end_by 1 (doc file.bytes.items) ∷ []) journal)) (journal_in_turn-one settings file unsealed) (alone (AreSeparate-one file) below)
+    subst (λ (journal : List Entry). TakesBytes old new (text (end_by 1 (doc settings.unit file.bytes.items) ∷ []) journal)) (journal_in_turn-one settings file unsealed) (alone (AreSeparate-one settings.unit file) below)

@@ -2,6 +2,7 @@
 use Rattle.std.specs.Prelude.{◌≡◌, ℕ, ◌<◌, ◌≤◌, ◌⊎◌, ⊤, List, [], ◌∷◌, length, map, take, filter_map, All, Contains, Option, Some, None, MatchOption, Result, IsOkAnd, IsErrAnd}
 use Rattle.std.specs.List.{AllZip}
 use Rattle.span_event.specs.declared.item.Item.{Item}
+use Rattle.span_event.specs.declared.unit.Unit.{Unit}
 use Rattle.span_read.specs.declared.error.ReadError.{ReadError}
 use Rattle.span_read.specs.Document.{doc}
 use Rattle.span_read.specs.ReadError.{code_of}
@@ -65,8 +66,8 @@ EndsAs journal limit document (Stopped caller done cause) = (HasFirst journal do
 EndsAs journal limit document NotStarted = ⊤
 
 -- each file ended as its end says, and there is one end for each, in order
-abbrev pub EachEndsAs : List Entry → ℕ → List Input → List FileEnd → Type 0
-EachEndsAs journal limit files ends = AllZip (λ file end. EndsAs journal limit (doc file.bytes.items) end) files ends
+abbrev pub EachEndsAs : Unit → List Entry → ℕ → List Input → List FileEnd → Type 0
+EachEndsAs unit journal limit files ends = AllZip (λ file end. EndsAs journal limit (doc unit file.bytes.items) end) files ends
 
 -- the asking ended with all queries, or for a cause before that
 abbrev pub StopsAsking : List Entry → ℕ → List Query → ℕ → Option Cause → Type 0
@@ -92,7 +93,7 @@ callers_named ends = filter_map caller_named ends
 pub record Account (files : List Input) (asks : List Query) (settings : Settings) (ends : List FileEnd) (asked : Asked) (journal : List Entry) : Type 0 where
   pub legal : IsLegal settings.strict journal
   pub within_limit : length journal ≤ settings.limit
-  pub each_file_once_in_order : EachEndsAs journal settings.limit files ends
+  pub each_file_once_in_order : EachEndsAs settings.unit journal settings.limit files ends
   pub each_query_once_in_order : IsAsked journal settings.limit asks asked
   pub distinct_callers : AreDistinct (0 ∷ callers_named ends)
   pub nothing_else : All (λ entry. Contains (0 ∷ callers_named ends) entry.caller) journal

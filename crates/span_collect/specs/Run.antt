@@ -4,6 +4,7 @@ use Rattle.std.specs.List.{list_any}
 use Rattle.std.specs.Option.{is_some}
 use Rattle.span_event.specs.declared.fault.Fault.TheVariants.{FileCount as FileCountFault, Memory as MemoryFault, Unaccounted as UnaccountedFault, Output as OutputFault}
 use Rattle.span_event.specs.Fault.{number_of}
+use Rattle.span_event.specs.declared.unit.Unit.{Unit}
 use Rattle.span_read.specs.Document.{doc}
 use Rattle.span_read.specs.ReadError.{code_of}
 use Rattle.span_ledger.specs.declared.entry.Entry.{Entry}
@@ -100,10 +101,10 @@ end_by caller (Ok items) = Read caller (length items)
 end_by caller (Err error) = Refused caller (code_of error)
 
 -- the text of a file that caller 1 alone tells to an empty ledger was written
-abbrev pub TakesTextOf : TextOf → Bool → Input → SinkState → SinkState → Type 0
-TakesTextOf text strict file old new = let document = doc file.bytes.items in TakesBytes old new (text (end_by 1 document ∷ []) (journal_by strict 1 document))
+abbrev pub TakesTextOf : TextOf → Unit → Bool → Input → SinkState → SinkState → Type 0
+TakesTextOf text unit strict file old new = let document = doc unit file.bytes.items in TakesBytes old new (text (end_by 1 document ∷ []) (journal_by strict 1 document))
 
 -- where one file is given, no query and no wish to seal, and the status isn't 2, the text of that file was written
 abbrev pub WritesOneFile : TextOf → List Input → List Query → Settings → ℕ → SinkState → SinkState → Type 0
 WritesOneFile text files asks settings status old new =
-    status < 2 → settings.seal ≡ false → (file : Input) → files ≡ file ∷ [] → asks ≡ [] → TakesTextOf text settings.strict file old new
+    status < 2 → settings.seal ≡ false → (file : Input) → files ≡ file ∷ [] → asks ≡ [] → TakesTextOf text settings.unit settings.strict file old new

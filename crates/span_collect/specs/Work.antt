@@ -1,6 +1,7 @@
 -- What the seats of workers and the main seat stand for.
 use Rattle.std.specs.Prelude.{◌≡◌, ◌^◌, ◌<◌, ◌≤◌, List, [], ◌∷◌, length, All, Option, Some, IfSome, vec_capacity}
 use Rattle.std.specs.Global.{Vec}
+use Rattle.span_event.specs.declared.unit.Unit.{Unit}
 use Rattle.span_ledger.specs.declared.entry.Op.{Op}
 use Rattle.span_ledger.specs.declared.query.Query.{Query}
 use Rattle.span_share.specs.Seats.{ShareId, Seated, IsSeatOf}
@@ -40,13 +41,13 @@ pub record IsWorked (share : ShareId) (document : Document) (end : FileEnd) (sea
   pub ended : EndsAs seat.seen share.terms.limit document end
 
 -- the worker of a file: a thread that promises to have worked on it, or a new seat
-abbrev pub IsWorkerOf : ShareId → Input → Worker → Type 0
-IsWorkerOf share file (Thread handle) = IfSome handle (λ handle. (handle.promise.share.value ≡ share) × (handle.promise.file.value ≡ file))
-IsWorkerOf share file (Here seat) = IfSome seat (IsNewSeat share)
+abbrev pub IsWorkerOf : Unit → ShareId → Input → Worker → Type 0
+IsWorkerOf unit share file (Thread handle) = IfSome handle (λ handle. (handle.promise.unit ≡ unit) × (handle.promise.share.value ≡ share) × (handle.promise.file.value ≡ file))
+IsWorkerOf unit share file (Here seat) = IfSome seat (IsNewSeat share)
 
 -- a seat that has asked the queries and has met the workers of these files, whose numbers it owns in the files' order
-pub record HasMet (share : ShareId) (files : List Input) (asks : List Query) (ends : List FileEnd) (asked : Asked) (seat : Seated) : Type 0 where
+pub record HasMet (unit : Unit) (share : ShareId) (files : List Input) (asks : List Query) (ends : List FileEnd) (asked : Asked) (seat : Seated) : Type 0 where
   pub sound : IsSeatOf share seat
   pub owned : seat.owned ≡ 0 ∷ callers_named ends
-  pub ended : EachEndsAs seat.seen share.terms.limit files ends
+  pub ended : EachEndsAs unit seat.seen share.terms.limit files ends
   pub queries : IsAsked seat.seen share.terms.limit asks asked

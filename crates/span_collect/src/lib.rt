@@ -24,6 +24,7 @@ pub use queries::Asked;
 pub use runs::{Collected, RunEnd, RunError, collect_to_ledger, run, run_to_ledger};
 pub use sealing::Sealing;
 pub use settings::Settings;
+pub use span_event::Unit;
 pub use span_ledger::{
     Answer, ArgValue, Args, AsyncKey, AsyncRow, AsyncTotals, BoxedId, BoxedReply, Cause,
     ClosedSpan, CountRow, Entry, Event, Field, FlowKey, FlowRow, FlowTotals, IdKey, InstantRow,

@@ -8,9 +8,9 @@ use crate::files::{FileEnd, Input};
 use crate::gate::Gate;
 use crate::reading_places::ReadingPlaces;
 use crate::remaining::Remaining;
-use span_event::{Item, Items};
+use span_event::{Item, Items, Unit};
 use span_ledger::Cause;
-use span_read::{ReadError, read_items};
+use span_read::{ReadError, read_items_in};
 use span_share::{Seat, Share};
 use std::alloc::Global;
 use std::sync::Wait;
@@ -23,16 +23,17 @@ pub(crate) fn work<G: Gate, R: Wait>(
     gate: &G,
     places: &ReadingPlaces,
     worker: u32,
+    unit: Unit,
     file: &Input,
     seat: &mut Seat,
 ) -> FileEnd
     requires { IsNewSeat share.now seat.old }
-    ensures { IsWorked share.now (doc file.now.bytes.items) result seat.new }
+    ensures { IsWorked share.now (doc unit file.now.bytes.items) result seat.new }
 {
     let caller = seat.number();
     gate.read(worker);
     let place = places.take(rt, worker);
-    let read = read_items(alloc, &file.bytes);
+    let read = read_items_in(alloc, unit, &file.bytes);
     drop(place);
     match read {
         Ok(items) => tell_all(rt, alloc, share, gate, worker, items, seat),

@@ -9,6 +9,7 @@ use crate::gate::Gate;
 use crate::queries::{Asked, ask_all};
 use crate::reading_places::{PLACES, ReadingPlaces};
 use crate::worker::work;
+use span_event::Unit;
 use span_ledger::Query;
 use span_share::{Seat, Share};
 use std::alloc::{AllocError, Global};
@@ -25,6 +26,7 @@ const BYTES_OF_ENTRY: usize = 192;
 struct Workplace<'s, G> {
     gate: &'s G,
     places: &'s ReadingPlaces,
+    unit: Unit,
     workers: u32,
     // For how many entries room is made.
     expected: u32,
@@ -33,12 +35,13 @@ struct Workplace<'s, G> {
 // What a worker's thread promises of its end and its seat.
 #[derive(Drop)]
 struct Worked {
+    unit: Unit,
     share: Snapshot<Share>,
     file: Snapshot<Input>,
 }
 
 impl Promise<(FileEnd, Seat)> for Worked {
-    ghost kept_by = { λ p r. IsWorked p.share.value (doc p.file.value.bytes.items) r.0 r.1 };
+    ghost kept_by = { λ p r. IsWorked p.share.value (doc p.unit p.file.value.bytes.items) r.0 r.1 };
 }
 
 // A seat for each file, in order; none where every number was given.
@@ -73,13 +76,16 @@ fn start_worker<'s, E, G: Gate, R: Wait + Sync>(
     seat: Option<Seat>,
 ) -> Option<PromisedHandle<(FileEnd, Seat), Worked>>
     requires { IfSome seat (IsNewSeat share.now) }
+    ensures unit { IfSome result (λ handle. handle.promise.unit ≡ workplace.now.unit) }
     ensures share { IfSome result (λ handle. handle.promise.share.value ≡ share.now) }
     ensures file { IfSome result (λ handle. handle.promise.file.value ≡ file.now) }
 {
     let seat = seat?;
     let gate = workplace.gate;
     let places = workplace.places;
+    let unit = workplace.unit;
     let promise = Worked {
+        unit,
         share: Snapshot::of(share),
         file: Snapshot::of(file),
     };
@@ -88,10 +94,12 @@ fn start_worker<'s, E, G: Gate, R: Wait + Sync>(
             promise,
             move ||
                 requires { IsNewSeat share.now seat }
-                ensures { IsWorked share.entry.now (doc file.entry.now.bytes.items) result.0 result.1 }
+                ensures { IsWorked share.entry.now (doc unit file.entry.now.bytes.items) result.0 result.1 }
             {
                 let mut seat = seat;
-                let end = work(rt, alloc, share, gate, places, worker, file, &mut seat);
+                let end = work(
+                    rt, alloc, share, gate, places, worker, unit, file, &mut seat,
+                );
                 (end, seat)
             },
         )
@@ -117,7 +125,7 @@ fn worker_of<'s, E, G: Gate, R: Wait + Sync>(
     seat: Option<Seat>,
 ) -> Worker
     requires { IfSome seat (IsNewSeat share.now) }
-    ensures { IsWorkerOf share.now file.now result }
+    ensures { IsWorkerOf workplace.now.unit share.now file.now result }
 {
     if place == 0 && asks.is_empty() {
         return Worker::Here(seat);
@@ -135,15 +143,15 @@ fn finish<G: Gate, R: Threads + Wait>(
     file: &Input,
     worker: Worker,
 ) -> Option<(FileEnd, Seat)>
-    requires { IsWorkerOf share.now file.now worker }
-    ensures { IfSome result (λ worked. IsWorked share.now (doc file.now.bytes.items) worked.0 worked.1) }
+    requires { IsWorkerOf workplace.now.unit share.now file.now worker }
+    ensures { IfSome result (λ worked. IsWorked share.now (doc workplace.now.unit file.now.bytes.items) worked.0 worked.1) }
 {
     match worker {
         Worker::Thread(handle) => Some(handle?.join(rt)),
         Worker::Here(seat) => {
             let mut seat = seat?;
-            let (gate, places) = (workplace.gate, workplace.places);
-            let end = work(rt, alloc, share, gate, places, place, file, &mut seat);
+            let (gate, places, unit) = (workplace.gate, workplace.places, workplace.unit);
+            let end = work(rt, alloc, share, gate, places, place, unit, file, &mut seat);
             Some((end, seat))
         }
     }
@@ -164,7 +172,7 @@ fn work_all<'s, E, G: Gate, R: Threads + Wait + Sync>(
     ends: &mut Vec<FileEnd>,
 ) -> Asked
     requires { IsReadyToWork share.now files.now seats.old.items main.old ends.old }
-    ensures met { HasMet share.now files.now asks.now ends.new.items result main.new }
+    ensures met { HasMet workplace.now.unit share.now files.now asks.now ends.new.items result main.new }
     ensures room { vec_capacity ends.new ≡ vec_capacity ends.old }
 {
     let Some((file, others)) = files.split_last() else {
@@ -216,6 +224,7 @@ pub(crate) fn run_workers<G: Gate, R: Threads + Wait + Sync>(
     alloc: Global,
     share: &Share,
     gate: &G,
+    unit: Unit,
     files: &[Input],
     asks: &[Query],
     seats: Vec<Option<Seat>>,
@@ -223,7 +232,7 @@ pub(crate) fn run_workers<G: Gate, R: Threads + Wait + Sync>(
     ends: Vec<FileEnd>,
 ) -> (Asked, Seat, Vec<FileEnd>)
     requires { IsReadyToWork share.now files.now seats.items main ends }
-    ensures { HasMet share.now files.now asks.now result.2.items result.0 result.1 }
+    ensures { HasMet unit share.now files.now asks.now result.2.items result.0 result.1 }
 {
     let places = ReadingPlaces::new();
     let reading = &places;
@@ -232,7 +241,7 @@ pub(crate) fn run_workers<G: Gate, R: Threads + Wait + Sync>(
         rt,
         move |scope|
             requires { IsReadyToWork share.now files.now seats.items main ends }
-            ensures { HasMet share.entry.now files.entry.now asks.entry.now result.2.items result.0 result.1 }
+            ensures { HasMet unit share.entry.now files.entry.now asks.entry.now result.2.items result.0 result.1 }
         {
             let mut seats = seats;
             let mut main = main;
@@ -240,6 +249,7 @@ pub(crate) fn run_workers<G: Gate, R: Threads + Wait + Sync>(
             let workplace = Workplace {
                 gate,
                 places: reading,
+                unit,
                 workers: files.len() as u32,
                 expected: entries_expected(files),
             };

@@ -41,7 +41,7 @@ TakesRuns-alike old new run other alike takes columns runs is =
 -- one file has one end
 pub length-alone : (file : Input) (settings : Settings) (ends : List FileEnd) (asked : Asked) (sealing : Sealing) (journal : List Entry) → SealedAccount (file ∷ []) [] settings ends asked sealing journal → length ends ≡ 1
 length-alone file settings ends asked sealing journal account =
-    AllZip-long (λ (f : Input) (end : FileEnd). EndsAs account.told settings.limit (doc f.bytes.items) end) (file ∷ []) ends account.account.each_file_once_in_order
+    AllZip-long (λ (f : Input) (end : FileEnd). EndsAs account.told settings.limit (doc settings.unit f.bytes.items) end) (file ∷ []) ends account.account.each_file_once_in_order
 
 module _ (file : Input) (settings : Settings) (ends : List FileEnd) (asked : Asked) (sealing : Sealing) (journal : List Entry)
     (account : SealedAccount (file ∷ []) [] settings ends asked sealing journal) (below : status_of ends asked sealing < 2) where
@@ -54,17 +54,17 @@ module _ (file : Input) (settings : Settings) (ends : List FileEnd) (asked : Ask
     journal = journal;
     account = account;
     status = below;
-    alike = AreAlikeRuns-in_turn (file ∷ []) settings ends asked sealing journal account (AreSeparate-one file) below;
+    alike = AreAlikeRuns-in_turn (file ∷ []) settings ends asked sealing journal account (AreSeparate-one settings.unit file) below;
   }
 
   -- its run may stand for the one of its items in their order
   pub TakesRuns-alone : (old new : SpanTable) → TakesRuns old (run_of_files (file ∷ []) ends journal ∷ []) new → TakesRuns old (run_alone settings file ∷ []) new
   TakesRuns-alone old new = TakesRuns-alike old new (run_of_files (file ∷ []) ends journal) (run_alone settings file)
-      (AreAlikeRuns-in_turn (file ∷ []) settings ends asked sealing journal account (AreSeparate-one file) below)
+      (AreAlikeRuns-in_turn (file ∷ []) settings ends asked sealing journal account (AreSeparate-one settings.unit file) below)
 
   -- and its fault lines are its refusal line
-  pub end_lines-alone : end_lines (file ∷ []) ends ≡ refusal_line file
-  end_lines-alone = end_lines-in_turn (file ∷ []) [] settings ends asked sealing journal account (AreSeparate-one file) below ∙ append-nil (refusal_line file)
+  pub end_lines-alone : end_lines (file ∷ []) ends ≡ refusal_line settings.unit file
+  end_lines-alone = end_lines-in_turn (file ∷ []) [] settings ends asked sealing journal account (AreSeparate-one settings.unit file) below ∙ append-nil (refusal_line settings.unit file)
 
 -- a sum that takes the run of a file, and its lines, has the file
 abbrev pub AddsFile-run : (known : List ℕ → Option (List ℕ)) (name : List ℕ) (settings : Settings) (run : FileRun) (old new : Summed) → IsFileRun known name settings run →

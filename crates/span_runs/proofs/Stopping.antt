@@ -113,7 +113,7 @@ module _ (known : Bytes → Option Bytes) (settings : Settings) where
     files = summed.files ++ stops.files;
     read = AreFiles-append known names stops.done summed.files stops.files summed.read stops.read;
     accounted = All-append (IsAccounted settings) summed.files stops.files summed.accounted stops.accounted;
-    told = told ∙ ap₂ (λ (xs ys : Bytes). xs ++ ys) summed.told stops.told ∙ sym (flat_map-append refusal_line summed.files stops.files);
+    told = told ∙ ap₂ (λ (xs ys : Bytes). xs ++ ys) summed.told stops.told ∙ sym (flat_map-append (refusal_line settings.unit) summed.files stops.files);
     cause = rw cause stops.cause;
   }
   StopsAmong-after names more columns table lines old new summed stops (inr of_sum) =

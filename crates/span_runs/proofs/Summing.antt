@@ -39,7 +39,7 @@ AreSummed-push known names name settings columns old new summed adds = record {
   read = AreFiles-push known names summed.files name adds.file summed.read adds.named adds.held;
   accounted = All-push (IsAccounted settings) summed.files adds.file summed.accounted adds.accounted;
   sum = adds.sum columns (map (run_alone settings) summed.files) summed.sum ∙ (λ i. table_of columns (sym (map_push (run_alone settings) summed.files adds.file) i));
-  told = adds.lines ∙ (λ i. summed.told i ++ refusal_line adds.file) ∙ sym (flat_map-append refusal_line summed.files (adds.file ∷ []) ∙ (λ i. flat_map refusal_line summed.files ++ append-nil (refusal_line adds.file) i));
+  told = adds.lines ∙ (λ i. summed.told i ++ refusal_line settings.unit adds.file) ∙ sym (flat_map-append (refusal_line settings.unit) summed.files (adds.file ∷ []) ∙ (λ i. flat_map (refusal_line settings.unit) summed.files ++ append-nil (refusal_line settings.unit adds.file) i));
 }
 
 -- those of two groups
@@ -56,5 +56,5 @@ AreSummed-append known names more settings columns first second both lines later
   read = AreFiles-append known names more one.files other.files one.read other.read;
   accounted = All-append (IsAccounted settings) one.files other.files one.accounted other.accounted;
   sum = joins columns (map (run_alone settings) one.files) (map (run_alone settings) other.files) one.sum other.sum ∙ (λ i. table_of columns (sym (map-append (run_alone settings) one.files other.files) i));
-  told = ap₂ (λ (xs ys : Bytes). xs ++ ys) one.told other.told ∙ sym (flat_map-append refusal_line one.files other.files);
+  told = ap₂ (λ (xs ys : Bytes). xs ++ ys) one.told other.told ∙ sym (flat_map-append (refusal_line settings.unit) one.files other.files);
 }

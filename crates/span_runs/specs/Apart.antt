@@ -2,6 +2,7 @@
 use Rattle.std.specs.Prelude.{◌≡◌, ℕ, ◌<◌, List, [], ◌∷◌, ◌++◌, length, map, flat_map, All, Option}
 use Rattle.span_event.specs.Text.{Bytes}
 use Rattle.span_ledger.specs.declared.entry.Entry.{Entry}
+use Rattle.span_event.specs.declared.unit.Unit.{Unit}
 use Rattle.span_read.specs.Document.{doc}
 use Rattle.span_collect.specs.declared.files.FileEnd.{FileEnd}
 use Rattle.span_collect.specs.declared.files.Input.{Input}
@@ -50,8 +51,8 @@ abbrev pub run_of : FileRun → Run
 run_of run = run_of_files (run.file ∷ []) run.collected.end.ends.items run.collected.ledger.journal
 
 -- the fault line of a file that is no trace; another has none
-abbrev pub refusal_line : Input → Bytes
-refusal_line file = end_line file.name (end_by 1 (doc file.bytes.items))
+abbrev pub refusal_line : Unit → Input → Bytes
+refusal_line unit file = end_line file.name (end_by 1 (doc unit file.bytes.items))
 
 -- Each of the files of these names was collected alone; the table is that of their runs, and the lines are those of the files that are
 -- no trace, both in the files' order.
@@ -60,7 +61,7 @@ pub record AreSummed (known : List ℕ → Option (List ℕ)) (names : List (Lis
   pub read : AreFiles known names files
   pub accounted : All (IsAccounted settings) files
   pub sum : table ≡ table_of columns (map (run_alone settings) files)
-  pub told : lines ≡ flat_map refusal_line files
+  pub told : lines ≡ flat_map (refusal_line settings.unit) files
 
 -- this is what files of these names come to
 abbrev pub SumsFiles : (List ℕ → Option (List ℕ)) → List (List ℕ) → Settings → List Column → Summed → Type 0
@@ -73,4 +74,4 @@ pub record AddsFile (known : List ℕ → Option (List ℕ)) (name : List ℕ) (
   pub held : AreFirst most_read (known name) file.bytes.items
   pub accounted : IsAccounted settings file
   pub sum : TakesRuns old.sum (run_alone settings file ∷ []) new.sum
-  pub lines : new.lines.items ≡ old.lines.items ++ refusal_line file
+  pub lines : new.lines.items ≡ old.lines.items ++ refusal_line settings.unit file

@@ -22,7 +22,7 @@ run_of_files files ends journal = run_of journal (length files) (unread_of ends)
 
 -- the run of these files where they are read in turn
 abbrev pub run_in_turn : Settings → List Input → Run
-run_in_turn settings files = run_of_files files (ends_from 1 files) (journal_in_turn settings files [])
+run_in_turn settings files = run_of_files files (ends_from settings.unit 1 files) (journal_in_turn settings files [])
 
 abbrev pub table_of_run : List Column → Run → SpanTable
 table_of_run columns run = table_of columns (run ∷ [])

@@ -93,7 +93,7 @@ module _ (known : Bytes → Option Bytes) (settings : Settings) where
     pub files : List Input
     pub read : AreFiles known done files
     pub accounted : All (IsAccounted settings) files
-    pub told : stop.lines.items ≡ flat_map refusal_line files
+    pub told : stop.lines.items ≡ flat_map (refusal_line settings.unit) files
     pub cause : StopsBefore later stop.cause
 
   -- of a job the same, unless it gave up since another had stopped

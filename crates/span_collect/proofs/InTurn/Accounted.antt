@@ -4,6 +4,7 @@ use Rattle.std.specs.Prelude.{if◌then◌else◌}
 use Rattle.std.specs.List.{AllZip, list_any, range_with_len}
 use Rattle.std.specs.Option.{is_some}
 use Rattle.std.proofs.Math.Seq.{take-length}
+use Rattle.span_event.specs.declared.unit.Unit.{Unit}
 use Rattle.span_read.specs.Document.{doc}
 use Rattle.span_ledger.specs.declared.entry.Answer.{Answer}
 use Rattle.span_ledger.specs.declared.entry.Entry.{Entry}
@@ -48,21 +49,21 @@ refused-tells journal (Ok items) c code is = absurd is
 refused-tells journal (Err error) c code is = is.1
 
 -- where no file was cut the callers of the ends told all items
-ends-tell : (journal : List Entry) (limit : ℕ) (files : List Input) (ends : List FileEnd) → EachEndsAs journal limit files ends → list_any is_cut ends ≡ false →
-    AllZip (λ file c. operations journal c ≡ telling (items_in (doc file.bytes.items))) files (callers_named ends)
-ends-tell journal limit [] [] each none = tt
-ends-tell journal limit [] (end ∷ ends) each none = absurd each
-ends-tell journal limit (f ∷ fs) [] each none = absurd each
-ends-tell journal limit (f ∷ fs) (Read c count ∷ ends) each none = (read-tells journal (doc f.bytes.items) c count each.0, ends-tell journal limit fs ends each.1 none)
-ends-tell journal limit (f ∷ fs) (Refused c code ∷ ends) each none = (refused-tells journal (doc f.bytes.items) c code each.0, ends-tell journal limit fs ends each.1 none)
-ends-tell journal limit (f ∷ fs) (Stopped c done cause ∷ ends) each none = absurd cc
-ends-tell journal limit (f ∷ fs) (NotStarted ∷ ends) each none = absurd cc
+ends-tell : (unit : Unit) (journal : List Entry) (limit : ℕ) (files : List Input) (ends : List FileEnd) → EachEndsAs unit journal limit files ends → list_any is_cut ends ≡ false →
+    AllZip (λ file c. operations journal c ≡ telling (items_in (doc unit file.bytes.items))) files (callers_named ends)
+ends-tell unit journal limit [] [] each none = tt
+ends-tell unit journal limit [] (end ∷ ends) each none = absurd each
+ends-tell unit journal limit (f ∷ fs) [] each none = absurd each
+ends-tell unit journal limit (f ∷ fs) (Read c count ∷ ends) each none = (read-tells journal (doc unit f.bytes.items) c count each.0, ends-tell unit journal limit fs ends each.1 none)
+ends-tell unit journal limit (f ∷ fs) (Refused c code ∷ ends) each none = (refused-tells journal (doc unit f.bytes.items) c code each.0, ends-tell unit journal limit fs ends each.1 none)
+ends-tell unit journal limit (f ∷ fs) (Stopped c done cause ∷ ends) each none = absurd cc
+ends-tell unit journal limit (f ∷ fs) (NotStarted ∷ ends) each none = absurd cc
 
 Account-tells : (files : List Input) (asks : List Query) (settings : Settings) (ends : List FileEnd) (asked : Asked) (journal : List Entry) → Account files asks settings ends asked journal → list_any is_cut ends ≡ false →
-    TellsFiles settings.strict files (take asked.done asks) (callers_named ends) journal
+    TellsFiles settings.unit settings.strict files (take asked.done asks) (callers_named ends) journal
 Account-tells files asks settings ends asked journal account none = record {
   legal = account.legal;
-  told = ends-tell journal settings.limit files ends account.each_file_once_in_order none;
+  told = ends-tell settings.unit journal settings.limit files ends account.each_file_once_in_order none;
   asked = account.each_query_once_in_order.recorded;
   distinct = account.distinct_callers;
   only = account.nothing_else;
@@ -94,7 +95,7 @@ map-zip f g (c ∷ cs) (d ∷ ds) zip = ap₂ (λ x xs. x ∷ xs) zip.0 (map-zip
 
 module _ (files : List Input) (asks : List Query) (settings : Settings) (ends : List FileEnd) (asked : Asked) (sealing : Sealing) (journal : List Entry) (sealed : SealedAccount files asks settings ends asked sealing journal) where
   abbrev in_turn : List Entry
-  in_turn = told_in_turn settings.strict files asks
+  in_turn = told_in_turn settings.unit settings.strict files asks
 
   -- in the journal in turn the seals are nobody's but caller 0's
   calls-in_turn : (c : ℕ) → 0 ≢ c → calls caller_of c (journal_in_turn settings files asks) ≡ calls caller_of c in_turn
@@ -108,7 +109,7 @@ module _ (files : List Input) (asks : List Query) (settings : Settings) (ends : 
   pub SealedAccount-answers : AnswersAsInTurn files asks settings ends journal
   SealedAccount-answers separate none =
       let tells = Account-tells files asks settings ends asked sealed.told sealed.account none in
-      let tells' = told_in_turn-tells settings.strict files asks in
+      let tells' = told_in_turn-tells settings.unit settings.strict files asks in
       let callers = range_with_len 1 (length files) in
       map-zip (answers_of journal) (answers_of (journal_in_turn settings files asks)) (callers_named ends) callers
       (AllZip-files _ _ (λ c d. answers_of journal c ≡ answers_of (journal_in_turn settings files asks) d) files (callers_named ends) callers tells.told tells'.told
@@ -118,8 +119,8 @@ module _ (files : List Input) (asks : List Query) (settings : Settings) (ends : 
       answers_of-exchanges journal c
       ∙ ap (map (λ (x : Op × Answer). x.1))
       (ap exchanges (calls-sealed c other settings.seal settings.strict settings.limit sealed.told journal sealing sealed.seals)
-      ∙ exchanges-alone answers-follow settings.strict files (take asked.done asks) separate (callers_named ends) sealed.told tells place file c at under
-      ∙ sym (exchanges-alone answers-follow settings.strict files asks separate callers in_turn tells' place file d at under')
+      ∙ exchanges-alone settings.unit answers-follow settings.strict files (take asked.done asks) separate (callers_named ends) sealed.told tells place file c at under
+      ∙ sym (exchanges-alone settings.unit answers-follow settings.strict files asks separate callers in_turn tells' place file d at under')
       ∙ ap exchanges (sym (calls-in_turn d other')))
       ∙ sym (answers_of-exchanges (journal_in_turn settings files asks) d)))
 
@@ -134,7 +135,7 @@ module _ (files : List Input) (asks : List Query) (settings : Settings) (ends : 
   none_of None is = refl
   none_of (Some cause) is = cc
 
-  module _ (separate : AreSeparate files) (below : status_of ends asked sealing < 2) where
+  module _ (separate : AreSeparate settings.unit files) (below : status_of ends asked sealing < 2) where
     all : (list_any is_cut ends ≡ false) × (is_some asked.cause ≡ false) × (is_some sealing.cause ≡ false)
     all = status-all (list_any is_cut ends) (is_some asked.cause) (is_some sealing.cause) (if list_any is_refused ends then 1 else 0) below
 
@@ -145,13 +146,13 @@ module _ (files : List Input) (asks : List Query) (settings : Settings) (ends : 
 
     AreAlike-told : AreAlike sealed.told in_turn
     AreAlike-told =
-        let tells : TellsFiles settings.strict files asks (callers_named ends) sealed.told =
-        subst (λ qs. TellsFiles settings.strict files qs (callers_named ends) sealed.told) all_asked (Account-tells files asks settings ends asked sealed.told sealed.account all.0) in
-        let tells' = told_in_turn-tells settings.strict files asks in
+        let tells : TellsFiles settings.unit settings.strict files asks (callers_named ends) sealed.told =
+        subst (λ qs. TellsFiles settings.unit settings.strict files qs (callers_named ends) sealed.told) all_asked (Account-tells files asks settings ends asked sealed.told sealed.account all.0) in
+        let tells' = told_in_turn-tells settings.unit settings.strict files asks in
         let callers = range_with_len 1 (length files) in
         record {
-          counts = count_row-told answers-follow settings.strict files asks separate (callers_named ends) callers sealed.told in_turn tells tells';
-          acts = acts_on-told answers-follow settings.strict files asks separate (callers_named ends) callers sealed.told in_turn tells tells';
+          counts = count_row-told settings.unit answers-follow settings.strict files asks separate (callers_named ends) callers sealed.told in_turn tells tells';
+          acts = acts_on-told settings.unit answers-follow settings.strict files asks separate (callers_named ends) callers sealed.told in_turn tells tells';
         }
 
     -- the journal is like that of the files in turn
@@ -168,15 +169,15 @@ module _ (files : List Input) (asks : List Query) (settings : Settings) (ends : 
         by false same = subst (λ j. AreAlike j in_turn) (sym same.0) AreAlike-told
 
     -- so its text of refusals is that in turn
-    pub refusals_of-in_turn : refusals_of files ends journal ≡ refusals_of files (ends_from 1 files) (journal_in_turn settings files asks)
+    pub refusals_of-in_turn : refusals_of files ends journal ≡ refusals_of files (ends_from settings.unit 1 files) (journal_in_turn settings files asks)
     refusals_of-in_turn =
         ap₂ (λ (counts : CountRow) (lines : List ℕ). head_lines counts ++ lines) AreAlike-in_turn.counts
-        (file_lines-same journal (journal_in_turn settings files asks) sealed.told settings.limit 1 files ends sealed.account.each_file_once_in_order all.0 (SealedAccount-answers separate all.0))
+        (file_lines-same settings.unit journal (journal_in_turn settings files asks) sealed.told settings.limit 1 files ends sealed.account.each_file_once_in_order all.0 (SealedAccount-answers separate all.0))
 
     -- and as many files are refused as a whole
-    pub unread_of-in_turn : unread_of ends ≡ unread_of (ends_from 1 files)
-    unread_of-in_turn = unread_of-same sealed.told settings.limit 1 files ends sealed.account.each_file_once_in_order all.0
+    pub unread_of-in_turn : unread_of ends ≡ unread_of (ends_from settings.unit 1 files)
+    unread_of-in_turn = unread_of-same settings.unit sealed.told settings.limit 1 files ends sealed.account.each_file_once_in_order all.0
 
     -- and their fault lines are those in turn
-    pub end_lines-in_turn : end_lines files ends ≡ end_lines files (ends_from 1 files)
-    end_lines-in_turn = end_lines-same sealed.told settings.limit 1 files ends sealed.account.each_file_once_in_order all.0
+    pub end_lines-in_turn : end_lines files ends ≡ end_lines files (ends_from settings.unit 1 files)
+    end_lines-in_turn = end_lines-same settings.unit sealed.told settings.limit 1 files ends sealed.account.each_file_once_in_order all.0

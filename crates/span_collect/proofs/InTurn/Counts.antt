@@ -4,6 +4,7 @@ use Rattle.std.specs.Prelude.{filter, slice_get, sum_by}
 use Rattle.std.specs.List.{AllByRecursion, AllZip, count_by}
 use Rattle.std.proofs.lemmas.List.Elements.{All-filter}
 use Rattle.std.proofs.lemmas.List.Sums.{length-filter, sum_by-cons}
+use Rattle.span_event.specs.declared.unit.Unit.{Unit}
 use Rattle.span_ledger.specs.declared.entry.Answer.{Answer}
 use Rattle.span_ledger.specs.declared.entry.Answer.TheVariants.{Reply}
 use Rattle.span_ledger.specs.declared.entry.Entry.{Entry}
@@ -90,12 +91,12 @@ count_by-replied kind (x ∷ xs) replied =
     ∙ ap₂ (λ (m n : ℕ). m + n) (ap (λ (a : Answer). cond (is_of kind a) 1 0) replied.0.1) (count_by-replied kind xs replied.1)
     ∙ sym (sum_by-cons each x.op (map (λ (e : Entry). e.op) xs))
 
-module _ (answers-follow : AnswersFollowFromActs) (strict : Bool) (files : List Input) (asks : List Query) (separate : AreSeparate files) where
-  module _ (cs : List ℕ) (journal : List Entry) (tells_files : TellsFiles strict files asks cs journal) where
+module _ (unit : Unit) (answers-follow : AnswersFollowFromActs) (strict : Bool) (files : List Input) (asks : List Query) (separate : AreSeparate unit files) where
+  module _ (cs : List ℕ) (journal : List Entry) (tells_files : TellsFiles unit strict files asks cs journal) where
     replied_at : (p : ℕ) (e : Entry) → slice_get journal p ≡ Some e → e.caller ≡ 0 → IsReplied e
-    replied_at p e at own = by (entry_is strict files asks cs journal tells_files p e at)
+    replied_at p e at own = by (entry_is unit strict files asks cs journal tells_files p e at)
       where
-        by : IsOfFiles files cs e → IsReplied e
+        by : IsOfFiles unit files cs e → IsReplied e
         by (inl query) = (reply_to (take p journal) query.1, tells_files.legal p e at ∙ ap (answer_to strict (take p journal)) query.2 ∙ answer_to-query strict (take p journal) query.1)
         by (inr of_file) = absurd (tells_files.distinct.0 (subst (Contains cs) own (Contains-place cs of_file.place e.caller of_file.under)))
 
@@ -111,7 +112,7 @@ module _ (answers-follow : AnswersFollowFromActs) (strict : Bool) (files : List 
     count_by-queries : (kind : Kind) → count_by (λ e. is_of kind e.answer) (calls caller_of 0 journal) ≡ sum_by (λ (op : Op). cond (same_kind kind replied_kind) 1 0) (map (λ e. e.op) (calls caller_of 0 journal))
     count_by-queries kind = count_by-replied kind (calls caller_of 0 journal) (replied-calls journal (AllByRecursion-places (λ e. e.caller ≡ 0 → IsReplied e) journal replied_at))
 
-  module _ (cs ds : List ℕ) (journal other : List Entry) (tells : TellsFiles strict files asks cs journal) (tells' : TellsFiles strict files asks ds other) where
+  module _ (cs ds : List ℕ) (journal other : List Entry) (tells : TellsFiles unit strict files asks cs journal) (tells' : TellsFiles unit strict files asks ds other) where
     count_of-told : (kind : Kind) → count_of kind journal ≡ count_of kind other
     count_of-told kind =
         let test : Entry → Bool = λ e. is_of kind e.answer in
@@ -119,7 +120,7 @@ module _ (answers-follow : AnswersFollowFromActs) (strict : Bool) (files : List 
         let queries : AreAsMany test journal other 0 0 = count_by-queries cs journal tells kind ∙ ap (sum_by each) (tells.asked ∙ sym tells'.asked) ∙ sym (count_by-queries ds other tells' kind) in
         let items = AllZip-files _ _ (AreAsMany test journal other) files cs ds tells.told tells'.told
         (λ place file c d at under under'. count_by-exchanges kind (calls caller_of c journal)
-        ∙ ap (sum_by (λ (x : Op × Answer). cond (is_of kind x.1) 1 0)) (exchanges-alone answers-follow strict files asks separate cs journal tells place file c at under ∙ sym (exchanges-alone answers-follow strict files asks separate ds other tells' place file d at under'))
+        ∙ ap (sum_by (λ (x : Op × Answer). cond (is_of kind x.1) 1 0)) (exchanges-alone unit answers-follow strict files asks separate cs journal tells place file c at under ∙ sym (exchanges-alone unit answers-follow strict files asks separate ds other tells' place file d at under'))
         ∙ sym (count_by-exchanges kind (calls caller_of d other))) in
         total-filter test (0 ∷ cs) journal tells.distinct tells.only
         ∙ total-zip test (0 ∷ cs) (0 ∷ ds) journal other (queries, items)

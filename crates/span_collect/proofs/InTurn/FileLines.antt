@@ -2,6 +2,7 @@
 use Rattle.std.proofs.Common.{◌≡◌, ℕ, suc, ◌+◌, List, [], ◌∷◌, ◌++◌, length, map, false, Some, Ok, Err, refl, sym, ap, ap₂, ◌∙◌}
 use Rattle.std.specs.Prelude.{flat_map}
 use Rattle.std.specs.List.{list_any, range_with_len}
+use Rattle.span_event.specs.declared.unit.Unit.{Unit}
 use Rattle.span_read.specs.Document.{doc}
 use Rattle.span_ledger.specs.declared.entry.Answer.{Answer}
 use Rattle.span_ledger.specs.declared.entry.Entry.{Entry}
@@ -25,18 +26,18 @@ caller_lines-same journal other name document c d same =
     ap (λ (answers : List Answer). flat_map (refused_line name) (refused_by answers)) same ∙ sym (ap (caller_lines other name) (caller_named-end_by d document))
 
 -- the lines of all files, where the callers from one number on got the answers of those that the ends name
-pub file_lines-same : (journal other told : List Entry) (limit k : ℕ) (files : List Input) (ends : List FileEnd) → EachEndsAs told limit files ends → list_any is_cut ends ≡ false →
+pub file_lines-same : (unit : Unit) (journal other told : List Entry) (limit k : ℕ) (files : List Input) (ends : List FileEnd) → EachEndsAs unit told limit files ends → list_any is_cut ends ≡ false →
     map (answers_of journal) (callers_named ends) ≡ map (answers_of other) (range_with_len k (length files)) →
-    lines_of_ends (file_lines journal) files ends ≡ lines_of_ends (file_lines other) files (ends_from k files)
-file_lines-same journal other told limit k [] [] each none same = refl
-file_lines-same journal other told limit k [] (end ∷ ends) each none same = absurd each
-file_lines-same journal other told limit k (f ∷ fs) [] each none same = absurd each
-file_lines-same journal other told limit k (f ∷ fs) (Read c count ∷ ends) each none same =
-    ap₂ (λ (x y : List ℕ). x ++ y) (caller_lines-same journal other f.name (doc f.bytes.items) c k (cc)) (file_lines-same journal other told limit (k + 1) fs ends each.1 none (cc))
-file_lines-same journal other told limit k (f ∷ fs) (Refused c code ∷ ends) each none same =
-    ap₂ (λ (x y : List ℕ). x ++ y) (caller_lines-same journal other f.name (doc f.bytes.items) c k (cc)) (file_lines-same journal other told limit (k + 1) fs ends each.1 none (cc))
-file_lines-same journal other told limit k (f ∷ fs) (Stopped c done cause ∷ ends) each none same = absurd cc
-file_lines-same journal other told limit k (f ∷ fs) (NotStarted ∷ ends) each none same = absurd cc
+    lines_of_ends (file_lines journal) files ends ≡ lines_of_ends (file_lines other) files (ends_from unit k files)
+file_lines-same unit journal other told limit k [] [] each none same = refl
+file_lines-same unit journal other told limit k [] (end ∷ ends) each none same = absurd each
+file_lines-same unit journal other told limit k (f ∷ fs) [] each none same = absurd each
+file_lines-same unit journal other told limit k (f ∷ fs) (Read c count ∷ ends) each none same =
+    ap₂ (λ (x y : List ℕ). x ++ y) (caller_lines-same journal other f.name (doc unit f.bytes.items) c k (cc)) (file_lines-same unit journal other told limit (k + 1) fs ends each.1 none (cc))
+file_lines-same unit journal other told limit k (f ∷ fs) (Refused c code ∷ ends) each none same =
+    ap₂ (λ (x y : List ℕ). x ++ y) (caller_lines-same journal other f.name (doc unit f.bytes.items) c k (cc)) (file_lines-same unit journal other told limit (k + 1) fs ends each.1 none (cc))
+file_lines-same unit journal other told limit k (f ∷ fs) (Stopped c done cause ∷ ends) each none same = absurd cc
+file_lines-same unit journal other told limit k (f ∷ fs) (NotStarted ∷ ends) each none same = absurd cc
 
 unread_of-read : (told : List Entry) (document : Document) (c count k : ℕ) (rest : List FileEnd) → IsRead told document c count → unread_of (end_by k document ∷ rest) ≡ unread_of rest
 unread_of-read told (Ok items) c count k rest is = refl
@@ -47,16 +48,16 @@ unread_of-refused told (Ok items) c code k rest is = absurd is
 unread_of-refused told (Err error) c code k rest is = refl
 
 -- as many are refused as where callers from one number on tell them
-pub unread_of-same : (told : List Entry) (limit k : ℕ) (files : List Input) (ends : List FileEnd) → EachEndsAs told limit files ends → list_any is_cut ends ≡ false → unread_of ends ≡ unread_of (ends_from k files)
-unread_of-same told limit k [] [] each none = refl
-unread_of-same told limit k [] (end ∷ ends) each none = absurd each
-unread_of-same told limit k (f ∷ fs) [] each none = absurd each
-unread_of-same told limit k (f ∷ fs) (Read c count ∷ ends) each none =
-    unread_of-same told limit (k + 1) fs ends each.1 none ∙ sym (unread_of-read told (doc f.bytes.items) c count k (ends_from (k + 1) fs) each.0)
-unread_of-same told limit k (f ∷ fs) (Refused c code ∷ ends) each none =
-    ap suc (unread_of-same told limit (k + 1) fs ends each.1 none) ∙ sym (unread_of-refused told (doc f.bytes.items) c code k (ends_from (k + 1) fs) each.0)
-unread_of-same told limit k (f ∷ fs) (Stopped c done cause ∷ ends) each none = absurd cc
-unread_of-same told limit k (f ∷ fs) (NotStarted ∷ ends) each none = absurd cc
+pub unread_of-same : (unit : Unit) (told : List Entry) (limit k : ℕ) (files : List Input) (ends : List FileEnd) → EachEndsAs unit told limit files ends → list_any is_cut ends ≡ false → unread_of ends ≡ unread_of (ends_from unit k files)
+unread_of-same unit told limit k [] [] each none = refl
+unread_of-same unit told limit k [] (end ∷ ends) each none = absurd each
+unread_of-same unit told limit k (f ∷ fs) [] each none = absurd each
+unread_of-same unit told limit k (f ∷ fs) (Read c count ∷ ends) each none =
+    unread_of-same unit told limit (k + 1) fs ends each.1 none ∙ sym (unread_of-read told (doc unit f.bytes.items) c count k (ends_from unit (k + 1) fs) each.0)
+unread_of-same unit told limit k (f ∷ fs) (Refused c code ∷ ends) each none =
+    ap suc (unread_of-same unit told limit (k + 1) fs ends each.1 none) ∙ sym (unread_of-refused told (doc unit f.bytes.items) c code k (ends_from unit (k + 1) fs) each.0)
+unread_of-same unit told limit k (f ∷ fs) (Stopped c done cause ∷ ends) each none = absurd cc
+unread_of-same unit told limit k (f ∷ fs) (NotStarted ∷ ends) each none = absurd cc
 
 end_line-read : (told : List Entry) (name : List ℕ) (document : Document) (c count k : ℕ) → IsRead told document c count → [] ≡ end_line name (end_by k document)
 end_line-read told name (Ok items) c count k is = refl
@@ -67,13 +68,13 @@ end_line-refused told name (Ok items) c code k is = absurd is
 end_line-refused told name (Err error) c code k is = ap (fault_line name) is.0
 
 -- the same fault lines are said as where callers from one number on tell them
-pub end_lines-same : (told : List Entry) (limit k : ℕ) (files : List Input) (ends : List FileEnd) → EachEndsAs told limit files ends → list_any is_cut ends ≡ false → end_lines files ends ≡ end_lines files (ends_from k files)
-end_lines-same told limit k [] [] each none = refl
-end_lines-same told limit k [] (end ∷ ends) each none = absurd each
-end_lines-same told limit k (f ∷ fs) [] each none = absurd each
-end_lines-same told limit k (f ∷ fs) (Read c count ∷ ends) each none =
-    ap₂ (λ (x y : List ℕ). x ++ y) (end_line-read told f.name (doc f.bytes.items) c count k each.0) (end_lines-same told limit (k + 1) fs ends each.1 none)
-end_lines-same told limit k (f ∷ fs) (Refused c code ∷ ends) each none =
-    ap₂ (λ (x y : List ℕ). x ++ y) (end_line-refused told f.name (doc f.bytes.items) c code k each.0) (end_lines-same told limit (k + 1) fs ends each.1 none)
-end_lines-same told limit k (f ∷ fs) (Stopped c done cause ∷ ends) each none = absurd cc
-end_lines-same told limit k (f ∷ fs) (NotStarted ∷ ends) each none = absurd cc
+pub end_lines-same : (unit : Unit) (told : List Entry) (limit k : ℕ) (files : List Input) (ends : List FileEnd) → EachEndsAs unit told limit files ends → list_any is_cut ends ≡ false → end_lines files ends ≡ end_lines files (ends_from unit k files)
+end_lines-same unit told limit k [] [] each none = refl
+end_lines-same unit told limit k [] (end ∷ ends) each none = absurd each
+end_lines-same unit told limit k (f ∷ fs) [] each none = absurd each
+end_lines-same unit told limit k (f ∷ fs) (Read c count ∷ ends) each none =
+    ap₂ (λ (x y : List ℕ). x ++ y) (end_line-read told f.name (doc unit f.bytes.items) c count k each.0) (end_lines-same unit told limit (k + 1) fs ends each.1 none)
+end_lines-same unit told limit k (f ∷ fs) (Refused c code ∷ ends) each none =
+    ap₂ (λ (x y : List ℕ). x ++ y) (end_line-refused told f.name (doc unit f.bytes.items) c code k each.0) (end_lines-same unit told limit (k + 1) fs ends each.1 none)
+end_lines-same unit told limit k (f ∷ fs) (Stopped c done cause ∷ ends) each none = absurd cc
+end_lines-same unit told limit k (f ∷ fs) (NotStarted ∷ ends) each none = absurd cc
