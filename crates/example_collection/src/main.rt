@@ -3,7 +3,7 @@
 #![tactic(auto)]
 
 use span_collect::{
-    Answer, Collected, CountRow, Input, Ledger, Query, Reply, Settings, Text, Writer, run_to_ledger,
+    Answer, Collected, CountRow, Input, Ledger, Query, Reply, Settings, Text, Unit, Writer, run_to_ledger,
 };
 use std::alloc::{AllocError, Global};
 use std::io;
@@ -18,6 +18,7 @@ const CLIENT: &str = r#"[{"ph":"M","name":"process_name","pid":2,"args":{"name":
     {"ph":"X","name":"request","ts":-5,"dur":110,"pid":2,"tid":7}]"#;
 
 const SETTINGS: Settings = Settings {
+    unit: Unit::Microseconds,
     limit: 1000,
     seal: false,
     strict: false,

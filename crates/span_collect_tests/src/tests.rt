@@ -1,6 +1,6 @@
 //! Whole collections of files in memory, by threads that race. Reports and fault lines were written by hand from the format.
 use span_collect::{
-    CollectError, FileEnd, FreeGate, Gate, Input, Outcome, RunEnd, RunError, Settings, collect,
+    CollectError, FileEnd, FreeGate, Gate, Input, Outcome, RunEnd, RunError, Settings, Unit, collect,
     fault_line_of, fault_lines, fault_word, numbered_text, run,
 };
 use span_event::Text;
@@ -27,6 +27,7 @@ mod seals;
 // A journal of so many entries, and nothing sealed.
 const fn up_to(limit: u32) -> Settings {
     Settings {
+        unit: Unit::Microseconds,
         limit,
         seal: false,
         strict: false,

@@ -21,7 +21,7 @@ module _ (view : ComparisonView) (base files : List Input) (settings : Settings)
     (base_ended : HasEnded base settings base_run base_journal) (ended : HasEnded files settings run journal) (below : greater base_run.status run.status < 2)
     (old new : SinkState) where
   both-hold : (Holds : TableRun → TableRun → Type 0) → Holds (run_of_files base base_run.ends.items base_journal) (run_of_files files run.ends.items journal) →
-      (AreSeparate base → AreSeparate files → Holds (run_in_turn settings base) (run_in_turn settings files)) → HoldsOfBoth Holds base files settings
+      (AreSeparate settings.unit base → AreSeparate settings.unit files → Holds (run_in_turn settings base) (run_in_turn settings files)) → HoldsOfBoth Holds base files settings
   both-hold Holds holds in_turn = record {
     base_run = base_run;
     run = run;

@@ -29,7 +29,7 @@ use Rattle.tracebook.specs.View.{ExceedsBits, ExceedsNames, text_of}
 use Rattle.tracebook.proofs.Compared.{greater-is}
 
 module _ (files : List Input) (settings : Settings) (ends : List FileEnd) (asked : Asked) (sealing : Sealing) (journal : List Entry)
-    (account : SealedAccount files [] settings ends asked sealing journal) (separate : AreSeparate files) (below : status_of ends asked sealing < 2) where
+    (account : SealedAccount files [] settings ends asked sealing journal) (separate : AreSeparate settings.unit files) (below : status_of ends asked sealing < 2) where
   alike : AreAlike journal (journal_in_turn settings files [])
   alike = AreAlike-in_turn files [] settings ends asked sealing journal account separate below
 
@@ -43,12 +43,12 @@ module _ (files : List Input) (settings : Settings) (ends : List FileEnd) (asked
   text_of-in_turn Refusals = refusals_of-in_turn files [] settings ends asked sealing journal account separate below
   text_of-in_turn (Folded labels) = (stacks-alike journal (journal_in_turn settings files []) alike).text labels.items
   text_of-in_turn (Page view) =
-      page_of-alike view.labels.items (table_text view.table false (asked_table view.table (run_of_files files ends journal))) files ends (ends_from 1 files) journal (journal_in_turn settings files []) alike
+      page_of-alike view.labels.items (table_text view.table false (asked_table view.table (run_of_files files ends journal))) files ends (ends_from settings.unit 1 files) journal (journal_in_turn settings files []) alike
       (refusals_of-in_turn files [] settings ends asked sealing journal account separate below) (end_lines-in_turn files [] settings ends asked sealing journal account separate below)
-      ∙ ap (λ (table : SpanTable). page_of view.labels.items (table_text view.table false table) files (ends_from 1 files) (journal_in_turn settings files [])) (table-in_turn view.table)
+      ∙ ap (λ (table : SpanTable). page_of view.labels.items (table_text view.table false table) files (ends_from settings.unit 1 files) (journal_in_turn settings files [])) (table-in_turn view.table)
 
   -- whether folded stacks have more names than they may
-  pub ExceedsNames-in_turn : (view : View) → ExceedsNames view ends journal → ExceedsNames view (ends_from 1 files) (journal_in_turn settings files [])
+  pub ExceedsNames-in_turn : (view : View) → ExceedsNames view ends journal → ExceedsNames view (ends_from settings.unit 1 files) (journal_in_turn settings files [])
   ExceedsNames-in_turn Report exceeds = exceeds
   ExceedsNames-in_turn (Table view) exceeds = exceeds
   ExceedsNames-in_turn Refusals exceeds = exceeds
@@ -56,7 +56,7 @@ module _ (files : List Input) (settings : Settings) (ends : List FileEnd) (asked
   ExceedsNames-in_turn (Page view) exceeds = exceeds
 
   -- and whether numbers for other programs have more bits
-  pub ExceedsBits-in_turn : (view : View) → ExceedsBits view files ends journal → ExceedsBits view files (ends_from 1 files) (journal_in_turn settings files [])
+  pub ExceedsBits-in_turn : (view : View) → ExceedsBits view files ends journal → ExceedsBits view files (ends_from settings.unit 1 files) (journal_in_turn settings files [])
   ExceedsBits-in_turn Report exceeds = exceeds
   ExceedsBits-in_turn (Table view) exceeds = subst (λ (table : SpanTable). TableExceeds view table) (table-in_turn view) exceeds
   ExceedsBits-in_turn Refusals exceeds = exceeds
@@ -66,7 +66,7 @@ module _ (files : List Input) (settings : Settings) (ends : List FileEnd) (asked
 -- two runs that ended, neither with 2
 module _ (view : ComparisonView) (base files : List Input) (settings : Settings) (base_run run : RunEnd) (base_journal journal : List Entry)
     (base_ended : HasEnded base settings base_run base_journal) (ended : HasEnded files settings run journal)
-    (separate_base : AreSeparate base) (separate : AreSeparate files) (below : greater base_run.status run.status < 2) where
+    (separate_base : AreSeparate settings.unit base) (separate : AreSeparate settings.unit files) (below : greater base_run.status run.status < 2) where
   base_below : base_run.status < 2
   base_below = omega (arith, below, (greater-is base_run.status run.status).0)
 

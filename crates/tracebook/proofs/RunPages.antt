@@ -33,10 +33,10 @@ TakesRun-alone labels known name settings run old new is takes runs holds =
     let end = run.collected.end in
     let journal = run.collected.ledger.journal in
     let other = journal_in_turn settings files [] in
-    let separate = AreSeparate-one run.file in
+    let separate = AreSeparate-one settings.unit run.file in
     let alike = AreAlike-in_turn files [] settings end.ends.items end.asked end.sealing journal is.account separate is.status in
     Holds-alike labels runs (shown_run run) (shown_alone settings run.file) new
-    (run_json-alike labels journal other alike files end.ends.items (ends_from 1 files)
+    (run_json-alike labels journal other alike files end.ends.items (ends_from settings.unit 1 files)
     (refusals_of-in_turn files [] settings end.ends.items end.asked end.sealing journal is.account separate is.status)
     (end_lines-in_turn files [] settings end.ends.items end.asked end.sealing journal is.account separate is.status))
     (left_behind-follows labels journal other alike)

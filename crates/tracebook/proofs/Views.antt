@@ -48,7 +48,7 @@ module _ (view : View) (inputs : List Input) (settings : Settings) (run : RunEnd
   below : status_of run.ends.items run.asked run.sealing < 2
   below = status_of-lt run.ends.items run.asked run.sealing (λ two. some (status ∙ two))
 
-  unwritten : (Exceeds : OfEnds) → (new ≡ old) × Exceeds run.ends.items journal → (AreSeparate inputs → Exceeds (ends_from 1 inputs) (journal_in_turn settings inputs [])) → IsUnwritten Exceeds inputs settings old new
+  unwritten : (Exceeds : OfEnds) → (new ≡ old) × Exceeds run.ends.items journal → (AreSeparate settings.unit inputs → Exceeds (ends_from settings.unit 1 inputs) (journal_in_turn settings inputs [])) → IsUnwritten Exceeds inputs settings old new
   unwritten Exceeds leaves in_turn = record {
     run = run;
     journal = journal;

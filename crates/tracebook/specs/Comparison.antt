@@ -89,7 +89,7 @@ pub record IsComparisonOf (view : ComparisonView) (base files : List Input) (set
   pub written : greater base_run.status run.status < 2
       → TakesBytes old new (changes_of_runs view (run_of_files base base_run.ends.items base_journal) (run_of_files files run.ends.items journal))
   pub silent : greater base_run.status run.status ≡ 2 → new ≡ old
-  pub in_turn : AreSeparate base → AreSeparate files → greater base_run.status run.status < 2 → TakesBytes old new (comparison_in_turn view base files settings)
+  pub in_turn : AreSeparate settings.unit base → AreSeparate settings.unit files → greater base_run.status run.status < 2 → TakesBytes old new (comparison_in_turn view base files settings)
 
 -- Both runs ended, neither with 2, and this holds of them, as of two runs of files that are read in turn, if the files of each are
 -- separate.
@@ -102,7 +102,7 @@ pub record HoldsOfBoth (Holds : Run → Run → Type 0) (base files : List Input
   pub ended : HasEnded files settings run journal
   pub status : greater base_run.status run.status < 2
   pub holds : Holds (run_of_files base base_run.ends.items base_journal) (run_of_files files run.ends.items journal)
-  pub in_turn : AreSeparate base → AreSeparate files → Holds (run_in_turn settings base) (run_in_turn settings files)
+  pub in_turn : AreSeparate settings.unit base → AreSeparate settings.unit files → Holds (run_in_turn settings base) (run_in_turn settings files)
 
 -- why two runs were not compared, and what that leaves: only a failed output took bytes, the first of what changed
 abbrev pub ComparisonLeaves : ComparisonView → ComparisonFault → List Input → List Input → Settings → SinkState → SinkState → Type 0

@@ -17,7 +17,7 @@ use Rattle.tracebook.specs.Tables.{TableFits, table_text}
 
 -- the run of a file alone, in which its items stand in their order, as a page shows it
 abbrev pub shown_alone : Settings → Input → ShownRun
-shown_alone settings file = record { files = file ∷ []; ends = ends_from 1 (file ∷ []); journal = journal_in_turn settings (file ∷ []) [] }
+shown_alone settings file = record { files = file ∷ []; ends = ends_from settings.unit 1 (file ∷ []); journal = journal_in_turn settings (file ∷ []) [] }
 
 -- the most files whose runs a page shows
 abbrev pub most_shown : ℕ

@@ -1,6 +1,7 @@
 -- What the words of a command line ask for, and what a request does.
 use Rattle.std.specs.Prelude.{◌≡◌, ℕ, ◌⊎◌, Bool, false, List, take, codes, nat_eq, string_bytes, None}
 use Rattle.std.specs.List.{list_any, starts_with}
+use Rattle.span_event.specs.declared.unit.Unit.TheVariants.{Microseconds}
 use Rattle.span_report.specs.Sink.{SinkState, TakesBytes, Fails}
 use Rattle.span_collect.specs.declared.files.Input.{Input}
 use Rattle.span_collect.specs.declared.settings.Settings.{Settings}
@@ -34,7 +35,7 @@ default_limit = 16777216
 
 -- the settings where it doesn't say
 abbrev pub default_settings : Settings
-default_settings = record { limit = default_limit; seal = false; strict = false }
+default_settings = record { unit = Microseconds; limit = default_limit; seal = false; strict = false }
 
 -- the files of these names are to be collected, with the default settings, and reported
 abbrev pub NamesFiles : List (List ℕ) → Request → Type 0

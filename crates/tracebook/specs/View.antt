@@ -99,7 +99,7 @@ pub record IsUnwritten (Exceeds : OfEnds) (inputs : List Input) (settings : Sett
   pub account : SealedAccount inputs [] settings run.ends.items run.asked run.sealing journal
   pub ended : status_of run.ends.items run.asked run.sealing < 2
   pub exceeds : Exceeds run.ends.items journal
-  pub in_turn : AreSeparate inputs → Exceeds (ends_from 1 inputs) (journal_in_turn settings inputs [])
+  pub in_turn : AreSeparate settings.unit inputs → Exceeds (ends_from settings.unit 1 inputs) (journal_in_turn settings inputs [])
   pub silent : new ≡ old
 
 -- why a view was not written whole, and what that leaves

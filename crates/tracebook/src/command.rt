@@ -15,7 +15,7 @@ use crate::view::{PageView, View};
 use clap::error::{Error, ErrorKind};
 use clap::{ArgMatches, Command};
 use span_collect::Settings;
-use span_event::Text;
+use span_event::{Text, Unit};
 use span_runs::Named;
 use span_table::{By, Column, Shown};
 use std::alloc::{AllocError, Global};
@@ -83,6 +83,7 @@ pub fn request_of(alloc: Global, words: Vec<Text>) -> Result<Request, AllocError
         return parsed_request(alloc, &words);
     }
     let settings = Settings {
+        unit: Unit::Microseconds,
         limit: DEFAULT_LIMIT,
         seal: false,
         strict: false,
@@ -275,6 +276,7 @@ fn request_of_matches(
     columns: Vec<Column>,
 ) -> Result<Request, AllocError> {
     let settings = Settings {
+        unit: Unit::Microseconds,
         limit: matches.get_one::<u32>("limit").unwrap_or(DEFAULT_LIMIT),
         seal: matches.get_flag("seal"),
         strict: matches.get_flag("strict"),

@@ -1,6 +1,6 @@
 //! Files that have nothing in common, whose report no order of workers changes, and two that have.
 use super::{After, Together, collect_files, file_of, files_of};
-use span_collect::{FreeGate, Gate, Input, Settings};
+use span_collect::{FreeGate, Gate, Input, Settings, Unit};
 use span_report::report;
 use std::alloc::{AllocError, AllocGlobal, Global};
 use std::process::Abort;
@@ -11,12 +11,14 @@ use std::test::Fail;
 use std::thread::Threads;
 
 const SEALED: Settings = Settings {
+    unit: Unit::Microseconds,
     limit: 100,
     seal: true,
     strict: false,
 };
 
 const UNSEALED: Settings = Settings {
+    unit: Unit::Microseconds,
     limit: 100,
     seal: false,
     strict: false,

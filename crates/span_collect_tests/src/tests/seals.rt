@@ -1,6 +1,6 @@
 //! What a collection and a run tell where the open spans are sealed.
 use super::file_of;
-use span_collect::{FreeGate, Input, Outcome, RunEnd, Settings, collect, run};
+use span_collect::{FreeGate, Input, Outcome, RunEnd, Settings, Unit, collect, run};
 use span_ledger::{Cause, Query};
 use span_report::Writer;
 use std::alloc::{AllocError, AllocGlobal, Global};
@@ -36,6 +36,7 @@ span        1                0                0 \"a\"
 
 fn sealed_up_to(limit: u32) -> Settings {
     Settings {
+        unit: Unit::Microseconds,
         limit,
         seal: true,
         strict: false,
