@@ -21,6 +21,6 @@ key_lines-alike = record {
 
 -- journals that are alike have the same report
 pub report_of-alike : ReportsFollowFromActs
-report_of-alike journal other alike =
+report_of-alike unit journal other alike =
     let rows = rows-follow journal other alike in
-    λ i. head_lines (alike.counts i) ++ (flat_map process_lines (rows.parts i) ++ (flat_map async_line (rows.asynchronous i) ++ flat_map flow_line (rows.flows i)))
+    λ i. head_lines unit (alike.counts i) ++ (flat_map process_lines (rows.parts i) ++ (flat_map async_line (rows.asynchronous i) ++ flat_map flow_line (rows.flows i)))

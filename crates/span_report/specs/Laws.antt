@@ -1,6 +1,7 @@
 -- What decides a report.
 use Rattle.std.specs.Prelude.{◌≡◌, ℕ, ℤ, List, filter, flat_map}
 use Rattle.std.specs.Ordering.{is_eq}
+use Rattle.span_event.specs.declared.unit.Unit.{Unit}
 use Rattle.span_keyed_tracks.specs.declared.async_track.AsyncRow.{AsyncRow}
 use Rattle.span_keyed_tracks.specs.declared.flow_track.FlowRow.{FlowRow}
 use Rattle.span_keyed_tracks.specs.declared.keys.AsyncKey.{AsyncKey}
@@ -32,6 +33,6 @@ pub record KeyLinesFollowFromActs : Type 0 where
   pub asynchronous : (key : AsyncKey) (journal other : List Entry) → acts_on (of_async key) journal ≡ acts_on (of_async key) other → async_lines key journal ≡ async_lines key other
   pub flows : (key : FlowKey) (journal other : List Entry) → acts_on (of_flow key) journal ≡ acts_on (of_flow key) other → flow_lines key journal ≡ flow_lines key other
 
--- journals that have the same accepted acts on each topic, and as many entries of each kind, have the same report
+-- journals that have the same accepted acts on each topic, and as many entries of each kind, have the same report in each unit
 abbrev pub ReportsFollowFromActs : Type 0
-ReportsFollowFromActs = (journal other : List Entry) → AreAlike journal other → report_of journal ≡ report_of other
+ReportsFollowFromActs = (unit : Unit) (journal other : List Entry) → AreAlike journal other → report_of unit journal ≡ report_of unit other

@@ -6,6 +6,8 @@ use Rattle.json.specs.Print.{quoted}
 use Rattle.span_event.specs.declared.event.IdKey.{IdKey}
 use Rattle.span_event.specs.declared.event.Reach.{Reach}
 use Rattle.span_event.specs.declared.event.Reach.TheVariants.{Global, Process, Thread}
+use Rattle.span_event.specs.declared.unit.Unit.{Unit}
+use Rattle.span_event.specs.declared.unit.Unit.TheVariants.{Microseconds, Nanoseconds}
 use Rattle.span_keyed_tracks.specs.declared.async_track.AsyncRow.{AsyncRow}
 use Rattle.span_keyed_tracks.specs.declared.counter_track.SeriesRow.{SeriesRow}
 use Rattle.span_keyed_tracks.specs.declared.counter_track.SeriesTotals.{SeriesTotals}
@@ -35,6 +37,11 @@ or_dash text (Some a) = text a
 
 unfoldable pub first_line : List ℕ
 first_line = line_of (codes "tracebook" ∷ codes "1" ∷ [])
+
+-- the unit of all times and lengths, where it isn't microseconds
+unfoldable pub unit_line : Unit → List ℕ
+unit_line Microseconds = []
+unit_line Nanoseconds = line_of (codes "unit" ∷ codes "nanoseconds" ∷ [])
 
 unfoldable pub count_line : CountRow → List ℕ
 count_line row = line_of (codes "events" ∷ decimal row.accepted ∷ codes "refused" ∷ decimal row.refused ∷ codes "skipped" ∷ decimal row.skipped ∷ codes "queries" ∷ decimal row.queries ∷ [])

@@ -1,10 +1,11 @@
 -- The report of a journal.
 use Rattle.std.specs.Prelude.{ℕ, List, ◌++◌, flat_map}
+use Rattle.span_event.specs.declared.unit.Unit.{Unit}
 use Rattle.span_ledger.specs.declared.entry.Entry.{Entry}
 use Rattle.span_ledger.specs.declared.rows.CountRow.{CountRow}
 use Rattle.span_ledger.specs.Parts.{ProcessRows, ThreadRows, process_parts}
 use Rattle.span_ledger.specs.Rows.{async_rows, count_row, flow_rows}
-use Rattle.span_report.specs.Lines.{async_line, count_line, counter_line, first_line, flow_line, instant_line, process_line, seals_line, span_line, thread_line}
+use Rattle.span_report.specs.Lines.{async_line, count_line, counter_line, first_line, flow_line, instant_line, process_line, seals_line, span_line, thread_line, unit_line}
 
 -- the line of a thread, after it one for each of its names, and then one for each name and reach of its instants
 abbrev pub thread_lines : ThreadRows → List ℕ
@@ -14,11 +15,11 @@ thread_lines part = thread_line part.row ++ (flat_map span_line part.spans ++ fl
 abbrev pub process_lines : ProcessRows → List ℕ
 process_lines part = process_line part.row ++ (flat_map thread_lines part.threads ++ flat_map counter_line part.series)
 
--- the head: two lines, and one more where spans were sealed
-abbrev pub head_lines : CountRow → List ℕ
-head_lines counts = first_line ++ (count_line counts ++ seals_line counts.seals)
+-- the head: two lines, between them one more that says a unit other than microseconds, and behind them one more where spans were sealed
+abbrev pub head_lines : Unit → CountRow → List ℕ
+head_lines unit counts = first_line ++ (unit_line unit ++ (count_line counts ++ seals_line counts.seals))
 
 -- the head, and then the lines of processes, of asynchronous keys and of flow keys
-abbrev pub report_of : List Entry → List ℕ
-report_of journal =
-    head_lines (count_row journal) ++ (flat_map process_lines (process_parts journal) ++ (flat_map async_line (async_rows journal) ++ flat_map flow_line (flow_rows journal)))
+abbrev pub report_of : Unit → List Entry → List ℕ
+report_of unit journal =
+    head_lines unit (count_row journal) ++ (flat_map process_lines (process_parts journal) ++ (flat_map async_line (async_rows journal) ++ flat_map flow_line (flow_rows journal)))

@@ -1,9 +1,9 @@
 //! The lines of a report: one for each row, appended to a text.
 ghost use Rattle.std.specs.Prelude.{◌≡◌, ◌++◌, ℕ, List, string_bytes, OnOk, IfOk};
-ghost use Rattle.span_report.specs.Lines.{first_line, count_line, seals_line, process_line, thread_line, span_line, or_dash, json_text_of, reach_text, instant_line, id_text, counter_line, samples_text, async_line, flow_line};
+ghost use Rattle.span_report.specs.Lines.{first_line, unit_line, count_line, seals_line, process_line, thread_line, span_line, or_dash, json_text_of, reach_text, instant_line, id_text, counter_line, samples_text, async_line, flow_line};
 
 use serde_json::Value;
-use span_event::{BoxedId, Reach, Text};
+use span_event::{BoxedId, Reach, Text, Unit};
 use span_keyed_tracks::{AsyncRow, FlowRow, InstantRow, SeriesRow, SeriesTotals};
 use span_ledger::{CountRow, ProcessRow, SpanRow, ThreadRow};
 use std::alloc::{AllocError, Global};
@@ -41,6 +41,17 @@ pub fn first_line(alloc: Global) -> Result<String, AllocError>
     ensures { IfOk result (λ s. string_bytes s ≡ first_line) }
 {
     String::from_str(alloc, "tracebook 1\n")
+}
+
+/// Appends the line that says the unit of all times and lengths, where it isn't microseconds.
+#[tactic(auto, unfolding(crate::specs::Lines::unit_line))]
+pub fn put_unit(out: &mut String, unit: Unit) -> Result<(), AllocError>
+    ensures { OnOk result (string_bytes out.new ≡ string_bytes out.old ++ unit_line unit) }
+{
+    match unit {
+        Unit::Microseconds => Ok(()),
+        Unit::Nanoseconds => out.push_str("unit nanoseconds\n"),
+    }
 }
 
 /// Appends the line that counts a journal's entries.

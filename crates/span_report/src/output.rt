@@ -6,7 +6,7 @@ ghost use Rattle.span_report.specs.Output.{write_code, WriteLeaves};
 
 use crate::sink::Sink;
 use crate::text::report;
-use span_event::Fault;
+use span_event::{Fault, Unit};
 use span_ledger::Ledger;
 use std::alloc::{AllocError, Global};
 
@@ -30,13 +30,19 @@ impl WriteFault {
     }
 }
 
-/// Writes the report of the ledger's journal. The first fault of the output ends it, and nothing is tried again.
-pub fn write_report<O: Sink>(alloc: Global, ledger: &Ledger, out: &mut O) -> Result<(), WriteFault>
-    ensures ok { OnOk result (TakesBytes (O.state out.old) (O.state out.new) (report_of ledger.now.journal)) }
+/// Writes the report of the ledger's journal, whose times are in this unit. The first fault of the output ends it, and nothing is
+/// tried again.
+pub fn write_report<O: Sink>(
+    alloc: Global,
+    unit: Unit,
+    ledger: &Ledger,
+    out: &mut O,
+) -> Result<(), WriteFault>
+    ensures ok { OnOk result (TakesBytes (O.state out.old) (O.state out.new) (report_of unit ledger.now.journal)) }
     ensures fault { IfErr result
-        (λ fault. WriteLeaves fault (report_of ledger.now.journal) (O.state out.old) (O.state out.new)) }
+        (λ fault. WriteLeaves fault (report_of unit ledger.now.journal) (O.state out.old) (O.state out.new)) }
 {
-    write_made(report(alloc, ledger), out)
+    write_made(report(alloc, unit, ledger), out)
 }
 
 /// Writes a text, if there was memory to make it. The first fault of the output ends it, and nothing is tried again.

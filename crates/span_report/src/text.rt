@@ -3,28 +3,30 @@ ghost use Rattle.std.specs.Prelude.{◌≡◌, ◌++◌, string_bytes, flat_map,
 ghost use Rattle.span_ledger.specs.Parts.{process_parts};
 ghost use Rattle.span_report.specs.Report.{head_lines, process_lines, report_of, thread_lines};
 
-use crate::lines::{Printed, first_line, put_counts, put_seals};
+use crate::lines::{Printed, first_line, put_counts, put_seals, put_unit};
+use span_event::Unit;
 use span_ledger::{CountRow, Ledger, ProcessPart, ThreadPart};
 use std::alloc::{AllocError, Global};
 
-/// The text of the report of the ledger's journal.
-pub fn report(alloc: Global, ledger: &Ledger) -> Result<Vec<u8>, AllocError>
-    ensures { IfOk result (λ text. text.items ≡ report_of ledger.now.journal) }
+/// The text of the report of the ledger's journal, whose times are in this unit.
+pub fn report(alloc: Global, unit: Unit, ledger: &Ledger) -> Result<Vec<u8>, AllocError>
+    ensures { IfOk result (λ text. text.items ≡ report_of unit ledger.now.journal) }
 {
-    let text = report_text(alloc, ledger, &ledger.parts(alloc)?)?;
+    let text = report_text(alloc, unit, ledger, &ledger.parts(alloc)?)?;
     Ok(text.into_bytes())
 }
 
 /// As `report`, for texts that hold it and need the ledger's parts too, which take the most time and memory.
 pub fn report_text(
     alloc: Global,
+    unit: Unit,
     ledger: &Ledger,
     parts: &[ProcessPart],
 ) -> Result<String, AllocError>
     requires { parts.now ≡ process_parts ledger.now.journal }
-    ensures { IfOk result (λ text. string_bytes text ≡ report_of ledger.now.journal) }
+    ensures { IfOk result (λ text. string_bytes text ≡ report_of unit ledger.now.journal) }
 {
-    let mut out = head(alloc, ledger.counts())?;
+    let mut out = head(alloc, unit, ledger.counts())?;
     put_each(alloc, &mut out, parts)?;
     put_each(alloc, &mut out, &ledger.async_rows(alloc)?)?;
     put_each(alloc, &mut out, &ledger.flow_rows(alloc)?)?;
@@ -32,10 +34,11 @@ pub fn report_text(
 }
 
 /// The lines that every report begins with.
-pub fn head(alloc: Global, counts: CountRow) -> Result<String, AllocError>
-    ensures { IfOk result (λ text. string_bytes text ≡ head_lines counts) }
+pub fn head(alloc: Global, unit: Unit, counts: CountRow) -> Result<String, AllocError>
+    ensures { IfOk result (λ text. string_bytes text ≡ head_lines unit counts) }
 {
     let mut out = first_line(alloc)?;
+    put_unit(&mut out, unit)?;
     put_counts(&mut out, counts)?;
     put_seals(&mut out, counts.seals)?;
     Ok(out)
