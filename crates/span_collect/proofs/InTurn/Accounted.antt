@@ -169,9 +169,9 @@ module _ (files : List Input) (asks : List Query) (settings : Settings) (ends : 
         by false same = subst (λ j. AreAlike j in_turn) (sym same.0) AreAlike-told
 
     -- so its text of refusals is that in turn
-    pub refusals_of-in_turn : refusals_of files ends journal ≡ refusals_of files (ends_from settings.unit 1 files) (journal_in_turn settings files asks)
+    pub refusals_of-in_turn : refusals_of settings.unit files ends journal ≡ refusals_of settings.unit files (ends_from settings.unit 1 files) (journal_in_turn settings files asks)
     refusals_of-in_turn =
-        ap₂ (λ (counts : CountRow) (lines : List ℕ). head_lines counts ++ lines) AreAlike-in_turn.counts
+        ap₂ (λ (counts : CountRow) (lines : List ℕ). head_lines settings.unit counts ++ lines) AreAlike-in_turn.counts
         (file_lines-same settings.unit journal (journal_in_turn settings files asks) sealed.told settings.limit 1 files ends sealed.account.each_file_once_in_order all.0 (SealedAccount-answers separate all.0))
 
     -- and as many files are refused as a whole

@@ -1,5 +1,6 @@
 -- The text that says which items were refused.
 use Rattle.std.specs.Prelude.{ℕ, List, [], ◌∷◌, ◌++◌, flat_map, Option, Some, None, codes, decimal}
+use Rattle.span_event.specs.declared.unit.Unit.{Unit}
 use Rattle.span_ledger.specs.declared.entry.Entry.{Entry}
 use Rattle.span_ledger.specs.Rows.{count_row}
 use Rattle.span_report.specs.Lines.{json_text_of, line_of, right_in}
@@ -28,5 +29,5 @@ abbrev pub file_lines : List Entry → List ℕ → FileEnd → List ℕ
 file_lines journal name end = caller_lines journal name (caller_named end)
 
 -- the head of the report, and then the lines of the files
-abbrev pub refusals_of : List Input → List FileEnd → List Entry → List ℕ
-refusals_of files ends journal = head_lines (count_row journal) ++ lines_of_ends (file_lines journal) files ends
+abbrev pub refusals_of : Unit → List Input → List FileEnd → List Entry → List ℕ
+refusals_of unit files ends journal = head_lines unit (count_row journal) ++ lines_of_ends (file_lines journal) files ends

@@ -6,6 +6,7 @@ ghost use Rattle.span_collect.specs.Refusals.Text.{refusals_of};
 
 use super::text::refusals;
 use crate::files::{FileEnd, Input};
+use span_event::Unit;
 use span_ledger::Ledger;
 use span_report::{Sink, WriteFault, write_made};
 use std::alloc::Global;
@@ -13,6 +14,7 @@ use std::alloc::Global;
 /// Writes which items of each file the ledger's journal refused. The first fault of the output ends it, and nothing is tried again.
 pub fn write_refusals<O: Sink>(
     alloc: Global,
+    unit: Unit,
     ledger: &Ledger,
     files: &[Input],
     ends: &[FileEnd],
@@ -20,9 +22,9 @@ pub fn write_refusals<O: Sink>(
 ) -> Result<(), WriteFault>
     requires { length files.now ≡ length ends.now }
     ensures ok { OnOk result
-        (TakesBytes (O.state out.old) (O.state out.new) (refusals_of files.now ends.now ledger.now.journal)) }
-    ensures fault { IfErr result
-        (λ fault. WriteLeaves fault (refusals_of files.now ends.now ledger.now.journal) (O.state out.old) (O.state out.new)) }
+        (TakesBytes (O.state out.old) (O.state out.new) (refusals_of unit files.now ends.now ledger.now.journal)) }
+    ensures fault { IfErr result (λ fault. WriteLeaves fault
+        (refusals_of unit files.now ends.now ledger.now.journal) (O.state out.old) (O.state out.new)) }
 {
-    write_made(refusals(alloc, ledger, files, ends), out)
+    write_made(refusals(alloc, unit, ledger, files, ends), out)
 }

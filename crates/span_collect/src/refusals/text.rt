@@ -8,38 +8,40 @@ use super::tallies::tallies;
 use super::tally::{Refused, Tally};
 use crate::files::{FileEnd, Input};
 use crate::words::numbered_text;
-use span_event::Text;
+use span_event::{Text, Unit};
 use span_ledger::Ledger;
 use span_report::{head, json_text};
 use std::alloc::{AllocError, Global};
 use std::collections::BTreeMap;
 
 /// The text of what was refused of each file, by the ledger's journal: which numbers, how many items each, and which item first,
-/// counted from 0 among the file's. There is one end for each file, in order.
+/// counted from 0 among the file's. Its head says the unit of the run. There is one end for each file, in order.
 pub fn refusals(
     alloc: Global,
+    unit: Unit,
     ledger: &Ledger,
     files: &[Input],
     ends: &[FileEnd],
 ) -> Result<Vec<u8>, AllocError>
     requires { length files.now ≡ length ends.now }
-    ensures { IfOk result (λ text. text.items ≡ refusals_of files.now ends.now ledger.now.journal) }
+    ensures { IfOk result (λ text. text.items ≡ refusals_of unit files.now ends.now ledger.now.journal) }
 {
-    let text = refusals_text(alloc, ledger, files, ends)?;
+    let text = refusals_text(alloc, unit, ledger, files, ends)?;
     Ok(text.into_bytes())
 }
 
 /// As `refusals`, for texts that hold it.
 pub fn refusals_text(
     alloc: Global,
+    unit: Unit,
     ledger: &Ledger,
     files: &[Input],
     ends: &[FileEnd],
 ) -> Result<String, AllocError>
     requires { length files.now ≡ length ends.now }
-    ensures { IfOk result (λ text. string_bytes text ≡ refusals_of files.now ends.now ledger.now.journal) }
+    ensures { IfOk result (λ text. string_bytes text ≡ refusals_of unit files.now ends.now ledger.now.journal) }
 {
-    let mut out = head(alloc, ledger.counts())?;
+    let mut out = head(alloc, unit, ledger.counts())?;
     let tallies = tallies(alloc, ledger)?;
     for (place, file) in files.iter().enumerate() {
         put_file(alloc, &mut out, &file.name, ends[place], &tallies)?;

@@ -16,4 +16,4 @@ loop-place-preserved c =
     let passed = lines_of_ends (file_lines journal) (take place c.args.files.now) (take place c.args.ends.now) in
     let added = file_lines journal c.index-files-place.result.name (get_or c.args.ends.now place (Read 0 0)) in
     let put = rw c.loop-place.invariant at (c.in_ok-put_file.ensures journal c.in_ok-tallies.ensures) in
-    rw (more, ← c.index-files-place.is) (put ∙ append_assoc (head_lines (count_row journal)) passed added)
+    rw (more, ← c.index-files-place.is) (put ∙ append_assoc (head_lines c.args.unit (count_row journal)) passed added)

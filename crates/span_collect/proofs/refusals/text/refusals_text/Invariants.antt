@@ -8,4 +8,4 @@ use Rattle.span_collect.proofs.refusals.text.refusals_text.Given as goal
 -- the head, and the lines of the files so far
 abbrev pub invariant-loop-place : goal.invariant-loop-place
 invariant-loop-place l =
-    string_bytes l.out ≡ head_lines (count_row l.ledger.journal) ++ lines_of_ends (file_lines l.ledger.journal) (take l.place l.files) (take l.place l.ends)
+    string_bytes l.out ≡ head_lines l.fn.unit (count_row l.ledger.journal) ++ lines_of_ends (file_lines l.ledger.journal) (take l.place l.files) (take l.place l.ends)
