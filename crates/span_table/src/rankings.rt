@@ -2,6 +2,7 @@
 ghost use Rattle.std.specs.Prelude.{◌≡◌, ◌++◌, string_bytes, take, flat_map, OnOk, IfOk};
 ghost use Rattle.std.specs.List.{IsDistinct};
 ghost use Rattle.std.specs.Ordering.{eq_by_cmp};
+ghost use Rattle.span_event.specs.declared.unit.Unit.TheVariants.{Microseconds};
 ghost use Rattle.span_report.specs.Report.{head_lines};
 ghost use Rattle.span_table.specs.Pieces.{sums_text};
 ghost use Rattle.span_table.specs.Ranking.{column_line, ranked_line, ranking_of};
@@ -45,9 +46,10 @@ pub fn ranking(
     Ok(out.into_bytes())
 }
 
-// The lines that every report begins with.
+// The lines that every report begins with, in microseconds, where none says the unit.
+#[tactic(auto, unfolding(span_report::specs::Lines::unit_line))]
 fn head(alloc: Global, counts: &HeadCounts) -> Result<String, AllocError>
-    ensures { IfOk result (λ text. string_bytes text ≡ head_lines counts.now) }
+    ensures { IfOk result (λ text. string_bytes text ≡ head_lines Microseconds counts.now) }
 {
     let mut out = first_line(alloc)?;
     put_counts(&mut out, counts)?;
