@@ -1,6 +1,7 @@
 -- A page of runs, with one run more.
 use Rattle.std.proofs.Common.{◌≡◌, ℕ, zero, Bool, true, false, List, [], ◌∷◌, ◌++◌, codes, refl, sym, ap, ◌∙◌, append_assoc, append-nil, arith}
 use Rattle.std.specs.List.{join_with_byte}
+use Rattle.span_event.specs.declared.unit.Unit.{Unit}
 use Rattle.span_report.specs.declared.stacks.label.SpanColumn.{SpanColumn}
 use Rattle.span_page.specs.Data.{most_frames}
 use Rattle.span_report.specs.Lines.{json_text_of}
@@ -24,36 +25,36 @@ join_with_byte-push first (next ∷ texts) text =
 append-page : (h k s a b c t : List ℕ) → ((((h ++ (k ++ s)) ++ a) ++ b) ++ c) ++ t ≡ h ++ ((k ++ (s ++ (a ++ (b ++ c)))) ++ t)
 append-page h k s a b c t = simp append_assoc refl
 
-module _ (labels : List SpanColumn) where
-  runs_json-push : (left : ℕ) (runs : List ShownRun) (run : ShownRun) → runs_json labels left (runs ++ run ∷ []) ≡ runs_json labels left runs ++ run_json labels (left_behind_runs labels left runs) run ∷ []
+-- what is before the data of one more run
+abbrev pub comma : Bool → List ℕ
+comma true = 44 ∷ []
+comma false = []
+
+module _ (unit : Unit) (labels : List SpanColumn) where
+  runs_json-push : (left : ℕ) (runs : List ShownRun) (run : ShownRun) → runs_json unit labels left (runs ++ run ∷ []) ≡ runs_json unit labels left runs ++ run_json unit labels (left_behind_runs labels left runs) run ∷ []
   runs_json-push left [] run = refl
-  runs_json-push left (first ∷ runs) run = ap (λ (texts : List (List ℕ)). run_json labels left first ∷ texts) (runs_json-push (left_behind_run labels left first) runs run)
+  runs_json-push left (first ∷ runs) run = ap (λ (texts : List (List ℕ)). run_json unit labels left first ∷ texts) (runs_json-push (left_behind_run labels left first) runs run)
 
   left_behind_runs-push : (left : ℕ) (runs : List ShownRun) (run : ShownRun) → left_behind_runs labels left (runs ++ run ∷ []) ≡ left_behind_run labels (left_behind_runs labels left runs) run
   left_behind_runs-push left [] run = refl
   left_behind_runs-push left (first ∷ runs) run = left_behind_runs-push (left_behind_run labels left first) runs run
 
-  -- what is before the data of one more run
-  abbrev pub comma : Bool → List ℕ
-  comma true = 44 ∷ []
-  comma false = []
-
   -- the text with one more run
   pub begun_text-push : (runs : List ShownRun) (run : ShownRun) →
-      (begun_text labels runs ++ comma (are_some runs)) ++ safe (run_json labels (left_behind_runs labels most_frames runs) run) ≡ begun_text labels (runs ++ run ∷ [])
+      (begun_text unit labels runs ++ comma (are_some runs)) ++ safe (run_json unit labels (left_behind_runs labels most_frames runs) run) ≡ begun_text unit labels (runs ++ run ∷ [])
   begun_text-push [] run =
-      ap (λ (t : List ℕ). t ++ safe (run_json labels most_frames run)) (append-nil (head_text ++ codes "{\"runs\":["))
-      ∙ append_assoc head_text (codes "{\"runs\":[") (safe (run_json labels most_frames run))
+      ap (λ (t : List ℕ). t ++ safe (run_json unit labels most_frames run)) (append-nil (head_text ++ codes "{\"runs\":["))
+      ∙ append_assoc head_text (codes "{\"runs\":[") (safe (run_json unit labels most_frames run))
   begun_text-push (first ∷ runs) run =
-      let more = run_json labels (left_behind_runs labels most_frames (first ∷ runs)) run in
-      let others = runs_json labels (left_behind_run labels most_frames first) runs in
-      let before = join_with_byte 44 (run_json labels most_frames first ∷ others) in
+      let more = run_json unit labels (left_behind_runs labels most_frames (first ∷ runs)) run in
+      let others = runs_json unit labels (left_behind_run labels most_frames first) runs in
+      let before = join_with_byte 44 (run_json unit labels most_frames first ∷ others) in
       append_assoc (head_text ++ (codes "{\"runs\":[" ++ safe before)) (44 ∷ []) (safe more)
       ∙ append_assoc head_text (codes "{\"runs\":[" ++ safe before) (44 ∷ safe more)
       ∙ ap (λ (t : List ℕ). head_text ++ (codes "{\"runs\":[" ++ t)) (
       ap (λ (t : List ℕ). safe before ++ t) (sym (safe-comma more))
       ∙ sym (safe_after-before 44 refl refl refl more zero before (omega arith))
-      ∙ ap safe (sym (join_with_byte-push (run_json labels most_frames first) others more)
+      ∙ ap safe (sym (join_with_byte-push (run_json unit labels most_frames first) others more)
       ∙ ap (join_with_byte 44) (sym (runs_json-push most_frames (first ∷ runs) run))))
 
   -- some are there
@@ -61,29 +62,29 @@ module _ (labels : List SpanColumn) where
   many [] run = refl
   many (first ∷ runs) run = refl
 
-  pub Holds-push : (runs : List ShownRun) (run : ShownRun) (old new : BegunPage) → Holds labels runs old →
-      new.text ≡ (old.text ++ comma old.has_run) ++ safe (run_json labels old.left run) → new.left ≡ left_behind_run labels old.left run → new.has_run ≡ true → Holds labels (runs ++ run ∷ []) new
+  pub Holds-push : (runs : List ShownRun) (run : ShownRun) (old new : BegunPage) → Holds unit labels runs old →
+      new.text ≡ (old.text ++ comma old.has_run) ++ safe (run_json unit labels old.left run) → new.left ≡ left_behind_run labels old.left run → new.has_run ≡ true → Holds unit labels (runs ++ run ∷ []) new
   Holds-push runs run old new holds text left some = record {
-    text = text ∙ (λ i. (holds.text i ++ comma (holds.some i)) ++ safe (run_json labels (holds.left i) run)) ∙ begun_text-push runs run;
+    text = text ∙ (λ i. (holds.text i ++ comma (holds.some i)) ++ safe (run_json unit labels (holds.left i) run)) ∙ begun_text-push runs run;
     left = left ∙ ap (λ n. left_behind_run labels n run) holds.left ∙ sym (left_behind_runs-push most_frames runs run);
     some = some ∙ sym (many runs run);
   }
 
   -- a run that has the same data, and leaves as many frames, may stand for the last
-  pub Holds-alike : (runs : List ShownRun) (one other : ShownRun) (page : BegunPage) → ((left : ℕ) → run_json labels left one ≡ run_json labels left other) →
-      ((left : ℕ) → left_behind_run labels left one ≡ left_behind_run labels left other) → Holds labels (runs ++ one ∷ []) page → Holds labels (runs ++ other ∷ []) page
+  pub Holds-alike : (runs : List ShownRun) (one other : ShownRun) (page : BegunPage) → ((left : ℕ) → run_json unit labels left one ≡ run_json unit labels left other) →
+      ((left : ℕ) → left_behind_run labels left one ≡ left_behind_run labels left other) → Holds unit labels (runs ++ one ∷ []) page → Holds unit labels (runs ++ other ∷ []) page
   Holds-alike runs one other page same behind holds = record {
     text = holds.text ∙ ap (λ (texts : List (List ℕ)). head_text ++ (codes "{\"runs\":[" ++ safe (join_with_byte 44 texts)))
-        (runs_json-push most_frames runs one ∙ ap (λ (text : List ℕ). runs_json labels most_frames runs ++ text ∷ []) (same (left_behind_runs labels most_frames runs)) ∙ sym (runs_json-push most_frames runs other));
+        (runs_json-push most_frames runs one ∙ ap (λ (text : List ℕ). runs_json unit labels most_frames runs ++ text ∷ []) (same (left_behind_runs labels most_frames runs)) ∙ sym (runs_json-push most_frames runs other));
     left = holds.left ∙ left_behind_runs-push most_frames runs one ∙ behind (left_behind_runs labels most_frames runs) ∙ sym (left_behind_runs-push most_frames runs other);
     some = holds.some ∙ many runs one ∙ sym (many runs other);
   }
 
   -- the text is ended by a table
   pub page_of_runs-begun : (table : List ℕ) (runs : List ShownRun) →
-      (((begun_text labels runs ++ codes "],\"table\":") ++ safe (json_text_of table)) ++ codes "}") ++ tail_text ≡ page_of_runs labels table runs
+      (((begun_text unit labels runs ++ codes "],\"table\":") ++ safe (json_text_of table)) ++ codes "}") ++ tail_text ≡ page_of_runs unit labels table runs
   unfolding page_of_runs
   page_of_runs-begun table runs =
-      let texts = runs_json labels most_frames runs in
+      let texts = runs_json unit labels most_frames runs in
       append-page head_text (codes "{\"runs\":[") (safe (join_with_byte 44 texts)) (codes "],\"table\":") (safe (json_text_of table)) (codes "}") tail_text
       ∙ ap (λ (t : List ℕ). head_text ++ (t ++ tail_text)) (sym (safe-runs texts table))

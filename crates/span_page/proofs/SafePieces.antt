@@ -4,6 +4,7 @@ use Rattle.std.specs.Prelude.{T, not, codes, map}
 use Rattle.std.proofs.Math.Facts.{no_eqb}
 use Rattle.std.specs.List.{join_with_byte, starts_with}
 use Rattle.json.specs.Print.{escape}
+use Rattle.span_event.specs.declared.unit.Unit.{Unit}
 use Rattle.span_ledger.specs.declared.entry.Entry.{Entry}
 use Rattle.span_report.specs.declared.stacks.label.SpanColumn.{SpanColumn}
 use Rattle.span_ledger.specs.Parts.{process_parts}
@@ -128,16 +129,16 @@ unfolding safe_byte
 safe-table table rest = ap (λ (t : List ℕ). codes ",\"table\":" ++ t) (safe-json table rest)
 
 -- what a page has of a run beside its report, from its pieces
-pub safe-rest : (left : ℕ) (labels : List SpanColumn) (files : List Input) (ends : List FileEnd) (journal : List Entry) →
-    safe (rest_of left labels files ends journal)
-    ≡ codes ",\"refused\":" ++ (safe (json_text_of (refusals_of files ends journal)) ++ (codes ",\"files\":" ++ (safe (names_json files)
+pub safe-rest : (unit : Unit) (left : ℕ) (labels : List SpanColumn) (files : List Input) (ends : List FileEnd) (journal : List Entry) →
+    safe (rest_of unit left labels files ends journal)
+    ≡ codes ",\"refused\":" ++ (safe (json_text_of (refusals_of unit files ends journal)) ++ (codes ",\"files\":" ++ (safe (names_json files)
     ++ (codes ",\"faults\":" ++ (safe (json_text_of (end_lines files ends)) ++ (codes ",\"stacks\":" ++ (safe (all_stacks_json left labels journal) ++ codes "}")))))))
 unfolding safe_byte
-safe-rest left labels files ends journal =
+safe-rest unit left labels files ends journal =
     let stacks = codes ",\"stacks\":" ++ (all_stacks_json left labels journal ++ codes "}") in
     let faults = codes ",\"faults\":" ++ (json_text_of (end_lines files ends) ++ stacks) in
-    ap (λ (t : List ℕ). codes ",\"refused\":" ++ t) (safe-json (refusals_of files ends journal) (codes ",\"files\":" ++ (names_json files ++ faults))
-    ∙ ap (λ (t : List ℕ). safe (json_text_of (refusals_of files ends journal)) ++ (codes ",\"files\":" ++ t)) (safe-names files faults
+    ap (λ (t : List ℕ). codes ",\"refused\":" ++ t) (safe-json (refusals_of unit files ends journal) (codes ",\"files\":" ++ (names_json files ++ faults))
+    ∙ ap (λ (t : List ℕ). safe (json_text_of (refusals_of unit files ends journal)) ++ (codes ",\"files\":" ++ t)) (safe-names files faults
     ∙ ap (λ (t : List ℕ). safe (names_json files) ++ (codes ",\"faults\":" ++ t)) (safe-json (end_lines files ends) stacks
     ∙ ap (λ (t : List ℕ). safe (json_text_of (end_lines files ends)) ++ (codes ",\"stacks\":" ++ t)) (safe-stacks left labels journal (codes "}")))))
 

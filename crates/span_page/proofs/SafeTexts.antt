@@ -38,4 +38,4 @@ All-safe_after zero (byte ∷ text) = by (begins_line (byte ∷ text)) (begins_p
     by false false later next = All-append Harmless (safe_byte byte) (safe_after 0 text) (All-safe_byte byte) next
 
 pub data-harmless : DataEndNoElement
-data-harmless labels table files ends journal = All-safe_after 0 (data_of labels table files ends journal)
+data-harmless unit labels table files ends journal = All-safe_after 0 (data_of unit labels table files ends journal)

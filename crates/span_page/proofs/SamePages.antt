@@ -1,6 +1,7 @@
 -- The page of a journal follows from what was refused, and from the acts on each topic.
 use Rattle.std.proofs.Common.{◌≡◌, ℕ, ◌-◌, cond, nat_lt, List, [], ◌∷◌, ◌++◌, codes, refl, ap, ap₂, ◌∙◌}
 use Rattle.span_event.specs.declared.thread.Thread.{Thread}
+use Rattle.span_event.specs.declared.unit.Unit.{Unit}
 use Rattle.span_ledger.specs.declared.entry.Entry.{Entry}
 use Rattle.span_ledger.specs.Parts.{process_parts}
 use Rattle.span_ledger.specs.Topics.{AreAlike}
@@ -52,8 +53,8 @@ module _ (labels : List SpanColumn) (journal other : List Entry) (alike : AreAli
   left_behind-follows left = left_behind-alike labels journal other (stacks-alike journal other alike) left (threads_of (process_parts journal))
       ∙ ap (λ parts. left_behind labels other left (threads_of parts)) (rows-follow journal other alike).parts
 
-  module _ (files : List Input) (ends others : List FileEnd) (refusals : refusals_of files ends journal ≡ refusals_of files others other) (faults : end_lines files ends ≡ end_lines files others) where
-    rest_of-alike : (left : ℕ) → rest_of left labels files ends journal ≡ rest_of left labels files others other
+  module _ (unit : Unit) (files : List Input) (ends others : List FileEnd) (refusals : refusals_of unit files ends journal ≡ refusals_of unit files others other) (faults : end_lines files ends ≡ end_lines files others) where
+    rest_of-alike : (left : ℕ) → rest_of unit left labels files ends journal ≡ rest_of unit left labels files others other
     rest_of-alike left = λ i.
         codes ",\"refused\":" ++ (json_text_of (refusals i)
         ++ (codes ",\"files\":" ++ (names_json files
@@ -61,15 +62,15 @@ module _ (labels : List SpanColumn) (journal other : List Entry) (alike : AreAli
         ++ (codes ",\"stacks\":" ++ (all_stacks_json-alike left i ++ codes "}")))))))
 
     -- a run has the same data
-    pub run_json-alike : (left : ℕ) → run_json labels left (record { files = files; ends = ends; journal = journal }) ≡ run_json labels left (record { files = files; ends = others; journal = other })
-    run_json-alike left = λ i. codes "{\"report\":" ++ (json_text_of (report_of-alike journal other alike i) ++ rest_of-alike left i)
+    pub run_json-alike : (left : ℕ) → run_json unit labels left (record { files = files; ends = ends; journal = journal }) ≡ run_json unit labels left (record { files = files; ends = others; journal = other })
+    run_json-alike left = λ i. codes "{\"report\":" ++ (json_text_of (report_of-alike unit journal other alike i) ++ rest_of-alike left i)
 
-    data_of-alike : (table : List ℕ) → data_of labels table files ends journal ≡ data_of labels table files others other
+    data_of-alike : (table : List ℕ) → data_of unit labels table files ends journal ≡ data_of unit labels table files others other
     data_of-alike table = λ i.
-        codes "{\"report\":" ++ (json_text_of (report_of-alike journal other alike i)
+        codes "{\"report\":" ++ (json_text_of (report_of-alike unit journal other alike i)
         ++ (codes ",\"table\":" ++ (json_text_of table ++ rest_of-alike most_frames i)))
 
 pub page_of-alike : PagesFollowFromActs
 unfolding page_of
-page_of-alike labels table files ends others journal other alike refusals faults =
-    ap (λ (text : List ℕ). head_text ++ (safe text ++ tail_text)) (data_of-alike labels journal other alike files ends others refusals faults table)
+page_of-alike unit labels table files ends others journal other alike refusals faults =
+    ap (λ (text : List ℕ). head_text ++ (safe text ++ tail_text)) (data_of-alike labels journal other alike unit files ends others refusals faults table)

@@ -2,6 +2,7 @@
 use Rattle.std.specs.Prelude.{ℕ, ◌-◌, nat_lt, if◌then◌else◌, List, [], ◌∷◌, ◌++◌, map, flat_map, codes, decimal}
 use Rattle.std.specs.List.{join_with_byte}
 use Rattle.span_event.specs.declared.thread.Thread.{Thread}
+use Rattle.span_event.specs.declared.unit.Unit.{Unit}
 use Rattle.span_ledger.specs.declared.entry.Entry.{Entry}
 use Rattle.span_ledger.specs.Parts.{ProcessRows, ThreadRows, process_parts}
 use Rattle.span_report.specs.Lines.{json_text_of}
@@ -76,15 +77,15 @@ names_json files = array_of (map (λ (file : Input). json_text_of file.name) fil
 
 -- what a page has of a run beside its report: which items were refused, the files' names, their fault lines, and the stacks of the
 -- threads whose graphs fit into so many frames
-abbrev pub rest_of : ℕ → List SpanColumn → List Input → List FileEnd → List Entry → List ℕ
-rest_of left labels files ends journal =
-    codes ",\"refused\":" ++ (json_text_of (refusals_of files ends journal)
+abbrev pub rest_of : Unit → ℕ → List SpanColumn → List Input → List FileEnd → List Entry → List ℕ
+rest_of unit left labels files ends journal =
+    codes ",\"refused\":" ++ (json_text_of (refusals_of unit files ends journal)
     ++ (codes ",\"files\":" ++ (names_json files
     ++ (codes ",\"faults\":" ++ (json_text_of (end_lines files ends)
     ++ (codes ",\"stacks\":" ++ (all_stacks_json left labels journal ++ codes "}")))))))
 
 -- the text of the report, that of a table of spans, and the rest
-abbrev pub data_of : List SpanColumn → List ℕ → List Input → List FileEnd → List Entry → List ℕ
-data_of labels table files ends journal =
-    codes "{\"report\":" ++ (json_text_of (report_of journal)
-    ++ (codes ",\"table\":" ++ (json_text_of table ++ rest_of most_frames labels files ends journal)))
+abbrev pub data_of : Unit → List SpanColumn → List ℕ → List Input → List FileEnd → List Entry → List ℕ
+data_of unit labels table files ends journal =
+    codes "{\"report\":" ++ (json_text_of (report_of unit journal)
+    ++ (codes ",\"table\":" ++ (json_text_of table ++ rest_of unit most_frames labels files ends journal)))

@@ -1,5 +1,6 @@
 -- The facts that hold of every page.
 use Rattle.std.specs.Prelude.{◌≡◌, ℕ, nat_eq, false, List, [], All}
+use Rattle.span_event.specs.declared.unit.Unit.{Unit}
 use Rattle.span_ledger.specs.declared.entry.Entry.{Entry}
 use Rattle.span_ledger.specs.Topics.{AreAlike}
 use Rattle.span_collect.specs.declared.files.FileEnd.{FileEnd}
@@ -15,8 +16,8 @@ use Rattle.span_page.specs.Safe.{safe}
 
 -- no byte of the data is `<`, so that nothing in them ends the element in which they stand
 abbrev pub DataEndNoElement : Type 0
-DataEndNoElement = (labels : List SpanColumn) (table : List ℕ) (files : List Input) (ends : List FileEnd) (journal : List Entry) →
-    All (λ byte. nat_eq byte 60 ≡ false) (safe (data_of labels table files ends journal))
+DataEndNoElement = (unit : Unit) (labels : List SpanColumn) (table : List ℕ) (files : List Input) (ends : List FileEnd) (journal : List Entry) →
+    All (λ byte. nat_eq byte 60 ≡ false) (safe (data_of unit labels table files ends journal))
 
 -- the stacks that were coded are had back
 abbrev pub StacksAreHadBack : Type 0
@@ -25,5 +26,5 @@ StacksAreHadBack = (stacks : List Folded) → decoded_after [] (coded_after [] s
 -- journals that have the same accepted acts on each topic, and as many entries of each kind, have the same page with a table, if the same
 -- is said of what was refused, and of the files that failed
 abbrev pub PagesFollowFromActs : Type 0
-PagesFollowFromActs = (labels : List SpanColumn) (table : List ℕ) (files : List Input) (ends others : List FileEnd) (journal other : List Entry) → AreAlike journal other →
-    refusals_of files ends journal ≡ refusals_of files others other → end_lines files ends ≡ end_lines files others → page_of labels table files ends journal ≡ page_of labels table files others other
+PagesFollowFromActs = (unit : Unit) (labels : List SpanColumn) (table : List ℕ) (files : List Input) (ends others : List FileEnd) (journal other : List Entry) → AreAlike journal other →
+    refusals_of unit files ends journal ≡ refusals_of unit files others other → end_lines files ends ≡ end_lines files others → page_of unit labels table files ends journal ≡ page_of unit labels table files others other

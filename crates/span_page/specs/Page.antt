@@ -1,5 +1,6 @@
 -- A page for a browser.
 use Rattle.std.specs.Prelude.{ℕ, List, ◌++◌}
+use Rattle.span_event.specs.declared.unit.Unit.{Unit}
 use Rattle.span_ledger.specs.declared.entry.Entry.{Entry}
 use Rattle.span_collect.specs.declared.files.FileEnd.{FileEnd}
 use Rattle.span_collect.specs.declared.files.Input.{Input}
@@ -15,6 +16,6 @@ head_text = HEAD.now
 unfoldable pub tail_text : List ℕ
 tail_text = TAIL.now
 
--- A fixed head, the data, and a fixed tail. Frames are labels by these columns, and the table of spans is this text.
-unfoldable pub page_of : List SpanColumn → List ℕ → List Input → List FileEnd → List Entry → List ℕ
-page_of labels table files ends journal = head_text ++ (safe (data_of labels table files ends journal) ++ tail_text)
+-- A fixed head, the data in this unit, and a fixed tail. Frames are labels by these columns, and the table of spans is this text.
+unfoldable pub page_of : Unit → List SpanColumn → List ℕ → List Input → List FileEnd → List Entry → List ℕ
+page_of unit labels table files ends journal = head_text ++ (safe (data_of unit labels table files ends journal) ++ tail_text)

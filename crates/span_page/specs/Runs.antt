@@ -1,6 +1,7 @@
 -- A page of several runs.
 use Rattle.std.specs.Prelude.{◌≡◌, ℕ, Bool, true, false, List, [], ◌∷◌, ◌++◌, codes}
 use Rattle.std.specs.List.{join_with_byte}
+use Rattle.span_event.specs.declared.unit.Unit.{Unit}
 use Rattle.span_ledger.specs.declared.entry.Entry.{Entry}
 use Rattle.span_ledger.specs.Parts.{process_parts}
 use Rattle.span_collect.specs.declared.files.FileEnd.{FileEnd}
@@ -19,32 +20,33 @@ pub record ShownRun : Type 0 where
   pub journal : List Entry
 
 module _ (labels : List SpanColumn) where
-  -- a run whose graphs fit into so many frames
-  abbrev pub run_json : ℕ → ShownRun → List ℕ
-  run_json left run = codes "{\"report\":" ++ (json_text_of (report_of run.journal) ++ rest_of left labels run.files run.ends run.journal)
-
   -- how many frames are left behind it
   abbrev pub left_behind_run : ℕ → ShownRun → ℕ
   left_behind_run left run = left_behind labels run.journal left (threads_of (process_parts run.journal))
-
-  -- runs one after another, as their graphs fit into what those before them leave
-  abbrev pub runs_json : ℕ → List ShownRun → List (List ℕ)
-  runs_json left [] = []
-  runs_json left (run ∷ later) = run_json left run ∷ runs_json (left_behind_run left run) later
 
   -- how many frames are left behind them
   abbrev pub left_behind_runs : ℕ → List ShownRun → ℕ
   left_behind_runs left [] = left
   left_behind_runs left (run ∷ later) = left_behind_runs (left_behind_run left run) later
 
+module _ (unit : Unit) (labels : List SpanColumn) where
+  -- a run whose graphs fit into so many frames
+  abbrev pub run_json : ℕ → ShownRun → List ℕ
+  run_json left run = codes "{\"report\":" ++ (json_text_of (report_of unit run.journal) ++ rest_of unit left labels run.files run.ends run.journal)
+
+  -- runs one after another, as their graphs fit into what those before them leave
+  abbrev pub runs_json : ℕ → List ShownRun → List (List ℕ)
+  runs_json left [] = []
+  runs_json left (run ∷ later) = run_json left run ∷ runs_json (left_behind_run labels left run) later
+
 -- the data of the runs, and the text of a table of spans
-abbrev pub runs_data : List SpanColumn → List ℕ → List ShownRun → List ℕ
-runs_data labels table runs =
-    codes "{\"runs\":" ++ (array_of (runs_json labels most_frames runs) ++ (codes ",\"table\":" ++ (json_text_of table ++ codes "}")))
+abbrev pub runs_data : Unit → List SpanColumn → List ℕ → List ShownRun → List ℕ
+runs_data unit labels table runs =
+    codes "{\"runs\":" ++ (array_of (runs_json unit labels most_frames runs) ++ (codes ",\"table\":" ++ (json_text_of table ++ codes "}")))
 
 -- a fixed head, the data, and a fixed tail
-unfoldable pub page_of_runs : List SpanColumn → List ℕ → List ShownRun → List ℕ
-page_of_runs labels table runs = head_text ++ (safe (runs_data labels table runs) ++ tail_text)
+unfoldable pub page_of_runs : Unit → List SpanColumn → List ℕ → List ShownRun → List ℕ
+page_of_runs unit labels table runs = head_text ++ (safe (runs_data unit labels table runs) ++ tail_text)
 
 -- a page of runs so far: its text, how many frames are left, and whether it has a run
 pub record BegunPage : Type 0 where
@@ -52,20 +54,20 @@ pub record BegunPage : Type 0 where
   pub left : ℕ
   pub has_run : Bool
 
--- the text so far of a page of these runs, with labels by these columns
-abbrev pub begun_text : List SpanColumn → List ShownRun → List ℕ
-begun_text labels runs = head_text ++ (codes "{\"runs\":[" ++ safe (join_with_byte 44 (runs_json labels most_frames runs)))
+-- the text so far of a page of these runs in this unit, with labels by these columns
+abbrev pub begun_text : Unit → List SpanColumn → List ShownRun → List ℕ
+begun_text unit labels runs = head_text ++ (codes "{\"runs\":[" ++ safe (join_with_byte 44 (runs_json unit labels most_frames runs)))
 
 abbrev pub are_some : List ShownRun → Bool
 are_some [] = false
 are_some (run ∷ later) = true
 
 -- the page has these runs so far
-pub record Holds (labels : List SpanColumn) (runs : List ShownRun) (page : BegunPage) : Type 0 where
-  pub text : page.text ≡ begun_text labels runs
+pub record Holds (unit : Unit) (labels : List SpanColumn) (runs : List ShownRun) (page : BegunPage) : Type 0 where
+  pub text : page.text ≡ begun_text unit labels runs
   pub left : page.left ≡ left_behind_runs labels most_frames runs
   pub some : page.has_run ≡ are_some runs
 
 -- one more run is taken
-abbrev pub TakesRun : List SpanColumn → ShownRun → BegunPage → BegunPage → Type 0
-TakesRun labels run old new = (runs : List ShownRun) → Holds labels runs old → Holds labels (runs ++ run ∷ []) new
+abbrev pub TakesRun : Unit → List SpanColumn → ShownRun → BegunPage → BegunPage → Type 0
+TakesRun unit labels run old new = (runs : List ShownRun) → Holds unit labels runs old → Holds unit labels (runs ++ run ∷ []) new

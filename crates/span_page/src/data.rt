@@ -12,7 +12,7 @@ use crate::stacks::put_stacks;
 use serde_json::Value;
 use span_collect::refusals::refusals_text;
 use span_collect::{FileEnd, Input, fault_lines};
-use span_event::Thread;
+use span_event::{Thread, Unit};
 use span_ledger::{Ledger, ProcessPart};
 use span_report::report_text;
 use span_report::stacks::{LabelledSpans, SpanColumn, StacksFault, framed_stacks};
@@ -24,6 +24,7 @@ pub(crate) const MOST_FRAMES: u32 = 4_194_304;
 // Appends the report, the table and the rest, with escapes.
 pub(crate) fn put_data(
     alloc: Global,
+    unit: Unit,
     out: &mut Vec<u8>,
     ledger: &Ledger,
     files: &[Input],
@@ -33,13 +34,14 @@ pub(crate) fn put_data(
 ) -> Result<(), AllocError>
     requires { length files.now ≡ length ends.now }
     ensures { OnOk result (out.new.items ≡ out.old.items
-        ++ safe (data_of labels.now (string_bytes table) files.now ends.now ledger.now.journal)) }
+        ++ safe (data_of unit labels.now (string_bytes table) files.now ends.now ledger.now.journal)) }
 {
-    let threads = put_report(alloc, out, ledger)?;
+    let threads = put_report(alloc, unit, out, ledger)?;
     out.extend_from_slice(b",\"table\":")?;
     put_safe_string(alloc, out, table)?;
     put_rest(
         alloc,
+        unit,
         out,
         ledger,
         files,
@@ -54,14 +56,15 @@ pub(crate) fn put_data(
 // Begins the data of a run with its report, with escapes, and answers its threads in the report's order.
 pub(crate) fn put_report(
     alloc: Global,
+    unit: Unit,
     out: &mut Vec<u8>,
     ledger: &Ledger,
 ) -> Result<Vec<Thread>, AllocError>
     ensures text { OnOk result (out.new.items ≡ out.old.items
-        ++ (codes "{\"report\":" ++ safe (json_text_of (report_of ledger.now.journal)))) }
+        ++ (codes "{\"report\":" ++ safe (json_text_of (report_of unit ledger.now.journal)))) }
     ensures threads { IfOk result (λ threads. threads.items ≡ threads_of (process_parts ledger.now.journal)) }
 {
-    let (report, threads) = report_and_threads(alloc, ledger)?;
+    let (report, threads) = report_and_threads(alloc, unit, ledger)?;
     out.extend_from_slice(b"{\"report\":")?;
     put_safe_string(alloc, out, report)?;
     Ok(threads)
@@ -70,6 +73,7 @@ pub(crate) fn put_report(
 // Appends what a page has of a run beside its report, with escapes, and ends the data. Answers how many frames are left behind its graphs.
 pub(crate) fn put_rest(
     alloc: Global,
+    unit: Unit,
     out: &mut Vec<u8>,
     ledger: &Ledger,
     files: &[Input],
@@ -81,11 +85,11 @@ pub(crate) fn put_rest(
     requires ends { length files.now ≡ length ends.now }
     requires threads { threads.now ≡ threads_of (process_parts ledger.now.journal) }
     ensures text { OnOk result (out.new.items ≡ out.old.items
-        ++ safe (rest_of left labels.now files.now ends.now ledger.now.journal)) }
+        ++ safe (rest_of unit left labels.now files.now ends.now ledger.now.journal)) }
     ensures left { IfOk result (λ rest. rest ≡ left_behind labels.now ledger.now.journal left threads.now) }
 {
     out.extend_from_slice(b",\"refused\":")?;
-    put_safe_string(alloc, out, refusals_text(alloc, ledger, files, ends)?)?;
+    put_safe_string(alloc, out, refusals_text(alloc, unit, ledger, files, ends)?)?;
     out.extend_from_slice(b",\"files\":")?;
     put_safe(out, names_text(alloc, files)?.as_bytes())?;
     out.extend_from_slice(b",\"faults\":")?;
@@ -125,12 +129,16 @@ fn put_file_names(alloc: Global, out: &mut String, files: &[Input]) -> Result<()
 }
 
 // The report, and its threads in its order.
-fn report_and_threads(alloc: Global, ledger: &Ledger) -> Result<(String, Vec<Thread>), AllocError>
-    ensures report { IfOk result (λ both. string_bytes both.0 ≡ report_of ledger.now.journal) }
+fn report_and_threads(
+    alloc: Global,
+    unit: Unit,
+    ledger: &Ledger,
+) -> Result<(String, Vec<Thread>), AllocError>
+    ensures report { IfOk result (λ both. string_bytes both.0 ≡ report_of unit ledger.now.journal) }
     ensures threads { IfOk result (λ both. both.1.items ≡ threads_of (process_parts ledger.now.journal)) }
 {
     let parts = ledger.parts(alloc)?;
-    let report = report_text(alloc, ledger, &parts)?;
+    let report = report_text(alloc, unit, ledger, &parts)?;
     let threads = threads_of(alloc, &parts)?;
     Ok((report, threads))
 }

@@ -13,4 +13,5 @@ mod text;
 pub use output::write_page;
 pub use runs::RunsPage;
 pub use span_collect::{FileEnd, Input, Ledger, Sink, WriteFault};
+pub use span_event::Unit;
 pub use text::page;

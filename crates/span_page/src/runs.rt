@@ -5,6 +5,7 @@ ghost use Rattle.span_page.specs.Runs.{Holds, ShownRun, TakesRun, page_of_runs};
 use crate::data::{MOST_FRAMES, put_report, put_rest, put_safe_string};
 use crate::text::{head, tail};
 use span_collect::{FileEnd, Input};
+use span_event::Unit;
 use span_ledger::Ledger;
 use span_report::stacks::SpanColumn;
 use std::alloc::{AllocError, Global};
@@ -30,7 +31,7 @@ impl Model for RunsPage {
 impl RunsPage {
     /// The page of no runs.
     pub fn begin(alloc: Global) -> Result<RunsPage, AllocError>
-        ensures { IfOk result (λ page. (labels : List SpanColumn) → Holds labels [] page) }
+        ensures { IfOk result (λ page. (unit : Unit) (labels : List SpanColumn) → Holds unit labels [] page) }
     {
         let mut text = Vec::new(alloc);
         text.extend_from_slice(head().as_bytes())?;
@@ -42,18 +43,19 @@ impl RunsPage {
         })
     }
 
-    /// With one more run: that of the ledger's journal, and of the files that were told to it, of which each has an end, in order. Frames
-    /// are labels by these columns.
+    /// With one more run: that of the ledger's journal, whose times are in this unit, and of the files that were told to it, of which
+    /// each has an end, in order. Frames are labels by these columns.
     pub fn with_run(
         self,
         alloc: Global,
+        unit: Unit,
         ledger: &Ledger,
         files: &[Input],
         ends: &[FileEnd],
         labels: &[SpanColumn],
     ) -> Result<RunsPage, AllocError>
         requires { length files.now ≡ length ends.now }
-        ensures { IfOk result (TakesRun labels.now
+        ensures { IfOk result (TakesRun unit labels.now
             (record { files = files.now; ends = ends.now; journal = ledger.now.journal }) self) }
     {
         let RunsPage {
@@ -64,9 +66,9 @@ impl RunsPage {
         if has_run {
             text.push(b',')?;
         }
-        let threads = put_report(alloc, &mut text, ledger)?;
+        let threads = put_report(alloc, unit, &mut text, ledger)?;
         let left = put_rest(
-            alloc, &mut text, ledger, files, ends, labels, &threads, left,
+            alloc, unit, &mut text, ledger, files, ends, labels, &threads, left,
         )?;
         Ok(RunsPage {
             text,
@@ -77,8 +79,8 @@ impl RunsPage {
 
     /// The whole page, with the text of a table of spans, which is JSON Lines.
     pub fn end(self, alloc: Global, table: String) -> Result<Vec<u8>, AllocError>
-        ensures { IfOk result (λ text. (labels : List SpanColumn) (runs : List ShownRun) → Holds labels runs self
-            → text.items ≡ page_of_runs labels (string_bytes table) runs) }
+        ensures { IfOk result (λ text. (unit : Unit) (labels : List SpanColumn) (runs : List ShownRun)
+            → Holds unit labels runs self → text.items ≡ page_of_runs unit labels (string_bytes table) runs) }
     {
         let RunsPage { mut text, .. } = self;
         text.extend_from_slice(b"],\"table\":")?;

@@ -25,6 +25,6 @@ returns-clause-text c =
     let h = c.in_ok-extend_from_slice-4.ensures.items ∙ ap (λ (t : List ℕ). t ++ codes ",\"stacks\":") g in
     let j = c.in_ok-put_safe-2.ensures ∙ (λ i. h i ++ safe ((c.as_bytes-2.ensures.value ∙ c.in_ok-stacks.ensures.text) i)) in
     c.in_ok-extend_from_slice-5.ensures.items ∙ ap (λ (t : List ℕ). t ++ codes "}") j
-    ∙ append-nine out (codes ",\"refused\":") (safe (json_text_of (refusals_of files ends journal))) (codes ",\"files\":") (safe (names_json files))
+    ∙ append-nine out (codes ",\"refused\":") (safe (json_text_of (refusals_of c.args.unit files ends journal))) (codes ",\"files\":") (safe (names_json files))
     (codes ",\"faults\":") (safe (json_text_of (end_lines files ends))) (codes ",\"stacks\":") (safe (all_stacks_json left labels journal)) (codes "}")
-    ∙ ap (λ (t : List ℕ). out ++ t) (sym (safe-rest left labels files ends journal))
+    ∙ ap (λ (t : List ℕ). out ++ t) (sym (safe-rest c.args.unit left labels files ends journal))
