@@ -2,7 +2,7 @@
 
 use span_ledger::Ledger;
 use span_report::stacks::{FoldedFault, SpanColumn, folded, write_folded};
-use span_report::{WriteFault, Writer, report, write_report};
+use span_report::{Unit, WriteFault, Writer, report, write_report};
 use span_test_support::{Output, is_whole_or_none, room_at_last};
 use std::alloc::{AllocError, AllocGlobal, Global};
 use std::io::Write;
@@ -12,7 +12,8 @@ use std::test::Fail;
 /// A text of a ledger.
 #[derive(Drop)]
 pub(crate) enum Printed<'a> {
-    Report(&'a Ledger),
+    /// The report in this unit.
+    Report(Unit, &'a Ledger),
     /// The folded stacks by labels of these columns.
     Stacks(&'a Ledger, &'a [SpanColumn]),
 }
@@ -20,7 +21,7 @@ pub(crate) enum Printed<'a> {
 impl<'a> Printed<'a> {
     fn text(&self, alloc: Global) -> Result<Vec<u8>, AllocError> {
         match self {
-            Printed::Report(ledger) => report(alloc, ledger),
+            Printed::Report(unit, ledger) => report(alloc, *unit, ledger),
             Printed::Stacks(ledger, columns) => {
                 folded(alloc, ledger, columns).map_err(|_| AllocError)
             }
@@ -29,7 +30,9 @@ impl<'a> Printed<'a> {
 
     fn write<W: Write>(&self, alloc: Global, output: &mut W) -> Result<(), WriteFault> {
         match self {
-            Printed::Report(ledger) => write_report(alloc, ledger, &mut Writer::new(output)),
+            Printed::Report(unit, ledger) => {
+                write_report(alloc, *unit, ledger, &mut Writer::new(output))
+            }
             Printed::Stacks(ledger, columns) => {
                 match write_folded(alloc, ledger, columns, &mut Writer::new(output)) {
                     Ok(()) => Ok(()),

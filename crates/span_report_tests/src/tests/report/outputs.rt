@@ -1,7 +1,7 @@
 //! Outputs that take a report, or fail.
 
 use span_ledger::Ledger;
-use span_report::{WriteFault, Writer, write_report};
+use span_report::{Unit, WriteFault, Writer, write_report};
 use span_test_support::{End, Output, told};
 use std::alloc::{AllocGlobal, Global};
 use std::process::Abort;
@@ -12,7 +12,7 @@ const EMPTY_REPORT: &str = "tracebook 1\nevents 0 refused 0 skipped 0 queries 0\
 // Writes the report of no events.
 fn write_empty(alloc: Global, output: &mut Output) -> Result<(), WriteFault> {
     let ledger = Ledger::new(alloc, 1, false);
-    let written = write_report(alloc, &ledger, &mut Writer::new(output));
+    let written = write_report(alloc, Unit::Microseconds, &ledger, &mut Writer::new(output));
     drop(ledger);
     written
 }
@@ -93,7 +93,12 @@ span        1                1                1 \"{name}\"
 "
     )?;
     let mut output = Output::of_room(alloc, 1_000_000);
-    let result = write_report(alloc, ledger, &mut Writer::new(&mut output));
+    let result = write_report(
+        alloc,
+        Unit::Microseconds,
+        ledger,
+        &mut Writer::new(&mut output),
+    );
     assert!(rt; output.is_whole(result, want.as_str()));
     drop(output);
     Ok(())
