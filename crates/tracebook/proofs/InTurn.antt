@@ -37,15 +37,15 @@ module _ (files : List Input) (settings : Settings) (ends : List FileEnd) (asked
   table-in_turn view = table_of_run-in_turn files settings ends asked sealing journal account separate below view.options.columns.items
 
   -- each view
-  pub text_of-in_turn : (view : View) → text_of view files ends journal ≡ text_in_turn (text_of view files) files [] settings
-  text_of-in_turn Report = report_of-alike journal (journal_in_turn settings files []) alike
+  pub text_of-in_turn : (view : View) → text_of settings.unit view files ends journal ≡ text_in_turn (text_of settings.unit view files) files [] settings
+  text_of-in_turn Report = report_of-alike settings.unit journal (journal_in_turn settings files []) alike
   text_of-in_turn (Table view) = ap (table_text view false) (table-in_turn view)
   text_of-in_turn Refusals = refusals_of-in_turn files [] settings ends asked sealing journal account separate below
   text_of-in_turn (Folded labels) = (stacks-alike journal (journal_in_turn settings files []) alike).text labels.items
   text_of-in_turn (Page view) =
-      page_of-alike view.labels.items (table_text view.table false (asked_table view.table (run_of_files files ends journal))) files ends (ends_from settings.unit 1 files) journal (journal_in_turn settings files []) alike
+      page_of-alike settings.unit view.labels.items (table_text view.table false (asked_table view.table (run_of_files files ends journal))) files ends (ends_from settings.unit 1 files) journal (journal_in_turn settings files []) alike
       (refusals_of-in_turn files [] settings ends asked sealing journal account separate below) (end_lines-in_turn files [] settings ends asked sealing journal account separate below)
-      ∙ ap (λ (table : SpanTable). page_of view.labels.items (table_text view.table false table) files (ends_from settings.unit 1 files) (journal_in_turn settings files [])) (table-in_turn view.table)
+      ∙ ap (λ (table : SpanTable). page_of settings.unit view.labels.items (table_text view.table false table) files (ends_from settings.unit 1 files) (journal_in_turn settings files [])) (table-in_turn view.table)
 
   -- whether folded stacks have more names than they may
   pub ExceedsNames-in_turn : (view : View) → ExceedsNames view ends journal → ExceedsNames view (ends_from settings.unit 1 files) (journal_in_turn settings files [])

@@ -27,7 +27,7 @@ use Rattle.tracebook.specs.Pages.{AreHeld, AreShown, HoldsInputs, IsPageOf, Page
 
 -- what was collected of a file may stand for the run in which its items stand in their order
 pub TakesRun-alone : (labels : List SpanColumn) (known : Bytes → Option Bytes) (name : Bytes) (settings : Settings) (run : FileRun) (old new : BegunPage) →
-    IsFileRun known name settings run → TakesRun labels (shown_run run) old new → TakesRun labels (shown_alone settings run.file) old new
+    IsFileRun known name settings run → TakesRun settings.unit labels (shown_run run) old new → TakesRun settings.unit labels (shown_alone settings run.file) old new
 TakesRun-alone labels known name settings run old new is takes runs holds =
     let files = run.file ∷ [] in
     let end = run.collected.end in
@@ -35,8 +35,8 @@ TakesRun-alone labels known name settings run old new is takes runs holds =
     let other = journal_in_turn settings files [] in
     let separate = AreSeparate-one settings.unit run.file in
     let alike = AreAlike-in_turn files [] settings end.ends.items end.asked end.sealing journal is.account separate is.status in
-    Holds-alike labels runs (shown_run run) (shown_alone settings run.file) new
-    (run_json-alike labels journal other alike files end.ends.items (ends_from settings.unit 1 files)
+    Holds-alike settings.unit labels runs (shown_run run) (shown_alone settings run.file) new
+    (run_json-alike labels journal other alike settings.unit files end.ends.items (ends_from settings.unit 1 files)
     (refusals_of-in_turn files [] settings end.ends.items end.asked end.sealing journal is.account separate is.status)
     (end_lines-in_turn files [] settings end.ends.items end.asked end.sealing journal is.account separate is.status))
     (left_behind-follows labels journal other alike)
@@ -44,7 +44,7 @@ TakesRun-alone labels known name settings run old new is takes runs holds =
 
 module _ (known : Bytes → Option Bytes) (settings : Settings) (view : PageView) where
   -- no files
-  pub AreHeld-none : (shown : ShownFiles) → shown.summed.sum ≡ table_of view.table.options.columns.items [] → shown.summed.lines.items ≡ [] → Holds view.labels.items [] shown.page →
+  pub AreHeld-none : (shown : ShownFiles) → shown.summed.sum ≡ table_of view.table.options.columns.items [] → shown.summed.lines.items ≡ [] → Holds settings.unit view.labels.items [] shown.page →
       AreHeld (map (shown_alone settings)) known [] settings view shown
   AreHeld-none shown sum lines runs = record {
     sums = AreSummed-none known settings view.table.options.columns.items shown.summed.sum shown.summed.lines.items sum lines;
@@ -56,7 +56,7 @@ module _ (known : Bytes → Option Bytes) (settings : Settings) (view : PageView
       ShowsFile known name settings view old new → AreHeld (map (shown_alone settings)) known (names ++ name ∷ []) settings view new
   AreHeld-push names name old new held shows = record {
     sums = AreSummed-push known names name settings view.table.options.columns.items old.summed new.summed held.sums shows.adds;
-    runs = subst (λ (runs : List ShownRun). Holds view.labels.items runs new.page) (sym (map_push (shown_alone settings) held.sums.files shows.adds.file))
+    runs = subst (λ (runs : List ShownRun). Holds settings.unit view.labels.items runs new.page) (sym (map_push (shown_alone settings) held.sums.files shows.adds.file))
         (shows.page (map (shown_alone settings) held.sums.files) held.runs);
   }
 
@@ -80,7 +80,7 @@ module _ (known : Bytes → Option Bytes) (settings : Settings) (view : PageView
   pub AreHeld-few : (names : List Bytes) (shown : ShownFiles) → length names ≤ 64 → AreHeld (map (shown_alone settings)) known names settings view shown → AreHeld (shown_runs settings) known names settings view shown
   AreHeld-few names shown few held = record {
     sums = held.sums;
-    runs = subst (λ (runs : List ShownRun). Holds view.labels.items runs shown.page)
+    runs = subst (λ (runs : List ShownRun). Holds settings.unit view.labels.items runs shown.page)
         (sym (shown_runs-few held.sums.files (rw (length-files names held.sums.files held.sums.read) few))) held.runs;
   }
 
@@ -88,14 +88,14 @@ module _ (known : Bytes → Option Bytes) (settings : Settings) (view : PageView
   pub AreHeld-many : (names : List Bytes) (shown : ShownFiles) → 64 < length names → AreHeld (λ files. []) known names settings view shown → AreHeld (shown_runs settings) known names settings view shown
   AreHeld-many names shown many held = record {
     sums = held.sums;
-    runs = subst (λ (runs : List ShownRun). Holds view.labels.items runs shown.page)
+    runs = subst (λ (runs : List ShownRun). Holds settings.unit view.labels.items runs shown.page)
         (sym (shown_runs-many held.sums.files (rw (length-files names held.sums.files held.sums.read) many))) held.runs;
   }
 
 -- a text that is the page of what is held shows the files
 AreShown-held : (known : Bytes → Option Bytes) (names : List Bytes) (settings : Settings) (view : PageView) (shown : ShownFiles) (text : Bytes) →
     AreHeld (shown_runs settings) known names settings view shown → IsPageOf view shown text → AreShown known names settings view shown.summed text
-AreShown-held known names settings view shown text held is = record { sums = held.sums; page = is (shown_runs settings held.sums.files) held.runs }
+AreShown-held known names settings view shown text held is = record { sums = held.sums; page = is settings.unit (shown_runs settings held.sums.files) held.runs }
 
 pub ShowsInputs-held : (source : SourceBytes) (names : List Bytes) (settings : Settings) (view : PageView) (shown : ShownFiles) (text : Bytes) →
     HoldsInputs source names settings view shown → IsPageOf view shown text → ShowsInputs source names settings view shown.summed text

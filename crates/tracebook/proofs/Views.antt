@@ -1,6 +1,7 @@
 -- What is left of a view that was not written whole.
 use Rattle.std.proofs.Common.{◌≡◌, ◌<◌, List, [], ◌∙◌}
 use Rattle.std.specs.Global.{Vec}
+use Rattle.span_event.specs.declared.unit.Unit.{Unit}
 use Rattle.span_ledger.specs.declared.entry.Entry.{Entry}
 use Rattle.span_report.specs.declared.output.WriteFault.{WriteFault}
 use Rattle.span_report.specs.declared.output.WriteFault.TheVariants.{Memory, Output}
@@ -29,17 +30,17 @@ use Rattle.tracebook.specs.View.{ExceedsBits, ExceedsNames, IsUnwritten, OfEnds,
 use Rattle.tracebook.proofs.InTurn.{ExceedsBits-in_turn, ExceedsNames-in_turn, text_of-in_turn}
 
 -- of a text that has no bound
-pub TextLeaves-of_written : (view : View) (files : List Input) (fault : WriteFault) (ends : List FileEnd) (journal : List Entry) (old new : SinkState) →
-    WriteLeaves fault (text_of view files ends journal) old new → TextLeaves view files (of_written fault) ends journal old new
-TextLeaves-of_written view files Memory ends journal old new leaves = leaves
-TextLeaves-of_written view files (Output written) ends journal old new leaves = leaves
+pub TextLeaves-of_written : (unit : Unit) (view : View) (files : List Input) (fault : WriteFault) (ends : List FileEnd) (journal : List Entry) (old new : SinkState) →
+    WriteLeaves fault (text_of unit view files ends journal) old new → TextLeaves unit view files (of_written fault) ends journal old new
+TextLeaves-of_written unit view files Memory ends journal old new leaves = leaves
+TextLeaves-of_written unit view files (Output written) ends journal old new leaves = leaves
 
 -- of folded stacks
-pub TextLeaves-of_folded : (labels : Vec SpanColumn) (files : List Input) (fault : FoldedFault) (ends : List FileEnd) (journal : List Entry) (old new : SinkState) →
-    FoldedLeaves fault labels.items journal old new → TextLeaves (Folded labels) files (of_folded fault) ends journal old new
-TextLeaves-of_folded labels files Unfolded ends journal old new leaves = leaves
-TextLeaves-of_folded labels files TooLarge ends journal old new leaves = leaves
-TextLeaves-of_folded labels files (FoldedCut written) ends journal old new leaves = (leaves.1, leaves.2)
+pub TextLeaves-of_folded : (unit : Unit) (labels : Vec SpanColumn) (files : List Input) (fault : FoldedFault) (ends : List FileEnd) (journal : List Entry) (old new : SinkState) →
+    FoldedLeaves fault labels.items journal old new → TextLeaves unit (Folded labels) files (of_folded fault) ends journal old new
+TextLeaves-of_folded unit labels files Unfolded ends journal old new leaves = leaves
+TextLeaves-of_folded unit labels files TooLarge ends journal old new leaves = leaves
+TextLeaves-of_folded unit labels files (FoldedCut written) ends journal old new leaves = (leaves.1, leaves.2)
 
 -- a run of these inputs ended, not with 2, and this is left of its view
 module _ (view : View) (inputs : List Input) (settings : Settings) (run : RunEnd) (journal : List Entry) (old new : SinkState)
@@ -59,13 +60,13 @@ module _ (view : View) (inputs : List Input) (settings : Settings) (run : RunEnd
     silent = leaves.0;
   }
 
-  pub ViewLeaves-text : (fault : ViewFault) → TextLeaves view inputs fault run.ends.items journal old new → ViewLeaves view fault inputs settings old new
+  pub ViewLeaves-text : (fault : ViewFault) → TextLeaves settings.unit view inputs fault run.ends.items journal old new → ViewLeaves view fault inputs settings old new
   ViewLeaves-text (Run FileCount) leaves = absurd leaves
   ViewLeaves-text (Run NoMemory) leaves = (leaves, tt)
   ViewLeaves-text (Run (Unaccounted entries calls)) leaves = absurd leaves
   ViewLeaves-text (Run (Failed written)) leaves = (
-    IsCutShort-failed (text_of view inputs) inputs [] settings run journal written old new account status some leaves,
-    FailsAsInTurn-same (text_of view inputs) inputs [] settings run.status run.ends.items journal
+    IsCutShort-failed (text_of settings.unit view inputs) inputs [] settings run journal written old new account status some leaves,
+    FailsAsInTurn-same (text_of settings.unit view inputs) inputs [] settings run.status run.ends.items journal
         (λ separate under. text_of-in_turn inputs settings run.ends.items run.asked run.sealing journal account separate (rw status at under) view)
         old new (rw status below) written leaves,
   )

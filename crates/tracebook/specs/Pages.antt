@@ -1,5 +1,6 @@
 -- A page of files each of which is a run of its own.
 use Rattle.std.specs.Prelude.{◌≡◌, ℕ, ◌⊎◌, nat_le, if◌then◌else◌, List, [], ◌∷◌, length, map, true, Option, codes}
+use Rattle.span_event.specs.declared.unit.Unit.{Unit}
 use Rattle.span_event.specs.Text.{Bytes}
 use Rattle.span_report.specs.Sink.{SinkState}
 use Rattle.span_collect.specs.declared.files.Input.{Input}
@@ -30,7 +31,7 @@ shown_runs settings files = if nat_le (length files) most_shown then map (shown_
 -- Each of the files of these names was collected alone, and the text is the page of their runs with the table of their sum.
 pub record AreShown (known : Bytes → Option Bytes) (names : List Bytes) (settings : Settings) (view : PageView) (summed : Summed) (text : Bytes) : Type 0 where
   pub sums : AreSummed known names settings view.table.options.columns.items summed.sum summed.lines.items
-  pub page : text ≡ page_of_runs view.labels.items (table_text view.table true summed.sum) (shown_runs settings sums.files)
+  pub page : text ≡ page_of_runs settings.unit view.labels.items (table_text view.table true summed.sum) (shown_runs settings sums.files)
 
 -- the same of standard input, as the file `-`, where there are no names
 abbrev pub ShowsInputs : SourceBytes → List Bytes → Settings → PageView → Summed → Bytes → Type 0
@@ -53,7 +54,7 @@ PagesPart source names settings view old new = (new ≡ old)
 -- Each of the files of these names was collected alone, and is summed; the page has these runs of them so far.
 pub record AreHeld (runs_of : List Input → List ShownRun) (known : Bytes → Option Bytes) (names : List Bytes) (settings : Settings) (view : PageView) (shown : ShownFiles) : Type 0 where
   pub sums : AreSummed known names settings view.table.options.columns.items shown.summed.sum shown.summed.lines.items
-  pub runs : Holds view.labels.items (runs_of sums.files) shown.page
+  pub runs : Holds settings.unit view.labels.items (runs_of sums.files) shown.page
 
 -- the same of standard input, as the file `-`, where there are no names
 abbrev pub HoldsInputs : SourceBytes → List Bytes → Settings → PageView → ShownFiles → Type 0
@@ -62,8 +63,8 @@ HoldsInputs source (name ∷ names) settings view shown = AreHeld (shown_runs se
 
 -- the text is the page of the runs that are held
 abbrev pub IsPageOf : PageView → ShownFiles → Bytes → Type 0
-IsPageOf view shown text = (runs : List ShownRun) → Holds view.labels.items runs shown.page →
-    text ≡ page_of_runs view.labels.items (table_text view.table true shown.summed.sum) runs
+IsPageOf view shown text = (unit : Unit) (runs : List ShownRun) → Holds unit view.labels.items runs shown.page →
+    text ≡ page_of_runs unit view.labels.items (table_text view.table true shown.summed.sum) runs
 
 -- that text is written
 abbrev pub WritesPage : PageView → ShownFiles → ℕ → SinkState → SinkState → Type 0
@@ -80,4 +81,4 @@ shown_run run = record { files = run.file ∷ []; ends = run.collected.end.ends.
 -- one more file is shown
 pub record ShowsFile (known : Bytes → Option Bytes) (name : Bytes) (settings : Settings) (view : PageView) (old new : ShownFiles) : Type 0 where
   pub adds : AddsFile known name settings old.summed new.summed
-  pub page : TakesRun view.labels.items (shown_alone settings adds.file) old.page new.page
+  pub page : TakesRun settings.unit view.labels.items (shown_alone settings adds.file) old.page new.page

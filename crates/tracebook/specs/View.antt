@@ -1,7 +1,8 @@
 -- What is printed of what was collected.
-use Rattle.std.specs.Prelude.{◌≡◌, ℕ, ◌<◌, ◌≤◌, false, List, [], length, take}
+use Rattle.std.specs.Prelude.{◌≡◌, ℕ, ◌<◌, ◌≤◌, ⊤, false, List, [], length, take}
 use Rattle.span_event.specs.declared.fault.Fault.TheVariants.{TooGreat as TooGreatFault, StacksTooLarge as StacksFault}
 use Rattle.span_event.specs.Fault.{number_of}
+use Rattle.span_event.specs.declared.unit.Unit.{Unit}
 use Rattle.span_ledger.specs.declared.entry.Entry.{Entry}
 use Rattle.span_report.specs.Report.{report_of}
 use Rattle.span_collect.specs.Refusals.Text.{refusals_of}
@@ -28,12 +29,13 @@ use Rattle.tracebook.specs.declared.view.ViewFault.TheVariants.{Run, TooGreat, S
 use Rattle.span_runs.specs.Runs.{run_of_files}
 use Rattle.tracebook.specs.Tables.{TableExceeds, TableFits, asked_table, table_text}
 
-abbrev pub text_of : View → List Input → TextOf
-text_of Report files ends journal = report_of journal
-text_of (Table view) files ends journal = table_text view false (asked_table view (run_of_files files ends journal))
-text_of Refusals files ends journal = refusals_of files ends journal
-text_of (Folded labels) files ends journal = folded_of labels.items journal
-text_of (Page view) files ends journal = page_of view.labels.items (table_text view.table false (asked_table view.table (run_of_files files ends journal))) files ends journal
+-- this view of what was collected in this unit
+abbrev pub text_of : Unit → View → List Input → TextOf
+text_of unit Report files ends journal = report_of unit journal
+text_of unit (Table view) files ends journal = table_text view false (asked_table view (run_of_files files ends journal))
+text_of unit Refusals files ends journal = refusals_of unit files ends journal
+text_of unit (Folded labels) files ends journal = folded_of labels.items journal
+text_of unit (Page view) files ends journal = page_of unit view.labels.items (table_text view.table false (asked_table view.table (run_of_files files ends journal))) files ends journal
 
 -- what holds of files that ended so, and of their journal
 abbrev pub OfEnds : Type 1
@@ -45,7 +47,7 @@ abbrev pub Fits : View → List Input → OfEnds
 Fits (Folded labels) files ends journal = names_of labels.items journal ≤ most_names
 Fits (Table view) files ends journal = TableFits view (asked_table view (run_of_files files ends journal))
 Fits (Page view) files ends journal = TableFits view.table (asked_table view.table (run_of_files files ends journal))
-Fits view files ends journal = Unit {0}
+Fits view files ends journal = ⊤
 
 -- folded stacks are asked for, and have more names than they may
 abbrev pub ExceedsNames : View → OfEnds
@@ -61,10 +63,10 @@ ExceedsBits view files ends journal = ⊥
 -- A run of these inputs, without queries, printed this view of them; unless the status is 2, that fits. Of separate inputs it is the
 -- view that they give where they are read in turn, and of one input that of what one caller tells.
 pub record Prints (view : View) (inputs : List Input) (settings : Settings) (run : RunEnd) (old new : SinkState) : Type 0 where
-  pub is_run : IsRunOf (text_of view inputs) inputs [] settings run old new
+  pub is_run : IsRunOf (text_of settings.unit view inputs) inputs [] settings run old new
   pub fits : run.status < 2 → Fits view inputs run.ends.items is_run.journal
-  pub in_turn : WritesAsInTurn (text_of view inputs) inputs [] settings run.status old new
-  pub one_file : WritesOneFile (text_of view inputs) inputs [] settings run.status old new
+  pub in_turn : WritesAsInTurn (text_of settings.unit view inputs) inputs [] settings run.status old new
+  pub one_file : WritesOneFile (text_of settings.unit view inputs) inputs [] settings run.status old new
 
 -- the fault of a text that has no bound, and of folded stacks
 abbrev pub of_written : WriteFault → ViewFault
@@ -77,14 +79,14 @@ of_folded TooLarge = StacksTooLarge
 of_folded (FoldedCut written) = Run (Output written)
 
 -- a failed output took just the first `written` bytes of the text; what else the writing of a view ends with leaves the output as it was
-abbrev pub TextLeaves : View → List Input → ViewFault → List FileEnd → List Entry → SinkState → SinkState → Type 0
-TextLeaves view files (Run Memory) ends journal old new = new ≡ old
-TextLeaves view files (Run (Output written)) ends journal old new =
-    (written ≤ length (text_of view files ends journal)) × Fails old new (take written (text_of view files ends journal))
-TextLeaves view files (Run FileCount) ends journal old new = ⊥
-TextLeaves view files (Run (Unaccounted entries calls)) ends journal old new = ⊥
-TextLeaves view files TooGreat ends journal old new = (new ≡ old) × ExceedsBits view files ends journal
-TextLeaves view files StacksTooLarge ends journal old new = (new ≡ old) × ExceedsNames view ends journal
+abbrev pub TextLeaves : Unit → View → List Input → ViewFault → List FileEnd → List Entry → SinkState → SinkState → Type 0
+TextLeaves unit view files (Run Memory) ends journal old new = new ≡ old
+TextLeaves unit view files (Run (Output written)) ends journal old new =
+    (written ≤ length (text_of unit view files ends journal)) × Fails old new (take written (text_of unit view files ends journal))
+TextLeaves unit view files (Run FileCount) ends journal old new = ⊥
+TextLeaves unit view files (Run (Unaccounted entries calls)) ends journal old new = ⊥
+TextLeaves unit view files TooGreat ends journal old new = (new ≡ old) × ExceedsBits view files ends journal
+TextLeaves unit view files StacksTooLarge ends journal old new = (new ≡ old) × ExceedsNames view ends journal
 
 abbrev pub view_code : ViewFault → ℕ
 view_code (Run error) = run_code error
@@ -105,6 +107,6 @@ pub record IsUnwritten (Exceeds : OfEnds) (inputs : List Input) (settings : Sett
 -- why a view was not written whole, and what that leaves
 abbrev pub ViewLeaves : View → ViewFault → List Input → Settings → SinkState → SinkState → Type 0
 ViewLeaves view (Run error) inputs settings old new =
-    RunLeaves (text_of view inputs) error inputs [] settings old new × FailsAsInTurn (text_of view inputs) error inputs [] settings old new
+    RunLeaves (text_of settings.unit view inputs) error inputs [] settings old new × FailsAsInTurn (text_of settings.unit view inputs) error inputs [] settings old new
 ViewLeaves view TooGreat inputs settings old new = IsUnwritten (ExceedsBits view inputs) inputs settings old new
 ViewLeaves view StacksTooLarge inputs settings old new = IsUnwritten (ExceedsNames view) inputs settings old new

@@ -13,7 +13,7 @@ use crate::sums::write_told;
 use crate::tables::{string_of, table_text};
 use crate::view::PageView;
 use span_collect::Settings;
-use span_event::{Fault, Text};
+use span_event::{Fault, Text, Unit};
 use span_page::RunsPage;
 use span_report::Sink;
 use span_report::stacks::SpanColumn;
@@ -171,7 +171,7 @@ fn show_none<R: RandomSource>(rt: &R, alloc: Global, view: &PageView) -> Result<
     ensures sum { IfOk result
         (λ none. none.summed.sum ≡ table_of view.now.table.options.columns.items []) }
     ensures lines { IfOk result (λ none. none.summed.lines.items ≡ []) }
-    ensures runs { IfOk result (λ none. Holds view.now.labels.items [] none.page) }
+    ensures runs { IfOk result (λ none. (unit : Unit) → Holds unit view.now.labels.items [] none.page) }
 {
     let summed = match Summed::of_none(rt, alloc, &view.table.options.columns) {
         Ok(summed) => summed,
@@ -200,7 +200,7 @@ fn show_file<R: Threads + Wait + RandomSource + Sync, S: Source>(
         Ok(taken) => taken,
         Err(cause) => return Err(summed.stop(cause)),
     };
-    let Ok(page) = with_run(alloc, page, &taken, &view.labels) else {
+    let Ok(page) = with_run(alloc, settings.unit, page, &taken, &view.labels) else {
         return Err(summed.stop(StopCause::Memory));
     };
     match summed.with_run(alloc, &taken) {
@@ -211,16 +211,18 @@ fn show_file<R: Threads + Wait + RandomSource + Sync, S: Source>(
 
 fn with_run(
     alloc: Global,
+    unit: Unit,
     page: RunsPage,
     run: &FileRun,
     labels: &[SpanColumn],
 ) -> Result<RunsPage, AllocError>
     requires { length run.now.collected.end.ends.items ≡ 1 }
-    ensures { IfOk result (TakesRun labels.now (shown_run run.now) page) }
+    ensures { IfOk result (TakesRun unit labels.now (shown_run run.now) page) }
 {
     let collected = &run.collected;
     page.with_run(
         alloc,
+        unit,
         &collected.ledger,
         from_ref(&run.file),
         &collected.end.ends,
@@ -257,8 +259,9 @@ fn page_text(
     page: RunsPage,
     view: &PageView,
 ) -> Result<Vec<u8>, JsonFault>
-    ensures text { IfOk result (λ text. (runs : List ShownRun) → Holds view.now.labels.items runs page
-        → text.items ≡ page_of_runs view.now.labels.items (table_text view.now.table true table) runs) }
+    ensures text { IfOk result (λ text. (unit : Unit) (runs : List ShownRun)
+        → Holds unit view.now.labels.items runs page
+        → text.items ≡ page_of_runs unit view.now.labels.items (table_text view.now.table true table) runs) }
     ensures fits { OnOk result (TableFits view.now.table table) }
 {
     let lines = match table_text(alloc, &table, &view.table, true) {

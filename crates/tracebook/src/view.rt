@@ -10,7 +10,7 @@ ghost use Rattle.tracebook.specs.View.{Fits, Prints, TextLeaves, ViewLeaves, of_
 use crate::tables::{TableView, string_of, table_text};
 use span_collect::refusals::write_refusals;
 use span_collect::{Collected, Input, RunError, Settings, collect_to_ledger, run_to_ledger};
-use span_event::Fault;
+use span_event::{Fault, Unit};
 use span_page::write_page;
 use span_report::stacks::{FoldedFault, SpanColumn, write_folded};
 use span_report::{Sink, WriteFault, write_bytes, write_report};
@@ -93,7 +93,7 @@ pub(crate) fn run_view<O: Sink, R: Threads + Wait + RandomSource + Sync>(
     if collected.end.status == 2 {
         return Ok(collected);
     }
-    match write_view(rt, alloc, files, &collected, view, out) {
+    match write_view(rt, alloc, settings.unit, files, &collected, view, out) {
         Ok(()) => Ok(collected),
         Err(fault) => Err(fault),
     }
@@ -103,6 +103,7 @@ pub(crate) fn run_view<O: Sink, R: Threads + Wait + RandomSource + Sync>(
 fn write_view<O: Sink, R: RandomSource>(
     rt: &R,
     alloc: Global,
+    unit: Unit,
     files: &[Input],
     collected: &Collected,
     view: &View,
@@ -110,19 +111,19 @@ fn write_view<O: Sink, R: RandomSource>(
 ) -> Result<(), ViewFault>
     requires { length files.now ≡ length collected.now.end.ends.items }
     ensures ok { OnOk result (TakesBytes (O.state out.old) (O.state out.new)
-        (text_of view.now files.now collected.now.end.ends.items collected.now.ledger.journal)) }
+        (text_of unit view.now files.now collected.now.end.ends.items collected.now.ledger.journal)) }
     ensures fits { OnOk result (Fits view.now files.now collected.now.end.ends.items collected.now.ledger.journal) }
-    ensures fault { IfErr result (λ fault. TextLeaves view.now files.now fault
+    ensures fault { IfErr result (λ fault. TextLeaves unit view.now files.now fault
         collected.now.end.ends.items collected.now.ledger.journal (O.state out.old) (O.state out.new)) }
 {
     let ledger = &collected.ledger;
     let ends = &collected.end.ends;
     match view {
-        View::Report => write_report(alloc, ledger, out).map_err(of_written),
-        View::Table(table) => write_table(rt, alloc, files, collected, table, out),
-        View::Refusals => write_refusals(alloc, ledger, files, ends, out).map_err(of_written),
+        View::Report => write_report(alloc, unit, ledger, out).map_err(of_written),
+        View::Table(table) => write_table(rt, alloc, unit, files, collected, table, out),
+        View::Refusals => write_refusals(alloc, unit, ledger, files, ends, out).map_err(of_written),
         View::Folded(labels) => write_folded(alloc, ledger, labels, out).map_err(of_folded),
-        View::Page(page) => write_page_view(rt, alloc, files, collected, page, out),
+        View::Page(page) => write_page_view(rt, alloc, unit, files, collected, page, out),
     }
 }
 
@@ -150,15 +151,16 @@ fn of_folded(fault: FoldedFault) -> ViewFault
 fn write_table<O: Sink, R: RandomSource>(
     rt: &R,
     alloc: Global,
+    unit: Unit,
     files: &[Input],
     collected: &Collected,
     view: &TableView,
     out: &mut O,
 ) -> Result<(), ViewFault>
     ensures ok { OnOk result (TakesBytes (O.state out.old) (O.state out.new)
-        (text_of (OfTable view.now) files.now collected.now.end.ends.items collected.now.ledger.journal)) }
+        (text_of unit (OfTable view.now) files.now collected.now.end.ends.items collected.now.ledger.journal)) }
     ensures fits { OnOk result (Fits (OfTable view.now) files.now collected.now.end.ends.items collected.now.ledger.journal) }
-    ensures fault { IfErr result (λ fault. TextLeaves (OfTable view.now) files.now fault
+    ensures fault { IfErr result (λ fault. TextLeaves unit (OfTable view.now) files.now fault
         collected.now.end.ends.items collected.now.ledger.journal (O.state out.old) (O.state out.new)) }
 {
     let text = match text_of_run(rt, alloc, files, collected, view, true) {
@@ -173,6 +175,7 @@ fn write_table<O: Sink, R: RandomSource>(
 fn write_page_view<O: Sink, R: RandomSource>(
     rt: &R,
     alloc: Global,
+    unit: Unit,
     files: &[Input],
     collected: &Collected,
     view: &PageView,
@@ -180,9 +183,9 @@ fn write_page_view<O: Sink, R: RandomSource>(
 ) -> Result<(), ViewFault>
     requires { length files.now ≡ length collected.now.end.ends.items }
     ensures ok { OnOk result (TakesBytes (O.state out.old) (O.state out.new)
-        (text_of (OfPage view.now) files.now collected.now.end.ends.items collected.now.ledger.journal)) }
+        (text_of unit (OfPage view.now) files.now collected.now.end.ends.items collected.now.ledger.journal)) }
     ensures fits { OnOk result (Fits (OfPage view.now) files.now collected.now.end.ends.items collected.now.ledger.journal) }
-    ensures fault { IfErr result (λ fault. TextLeaves (OfPage view.now) files.now fault
+    ensures fault { IfErr result (λ fault. TextLeaves unit (OfPage view.now) files.now fault
         collected.now.end.ends.items collected.now.ledger.journal (O.state out.old) (O.state out.new)) }
 {
     let text = match text_of_run(rt, alloc, files, collected, &view.table, false) {
@@ -196,6 +199,7 @@ fn write_page_view<O: Sink, R: RandomSource>(
     let ends = &collected.end.ends;
     write_page(
         alloc,
+        unit,
         &collected.ledger,
         files,
         ends,

@@ -6,7 +6,7 @@ use Rattle.tracebook.proofs.pages.show_in_turn.Goals as goal
 -- no file is held
 pub loop-name-init : goal.loop-name-init
 loop-name-init g c =
-    AreHeld-none (g.S.Source.bytes c.args.source.now).file c.args.settings.now c.args.view.now c.in-Ok.none c.in-Ok.ensures.sum c.in-Ok.ensures.lines c.in-Ok.ensures.runs
+    AreHeld-none (g.S.Source.bytes c.args.source.now).file c.args.settings.now c.args.view.now c.in-Ok.none c.in-Ok.ensures.sum c.in-Ok.ensures.lines (c.in-Ok.ensures.runs c.args.settings.now.unit)
 
 -- the next one is
 pub loop-name-preserved : goal.loop-name-preserved

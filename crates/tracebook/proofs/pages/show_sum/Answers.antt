@@ -4,5 +4,5 @@ use Rattle.tracebook.proofs.pages.show_sum.Goals as goal
 pub returns-in-Ok-sum_apart : goal.returns-in-Ok-sum_apart
 returns-in-Ok-sum_apart g c = record {
   sums = rw c.deref.ensures.value at c.in-Ok-sum_apart.ensures;
-  runs = c.in-Ok.ensures c.args.view.now.labels.items;
+  runs = c.in-Ok.ensures c.args.apart.now.settings.unit c.args.view.now.labels.items;
 }

@@ -24,7 +24,7 @@ returns-in-Ok-write_view g c =
     let run = c.in-Ok-collect_to_ledger.collected in
     let collected = c.in-Ok-collect_to_ledger.ensures in
     let written = c.in-Ok-write_view.ensures in
-    let text = text_of c.args.view.now c.args.files.now in
+    let text = text_of c.args.settings.now.unit c.args.view.now c.args.files.now in
     let in_turn : WritesAsInTurn text c.args.files.now [] c.args.settings.now run.end.status _ _ =
     WritesAsInTurn-same text c.args.files.now [] c.args.settings.now run.end.status run.end.ends.items run.ledger.journal
     (λ separate below. text_of-in_turn c.args.files.now c.args.settings.now run.end.ends.items run.end.asked run.end.sealing run.ledger.journal collected.account separate (rw collected.status at below) c.args.view.now)
