@@ -3,7 +3,8 @@
 #![tactic(auto)]
 
 use span_collect::{
-    Answer, Collected, CountRow, Input, Ledger, Query, Reply, Settings, Text, Unit, Writer, run_to_ledger,
+    Answer, Collected, CountRow, Input, Ledger, Query, Reply, Settings, Text, Unit, Writer,
+    run_to_ledger,
 };
 use std::alloc::{AllocError, Global};
 use std::io;
