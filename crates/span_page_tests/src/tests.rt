@@ -1,7 +1,7 @@
 //! Pages of worked traces. What stands between the fixed texts was written by hand.
 
 use span_collect::{FileEnd, Input};
-use span_event::Text;
+use span_event::{Text, Unit};
 use span_ledger::Ledger;
 use span_page::laws::{coding_law, data_law};
 use span_page::page;
@@ -45,7 +45,8 @@ fn page_of(alloc: Global, ledger: &Ledger) -> Result<Vec<u8>, AllocError> {
         SpanColumn::Argument(Text::of(alloc, "detail")?),
     ];
     let table = String::from_str(alloc, TABLE)?;
-    page(alloc, ledger, &files, &[READ], &labels, table)
+    let unit = Unit::Microseconds;
+    page(alloc, unit, ledger, &files, &[READ], &labels, table)
 }
 
 // Whether the data stand between the fixed texts, once each.

@@ -2,6 +2,7 @@
 
 use super::{NESTED, NESTED_DATA, READ, TABLE, file, holds};
 use span_collect::Input;
+use span_event::Unit;
 use span_ledger::Ledger;
 use span_page::write_page;
 use span_report::stacks::SpanColumn;
@@ -53,6 +54,7 @@ fn writes_whole_or_not(rt: &(impl Abort + AllocGlobal), ledger: &Ledger) -> Resu
     let mut out = room_for_the_page(rt.alloc())?;
     let written = write_page(
         rt.alloc(),
+        Unit::Microseconds,
         ledger,
         &files,
         &[READ],

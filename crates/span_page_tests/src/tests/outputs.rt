@@ -1,6 +1,7 @@
 //! Outputs that take a page, or fail.
 
 use super::{READ, TABLE, file, page_of};
+use span_event::Unit;
 use span_ledger::Ledger;
 use span_page::write_page;
 use span_report::Writer;
@@ -24,6 +25,7 @@ fn takes(
     let mut output = Output::of_room(rt.alloc(), room);
     let written = write_page(
         rt.alloc(),
+        Unit::Microseconds,
         ledger,
         &files,
         &[READ],

@@ -2,7 +2,7 @@
 
 use super::{READ, TABLE, file, holds};
 use span_collect::{FileEnd, Input};
-use span_event::Text;
+use span_event::{Text, Unit};
 use span_ledger::Ledger;
 use span_page::RunsPage;
 use span_report::stacks::SpanColumn;
@@ -13,10 +13,7 @@ use std::test::Fail;
 
 const ONE: &str = r#"[{"ph":"X","name":"a","ts":0,"dur":5,"pid":1,"tid":2}]"#;
 
-const REFUSED: FileEnd = FileEnd::Refused {
-    caller: 1,
-    code: 1,
-};
+const REFUSED: FileEnd = FileEnd::Refused { caller: 1, code: 1 };
 
 // A file that is no trace.
 fn cut_file(alloc: Global) -> Result<Input, AllocError> {
@@ -29,9 +26,11 @@ fn cut_file(alloc: Global) -> Result<Input, AllocError> {
 // The page with the run of a file that was told, and with that of one that was refused.
 fn with_both(alloc: Global, page: RunsPage, ledger: &Ledger) -> Result<RunsPage, AllocError> {
     let labels = [SpanColumn::Name];
-    let page = page.with_run(alloc, ledger, &[file(alloc)?], &[READ], &labels)?;
+    let unit = Unit::Microseconds;
+    let page = page.with_run(alloc, unit, ledger, &[file(alloc)?], &[READ], &labels)?;
     page.with_run(
         alloc,
+        unit,
         &Ledger::new(alloc, 1, false),
         &[cut_file(alloc)?],
         &[REFUSED],
