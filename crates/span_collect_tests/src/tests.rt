@@ -1,7 +1,7 @@
 //! Whole collections of files in memory, by threads that race. Reports and fault lines were written by hand from the format.
 use span_collect::{
-    CollectError, FileEnd, FreeGate, Gate, Input, Outcome, RunEnd, RunError, Settings, Unit, collect,
-    fault_line_of, fault_lines, fault_word, numbered_text, run,
+    CollectError, FileEnd, FreeGate, Gate, Input, Outcome, RunEnd, RunError, Settings, Unit,
+    collect, fault_line_of, fault_lines, fault_word, numbered_text, run,
 };
 use span_event::Text;
 use span_ledger::{Cause, Ledger, Query};
@@ -23,6 +23,7 @@ mod lengths;
 mod outputs;
 mod retries;
 mod seals;
+mod units;
 
 // A journal of so many entries, and nothing sealed.
 const fn up_to(limit: u32) -> Settings {
@@ -149,7 +150,7 @@ fn is_read(end: FileEnd, number: u32) -> bool {
 }
 
 fn has_report(alloc: Global, outcome: &Outcome, wanted: &str) -> Result<bool, AllocError> {
-    let text = report(alloc, &outcome.ledger)?;
+    let text = report(alloc, Unit::Microseconds, &outcome.ledger)?;
     Ok(text.as_slice() == wanted.as_bytes())
 }
 

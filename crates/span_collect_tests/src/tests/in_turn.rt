@@ -32,7 +32,7 @@ fn report_behind<G: Gate>(
     settings: &Settings,
 ) -> Result<Vec<u8>, Fail> {
     let outcome = collect_files(rt, files, gate, settings)?;
-    let text = report(rt.alloc(), &outcome.ledger);
+    let text = report(rt.alloc(), settings.unit, &outcome.ledger);
     drop(outcome);
     Ok(text?)
 }

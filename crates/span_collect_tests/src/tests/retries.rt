@@ -6,7 +6,7 @@ ghost use Rattle.span_ledger.specs.Legal.{IsGoodOp};
 
 use span_ledger::{Back, Cause, Items, Ledger, Op};
 use span_read::read_items;
-use span_report::report;
+use span_report::{Unit, report};
 use std::alloc::{AllocError, AllocGlobal, Global};
 use std::process::Abort;
 use std::test::Fail;
@@ -117,9 +117,9 @@ fn has_journal(rt: &(impl Abort + AllocGlobal), ledger: &Ledger) -> Result<(), F
 }
 
 fn has_report(rt: &(impl Abort + AllocGlobal), ledger: &Ledger) -> Result<(), Fail> {
-    let text = match report(rt.alloc(), ledger) {
+    let text = match report(rt.alloc(), Unit::Microseconds, ledger) {
         Ok(text) => text,
-        Err(_) => report(rt.alloc(), ledger)?,
+        Err(_) => report(rt.alloc(), Unit::Microseconds, ledger)?,
     };
     assert!(rt; text.as_slice() == REPORT.as_bytes());
     Ok(())
