@@ -58,6 +58,7 @@ pub record BegunPage : Type 0 where
 abbrev pub begun_text : Unit → List SpanColumn → List ShownRun → List ℕ
 begun_text unit labels runs = head_text ++ (codes "{\"runs\":[" ++ safe (join_with_byte 44 (runs_json unit labels most_frames runs)))
 
+-- whether there is a run
 abbrev pub are_some : List ShownRun → Bool
 are_some [] = false
 are_some (run ∷ later) = true
