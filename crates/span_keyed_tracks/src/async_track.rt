@@ -17,7 +17,7 @@ use key_spans::KeySpans;
 use std::alloc::{AllocError, Global};
 use std::marker::Model;
 
-/// The asynchronous spans of one key. Lengths are microseconds.
+/// The asynchronous spans of one key. Lengths are ticks.
 #[derive(Clone, Copy, Debug, PartialEq, Eq)]
 pub struct AsyncTotals {
     /// How many ends matched a begin.
@@ -37,7 +37,7 @@ pub struct AsyncRow {
     pub totals: AsyncTotals,
 }
 
-/// The asynchronous spans of all keys. Times are microseconds.
+/// The asynchronous spans of all keys. Times are ticks.
 #[derive(Drop)]
 pub struct AsyncTrack {
     alloc: Global,
@@ -91,7 +91,7 @@ impl AsyncTrack {
         )
     }
 
-    /// The last unmatched begin of the key ends. Answers the length of the span in microseconds; or `NoOpenAsync` where no
+    /// The last unmatched begin of the key ends. Answers the length of the span in ticks; or `NoOpenAsync` where no
     /// begin of the key is left that it matches, or `EndBeforeBegin` where `ts` is below the time of that begin. Takes no memory.
     pub fn end_async(&mut self, key: &AsyncKey, ts: i64) -> Result<u64, TrackFault>
         requires in_time { IsTime ts }

@@ -16,7 +16,7 @@ use key_chains::KeyChains;
 use std::alloc::{AllocError, Global};
 use std::marker::Model;
 
-/// The flow chains of one key. Lengths are microseconds.
+/// The flow chains of one key. Lengths are ticks.
 #[derive(Clone, Copy, Debug, PartialEq, Eq)]
 pub struct FlowTotals {
     /// How many chains ended.
@@ -39,11 +39,11 @@ pub struct FlowRow {
 pub struct FlowClosed {
     /// How many points it has, with its start and its finish.
     pub points: u32,
-    /// The microseconds from its start to its finish.
+    /// The ticks from its start to its finish.
     pub length: u64,
 }
 
-/// The flow chains of all keys. Times are microseconds.
+/// The flow chains of all keys. Times are ticks.
 #[derive(Drop)]
 pub struct FlowTrack {
     alloc: Global,

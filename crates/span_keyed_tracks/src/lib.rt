@@ -1,5 +1,6 @@
 //! What the events of a key stand for: asynchronous spans, and flow chains; of counters series of samples; the names of
 //! processes and threads; and instants. And the numbers of names.
+//! A tick is a microsecond or a nanosecond, as the run counts.
 #![tactic(auto)]
 
 mod async_track;

@@ -1,4 +1,5 @@
 //! The journal of a collection, and the sequential ledger that answers each operation from the entries before it.
+//! A tick is a microsecond or a nanosecond, as the run counts.
 #![tactic(auto)]
 
 mod async_events;

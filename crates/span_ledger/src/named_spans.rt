@@ -49,7 +49,7 @@ impl<'a> NamedSpan<'a> {
     }
 }
 
-/// A closed span of a thread with the text of its name and its self time, in microseconds.
+/// A closed span of a thread with the text of its name and its self time, in ticks.
 #[derive(Drop)]
 pub struct TimedSpan<'a> {
     pub name: &'a Text,

@@ -8,10 +8,10 @@ use std::alloc::{AllocError, Global};
 use std::fmt;
 use std::marker::Model;
 
-/// The reply to a query. Times and lengths are microseconds.
+/// The reply to a query. Times and lengths are ticks.
 #[derive(Debug, Drop, PartialEq, Eq)]
 pub enum Reply {
-    /// Of a thread: how many spans are open, the microseconds that closed spans cover, and the time of the last begin, end or seal.
+    /// Of a thread: how many spans are open, the ticks that closed spans cover, and the time of the last begin, end or seal.
     Thread {
         unclosed: u32,
         busy: u64,

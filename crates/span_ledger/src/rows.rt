@@ -58,7 +58,7 @@ pub struct ProcessRow {
 }
 
 /// A thread that has an accepted begin, end, complete event or instant, or that a metadata event names or sorts. `busy` is in
-/// microseconds.
+/// ticks.
 #[derive(Debug, Drop, PartialEq, Eq)]
 pub struct ThreadRow {
     pub pid: i64,
@@ -66,11 +66,11 @@ pub struct ThreadRow {
     pub name: Option<Text>,
     /// How many spans are open.
     pub unclosed: u32,
-    /// The microseconds that at least one closed span covers.
+    /// The ticks that at least one closed span covers.
     pub busy: u64,
 }
 
-/// The closed spans of one name on one thread: how many, and their length and self time together, in microseconds.
+/// The closed spans of one name on one thread: how many, and their length and self time together, in ticks.
 #[derive(Debug, Drop, PartialEq, Eq)]
 pub struct SpanRow {
     pub pid: i64,

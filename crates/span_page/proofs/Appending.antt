@@ -1,7 +1,7 @@
 -- What is appended for the stacks of frames, one frame after the other.
 use Rattle.std.proofs.Common.{◌≡◌, ℕ, zero, suc, ◌<◌, List, [], ◌∷◌, ◌++◌, length, map, drop, refl, ap, ◌∙◌, arith}
 use Rattle.std.specs.Ordering.{nat_cmp, ord_min}
-use Rattle.span_report.specs.Stacks.Microseconds.{Stack}
+use Rattle.span_report.specs.Stacks.Ticks.{Stack}
 use Rattle.span_report.specs.Stacks.Walk.{Framed, stack_after}
 use Rattle.span_page.specs.Coded.{Coded}
 use Rattle.span_page.specs.Data.{stack_json}

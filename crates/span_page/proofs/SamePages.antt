@@ -9,7 +9,7 @@ use Rattle.span_ledger.proofs.Topics.Rows.{rows-follow}
 use Rattle.span_report.specs.Lines.{json_text_of}
 use Rattle.span_report.specs.declared.stacks.label.SpanColumn.{SpanColumn}
 use Rattle.span_report.specs.Stacks.Laws.{HaveSameStacks}
-use Rattle.span_report.specs.Stacks.Microseconds.{Folded}
+use Rattle.span_report.specs.Stacks.Ticks.{Folded}
 use Rattle.span_report.proofs.SameReports.{report_of-alike}
 use Rattle.span_report.proofs.StackLemmas.SameStacks.{stacks-alike}
 use Rattle.span_collect.specs.declared.files.FileEnd.{FileEnd}

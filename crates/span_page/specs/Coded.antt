@@ -2,7 +2,7 @@
 use Rattle.std.specs.Prelude.{ℕ, List, [], ◌∷◌, ◌++◌, take, drop}
 use Rattle.std.specs.List.{common_prefix_len}
 use Rattle.span_event.specs.Text.{same_text}
-use Rattle.span_report.specs.Stacks.Microseconds.{Folded, Stack}
+use Rattle.span_report.specs.Stacks.Ticks.{Folded, Stack}
 
 -- with how many frames two stacks begin alike
 abbrev pub shared : Stack → Stack → ℕ

@@ -9,7 +9,7 @@ use Rattle.span_report.specs.Lines.{json_text_of}
 use Rattle.span_report.specs.Report.{report_of}
 use Rattle.span_report.specs.Stacks.Folded.{thread_frame_count, thread_stacks}
 use Rattle.span_report.specs.declared.stacks.label.SpanColumn.{SpanColumn}
-use Rattle.span_report.specs.Stacks.Microseconds.{Folded}
+use Rattle.span_report.specs.Stacks.Ticks.{Folded}
 use Rattle.span_collect.specs.declared.files.FileEnd.{FileEnd}
 use Rattle.span_collect.specs.declared.files.Input.{Input}
 use Rattle.span_collect.specs.FaultLines.{end_lines}

@@ -8,7 +8,7 @@ use Rattle.span_collect.specs.declared.files.Input.{Input}
 use Rattle.span_collect.specs.FaultLines.{end_lines}
 use Rattle.span_collect.specs.Refusals.Text.{refusals_of}
 use Rattle.span_report.specs.declared.stacks.label.SpanColumn.{SpanColumn}
-use Rattle.span_report.specs.Stacks.Microseconds.{Folded}
+use Rattle.span_report.specs.Stacks.Ticks.{Folded}
 use Rattle.span_page.specs.Coded.{coded_after, decoded_after}
 use Rattle.span_page.specs.Data.{data_of}
 use Rattle.span_page.specs.Page.{page_of}

@@ -1,4 +1,4 @@
--- The stacks of threads, each with how many microseconds have it, and all of them as a text.
+-- The stacks of threads, each with how many ticks have it, and all of them as a text.
 pub mod Bounds
 pub mod Descent
 pub mod Faults
@@ -7,6 +7,6 @@ pub mod Frames
 pub mod Labelled
 pub mod Labels
 pub mod Laws
-pub mod Microseconds
+pub mod Ticks
 pub mod Parts
 pub mod Walk

@@ -58,7 +58,7 @@ module _ {N : Type 0} where
   Decides-is_child : (c p : Span N) → Decides (is_child c p) (((p.start ≤ℤ c.start) × (c.until ≤ℤ p.until)) × IsAbove c p)
   Decides-is_child c p = Decides-and _ _ (Decides-and _ _ (Decides-int_le p.start c.start) (Decides-int_le c.until p.until)) (Decides-outranks c p)
 
-  -- of two spans that nest and share a microsecond, the one above lies within the other
+  -- of two spans that nest and share a tick, the one above lies within the other
   IsWithin-above : (c p : Span N) (u : ℤ) → NestOrAreDisjoint p c → (p.start ≤ℤ u) × (u <ℤ p.until) → (c.start ≤ℤ u) × (u <ℤ c.until) → IsAbove c p → (p.start ≤ℤ c.start) × (c.until ≤ℤ p.until)
   IsWithin-above c p u (inl (inl p_in_c)) here there (inl later) = absurd (omega (arith, ints, p_in_c.0))
   IsWithin-above c p u (inl (inl p_in_c)) here there (inr (same, inl sooner)) = absurd (omega (arith, ints, p_in_c.1))
@@ -86,7 +86,7 @@ module _ {N : Type 0} where
       (λ h. absurd (true≢false (sym (covers-parent b x u mine (and_parts (is_child x s) (is_child b x) h).1) ∙ there)))
       (λ h. absurd (true≢false (sym h)))
 
-  -- at a microsecond of s, a direct child that covers it is the lowest of the spans above s
+  -- at a tick of s, a direct child that covers it is the lowest of the spans above s
   direct_at : (spans : List (Span N)) (s b : Span N) (u : ℤ) (cover : Bool) → covers b u ≡ cover → covers s u ≡ true → NestOrAreDisjoint s b → All (λ x. NestOrAreDisjoint s x) spans → All (λ x. NestOrAreDisjoint x b) spans → (cover && is_direct_child spans b s) ≡ ((cover && outranks b s) && not (is_below (λ x y. outranks y x) (λ x. covers x u && outranks x s) b spans))
   direct_at spans s b u false there here nest with_s with_b = refl
   direct_at spans s b u true there here nest with_s with_b =
@@ -108,7 +108,7 @@ module _ {N : Type 0} where
   IsRanked-turned [] ranked = tt
   IsRanked-turned (x ∷ spans) ranked = (IsConnected-turned x spans ranked.0, IsRanked-turned spans ranked.1)
 
-  -- one direct child covers a microsecond of s, where any span above s does
+  -- one direct child covers a tick of s, where any span above s does
   direct_children-at : (spans : List (Span N)) (s : Span N) (u : ℤ) → AreSpans spans → AreNested spans → All (λ x. NestOrAreDisjoint s x) spans → covers s u ≡ true → sum_by (λ b. one_if (covers b u && is_direct_child spans b s)) spans ≡ one_if (is_outranked spans s u)
   direct_children-at spans s u are nested with_s here =
       sum_by-same_at (λ b. one_if (covers b u && is_direct_child spans b s)) (λ b. one_if ((covers b u && outranks b s) && not (is_below (λ x y. outranks y x) (λ x. covers x u && outranks x s) b spans))) spans
@@ -130,7 +130,7 @@ module _ {N : Type 0} where
   child-length b s false s_lasts b_lasts child =
       sym (count_from-none (λ u. covers s u && (covers b u && false)) s.start (length_of s) (λ u from before. and_right (covers s u) (covers b u && false) (and_right (covers b u) false refl)))
 
-  -- the same at any microsecond, in s or not
+  -- the same at any tick, in s or not
   direct_children-anywhere : (spans : List (Span N)) (s : Span N) (u : ℤ) → AreSpans spans → AreNested spans → All (λ x. NestOrAreDisjoint s x) spans → sum_by (λ b. one_if (covers s u && (covers b u && is_direct_child spans b s))) spans ≡ one_if (covers s u && is_outranked spans s u)
   direct_children-anywhere spans s u are nested with_s = by_test (covers s u) refl
     where

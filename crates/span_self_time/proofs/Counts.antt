@@ -1,4 +1,4 @@
--- How many microseconds of a stretch of time pass a test.
+-- How many ticks of a stretch of time pass a test.
 use Rattle.std.proofs.Common.{◌≡◌, cond, ◌≤◌, ◌<◌, ℕ, zero, suc, ◌+◌, Bool, true, false, ◌&&◌, ℤ, pos, negsuc, ◌+ℤ◌, ◌-ℤ◌, ◌≤ℤ◌, ◌<ℤ◌, int_lt, int_le, refl, sym, ap, ap₂, ◌∙◌, arith, zero-add, List, [], ◌∷◌}
 use Rattle.std.specs.List.{sum_by}
 use Rattle.std.proofs.lemmas.Bool.{and_left, and_right, and_from}
@@ -56,7 +56,7 @@ sum_by-add f g [] = refl
 sum_by-add f g (x ∷ xs) =
     omega (arith, sum_by-cons (λ x. f x + g x) x xs, sum_by-cons f x xs, sum_by-cons g x xs, sum_by-add f g xs)
 
--- where at each microsecond so many of the elements pass, one or none, counting them one by one comes to the same
+-- where at each tick so many of the elements pass, one or none, counting them one by one comes to the same
 pub sum_by-count_from : {A : Type 0} (p : A → ℤ → Bool) (q : ℤ → Bool) (xs : List A) → ((u : ℤ) → sum_by (λ x. one_if (p x u)) xs ≡ one_if (q u)) → (t : ℤ) (n : ℕ) → sum_by (λ x. count_from t n (p x)) xs ≡ count_from t n q
 sum_by-count_from p q xs each t zero = sum_by-nothing xs
 sum_by-count_from p q xs each t (suc n) =

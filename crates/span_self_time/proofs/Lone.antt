@@ -22,7 +22,7 @@ AreSettled-nobody = record { own = λ u o is. absurd cc; no_claim = λ u v o is 
 pub IsNew-nobody : (s : Span ℕ) → IsNew s nobody
 IsNew-nobody s = λ u owner is. absurd cc
 
--- a span without a microsecond takes nothing
+-- a span without a tick takes nothing
 pub taken-nothing : (s : Span ℕ) (owners : Owners) → s.start ≡ s.until → taken s owners ≡ owners
 taken-nothing s owners same = λ i u. at u i
   where

@@ -1,4 +1,4 @@
--- Spans in place of others: where they cover the same microseconds, the busy time stays, and where they rank alike too, the self times.
+-- Spans in place of others: where they cover the same ticks, the busy time stays, and where they rank alike too, the self times.
 use Rattle.std.proofs.Common.{◌≡◌, ℕ, ◌+◌, List, [], ◌∷◌, map, Bool, true, false, cond, not, ◌&&◌, ◌||◌, ℤ, int_lt, int_le, refl, ap, ap₂, ◌∙◌}
 use Rattle.std.specs.Prelude.{filter}
 use Rattle.std.specs.List.{list_any, sum_by}

@@ -39,7 +39,7 @@ owners_of-top spans are u = λ k d within top.
         let owner = owners_of-All (λ z. z.at ≡ s.at → z ≡ s) spans one u o found in
         ap Some (sym owner.is ∙ ap bare (owner.holds (ap (λ (z : Span ℕ). z.at) owner.is ∙ sym (at o found))))
 
--- some span covers what has an owner, and no other microsecond
+-- some span covers what has an owner, and no other tick
 pub is_covered-owners_of : (spans : List (Span ℕ)) (u : ℤ) → is_covered spans u ≡ is_some (owners_of spans u)
 is_covered-owners_of spans u = by_owner (owners_of spans u) refl
   where

@@ -1,4 +1,4 @@
--- To whom the spans leave a microsecond: to the one of those that cover it above which none of them ranks.
+-- To whom the spans leave a tick: to the one of those that cover it above which none of them ranks.
 use Rattle.std.proofs.Common.{◌≡◌, ◌≢◌, ℕ, Bool, true, false, not, ◌&&◌, cond, nat_eq, ℤ, ◌≤ℤ◌, ◌<ℤ◌, List, [], ◌∷◌, ◌++◌, Option, Some, None, ◌⊎◌, inl, inr, refl, sym, ap, ◌∙◌, true≢false, All, get_or}
 use Rattle.std.specs.List.{fold, list_any}
 use Rattle.std.proofs.lemmas.Option.{same_Some}
@@ -52,7 +52,7 @@ list_any-fold u owner (s ∷ spans) =
     by_test false h = refl
     by_test true h = claims-fold (bare s) u (owner_after u owner s) spans h
 
--- no span could take a microsecond from its owner
+-- no span could take a tick from its owner
 pub list_any-owners_of : (spans : List (Span ℕ)) (u : ℤ) → list_any (λ s. covers s u && claims (bare s) (owners_of spans u)) spans ≡ false
 list_any-owners_of spans u = list_any-fold u None spans
 

@@ -13,7 +13,7 @@ is_in_segment-start : (x : Segment) (xs : List Segment) → AreInOrder (x ∷ xs
 is_in_segment-start x xs order =
     is_in_segment-head x xs order x.at x.start (omega (arith, ints)) order.0 ∙ eq-eqb x.at x.at refl
 
--- the two lists say the same of each microsecond
+-- the two lists say the same of each tick
 abbrev Agree : List Segment → List Segment → Type 0
 Agree xs ys = (at : ℕ) (u : ℤ) → is_in_segment xs at u ≡ is_in_segment ys at u
 
@@ -59,7 +59,7 @@ names-same q (s ∷ spans) x y position some named_x named_y =
           (All-tail (λ (s : Span ℕ). s.at ≡ y.at → s.name ≡ y.name) s spans named_y)
     ]
 
--- segments that say the same of each microsecond, and lie where spans are on top
+-- segments that say the same of each tick, and lie where spans are on top
 same_from : (spans : List (Span ℕ)) (xs ys : List Segment) → AreInOrder xs → AreInOrder ys → Agree xs ys → All (IsNamed spans) xs → All (IsNamed spans) ys → ((at : ℕ) (u : ℤ) → is_in_segment xs at u ≡ true → is_on_top spans at u ≡ true) → xs ≡ ys
 same_from spans [] [] order_x order_y agree named_x named_y on_top = refl
 same_from spans [] (y ∷ ys) order_x order_y agree named_x named_y on_top =

@@ -29,7 +29,7 @@ All-from_list_any p (x ∷ xs) none =
     let parts = or_parts (p x) (list_any p xs) none in
     All-cons (λ x. p x ≡ false) x xs parts.0 (All-from_list_any p xs parts.1)
 
--- where no span starts or ends, the same span is on top as in the microsecond before
+-- where no span starts or ends, the same span is on top as in the tick before
 is_on_top-no_end : (spans : List (Span ℕ)) (at : ℕ) (u : ℤ) → is_end spans u ≡ false → is_on_top spans at (u -ℤ pos 1) ≡ is_on_top spans at u
 is_on_top-no_end spans at u none = on_top spans none_of
   where
@@ -53,7 +53,7 @@ is_on_top-no_end spans at u none = on_top spans none_of
         (outranked x spans none_of))
         (on_top xs (All-tail (HasNoEnd u) x xs each))
 
--- the span of a segment has the microsecond where it starts and the last one before it ends, and neither the one before nor the one behind
+-- the span of a segment has the tick where it starts and the last one before it ends, and neither the one before nor the one behind
 record IsWhole (segments : List Segment) (g : Segment) : Type 0 where
   pub first : is_in_segment segments g.at g.start ≡ true
   pub before : is_in_segment segments g.at (g.start -ℤ pos 1) ≡ false

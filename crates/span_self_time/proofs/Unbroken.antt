@@ -28,7 +28,7 @@ counts-unbroken : (spans : List ClosedSpan) (c : Counted) (u v : ℤ) → All (�
 counts-unbroken spans (OwnOf s) u v unbroken w from before = ap not (is_outranked-unbroken spans (span_of s.now) u v unbroken w from before)
 counts-unbroken spans Covered u v unbroken w from before = is_covered-unbroken spans u v unbroken w from before
 
--- how many microseconds count from u to an end
+-- how many ticks count from u to an end
 unfoldable pub counted_from : List (Span ℕ) → Counted → ℤ → ℤ → ℕ
 counted_from spans c u end = count_from u (distance u end) (counts spans c)
 

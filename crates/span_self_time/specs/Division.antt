@@ -1,4 +1,4 @@
--- To which span each microsecond belongs, and the parts of time that are of one span, whichever way they are kept.
+-- To which span each tick belongs, and the parts of time that are of one span, whichever way they are kept.
 pub mod Lengths
 pub mod Lone
 pub mod Stacks
@@ -19,14 +19,14 @@ use Rattle.span_self_time.specs.Closed.{greatest_until, IsInTime}
 abbrev pub whole : ClosedSpan → Part
 whole s = record { segment = record { start = s.start; until = s.until; name = s.name; at = s.at }; span_start = s.start; span_until = s.until }
 
--- to which span each microsecond belongs; spans stand in it without their arguments
+-- to which span each tick belongs; spans stand in it without their arguments
 abbrev pub Owners : Type 0
 Owners = ℤ → Option (Span ℕ)
 
 abbrev pub bare : Span ℕ → Span ℕ
 bare s = record { name = s.name; start = s.start; until = s.until; at = s.at; args = [] }
 
--- a span takes the microseconds that it covers from no one and from the spans that it outranks
+-- a span takes the ticks that it covers from no one and from the spans that it outranks
 abbrev pub claims : Span ℕ → Option (Span ℕ) → Bool
 claims s None = true
 claims s (Some owner) = outranks s owner
@@ -34,7 +34,7 @@ claims s (Some owner) = outranks s owner
 abbrev pub taken : Span ℕ → Owners → Owners
 taken s owners u = if covers s u && claims s (owners u) then Some s else owners u
 
--- to whom these spans leave each microsecond, when one after another takes its own
+-- to whom these spans leave each tick, when one after another takes its own
 abbrev pub owners_of : List (Span ℕ) → Owners
 owners_of spans u = fold (λ owner s. if covers s u && claims (bare s) owner then Some (bare s) else owner) None spans
 
@@ -42,7 +42,7 @@ owners_of spans u = fold (λ owner s. if covers s u && claims (bare s) owner the
 abbrev pub owner_of : Part → Span ℕ
 owner_of p = record { name = p.segment.name; start = p.span_start; until = p.span_until; at = p.segment.at; args = [] }
 
--- each microsecond from a to before b has this owner
+-- each tick from a to before b has this owner
 abbrev pub Belong : Owners → ℤ → ℤ → Option (Span ℕ) → Type 0
 Belong owners a b owner = (u : ℤ) → a ≤ℤ u → u <ℤ b → owners u ≡ owner
 

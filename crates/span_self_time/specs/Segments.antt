@@ -5,7 +5,7 @@ use Rattle.std.specs.Ordering.{int_eq}
 use Rattle.span_self_time.specs.declared.segment.Segment.{Segment}
 use Rattle.span_self_time.specs.Spans.{Span, covers, is_outranked}
 
--- u is a microsecond of the segment
+-- u is a tick of the segment
 abbrev pub lies_in : Segment → ℤ → Bool
 lies_in g u = int_le g.start u && int_lt u g.until
 
@@ -17,7 +17,7 @@ is_in_segment segments at u = list_any (λ g. nat_eq g.at at && lies_in g u) seg
 abbrev pub is_on_top : List (Span ℕ) → ℕ → ℤ → Bool
 is_on_top spans at u = list_any (λ s. nat_eq s.at at && (covers s u && not (is_outranked spans s u))) spans
 
--- the span has a microsecond
+-- the span has a tick
 abbrev pub lasts : Span ℕ → Bool
 lasts s = int_lt s.start s.until
 

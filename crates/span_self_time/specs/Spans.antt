@@ -1,4 +1,4 @@
--- Closed spans of one thread, and how its microseconds are shared among them. A name is of a type N: a text, or its number.
+-- Closed spans of one thread, and how its ticks are shared among them. A name is of a type N: a text, or its number.
 use Rattle.std.specs.Prelude.{ℕ, zero, suc, ◌+◌, nat_lt, Bool, not, ◌&&◌, ◌||◌, if◌then◌else◌, ℤ, pos, ◌+ℤ◌, int_lt, int_le, List, [], ◌∷◌, filter, fold, sum_by}
 use Rattle.std.specs.List.{list_any}
 use Rattle.indexmap.specs.IndexSet.{insert_key}
@@ -7,7 +7,7 @@ use Rattle.std.specs.Int.{int_min, int_max}
 use Rattle.span_event.specs.Time.{distance}
 pub use Rattle.span_event.specs.Args.{Arguments}
 
--- a closed span: it covers each microsecond from `start` to before `until`; `at` is the journal's position of the event that opened it
+-- a closed span: it covers each tick from `start` to before `until`; `at` is the journal's position of the event that opened it
 pub record Span (N : Type 0) : Type 0 where
   pub name : N
   pub start : ℤ
@@ -16,7 +16,7 @@ pub record Span (N : Type 0) : Type 0 where
   pub args : Arguments
 
 module _ {N : Type 0} where
-  -- the span's length in microseconds
+  -- the span's length in ticks
   abbrev pub length_of : Span N → ℕ
   length_of s = distance s.start s.until
 
@@ -49,11 +49,11 @@ count_from t zero p = 0
 count_from t (suc n) p = (if p t then 1 else 0) + count_from (t +ℤ pos 1) n p
 
 module _ {N : Type 0} where
-  -- the microseconds of s that no span above it covers
+  -- the ticks of s that no span above it covers
   abbrev pub self_time : List (Span N) → Span N → ℕ
   self_time spans s = count_from s.start (length_of s) (λ u. not (is_outranked spans s u))
 
-  -- the microseconds that at least one span covers
+  -- the ticks that at least one span covers
   abbrev pub busy_time : List (Span N) → ℕ
   busy_time spans = count_from (earliest spans) (distance (earliest spans) (latest spans)) (λ u. is_covered spans u)
 

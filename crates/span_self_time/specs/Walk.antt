@@ -9,7 +9,7 @@ use Rattle.span_self_time.specs.Closed.{span_of}
 abbrev pub IsUnbroken : {N : Type 0} → Span N → ℤ → ℤ → Type 0
 IsUnbroken s u v = (w : ℤ) → u ≤ℤ w → w <ℤ v → covers s w ≡ covers s u
 
--- whether a microsecond counts
+-- whether a tick counts
 abbrev pub counts : List (Span ℕ) → Counted → ℤ → Bool
 counts spans (OwnOf s) u = not (is_outranked spans (span_of s.now) u)
 counts spans Covered u = is_covered spans u

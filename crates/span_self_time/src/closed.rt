@@ -62,7 +62,7 @@ impl ClosedSpans {
         &self.list
     }
 
-    /// One more span, which takes the microseconds that are its own from the others. Where memory is refused, no reader sees a change.
+    /// One more span, which takes the ticks that are its own from the others. Where memory is refused, no reader sees a change.
     pub fn add(&mut self, span: ClosedSpan) -> Result<(), AllocError>
         requires few { length self.old + 1 < 2 ^ 32 }
         requires forward { span.start ≤ℤ span.until }
@@ -84,7 +84,7 @@ impl ClosedSpans {
         Ok(())
     }
 
-    /// More spans, in this order, each of which takes the microseconds that are its own from the others. Where memory is refused,
+    /// More spans, in this order, each of which takes the ticks that are its own from the others. Where memory is refused,
     /// no reader sees a change, and none of them is added. Two or more cost a copy of the totals and of the division.
     pub fn add_all(&mut self, spans: Vec<ClosedSpan>) -> Result<(), AllocError>
         requires { CanJoin self.old (map span_of spans.items) }
@@ -142,14 +142,14 @@ impl ClosedSpans {
         self.totals.of(name)
     }
 
-    /// The microseconds that belong to the spans of one name, as no span that ranks above covers them.
+    /// The ticks that belong to the spans of one name, as no span that ranks above covers them.
     pub fn self_of(&self, name: u32) -> u64
         ensures { result ≡ self_of nat_eq name self.now }
     {
         self.division.self_of(name)
     }
 
-    /// The microseconds that belong to each span, as no span that ranks above covers them, in the order in which the spans were added.
+    /// The ticks that belong to each span, as no span that ranks above covers them, in the order in which the spans were added.
     pub fn self_times(&self, alloc: Global) -> Result<Vec<u64>, AllocError>
         ensures { IfOk result (λ times. times.items ≡ map (self_time self.now) self.now) }
     {
@@ -161,7 +161,7 @@ impl ClosedSpans {
         Ok(times)
     }
 
-    /// The microseconds that at least one span covers.
+    /// The ticks that at least one span covers.
     pub fn busy(&self) -> u64
         ensures { result ≡ busy_time self.now }
     {

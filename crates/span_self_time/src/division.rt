@@ -125,7 +125,7 @@ impl Division {
         }
     }
 
-    /// The span takes the microseconds that it covers from no one and from the spans that it outranks. Where memory is refused,
+    /// The span takes the ticks that it covers from no one and from the spans that it outranks. Where memory is refused,
     /// no reader sees a change.
     pub(crate) fn add(&mut self, span: &Part, alloc: Global) -> Result<(), AllocError>
         requires { CanAdd IsDivision (owner_of span.now) self.old }

@@ -1,4 +1,5 @@
 //! The closed spans of one thread: their totals, and how the thread's time is divided among them.
+//! A tick is a microsecond or a nanosecond, as the run counts.
 #![tactic(auto)]
 
 mod closed;

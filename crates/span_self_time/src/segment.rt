@@ -8,7 +8,7 @@ ghost use Rattle.span_self_time.specs.Division.Stacks.{part_length};
 
 use crate::span::ClosedSpan;
 
-/// A stretch of time that belongs to one closed span: no span that covers it ranks above. It holds the microseconds from `start`
+/// A stretch of time that belongs to one closed span: no span that covers it ranks above. It holds the ticks from `start`
 /// to before `until`. `name` is the number of the span's name, and `at` the position in the journal of the event that opened it.
 #[derive(Clone, Copy, Debug, PartialEq, Eq)]
 pub struct Segment {
@@ -56,7 +56,7 @@ impl Part {
         }
     }
 
-    /// The microseconds of the part; none where it ends sooner than it starts.
+    /// The ticks of the part; none where it ends sooner than it starts.
     pub(crate) fn length(&self) -> u64
         ensures { result ≡ part_length self.now }
     {

@@ -6,7 +6,7 @@ ghost use Rattle.span_self_time.specs.Closed.{greatest_until};
 
 use span_event::Args;
 
-/// A span that has ended, with the number of its name. It covers the microseconds from `start` to before `until`; `at` is the
+/// A span that has ended, with the number of its name. It covers the ticks from `start` to before `until`; `at` is the
 /// position in the journal of the event that opened it.
 #[derive(Debug, Drop)]
 pub struct ClosedSpan {
@@ -17,7 +17,7 @@ pub struct ClosedSpan {
     pub args: Args,
 }
 
-/// The closed spans of one name: how many there are, and their lengths together, in microseconds.
+/// The closed spans of one name: how many there are, and their lengths together, in ticks.
 #[derive(Clone, Copy, Debug, PartialEq, Eq)]
 pub struct NameTotal {
     pub count: u32,
@@ -41,7 +41,7 @@ impl NameTotal {
     }
 }
 
-/// How many microseconds there are from one time to another.
+/// How many ticks there are from one time to another.
 pub(crate) fn distance(from: i64, to: i64) -> u64
     requires forward { from ≤ℤ to }
     requires from_in_time { least_time ≤ℤ from }

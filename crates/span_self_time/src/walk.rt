@@ -10,7 +10,7 @@ use crate::segment::Part;
 use crate::span::{ClosedSpan, distance};
 use std::alloc::{AllocError, Global};
 
-/// Which microseconds a walk counts.
+/// Which ticks a walk counts.
 #[derive(Clone, Copy)]
 enum Counted<'a> {
     /// Those that no span above this one covers.
@@ -86,7 +86,7 @@ fn counts(spans: &[ClosedSpan], counted: Counted<'_>, u: i64) -> bool
     }
 }
 
-// How many microseconds count from one time to before another.
+// How many ticks count from one time to before another.
 fn time_counted(spans: &[ClosedSpan], counted: Counted<'_>, from: i64, until: i64) -> u64
     requires forward { from ≤ℤ until }
     requires from_in_time { least_time ≤ℤ from }
@@ -105,7 +105,7 @@ fn time_counted(spans: &[ClosedSpan], counted: Counted<'_>, from: i64, until: i6
     time
 }
 
-// The microseconds of the span that no span above it covers.
+// The ticks of the span that no span above it covers.
 fn self_time(spans: &[ClosedSpan], span: &ClosedSpan) -> u64
     requires lasts { span.now.start ≤ℤ span.now.until }
     requires in_time { IsInTime (span_of span.now) }
@@ -128,7 +128,7 @@ fn bounds(spans: &[ClosedSpan]) -> (i64, i64)
     (earliest, latest)
 }
 
-/// The busy time, in microseconds, found by walking through the time from the first span to the last. Takes no memory.
+/// The busy time, in ticks, found by walking through the time from the first span to the last. Takes no memory.
 pub fn busy_time(spans: &[ClosedSpan]) -> u64
     requires { AreClosed (map span_of spans.now) }
     ensures { result ≡ busy_time (map span_of spans.now) }
@@ -137,7 +137,7 @@ pub fn busy_time(spans: &[ClosedSpan]) -> u64
     time_counted(spans, Counted::Covered, from, until)
 }
 
-/// The self times of the spans of one name, in microseconds, found by walking through each of these spans. Takes no memory.
+/// The self times of the spans of one name, in ticks, found by walking through each of these spans. Takes no memory.
 pub fn self_of(spans: &[ClosedSpan], name: u32) -> u64
     requires { AreClosed (map span_of spans.now) }
     ensures { result ≡ self_of nat_eq name (map span_of spans.now) }
@@ -151,7 +151,7 @@ pub fn self_of(spans: &[ClosedSpan], name: u32) -> u64
     own
 }
 
-/// The self time of each span, in microseconds, found by walking through each of them.
+/// The self time of each span, in ticks, found by walking through each of them.
 pub fn self_times(spans: &[ClosedSpan], alloc: Global) -> Result<Vec<u64>, AllocError>
     requires { AreClosed (map span_of spans.now) }
     ensures { IfOk result (λ times. times.items

@@ -157,7 +157,7 @@ fn add_span(
     groups.add(key, sums)
 }
 
-// How many microseconds there are from one time to another, if it is later.
+// How many ticks there are from one time to another, if it is later.
 fn length(start: i64, until: i64) -> u64
     ensures { result ≡ distance start until }
 {

@@ -8,7 +8,7 @@ ghost use Rattle.span_table.specs.Tables.{sums_together};
 use crate::sum::Sum;
 use span_ledger::SpanRow;
 
-/// How many spans, their lengths, and their self times together. Times are microseconds.
+/// How many spans, their lengths, and their self times together. Times are ticks: microseconds or nanoseconds, as the runs count.
 #[derive(Clone, Copy)]
 pub struct Sums {
     pub count: Sum,

@@ -6,14 +6,14 @@ use crate::thread::ThreadTrack;
 pub use span_self_time::laws::self_law;
 use span_self_time::walk;
 
-/// The self times of the spans of one name, in microseconds, found by walking through each of these spans.
+/// The self times of the spans of one name, in ticks, found by walking through each of these spans.
 pub fn self_plain(track: &ThreadTrack, name: u32) -> u64
     ensures { result ≡ self_of nat_eq name track.now.closed }
 {
     walk::self_of(track.spans(), name)
 }
 
-/// The busy time, in microseconds, found by walking through the time from the first span to the last.
+/// The busy time, in ticks, found by walking through the time from the first span to the last.
 pub fn busy_plain(track: &ThreadTrack) -> u64
     ensures { result ≡ busy_time track.now.closed }
 {

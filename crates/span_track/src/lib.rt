@@ -1,5 +1,6 @@
 //! What the events of one thread stand for: open and closed spans, and how its time is divided among the closed ones. With the
 //! tracks of keys, which are a crate of their own.
+//! A tick is a microsecond or a nanosecond, as the run counts.
 #![tactic(auto)]
 
 pub mod laws;

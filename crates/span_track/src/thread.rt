@@ -27,7 +27,7 @@ struct OpenSpan {
     args: Args,
 }
 
-/// The open and closed spans of one thread, and how its time is divided among the closed ones. Times are microseconds.
+/// The open and closed spans of one thread, and how its time is divided among the closed ones. Times are ticks.
 #[derive(Drop)]
 pub struct ThreadTrack {
     opened: Vec<OpenSpan>,
@@ -237,7 +237,7 @@ impl ThreadTrack {
         }
     }
 
-    /// A whole span, of `dur` microseconds from `ts` on, in any order of time. Only want of memory refuses it.
+    /// A whole span, of `dur` ticks from `ts` on, in any order of time. Only want of memory refuses it.
     pub fn complete(
         &mut self,
         name: u32,
@@ -348,14 +348,14 @@ impl ThreadTrack {
         self.closed.total_of(name)
     }
 
-    /// The microseconds that belong to the closed spans of one name, as no span that ranks above covers them.
+    /// The ticks that belong to the closed spans of one name, as no span that ranks above covers them.
     pub fn self_of(&self, name: u32) -> u64
         ensures { result ≡ self_of nat_eq name self.now.closed }
     {
         self.closed.self_of(name)
     }
 
-    /// The microseconds that belong to each closed span, as no span that ranks above covers them, in the order of the events that
+    /// The ticks that belong to each closed span, as no span that ranks above covers them, in the order of the events that
     /// closed them.
     pub fn self_times(&self, alloc: Global) -> Result<Vec<u64>, AllocError>
         ensures { IfOk result (λ times. times.items ≡ map (self_time self.now.closed) self.now.closed) }
@@ -363,7 +363,7 @@ impl ThreadTrack {
         self.closed.self_times(alloc)
     }
 
-    /// The microseconds that at least one closed span covers.
+    /// The ticks that at least one closed span covers.
     pub fn busy(&self) -> u64
         ensures { result ≡ busy_time self.now.closed }
     {
@@ -371,7 +371,7 @@ impl ThreadTrack {
     }
 
     /// How many segments of time there are: stretches, each as long as can be, in which one closed span ranks above all others
-    /// that cover it. With n closed spans of a microsecond or more there are at most 2n - 1, and none where n is 0. Takes no memory.
+    /// that cover it. With n closed spans of a tick or more there are at most 2n - 1, and none where n is 0. Takes no memory.
     pub fn segment_count(&self) -> u64
         ensures count { Gives AreSegments self.now.closed length result }
         ensures segments { HasSegments self.now.closed }

@@ -5,7 +5,7 @@ use Rattle.std.proofs.lemmas.List.Concat.{flat_map-cons}
 use Rattle.std.proofs.lemmas.List.Folds.{list_any-append, list_any_at}
 use Rattle.span_event.specs.Text.{Bytes}
 use Rattle.span_report.specs.Stacks.Bounds.{beginnings}
-use Rattle.span_report.specs.Stacks.Microseconds.{Stack, same_stack}
+use Rattle.span_report.specs.Stacks.Ticks.{Stack, same_stack}
 use Rattle.span_report.proofs.StackLemmas.Members.{Has, any-index, has-first, has-later, or-either, or-left, or-right, same-itself, same-true}
 
 -- a list passes a test where one of its stacks does

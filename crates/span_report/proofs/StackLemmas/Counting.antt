@@ -18,7 +18,7 @@ use Rattle.span_keyed_tracks.specs.Keyed.{ascending}
 use Rattle.span_report.specs.declared.stacks.descent.Descent.{Descent}
 use Rattle.span_report.specs.Stacks.Bounds.{beginnings, frame_count, frames_of, names_in}
 use Rattle.span_report.specs.Stacks.Descent.{IsReady, StartsWith, TellsFrame, left_of, told_last}
-use Rattle.span_report.specs.Stacks.Microseconds.{Folded, Stack, folded, folded_stacks, has_frames, same_stack, stack_at, stack_order, stacks_of}
+use Rattle.span_report.specs.Stacks.Ticks.{Folded, Stack, folded, folded_stacks, has_frames, same_stack, stack_at, stack_order, stacks_of}
 use Rattle.span_report.specs.Stacks.Walk.{AreAscending, Framed, folded_after, last_stack, stack_after}
 use Rattle.span_report.proofs.StackLemmas.Beginnings.{any-has, has-beginning, list_any-flat_map}
 use Rattle.span_report.proofs.StackLemmas.Members.{Has, HasEach, HasEach-append, HasEach-cons, HasEach-none, StandOnce-sorted, any-index, has-at, length-le-each, or-either, same-true, sum_by-le-each}
@@ -26,7 +26,7 @@ use Rattle.span_report.proofs.StackLemmas.Tallies.{list_any-ascending, sorted-sa
 use Rattle.span_report.proofs.StackLemmas.Telling.{AreAscending-push, count-any, has-told, length-told_stacks, rows-folded, rows-timed, stacks-sorted, tally-any, tally-empty, tally-own, told, told-begun, told-push, told-sorted, told_stacks, told_stacks-push}
 use Rattle.span_report.proofs.StackLemmas.Times.{count_by-cons, count_by-stacks_of, stack_order-same, stack_order-total}
 
--- how many microseconds of the spans have the stack
+-- how many ticks of the spans have the stack
 abbrev pub count_of : List (Span Bytes) → Stack → ℕ
 count_of spans stack = count_by (same_stack stack) (stacks_of spans)
 

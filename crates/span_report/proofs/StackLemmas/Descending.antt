@@ -16,7 +16,7 @@ use Rattle.span_report.specs.declared.stacks.descent.Descent.{Descent}
 use Rattle.span_report.specs.declared.stacks.parts.Part.{Part}
 use Rattle.span_report.specs.declared.stacks.parts.Stretch.{Stretch}
 use Rattle.span_report.specs.Stacks.Descent.{IsNextSplit, IsReady, StartsWith, TellsFrame, left_of, told_last}
-use Rattle.span_report.specs.Stacks.Microseconds.{Stack, has_frames, names_at, ranked, same_stack, stack_at, stacks_of}
+use Rattle.span_report.specs.Stacks.Ticks.{Stack, has_frames, names_at, ranked, same_stack, stack_at, stacks_of}
 use Rattle.span_report.specs.Stacks.Parts.{IsAhead, IsSound, IsSplit, Near, left, nearness, part_stack, times_on}
 use Rattle.span_report.proofs.StackLemmas.Nearing.{AllByRecursion-front, AllByRecursion-last, IsAhead-on, Near-append, Near-front, Near-last, Near-sorted, ahead-next, deeper-near, farther, left-next, no_deeper}
 use Rattle.span_report.proofs.StackLemmas.Splitting.{times_on-own}

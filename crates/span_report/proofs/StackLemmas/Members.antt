@@ -8,7 +8,7 @@ use Rattle.std.specs.declared.cmp.Ordering.TheVariants.{Less, Equal, Greater}
 use Rattle.std.proofs.lemmas.Cmp.{tied_itself}
 use Rattle.std.proofs.lemmas.List.Folds.{list_any-append}
 use Rattle.std.proofs.lemmas.List.Sums.{sum_by-cons}
-use Rattle.span_report.specs.Stacks.Microseconds.{Stack, same_stack, stack_order}
+use Rattle.span_report.specs.Stacks.Ticks.{Stack, same_stack, stack_order}
 use Rattle.span_report.proofs.StackLemmas.Tallies.{none-below}
 use Rattle.span_report.proofs.StackLemmas.Times.{stack_order-same, stack_order-total}
 

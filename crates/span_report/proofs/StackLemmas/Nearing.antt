@@ -16,7 +16,7 @@ use Rattle.span_event.proofs.Orders.{text_same}
 use Rattle.span_keyed_tracks.specs.Last.{last_of}
 use Rattle.span_self_time.specs.Spans.{Span}
 use Rattle.span_report.specs.declared.stacks.parts.Part.{Part}
-use Rattle.span_report.specs.Stacks.Microseconds.{Stack, stack_order}
+use Rattle.span_report.specs.Stacks.Ticks.{Stack, stack_order}
 use Rattle.span_report.specs.Stacks.Parts.{IsAhead, Near, left, nearness, part_stack, times_on}
 use Rattle.span_report.proofs.StackLemmas.StackOrders.{below-pushed, none-below-empty, stack_order-pushed, turned-greater, turned-less}
 

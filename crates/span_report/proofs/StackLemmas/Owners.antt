@@ -1,4 +1,4 @@
--- The last frame of a stack is the name of the span to which the microsecond belongs.
+-- The last frame of a stack is the name of the span to which the tick belongs.
 use Rattle.std.proofs.Common.{◌≡◌, ◌≤ℤ◌, ◌+◌, ℤ, Bool, true, false, not, ◌&&◌, ◌||◌, cond, List, [], ◌∷◌, map, refl, sym, ap, ap₂, ◌∙◌, arith, zero-add}
 use Rattle.std.specs.Prelude.{filter}
 use Rattle.std.specs.List.{AllByRecursion, list_any, sum_by}
@@ -15,7 +15,7 @@ use Rattle.span_self_time.proofs.Counts.{count_from-covered, count_from-none, co
 use Rattle.span_self_time.proofs.Ranks.{outranks-itself}
 use Rattle.span_self_time.proofs.Tops.{one_if, sum_by-same}
 use Rattle.span_report.specs.Stacks.Laws.{ends_in}
-use Rattle.span_report.specs.Stacks.Microseconds.{Stack, folded_stacks, has_frames, names_at, rank_order, ranked, stack_at}
+use Rattle.span_report.specs.Stacks.Ticks.{Stack, folded_stacks, has_frames, names_at, rank_order, ranked, stack_at}
 use Rattle.span_report.proofs.StackLemmas.RankOrder.{outranks-before, ranked-permutation, ranked-sorted}
 use Rattle.span_report.proofs.StackLemmas.Times.{count_by-stacks_of, has_frames-names_at, sum_by-folded_stacks}
 

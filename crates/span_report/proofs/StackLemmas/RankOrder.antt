@@ -14,7 +14,7 @@ use Rattle.span_self_time.specs.Spans.{Span, outranks}
 use Rattle.span_self_time.proofs.Ranks.{outranks-itself, outranks-trans}
 use Rattle.span_ledger.proofs.Sorted.{ascending-sorted}
 use Rattle.span_ledger.proofs.Sorting.{ascending-permutation}
-use Rattle.span_report.specs.Stacks.Microseconds.{rank_order, ranked}
+use Rattle.span_report.specs.Stacks.Ticks.{rank_order, ranked}
 
 module _ {N : Type 0} where
   -- by start, then the longer one first, then by position

@@ -25,7 +25,7 @@ use Rattle.span_report.specs.Stacks.Bounds.{beginnings}
 use Rattle.span_report.specs.Stacks.Folded.{stack_lines, thread_frame_count, thread_frames, thread_stacks}
 use Rattle.span_report.specs.Stacks.Labels.{label_of, labelled, labelled_spans, named_by}
 use Rattle.span_report.specs.Stacks.Laws.{StacksFollowFromActs}
-use Rattle.span_report.specs.Stacks.Microseconds.{Folded, Stack, folded, has_frames, microseconds, names_at, rank_order, ranked, stack_at, stack_order, stacks_of}
+use Rattle.span_report.specs.Stacks.Ticks.{Folded, Stack, folded, has_frames, ticks, names_at, rank_order, ranked, stack_at, stack_order, stacks_of}
 
 -- where a span stands among others that are in place of others too
 placed-map : {A B : Type 0} (g : A → B) (o : Ordering) (k x : A) (xs zs : List A) (ys : List B) → ys ≡ map g zs →
@@ -74,7 +74,7 @@ module _ {N : Type 0} (f : ℕ → ℕ) (rises : Rises f) where
   stacks_of-renumbered : (spans : List (Span N)) → stacks_of (map (renumbered_span f) spans) ≡ stacks_of spans
   stacks_of-renumbered spans = λ i. filter has_frames
       (map (λ u. stack_at-renumbered spans u i)
-      (microseconds (earliest-renumbered spans i) (distance (earliest-renumbered spans i) (latest-renumbered spans i))))
+      (ticks (earliest-renumbered spans i) (distance (earliest-renumbered spans i) (latest-renumbered spans i))))
 
 module _ (columns : List SpanColumn) where
   -- no label looks at positions

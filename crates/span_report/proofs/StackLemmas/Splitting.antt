@@ -1,4 +1,4 @@
--- How many microseconds a stretch and the parts of it have of a stack.
+-- How many ticks a stretch and the parts of it have of a stack.
 use Rattle.std.proofs.Common.{◌≡◌, ℕ, zero, suc, ◌+◌, ◌<◌, ◌≤◌, ◌^◌, ℤ, pos, ◌+ℤ◌, ◌≤ℤ◌, ◌<ℤ◌, Bool, true, false, cond, List, [], ◌∷◌, ◌++◌, length, take, drop, refl, sym, ap, ap₂, ◌∙◌, arith, append_assoc, append-nil}
 use Rattle.std.proofs.lemmas.Int.{ints}
 use Rattle.std.proofs.lemmas.List.{length_push, length-take-le, take_all}
@@ -9,7 +9,7 @@ use Rattle.span_self_time.specs.Spans.{Span, count_from}
 use Rattle.span_self_time.proofs.Counts.{add-distance, count_from-add, count_from-same, count_from-unbroken, distance-add}
 use Rattle.span_report.specs.declared.stacks.parts.Part.{Part}
 use Rattle.span_report.specs.declared.stacks.parts.Stretch.{Stretch}
-use Rattle.span_report.specs.Stacks.Microseconds.{Stack, names_at, same_stack}
+use Rattle.span_report.specs.Stacks.Ticks.{Stack, names_at, same_stack}
 use Rattle.span_report.specs.Stacks.Parts.{IsBare, IsFirstPart, IsSplit, left, part_stack, times_on}
 use Rattle.span_report.proofs.StackLemmas.Members.{same-itself}
 
@@ -82,7 +82,7 @@ module _ (spans : List (Span Bytes)) (base stack : Stack) where
       left spans base found stack + cond (same_stack stack base) (time + distance s.from s.until) 0 ≡ whole
   counts-bare found time whole s forward bare counted = omega (arith, counted, times_on-bare s forward bare, cond-add (same_stack stack base) time (distance s.from s.until))
 
--- a stretch that has a microsecond has the stack of its first one
+-- a stretch that has a tick has the stack of its first one
 pub times_on-own : (spans : List (Span Bytes)) (base : Stack) (s : Stretch) → s.from <ℤ s.until → 0 < times_on spans base s (base ++ names_at (drop s.next spans) s.from)
 times_on-own spans base s lasts = by (distance s.from s.until) (add-distance s.from s.until (omega (arith, ints, lasts)))
   where

@@ -6,7 +6,7 @@ use Rattle.std.specs.declared.cmp.Ordering.{Ordering}
 use Rattle.std.specs.declared.cmp.Ordering.TheVariants.{Less, Equal, Greater}
 use Rattle.std.proofs.lemmas.Cmp.{nat_list_cmp_total, tied_itself}
 use Rattle.span_event.specs.Text.{Bytes, text_cmp}
-use Rattle.span_report.specs.Stacks.Microseconds.{Stack, stack_order}
+use Rattle.span_report.specs.Stacks.Ticks.{Stack, stack_order}
 
 module _ {K : Type 0} {R : K → K → Ordering} (o : IsTotalOrder R) where
   -- nothing is below itself

@@ -10,7 +10,7 @@ use Rattle.span_self_time.specs.Spans.{Span, covers}
 use Rattle.span_self_time.proofs.Counts.{covers-after, covers-before, covers-between}
 use Rattle.span_report.specs.declared.stacks.parts.Part.{Part}
 use Rattle.span_report.specs.declared.stacks.parts.Stretch.{Stretch}
-use Rattle.span_report.specs.Stacks.Microseconds.{names_at}
+use Rattle.span_report.specs.Stacks.Ticks.{names_at}
 use Rattle.span_report.specs.Stacks.Parts.{IsBare, IsFirstBeyond, IsFirstPart, IsLater, NoneCovers, Rise}
 
 -- a span that doesn't cover u adds no name
@@ -40,7 +40,7 @@ module _ (spans : List (Span Bytes)) where
   names_at-end j u over = names_at-none (drop j spans) u (λ k d before. ap (λ s. covers s u) (get_or-drop j spans k d) ∙ over (j + k) d (omega arith) (omega (arith, before, length-drop j spans)))
 
   module _ (rise : Rise spans) where
-    -- a span that doesn't cover any microsecond from a time on leads to the next that may
+    -- a span that doesn't cover any tick from a time on leads to the next that may
     pub NoneCovers-later : (n at next : ℕ) (time : ℤ) (x : Span Bytes) → at < length spans → x ≡ get_or spans at x → x.until ≤ℤ int_max time x.start → IsLater spans at next → NoneCovers spans n at time → NoneCovers spans n next time
     NoneCovers-later n at next time x within is ends later over = λ i d u from before since. elim (cases_eq i at) [
       | inl same ↦ ap (λ m. covers (get_or spans m d) u) same ∙ ap (λ s. covers s u) (get_or_default spans at d x within ∙ sym is) ∙ own u since (int_lt u x.start) refl

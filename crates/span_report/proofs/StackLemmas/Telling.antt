@@ -11,7 +11,7 @@ use Rattle.std.proofs.lemmas.List.Sums.{sum_by-append, sum_by-cons}
 use Rattle.span_event.specs.Text.{Bytes}
 use Rattle.span_ledger.proofs.Sorted.{AllByRecursion-map}
 use Rattle.span_report.specs.Stacks.Bounds.{beginnings}
-use Rattle.span_report.specs.Stacks.Microseconds.{Folded, Stack, folded, same_stack, stack_order}
+use Rattle.span_report.specs.Stacks.Ticks.{Folded, Stack, folded, same_stack, stack_order}
 use Rattle.span_report.specs.Stacks.Walk.{AreAscending, Framed, folded_after, folded_if, last_stack, stack_after}
 use Rattle.span_report.proofs.StackLemmas.Beginnings.{has-under}
 use Rattle.span_report.proofs.StackLemmas.Members.{Has, HasEach, HasEach-append, HasEach-cons, HasEach-none, has-first, has-later, has-left, has-none, has-right, or-either, or-left, or-right, same-itself, same-true}
@@ -28,7 +28,7 @@ told_stacks before (f ∷ fs) = stack_after before f ∷ told_stacks (stack_afte
 abbrev pub tally : List Folded → Stack → ℕ
 tally rows stack = sum_by (λ row. cond (same_stack stack row.stack) row.time 0) rows
 
--- how many microseconds of the stack were told
+-- how many ticks of the stack were told
 abbrev pub told : List Framed → Stack → ℕ
 told frames stack = tally (folded_after [] frames) stack
 

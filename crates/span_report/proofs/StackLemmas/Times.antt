@@ -16,7 +16,7 @@ use Rattle.span_self_time.specs.Spans.{Span, busy_time, count_from, covers, earl
 use Rattle.span_self_time.proofs.Counts.{count_from-same}
 use Rattle.span_keyed_tracks.specs.Keyed.{ascending}
 use Rattle.span_ledger.proofs.Sorted.{ascending-sorted}
-use Rattle.span_report.specs.Stacks.Microseconds.{Folded, Stack, folded, folded_stacks, has_frames, microseconds, names_at, ranked, same_stack, stack_at, stack_order, stacks_of}
+use Rattle.span_report.specs.Stacks.Ticks.{Folded, Stack, folded, folded_stacks, has_frames, ticks, names_at, ranked, same_stack, stack_at, stack_order, stacks_of}
 use Rattle.span_report.proofs.StackLemmas.RankOrder.{ranked-permutation}
 use Rattle.span_report.proofs.StackLemmas.Tallies.{sum_by-ascending}
 
@@ -32,19 +32,19 @@ count_by-cons p x xs = sum_by-cons (λ y. cond (p y) 1 0) x xs
 
 module _ {A : Type 0} (p : A → Bool) (q : A → Bool) (f : ℤ → A) where
   -- counting what passes among what was kept of the times is counting the times
-  pub count_by-microseconds : (t : ℤ) (n : ℕ) → count_by p (filter q (map f (microseconds t n))) ≡ count_from t n (λ u. q (f u) && p (f u))
-  count_by-microseconds t zero = refl
-  count_by-microseconds t (suc n) = by (q (f t)) (count_by-microseconds (t +ℤ pos 1) n)
+  pub count_by-ticks : (t : ℤ) (n : ℕ) → count_by p (filter q (map f (ticks t n))) ≡ count_from t n (λ u. q (f u) && p (f u))
+  count_by-ticks t zero = refl
+  count_by-ticks t (suc n) = by (q (f t)) (count_by-ticks (t +ℤ pos 1) n)
     where
-      by : (b : Bool) → count_by p (filter q (map f (microseconds (t +ℤ pos 1) n))) ≡ count_from (t +ℤ pos 1) n (λ u. q (f u) && p (f u)) →
-          count_by p (cond b (f t ∷ filter q (map f (microseconds (t +ℤ pos 1) n))) (filter q (map f (microseconds (t +ℤ pos 1) n)))) ≡ cond (b && p (f t)) 1 0 + count_from (t +ℤ pos 1) n (λ u. q (f u) && p (f u))
-      by true more = count_by-cons p (f t) (filter q (map f (microseconds (t +ℤ pos 1) n))) ∙ ap (λ m. cond (p (f t)) 1 0 + m) more
+      by : (b : Bool) → count_by p (filter q (map f (ticks (t +ℤ pos 1) n))) ≡ count_from (t +ℤ pos 1) n (λ u. q (f u) && p (f u)) →
+          count_by p (cond b (f t ∷ filter q (map f (ticks (t +ℤ pos 1) n))) (filter q (map f (ticks (t +ℤ pos 1) n)))) ≡ cond (b && p (f t)) 1 0 + count_from (t +ℤ pos 1) n (λ u. q (f u) && p (f u))
+      by true more = count_by-cons p (f t) (filter q (map f (ticks (t +ℤ pos 1) n))) ∙ ap (λ m. cond (p (f t)) 1 0 + m) more
       by false more = more ∙ sym (zero-add _)
 
 -- how many of the stacks pass
 pub count_by-stacks_of : {N : Type 0} (p : List N → Bool) (spans : List (Span N)) →
     count_by p (stacks_of spans) ≡ count_from (earliest spans) (distance (earliest spans) (latest spans)) (λ u. has_frames (stack_at spans u) && p (stack_at spans u))
-count_by-stacks_of p spans = count_by-microseconds p has_frames (stack_at spans) (earliest spans) (distance (earliest spans) (latest spans))
+count_by-stacks_of p spans = count_by-ticks p has_frames (stack_at spans) (earliest spans) (distance (earliest spans) (latest spans))
 
 -- the times of the folded stacks that pass add up to how many of the stacks do
 pub sum_by-folded_stacks : (p : Stack → Bool) (spans : List (Span Bytes)) →
@@ -63,7 +63,7 @@ sum_by-folded_stacks p spans =
         by true rest = sum_by-cons (λ (f : Folded). f.time) (folded (stacks_of spans) k) (filter (λ f. p f.stack) (map (folded (stacks_of spans)) ks)) ∙ ap (λ n. count_by (same_stack k) (stacks_of spans) + n) rest
         by false rest = rest ∙ sym (zero-add _)
 
--- a stack has frames where a span covers the microsecond
+-- a stack has frames where a span covers the tick
 pub has_frames-names_at : {N : Type 0} (spans : List (Span N)) (u : ℤ) → has_frames (names_at spans u) ≡ list_any (λ s. covers s u) spans
 has_frames-names_at [] u = refl
 has_frames-names_at (s ∷ spans) u = by (covers s u) (has_frames-names_at spans u)
@@ -83,7 +83,7 @@ and_true : (b : Bool) → (b && true) ≡ b
 and_true true = refl
 and_true false = refl
 
--- the times of all stacks are the microseconds that spans cover
+-- the times of all stacks are the ticks that spans cover
 pub times-busy : (spans : List (Span Bytes)) → AreSpans spans → sum_by (λ folded. folded.time) (folded_stacks spans) ≡ busy_time spans
 times-busy spans are =
     ap (sum_by (λ (f : Folded). f.time)) (sym (all-kept (folded_stacks spans)))

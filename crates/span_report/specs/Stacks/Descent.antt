@@ -1,4 +1,4 @@
--- How a descent through the frames of spans stands: which stack was told last, and which microseconds are left to be told.
+-- How a descent through the frames of spans stands: which stack was told last, and which ticks are left to be told.
 use Rattle.std.specs.Prelude.{◌≡◌, ℕ, ◌+◌, ◌<◌, ◌≤◌, ◌^◌, if◌then◌else◌, List, [], ◌∷◌, ◌++◌, length, map, take, Option, Some, None}
 use Rattle.std.specs.List.{AllByRecursion, count_by}
 use Rattle.std.specs.declared.cmp.Ordering.TheVariants.{Less, Equal}
@@ -7,7 +7,7 @@ use Rattle.span_self_time.specs.Spans.{Span}
 use Rattle.span_keyed_tracks.specs.Last.{last_of}
 use Rattle.span_report.specs.declared.stacks.descent.Descent.{Descent}
 use Rattle.span_report.specs.declared.stacks.parts.Part.{Part}
-use Rattle.span_report.specs.Stacks.Microseconds.{Stack, same_stack, stack_order, stacks_of}
+use Rattle.span_report.specs.Stacks.Ticks.{Stack, same_stack, stack_order, stacks_of}
 use Rattle.span_report.specs.Stacks.Parts.{IsAhead, IsSound, Near, left, nearness, part_stack}
 use Rattle.span_report.specs.Stacks.Walk.{Framed, stack_after}
 
@@ -15,7 +15,7 @@ use Rattle.span_report.specs.Stacks.Walk.{Framed, stack_after}
 abbrev pub told_last : Descent → Stack
 told_last descent = map (λ name. name.now) descent.stack.items
 
--- how many microseconds that are left have the stack
+-- how many ticks that are left have the stack
 abbrev pub left_of : Descent → Stack → ℕ
 left_of descent stack = left descent.spans (told_last descent) descent.parts.items stack
 
@@ -26,7 +26,7 @@ pub record IsReady (descent : Descent) : Type 0 where
   pub small : (stack : Stack) → left_of descent stack < 2 ^ 64
   pub none : descent.found.items ≡ []
 
--- all microseconds of the spans are left
+-- all ticks of the spans are left
 pub record StartsWith (spans : List (Span Bytes)) (descent : Descent) : Type 0 where
   pub last : told_last descent ≡ []
   pub left : (name : Bytes) (names : Stack) → left_of descent (name ∷ names) ≡ count_by (same_stack (name ∷ names)) (stacks_of spans)

@@ -9,7 +9,7 @@ use Rattle.span_report.specs.declared.stacks.label.SpanColumn.{SpanColumn}
 use Rattle.span_report.specs.Stacks.Bounds.{frame_count, names_in}
 use Rattle.span_report.specs.Stacks.Frames.{frame, owner_frame}
 use Rattle.span_report.specs.Stacks.Labels.{labelled_spans}
-use Rattle.span_report.specs.Stacks.Microseconds.{Folded, Stack, folded_stacks}
+use Rattle.span_report.specs.Stacks.Ticks.{Folded, Stack, folded_stacks}
 
 -- the first two frames of the lines of a thread, which are its process and itself
 abbrev pub thread_frames : ProcessRow → ThreadRow → List ℕ
@@ -19,7 +19,7 @@ thread_frames process thread = owner_frame process.pid process.name ++ (59 ∷ o
 abbrev pub stack_frames : Stack → List ℕ
 stack_frames stack = flat_map (λ name. 59 ∷ frame name) stack
 
--- the line of a stack: all frames, a blank, and how many microseconds have it
+-- the line of a stack: all frames, a blank, and how many ticks have it
 abbrev pub stack_line : List ℕ → Folded → List ℕ
 stack_line start folded = start ++ (stack_frames folded.stack ++ (32 ∷ (decimal folded.time ++ 10 ∷ [])))
 

@@ -9,7 +9,7 @@ use Rattle.span_ledger.specs.Topics.{AreAlike}
 use Rattle.span_report.specs.declared.stacks.label.SpanColumn.{SpanColumn}
 use Rattle.span_report.specs.Stacks.Folded.{folded_of, names_of, thread_frame_count, thread_stacks}
 use Rattle.span_report.specs.Stacks.Labels.{labelled}
-use Rattle.span_report.specs.Stacks.Microseconds.{Stack, folded_stacks}
+use Rattle.span_report.specs.Stacks.Ticks.{Stack, folded_stacks}
 
 -- the last frame of the stack is this label
 abbrev pub ends_in : Bytes → Stack → Bool

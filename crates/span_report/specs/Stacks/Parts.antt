@@ -13,9 +13,9 @@ use Rattle.span_self_time.specs.Spans.{Span, count_from, covers}
 use Rattle.span_report.specs.declared.stacks.ends.Link.{Link}
 use Rattle.span_report.specs.declared.stacks.parts.Part.{Part}
 use Rattle.span_report.specs.declared.stacks.parts.Stretch.{Stretch}
-use Rattle.span_report.specs.Stacks.Microseconds.{Stack, names_at, same_stack, stack_order}
+use Rattle.span_report.specs.Stacks.Ticks.{Stack, names_at, same_stack, stack_order}
 
--- from this time on none of the spans from the j-th to before the k-th covers a microsecond
+-- from this time on none of the spans from the j-th to before the k-th covers a tick
 abbrev pub NoneCovers : List (Span Bytes) → ℕ → ℕ → ℤ → Type 0
 NoneCovers spans j k time = (i : ℕ) (d : Span Bytes) (u : ℤ) → j ≤ i → i < k → time ≤ℤ u → covers (slice_index_or spans i d) u ≡ false
 
@@ -56,7 +56,7 @@ pub record IsLinkTo (links : List Link) (later : ℕ) (link : Link) : Type 0 whe
 abbrev pub Rise : List (Span Bytes) → Type 0
 Rise spans = (j k : ℕ) (d : Span Bytes) → j ≤ k → k < length spans → (slice_index_or spans j d).start ≤ℤ (slice_index_or spans k d).start
 
--- the first of the spans from the n-th on that covers a microsecond from the time on
+-- the first of the spans from the n-th on that covers a tick from the time on
 pub record IsFirstBeyond (spans : List (Span Bytes)) (n : ℕ) (time : ℤ) (first : ℕ) : Type 0 where
   pub behind : n ≤ first
   pub within : first ≤ length spans
@@ -81,18 +81,18 @@ abbrev pub IsAhead : Stack → Part → Type 0
 IsAhead last part = (part.below ≤ length last) × (stack_order last (part_stack last part) ≡ Less)
 
 module _ (spans : List (Span Bytes)) where
-  -- the stretch has a microsecond, and lies within the times that spans can have
+  -- the stretch has a tick, and lies within the times that spans can have
   pub record IsSound (s : Stretch) : Type 0 where
     pub from : least_time ≤ℤ s.from
     pub lasts : s.from <ℤ s.until
     pub until : s.until ≤ℤ greatest_until
     pub within : s.next ≤ length spans
 
-  -- how many microseconds of a stretch have this stack, where its spans stand on a base
+  -- how many ticks of a stretch have this stack, where its spans stand on a base
   abbrev pub times_on : Stack → Stretch → Stack → ℕ
   times_on base s stack = count_from s.from (distance s.from s.until) (λ u. same_stack stack (base ++ names_at (drop s.next spans) u))
 
-  -- how many microseconds of the parts have this stack
+  -- how many ticks of the parts have this stack
   abbrev pub left : Stack → List Part → Stack → ℕ
   left last parts stack = sum_by (λ p. times_on (part_stack last p) p.over stack) parts
 

@@ -2,9 +2,9 @@
 use Rattle.std.specs.Prelude.{◌≡◌, ℕ, suc, zero, ◌≤◌, List, [], ◌∷◌, ◌++◌, length, take, fold}
 use Rattle.std.specs.declared.cmp.Ordering.TheVariants.{Less}
 use Rattle.span_event.specs.Text.{Bytes}
-use Rattle.span_report.specs.Stacks.Microseconds.{Folded, Stack, stack_order}
+use Rattle.span_report.specs.Stacks.Ticks.{Folded, Stack, stack_order}
 
--- the last frame of a stack, how many others are below it, and how many microseconds have the stack
+-- the last frame of a stack, how many others are below it, and how many ticks have the stack
 pub record Framed : Type 0 where
   pub below : ℕ
   pub name : Bytes

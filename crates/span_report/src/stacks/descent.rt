@@ -65,7 +65,7 @@ impl<'a> Descent<'a> {
         }))
     }
 
-    // Splits the parts of the stack that comes next, and answers how many microseconds have just this stack.
+    // Splits the parts of the stack that comes next, and answers how many ticks have just this stack.
     fn split_next(&mut self, first: &Part<'a>) -> Result<u64, AllocError>
         requires ready { IsReady self.old }
         requires below { first.now.below ≤ length self.old.stack.items }

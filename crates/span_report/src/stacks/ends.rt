@@ -3,7 +3,7 @@ ghost use Rattle.std.specs.Prelude.{◌≡◌, ◌<◌, ◌≤◌, All, None, in
 ghost use Rattle.std.specs.Int.{int_max};
 ghost use Rattle.span_self_time.specs.Laws.{AreSpans};
 ghost use Rattle.span_self_time.specs.Spans.{earliest, latest};
-ghost use Rattle.span_report.specs.Stacks.Microseconds.{ranked};
+ghost use Rattle.span_report.specs.Stacks.Ticks.{ranked};
 ghost use Rattle.span_report.specs.Stacks.Parts.{AreLinks, IsBare, IsFirstBeyond, IsFirstPart, IsLinkTo, IsOnward, Rise};
 
 use super::parts::{Part, Stretch};
@@ -95,7 +95,7 @@ pub(crate) fn bounds(spans: &[NamedSpan]) -> (i64, i64)
     (from, until)
 }
 
-// The first of the spans from `next` on that covers a microsecond from this time on.
+// The first of the spans from `next` on that covers a tick from this time on.
 fn first_beyond(spans: &[NamedSpan], links: &[Link], next: usize, time: i64) -> usize
     requires rise { Rise spans.now }
     requires links { AreLinks next spans.now links.now }
@@ -109,7 +109,7 @@ fn first_beyond(spans: &[NamedSpan], links: &[Link], next: usize, time: i64) -> 
     at
 }
 
-// Where the link of a span leads that has no microsecond from this time on: no further than that none before has one.
+// Where the link of a span leads that has no tick from this time on: no further than that none before has one.
 fn onward(spans: &[NamedSpan], link: &Link, time: i64) -> usize
     ensures { IsOnward spans.now link.now time result }
 {
@@ -120,7 +120,7 @@ fn onward(spans: &[NamedSpan], link: &Link, time: i64) -> usize
     }
 }
 
-// Whether the span has no microsecond from this time on.
+// Whether the span has no tick from this time on.
 fn ends_by(named: &NamedSpan, time: i64) -> bool
     ensures { result ≡ int_le named.now.until (int_max time named.now.start) }
 {

@@ -3,7 +3,7 @@ ghost use Rattle.std.specs.Prelude.{◌≡◌, ◌++◌, ◌+◌, ◌<◌, ◌�
 ghost use Rattle.span_ledger.specs.Named.{AreThreadSpans};
 ghost use Rattle.span_report.specs.Stacks.Bounds.{most_names, names_in};
 ghost use Rattle.span_report.specs.Stacks.Folded.{folded_of, names_of, process_lines, process_names, stack_frames, stack_line, stack_lines, thread_frames, thread_lines, thread_names};
-ghost use Rattle.span_report.specs.Stacks.Microseconds.{folded_stacks};
+ghost use Rattle.span_report.specs.Stacks.Ticks.{folded_stacks};
 ghost use Rattle.span_report.specs.Stacks.Walk.{folded_if};
 
 use super::descent::Descent;
@@ -19,8 +19,8 @@ use std::alloc::{AllocError, Global};
 const MOST_NAMES: u32 = 67_108_864;
 
 /// The folded stacks of the ledger's journal: for each thread, in the order of a report, a line for each stack that it has for a
-/// microsecond or more. It says the process and the thread, the labels of the spans that cover the microsecond, in ascending rank
-/// and parted by `;`, and then for how many microseconds. A label is what a span has in the columns. Labels count as names, the
+/// tick or more. It says the process and the thread, the labels of the spans that cover the tick, in ascending rank
+/// and parted by `;`, and then for how many ticks. A label is what a span has in the columns. Labels count as names, the
 /// process and the thread don't.
 pub fn folded(
     alloc: Global,

@@ -2,7 +2,7 @@
 ghost use Rattle.std.specs.Prelude.{◌≡◌, ◌<◌, ◌≤◌, [], length, map, Err, IfOk, OnErr, OnOk};
 ghost use Rattle.span_ledger.specs.Named.{AreThreadSpans};
 ghost use Rattle.span_report.specs.Stacks.Bounds.{frame_count};
-ghost use Rattle.span_report.specs.Stacks.Microseconds.{folded_stacks};
+ghost use Rattle.span_report.specs.Stacks.Ticks.{folded_stacks};
 ghost use Rattle.span_report.specs.Stacks.Walk.{AreAscending, folded_after, stack_after};
 
 use super::descent::Descent;
@@ -13,7 +13,7 @@ use span_ledger::NamedSpan;
 use std::alloc::{AllocError, Global};
 use std::marker::Model;
 
-/// The last frame of a stack, how many other frames are below it, and for how many microseconds a thread has just this stack. The
+/// The last frame of a stack, how many other frames are below it, and for how many ticks a thread has just this stack. The
 /// others are those with which the stack before it begins, so a list of frames tells many stacks without any frame twice.
 #[derive(Drop)]
 pub struct StackFrame<'a> {
@@ -44,7 +44,7 @@ impl<'a> StackFrame<'a> {
     }
 }
 
-/// The folded stacks of a thread's spans, frame by frame, in the order of their lists of labels. A stack that has no microsecond of
+/// The folded stacks of a thread's spans, frame by frame, in the order of their lists of labels. A stack that has no tick of
 /// its own is told too, if others begin with it. If there are more frames than `most`, none is told, and there were never more in
 /// memory.
 pub fn framed_stacks<'a>(

@@ -23,7 +23,7 @@ IsSome-None o none some = true≢false (sym some ∙ ap is_some none)
 pub same_part : (m : Starts) (k : ℤ) (v : Option Part) (p : Part) → m k ≡ Some v → m k ≡ Some (Some p) → v ≡ Some p
 same_part m k v p is part = same_Some v (Some p) (sym is ∙ part)
 
--- a part that has a microsecond from k on, where the last stretch up to there starts, starts at k
+-- a part that has a tick from k on, where the last stretch up to there starts, starts at k
 pub last-is : (owners : Owners) (m : Starts) (t k j : ℤ) (v : Option Part) (p : Part) → IsDivided owners m → IsLast m t k v → m j ≡ Some (Some p) → j ≤ℤ t → t <ℤ p.segment.until → j ≡ k
 last-is owners m t k j v p are last is from before =
     by_lt_z j k

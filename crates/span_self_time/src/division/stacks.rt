@@ -85,7 +85,7 @@ impl Stacks {
         Ok(())
     }
 
-    /// The span takes the microseconds that it covers from no one and from the spans that it outranks. Where memory is refused,
+    /// The span takes the ticks that it covers from no one and from the spans that it outranks. Where memory is refused,
     /// only the cursor may have moved, which no reader sees.
     pub(crate) fn add(&mut self, span: &Part) -> Result<(), AllocError>
         requires { CanAdd AreStacks (owner_of span.now) self.old }

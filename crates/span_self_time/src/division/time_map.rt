@@ -82,7 +82,7 @@ impl TimeMap {
         self.stretches.tell_parts(times)
     }
 
-    /// The span takes the microseconds that it covers from no one and from the spans that it outranks. Where memory is refused,
+    /// The span takes the ticks that it covers from no one and from the spans that it outranks. Where memory is refused,
     /// no reader sees a change.
     pub(crate) fn add(&mut self, span: &Part) -> Result<(), AllocError>
         requires { CanAdd IsTimeMap (owner_of span.now) self.old }

@@ -34,7 +34,7 @@ pub record IsHeld (owners : Owners) (m : Starts) (k : ℤ) (p : Part) : Type 0 w
   pub belongs : Belong owners k p.segment.until (Some (owner_of p))
   pub next : IsNext m k p.segment.until
 
--- u is a microsecond of a part
+-- u is a tick of a part
 pub record IsOfPart (m : Starts) (u : ℤ) : Type 0 where
   pub start : ℤ
   pub part : Part

@@ -5,7 +5,7 @@ use Rattle.span_event.specs.Time.{distance}
 use Rattle.span_self_time.proofs.Counts.{add-distance, distance-add}
 use Rattle.span_ledger.proofs.Sorted.{AllByRecursion-append}
 use Rattle.span_report.specs.declared.stacks.parts.Part.{Part}
-use Rattle.span_report.specs.Stacks.Microseconds.{same_stack}
+use Rattle.span_report.specs.Stacks.Ticks.{same_stack}
 use Rattle.span_report.specs.Stacks.Parts.{IsSound, left, times_on}
 use Rattle.span_report.proofs.StackLemmas.Splitting.{counts-bare, counts-push, rest_of}
 use Rattle.span_report.proofs.stacks.parts.split.Goals as goal

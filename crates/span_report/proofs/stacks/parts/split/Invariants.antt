@@ -1,7 +1,7 @@
 use Rattle.std.proofs.Common.{◌≡◌, ◌+◌, ◌-◌, ◌≤◌, ◌≤ℤ◌, cond, length}
 use Rattle.std.specs.List.{AllByRecursion}
 use Rattle.span_event.specs.Time.{distance}
-use Rattle.span_report.specs.Stacks.Microseconds.{Stack, same_stack}
+use Rattle.span_report.specs.Stacks.Ticks.{Stack, same_stack}
 use Rattle.span_report.specs.Stacks.Parts.{IsSound, left, times_on}
 use Rattle.span_report.proofs.stacks.parts.split.Given as goal
 

@@ -7,7 +7,7 @@ use Rattle.span_report.specs.declared.stacks.fault.StacksFault.TheVariants.{TooL
 use Rattle.span_report.specs.Stacks.Bounds.{names_in}
 use Rattle.span_report.specs.Stacks.Descent.{Tells, told_last}
 use Rattle.span_report.specs.Stacks.Folded.{stack_line, stack_lines}
-use Rattle.span_report.specs.Stacks.Microseconds.{Folded, Stack}
+use Rattle.span_report.specs.Stacks.Ticks.{Folded, Stack}
 use Rattle.span_report.specs.Stacks.Walk.{Framed, folded_after, folded_if, last_stack, stack_after}
 use Rattle.span_report.proofs.StackLemmas.Counting.{IsTold-next, IsTold-none, above-next, folded-all, told-names}
 use Rattle.span_report.proofs.StackLemmas.Telling.{folded_after-push}

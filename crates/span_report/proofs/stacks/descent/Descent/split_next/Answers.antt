@@ -6,7 +6,7 @@ use Rattle.span_event.specs.Text.{Bytes}
 use Rattle.span_self_time.specs.Spans.{Span}
 use Rattle.span_report.specs.declared.stacks.parts.Part.{Part}
 use Rattle.span_report.specs.Stacks.Descent.{IsNextSplit, left_of, told_last}
-use Rattle.span_report.specs.Stacks.Microseconds.{Stack, same_stack}
+use Rattle.span_report.specs.Stacks.Ticks.{Stack, same_stack}
 use Rattle.span_report.specs.Stacks.Parts.{IsSound, IsSplit, left, part_stack}
 use Rattle.span_report.proofs.StackLemmas.Nearing.{AllByRecursion-front, AllByRecursion-last}
 use Rattle.span_report.proofs.StackLemmas.Splitting.{counts-popped, own-small}

@@ -2,7 +2,7 @@ use Rattle.std.proofs.Common.{◌≡◌, ◌+◌, ◌++◌, List, cond, length}
 use Rattle.std.specs.List.{AllByRecursion}
 use Rattle.span_report.specs.declared.stacks.parts.Part.{Part}
 use Rattle.span_report.specs.Stacks.Descent.{left_of, told_last}
-use Rattle.span_report.specs.Stacks.Microseconds.{Stack, same_stack}
+use Rattle.span_report.specs.Stacks.Ticks.{Stack, same_stack}
 use Rattle.span_report.specs.Stacks.Parts.{IsSound, left, part_stack}
 use Rattle.span_report.proofs.stacks.descent.Descent.split_next.Given as goal
 

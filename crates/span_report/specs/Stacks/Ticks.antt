@@ -1,4 +1,4 @@
--- The stacks of a thread: which of its spans cover each microsecond, the lowest rank first.
+-- The stacks of a thread: which of its spans cover each tick, the lowest rank first.
 use Rattle.std.specs.Prelude.{ℕ, zero, suc, Bool, true, false, ℤ, pos, ◌+ℤ◌, if◌then◌else◌, List, [], ◌∷◌, map, filter, count_by}
 use Rattle.std.specs.Cmp.Lexicographic.{slice_cmp}
 use Rattle.std.specs.Ordering.{eq_by_cmp}
@@ -9,10 +9,10 @@ use Rattle.span_event.specs.Time.{distance}
 use Rattle.span_self_time.specs.Spans.{Span, covers, earliest, latest, outranks}
 use Rattle.span_keyed_tracks.specs.Keyed.{ascending}
 
--- the times from t on, one for each of n microseconds
-abbrev pub microseconds : ℤ → ℕ → List ℤ
-microseconds t zero = []
-microseconds t (suc n) = t ∷ microseconds (t +ℤ pos 1) n
+-- the times from t on, one for each of n ticks
+abbrev pub ticks : ℤ → ℕ → List ℤ
+ticks t zero = []
+ticks t (suc n) = t ∷ ticks (t +ℤ pos 1) n
 
 -- a stack has a frame
 abbrev pub has_frames : {N : Type 0} → List N → Bool
@@ -32,13 +32,13 @@ module _ {N : Type 0} where
   abbrev pub names_at : List (Span N) → ℤ → List N
   names_at spans u = map (λ s. s.name) (filter (λ s. covers s u) spans)
 
-  -- the stack of a microsecond: the names of the spans that cover it, in ascending rank
+  -- the stack of a tick: the names of the spans that cover it, in ascending rank
   abbrev pub stack_at : List (Span N) → ℤ → List N
   stack_at spans u = names_at (ranked spans) u
 
-  -- the stacks of all microseconds, one after the other, where there is any frame
+  -- the stacks of all ticks, one after the other, where there is any frame
   abbrev pub stacks_of : List (Span N) → List (List N)
-  stacks_of spans = filter has_frames (map (stack_at spans) (microseconds (earliest spans) (distance (earliest spans) (latest spans))))
+  stacks_of spans = filter has_frames (map (stack_at spans) (ticks (earliest spans) (distance (earliest spans) (latest spans))))
 
 -- a stack of names
 abbrev pub Stack : Type 0
@@ -51,7 +51,7 @@ stack_order = slice_cmp text_cmp
 abbrev pub same_stack : Stack → Stack → Bool
 same_stack a b = eq_by_cmp stack_order a b
 
--- a stack, and how many microseconds have it
+-- a stack, and how many ticks have it
 pub record Folded : Type 0 where
   pub stack : Stack
   pub time : ℕ
@@ -64,6 +64,6 @@ folded_order a b = stack_order a.stack b.stack
 abbrev pub folded : List Stack → Stack → Folded
 folded stacks stack = record { stack = stack; time = count_by (same_stack stack) stacks }
 
--- each stack of the spans once, in order, with how many microseconds have it
+-- each stack of the spans once, in order, with how many ticks have it
 abbrev pub folded_stacks : List (Span Bytes) → List Folded
 folded_stacks spans = map (folded (stacks_of spans)) (ascending stack_order (stacks_of spans))
