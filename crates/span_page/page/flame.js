@@ -55,8 +55,8 @@ class Graph {
     this.view.setAttribute("aria-activedescendant", this.item.id);
     this.under = new Table("names", [
       nameColumn((frame) => frame.name, { title: spans.labelTitle, fill: (frame) => this.zoomButton(frame) }),
-      numberColumn("total, \u00b5s", (frame) => frame.total, { bar: (frame) => fraction(frame.total, frame.parent.total) }),
-      numberColumn("self, \u00b5s", (frame) => frame.self),
+      timeColumn("total", (frame) => frame.total, { bar: (frame) => fraction(frame.total, frame.parent.total) }),
+      timeColumn("self", (frame) => frame.self),
     ]);
     this.underTitle = element("summary");
     this.element = element("div", { className: "graph" },

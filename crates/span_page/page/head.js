@@ -4,7 +4,7 @@ const REASONS = {
   NotObject: "the element isn't an object",
   NoPhase: "it has no phase, or one that isn't a text",
   NoTime: "it has no time",
-  NotWhole: "its time or length isn't a whole number of microseconds, or is out of range",
+  get NotWhole() { return `its time or length isn't ${unit.read}, or is out of range`; },
   NoDuration: "it has no length",
   BadField: "its process, thread, name, category, id or scope is of the wrong kind",
   NoId: "it has no id",

@@ -14,6 +14,8 @@ const isApart = runs.length > 1;
 const report = readRuns(runs);
 const stacks = runs.flatMap((run) => run.stacks);
 const spans = new SpanTable(data.table, report.threads);
+// All runs of a page have one unit. A page without its runs has no report that says it.
+const unit = runs.length > 0 ? report.unit : spans.unit;
 
 // What is narrowed to: rows of a file, a process and a thread, whose names have all of some words and none of others, and threads with
 // frames that are labelled so.
@@ -122,13 +124,13 @@ const processColumn = listedColumn("process", (row) => row.process);
 const threadColumn = listedColumn("thread", (row) => row.thread);
 const fileColumns = isApart ? [listedColumn("file", (row) => row.file)] : [];
 const plainName = nameColumn((row) => row.name);
-const total = numberColumn("total, \u00b5s", (row) => row.total);
+const total = timeColumn("total", (row) => row.total);
 const open = numberColumn("open", (row) => row.open);
 const id = textColumn("id", (row) => row.id);
 const category = textColumn("category", (row) => row.category);
 
 function spanTable() {
-  const self = numberColumn("self, \u00b5s", (row) => row.self, { bar: (row, most) => fraction(row.self, most) });
+  const self = timeColumn("self", (row) => row.self, { bar: (row, most) => fraction(row.self, most) });
   const share = numberColumn("of busy", (row) => fraction(row.self, row.place.busy), {
     fill: (row) => shareText(row.self, row.place.busy) });
   const count = numberColumn("count", (row) => row.count);
@@ -254,7 +256,7 @@ class Graphs {
     const idle = report.threads.length - all;
     return `${grouped(listed)} of ${grouped(narrowedTo)} threads shown`
       + (narrowedTo < all ? `, narrowed from ${grouped(all)}` : "")
-      + (idle > 0 ? `; in ${grouped(idle)} more no span covers a microsecond` : "");
+      + (idle > 0 ? `; in ${grouped(idle)} more no span covers a ${unit.word}` : "");
   }
 
   showLeftOut() {
@@ -339,6 +341,10 @@ class Graphs {
 const tables = [spanTable(), ...otherTables()];
 const graphs = new Graphs();
 
+function showUnit() {
+  byId("times").textContent = `Times are whole ${unit.word}s.`;
+}
+
 /** Offers files to choose where there are several runs, and nothing that a page without its runs lacks. */
 function showChoices() {
   fillChoice(byId("file"), "all files", filesToChoose(), ({ name }) => brief(name, LONGEST_NAME));
@@ -351,6 +357,7 @@ function start() {
   showCounts();
   showFiles();
   showWarnings();
+  showUnit();
   showChoices();
   byId("names").replaceChildren(tables[0].table.element);
   byId("others").replaceChildren(...tables.slice(1).map(({ home }) => home));

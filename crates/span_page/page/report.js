@@ -46,8 +46,13 @@ function namesOf(number, name) {
   return { name, label: name === null ? number : `${shown(name)} (${number})` };
 }
 
+// The units in which runs count time: their words, their nanoseconds, and what a time in a trace has to be.
+const MICROSECONDS = { word: "microsecond", sign: "\u00b5s", length: 1000n, read: "a whole number of microseconds" };
+const NANOSECONDS = { word: "nanosecond", sign: "ns", length: 1n, read: "a number" };
+
 /** How each line of a report is read, by its first word; a line stands under the file, the process and the thread that were read last. */
 const READERS = {
+  unit: (report) => { report.unit = NANOSECONDS; },
   process: (report, [, number, name]) => report.processes.push({
     number, at: report.processes.length, ...namesOf(number, nameOf(name)), file: report.file }),
   thread: (report, [, , number, name, , open, , busy]) => report.threads.push({
@@ -89,18 +94,20 @@ function grouped(number) {
   return number.toString().replace(/\B(?=(\d{3})+$)/g, ",");
 }
 
-const UNITS = [["d", 86400000000n], ["h", 3600000000n], ["min", 60000000n], ["s", 1000000n], ["ms", 1000n]];
+// Longer units, the longest first, with their nanoseconds.
+const UNITS = [["d", 86400000000000n], ["h", 3600000000000n], ["min", 60000000000n], ["s", 1000000000n], ["ms", 1000000n], ["\u00b5s", 1000n]];
 
-/** Microseconds, and beside them three digits in the unit that suits them. */
+/** A time in the unit of the page, and beside it three digits in the longer one that suits it. */
 function timeText(time) {
-  const exact = `${grouped(time)} \u00b5s`;
-  const [unit, length] = UNITS.find(([, least]) => time >= least) ?? [];
-  if (unit === undefined) return exact;
-  const places = time >= 100n * length ? 0 : time >= 10n * length ? 1 : 2;
-  const rounded = (2n * time * 10n ** BigInt(places) + length) / (2n * length);
+  const exact = `${grouped(time)} ${unit.sign}`;
+  const own = time * unit.length;
+  const [sign, length] = UNITS.find(([, least]) => least > unit.length && own >= least) ?? [];
+  if (sign === undefined) return exact;
+  const places = own >= 100n * length ? 0 : own >= 10n * length ? 1 : 2;
+  const rounded = (2n * own * 10n ** BigInt(places) + length) / (2n * length);
   const digits = rounded.toString();
   const whole = grouped(digits.slice(0, digits.length - places));
-  return `${exact} (${whole}${places > 0 ? "." : ""}${digits.slice(digits.length - places)} ${unit})`;
+  return `${exact} (${whole}${places > 0 ? "." : ""}${digits.slice(digits.length - places)} ${sign})`;
 }
 
 /** How many hundredths a part is of a whole, to one place. */

@@ -77,6 +77,7 @@ class SpanTable {
     this.labelTitle = this.inLabel.map((at) => columns[at]).join(" ") || "label";
     // Values are known by their texts, since most stand in many rows.
     Object.assign(this, { columns, counts, values: new Map(), places: placesOf(columns.filter(isPlace), threads), labelled: null });
+    this.unit = counts.unit === NANOSECONDS.sign ? NANOSECONDS : MICROSECONDS;
     this.rows = lines.map((line) => this.rowOf(membersOf(line)));
   }
 

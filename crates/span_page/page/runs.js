@@ -22,7 +22,7 @@ function filesOf(runs) {
 /** What was traced in all runs, one after another. */
 function readRuns(runs) {
   const files = filesOf(runs);
-  const report = { files, processes: [], threads: [], instants: [], counters: [], asyncs: [], flows: [], file: null };
+  const report = { files, processes: [], threads: [], instants: [], counters: [], asyncs: [], flows: [], file: null, unit: MICROSECONDS };
   runs.forEach((run, at) => {
     report.file = run.files.length === 1 ? files[at] : null;
     readReport(report, run.report);

@@ -44,6 +44,7 @@ function tellOfChange(element) {
 // behind a number, as a fraction; it is told the greatest number of all rows that are narrowed to.
 
 const numberColumn = (title, value, more) => ({ title, value, kind: "number", fill: (row) => grouped(value(row)), ...more });
+const timeColumn = (title, value, more) => numberColumn(`${title}, ${unit.sign}`, value, more);
 const textColumn = (title, value) => ({ title, value, fill: (row) => nameElement(value(row), LONGEST_LABEL) });
 const nameColumn = (value, more) => ({ title: "name", value, kind: "name", fill: (row) => nameElement(value(row)), ...more });
 const keyColumn = (title, value, more) => ({ title, value, order: compareValues, fill: (row) => valueElement(value(row), LONGEST_LABEL), ...more });

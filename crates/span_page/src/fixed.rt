@@ -4,7 +4,7 @@ pub(crate) const HEAD: &str = r#"<!DOCTYPE html>
 <html lang="en">
 <head>
 <meta charset="utf-8">
-<meta http-equiv="Content-Security-Policy" content="default-src 'none'; script-src 'sha256-1f3wnUlC9ZFLGtyN/FFOirxwOqGSMIjgevezdzwxz+g='; style-src 'sha256-l0GSLk8mSCWf3MAzl3a1aPwdpnW8mPlPL5MC084zi/o='; base-uri 'none'; form-action 'none'">
+<meta http-equiv="Content-Security-Policy" content="default-src 'none'; script-src 'sha256-Nq67/RY4G+y2M5O+HosWibcKMtXa4UAhBtthQOLazn8='; style-src 'sha256-l0GSLk8mSCWf3MAzl3a1aPwdpnW8mPlPL5MC084zi/o='; base-uri 'none'; form-action 'none'">
 <meta name="viewport" content="width=device-width, initial-scale=1">
 <meta name="color-scheme" content="light dark">
 <title>tracebook</title>
@@ -141,7 +141,7 @@ canvas { position: sticky; top: 0; display: block; width: 100%; }
 </div>
 <section aria-labelledby="names-title">
 <h2 id="names-title">Spans</h2>
-<p class="hint">Times are whole microseconds. A click on a column sorts<span class="of-runs">; a click on a row marks its frames in a flame graph</span>. The address shows the view again.
+<p class="hint"><span id="times"></span> A click on a column sorts<span class="of-runs">; a click on a row marks its frames in a flame graph</span>. The address shows the view again.
 <span id="over-files" hidden>Rows are sums over all files; with the column file (--group-by) each file has its own.</span></p>
 <div id="names"></div>
 </section>
@@ -209,8 +209,13 @@ function namesOf(number, name) {
   return { name, label: name === null ? number : `${shown(name)} (${number})` };
 }
 
+// The units in which runs count time: their words, their nanoseconds, and what a time in a trace has to be.
+const MICROSECONDS = { word: "microsecond", sign: "\u00b5s", length: 1000n, read: "a whole number of microseconds" };
+const NANOSECONDS = { word: "nanosecond", sign: "ns", length: 1n, read: "a number" };
+
 /** How each line of a report is read, by its first word; a line stands under the file, the process and the thread that were read last. */
 const READERS = {
+  unit: (report) => { report.unit = NANOSECONDS; },
   process: (report, [, number, name]) => report.processes.push({
     number, at: report.processes.length, ...namesOf(number, nameOf(name)), file: report.file }),
   thread: (report, [, , number, name, , open, , busy]) => report.threads.push({
@@ -252,18 +257,20 @@ function grouped(number) {
   return number.toString().replace(/\B(?=(\d{3})+$)/g, ",");
 }
 
-const UNITS = [["d", 86400000000n], ["h", 3600000000n], ["min", 60000000n], ["s", 1000000n], ["ms", 1000n]];
+// Longer units, the longest first, with their nanoseconds.
+const UNITS = [["d", 86400000000000n], ["h", 3600000000000n], ["min", 60000000000n], ["s", 1000000000n], ["ms", 1000000n], ["\u00b5s", 1000n]];
 
-/** Microseconds, and beside them three digits in the unit that suits them. */
+/** A time in the unit of the page, and beside it three digits in the longer one that suits it. */
 function timeText(time) {
-  const exact = `${grouped(time)} \u00b5s`;
-  const [unit, length] = UNITS.find(([, least]) => time >= least) ?? [];
-  if (unit === undefined) return exact;
-  const places = time >= 100n * length ? 0 : time >= 10n * length ? 1 : 2;
-  const rounded = (2n * time * 10n ** BigInt(places) + length) / (2n * length);
+  const exact = `${grouped(time)} ${unit.sign}`;
+  const own = time * unit.length;
+  const [sign, length] = UNITS.find(([, least]) => least > unit.length && own >= least) ?? [];
+  if (sign === undefined) return exact;
+  const places = own >= 100n * length ? 0 : own >= 10n * length ? 1 : 2;
+  const rounded = (2n * own * 10n ** BigInt(places) + length) / (2n * length);
   const digits = rounded.toString();
   const whole = grouped(digits.slice(0, digits.length - places));
-  return `${exact} (${whole}${places > 0 ? "." : ""}${digits.slice(digits.length - places)} ${unit})`;
+  return `${exact} (${whole}${places > 0 ? "." : ""}${digits.slice(digits.length - places)} ${sign})`;
 }
 
 /** How many hundredths a part is of a whole, to one place. */
@@ -330,7 +337,7 @@ function filesOf(runs) {
 /** What was traced in all runs, one after another. */
 function readRuns(runs) {
   const files = filesOf(runs);
-  const report = { files, processes: [], threads: [], instants: [], counters: [], asyncs: [], flows: [], file: null };
+  const report = { files, processes: [], threads: [], instants: [], counters: [], asyncs: [], flows: [], file: null, unit: MICROSECONDS };
   runs.forEach((run, at) => {
     report.file = run.files.length === 1 ? files[at] : null;
     readReport(report, run.report);
@@ -417,6 +424,7 @@ class SpanTable {
     this.labelTitle = this.inLabel.map((at) => columns[at]).join(" ") || "label";
     // Values are known by their texts, since most stand in many rows.
     Object.assign(this, { columns, counts, values: new Map(), places: placesOf(columns.filter(isPlace), threads), labelled: null });
+    this.unit = counts.unit === NANOSECONDS.sign ? NANOSECONDS : MICROSECONDS;
     this.rows = lines.map((line) => this.rowOf(membersOf(line)));
   }
 
@@ -505,6 +513,7 @@ function tellOfChange(element) {
 // behind a number, as a fraction; it is told the greatest number of all rows that are narrowed to.
 
 const numberColumn = (title, value, more) => ({ title, value, kind: "number", fill: (row) => grouped(value(row)), ...more });
+const timeColumn = (title, value, more) => numberColumn(`${title}, ${unit.sign}`, value, more);
 const textColumn = (title, value) => ({ title, value, fill: (row) => nameElement(value(row), LONGEST_LABEL) });
 const nameColumn = (value, more) => ({ title: "name", value, kind: "name", fill: (row) => nameElement(value(row)), ...more });
 const keyColumn = (title, value, more) => ({ title, value, order: compareValues, fill: (row) => valueElement(value(row), LONGEST_LABEL), ...more });
@@ -736,8 +745,8 @@ class Graph {
     this.view.setAttribute("aria-activedescendant", this.item.id);
     this.under = new Table("names", [
       nameColumn((frame) => frame.name, { title: spans.labelTitle, fill: (frame) => this.zoomButton(frame) }),
-      numberColumn("total, \u00b5s", (frame) => frame.total, { bar: (frame) => fraction(frame.total, frame.parent.total) }),
-      numberColumn("self, \u00b5s", (frame) => frame.self),
+      timeColumn("total", (frame) => frame.total, { bar: (frame) => fraction(frame.total, frame.parent.total) }),
+      timeColumn("self", (frame) => frame.self),
     ]);
     this.underTitle = element("summary");
     this.element = element("div", { className: "graph" },
@@ -1082,7 +1091,7 @@ const REASONS = {
   NotObject: "the element isn't an object",
   NoPhase: "it has no phase, or one that isn't a text",
   NoTime: "it has no time",
-  NotWhole: "its time or length isn't a whole number of microseconds, or is out of range",
+  get NotWhole() { return `its time or length isn't ${unit.read}, or is out of range`; },
   NoDuration: "it has no length",
   BadField: "its process, thread, name, category, id or scope is of the wrong kind",
   NoId: "it has no id",
@@ -1185,6 +1194,8 @@ const isApart = runs.length > 1;
 const report = readRuns(runs);
 const stacks = runs.flatMap((run) => run.stacks);
 const spans = new SpanTable(data.table, report.threads);
+// All runs of a page have one unit. A page without its runs has no report that says it.
+const unit = runs.length > 0 ? report.unit : spans.unit;
 
 // What is narrowed to: rows of a file, a process and a thread, whose names have all of some words and none of others, and threads with
 // frames that are labelled so.
@@ -1293,13 +1304,13 @@ const processColumn = listedColumn("process", (row) => row.process);
 const threadColumn = listedColumn("thread", (row) => row.thread);
 const fileColumns = isApart ? [listedColumn("file", (row) => row.file)] : [];
 const plainName = nameColumn((row) => row.name);
-const total = numberColumn("total, \u00b5s", (row) => row.total);
+const total = timeColumn("total", (row) => row.total);
 const open = numberColumn("open", (row) => row.open);
 const id = textColumn("id", (row) => row.id);
 const category = textColumn("category", (row) => row.category);
 
 function spanTable() {
-  const self = numberColumn("self, \u00b5s", (row) => row.self, { bar: (row, most) => fraction(row.self, most) });
+  const self = timeColumn("self", (row) => row.self, { bar: (row, most) => fraction(row.self, most) });
   const share = numberColumn("of busy", (row) => fraction(row.self, row.place.busy), {
     fill: (row) => shareText(row.self, row.place.busy) });
   const count = numberColumn("count", (row) => row.count);
@@ -1425,7 +1436,7 @@ class Graphs {
     const idle = report.threads.length - all;
     return `${grouped(listed)} of ${grouped(narrowedTo)} threads shown`
       + (narrowedTo < all ? `, narrowed from ${grouped(all)}` : "")
-      + (idle > 0 ? `; in ${grouped(idle)} more no span covers a microsecond` : "");
+      + (idle > 0 ? `; in ${grouped(idle)} more no span covers a ${unit.word}` : "");
   }
 
   showLeftOut() {
@@ -1510,6 +1521,10 @@ class Graphs {
 const tables = [spanTable(), ...otherTables()];
 const graphs = new Graphs();
 
+function showUnit() {
+  byId("times").textContent = `Times are whole ${unit.word}s.`;
+}
+
 /** Offers files to choose where there are several runs, and nothing that a page without its runs lacks. */
 function showChoices() {
   fillChoice(byId("file"), "all files", filesToChoose(), ({ name }) => brief(name, LONGEST_NAME));
@@ -1522,6 +1537,7 @@ function start() {
   showCounts();
   showFiles();
   showWarnings();
+  showUnit();
   showChoices();
   byId("names").replaceChildren(tables[0].table.element);
   byId("others").replaceChildren(...tables.slice(1).map(({ home }) => home));
