@@ -151,7 +151,7 @@ class Graph:
         self.page.click(f"{self.section} {selector}")
 
     def boxes(self):
-        """The boxes, level by level: names, where they begin, how wide they are, and the microseconds of their frames."""
+        """The boxes, level by level: names, where they begin, how wide they are, and the times of their frames."""
         script = "return arguments[0].boxes.map(l => l.map(({frame, x, width}) => [frame.name, x, width, String(frame.total)]))"
         return self.page.run(script, self.canvas)
 
@@ -159,7 +159,7 @@ class Graph:
         return self.page.run("return arguments[0].clientWidth", self.canvas)
 
     def expect(self, what, whole, levels):
-        """The boxes are those of levels of names, where they begin and how long they are, of so many microseconds."""
+        """The boxes are those of levels of names, where they begin and how long they are, of a whole that is so long."""
         scale = self.width() / whole
         seen = [[(name, round(x / scale, 3), round(width / scale, 3)) for name, x, width, _ in level] for level in self.boxes()]
         expect(what, seen, [[(name, float(start), float(length)) for name, start, length in level] for level in levels])
