@@ -275,12 +275,7 @@ fn request_of_matches(
     matches: &ArgMatches<'_>,
     columns: Vec<Column>,
 ) -> Result<Request, AllocError> {
-    let settings = Settings {
-        unit: Unit::Microseconds,
-        limit: matches.get_one::<u32>("limit").unwrap_or(DEFAULT_LIMIT),
-        seal: matches.get_flag("seal"),
-        strict: matches.get_flag("strict"),
-    };
+    let settings = settings_of(matches);
     let files = named_files(alloc, matches)?;
     let shown = Shown {
         only: texts_of(alloc, matches, "only")?,
@@ -289,6 +284,23 @@ fn request_of_matches(
     let options = TableOptions { columns, shown };
     let task = task_of(alloc, matches, settings, options)?;
     Ok(Request::Run { task, files })
+}
+
+fn settings_of(matches: &ArgMatches<'_>) -> Settings {
+    Settings {
+        unit: unit_of(matches),
+        limit: matches.get_one::<u32>("limit").unwrap_or(DEFAULT_LIMIT),
+        seal: matches.get_flag("seal"),
+        strict: matches.get_flag("strict"),
+    }
+}
+
+fn unit_of(matches: &ArgMatches<'_>) -> Unit {
+    if matches.get_flag("nanoseconds") {
+        Unit::Nanoseconds
+    } else {
+        Unit::Microseconds
+    }
 }
 
 fn named_files(alloc: Global, matches: &ArgMatches<'_>) -> Result<Named, AllocError> {

@@ -5,6 +5,9 @@ use clap::{Arg, ArgAction, ArgGroup, Command};
 use std::alloc::{AllocError, Global};
 
 // Lines are broken here, since the library breaks none: each is to end within 80 columns.
+const NANOSECONDS_HELP: &str = r#"Read times with fractions of microseconds, each as the nearest
+whole nanosecond; all times that are printed are then nanoseconds"#;
+
 const SEAL_HELP: &str = r#"Close the spans that are still open at the end, each at the latest
 time that its thread has seen; for a trace that was cut off, not
 where a missing end is an error to look for"#;
@@ -54,7 +57,8 @@ const REFUSED_HELP: &str = r#"Print why elements were refused instead of the rep
 file and fault how many, and which was the first"#;
 
 const FOLDED_HELP: &str = r#"Print the stacks of each thread instead of the report, for viewers
-of flame graphs, each with its microseconds"#;
+of flame graphs, each with its time in microseconds, or with
+--nanoseconds in nanoseconds"#;
 
 const PAGE_HELP: &str = r#"Print a page for a browser instead of the report, with its numbers
 as tables and a flame graph of each thread"#;
@@ -69,7 +73,7 @@ and their self time."#;
 const AFTER: &str =
     r#"All times are whole microseconds, as Chrome, clang, node and cmake write them.
 An event with a fraction, as in Go's build traces, is refused and counted;
-begins and ends may then pair wrongly.
+begins and ends may then pair wrongly. --nanoseconds reads such times.
 
 Several files have one report, whichever worker comes first, if no two of them
 have a process in common, nor the key of an async span or flow whose id is not
@@ -115,6 +119,7 @@ fn views(alloc: Global) -> Result<ArgGroup<'static>, AllocError> {
 fn arguments_of<'a>(alloc: Global, limit_help: &'a str) -> Result<Vec<Arg<'a>>, AllocError> {
     let mut arguments = Vec::new(alloc);
     arguments.push(number_option(alloc, "limit", limit_help))?;
+    arguments.push(switch(alloc, "nanoseconds", NANOSECONDS_HELP))?;
     arguments.push(switch(alloc, "seal", SEAL_HELP))?;
     arguments.push(switch(alloc, "strict", STRICT_HELP))?;
     add_table_options(alloc, &mut arguments)?;
@@ -171,7 +176,8 @@ fn jobs_option(alloc: Global) -> Arg<'static> {
 }
 
 fn add_option(alloc: Global) -> Result<Arg<'static>, AllocError> {
-    switch(alloc, "add", ADD_HELP).conflicts_with_all(&["limit", "seal", "strict", "apart", "jobs"])
+    let add = switch(alloc, "add", ADD_HELP);
+    add.conflicts_with_all(&["limit", "nanoseconds", "seal", "strict", "apart", "jobs"])
 }
 
 fn by_option(alloc: Global) -> Arg<'static> {
