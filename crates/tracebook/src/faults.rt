@@ -8,7 +8,7 @@ ghost use Rattle.tracebook.specs.FaultLines.{IsHint, MayHint, Reports, Says, Say
 
 use crate::hints::{Hint, MANY_FILES, RefusalCounts, hint_of_bytes};
 use span_collect::{Collected, FileEnd, Input, RunEnd, fault_line_of, fault_lines, numbered_text};
-use span_event::{Fault, Text};
+use span_event::{Fault, Text, Unit};
 use span_report::{Sink, json_text, write_bytes};
 use span_runs::{Stop, StopCause};
 use std::alloc::{AllocError, Global};
@@ -167,15 +167,19 @@ pub(crate) fn put_hints<F: Faults>(
     alloc: Global,
     files: &[Input],
     collected: &Collected,
+    unit: Unit,
     faults: &mut F,
 ) {
     if !faults.takes_hints() {
         return;
     }
-    let Ok(counts) = RefusalCounts::of(alloc, &collected.ledger) else {
+    let Ok(counts) = RefusalCounts::of(alloc, &collected.ledger, unit) else {
         return;
     };
     for (file, end) in files.iter().zip(&collected.end.ends) {
+        if let Some(hint) = fractions_at_end(end, &counts) {
+            put_hint(alloc, &file.name, hint, faults);
+        }
         if let Some(hint) = hint_of_end(file, end, &counts) {
             put_hint(alloc, &file.name, hint, faults);
         }
@@ -183,7 +187,15 @@ pub(crate) fn put_hints<F: Faults>(
     drop(counts);
 }
 
-// What may help with a file that ended so.
+// Which elements of a file that ended so may be read with their fractions.
+fn fractions_at_end(end: &FileEnd, counts: &RefusalCounts) -> Option<Hint> {
+    match end {
+        FileEnd::Read { caller, items } => counts.fractions_of(*caller, *items),
+        _ => None,
+    }
+}
+
+// What else may help with a file that ended so.
 fn hint_of_end(file: &Input, end: &FileEnd, counts: &RefusalCounts) -> Option<Hint> {
     match end {
         FileEnd::Read { caller, items } => counts.most_of(*caller, *items),

@@ -1,6 +1,7 @@
 //! Hints: lines that follow fault lines where a person reads along, and say what may help. No promise speaks of them.
 
 use span_collect::fault_word;
+use span_event::{Fault, Unit};
 use span_ledger::{Answer, Ledger};
 use span_runs::Reason;
 use std::alloc::{AllocError, Global};
@@ -15,16 +16,25 @@ pub(crate) const MANY_FILES: &[u8] =
 #[derive(Clone, Copy)]
 pub(crate) enum Hint {
     /// The file is compressed, and this program prints what it holds.
-    Compressed { unpacker: &'static str },
+    Compressed {
+        unpacker: &'static str,
+    },
     ByteOrderMark,
     Utf16,
     Empty,
     /// The file ends within an element, or within the object around them; the last whole element ends behind so many bytes.
-    CutOff { whole: usize },
+    CutOff {
+        whole: usize,
+    },
     /// The file is larger than a file may be.
     TooLarge,
-    /// So many of the file's elements were refused with this number.
-    MostRefused { count: u32, items: u32, code: u16 },
+    /// So many of the file's elements were refused with this number, and this may help.
+    Refused {
+        count: u32,
+        items: u32,
+        code: u16,
+        remedy: &'static str,
+    },
     /// The file could not be read, for this reason.
     Unreadable(Reason),
 }
@@ -131,14 +141,19 @@ impl Brackets {
     }
 }
 
-/// How many items of each caller each number refused.
+/// How many items of each caller each number refused, in a run in this unit.
 #[derive(Drop)]
 pub(crate) struct RefusalCounts {
     counts: BTreeMap<(u32, u16), u32>,
+    unit: Unit,
 }
 
 impl RefusalCounts {
-    pub(crate) fn of(alloc: Global, ledger: &Ledger) -> Result<RefusalCounts, AllocError> {
+    pub(crate) fn of(
+        alloc: Global,
+        ledger: &Ledger,
+        unit: Unit,
+    ) -> Result<RefusalCounts, AllocError> {
         let mut counts = BTreeMap::new(alloc);
         for position in 0..ledger.len() {
             if let Some(entry) = ledger.entry(position) {
@@ -149,28 +164,47 @@ impl RefusalCounts {
                 }
             }
         }
-        Ok(RefusalCounts { counts })
+        Ok(RefusalCounts { counts, unit })
     }
 
-    /// The number that refused more than half of a caller's items, if there is one.
+    /// Those of a caller's items whose times may have fractions, if there are any.
+    pub(crate) fn fractions_of(&self, caller: u32, items: u32) -> Option<Hint> {
+        let code = Fault::NotWhole.code();
+        match self.counts.get(&(caller, code)) {
+            Some(count) if self.may_be_fractions(code) => Some(Hint::Refused {
+                count: *count,
+                items,
+                code,
+                remedy: "--nanoseconds reads times with fractions",
+            }),
+            _ => None,
+        }
+    }
+
+    /// The number that refused more than half of a caller's items, if there is one; but for what `fractions_of` tells of.
     pub(crate) fn most_of(&self, caller: u32, items: u32) -> Option<Hint> {
         for (key, count) in &self.counts {
-            if key.0 == caller && *count > items / 2 {
-                return Some(Hint::MostRefused {
+            if key.0 == caller && *count > items / 2 && !self.may_be_fractions(key.1) {
+                return Some(Hint::Refused {
                     count: *count,
                     items,
                     code: key.1,
+                    remedy: remedy_of(key.1),
                 });
             }
         }
         None
+    }
+
+    // Nanoseconds refuse no fraction.
+    fn may_be_fractions(&self, code: u16) -> bool {
+        self.unit == Unit::Microseconds && code == Fault::NotWhole.code()
     }
 }
 
 // What helps where most elements are refused with this number.
 fn remedy_of(code: u16) -> &'static str {
     match code {
-        14 => "examples/convert_trace.py makes times whole microseconds",
         16 => "examples/convert_trace.py gives numbers to processes and threads that are strings",
         19 => "examples/convert_trace.py makes the values of counters whole numbers",
         21 | 22 | 23 | 24 | 26 => "events count in the order in which they stand",
@@ -197,9 +231,13 @@ impl fmt::Display for Hint {
             Hint::TooLarge => {
                 f.write_str("a file may have 64 MiB: examples/split_by_process.py splits it")
             }
-            Hint::MostRefused { count, items, code } => {
+            Hint::Refused {
+                count,
+                items,
+                code,
+                remedy,
+            } => {
                 let word = fault_word(*code).unwrap_or("");
-                let remedy = remedy_of(*code);
                 write!(
                     f,
                     "{count} of {items} elements are refused, {code} {word}: {remedy}"

@@ -199,8 +199,8 @@ fn compare<R: Threads + Wait + RandomSource + Sync, O: Sink, F: Faults>(
         Ok(compared) => {
             let earlier = report_faults(alloc, base, &compared.base.end, faults);
             let later = report_faults(alloc, files, &compared.other.end, faults);
-            put_hints(alloc, base, &compared.base, faults);
-            put_hints(alloc, files, &compared.other, faults);
+            put_hints(alloc, base, &compared.base, settings.unit, faults);
+            put_hints(alloc, files, &compared.other, settings.unit, faults);
             // The program ends next, and then the system frees all at once, where freeing one by one takes long.
             forget(compared);
             greater(earlier, later)
@@ -225,7 +225,7 @@ fn collect<R: Threads + Wait + RandomSource + Sync, O: Sink, F: Faults>(
     match run_view(rt, alloc, files, settings, view, out) {
         Ok(collected) => {
             let status = report_faults(alloc, files, &collected.end, faults);
-            put_hints(alloc, files, &collected, faults);
+            put_hints(alloc, files, &collected, settings.unit, faults);
             // The program ends next, and then the system frees all at once, where freeing one by one takes long.
             forget(collected);
             status
