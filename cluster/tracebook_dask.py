@@ -373,16 +373,16 @@ def words_of_line():
     parser = argparse.ArgumentParser(
         prog=NAME,
         allow_abbrev=False,
-        usage=f"{NAME} [--scheduler ADDRESS | --workers N] [--parts FOLDER] [--limit N] [--seal] [--strict]\n"
-        "         [--group-by COLUMNS] [--only TEXT].. [--skip TEXT].. (--top N [--by NUMBER] | --json [--base FILE].. |\n"
-        "         --base FILE.. [--by NUMBER]) [--files-from FILE] [FILE...]",
+        usage=f"{NAME} [--scheduler ADDRESS | --workers N] [--parts FOLDER] [--limit N] [--nanoseconds] [--seal]\n"
+        "         [--strict] [--group-by COLUMNS] [--only TEXT].. [--skip TEXT].. (--top N [--by NUMBER] |\n"
+        "         --json [--base FILE].. | --base FILE.. [--by NUMBER]) [--files-from FILE] [FILE...]",
         description="Prints what tracebook --apart prints for the same files, which the workers of a Dask cluster read.",
         epilog="The other flags are those of tracebook.",
     )
     parser.add_argument("--scheduler", metavar="ADDRESS", help="the scheduler of a cluster that runs; else this machine works alone")
     parser.add_argument("--workers", metavar="N", type=int, help="how many files this machine reads at once; else one a processor")
     parser.add_argument("--parts", metavar="FOLDER", help="keep a part of each file here, and take those that stand")
-    for switch in "--apart", "--seal", "--strict", "--json":
+    for switch in "--apart", "--nanoseconds", "--seal", "--strict", "--json":
         parser.add_argument(switch, action="store_true", help=argparse.SUPPRESS)
     for word in "--limit", "--top", "--by", "--group-by", "--files-from":
         parser.add_argument(word, help=argparse.SUPPRESS)
@@ -399,7 +399,7 @@ def words_of_line():
 
 def journal_flags(line):
     limit = [] if line.limit is None else [f"--limit={line.limit}"]
-    return limit + ["--seal"] * line.seal + ["--strict"] * line.strict
+    return limit + ["--nanoseconds"] * line.nanoseconds + ["--seal"] * line.seal + ["--strict"] * line.strict
 
 
 def table_flags(line):
