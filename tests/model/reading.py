@@ -1,6 +1,7 @@
 """The elements of a file and the event of an element, by docs/format.md alone."""
 import json
 import re
+from fractions import Fraction
 
 MOST_BYTES = 67_108_864
 MOST_ELEMENTS = 4_194_304
@@ -101,7 +102,9 @@ def elements_of(data):
 PHASES = frozenset("BEXbnestfCiIM")
 WITH_ID = frozenset("bnestfC")
 LEAST_64, MOST_64 = -(2**63), 2**63 - 1
-MOST_TIME = 2**53 - 1
+# The units of time, each with the greatest number of it that a time may be.
+MICROSECONDS, NANOSECONDS = "microseconds", "nanoseconds"
+MOST_TIME = {MICROSECONDS: 2**53 - 1, NANOSECONDS: 2**62 - 1}
 
 
 def is_whole(value, least=LEAST_64, most=MOST_64):
@@ -113,11 +116,11 @@ class Event:
 
     __slots__ = ("phase", "time", "length", "process", "thread", "name", "category", "id", "scope", "reach", "args")
 
-    def __init__(self, element, phase):
+    def __init__(self, element, phase, unit):
         """Reads the fields in the order of their faults."""
         self.phase = phase
-        self.time = 0 if phase == "M" else time_of(element)
-        self.length = length_of(element) if phase == "X" else 0
+        self.time = 0 if phase == "M" else time_of(element, unit)
+        self.length = length_of(element, unit) if phase == "X" else 0
         self.process = whole_of(element, "pid")
         self.thread = (self.process, whole_of(element, "tid"))
         self.name = text_of(element, "name")
@@ -132,20 +135,25 @@ class Event:
             raise Refused(19)
 
 
-def time_of(element):
+def time_in(unit, value, least):
+    """A number of microseconds in the unit: as it is, or in nanoseconds the whole number nearest to it, of two as near the even one."""
+    if unit == NANOSECONDS and type(value) in (int, float):
+        value = round(Fraction(value) * 1000)
+    if not is_whole(value, least, MOST_TIME[unit]):
+        raise Refused(14)
+    return value
+
+
+def time_of(element, unit):
     if "ts" not in element:
         raise Refused(13)
-    if not is_whole(element["ts"], -MOST_TIME, MOST_TIME):
-        raise Refused(14)
-    return element["ts"]
+    return time_in(unit, element["ts"], -MOST_TIME[unit])
 
 
-def length_of(element):
+def length_of(element, unit):
     if "dur" not in element:
         raise Refused(15)
-    if not is_whole(element["dur"], 0, MOST_TIME):
-        raise Refused(14)
-    return element["dur"]
+    return time_in(unit, element["dur"], 0)
 
 
 def whole_of(element, member):
@@ -194,11 +202,11 @@ def args_of(element):
     return args if type(args) is dict else {}
 
 
-def event_of(element):
+def event_of(element, unit=MICROSECONDS):
     """The event of an element, or none where its phase isn't used."""
     if type(element) is not dict:
         raise Refused(11)
     phase = element.get("ph")
     if type(phase) is not str:
         raise Refused(12)
-    return Event(element, phase) if phase in PHASES else None
+    return Event(element, phase, unit) if phase in PHASES else None

@@ -3,14 +3,14 @@
 docs/ledger.md (ledger.py), and prints the report of docs/report.md. It is written from these pages alone and shares nothing with
 the program, so that the two can be compared. It knows no limit of the journal, and no workers.
 
-usage: report.py [--seal] [--strict] FILE...
+usage: report.py [--seal] [--strict] [--nanoseconds] FILE...
 """
 import gc
 import sys
 from json.encoder import encode_basestring as json_text
 
 from ledger import Ledger, busy_time, self_times
-from reading import Refused, elements_of
+from reading import MICROSECONDS, NANOSECONDS, Refused, elements_of
 
 WORDS = {1: "NotJson", 2: "NotTrace", 3: "TooLarge", 4: "TooMany"}
 
@@ -70,15 +70,22 @@ def flow_line(key, flows):
     return f"{words} ended {flows.ended} total {flows.total} open {len(flows.chain)}"
 
 
+def first_lines(unit):
+    """The first lines of a text."""
+    yield "tracebook 1"
+    if unit == NANOSECONDS:
+        yield "unit nanoseconds"
+
+
 def count_lines(ledger):
-    """The lines of a head behind its first."""
+    """The lines of a head behind its first ones."""
     yield f"events {ledger.accepted} refused {sum(ledger.refused.values())} skipped {ledger.skipped} queries 0"
     if ledger.seals:
         yield f"seals {ledger.seals}"
 
 
 def report_lines(ledger):
-    yield "tracebook 1"
+    yield from first_lines(ledger.unit)
     yield from count_lines(ledger)
     for number in sorted(ledger.processes):
         yield from process_lines(number, ledger.processes[number])
@@ -97,9 +104,9 @@ def report_of(ledger):
     return text_of(report_lines(ledger))
 
 
-def collect(files, strict=False):
+def collect(files, strict=False, unit=MICROSECONDS):
     """The ledger of files, each a name and its bytes, and the lines of those that are refused."""
-    ledger, faults = Ledger(strict), []
+    ledger, faults = Ledger(strict, unit), []
     for name, data in files:
         try:
             for element in elements_of(data):
@@ -117,8 +124,9 @@ def bytes_of(path):
 def main():
     gc.disable()  # Nothing here is let go in rings, and to look for them takes long.
     words = sys.argv[1:]
-    paths = [word for word in words if word not in ("--seal", "--strict")]
-    ledger, faults = collect(((path, bytes_of(path)) for path in paths), "--strict" in words)
+    paths = [word for word in words if word not in ("--seal", "--strict", "--nanoseconds")]
+    unit = NANOSECONDS if "--nanoseconds" in words else MICROSECONDS
+    ledger, faults = collect(((path, bytes_of(path)) for path in paths), "--strict" in words, unit)
     if "--seal" in words:
         ledger.seal()
     sys.stdout.buffer.write(report_of(ledger))

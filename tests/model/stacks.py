@@ -29,7 +29,7 @@ def label_of(columns, name, args):
 
 def stacks_of(spans, columns=("name",)):
     """The stacks of a thread's closed spans (start, end, position, name, arguments) in order, each a tuple of labels by these columns
-    (`name` or `args.KEY`) and its microseconds."""
+    (`name` or `args.KEY`) and its time."""
     waiting = deque(sorted(spans, key=lambda span: (span[0], -span[1], span[2])))
     times = sorted({time for start, end, *_ in spans for time in (start, end)})
     covering, stacks = [], Counter()

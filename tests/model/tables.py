@@ -3,8 +3,8 @@
 read and collected as for the report (report.py); like that, it is written from the pages alone. With --add they are tables, which are
 added up.
 
-usage: tables.py [--seal] [--strict] [--apart | --add] (--top N | --json) [--by self|total|count] [--group-by COLUMNS] [--only TEXT]..
-                 [--skip TEXT].. [--base FILE].. FILE...
+usage: tables.py [--seal] [--strict] [--nanoseconds] [--apart | --add] (--top N | --json) [--by self|total|count] [--group-by COLUMNS]
+                 [--only TEXT].. [--skip TEXT].. [--base FILE].. FILE...
 """
 import argparse
 import gc
@@ -14,8 +14,8 @@ from dataclasses import dataclass
 from json.encoder import encode_basestring as json_text
 
 from ledger import self_times
-from reading import is_whole
-from report import bytes_of, collect, text_of
+from reading import MICROSECONDS, NANOSECONDS, is_whole
+from report import bytes_of, collect, first_lines, text_of
 
 RANKED_BY = "pid,tid,thread,name"
 COMPARED_BY = "process,thread,name"
@@ -118,9 +118,10 @@ class Table:
     counts: dict
     rows: dict  # the sums of each key
     tells_runs: bool = True
+    unit: str = MICROSECONDS
 
     def head_lines(self):
-        """The lines of the head behind its first, but for that of shown rows."""
+        """The lines of the head behind its first ones, but for that of shown rows."""
         yield "events {events} refused {refused} skipped {skipped} queries {queries}".format(**self.counts)
         if self.counts["seals"]:
             yield "seals {seals}".format(**self.counts)
@@ -136,7 +137,7 @@ def table_of(columns, runs, tells_runs=False):
                 for span, own in zip(thread.closed, self_times(thread.closed)):
                     key = tuple(value_of(column, run, number, span) for column in columns)
                     rows[key] = added(rows.get(key, NOTHING), (1, span[1] - span[0], own))
-    return Table(columns, all_counts([counts_of(run) for run in runs]), rows, tells_runs)
+    return Table(columns, all_counts([counts_of(run) for run in runs]), rows, tells_runs, runs[0].ledger.unit)
 
 
 def sum_of(tables, columns):
@@ -147,7 +148,7 @@ def sum_of(tables, columns):
         for key, sums in table.rows.items():
             kept = tuple(key[place] for place in places)
             rows[kept] = added(rows.get(kept, NOTHING), sums)
-    return Table(columns, all_counts([table.counts for table in tables]), rows)
+    return Table(columns, all_counts([table.counts for table in tables]), rows, unit=tables[0].unit)
 
 
 @dataclass
@@ -187,7 +188,7 @@ def title(column):
 
 
 def ranking_lines(table, most, by, wanted):
-    yield "tracebook 1"
+    yield from first_lines(table.unit)
     yield from table.head_lines()
     yield from wanted.line(table.rows)
     yield " ".join([f"{'self':>16} {'total':>16} {'count':>8}", *map(title, table.columns)])
@@ -218,7 +219,7 @@ def changes_of(base, other, by, wanted):
 
 
 def comparison_lines(base, other, by, wanted):
-    yield "tracebook 1"
+    yield from first_lines(other.unit)
     for line in base.head_lines():
         yield f"base {line}"
     yield from other.head_lines()
@@ -274,13 +275,18 @@ def head_members(table):
     return number_members(COUNTS, [table.counts[name] for name in COUNTS])
 
 
-def column_members(columns):
-    return [("tracebook", "1"), ("columns", "[" + ",".join(map(json_text, columns)) + "]")]
+# What the head of JSON Lines says of the unit.
+UNIT_MEMBERS = {MICROSECONDS: [], NANOSECONDS: [("unit", '"ns"')]}
+UNITS = {None: MICROSECONDS, "ns": NANOSECONDS}
+
+
+def first_members(table):
+    return [("tracebook", "1"), *UNIT_MEMBERS[table.unit], ("columns", "[" + ",".join(map(json_text, table.columns)) + "]")]
 
 
 def json_lines(table, wanted):
     rows = sorted((key, sums) for key, sums in table.rows.items() if wanted.shows(key))
-    yield members([*column_members(table.columns), ("rows", number(len(rows))), *head_members(table)])
+    yield members([*first_members(table), ("rows", number(len(rows))), *head_members(table)])
     for key, sums in rows:
         yield members(key_members(table.columns, key) + number_members(["count", "total", "self"], sums))
 
@@ -292,7 +298,7 @@ def json_of(table, wanted=ALL):
 
 def json_comparison_lines(base, other, wanted):
     changes, same = changes_of(base, other, "self", wanted)
-    head = [*column_members(other.columns), *number_members(["rows", "same"], [len(changes), same])]
+    head = [*first_members(other), *number_members(["rows", "same"], [len(changes), same])]
     yield members([*head, ("base", members(head_members(base))), ("other", members(head_members(other)))])
     names = ["count0", "count1", "total0", "total1", "self0", "self1"]
     for key, earlier, later in changes:
@@ -346,7 +352,7 @@ def table_of_text(data):
     columns = columns_of(",".join(head["columns"]))
     counts = {name: printed_number(head, name) for name in COUNTS}
     keys = [tuple(printed_value(column, row) for column in columns) for row in rows]
-    table = Table(columns, counts, dict(zip(keys, map(printed_sums, rows))))
+    table = Table(columns, counts, dict(zip(keys, map(printed_sums, rows))), unit=UNITS[head.get("unit")])
     if json_of(table) != data:
         raise ValueError("another text")
     return table
@@ -367,14 +373,15 @@ def bytes_or_stop(path):
 
 
 def tables_of_files(line):
-    """The tables of the base's files, and those of the others, or of standard input where there are none. All have the columns of the
-    first, and those that are asked for."""
+    """The tables of the base's files, and those of the others, or of standard input where there are none. All have the unit and the
+    columns of the first, and those columns that are asked for."""
     tables = []
     for path in [*line.base, *line.files] if line.files else [*line.base, None]:
         name = "-" if path is None else path
         table = table_of_file(name, sys.stdin.buffer.read() if path is None else bytes_or_stop(path))
         first = tables[0] if tables else table
-        if table.columns != first.columns or not set(table.columns).issuperset(wanted_columns(line, table)):
+        is_like_first = (table.unit, table.columns) == (first.unit, first.columns)
+        if not is_like_first or not set(table.columns).issuperset(wanted_columns(line, table)):
             raise Stopped(f"tracebook: {json_text(name)}: 54 OtherColumns")
         tables.append(table)
     return tables[: len(line.base)], tables[len(line.base) :]
@@ -389,7 +396,7 @@ def wanted_columns(line, table):
 
 def words_of_line():
     parser = argparse.ArgumentParser(allow_abbrev=False)
-    for switch in "--seal", "--strict", "--json", "--apart", "--add":
+    for switch in "--seal", "--strict", "--nanoseconds", "--json", "--apart", "--add":
         parser.add_argument(switch, action="store_true")
     parser.add_argument("--top", type=int)
     parser.add_argument("--by", choices=BY, default="self")
@@ -402,7 +409,7 @@ def words_of_line():
 
 def run_of(line, files, name=""):
     """The run of files, each a name and its bytes, and the lines of those that are refused."""
-    ledger, faults = collect(files, line.strict)
+    ledger, faults = collect(files, line.strict, NANOSECONDS if line.nanoseconds else MICROSECONDS)
     if line.seal:
         ledger.seal()
     return Run(ledger, len(files), len(faults), name), faults

@@ -3,7 +3,9 @@
 refused with each number of docs/format.md and docs/ledger.md. The same elements stand in whole.json, in one order, and in
 part_0.json and on, divided so that no two parts share a process or a key. The seed decides all.
 
-usage: trace.py SEED FOLDER
+With --nanoseconds the trace is a third as large, and its times have fractions.
+
+usage: trace.py [--nanoseconds] SEED FOLDER
 """
 import gc
 import json
@@ -11,7 +13,9 @@ import os
 import random
 import sys
 
-from elements import FAULTS, ODD_EVENTS, OTHERS
+from elements import OTHERS, faults_in, odd_events_in
+from reading import MOST_64
+from times import FractionTimes, WholeTimes
 
 PARTS = 4
 PROCESSES = 1_600
@@ -30,8 +34,6 @@ NAMINGS = 15_000
 REFUSED = 15_000
 UNUSED = 5_000
 LONG_TEXTS = [5_000, 70_000, 300_000]
-MOST_TIME = 2**53 - 1
-MOST_64 = 2**63 - 1
 LETTERS = "abcdefghijklmnopqrstuvwxyzABCDEFGHIJKLMNOPQRSTUVWXYZ0123456789 .:_<>/{}[],"
 RARE = ['"', "\\", "\n", "\t", "\0", "\x1f", "\x7f", "\b", "\f", "\r"]
 RARE += ["é", "ß", "€", "\u2028", "語", "\uffff", "😀", "\U0010ffff"]
@@ -103,8 +105,8 @@ UNREAD_AT_NAME = UNREAD + [',"id":[]', ',"id2":5', ',"scope":9', ',"dur":null']
 class Trace:
     """The elements so far, each with the place in the whole trace where it stands and its part."""
 
-    def __init__(self, seed):
-        self.draw = Draw(seed)
+    def __init__(self, seed, times):
+        self.draw, self.times = Draw(seed), times
         self.elements = []
         self.names = different_texts(self.draw, NAMES)
         self.categories = [json.dumps(text) for text in ["", "v8", "blink,gpu", "disabled-by-default-v8", 'a"b', "é"]]
@@ -118,6 +120,13 @@ class Trace:
             numbers.add(self.draw.below(20_000) - 100)
         return sorted(numbers)
 
+    def some(self, count):
+        """How many of so many there are in a trace of this size."""
+        return count // self.times.share
+
+    def time_below(self, microseconds):
+        return self.draw.below(microseconds * self.times.scale)
+
     def process_in(self, part):
         return self.processes[self.draw.below(PROCESSES // PARTS) * PARTS + part]
 
@@ -125,8 +134,9 @@ class Trace:
         self.elements.append((place, part, element))
 
     def put_event(self, place, part, phase, time, process, members, unread=UNREAD):
-        """Puts an event whose members, with a comma before each, stand in front of the others or behind them."""
+        """Puts an event whose members, with a comma before each, stand in front of the others or behind them. A time may be a text."""
         draw = self.draw
+        time = time if isinstance(time, str) else self.times.form(draw, time)
         owner = "" if process == 0 and draw.whether(0.5) else f',"pid":{process}'
         if draw.whether(0.5):
             element = f'{{"ph":"{phase}"{members}{owner},"ts":{time}{draw.of(unread)}}}'
@@ -148,10 +158,11 @@ class Thread:
         self.step = (1 - self.place) / count
         self.names = [self.draw.of(trace.names) for _ in range(1 + self.draw.below(30))]
         self.begun = []  # the names of the begins so far
-        self.time = self.draw.below(1_000_000)
+        self.scale = trace.times.scale
+        self.time = trace.time_below(1_000_000)
 
     def pass_time(self):
-        self.time += 0 if self.draw.whether(0.2) else self.draw.below(100)
+        self.time += 0 if self.draw.whether(0.2) else self.trace.time_below(100)
 
     def put(self, phase, time, members):
         members += "" if self.thread == 0 and self.draw.whether(0.5) else f',"tid":{self.thread}'
@@ -169,7 +180,8 @@ class Thread:
         self.put("E", time, "" if self.draw.whether(0.6) else f',"name":{name}')
 
     def complete(self, start, end):
-        self.put("X", start, f',"dur":{end - start},"name":{self.draw.of(self.names)}')
+        length = self.trace.times.form(self.draw, end - start)
+        self.put("X", start, f',"dur":{length},"name":{self.draw.of(self.names)}')
 
 
 def begins_and_ends(thread, count):
@@ -179,11 +191,11 @@ def begins_and_ends(thread, count):
         thread.pass_time()
         kind = thread.draw.fraction()
         if kind < 0.05:
-            thread.complete(thread.time - 30, thread.time)
+            thread.complete(thread.time - 30 * thread.scale, thread.time)
         elif kind < 0.08:
-            thread.begin(thread.time - 1_000)
+            thread.begin(thread.time - 1_000 * thread.scale)
         elif kind < 0.11:
-            thread.end(thread.time - 1_000)
+            thread.end(thread.time - 1_000 * thread.scale)
         elif kind < 0.56 and depth < 30:
             thread.begin(thread.time)
             depth += 1
@@ -215,8 +227,8 @@ def parents_first(thread, count):
 
 def crossing(thread, count):
     for _ in range(count):
-        start = thread.time + thread.draw.below(20 * count)
-        thread.complete(start, start + thread.draw.below(200 if thread.draw.whether(0.99) else 20 * count))
+        start = thread.time + thread.trace.time_below(20 * count)
+        thread.complete(start, start + thread.trace.time_below(200 if thread.draw.whether(0.99) else 20 * count))
 
 
 def deep_stack(thread, count):
@@ -230,16 +242,17 @@ def deep_stack(thread, count):
 
 def extreme_times(thread, count):
     """Lengths that add up to more than 64 bits, and the first and the last time that there is."""
-    thread.begin(-MOST_TIME)
+    most = thread.trace.times.most
+    thread.begin(-most)
     for _ in range(count):
-        start = thread.draw.of([-MOST_TIME, 0, MOST_TIME, thread.draw.below(MOST_TIME)])
-        thread.complete(start, start + MOST_TIME)
-    thread.end(MOST_TIME)
+        start = thread.draw.of([-most, 0, most, thread.draw.below(most)])
+        thread.complete(start, start + most)
+    thread.end(most)
 
 
 def put_threads(trace):
     styles = [begins_and_ends, begins_and_ends, children_first, parents_first, crossing]
-    for number in range(THREADS):
+    for number in range(trace.some(THREADS)):
         index = trace.draw.below(PROCESSES) if trace.draw.whether(0.3) else 5
         thread = trace.draw.of([number, number, number, -number, number % 7, MOST_64])
         trace.draw.of(styles)(Thread(trace, index, thread, 70), 10 + trace.draw.below(60))
@@ -274,9 +287,9 @@ def put_key(trace, number, steps, common, unread):
     """Puts the events of a key, in the order of their letters; `<` stands for an end or a point before the one before it."""
     draw, part = trace.draw, number % PARTS
     forms, is_local = id_forms(draw, number)
-    place, spread, time = draw.fraction(), draw.fraction() / 1_000, draw.below(1_000_000)
+    place, spread, time = draw.fraction(), draw.fraction() / 1_000, trace.time_below(1_000_000)
     for letter in steps:
-        time += draw.below(100)
+        time += trace.time_below(100)
         process = trace.processes[number % PROCESSES] if is_local else trace.process_in(part)
         phase = letter if letter != "<" else "e" if steps[0] == "b" else "t"
         members = draw.of(forms) + common + draw.of(trace.args)
@@ -287,10 +300,10 @@ def put_key(trace, number, steps, common, unread):
 def put_keys(trace):
     draw = trace.draw
     scopes = ["", ',"scope":""', ',"scope":"blink"', ',"scope":"a\\"\\u00e9"']
-    for number in range(ASYNC_KEYS):
+    for number in range(trace.some(ASYNC_KEYS)):
         common = f',"cat":{draw.of(trace.categories)},"name":{draw.of(trace.names)}{draw.of(scopes)}'
         put_key(trace, number, draw.of(ASYNC_STEPS), common, UNREAD_AT_KEY)
-    for number in range(FLOW_KEYS):
+    for number in range(trace.some(FLOW_KEYS)):
         common = f',"cat":{draw.of(trace.categories)},"name":{draw.of(trace.names)}'
         put_key(trace, number, draw.of(FLOW_STEPS), common, UNREAD_AT_FLOW)
 
@@ -299,9 +312,10 @@ def put_large_keys(trace):
     """Chains of many points, closed and not, many open begins, and lengths that add up to more than 64 bits."""
     for number, steps in enumerate(LARGE_STEPS):
         put_key(trace, number, steps, ',"name":"large"', UNREAD_AT_KEY)
+    most = trace.times.most
     for begin, end in ["be", "sf"]:
         for turn in range(EXTREMES):
-            for place, phase, time in [(0, begin, -MOST_TIME), (0.5, end, MOST_TIME)]:
+            for place, phase, time in [(0, begin, -most), (0.5, end, most)]:
                 trace.put_event((turn + place) / EXTREMES, 1, phase, time, trace.process_in(1), ',"id":"far"')
 
 
@@ -311,26 +325,26 @@ def put_large_keys(trace):
 def put_counters(trace):
     draw = trace.draw
     values = [0, -1, 7, MOST_64, -MOST_64 - 1]
-    for _ in range(SAMPLES):
+    for _ in range(trace.some(SAMPLES)):
         part = draw.below(PARTS)
         id_ = draw.of(["", "", ',"id":"7"', ',"id":7', ',"id2":{"local":"7"}', ',"id":"é"'])
         chosen = dict.fromkeys(draw.of(trace.names[:40]) for _ in range(draw.below(4)))
         members = ",".join(f"{member}:{draw.of(values) if draw.whether(0.1) else draw.below(1_000)}" for member in chosen)
         name = f',"name":{draw.of(trace.names[:200])}{id_}'
-        trace.put_event(draw.fraction(), part, "C", draw.below(1_000), trace.process_in(part), f'{name},"args":{{{members}}}')
+        trace.put_event(draw.fraction(), part, "C", trace.time_below(1_000), trace.process_in(part), f'{name},"args":{{{members}}}')
         if draw.whether(0.2):
             members = f',"name":"often","args":{{"k":{draw.below(10_000)}}}'
-            trace.put_event(draw.fraction(), 1, "C", draw.below(1_000), trace.processes[1], members)
+            trace.put_event(draw.fraction(), 1, "C", trace.time_below(1_000), trace.processes[1], members)
 
 
 def put_instants(trace):
     draw = trace.draw
     reaches = ["", ',"s":"g"', ',"s":"p"', ',"s":"t"']
-    for _ in range(INSTANTS):
+    for _ in range(trace.some(INSTANTS)):
         part = draw.below(PARTS)
         process, thread = (trace.process_in(part), draw.below(9)) if draw.whether(0.6) else (trace.processes[part], 1)
         members = f',"tid":{thread},"name":{draw.of(trace.names)}{draw.of(reaches)}{draw.of(trace.args)}'
-        trace.put_event(draw.fraction(), part, draw.of("iI"), draw.below(1_000), process, members, UNREAD_AT_NAME)
+        trace.put_event(draw.fraction(), part, draw.of("iI"), trace.time_below(1_000), process, members, UNREAD_AT_NAME)
 
 
 def put_names(trace):
@@ -338,7 +352,7 @@ def put_names(trace):
     draw = trace.draw
     plain = ["thread_sort_index", "process_sort_index", "process_labels", "num_cpus", ""]
     indices = ["5", "-7", "1.5", '"5"', "null", str(MOST_64), str(2**63)]
-    for _ in range(NAMINGS):
+    for _ in range(trace.some(NAMINGS)):
         part = draw.below(PARTS)
         members = f',"tid":{draw.below(20)}'
         if draw.whether(0.7):
@@ -353,13 +367,14 @@ def put_names(trace):
 def put_elements(trace):
     """Elements of the tables, where they stand in no part's way."""
     draw = trace.draw
-    kinds = list(FAULTS.values())
-    for _ in range(REFUSED):
+    kinds, odd_events = list(faults_in(trace.times.unit).values()), odd_events_in(trace.times.unit)
+    for _ in range(trace.some(REFUSED)):
         trace.put(draw.fraction(), draw.below(PARTS), draw.of(draw.of(kinds)))
-    for _ in range(UNUSED):
+    for _ in range(trace.some(UNUSED)):
         trace.put(draw.fraction(), draw.below(PARTS), draw.of(OTHERS))
         part = draw.below(PARTS)
-        trace.put(draw.fraction(), part, draw.of(ODD_EVENTS).replace("PID", str(trace.process_in(part))))
+        event = draw.of(odd_events).replace("PID", str(trace.process_in(part))).replace("MOST", trace.times.most_written)
+        trace.put(draw.fraction(), part, event)
 
 
 def put_large_elements(trace):
@@ -383,8 +398,8 @@ def write(path, head, elements, foot):
 
 def main():
     gc.disable()  # Nothing here is let go in rings, and to look for them takes long.
-    seed, folder = sys.argv[1:]
-    trace = Trace(seed)
+    *switch, seed, folder = sys.argv[1:]
+    trace = Trace(seed, FractionTimes if switch == ["--nanoseconds"] else WholeTimes)
     for put in [put_threads, put_keys, put_large_keys, put_counters, put_instants, put_names, put_elements, put_large_elements]:
         put(trace)
     trace.elements.sort(key=lambda element: element[0])
