@@ -1,17 +1,16 @@
 #!/usr/bin/env python3
 """Turns a trace into one that tracebook takes whole, and tells on standard error what was changed.
 
-usage: convert_trace.py [--unit s|ms|us|ns] [--cut] < trace.json > converted.json
+usage: convert_trace.py [--unit s|ms|us|ns] [--whole] [--cut] < trace.json > converted.json
 
-- Times with fractions: each start and each end is rounded down to a whole microsecond, so spans that nest still nest; a
-  duration is what lies between the two. With --unit times are taken to be in seconds, milliseconds or nanoseconds instead of
-  microseconds.
 - Values of counters are rounded down, and texts that hold a number become it.
 - A process or a thread that is a text gets a number that no other has, and the text as its name, by a metadata event; where
   the text holds a whole number it becomes that.
-
-With --cut a trace that ends within an element, or within the object around them, is taken up to its last whole element, and closed
-there.
+- With --unit times are taken to be in seconds, milliseconds or nanoseconds, and become the same in microseconds, exactly.
+- With --whole each start and each end is rounded down to a whole microsecond, so spans that nest still nest; a duration is what
+  lies between the two. Without it tracebook --nanoseconds reads times with fractions.
+- With --cut a trace that ends within an element, or within the object around them, is taken up to its last whole element, and
+  closed there.
 
 All else stays byte for byte. The trace is read and written piece by piece: only the names of processes and threads are kept in
 memory.
@@ -32,10 +31,12 @@ from trace_reader import Cut, NoTrace, Source, elements_of, is_whole
 getcontext().prec = 60
 
 MOST = 2**63
-# Microseconds in a unit of time.
-UNITS = {"s": Decimal(1_000_000), "ms": Decimal(1_000), "us": Decimal(1), "ns": Decimal("0.001")}
+# The power of ten that is the microseconds in a unit of time.
+UNITS = {"s": 6, "ms": 3, "us": 0, "ns": -3}
 # Numbers for texts are given from here on, out of the way of what systems give.
 FIRST = 10**12 + 1
+# What tracebook takes as a whole number, if it isn't too large.
+WHOLE = re.compile(r"(?!-0$)-?[0-9]+")
 NUMBER = re.compile(r"\s*[+-]?[0-9]+(\.[0-9]+)?([eE][+-]?[0-9]{1,4})?\s*")
 DECODE = json.JSONDecoder(parse_float=Decimal).raw_decode
 BLANKS = re.compile(r"[ \t\r\n]*")
@@ -74,6 +75,20 @@ def number_of_text(value):
     return number_in(Decimal(value.strip())) if isinstance(value, str) and NUMBER.fullmatch(value) else None
 
 
+def scaled(number, power):
+    """A number times a power of ten, exactly."""
+    sign, digits, exponent = Decimal(number).as_tuple()
+    return Decimal((sign, digits, exponent + power))
+
+
+def decimal_text(number):
+    """A number in as few digits as say it exactly; with an exponent where it is too small for a time."""
+    if number == 0:
+        return "0"
+    text = format(number, "f" if number.adjusted() > -30 else "e")
+    return text.rstrip("0").rstrip(".") if "." in text and "e" not in text else text
+
+
 class Owners:
     """The numbers of processes, or of threads, that are texts."""
 
@@ -102,13 +117,14 @@ class Owners:
 class Converter:
     """What was changed so far, and the numbers that were given."""
 
-    def __init__(self, unit):
+    def __init__(self, unit, makes_whole):
         self.processes, self.threads = Owners("process"), Owners("thread")
         self.named, self.changes = set(), Counter()
-        self.unit, self.elements, self.greatest_start = unit, 0, 0
-        is_whole_unit = unit == 1
-        self.begun = "starts rounded down" if is_whole_unit else "starts made whole microseconds"
-        self.rounded = "durations rounded" if is_whole_unit else "durations made whole microseconds"
+        self.power, self.makes_whole = UNITS[unit], makes_whole
+        self.elements, self.greatest_start, self.fractions = 0, 0, 0
+        made = "made whole microseconds" if makes_whole else "made microseconds"
+        self.begun = "starts rounded down" if unit == "us" else f"starts {made}"
+        self.lasted = "durations rounded" if unit == "us" else f"durations {made}"
 
     def converted(self, element, text):
         """The text of an element as it shall be, with the metadata events before it that it needs; None where it stays."""
@@ -118,7 +134,7 @@ class Converter:
         members, edits, heads = members_at(text, 0), [], []
         phase = element.get("ph")
         if phase != "M":
-            self.round_times(members, phase, text, edits)
+            self.change_times(members, phase, text, edits)
         if phase == "C" and isinstance(element.get("args"), dict):
             self.round_values(members_at(text, members["args"].start), text, edits)
         self.number_owners(members, edits, heads)
@@ -128,33 +144,43 @@ class Converter:
             text = text[: member.start] + new + text[member.end :]
         return ",\n".join([*heads, text])
 
-    def edit(self, edits, text, member, number, change):
-        """Puts a number in the place of a member's value, where it isn't written so."""
-        if text[member.start : member.end] != str(number):
-            edits.append((member, str(number)))
+    def edit(self, edits, text, member, new, change):
+        """Puts a text in the place of a member's value, where it isn't written so."""
+        if text[member.start : member.end] != new:
+            edits.append((member, new))
             self.changes[change] += 1
 
-    def round_times(self, members, phase, text, edits):
-        """Makes the start and the end of an event whole microseconds."""
+    def change_times(self, members, phase, text, edits):
+        """Gives an event its start and its duration in microseconds, whole ones where that is wanted."""
         start, length = members.get("ts"), members.get("dur")
         begun = number_in(start.value) if start else None
         if begun is None:
             return
         self.greatest_start = max(self.greatest_start, abs(begun))
-        begun *= self.unit
-        self.edit(edits, text, start, floor(begun), self.begun)
+        begun = scaled(begun, self.power)
+        self.put_time(edits, text, start, floor(begun) if self.makes_whole else begun, self.begun)
         lasted = number_in(length.value) if length and phase == "X" else None
         if lasted is not None:
-            self.edit(edits, text, length, floor(begun + lasted * self.unit) - floor(begun), self.rounded)
+            lasted = scaled(lasted, self.power)
+            self.put_time(edits, text, length, floor(begun + lasted) - floor(begun) if self.makes_whole else lasted, self.lasted)
+
+    def put_time(self, edits, text, member, time, change):
+        """Puts a time in the place of a member's value, where one is to be changed, and counts those that aren't whole then."""
+        new = text[member.start : member.end]
+        if self.makes_whole or self.power != 0:
+            new = str(time) if self.makes_whole else decimal_text(time)
+            self.edit(edits, text, member, new, change)
+        if not WHOLE.fullmatch(new):
+            self.fractions += 1
 
     def round_values(self, series, text, edits):
         """Rounds the values of a counter down."""
         for member in series.values():
             number, of_text = number_in(member.value), number_of_text(member.value)
             if number is not None:
-                self.edit(edits, text, member, floor(number), "values of counters rounded down")
+                self.edit(edits, text, member, str(floor(number)), "values of counters rounded down")
             elif of_text is not None:
-                self.edit(edits, text, member, floor(of_text), "values of counters that were texts")
+                self.edit(edits, text, member, str(floor(of_text)), "values of counters that were texts")
 
     def number_owners(self, members, edits, heads):
         """Makes numbers of a process and a thread that are texts, and names them."""
@@ -208,6 +234,7 @@ def copy(source, converter, keeps_cut):
 def words():
     parser = argparse.ArgumentParser(description=__doc__.split("\n")[0], epilog="The trace is read on standard input.")
     parser.add_argument("--unit", choices=UNITS, default="us", help="of the times [default: us]")
+    parser.add_argument("--whole", action="store_true", help="round times down to whole microseconds")
     parser.add_argument("--cut", action="store_true", help="take a trace that is cut off up to its last whole element")
     return parser.parse_args()
 
@@ -216,7 +243,7 @@ def main():
     asked = words()
     source_file = io.TextIOWrapper(sys.stdin.buffer, encoding="utf-8", errors="surrogateescape", newline="")
     out = io.TextIOWrapper(sys.stdout.buffer, encoding="utf-8", newline="")
-    source, converter = Source(source_file, out.write, parse_float=Decimal), Converter(UNITS[asked.unit])
+    source, converter = Source(source_file, out.write, parse_float=Decimal), Converter(asked.unit, asked.whole)
     try:
         cut = copy(source, converter, asked.cut)
         out.flush()
@@ -234,7 +261,9 @@ def told(converter, cut):
         yield f"cut off behind byte {cut}: {converter.elements} whole elements kept"
     elif not converter.changes:
         yield "nothing was changed"
-    if converter.unit == 1 and 0 < converter.greatest_start < 1:
+    if converter.fractions:
+        yield f"{converter.fractions} times with fractions: tracebook --nanoseconds reads them"
+    if converter.power == 0 and 0 < converter.greatest_start < 1:
         yield "all times are below one: if they are seconds, convert with --unit s"
 
 

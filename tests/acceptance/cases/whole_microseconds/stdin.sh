@@ -1,2 +1,2 @@
 examples="$(dirname "$0")/../../../../examples"
-python3 "$examples/convert_trace.py" < "$examples/traces/go_build.json" 2> /dev/null
+python3 "$examples/convert_trace.py" --whole < "$examples/traces/go_build.json" 2> /dev/null
