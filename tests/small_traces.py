@@ -3,26 +3,30 @@ import json
 import os
 
 
-def event(chance):
+def time(chance, most, in_fractions):
+    return chance.randrange(1_000 * most) / 1_000 if in_fractions else chance.randrange(most)
+
+
+def event(chance, in_fractions):
     phase = chance.choice("BEXXM")
     name = chance.choice(["a", "ab", "b", "é"])
     if phase == "M":
         return {"ph": "M", "name": "process_name", "pid": 7, "tid": 1, "args": {"name": name}}
-    made = {"ph": phase, "name": name, "pid": 7, "tid": chance.randrange(2), "ts": chance.randrange(100)}
+    made = {"ph": phase, "name": name, "pid": 7, "tid": chance.randrange(2), "ts": time(chance, 100, in_fractions)}
     if phase == "X":
-        made |= {"dur": chance.randrange(20), "args": {"k": chance.choice([1, "x", None, 1.5])}}
+        made |= {"dur": time(chance, 20, in_fractions), "args": {"k": chance.choice([1, "x", None, 1.5])}}
     return made
 
 
-def trace(chance):
-    text = json.dumps([event(chance) for _ in range(chance.randrange(30))], ensure_ascii=False)
+def trace(chance, in_fractions):
+    text = json.dumps([event(chance, in_fractions) for _ in range(chance.randrange(30))], ensure_ascii=False)
     return text if chance.randrange(8) else text[:-1]
 
 
-def put_traces(folder, chance, count):
-    """Makes so many files, and gives their names."""
+def put_traces(folder, chance, count, in_fractions=False):
+    """Makes so many files, whose times may have fractions, and gives their names."""
     names = [f"{number}.json" for number in range(count)]
     for name in names:
         with open(os.path.join(folder, name), "w", encoding="utf-8") as file:
-            file.write(trace(chance))
+            file.write(trace(chance, in_fractions))
     return names
