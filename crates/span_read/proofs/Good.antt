@@ -22,7 +22,7 @@ use Rattle.span_event.specs.Item.{IsGoodItem}
 use Rattle.span_read.specs.Phase.{reads_time, reads_duration, reads_id, needs_id, reads_reach, wants_whole_args, phase_of}
 use Rattle.span_read.specs.declared.fields.Fields.{Fields}
 use Rattle.span_read.specs.Fields.{fields_of, whole, words, pairs, whole_or_zero, id_text, parts_key, key_of, reach_of, args_of}
-use Rattle.span_read.specs.Time.{nanoseconds_of, time_in, within}
+use Rattle.span_read.specs.Time.{greatest_microseconds, nanoseconds_of, time_in, within}
 use Rattle.span_event.specs.Args.{value_of, AllWhole, all_whole}
 use Rattle.span_read.specs.Element.{unless, where_read, time_fault, duration_fault, is_length, time_or_zero, duration_or_zero, id_fault, first_fault, faults, fault_of, event_of, item_of_phase, item_of_letter, item_of_fields, item_of_data}
 use Rattle.span_read.specs.Document.{items_of}
@@ -64,7 +64,7 @@ in_range greatest (Some n) z is = within_is greatest n z is
 
 -- a time in either unit is in the range of all times
 time_of_number : (unit : Unit) (v : FieldValue) (z : ℤ) → time_in unit v ≡ Some z → IsTime z
-time_of_number Microseconds v z is = let here = in_range 9007199254740991 (whole v) z is in (omega (arith, ints, here), omega (arith, ints, here))
+time_of_number Microseconds v z is = let here = in_range greatest_microseconds (whole v) z is in (omega (arith, ints, here), omega (arith, ints, here))
 time_of_number Nanoseconds v z is = let here = in_range greatest_time (nanoseconds_of v) z is in (omega (arith, ints, here), omega (arith, ints, here))
 
 -- the time of an event, where it is read, is in range; else it is 0

@@ -26,7 +26,11 @@ nanoseconds_of v = option_map (λ n. pos 1000 *ℤ n) (whole v)
 abbrev pub within : ℕ → ℤ → Option ℤ
 within greatest n = if int_le (neg_ℤ (pos greatest)) n && int_le n (pos greatest) then Some n else None
 
--- how many of the unit a field says, if it says a number that the unit takes: whole microseconds up to 2^53 - 1, or any number up to 2^62 - 1 nanoseconds
+-- the greatest time in microseconds, 2^53 - 1, up to which a float has each whole number
+abbrev pub greatest_microseconds : ℕ
+greatest_microseconds = 9007199254740991
+
+-- how many of the unit a field says, if it says a number that the unit takes: whole microseconds, or any number as nanoseconds
 abbrev pub time_in : Unit → FieldValue → Option ℤ
-time_in Microseconds v = option_and_then (within 9007199254740991) (whole v)
+time_in Microseconds v = option_and_then (within greatest_microseconds) (whole v)
 time_in Nanoseconds v = option_and_then (within greatest_time) (nanoseconds_of v)
