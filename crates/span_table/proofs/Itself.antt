@@ -7,7 +7,7 @@ use Rattle.span_keyed_tracks.proofs.Keyed.{has_key}
 use Rattle.span_keyed_tracks.proofs.Sorted.{ascending-sorted}
 use Rattle.span_keyed_tracks.proofs.Sorting.{ascending-permutation}
 use Rattle.span_ledger.proofs.Sorted.{map-map}
-use Rattle.span_report.specs.Lines.{first_line}
+use Rattle.span_report.specs.Lines.{first_line, unit_line}
 use Rattle.span_self_time.proofs.Mapped.{filter-map}
 use Rattle.span_table.specs.declared.sums.Sums.{Sums}
 use Rattle.span_table.specs.declared.table.Row.{Row}
@@ -68,7 +68,7 @@ module _ (rows : List Row) where
 
 -- nothing changed between a table and itself
 pub comparison_of-itself : TablesCompareWithThemselves
-comparison_of-itself by wanted tells_runs table rise =
+comparison_of-itself unit by wanted tells_runs table rise =
     let rows = table.rows in
     let all = compared rows rows in
     let shown = shown_changes wanted all in
@@ -77,5 +77,5 @@ comparison_of-itself by wanted tells_runs table rise =
     let many : length shown ≡ length (shown_rows wanted rows) = ap length are ∙ length-map (shown_rows wanted rows) (made rows) in
     let every : length all ≡ length rows = ap length (compared-itself rows rise) ∙ length-map rows (made rows) in
     let same : same_count shown ≡ length (shown_rows wanted rows) = omega (arith, length-changes shown, ap length none, many) in
-    λ i. first_line ++ (compared_heads tells_runs table.head table.head ++ (shown_line wanted (many i) (every i) ++ (change_columns table.columns ++
-    (flat_map change_line (ascending (change_order by) (none i)) ++ same_line (same i)))))
+    λ i. first_line ++ (unit_line unit ++ (compared_heads tells_runs table.head table.head ++ (shown_line wanted (many i) (every i) ++ (change_columns table.columns ++
+    (flat_map change_line (ascending (change_order by) (none i)) ++ same_line (same i))))))

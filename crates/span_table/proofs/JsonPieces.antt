@@ -2,11 +2,12 @@
 use Rattle.std.proofs.Common.{◌≡◌, ℕ, List, [], ◌∷◌, ◌++◌, refl, ap, ◌∙◌, Some, None, append_assoc}
 use Rattle.std.specs.Prelude.{codes, decimal}
 use Rattle.span_event.specs.Text.{Bytes}
+use Rattle.span_event.specs.declared.unit.Unit.{Unit}
 use Rattle.span_table.specs.declared.changes.Both.{Both}
 use Rattle.span_table.specs.declared.column.Column.{Column}
 use Rattle.span_table.specs.declared.heads.Head.{Head}
 use Rattle.span_table.specs.declared.table.Row.{Row}
-use Rattle.span_table.specs.Json.{both_members, columns_json, head_members, json_change, json_head, json_heads, json_line, object_of, member_of, number_member, sums_members, value_member, value_members, with_commas}
+use Rattle.span_table.specs.Json.{both_members, columns_json, head_members, json_change, json_head, json_heads, json_line, object_of, member_of, number_member, sums_members, value_member, value_members, version_member, with_commas}
 use Rattle.span_table.specs.JsonPieces.{both_text, count_text, counts_text, ends_text, other_text, selves_text, spans_text, totals_text, end_text, events_text, files_text, head_text, heads_text, others_text, members_text, start_text, sums_text}
 use Rattle.span_table.specs.Changes.{Change}
 use Rattle.span_table.specs.Keys.{TableKey}
@@ -42,17 +43,17 @@ head_members-text head = simp append_assoc refl
 three-then : (a b c d : Bytes) → 123 ∷ ((a ++ 44 ∷ (b ++ 44 ∷ (c ++ 44 ∷ d))) ++ 125 ∷ []) ++ 10 ∷ [] ≡ 123 ∷ (a ++ 44 ∷ (b ++ 44 ∷ (c ++ 44 ∷ (d ++ 125 ∷ 10 ∷ []))))
 three-then a b c d = simp append_assoc refl
 
-columns-then : (c n h : Bytes) → 123 ∷ (codes "\"tracebook\":1" ++ 44 ∷ (member_of (codes "columns") c ++ 44 ∷ (member_of (codes "rows") n ++ 44 ∷ (h ++ 125 ∷ 10 ∷ [])))) ≡ start_text ++ (c ++ ((codes ",\"rows\":" ++ (n ++ codes ",")) ++ (h ++ end_text)))
+columns-then : (unit : Unit) (c n h : Bytes) → 123 ∷ (version_member unit ++ 44 ∷ (member_of (codes "columns") c ++ 44 ∷ (member_of (codes "rows") n ++ 44 ∷ (h ++ 125 ∷ 10 ∷ [])))) ≡ start_text unit ++ (c ++ ((codes ",\"rows\":" ++ (n ++ codes ",")) ++ (h ++ end_text)))
 unfolding start_text end_text
-columns-then c n h = simp append_assoc refl
+columns-then unit c n h = simp append_assoc refl
 
 -- the first line, from its pieces
-pub json_head_pieces : (columns : List Column) (rows : ℕ) (head : Head) → json_head columns rows head ≡ start_text ++ (columns_json columns ++ (count_text rows ++ (head_text head ++ end_text)))
+pub json_head_pieces : (unit : Unit) (columns : List Column) (rows : ℕ) (head : Head) → json_head unit columns rows head ≡ start_text unit ++ (columns_json columns ++ (count_text rows ++ (head_text head ++ end_text)))
 unfolding json_head count_text
-json_head_pieces columns rows head =
-    three-then (codes "\"tracebook\":1") (member_of (codes "columns") (columns_json columns)) (number_member (codes "rows") rows) (with_commas (head_members head))
-    ∙ ap (λ h. 123 ∷ (codes "\"tracebook\":1" ++ 44 ∷ (member_of (codes "columns") (columns_json columns) ++ 44 ∷ (number_member (codes "rows") rows ++ 44 ∷ (h ++ 125 ∷ 10 ∷ []))))) (head_members-text head)
-    ∙ columns-then (columns_json columns) (decimal rows) (head_text head)
+json_head_pieces unit columns rows head =
+    three-then (version_member unit) (member_of (codes "columns") (columns_json columns)) (number_member (codes "rows") rows) (with_commas (head_members head))
+    ∙ ap (λ h. 123 ∷ (version_member unit ++ 44 ∷ (member_of (codes "columns") (columns_json columns) ++ 44 ∷ (number_member (codes "rows") rows ++ 44 ∷ (h ++ 125 ∷ 10 ∷ []))))) (head_members-text head)
+    ∙ columns-then unit (columns_json columns) (decimal rows) (head_text head)
 
 both_members-text : (both : Both) → with_commas (both_members both) ≡ both_text both
 unfolding spans_text totals_text selves_text
@@ -72,29 +73,29 @@ json_change_pieces columns change =
 six-then : (a b c d e f : Bytes) → 123 ∷ ((a ++ 44 ∷ (b ++ 44 ∷ (c ++ 44 ∷ (d ++ 44 ∷ (e ++ 44 ∷ f))))) ++ 125 ∷ []) ++ 10 ∷ [] ≡ 123 ∷ (a ++ 44 ∷ (b ++ 44 ∷ (c ++ 44 ∷ (d ++ 44 ∷ (e ++ 44 ∷ (f ++ 125 ∷ 10 ∷ []))))))
 six-then a b c d e f = simp append_assoc refl
 
-counts-then : (c n s l : Bytes) → 123 ∷ (codes "\"tracebook\":1" ++ 44 ∷ (member_of (codes "columns") c ++ 44 ∷ (member_of (codes "rows") n ++ 44 ∷ (member_of (codes "same") s ++ (codes ",\"base\":{" ++ l)))))
-    ≡ start_text ++ (c ++ ((codes ",\"rows\":" ++ (n ++ (codes ",\"same\":" ++ (s ++ codes ",\"base\":{")))) ++ l))
+counts-then : (unit : Unit) (c n s l : Bytes) → 123 ∷ (version_member unit ++ 44 ∷ (member_of (codes "columns") c ++ 44 ∷ (member_of (codes "rows") n ++ 44 ∷ (member_of (codes "same") s ++ (codes ",\"base\":{" ++ l)))))
+    ≡ start_text unit ++ (c ++ ((codes ",\"rows\":" ++ (n ++ (codes ",\"same\":" ++ (s ++ codes ",\"base\":{")))) ++ l))
 unfolding start_text
-counts-then c n s l = simp append_assoc refl
+counts-then unit c n s l = simp append_assoc refl
 
 both-then : (h k : Bytes) → (h ++ 125 ∷ []) ++ 44 ∷ (codes "\"other\":{" ++ ((k ++ 125 ∷ []) ++ 125 ∷ 10 ∷ [])) ≡ h ++ (other_text ++ (k ++ ends_text))
 unfolding other_text ends_text
 both-then h k = simp append_assoc refl
 
 -- the first line of a comparison, of whatever its parts are
-heads-then : (c n s h k : Bytes) →
-    object_of (codes "\"tracebook\":1" ∷ member_of (codes "columns") c ∷ member_of (codes "rows") n ∷ member_of (codes "same") s ∷
+heads-then : (unit : Unit) (c n s h k : Bytes) →
+    object_of (version_member unit ∷ member_of (codes "columns") c ∷ member_of (codes "rows") n ∷ member_of (codes "same") s ∷
     member_of (codes "base") (123 ∷ (h ++ 125 ∷ [])) ∷ member_of (codes "other") (123 ∷ (k ++ 125 ∷ [])) ∷ []) ++ 10 ∷ []
-    ≡ start_text ++ (c ++ ((codes ",\"rows\":" ++ (n ++ (codes ",\"same\":" ++ (s ++ codes ",\"base\":{")))) ++ (h ++ (other_text ++ (k ++ ends_text)))))
-heads-then c n s h k =
-    six-then (codes "\"tracebook\":1") (member_of (codes "columns") c) (member_of (codes "rows") n) (member_of (codes "same") s) (member_of (codes "base") (123 ∷ (h ++ 125 ∷ []))) (member_of (codes "other") (123 ∷ (k ++ 125 ∷ [])))
-    ∙ ap (λ l. 123 ∷ (codes "\"tracebook\":1" ++ 44 ∷ (member_of (codes "columns") c ++ 44 ∷ (member_of (codes "rows") n ++ 44 ∷ (member_of (codes "same") s ++ (codes ",\"base\":{" ++ l)))))) (both-then h k)
-    ∙ counts-then c n s (h ++ (other_text ++ (k ++ ends_text)))
+    ≡ start_text unit ++ (c ++ ((codes ",\"rows\":" ++ (n ++ (codes ",\"same\":" ++ (s ++ codes ",\"base\":{")))) ++ (h ++ (other_text ++ (k ++ ends_text)))))
+heads-then unit c n s h k =
+    six-then (version_member unit) (member_of (codes "columns") c) (member_of (codes "rows") n) (member_of (codes "same") s) (member_of (codes "base") (123 ∷ (h ++ 125 ∷ []))) (member_of (codes "other") (123 ∷ (k ++ 125 ∷ [])))
+    ∙ ap (λ l. 123 ∷ (version_member unit ++ 44 ∷ (member_of (codes "columns") c ++ 44 ∷ (member_of (codes "rows") n ++ 44 ∷ (member_of (codes "same") s ++ (codes ",\"base\":{" ++ l)))))) (both-then h k)
+    ∙ counts-then unit c n s (h ++ (other_text ++ (k ++ ends_text)))
 
 -- the first line of a comparison, from its pieces
-pub json_heads_pieces : (columns : List Column) (rows same : ℕ) (base other : Head) →
-    json_heads columns rows same base other ≡ start_text ++ (columns_json columns ++ (counts_text rows same ++ heads_text base other))
+pub json_heads_pieces : (unit : Unit) (columns : List Column) (rows same : ℕ) (base other : Head) →
+    json_heads unit columns rows same base other ≡ start_text unit ++ (columns_json columns ++ (counts_text rows same ++ heads_text base other))
 unfolding json_heads counts_text
-json_heads_pieces columns rows same base other =
-    heads-then (columns_json columns) (decimal rows) (decimal same) (with_commas (head_members base)) (with_commas (head_members other))
-    ∙ (λ i. start_text ++ (columns_json columns ++ (counts_text rows same ++ (head_members-text base i ++ (other_text ++ (head_members-text other i ++ ends_text))))))
+json_heads_pieces unit columns rows same base other =
+    heads-then unit (columns_json columns) (decimal rows) (decimal same) (with_commas (head_members base)) (with_commas (head_members other))
+    ∙ (λ i. start_text unit ++ (columns_json columns ++ (counts_text rows same ++ (head_members-text base i ++ (other_text ++ (head_members-text other i ++ ends_text))))))

@@ -8,6 +8,8 @@ use Rattle.json.specs.Token.{Token, end_array, end_object, key}
 use Rattle.span_event.specs.declared.args.ArgValue.{ArgValue}
 use Rattle.span_event.specs.declared.args.ArgValue.TheVariants.{Nil, Flag, Whole, Words, Other}
 use Rattle.span_event.specs.Text.{Bytes}
+use Rattle.span_event.specs.declared.unit.Unit.{Unit}
+use Rattle.span_event.specs.declared.unit.Unit.TheVariants.{Microseconds, Nanoseconds}
 use Rattle.span_table.specs.declared.column.Column.{Column}
 use Rattle.span_table.specs.declared.column.Column.TheVariants.{Pid, Tid, Process, Thread, Name, File, Argument}
 use Rattle.span_table.specs.declared.heads.Head.{Head}
@@ -18,7 +20,7 @@ use Rattle.span_table.specs.Json.{fit, head_fits, json_line, text_of}
 use Rattle.span_table.specs.Keys.{TableKey}
 use Rattle.span_table.specs.Printed.{AllFit, AreDistinct, IsOfArgument, IsPart, IsPrint, IsRowOf, IsTable, PartsAreTold}
 use Rattle.span_table.specs.Tables.{SpanTable}
-use Rattle.span_table.specs.Tokens.{head_tokens, key_tokens, name_tokens, numbers_tokens, row_tokens, sums_tokens, value_tokens}
+use Rattle.span_table.specs.Tokens.{columns_tokens, head_tokens, key_tokens, name_tokens, numbers_tokens, row_tokens, sums_tokens, unit_tokens, value_tokens}
 use Rattle.span_table.proofs.Printed.{json_head-print, json_line-print}
 use Rattle.span_table.proofs.PrintedLines.{AreSmall, IsLine, IsRowOf-told, IsTold, IsToldKey, head_small, numbers_fit-each, print_head-IsLine, print_row-IsLine, sums_small, tokens-head, tokens-row}
 
@@ -172,12 +174,18 @@ numbers-told rows more head other few little small low e =
       },
     )
 
+unit-told : (unit second : Unit) (ts us : List Token) → unit_tokens unit ++ key (codes "columns") ∷ ts ≡ unit_tokens second ++ key (codes "columns") ∷ us → (unit ≡ second) × (ts ≡ us)
+unit-told Microseconds Microseconds ts us e = (refl, ap (drop 1) e)
+unit-told Microseconds Nanoseconds ts us e = let same : codes "columns" ≡ codes "unit" = cc e in absurd (omega (arith, ap (λ l. get_or l 0 0) same))
+unit-told Nanoseconds Microseconds ts us e = let same : codes "unit" ≡ codes "columns" = cc e in absurd (omega (arith, ap (λ l. get_or l 0 0) same))
+unit-told Nanoseconds Nanoseconds ts us e = (refl, ap (drop 3) e)
+
 -- the first line, and what follows it
-head-first : (table : SpanTable) → text_of table ≡ print (head_tokens table.columns (length table.rows) table.head) ++ 10 ∷ flat_map (json_line table.columns) table.rows
-head-first table =
+head-first : (unit : Unit) (table : SpanTable) → text_of unit table ≡ print (head_tokens unit table.columns (length table.rows) table.head) ++ 10 ∷ flat_map (json_line table.columns) table.rows
+head-first unit table =
     let rest = flat_map (json_line table.columns) table.rows in
-    ap (λ l. l ++ rest) (json_head-print table.columns (length table.rows) table.head)
-    ∙ append_assoc (print (head_tokens table.columns (length table.rows) table.head)) (10 ∷ []) rest
+    ap (λ l. l ++ rest) (json_head-print unit table.columns (length table.rows) table.head)
+    ∙ append_assoc (print (head_tokens unit table.columns (length table.rows) table.head)) (10 ∷ []) rest
 
 -- a table that its text tells
 record IsToldTable (table : SpanTable) : Type 0 where
@@ -185,17 +193,21 @@ record IsToldTable (table : SpanTable) : Type 0 where
   pub few : length table.rows < 2 ^ 64
   pub rows : All (IsTold table.columns) table.rows
 
-tables-told : (one other : SpanTable) → AreDistinct (map column_name one.columns) → IsToldTable one → IsToldTable other → text_of one ≡ text_of other → one ≡ other
-tables-told one other distinct is its e =
-    let lines = line-told (print (head_tokens one.columns (length one.rows) one.head)) (print (head_tokens other.columns (length other.rows) other.head))
+tables-told : (unit second : Unit) (one other : SpanTable) → AreDistinct (map column_name one.columns) → IsToldTable one → IsToldTable other
+    → text_of unit one ≡ text_of second other → (unit ≡ second) × (one ≡ other)
+tables-told unit second one other distinct is its e =
+    let many = length one.rows in
+    let more = length other.rows in
+    let lines = line-told (print (head_tokens unit one.columns many one.head)) (print (head_tokens second other.columns more other.head))
     (flat_map (json_line one.columns) one.rows) (flat_map (json_line other.columns) other.rows)
-    (print_head-IsLine one.columns (length one.rows) one.head is.few is.head) (print_head-IsLine other.columns (length other.rows) other.head its.few its.head)
-    (sym (head-first one) ∙ e ∙ head-first other) in
-    let heads = sym (tokens-head one.columns (length one.rows) one.head is.few is.head) ∙ ap tokens lines.0 ∙ tokens-head other.columns (length other.rows) other.head its.few its.head in
-    let columns = names-told one.columns other.columns (numbers_tokens (length one.rows) one.head ++ end_object ∷ []) (numbers_tokens (length other.rows) other.head ++ end_object ∷ []) (ap (drop 5) heads) in
-    let numbers = numbers-told (length one.rows) (length other.rows) one.head other.head is.few its.few (head_small one.head is.head) (head_small other.head its.head) columns.1 in
+    (print_head-IsLine unit one.columns many one.head is.few is.head) (print_head-IsLine second other.columns more other.head its.few its.head)
+    (sym (head-first unit one) ∙ e ∙ head-first second other) in
+    let heads = sym (tokens-head unit one.columns many one.head is.few is.head) ∙ ap tokens lines.0 ∙ tokens-head second other.columns more other.head its.few its.head in
+    let units = unit-told unit second (drop 1 (columns_tokens one.columns many one.head)) (drop 1 (columns_tokens other.columns more other.head)) (ap (drop 3) heads) in
+    let columns = names-told one.columns other.columns (numbers_tokens many one.head ++ end_object ∷ []) (numbers_tokens more other.head ++ end_object ∷ []) (ap (drop 1) units.1) in
+    let numbers = numbers-told many more one.head other.head is.few its.few (head_small one.head is.head) (head_small other.head its.head) columns.1 in
     let rows = rows-with one.columns other.columns one.rows other.rows columns.0 distinct is.rows its.rows numbers.0 lines.1 in
-    λ i. record { columns = columns.0 i; head = numbers.1 i; rows = rows i }
+    (units.0, λ i. record { columns = columns.0 i; head = numbers.1 i; rows = rows i })
 
 part-told : (table : SpanTable) → IsTable table → IsToldTable table
 part-told table is = record { head = is.head; few = is.few; rows = All-weaker (IsRowOf table.columns) (IsTold table.columns) (IsRowOf-told table.columns) table.rows is.rows }
@@ -210,10 +222,11 @@ print-told table fits whole =
     record { head = numbers.0; few = fits.few; rows = λ k d low. record { key = (whole k d low, fits.keys k d low); sums = numbers.1 k d low } }
 
 -- a table that was read of the text that is printed of another is this one
-pub prints-told : (text : Bytes) (part table : SpanTable) → IsPart text part → IsPrint text table → HasWholeKeys table → part ≡ table
-prints-told text part table is print whole =
-    tables-told part table is.is.columns.distinct (part-told part is.is) (print-told table print.fits whole) (sym is.printed ∙ print.printed)
+pub prints-told : (unit second : Unit) (text : Bytes) (part table : SpanTable) → IsPart unit text part → IsPrint second text table → HasWholeKeys table → (unit ≡ second) × (part ≡ table)
+prints-told unit second text part table is print whole =
+    tables-told unit second part table is.is.columns.distinct (part-told part is.is) (print-told table print.fits whole) (sym is.printed ∙ print.printed)
 
--- two tables that are printed alike are the same
+-- a text is that of one table, in one unit
 pub parts-told : PartsAreTold
-parts-told text one other is its = tables-told one other is.is.columns.distinct (part-told one is.is) (part-told other its.is) (sym is.printed ∙ its.printed)
+parts-told unit second text one other is its =
+    tables-told unit second one other is.is.columns.distinct (part-told one is.is) (part-told other its.is) (sym is.printed ∙ its.printed)

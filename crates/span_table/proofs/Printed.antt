@@ -1,20 +1,22 @@
 -- The lines of a table are their tokens, printed.
 use Rattle.std.proofs.Common.{◌≡◌, ℕ, true, false, List, [], ◌∷◌, ◌++◌, map, refl, sym, ap, ◌∙◌, Some, None, append_assoc, codes, decimal}
-use Rattle.json.specs.Token.{Token, end_array, end_object, key}
+use Rattle.json.specs.Token.{Token, begin_array, begin_object, end_array, end_object, key, number}
 use Rattle.json.specs.Print.{escape_byte, print, print_from, quoted}
 use Rattle.span_event.specs.declared.args.ArgValue.{ArgValue}
 use Rattle.span_event.specs.declared.args.ArgValue.TheVariants.{Nil, Flag, Whole, Words, Other}
 use Rattle.span_event.specs.Text.{Bytes}
+use Rattle.span_event.specs.declared.unit.Unit.{Unit}
+use Rattle.span_event.specs.declared.unit.Unit.TheVariants.{Microseconds, Nanoseconds}
 use Rattle.span_report.specs.Lines.{json_text_of}
 use Rattle.span_table.specs.declared.column.Column.{Column}
 use Rattle.span_table.specs.declared.heads.Head.{Head}
 use Rattle.span_table.specs.declared.sums.Sums.{Sums}
 use Rattle.span_table.specs.declared.table.Row.{Row}
 use Rattle.span_table.specs.Columns.{column_name}
-use Rattle.span_table.specs.Json.{column_json, json_head, json_line, json_of_value, with_commas}
+use Rattle.span_table.specs.Json.{column_json, json_head, json_line, json_of_value, unit_member, with_commas}
 use Rattle.span_table.specs.JsonPieces.{count_text, end_text, events_text, files_text, head_text, members_text, others_text, start_text, sums_text}
 use Rattle.span_table.specs.Keys.{TableKey}
-use Rattle.span_table.specs.Tokens.{head_tokens, key_tokens, name_tokens, numbers_tokens, row_tokens, sums_tokens, value_tokens}
+use Rattle.span_table.specs.Tokens.{head_tokens, key_tokens, name_tokens, numbers_tokens, row_tokens, sums_tokens, unit_tokens, value_tokens}
 use Rattle.span_table.proofs.JsonPieces.{json_head_pieces, json_line_pieces}
 
 -- a value, and then some more
@@ -23,7 +25,7 @@ unfolding print_from json_text_of
 value-print Nil ts = refl
 value-print (Flag true) ts = refl
 value-print (Flag false) ts = refl
-value-print (Whole number) ts = refl
+value-print (Whole whole) ts = refl
 value-print (Words text) ts = refl
 value-print Other ts = refl
 
@@ -81,13 +83,20 @@ numbers-print : (rows : ℕ) (head : Head) → print_from true (numbers_tokens r
 unfolding print_from escape_byte count_text files_text events_text others_text end_text
 numbers-print rows head = simp append_assoc refl
 
+-- what is in front of the names of columns, and then some more
+start-print : (unit : Unit) (ts : List Token) → print (begin_object ∷ key (codes "tracebook") ∷ number (codes "1") ∷ (unit_tokens unit ++ (key (codes "columns") ∷ begin_array ∷ ts))) ++ 10 ∷ []
+    ≡ start_text unit ++ 91 ∷ (print_from false ts ++ 10 ∷ [])
+unfolding print_from escape_byte start_text unit_member
+start-print Microseconds ts = refl
+start-print Nanoseconds ts = refl
+
 -- the first line is its tokens, printed
-pub json_head-print : (columns : List Column) (rows : ℕ) (head : Head) → json_head columns rows head ≡ print (head_tokens columns rows head) ++ 10 ∷ []
-unfolding print_from escape_byte start_text
-json_head-print columns rows head =
+pub json_head-print : (unit : Unit) (columns : List Column) (rows : ℕ) (head : Head) → json_head unit columns rows head ≡ print (head_tokens unit columns rows head) ++ 10 ∷ []
+json_head-print unit columns rows head =
     let names = with_commas (map column_json columns) in
     let numbers = print_from true (numbers_tokens rows head ++ end_object ∷ []) in
-    json_head_pieces columns rows head
-    ∙ sym (ap (λ l. start_text ++ 91 ∷ (l ++ 10 ∷ [])) (names-print columns (numbers_tokens rows head ++ end_object ∷ []))
-    ∙ ap (λ l. start_text ++ 91 ∷ l) (append_assoc names (93 ∷ numbers) (10 ∷ []) ∙ ap (λ l. names ++ 93 ∷ l) (numbers-print rows head)
+    json_head_pieces unit columns rows head
+    ∙ sym (start-print unit (name_tokens columns ++ end_array ∷ (numbers_tokens rows head ++ end_object ∷ []))
+    ∙ ap (λ l. start_text unit ++ 91 ∷ (l ++ 10 ∷ [])) (names-print columns (numbers_tokens rows head ++ end_object ∷ []))
+    ∙ ap (λ l. start_text unit ++ 91 ∷ l) (append_assoc names (93 ∷ numbers) (10 ∷ []) ∙ ap (λ l. names ++ 93 ∷ l) (numbers-print rows head)
     ∙ sym (append_assoc names (93 ∷ []) (count_text rows ++ (head_text head ++ end_text)))))

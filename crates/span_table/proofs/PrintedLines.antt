@@ -20,6 +20,8 @@ use Rattle.json.proofs.Printed.Tokens.{tokens-print}
 use Rattle.span_event.specs.declared.args.ArgValue.{ArgValue}
 use Rattle.span_event.specs.declared.args.ArgValue.TheVariants.{Nil, Flag, Whole, Words, Other}
 use Rattle.span_event.specs.Text.{Bytes}
+use Rattle.span_event.specs.declared.unit.Unit.{Unit}
+use Rattle.span_event.specs.declared.unit.Unit.TheVariants.{Microseconds, Nanoseconds}
 use Rattle.span_table.specs.declared.column.Column.{Column}
 use Rattle.span_table.specs.declared.column.Column.TheVariants.{Pid, Tid, Process, Thread, Name, File, Argument}
 use Rattle.span_table.specs.declared.heads.Head.{Head}
@@ -30,7 +32,7 @@ use Rattle.span_table.specs.Json.{fit, head_fits, numbers_fit}
 use Rattle.span_table.specs.Keys.{TableKey}
 use Rattle.span_table.specs.Printed.{IsKeyOf, IsOfArgument, IsRowOf, KeyFits, MayHave}
 use Rattle.span_table.specs.Tables.{SpanTable}
-use Rattle.span_table.specs.Tokens.{counts_tokens, head_tokens, key_tokens, name_tokens, numbers_tokens, row_tokens, sums_tokens, value_tokens}
+use Rattle.span_table.specs.Tokens.{columns_tokens, counts_tokens, head_tokens, key_tokens, name_tokens, numbers_tokens, row_tokens, sums_tokens, unit_tokens, value_tokens}
 
 -- no line feed is among the bytes
 abbrev pub IsLine : Bytes → Type 0
@@ -282,31 +284,36 @@ one-in_line : IsInLine (number (codes "1"))
 unfolding after_number
 one-in_line = (refl, ((λ e. omega arith), tt))
 
-head-in_line : (columns : List Column) (rows : ℕ) (head : Head) → rows < 2 ^ 64 → AreSmall head → AreInLine (head_tokens columns rows head)
-head-in_line columns rows head few small =
+unit-in_line : (unit : Unit) → AreInLine (unit_tokens unit)
+unit-in_line Microseconds = tt
+unit-in_line Nanoseconds = (tt, (tt, tt))
+
+head-in_line : (unit : Unit) (columns : List Column) (rows : ℕ) (head : Head) → rows < 2 ^ 64 → AreSmall head → AreInLine (head_tokens unit columns rows head)
+head-in_line unit columns rows head few small =
     let numbers = AreInLine-append (numbers_tokens rows head) (end_object ∷ []) (numbers-in_line rows head few small) (tt, tt) in
-    (tt, (tt, (one-in_line, (tt, (tt, AreInLine-append (name_tokens columns) _ (names-in_line columns) (tt, numbers))))))
+    let names : AreInLine (columns_tokens columns rows head) = (tt, (tt, AreInLine-append (name_tokens columns) _ (names-in_line columns) (tt, numbers))) in
+    (tt, (tt, (one-in_line, AreInLine-append (unit_tokens unit) (columns_tokens columns rows head) (unit-in_line unit) names)))
 
 -- the tokens of a row are read back
 pub tokens-row : (columns : List Column) (row : Row) → IsTold columns row → tokens (print (row_tokens columns row)) ≡ row_tokens columns row
 tokens-row columns row is = tokens-print (row_tokens columns row) (all_printable (row_tokens columns row) (row-in_line columns row is))
 
 -- those of the first line are read back
-pub tokens-head : (columns : List Column) (rows : ℕ) (head : Head) → rows < 2 ^ 64 → head_fits head ≡ true → tokens (print (head_tokens columns rows head)) ≡ head_tokens columns rows head
-tokens-head columns rows head few fits = tokens-print (head_tokens columns rows head) (all_printable (head_tokens columns rows head) (head-in_line columns rows head few (head_small head fits)))
+pub tokens-head : (unit : Unit) (columns : List Column) (rows : ℕ) (head : Head) → rows < 2 ^ 64 → head_fits head ≡ true → tokens (print (head_tokens unit columns rows head)) ≡ head_tokens unit columns rows head
+tokens-head unit columns rows head few fits = tokens-print (head_tokens unit columns rows head) (all_printable (head_tokens unit columns rows head) (head-in_line unit columns rows head few (head_small head fits)))
 
 -- the line of a row is one line
 pub print_row-IsLine : (columns : List Column) (row : Row) → IsTold columns row → IsLine (print (row_tokens columns row))
 print_row-IsLine columns row is = print-line false (row_tokens columns row) (row-in_line columns row is)
 
 -- the first line is one line
-pub print_head-IsLine : (columns : List Column) (rows : ℕ) (head : Head) → rows < 2 ^ 64 → head_fits head ≡ true → IsLine (print (head_tokens columns rows head))
-print_head-IsLine columns rows head few fits = print-line false (head_tokens columns rows head) (head-in_line columns rows head few (head_small head fits))
+pub print_head-IsLine : (unit : Unit) (columns : List Column) (rows : ℕ) (head : Head) → rows < 2 ^ 64 → head_fits head ≡ true → IsLine (print (head_tokens unit columns rows head))
+print_head-IsLine unit columns rows head few fits = print-line false (head_tokens unit columns rows head) (head-in_line unit columns rows head few (head_small head fits))
 
 -- no line feed stands in the line of a row
 pub print_row-line : (columns : List Column) (row : Row) → IsTold columns row → All (λ byte. byte ≢ 10) (print (row_tokens columns row))
 print_row-line columns row is = All-from_recursion (λ byte. byte ≢ 10) (print (row_tokens columns row)) (print_row-IsLine columns row is)
 
 -- no line feed stands in the first line
-pub print_head-line : (columns : List Column) (rows : ℕ) (head : Head) → rows < 2 ^ 64 → head_fits head ≡ true → All (λ byte. byte ≢ 10) (print (head_tokens columns rows head))
-print_head-line columns rows head few fits = All-from_recursion (λ byte. byte ≢ 10) (print (head_tokens columns rows head)) (print_head-IsLine columns rows head few fits)
+pub print_head-line : (unit : Unit) (columns : List Column) (rows : ℕ) (head : Head) → rows < 2 ^ 64 → head_fits head ≡ true → All (λ byte. byte ≢ 10) (print (head_tokens unit columns rows head))
+print_head-line unit columns rows head few fits = All-from_recursion (λ byte. byte ≢ 10) (print (head_tokens unit columns rows head)) (print_head-IsLine unit columns rows head few fits)

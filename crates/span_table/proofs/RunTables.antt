@@ -12,6 +12,7 @@ use Rattle.span_event.specs.declared.args.ArgValue.TheVariants.{Words}
 use Rattle.span_event.specs.declared.thread.Thread.{Thread}
 use Rattle.span_event.specs.Args.{Arguments}
 use Rattle.span_event.specs.Text.{Bytes}
+use Rattle.span_event.specs.declared.unit.Unit.{Unit}
 use Rattle.span_keyed_tracks.specs.Keyed.{Keyed, entry_of, keys_in, steps_at}
 use Rattle.span_keyed_tracks.proofs.Keyed.{has_key}
 use Rattle.span_keyed_tracks.proofs.SameKeys.{All-ascending, step_keys}
@@ -146,8 +147,9 @@ module _ (columns : List Column) (runs : List Run) where
       All-keys (MayBeKey columns) (flat_map (run_sums columns) runs) (All-spans columns (λ e. MayBeKey columns e.key) runs each)
 
   -- a table that was read of what is printed of runs is the table of these
-  pub part-table_of : (text : Bytes) (part : SpanTable) → IsPart text part → IsPrint text (table_of columns runs) → part ≡ table_of columns runs
-  part-table_of text part is print = prints-told text part (table_of columns runs) is print table_of-HasWholeKeys
+  pub part-table_of : (unit second : Unit) (text : Bytes) (part : SpanTable) → IsPart unit text part → IsPrint second text (table_of columns runs)
+      → (unit ≡ second) × (part ≡ table_of columns runs)
+  part-table_of unit second text part is print = prints-told unit second text part (table_of columns runs) is print table_of-HasWholeKeys
 
   -- the table of runs that have their files, if its numbers have 64 bits, is one that can be read back
   pub IsTable-table_of : AreColumns columns → HaveFiles columns runs → AllFit (table_of columns runs) → IsTable (table_of columns runs)
@@ -164,7 +166,7 @@ module _ (columns : List Column) (runs : List Run) where
 
 -- so what is printed of such runs is a part
 pub prints-parts : PrintsAreParts
-prints-parts columns runs text are files utf8 print = record { is = IsTable-table_of columns runs are files print.fits; utf8 = utf8; printed = print.printed }
+prints-parts unit columns runs text are files utf8 print = record { is = IsTable-table_of columns runs are files print.fits; utf8 = utf8; printed = print.printed }
 
 filter-every : {A : Type 0} (p : A → Bool) → ((x : A) → p x ≡ true) → (xs : List A) → filter p xs ≡ xs
 filter-every p each [] = refl
@@ -185,4 +187,4 @@ shown_table-all wanted table all = λ i. record { columns = table.columns; head 
 
 -- so what JSON Lines have of it is its print
 pub json_of-print : AllIsPrinted
-json_of-print wanted table all fits = let same = shown_table-all wanted table all in record { fits = subst AllFit same fits; printed = ap text_of same }
+json_of-print unit wanted table all fits = let same = shown_table-all wanted table all in record { fits = subst AllFit same fits; printed = ap (text_of unit) same }

@@ -2,8 +2,9 @@
 use Rattle.std.specs.Prelude.{ℕ, ◌-◌, ◌==◌, if◌then◌else◌, Bool, true, List, [], ◌∷◌, ◌++◌, flat_map, length, map, codes, decimal}
 use Rattle.std.specs.Ordering.{match_ordering, nat_cmp}
 use Rattle.span_event.specs.Text.{Bytes}
+use Rattle.span_event.specs.declared.unit.Unit.{Unit}
 use Rattle.span_ledger.specs.declared.rows.CountRow.{CountRow}
-use Rattle.span_report.specs.Lines.{count_line, first_line, line_of, right_in, seals_line}
+use Rattle.span_report.specs.Lines.{count_line, first_line, line_of, right_in, seals_line, unit_line}
 use Rattle.span_table.specs.declared.column.Column.{Column}
 use Rattle.span_table.specs.declared.heads.Head.{Head}
 use Rattle.span_table.specs.declared.sums.By.{By}
@@ -50,10 +51,10 @@ change_line change =
 unfoldable pub same_line : ℕ → Bytes
 same_line count = line_of (codes "same" ∷ decimal count ∷ [])
 
--- both heads, how many keys are shown, the names of the columns, a line for each change, and then how many keys did not change
-abbrev pub comparison_of : By → Wanted → Bool → SpanTable → SpanTable → Bytes
-comparison_of by wanted tells_runs base other =
+-- the unit where it isn't microseconds, both heads, how many keys are shown, the names of the columns, a line for each change, and then how many keys did not change
+abbrev pub comparison_of : Unit → By → Wanted → Bool → SpanTable → SpanTable → Bytes
+comparison_of unit by wanted tells_runs base other =
     let all = compared base.rows other.rows in
     let shown = shown_changes wanted all in
-    first_line ++ (compared_heads tells_runs base.head other.head ++ (shown_line wanted (length shown) (length all) ++
-    (change_columns other.columns ++ (flat_map change_line (changes_of by shown) ++ same_line (same_count shown)))))
+    first_line ++ (unit_line unit ++ (compared_heads tells_runs base.head other.head ++ (shown_line wanted (length shown) (length all) ++
+    (change_columns other.columns ++ (flat_map change_line (changes_of by shown) ++ same_line (same_count shown))))))

@@ -5,6 +5,8 @@ use Rattle.std.specs.Fmt.{signed_decimal}
 use Rattle.span_event.specs.declared.args.ArgValue.{ArgValue}
 use Rattle.span_event.specs.declared.args.ArgValue.TheVariants.{Nil, Flag, Whole, Words, Other}
 use Rattle.span_event.specs.Text.{Bytes}
+use Rattle.span_event.specs.declared.unit.Unit.{Unit}
+use Rattle.span_event.specs.declared.unit.Unit.TheVariants.{Microseconds, Nanoseconds}
 use Rattle.span_ledger.specs.declared.rows.CountRow.{CountRow}
 use Rattle.span_report.specs.Lines.{json_text_of}
 use Rattle.span_table.specs.declared.changes.Both.{Both}
@@ -72,25 +74,34 @@ value_members (column ∷ columns) (Some value ∷ key) = value_member column va
 abbrev pub sums_members : Sums → List Bytes
 sums_members sums = number_member (codes "count") sums.count ∷ number_member (codes "total") sums.total ∷ number_member (codes "self") sums.self_time ∷ []
 
+-- the unit of all times, where it isn't microseconds
+unfoldable pub unit_member : Unit → Bytes
+unit_member Microseconds = []
+unit_member Nanoseconds = codes ",\"unit\":\"ns\""
+
+-- with this each first line begins
+abbrev pub version_member : Unit → Bytes
+version_member unit = codes "\"tracebook\":1" ++ unit_member unit
+
 -- the line of a row
 unfoldable pub json_line : List Column → Row → Bytes
 json_line columns row = object_of (value_members columns row.key ++ sums_members row.sums) ++ 10 ∷ []
 
 -- the first line
-unfoldable pub json_head : List Column → ℕ → Head → Bytes
-json_head columns rows head =
-    object_of (codes "\"tracebook\":1" ∷ member_of (codes "columns") (columns_json columns) ∷ number_member (codes "rows") rows ∷ head_members head) ++ 10 ∷ []
+unfoldable pub json_head : Unit → List Column → ℕ → Head → Bytes
+json_head unit columns rows head =
+    object_of (version_member unit ∷ member_of (codes "columns") (columns_json columns) ∷ number_member (codes "rows") rows ∷ head_members head) ++ 10 ∷ []
 
 -- the first line, and then one for each row
-abbrev pub text_of : SpanTable → Bytes
-text_of table = json_head table.columns (length table.rows) table.head ++ flat_map (json_line table.columns) table.rows
+abbrev pub text_of : Unit → SpanTable → Bytes
+text_of unit table = json_head unit table.columns (length table.rows) table.head ++ flat_map (json_line table.columns) table.rows
 
 -- the table without the rows that aren't shown
 abbrev pub shown_table : Wanted → SpanTable → SpanTable
 shown_table wanted table = record { columns = table.columns; head = table.head; rows = shown_rows wanted table.rows }
 
-abbrev pub json_of : Wanted → SpanTable → Bytes
-json_of wanted table = text_of (shown_table wanted table)
+abbrev pub json_of : Unit → Wanted → SpanTable → Bytes
+json_of unit wanted table = text_of unit (shown_table wanted table)
 
 -- the sums have 64 bits
 abbrev pub fit : Sums → Bool
@@ -124,17 +135,17 @@ unfoldable pub json_change : List Column → Change → Bytes
 json_change columns change = object_of (value_members columns change.key ++ both_members change.both) ++ 10 ∷ []
 
 -- the first line of a comparison
-unfoldable pub json_heads : List Column → ℕ → ℕ → Head → Head → Bytes
-json_heads columns rows same base other =
-    object_of (codes "\"tracebook\":1" ∷ member_of (codes "columns") (columns_json columns) ∷ number_member (codes "rows") rows ∷ number_member (codes "same") same ∷
+unfoldable pub json_heads : Unit → List Column → ℕ → ℕ → Head → Head → Bytes
+json_heads unit columns rows same base other =
+    object_of (version_member unit ∷ member_of (codes "columns") (columns_json columns) ∷ number_member (codes "rows") rows ∷ number_member (codes "same") same ∷
     member_of (codes "base") (object_of (head_members base)) ∷ member_of (codes "other") (object_of (head_members other)) ∷ []) ++ 10 ∷ []
 
 -- the first line, and then one for each change that is shown, in the order of a comparison by self time
-abbrev pub json_comparison_of : Wanted → SpanTable → SpanTable → Bytes
-json_comparison_of wanted base other =
+abbrev pub json_comparison_of : Unit → Wanted → SpanTable → SpanTable → Bytes
+json_comparison_of unit wanted base other =
     let shown = shown_changes wanted (compared base.rows other.rows) in
     let changes = changes_of SelfTime shown in
-    json_heads other.columns (length changes) (same_count shown) base.head other.head ++ flat_map (json_change other.columns) changes
+    json_heads unit other.columns (length changes) (same_count shown) base.head other.head ++ flat_map (json_change other.columns) changes
 
 -- both sums have 64 bits
 abbrev pub both_fit : Change → Bool

@@ -1,13 +1,14 @@
 -- The pieces of lines for machines, in the order in which they are appended.
 use Rattle.std.specs.Prelude.{ℕ, List, [], ◌∷◌, ◌++◌, Some, None, codes, decimal}
 use Rattle.span_event.specs.Text.{Bytes}
+use Rattle.span_event.specs.declared.unit.Unit.{Unit}
 use Rattle.span_table.specs.declared.changes.Both.{Both}
 use Rattle.span_table.specs.declared.column.Column.{Column}
 use Rattle.span_table.specs.Columns.{Value}
 use Rattle.span_ledger.specs.declared.rows.CountRow.{CountRow}
 use Rattle.span_table.specs.declared.sums.Sums.{Sums}
 use Rattle.span_table.specs.declared.heads.Head.{Head}
-use Rattle.span_table.specs.Json.{sums_members, value_member, with_commas}
+use Rattle.span_table.specs.Json.{sums_members, unit_member, value_member, with_commas}
 use Rattle.span_table.specs.Keys.{TableKey}
 
 -- a column with its value and a comma, if it has a value
@@ -35,8 +36,8 @@ abbrev pub head_text : Head → Bytes
 head_text head = files_text head ++ (events_text head.counts ++ others_text head.counts)
 
 -- the first line up to its columns, from them to the members of the head, and its end
-unfoldable pub start_text : Bytes
-start_text = codes "{\"tracebook\":1,\"columns\":"
+unfoldable pub start_text : Unit → Bytes
+start_text unit = codes "{\"tracebook\":1" ++ (unit_member unit ++ codes ",\"columns\":")
 
 unfoldable pub count_text : ℕ → Bytes
 count_text rows = codes ",\"rows\":" ++ (decimal rows ++ codes ",")

@@ -5,6 +5,7 @@ use Rattle.std.specs.List.{list_any}
 use Rattle.std.specs.Str.{IsUtf8}
 use Rattle.span_event.specs.declared.args.ArgValue.TheVariants.{Whole, Words}
 use Rattle.span_event.specs.Text.{Bytes}
+use Rattle.span_event.specs.declared.unit.Unit.{Unit}
 use Rattle.span_table.specs.declared.column.Column.{Column}
 use Rattle.span_table.specs.declared.column.Column.TheVariants.{Pid, Tid, Process, Thread, Name, File, Argument}
 use Rattle.span_table.specs.declared.table.Row.{Row}
@@ -55,10 +56,10 @@ pub record AllFit (table : SpanTable) : Type 0 where
   pub few : length table.rows < 2 ^ 64
   pub keys : All (λ row. KeyFits table.columns row.key) table.rows
 
--- the text of such a table
-pub record IsPrint (text : Bytes) (table : SpanTable) : Type 0 where
+-- the text of such a table, in this unit
+pub record IsPrint (unit : Unit) (text : Bytes) (table : SpanTable) : Type 0 where
   pub fits : AllFit table
-  pub printed : text ≡ text_of table
+  pub printed : text ≡ text_of unit table
 
 -- the run has a file, if that is the column
 abbrev pub HasFile : Run → Column → Type 0
@@ -106,21 +107,21 @@ pub record IsTable (table : SpanTable) : Type 0 where
   pub rows : All (IsRowOf table.columns) table.rows
   pub rise : RowsRise table.rows
 
--- a part: the text of such a table
-pub record IsPart (text : Bytes) (table : SpanTable) : Type 0 where
+-- a part: the text of such a table, in this unit
+pub record IsPart (unit : Unit) (text : Bytes) (table : SpanTable) : Type 0 where
   pub is : IsTable table
   pub utf8 : IsUtf8 text
-  pub printed : text ≡ text_of table
+  pub printed : text ≡ text_of unit table
 
--- two tables with the same text are the same
+-- a text is that of one table, in one unit
 abbrev pub PartsAreTold : Type 0
-PartsAreTold = (text : Bytes) (one other : SpanTable) → IsPart text one → IsPart text other → one ≡ other
+PartsAreTold = (unit second : Unit) (text : Bytes) (one other : SpanTable) → IsPart unit text one → IsPart second text other → (unit ≡ second) × (one ≡ other)
 
 -- where all rows are wanted, what JSON Lines have of a table is its print
 abbrev pub AllIsPrinted : Type 0
-AllIsPrinted = (wanted : Wanted) (table : SpanTable) → wants_all wanted ≡ true → AllFit (shown_table wanted table) → IsPrint (json_of wanted table) table
+AllIsPrinted = (unit : Unit) (wanted : Wanted) (table : SpanTable) → wants_all wanted ≡ true → AllFit (shown_table wanted table) → IsPrint unit (json_of unit wanted table) table
 
 -- what is printed of runs is a part, if they have their files, and its text is UTF-8
 abbrev pub PrintsAreParts : Type 0
-PrintsAreParts = (columns : List Column) (runs : List Run) (text : Bytes) → AreColumns columns → HaveFiles columns runs → IsUtf8 text →
-    IsPrint text (table_of columns runs) → IsPart text (table_of columns runs)
+PrintsAreParts = (unit : Unit) (columns : List Column) (runs : List Run) (text : Bytes) → AreColumns columns → HaveFiles columns runs → IsUtf8 text →
+    IsPrint unit text (table_of columns runs) → IsPart unit text (table_of columns runs)

@@ -1,6 +1,6 @@
 -- The text of a ranking.
 use Rattle.std.specs.Prelude.{ℕ, Bool, List, ◌∷◌, ◌++◌, take, flat_map, length, map, codes, decimal}
-use Rattle.span_event.specs.declared.unit.Unit.TheVariants.{Microseconds}
+use Rattle.span_event.specs.declared.unit.Unit.{Unit}
 use Rattle.span_event.specs.Text.{Bytes}
 use Rattle.span_report.specs.Lines.{line_of, right_in}
 use Rattle.span_report.specs.Report.{head_lines}
@@ -21,6 +21,6 @@ unfoldable pub ranked_line : Row → Bytes
 ranked_line row = line_of (right_in 16 (decimal row.sums.self_time) ∷ right_in 16 (decimal row.sums.total) ∷ right_in 8 (decimal row.sums.count) ∷ map value_text row.key)
 
 -- the head of the report, how many runs there are where that is told, how many rows are shown, the names of the columns, and then a line for each of the first rows
-abbrev pub ranking_of : ℕ → By → Wanted → Bool → SpanTable → Bytes
-ranking_of most by wanted tells_runs table = let shown = shown_rows wanted table.rows in
-    head_lines Microseconds table.head.counts ++ (runs_line tells_runs table.head ++ (shown_line wanted (length shown) (length table.rows) ++ (column_line table.columns ++ flat_map ranked_line (take most (ranked by shown)))))
+abbrev pub ranking_of : Unit → ℕ → By → Wanted → Bool → SpanTable → Bytes
+ranking_of unit most by wanted tells_runs table = let shown = shown_rows wanted table.rows in
+    head_lines unit table.head.counts ++ (runs_line tells_runs table.head ++ (shown_line wanted (length shown) (length table.rows) ++ (column_line table.columns ++ flat_map ranked_line (take most (ranked by shown)))))

@@ -1,7 +1,8 @@
 -- The facts that hold of every ranking and every comparison.
 use Rattle.std.specs.Prelude.{◌≡◌, ℕ, Bool, ◌-◌, ◌<◌, List, ◌++◌, codes, decimal, length, map}
 use Rattle.std.specs.List.Sorted.{IsPermutation, IsStrictlySortedBy}
-use Rattle.span_report.specs.Lines.{first_line}
+use Rattle.span_event.specs.declared.unit.Unit.{Unit}
+use Rattle.span_report.specs.Lines.{first_line, unit_line}
 use Rattle.span_table.specs.declared.sums.By.{By}
 use Rattle.span_table.specs.declared.table.Row.{Row}
 use Rattle.span_table.specs.Changes.{Change, changes_of, compared, same_count, shown_changes}
@@ -21,14 +22,15 @@ abbrev pub RankingsHaveEachRow : Type 0
 RankingsHaveEachRow = (by : By) (wanted : Wanted) (rows : List Row) → RowsRise rows → RanksEachRow by (shown_rows wanted rows)
 
 -- between a table and itself nothing changed: below the names of the columns is how many keys are shown
-abbrev pub ComparesWithItself : By → Wanted → Bool → SpanTable → Type 0
-ComparesWithItself by wanted tells_runs table = let shown = length (shown_rows wanted table.rows) in
-    comparison_of by wanted tells_runs table table
-    ≡ first_line ++ (compared_heads tells_runs table.head table.head ++ (shown_line wanted shown (length table.rows) ++ (change_columns table.columns ++ same_line shown)))
+abbrev pub ComparesWithItself : Unit → By → Wanted → Bool → SpanTable → Type 0
+ComparesWithItself unit by wanted tells_runs table = let shown = length (shown_rows wanted table.rows) in
+    comparison_of unit by wanted tells_runs table table
+    ≡ first_line ++ (unit_line unit ++ (compared_heads tells_runs table.head table.head ++
+    (shown_line wanted shown (length table.rows) ++ (change_columns table.columns ++ same_line shown))))
 
--- this holds of each table, in whatever order
+-- this holds of each table, in whatever unit and order
 abbrev pub TablesCompareWithThemselves : Type 0
-TablesCompareWithThemselves = (by : By) (wanted : Wanted) (tells_runs : Bool) (table : SpanTable) → RowsRise table.rows → ComparesWithItself by wanted tells_runs table
+TablesCompareWithThemselves = (unit : Unit) (by : By) (wanted : Wanted) (tells_runs : Bool) (table : SpanTable) → RowsRise table.rows → ComparesWithItself unit by wanted tells_runs table
 
 -- a change the other way round
 abbrev pub turned : Change → Change

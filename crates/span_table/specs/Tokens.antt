@@ -4,6 +4,8 @@ use Rattle.std.specs.Fmt.{signed_decimal}
 use Rattle.json.specs.Token.{Token, begin_object, end_object, begin_array, end_array, key, string, number, boolean, null}
 use Rattle.span_event.specs.declared.args.ArgValue.{ArgValue}
 use Rattle.span_event.specs.declared.args.ArgValue.TheVariants.{Nil, Flag, Whole, Words, Other}
+use Rattle.span_event.specs.declared.unit.Unit.{Unit}
+use Rattle.span_event.specs.declared.unit.Unit.TheVariants.{Microseconds, Nanoseconds}
 use Rattle.span_ledger.specs.declared.rows.CountRow.{CountRow}
 use Rattle.span_table.specs.declared.column.Column.{Column}
 use Rattle.span_table.specs.declared.heads.Head.{Head}
@@ -50,8 +52,16 @@ numbers_tokens rows head =
     number_tokens (codes "rows") rows ++ (number_tokens (codes "runs") head.runs ++ (number_tokens (codes "files") head.files
     ++ (number_tokens (codes "unread") head.unread ++ counts_tokens head.counts)))
 
+-- the unit of all times, where it isn't microseconds
+abbrev pub unit_tokens : Unit → List Token
+unit_tokens Microseconds = []
+unit_tokens Nanoseconds = key (codes "unit") ∷ string (codes "ns") ∷ []
+
+-- what is in the first line behind its unit
+abbrev pub columns_tokens : List Column → ℕ → Head → List Token
+columns_tokens columns rows head =
+    key (codes "columns") ∷ begin_array ∷ (name_tokens columns ++ (end_array ∷ (numbers_tokens rows head ++ end_object ∷ [])))
+
 -- the first line
-abbrev pub head_tokens : List Column → ℕ → Head → List Token
-head_tokens columns rows head =
-    begin_object ∷ key (codes "tracebook") ∷ number (codes "1") ∷ key (codes "columns") ∷ begin_array ∷
-    (name_tokens columns ++ (end_array ∷ (numbers_tokens rows head ++ end_object ∷ [])))
+abbrev pub head_tokens : Unit → List Column → ℕ → Head → List Token
+head_tokens unit columns rows head = begin_object ∷ key (codes "tracebook") ∷ number (codes "1") ∷ (unit_tokens unit ++ columns_tokens columns rows head)

@@ -11,26 +11,29 @@ use crate::shown::Shown;
 use crate::sum::Sum;
 use crate::sums::By;
 use crate::table::Table;
-use span_report::first_line;
+use span_event::Unit;
+use span_report::{first_line, put_unit};
 use std::alloc::{AllocError, Global};
 use std::cmp::Ordering;
 
 const COLUMNS: &str =
     "           dself            self0            self1           dtotal           total0           total1   count0   count1";
 
-/// The text of the comparison of two tables of the same columns: of the keys that are shown those of which a number differs, the greatest
+/// The text of the comparison of two tables of the same columns in a unit: of the keys that are shown those of which a number differs, the greatest
 /// change of this number first. The heads tell of runs or don't.
 pub fn comparison(
     alloc: Global,
+    unit: Unit,
     base: &Table,
     other: &Table,
     shown: &Shown,
     by: By,
     tells_runs: bool,
 ) -> Result<Vec<u8>, AllocError>
-    ensures { IfOk result (λ text. text.items ≡ comparison_of by shown.now tells_runs base.now other.now) }
+    ensures { IfOk result (λ text. text.items ≡ comparison_of unit by shown.now tells_runs base.now other.now) }
 {
     let mut out = first_line(alloc)?;
+    put_unit(&mut out, unit)?;
     put_heads(&mut out, &base.head(), &other.head(), tells_runs)?;
     let found = differences(alloc, base.rows(), other.rows(), shown, by)?;
     put_shown(&mut out, shown, found.shown, found.all)?;

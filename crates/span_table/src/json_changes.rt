@@ -14,17 +14,19 @@ use crate::json_lines::{
 use crate::shown::Shown;
 use crate::sums::By;
 use crate::table::Table;
+use span_event::Unit;
 use std::alloc::{AllocError, Global};
 
-/// What changed between two tables of the same columns, for machines: of the keys that are shown those of which a number differs, the
+/// What changed between two tables of the same columns in a unit, for machines: of the keys that are shown those of which a number differs, the
 /// greatest change of a self time first.
 pub fn json_comparison(
     alloc: Global,
+    unit: Unit,
     base: &Table,
     other: &Table,
     shown: &Shown,
 ) -> Result<Vec<u8>, JsonFault>
-    ensures text { IfOk result (λ text. text.items ≡ json_comparison_of shown.now base.now other.now) }
+    ensures text { IfOk result (λ text. text.items ≡ json_comparison_of unit shown.now base.now other.now) }
     ensures fits { OnOk result (json_changes_fit shown.now base.now other.now ≡ true) }
     ensures too_great { IfErr result (λ fault. fault ≡ TooGreat → json_changes_fit shown.now base.now other.now ≡ false) }
 {
@@ -34,7 +36,7 @@ pub fn json_comparison(
     if !heads_fit(base, other) || !all_fit(&found.changes) {
         return Err(JsonFault::TooGreat);
     }
-    match text_of(alloc, base, other, &found) {
+    match text_of(alloc, unit, base, other, &found) {
         Ok(text) => Ok(text),
         Err(_) => Err(JsonFault::Memory),
     }
@@ -54,17 +56,18 @@ fn all_fit(changes: &[Changed]) -> bool
 
 fn text_of(
     alloc: Global,
+    unit: Unit,
     base: &Table,
     other: &Table,
     found: &ComparedTables,
 ) -> Result<Vec<u8>, AllocError>
     ensures { IfOk result (λ text. text.items
-        ≡ json_heads other.now.columns (length found.now.changes.items) found.now.same base.now.head other.now.head
+        ≡ json_heads unit other.now.columns (length found.now.changes.items) found.now.same base.now.head other.now.head
         ++ flat_map (json_change other.now.columns) found.now.changes.items) }
 {
     let mut out = String::new(alloc);
     let columns = other.columns();
-    put_first(alloc, &mut out, base, other, found)?;
+    put_first(alloc, &mut out, unit, base, other, found)?;
     for change in &found.changes {
         put_change(alloc, &mut out, columns, change)?;
     }
@@ -75,14 +78,15 @@ fn text_of(
 fn put_first(
     alloc: Global,
     out: &mut String,
+    unit: Unit,
     base: &Table,
     other: &Table,
     found: &ComparedTables,
 ) -> Result<(), AllocError>
     ensures { OnOk result (string_bytes out.new ≡ string_bytes out.old
-        ++ json_heads other.now.columns (length found.now.changes.items) found.now.same base.now.head other.now.head) }
+        ++ json_heads unit other.now.columns (length found.now.changes.items) found.now.same base.now.head other.now.head) }
 {
-    put_start(out)?;
+    put_start(out, unit)?;
     put_columns(alloc, out, other.columns())?;
     put_counts(out, found.changes.len(), found.same)?;
     put_heads(out, base.head(), other.head())

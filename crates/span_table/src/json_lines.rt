@@ -12,7 +12,7 @@ use crate::json_rows::{column_names, with_json_row};
 use crate::shown::{Shown, ShownRow};
 use crate::sums::Sums;
 use crate::table::{Row, Table};
-use span_event::ArgValue;
+use span_event::{ArgValue, Unit};
 use span_report::json_text;
 use std::alloc::{AllocError, Global};
 
@@ -25,9 +25,14 @@ pub enum JsonFault {
     TooGreat,
 }
 
-/// The rows of a table that are shown, for machines.
-pub fn json_table(alloc: Global, table: &Table, shown: &Shown) -> Result<Vec<u8>, JsonFault>
-    ensures text { IfOk result (λ text. text.items ≡ json_of shown.now table.now) }
+/// The rows of a table in a unit that are shown, for machines.
+pub fn json_table(
+    alloc: Global,
+    unit: Unit,
+    table: &Table,
+    shown: &Shown,
+) -> Result<Vec<u8>, JsonFault>
+    ensures text { IfOk result (λ text. text.items ≡ json_of unit shown.now table.now) }
     ensures fits { OnOk result (AllFit (shown_table shown.now table.now)) }
     ensures too_great { IfErr result (λ fault. fault ≡ TooGreat → json_fits shown.now table.now ≡ false) }
 {
@@ -37,7 +42,7 @@ pub fn json_table(alloc: Global, table: &Table, shown: &Shown) -> Result<Vec<u8>
     if !head_fits(&table.head()) || !all_fit(&rows) {
         return Err(JsonFault::TooGreat);
     }
-    match text_of(alloc, table, &rows) {
+    match text_of(alloc, unit, table, &rows) {
         Ok(text) => Ok(text),
         Err(_) => Err(JsonFault::Memory),
     }
@@ -85,15 +90,27 @@ fn is_narrow(number: u128) -> bool
     number < 1 << 64
 }
 
-fn text_of(alloc: Global, table: &Table, rows: &[ShownRow]) -> Result<Vec<u8>, AllocError>
+fn text_of(
+    alloc: Global,
+    unit: Unit,
+    table: &Table,
+    rows: &[ShownRow],
+) -> Result<Vec<u8>, AllocError>
     requires { list_all (λ row. fit row.sums) rows.now ≡ true }
     ensures text { IfOk result (λ text. text.items
-        ≡ json_head table.now.columns (length rows.now) table.now.head ++ flat_map (json_line table.now.columns) rows.now) }
+        ≡ json_head unit table.now.columns (length rows.now) table.now.head ++ flat_map (json_line table.now.columns) rows.now) }
     ensures few { OnOk result (length rows.now < 2 ^ 64) }
     ensures keys { OnOk result (All (λ row. KeyFits table.now.columns row.key) rows.now) }
 {
     let mut out = String::new(alloc);
-    put_json_head(alloc, &mut out, table.columns(), rows.len(), table.head())?;
+    put_json_head(
+        alloc,
+        &mut out,
+        unit,
+        table.columns(),
+        rows.len(),
+        table.head(),
+    )?;
     let columns = table.columns();
     let names = column_names(alloc, columns)?;
     let mut out = out.into_bytes();
@@ -107,29 +124,32 @@ fn text_of(alloc: Global, table: &Table, rows: &[ShownRow]) -> Result<Vec<u8>, A
     Ok(out)
 }
 
-/// Appends the first line of a table of so many rows.
+/// Appends the first line of a table of so many rows in a unit.
 #[tactic(auto, using(crate::proofs::JsonPieces::json_head_pieces, std::proofs::Common::append_assoc))]
 pub fn put_json_head(
     alloc: Global,
     out: &mut String,
+    unit: Unit,
     columns: &[Column],
     rows: usize,
     head: Head,
 ) -> Result<(), AllocError>
-    ensures { OnOk result (string_bytes out.new ≡ string_bytes out.old ++ json_head columns.now rows head) }
+    ensures { OnOk result (string_bytes out.new ≡ string_bytes out.old ++ json_head unit columns.now rows head) }
 {
-    put_start(out)?;
+    put_start(out, unit)?;
     put_columns(alloc, out, columns)?;
     put_count(out, rows)?;
     put_head(out, head)?;
     put_end(out)
 }
 
-#[tactic(auto, unfolding(crate::specs::JsonPieces::start_text))]
-pub(crate) fn put_start(out: &mut String) -> Result<(), AllocError>
-    ensures { OnOk result (string_bytes out.new ≡ string_bytes out.old ++ start_text) }
+pub(crate) fn put_start(out: &mut String, unit: Unit) -> Result<(), AllocError>
+    ensures { OnOk result (string_bytes out.new ≡ string_bytes out.old ++ start_text unit) }
 {
-    out.push_str("{\"tracebook\":1,\"columns\":")
+    match unit {
+        Unit::Microseconds => out.push_str("{\"tracebook\":1,\"columns\":"),
+        Unit::Nanoseconds => out.push_str("{\"tracebook\":1,\"unit\":\"ns\",\"columns\":"),
+    }
 }
 
 #[tactic(auto, unfolding(crate::specs::JsonPieces::count_text))]

@@ -2,7 +2,6 @@
 ghost use Rattle.std.specs.Prelude.{◌≡◌, ◌++◌, string_bytes, take, flat_map, OnOk, IfOk};
 ghost use Rattle.std.specs.List.{IsDistinct};
 ghost use Rattle.std.specs.Ordering.{eq_by_cmp};
-ghost use Rattle.span_event.specs.declared.unit.Unit.TheVariants.{Microseconds};
 ghost use Rattle.span_report.specs.Report.{head_lines};
 ghost use Rattle.span_table.specs.Pieces.{sums_text};
 ghost use Rattle.span_table.specs.Ranking.{column_line, ranked_line, ranking_of};
@@ -14,24 +13,26 @@ use crate::lines::{put_counts, put_right, put_runs, put_seals, put_shown, put_ti
 use crate::shown::{Shown, ShownRow};
 use crate::sums::{By, Sums};
 use crate::table::{Row, Table};
-use span_report::first_line;
+use span_event::Unit;
+use span_report::{first_line, put_unit};
 use std::alloc::{AllocError, Global};
 use std::cmp::Ordering;
 
 const COLUMNS: &str = "            self            total    count";
 
-/// The text of the ranking of a table, with at most so many of the rows that are shown. Its head tells of runs or doesn't.
+/// The text of the ranking of a table in a unit, with at most so many of the rows that are shown. Its head tells of runs or doesn't.
 pub fn ranking(
     alloc: Global,
+    unit: Unit,
     table: &Table,
     shown: &Shown,
     most: u32,
     by: By,
     tells_runs: bool,
 ) -> Result<Vec<u8>, AllocError>
-    ensures { IfOk result (λ text. text.items ≡ ranking_of most by shown.now tells_runs table.now) }
+    ensures { IfOk result (λ text. text.items ≡ ranking_of unit most by shown.now tells_runs table.now) }
 {
-    let mut out = head(alloc, &table.head().counts)?;
+    let mut out = head(alloc, unit, &table.head().counts)?;
     put_runs(&mut out, &table.head(), tells_runs)?;
     let rows = shown.rows(alloc, table.rows())?;
     put_shown(
@@ -46,12 +47,12 @@ pub fn ranking(
     Ok(out.into_bytes())
 }
 
-// The lines that every report begins with, in microseconds, where none says the unit.
-#[tactic(auto, unfolding(span_report::specs::Lines::unit_line))]
-fn head(alloc: Global, counts: &HeadCounts) -> Result<String, AllocError>
-    ensures { IfOk result (λ text. string_bytes text ≡ head_lines Microseconds counts.now) }
+// The lines that every report begins with.
+fn head(alloc: Global, unit: Unit, counts: &HeadCounts) -> Result<String, AllocError>
+    ensures { IfOk result (λ text. string_bytes text ≡ head_lines unit counts.now) }
 {
     let mut out = first_line(alloc)?;
+    put_unit(&mut out, unit)?;
     put_counts(&mut out, counts)?;
     put_seals(&mut out, counts.seals)?;
     Ok(out)

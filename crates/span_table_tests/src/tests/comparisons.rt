@@ -1,6 +1,7 @@
 //! The text of a comparison.
 
 use super::tabled::{shown, tabled};
+use span_event::Unit;
 use span_table::{By, comparison, json_comparison};
 use std::test::Fail;
 
@@ -40,16 +41,47 @@ shown 2 of 4
 same 0
 "#;
 
+const IN_NANOSECONDS: &str = r#"tracebook 1
+unit nanoseconds
+base events 3 refused 0 skipped 0 queries 0
+events 3 refused 0 skipped 0 queries 0
+shown 1 of 4
+           dself            self0            self1           dtotal           total0           total1   count0   count1 process name
+              -5                5                0               -5                5                0        1        0 - "gone"
+same 0
+"#;
+
+const LINES_IN_NANOSECONDS: &str =
+    r#"{"tracebook":1,"unit":"ns","columns":["process","name"],"rows":1,"same":0,"base":{"runs":1,"files":3,"unread":1,"events":3,"refused":0,"skipped":0,"queries":0,"seals":0},"other":{"runs":1,"files":3,"unread":1,"events":3,"refused":0,"skipped":0,"queries":0,"seals":0}}
+{"name":"gone","count0":1,"count1":0,"total0":5,"total1":0,"self0":5,"self1":0}
+"#;
+
 #[test]
 fn rows_are_matched_by_their_keys(rt: HostRuntime) -> Result<(), Fail> {
     let alloc = rt.alloc();
     let base = tabled(alloc, BEFORE, &["process", "name"]).ok_or("no table")?;
     let other = tabled(alloc, AFTER, &["process", "name"]).ok_or("no table")?;
     let all = shown(alloc, &[], &[])?;
-    let text = comparison(alloc, &base, &other, &all, By::SelfTime, false)?;
+    let text = comparison(
+        alloc,
+        Unit::Microseconds,
+        &base,
+        &other,
+        &all,
+        By::SelfTime,
+        false,
+    )?;
     assert!(rt; text.as_slice() == CHANGED.as_bytes());
     let some = shown(alloc, &["n"], &["a"])?;
-    let skipped = comparison(alloc, &base, &other, &some, By::Count, false)?;
+    let skipped = comparison(
+        alloc,
+        Unit::Microseconds,
+        &base,
+        &other,
+        &some,
+        By::Count,
+        false,
+    )?;
     assert!(rt; skipped.as_slice() == SKIPPED.as_bytes());
     Ok(())
 }
@@ -59,10 +91,39 @@ fn a_line_for_each_row_that_differs(rt: HostRuntime) -> Result<(), Fail> {
     let alloc = rt.alloc();
     let base = tabled(alloc, BEFORE, &["process", "name"]).ok_or("no table")?;
     let other = tabled(alloc, AFTER, &["process", "name"]).ok_or("no table")?;
-    let Ok(text) = json_comparison(alloc, &base, &other, &shown(alloc, &[], &[])?) else {
+    let Ok(text) = json_comparison(
+        alloc,
+        Unit::Microseconds,
+        &base,
+        &other,
+        &shown(alloc, &[], &[])?,
+    ) else {
         return Err(Fail::from("no text"));
     };
     assert!(rt; text.as_slice() == LINES.as_bytes());
+    Ok(())
+}
+
+#[test]
+fn tables_in_nanoseconds(rt: HostRuntime) -> Result<(), Fail> {
+    let alloc = rt.alloc();
+    let base = tabled(alloc, BEFORE, &["process", "name"]).ok_or("no table")?;
+    let other = tabled(alloc, AFTER, &["process", "name"]).ok_or("no table")?;
+    let gone = shown(alloc, &["gone"], &[])?;
+    let text = comparison(
+        alloc,
+        Unit::Nanoseconds,
+        &base,
+        &other,
+        &gone,
+        By::SelfTime,
+        false,
+    )?;
+    assert!(rt; text.as_slice() == IN_NANOSECONDS.as_bytes());
+    let Ok(lines) = json_comparison(alloc, Unit::Nanoseconds, &base, &other, &gone) else {
+        return Err(Fail::from("no text"));
+    };
+    assert!(rt; lines.as_slice() == LINES_IN_NANOSECONDS.as_bytes());
     Ok(())
 }
 
@@ -73,7 +134,15 @@ fn a_refused_growth_leaves_no_part_of_a_comparison(rt: HostRuntime) -> Result<()
     if let Some(base) = tabled(alloc, BEFORE, &["process", "name"])
         && let Some(other) = tabled(alloc, AFTER, &["process", "name"])
         && let Ok(all) = shown(alloc, &[], &[])
-        && let Ok(text) = comparison(alloc, &base, &other, &all, By::SelfTime, false)
+        && let Ok(text) = comparison(
+            alloc,
+            Unit::Microseconds,
+            &base,
+            &other,
+            &all,
+            By::SelfTime,
+            false,
+        )
     {
         assert!(rt; text.as_slice() == CHANGED.as_bytes());
     }

@@ -1,6 +1,7 @@
 //! Tables as JSON Lines.
 
 use super::tabled::{shown, tabled};
+use span_event::Unit;
 use span_table::{By, JsonFault, Shown, Table, json_table, ranking};
 use std::alloc::{AllocError, AllocGlobal, Global};
 use std::process::Abort;
@@ -22,13 +23,19 @@ const SHOWN: &str =
 {"name":"q\"","args.detail":{},"count":1,"total":3,"self":3}
 "#;
 
+const IN_NANOSECONDS: &str =
+    r#"{"tracebook":1,"unit":"ns","columns":["name","args.detail"],"rows":1,"runs":1,"files":3,"unread":1,"events":4,"refused":0,"skipped":0,"queries":0,"seals":0}
+{"name":"q\"","args.detail":{},"count":1,"total":3,"self":3}
+"#;
+
 fn expect_lines(
     rt: &(impl Abort + AllocGlobal),
+    unit: Unit,
     table: &Table,
     shown: &Shown,
     want: &str,
 ) -> Result<(), Fail> {
-    let Ok(text) = json_table(rt.alloc(), table, shown) else {
+    let Ok(text) = json_table(rt.alloc(), unit, table, shown) else {
         return Err(Fail::from("no text"));
     };
     assert!(rt; text.as_slice() == want.as_bytes());
@@ -39,8 +46,10 @@ fn expect_lines(
 fn a_line_for_each_row(rt: HostRuntime) -> Result<(), Fail> {
     let alloc = rt.alloc();
     let table = tabled(alloc, EVENTS, &["name", "detail"]).ok_or("no table")?;
-    expect_lines(&rt, &table, &shown(alloc, &[], &[])?, LINES)?;
-    expect_lines(&rt, &table, &shown(alloc, &["q"], &["x"])?, SHOWN)
+    let (all, some) = (shown(alloc, &[], &[])?, shown(alloc, &["q"], &["x"])?);
+    expect_lines(&rt, Unit::Microseconds, &table, &all, LINES)?;
+    expect_lines(&rt, Unit::Microseconds, &table, &some, SHOWN)?;
+    expect_lines(&rt, Unit::Nanoseconds, &table, &some, IN_NANOSECONDS)
 }
 
 // So many spans that are as long as one can be: 2^64 is 2,048 of these lengths and 2,048.
@@ -71,12 +80,20 @@ fn the_greatest_numbers(rt: HostRuntime) -> Result<(), Fail> {
     let all = shown(alloc, &[], &[])?;
     let greatest = long_spans(alloc, 2_048, 2_047)?;
     let fits = tabled(alloc, greatest.as_str(), &["name"]).ok_or("no table")?;
-    expect_lines(&rt, &fits, &all, GREATEST)?;
+    expect_lines(&rt, Unit::Microseconds, &fits, &all, GREATEST)?;
     let greater = long_spans(alloc, 2_048, 2_048)?;
     let table = tabled(alloc, greater.as_str(), &["name"]).ok_or("no table")?;
-    let refused = json_table(alloc, &table, &all);
+    let refused = json_table(alloc, Unit::Microseconds, &table, &all);
     assert!(rt; matches!(refused, Err(JsonFault::TooGreat)));
-    let whole = ranking(alloc, &table, &all, 9, By::SelfTime, false)?;
+    let whole = ranking(
+        alloc,
+        Unit::Microseconds,
+        &table,
+        &all,
+        9,
+        By::SelfTime,
+        false,
+    )?;
     assert!(rt; whole.as_slice() == TOO_GREAT.as_bytes());
     Ok(())
 }
@@ -88,7 +105,7 @@ fn a_refused_growth_leaves_no_part_of_the_lines(rt: HostRuntime) -> Result<(), F
     if let Some(table) = tabled(alloc, EVENTS, &["name", "detail"])
         && let Ok(all) = shown(alloc, &[], &[])
     {
-        match json_table(alloc, &table, &all) {
+        match json_table(alloc, Unit::Microseconds, &table, &all) {
             Ok(text) => assert!(rt; text.as_slice() == LINES.as_bytes()),
             Err(fault) => assert_eq!(rt; fault, JsonFault::Memory),
         }

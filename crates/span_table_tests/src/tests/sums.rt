@@ -1,6 +1,7 @@
 //! Runs that are added as they come.
 
 use super::tabled::{columns_of, shown};
+use span_event::Unit;
 use span_keyed_tracks::HashKeys;
 use span_ledger::Ledger;
 use span_table::{By, TableSum, json_table, ranking};
@@ -58,7 +59,12 @@ fn of_two(alloc: Global, names: &[&str], first: &str, second: &str) -> Option<Ta
 
 fn expect_lines(rt: &(impl Abort + AllocGlobal), sum: TableSum, want: &str) -> Result<(), Fail> {
     let table = sum.into_table()?;
-    let Ok(text) = json_table(rt.alloc(), &table, &shown(rt.alloc(), &[], &[])?) else {
+    let Ok(text) = json_table(
+        rt.alloc(),
+        Unit::Microseconds,
+        &table,
+        &shown(rt.alloc(), &[], &[])?,
+    ) else {
         return Err(Fail::from("no text"));
     };
     assert!(rt; text.as_slice() == want.as_bytes());
@@ -106,6 +112,7 @@ fn twenty_thousand_runs(rt: HostRuntime) -> Result<(), Fail> {
     assert!(rt; table.head().runs == 20_000 && table.head().files == 20_000);
     let text = ranking(
         alloc,
+        Unit::Microseconds,
         &table,
         &shown(alloc, &[], &[])?,
         9,
@@ -122,7 +129,7 @@ fn a_refused_growth_leaves_no_part_of_a_sum(rt: HostRuntime) -> Result<(), Fail>
     if let Some(sum) = of_two(rt.alloc(), &names, FIRST, SECOND)
         && let Ok(table) = sum.into_table()
         && let Ok(all) = shown(rt.alloc(), &[], &[])
-        && let Ok(text) = json_table(rt.alloc(), &table, &all)
+        && let Ok(text) = json_table(rt.alloc(), Unit::Microseconds, &table, &all)
     {
         assert!(rt; text.as_slice() == BY_DETAIL.as_bytes());
     }

@@ -21,7 +21,7 @@ loop-shown-preserved c =
     subst (λ (cs : List Column). KeyFits cs row.key) c.columns-columns.ensures
     (subst (λ (r : Row). KeyFits c.columns-columns.result.now r.key) c.shown.view_is c.in_ok-line.ensures.key_fits) in
     let f : Row → Bytes = json_line columns in
-    let head = json_head columns (length rows) c.args.table.now.head in
+    let head = json_head c.args.unit columns (length rows) c.args.table.now.head in
     let printed : c.in_ok-line.line.items ≡ c.clear.new.self.items ++ f row =
     subst (λ (cs : List Column). c.in_ok-line.line.items ≡ c.clear.new.self.items ++ json_line cs row) c.columns-columns.ensures
     (subst (λ (r : Row). c.in_ok-line.line.items ≡ c.clear.new.self.items ++ json_line c.columns-columns.result.now r) c.shown.view_is c.in_ok-line.ensures.line) in
