@@ -4,6 +4,7 @@ use Rattle.std.proofs.lemmas.List.{append_cancel_right}
 use Rattle.json.specs.Lex.{tokens}
 use Rattle.json.specs.Print.{print}
 use Rattle.span_event.specs.Text.{Bytes}
+use Rattle.span_event.specs.declared.unit.Unit.{Unit as TimeUnit}
 use Rattle.span_table.specs.declared.column.Column.{Column}
 use Rattle.span_table.specs.declared.heads.Head.{Head}
 use Rattle.span_table.specs.declared.table.Row.{Row}
@@ -15,8 +16,8 @@ use Rattle.span_parts.specs.First.{MayBegin}
 use Rattle.span_parts.specs.Rows.{IsRowLine}
 
 -- the tokens of a first line are those that were printed
-pub tokens-first : (columns : List Column) (rows : ℕ) (head : Head) (line : Bytes) → MayBegin columns rows head → line ++ 10 ∷ [] ≡ json_head columns rows head → tokens line ≡ head_tokens columns rows head
-tokens-first columns rows head line may is = ap tokens (append_cancel_right line (print (head_tokens columns rows head)) (10 ∷ []) (is ∙ json_head-print columns rows head)) ∙ tokens-head columns rows head may.few may.head_fits
+pub tokens-first : (unit : TimeUnit) (columns : List Column) (rows : ℕ) (head : Head) (line : Bytes) → MayBegin columns rows head → line ++ 10 ∷ [] ≡ json_head unit columns rows head → tokens line ≡ head_tokens unit columns rows head
+tokens-first unit columns rows head line may is = ap tokens (append_cancel_right line (print (head_tokens unit columns rows head)) (10 ∷ []) (is ∙ json_head-print unit columns rows head)) ∙ tokens-head unit columns rows head may.few may.head_fits
 
 -- and those of the line of a row
 pub tokens-line : (columns : List Column) (row : Row) (line : Bytes) → IsRowLine columns line row → tokens line ≡ row_tokens columns row

@@ -4,6 +4,7 @@ use Rattle.std.specs.Prelude.{flat_map}
 use Rattle.std.proofs.lemmas.List.{map-append}
 use Rattle.std.proofs.lemmas.List.Elements.{All-cons, All-nil, All-push}
 use Rattle.span_event.specs.Text.{Bytes}
+use Rattle.span_event.specs.declared.unit.Unit.{Unit as TimeUnit}
 use Rattle.span_table.specs.declared.column.Column.{Column}
 use Rattle.span_table.specs.declared.table.Row.{Row}
 use Rattle.span_table.specs.Adding.{add_tables, keyed_rows, picked, with_columns, with_head, with_row}
@@ -23,17 +24,17 @@ with_rows-columns places [] table = refl
 with_rows-columns places (row ∷ rows) table = with_rows-columns places rows (with_row table (row_at places row))
 
 -- and so does a part
-pub IsByThese-added : (columns : List Column) (places : List ℕ) (text : Bytes) (old new : SpanTable) → IsByThese columns places old → IsAdded columns places text old new → IsByThese columns places new
-IsByThese-added columns places text old new by added = record {
+pub IsByThese-added : (unit : TimeUnit) (columns : List Column) (places : List ℕ) (text : Bytes) (old new : SpanTable) → IsByThese columns places old → IsAdded unit columns places text old new → IsByThese columns places new
+IsByThese-added unit columns places text old new by added = record {
   fit = by.fit;
   by = ap (λ (t : SpanTable). t.columns) added.sum ∙ with_rows-columns places added.part.rows (with_head old added.part.head) ∙ by.by;
 }
 
-AreParts-push : (texts : List Bytes) (parts : List SpanTable) (text : Bytes) (part : SpanTable) → AreParts texts parts → IsPart text part → AreParts (texts ++ text ∷ []) (parts ++ part ∷ [])
-AreParts-push [] [] text part are is = (is, tt)
-AreParts-push [] (other ∷ parts) text part are is = absurd are
-AreParts-push (other ∷ texts) [] text part are is = absurd are
-AreParts-push (other ∷ texts) (one ∷ parts) text part are is = (are.0, AreParts-push texts parts text part are.1 is)
+AreParts-push : (unit : TimeUnit) (texts : List Bytes) (parts : List SpanTable) (text : Bytes) (part : SpanTable) → AreParts unit texts parts → IsPart unit text part → AreParts unit (texts ++ text ∷ []) (parts ++ part ∷ [])
+AreParts-push unit [] [] text part are is = (is, tt)
+AreParts-push unit [] (other ∷ parts) text part are is = absurd are
+AreParts-push unit (other ∷ texts) [] text part are is = absurd are
+AreParts-push unit (other ∷ texts) (one ∷ parts) text part are is = (are.0, AreParts-push unit texts parts text part are.1 is)
 
 -- a sum of tables, with a part
 added-more : (columns : List Column) (places : List ℕ) (tables : List SpanTable) (old part : SpanTable) → old ≡ add_tables columns tables →
@@ -43,22 +44,23 @@ added-more columns places tables old part is =
     ∙ ap (λ (t : SpanTable). add_tables t.columns (t ∷ with_columns places part ∷ [])) is
     ∙ add_tables-more columns tables (with_columns places part)
 
-pub TakesPart-added : (old : PartSum) (text : Bytes) (new : SpanTable) → IsAdded old.columns old.places text old.sum new → TakesPart text old (record { columns = old.columns; places = old.places; sum = new })
+pub TakesPart-added : (old : PartSum) (text : Bytes) (new : SpanTable) → IsAdded old.unit old.columns old.places text old.sum new → TakesPart text old (record { unit = old.unit; columns = old.columns; places = old.places; sum = new })
 TakesPart-added old text new added = record {
+  unit = refl;
   columns = refl;
   places = refl;
   sums = λ texts sums. record {
     parts = sums.parts ++ added.part ∷ [];
-    are = AreParts-push texts sums.parts text added.part sums.are added.is;
+    are = AreParts-push old.unit texts sums.parts text added.part sums.are added.is;
     columns = All-push (λ (part : SpanTable). part.columns ≡ old.columns) sums.parts added.part sums.columns added.by;
     adds = added.sum ∙ added-more (picked old.places old.columns) old.places (map (with_columns old.places) sums.parts) old.sum added.part sums.adds
         ∙ ap (add_tables (picked old.places old.columns)) (sym (map-append (with_columns old.places) sums.parts (added.part ∷ [])));
   };
 }
 
-pub TakesFirst-added : (wanted columns : List Column) (places : List ℕ) (text : Bytes) (old new : SpanTable) → AreAt places (chosen wanted columns) columns → old ≡ add_tables (chosen wanted columns) [] →
-    IsAdded columns places text old new → TakesFirst wanted text (record { columns = columns; places = places; sum = new })
-TakesFirst-added wanted columns places text old new at none added = record {
+pub TakesFirst-added : (unit : TimeUnit) (wanted columns : List Column) (places : List ℕ) (text : Bytes) (old new : SpanTable) → AreAt places (chosen wanted columns) columns → old ≡ add_tables (chosen wanted columns) [] →
+    IsAdded unit columns places text old new → TakesFirst wanted text (record { unit = unit; columns = columns; places = places; sum = new })
+TakesFirst-added unit wanted columns places text old new at none added = record {
   chooses = at;
   sums = record {
     parts = added.part ∷ [];
@@ -68,25 +70,28 @@ TakesFirst-added wanted columns places text old new at none added = record {
   };
 }
 
--- what refuses a part of other columns
-pub PartFails-others : (own columns : List Column) (text : Bytes) (fault : PartFault) → columns ≢ own → RefusesOthers columns text fault → PartFails own text fault
-PartFails-others own columns text NotTable differ fails = fails
-PartFails-others own columns text OtherColumns differ fails = record { part = fails.part; is = fails.is; other = λ same. differ (sym fails.by ∙ same) }
-PartFails-others own columns text Memory differ fails = tt
-PartFails-others own columns text TooMany differ fails = tt
+-- what refuses a part in another unit or by other columns
+pub PartFails-others : (unit second : TimeUnit) (own columns : List Column) (text : Bytes) (fault : PartFault) → (second ≡ unit → columns ≢ own) → RefusesOthers second columns text fault
+    → PartFails unit own text fault
+PartFails-others unit second own columns text NotTable differ fails = fails
+PartFails-others unit second own columns text OtherColumns differ fails =
+    record { own = second; part = fails.part; is = fails.is; other = λ one same. differ one (sym fails.by ∙ same) }
+PartFails-others unit second own columns text Memory differ fails = tt
+PartFails-others unit second own columns text TooMany differ fails = tt
 
-pub FirstFails-others : (wanted columns : List Column) (text : Bytes) (fault : PartFault) → ((places : List ℕ) → AreAt places (chosen wanted columns) columns → ⊥) → RefusesOthers columns text fault → FirstFails wanted text fault
-FirstFails-others wanted columns text NotTable none fails = fails
-FirstFails-others wanted columns text OtherColumns none fails = record { part = fails.part; is = fails.is; lacks = λ places at. none places (subst (λ l. AreAt places (chosen wanted l) l) fails.by at) }
-FirstFails-others wanted columns text Memory none fails = tt
-FirstFails-others wanted columns text TooMany none fails = tt
+pub FirstFails-others : (unit : TimeUnit) (wanted columns : List Column) (text : Bytes) (fault : PartFault) → ((places : List ℕ) → AreAt places (chosen wanted columns) columns → ⊥)
+    → RefusesOthers unit columns text fault → FirstFails wanted text fault
+FirstFails-others unit wanted columns text NotTable none fails = fails
+FirstFails-others unit wanted columns text OtherColumns none fails = record { unit = unit; part = fails.part; is = fails.is; lacks = λ places at. none places (subst (λ l. AreAt places (chosen wanted l) l) fails.by at) }
+FirstFails-others unit wanted columns text Memory none fails = tt
+FirstFails-others unit wanted columns text TooMany none fails = tt
 
 -- what refuses a sum
-pub PartFails-sum : (own : List Column) (text : Bytes) (fault : PartFault) → SumFails text fault → PartFails own text fault
-PartFails-sum own text NotTable fails = fails
-PartFails-sum own text OtherColumns fails = absurd fails
-PartFails-sum own text Memory fails = tt
-PartFails-sum own text TooMany fails = tt
+pub PartFails-sum : (unit : TimeUnit) (own : List Column) (text : Bytes) (fault : PartFault) → SumFails text fault → PartFails unit own text fault
+PartFails-sum unit own text NotTable fails = fails
+PartFails-sum unit own text OtherColumns fails = absurd fails
+PartFails-sum unit own text Memory fails = tt
+PartFails-sum unit own text TooMany fails = tt
 
 pub FirstFails-sum : (wanted : List Column) (text : Bytes) (fault : PartFault) → SumFails text fault → FirstFails wanted text fault
 FirstFails-sum wanted text NotTable fails = fails

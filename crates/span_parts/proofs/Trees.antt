@@ -2,6 +2,7 @@
 use Rattle.std.proofs.Common.{◌≡◌, ℕ, List, [], ◌∷◌, ◌++◌, map, refl, sym, ap, ap₂, subst, ◌∙◌}
 use Rattle.std.specs.Prelude.{flat_map}
 use Rattle.span_event.specs.Text.{Bytes}
+use Rattle.span_event.specs.declared.unit.Unit.{Unit as TimeUnit}
 use Rattle.span_table.specs.declared.column.Column.{Column}
 use Rattle.span_table.specs.Adding.{add_tables, picked, with_columns}
 use Rattle.span_table.specs.Json.{text_of}
@@ -34,27 +35,27 @@ sum-runs columns own places runs at =
 
 mutual
   pub trees-lose_nothing : TreesLoseNothing
-  trees-lose_nothing columns (of_runs runs) text printed = printed
-  trees-lose_nothing columns (of_parts parts) text (texts, sum, each, sums, at, print) =
-      let tables = parts-runs sum.columns parts texts sums.parts each sums.are in
-      subst (IsPrint text)
+  trees-lose_nothing unit columns (of_runs runs) text printed = printed
+  trees-lose_nothing unit columns (of_parts parts) text (texts, sum, each, sums, at, one, print) =
+      let tables = parts-runs unit sum.unit sum.columns parts texts sums.parts each sums.are in
+      subst (IsPrint unit text)
       (sums.adds ∙ ap (λ l. add_tables (picked sum.places sum.columns) (map (with_columns sum.places) l)) tables
       ∙ sum-runs columns sum.columns sum.places (runs_each parts) at ∙ ap (table_of columns) (runs_each-all parts))
       print
 
   -- the parts are the tables of the runs of each tree
-  parts-runs : (columns : List Column) (parts : Trees) (texts : List Bytes) (tables : List SpanTable) → ArePrinted columns parts texts → AreParts texts tables → tables ≡ map (table_of columns) (runs_each parts)
-  parts-runs columns no_trees [] [] printed are = refl
-  parts-runs columns no_trees [] (table ∷ tables) printed are = absurd are
-  parts-runs columns no_trees (text ∷ texts) tables printed are = absurd printed
-  parts-runs columns (tree part parts) [] tables printed are = absurd printed
-  parts-runs columns (tree part parts) (text ∷ texts) [] printed are = absurd are
-  parts-runs columns (tree part parts) (text ∷ texts) (table ∷ tables) printed are =
+  parts-runs : (unit second : TimeUnit) (columns : List Column) (parts : Trees) (texts : List Bytes) (tables : List SpanTable) → ArePrinted unit columns parts texts → AreParts second texts tables → tables ≡ map (table_of columns) (runs_each parts)
+  parts-runs unit second columns no_trees [] [] printed are = refl
+  parts-runs unit second columns no_trees [] (table ∷ tables) printed are = absurd are
+  parts-runs unit second columns no_trees (text ∷ texts) tables printed are = absurd printed
+  parts-runs unit second columns (tree part parts) [] tables printed are = absurd printed
+  parts-runs unit second columns (tree part parts) (text ∷ texts) [] printed are = absurd are
+  parts-runs unit second columns (tree part parts) (text ∷ texts) (table ∷ tables) printed are =
       ap₂ (λ (t : SpanTable) l. t ∷ l)
-      (part-table_of columns (runs_in part) text table are.0 (trees-lose_nothing columns part text printed.0))
-      (parts-runs columns parts texts tables printed.1 are.1)
+      (part-table_of columns (runs_in part) second unit text table are.0 (trees-lose_nothing unit columns part text printed.0)).1
+      (parts-runs unit second columns parts texts tables printed.1 are.1)
 
 -- so two trees of the same runs are printed alike
 pub trees-print_alike : TreesPrintAlike
-trees-print_alike columns one other text told moved first second =
-    (trees-lose_nothing columns one text first).printed ∙ ap text_of (table_of-moved columns (runs_in one) (runs_in other) moved) ∙ sym (trees-lose_nothing columns other told second).printed
+trees-print_alike unit columns one other text told moved first second =
+    (trees-lose_nothing unit columns one text first).printed ∙ ap (text_of unit) (table_of-moved columns (runs_in one) (runs_in other) moved) ∙ sym (trees-lose_nothing unit columns other told second).printed

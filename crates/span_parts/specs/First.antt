@@ -2,6 +2,7 @@
 use Rattle.std.specs.Prelude.{◌≡◌, ℕ, ◌<◌, ◌^◌, true, List, [], ◌∷◌, ◌++◌, flat_map, length, Option, Some, None}
 use Rattle.std.specs.Str.{IsUtf8}
 use Rattle.span_event.specs.Text.{Bytes}
+use Rattle.span_event.specs.declared.unit.Unit.{Unit as TimeUnit}
 use Rattle.span_table.specs.declared.column.Column.{Column}
 use Rattle.span_table.specs.declared.heads.Head.{Head}
 use Rattle.span_table.specs.Json.{head_fits, json_head, json_line}
@@ -18,19 +19,20 @@ pub record MayBegin (columns : List Column) (rows : ℕ) (head : Head) : Type 0 
 -- the line, without its end, is this one
 pub record IsFirstLine (line : Bytes) (first : FirstLine) : Type 0 where
   pub may : MayBegin first.columns.items first.rows first.head
-  pub printed : line ++ 10 ∷ [] ≡ json_head first.columns.items first.rows first.head
+  pub printed : line ++ 10 ∷ [] ≡ json_head first.unit first.columns.items first.rows first.head
 
--- these are the columns, the number of rows and the head of a first line
-abbrev pub Says : List Column → ℕ → Head → Option FirstLine → Type 0
-Says columns rows head None = ⊥
-Says columns rows head (Some first) = (first.columns.items ≡ columns) × (first.rows ≡ rows) × (first.head ≡ head)
+-- these are the unit, the columns, the number of rows and the head of a first line
+abbrev pub Says : TimeUnit → List Column → ℕ → Head → Option FirstLine → Type 0
+Says unit columns rows head None = ⊥
+Says unit columns rows head (Some first) = (first.unit ≡ unit) × (first.columns.items ≡ columns) × (first.rows ≡ rows) × (first.head ≡ head)
 
--- A text begins with this line, and this is behind it. Any part with this text has these columns, this head and so many rows, whose
--- lines are the rest.
+-- A text begins with this line, and this is behind it. Any part with this text has this unit, these columns, this head and so many
+-- rows, whose lines are the rest.
 pub record Begins (text : Bytes) (first : FirstLine) (rest : Bytes) : Type 0 where
   pub utf8 : IsUtf8 text
   pub may : MayBegin first.columns.items first.rows first.head
-  pub printed : text ≡ json_head first.columns.items first.rows first.head ++ rest
-  pub columns : (part : SpanTable) → IsPart text part → part.columns ≡ first.columns.items
-  pub rows : (part : SpanTable) → IsPart text part → length part.rows ≡ first.rows
-  pub lines : (part : SpanTable) → IsPart text part → rest ≡ flat_map (json_line part.columns) part.rows
+  pub printed : text ≡ json_head first.unit first.columns.items first.rows first.head ++ rest
+  pub unit : (unit : TimeUnit) (part : SpanTable) → IsPart unit text part → unit ≡ first.unit
+  pub columns : (unit : TimeUnit) (part : SpanTable) → IsPart unit text part → part.columns ≡ first.columns.items
+  pub rows : (unit : TimeUnit) (part : SpanTable) → IsPart unit text part → length part.rows ≡ first.rows
+  pub lines : (unit : TimeUnit) (part : SpanTable) → IsPart unit text part → rest ≡ flat_map (json_line part.columns) part.rows

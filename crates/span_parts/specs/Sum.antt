@@ -2,6 +2,7 @@
 use Rattle.std.specs.Prelude.{◌≡◌, ◌≢◌, ℕ, List, [], ◌∷◌, ◌++◌, All, map, slice_get, Option, Some, None}
 use Rattle.std.specs.Global.{Vec}
 use Rattle.span_event.specs.Text.{Bytes}
+use Rattle.span_event.specs.declared.unit.Unit.{Unit as TimeUnit}
 use Rattle.span_parts.specs.declared.fault.PartFault.{PartFault}
 use Rattle.span_parts.specs.declared.fault.PartFault.TheVariants.{NotTable, OtherColumns, Memory, TooMany}
 use Rattle.span_table.specs.declared.column.Column.{Column}
@@ -10,8 +11,9 @@ use Rattle.span_table.specs.Printed.{AreColumns, IsPart}
 use Rattle.span_table.specs.Tables.{SpanTable}
 use Rattle.span_parts.specs.Rows.{with_rows}
 
--- what a sum of parts is seen as: the columns of each part, which of them the sum has, and the sum
+-- what a sum of parts is seen as: the unit and the columns of each part, which of these the sum has, and the sum
 pub record PartSum : Type 0 where
+  pub unit : TimeUnit
   pub columns : List Column
   pub places : List ℕ
   pub sum : SpanTable
@@ -34,21 +36,22 @@ AreAt places wanted columns = map (slice_get columns) places ≡ map Some wanted
 abbrev pub Chooses : List Column → PartSum → Type 0
 Chooses wanted sum = AreAt sum.places (chosen wanted sum.columns) sum.columns
 
--- each text is a part, of the table at its place
-abbrev pub AreParts : List Bytes → List SpanTable → Type 0
-AreParts [] [] = Unit {0}
-AreParts (text ∷ texts) (part ∷ parts) = IsPart text part × AreParts texts parts
-AreParts texts parts = ⊥
+-- each text is a part in this unit, of the table at its place
+abbrev pub AreParts : TimeUnit → List Bytes → List SpanTable → Type 0
+AreParts unit [] [] = Unit {0}
+AreParts unit (text ∷ texts) (part ∷ parts) = IsPart unit text part × AreParts unit texts parts
+AreParts unit texts parts = ⊥
 
 -- the parts of these texts are added, each by the columns of the sum
 pub record SumsParts (texts : List Bytes) (sum : PartSum) : Type 0 where
   pub parts : List SpanTable
-  pub are : AreParts texts parts
+  pub are : AreParts sum.unit texts parts
   pub columns : All (λ part. part.columns ≡ sum.columns) parts
   pub adds : sum.sum ≡ add_tables (picked sum.places sum.columns) (map (with_columns sum.places) parts)
 
--- one sum is that of another's parts and of one part more, by the same columns
+-- one sum is that of another's parts and of one part more, in the same unit and by the same columns
 pub record TakesPart (text : Bytes) (old new : PartSum) : Type 0 where
+  pub unit : new.unit ≡ old.unit
   pub columns : new.columns ≡ old.columns
   pub places : new.places ≡ old.places
   pub sums : (texts : List Bytes) → SumsParts texts old → SumsParts (texts ++ text ∷ []) new
@@ -58,32 +61,35 @@ pub record TakesFirst (wanted : List Column) (text : Bytes) (sum : PartSum) : Ty
   pub chooses : Chooses wanted sum
   pub sums : SumsParts (text ∷ []) sum
 
--- the sum of no parts, by the same columns as another
+-- the sum of no parts, in the same unit and by the same columns as another
 pub record TakesNone (other sum : PartSum) : Type 0 where
+  pub unit : sum.unit ≡ other.unit
   pub columns : sum.columns ≡ other.columns
   pub places : sum.places ≡ other.places
   pub sums : SumsParts [] sum
 
 -- the text is of no table
 abbrev pub IsNoPart : Bytes → Type 0
-IsNoPart text = (part : SpanTable) → IsPart text part → ⊥
+IsNoPart text = (unit : TimeUnit) (part : SpanTable) → IsPart unit text part → ⊥
 
--- the text is of a table by these columns
-pub record HasColumns (columns : List Column) (text : Bytes) : Type 0 where
+-- the text is of a table in this unit, by these columns
+pub record HasColumns (unit : TimeUnit) (columns : List Column) (text : Bytes) : Type 0 where
   pub part : SpanTable
-  pub is : IsPart text part
+  pub is : IsPart unit text part
   pub by : part.columns ≡ columns
 
--- the text is of a table by other columns
-pub record HasOtherColumns (columns : List Column) (text : Bytes) : Type 0 where
+-- the text is of a table in another unit, or by other columns
+pub record HasOtherColumns (unit : TimeUnit) (columns : List Column) (text : Bytes) : Type 0 where
+  pub own : TimeUnit
   pub part : SpanTable
-  pub is : IsPart text part
-  pub other : part.columns ≢ columns
+  pub is : IsPart own text part
+  pub other : own ≡ unit → part.columns ≢ columns
 
 -- the text is of a table that lacks a column that is asked for
 pub record LacksColumn (wanted : List Column) (text : Bytes) : Type 0 where
+  pub unit : TimeUnit
   pub part : SpanTable
-  pub is : IsPart text part
+  pub is : IsPart unit text part
   pub lacks : (places : List ℕ) → AreAt places (chosen wanted part.columns) part.columns → ⊥
 
 -- why a first part is not added
@@ -93,12 +99,12 @@ FirstFails wanted text OtherColumns = LacksColumn wanted text
 FirstFails wanted text Memory = Unit {0}
 FirstFails wanted text TooMany = Unit {0}
 
--- why one of several by these columns is not added
-abbrev pub PartFails : List Column → Bytes → PartFault → Type 0
-PartFails columns text NotTable = IsNoPart text
-PartFails columns text OtherColumns = HasOtherColumns columns text
-PartFails columns text Memory = Unit {0}
-PartFails columns text TooMany = Unit {0}
+-- why one of several in this unit and by these columns is not added
+abbrev pub PartFails : TimeUnit → List Column → Bytes → PartFault → Type 0
+PartFails unit columns text NotTable = IsNoPart text
+PartFails unit columns text OtherColumns = HasOtherColumns unit columns text
+PartFails unit columns text Memory = Unit {0}
+PartFails unit columns text TooMany = Unit {0}
 
 -- why a text doesn't begin as a part does
 abbrev pub FailsToBegin : Bytes → PartFault → Type 0
@@ -112,10 +118,10 @@ abbrev pub FindsPlaces : List Column → List Column → Option (Vec ℕ) → Ty
 FindsPlaces wanted columns None = (places : List ℕ) → AreAt places wanted columns → ⊥
 FindsPlaces wanted columns (Some found) = AreAt found.items wanted columns
 
--- the part of this text was added, by these columns: its head and its rows, each with the values at these places of its key
-pub record IsAdded (columns : List Column) (places : List ℕ) (text : Bytes) (old new : SpanTable) : Type 0 where
+-- the part of this text was added, in this unit and by these columns: its head and its rows, each with the values at these places of its key
+pub record IsAdded (unit : TimeUnit) (columns : List Column) (places : List ℕ) (text : Bytes) (old new : SpanTable) : Type 0 where
   pub part : SpanTable
-  pub is : IsPart text part
+  pub is : IsPart unit text part
   pub by : part.columns ≡ columns
   pub sum : new ≡ with_rows places part.rows (with_head old part.head)
 
@@ -126,9 +132,9 @@ SumFails text OtherColumns = ⊥
 SumFails text Memory = Unit {0}
 SumFails text TooMany = Unit {0}
 
--- why a text that begins well is refused though it may be a part: for its columns
-abbrev pub RefusesOthers : List Column → Bytes → PartFault → Type 0
-RefusesOthers columns text NotTable = IsNoPart text
-RefusesOthers columns text OtherColumns = HasColumns columns text
-RefusesOthers columns text Memory = Unit {0}
-RefusesOthers columns text TooMany = Unit {0}
+-- why a text that begins well is refused though it may be a part: for its unit or its columns
+abbrev pub RefusesOthers : TimeUnit → List Column → Bytes → PartFault → Type 0
+RefusesOthers unit columns text NotTable = IsNoPart text
+RefusesOthers unit columns text OtherColumns = HasColumns unit columns text
+RefusesOthers unit columns text Memory = Unit {0}
+RefusesOthers unit columns text TooMany = Unit {0}

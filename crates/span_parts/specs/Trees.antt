@@ -2,6 +2,7 @@
 use Rattle.std.specs.Prelude.{◌≡◌, List, [], ◌∷◌, ◌++◌}
 use Rattle.std.specs.List.Sorted.{IsPermutation}
 use Rattle.span_event.specs.Text.{Bytes}
+use Rattle.span_event.specs.declared.unit.Unit.{Unit as TimeUnit}
 use Rattle.span_table.specs.declared.column.Column.{Column}
 use Rattle.span_table.specs.Printed.{IsPrint}
 use Rattle.span_table.specs.Tables.{Run, table_of}
@@ -28,24 +29,25 @@ abbrev mutual
   runs_in_all (tree part parts) = runs_in part ++ runs_in_all parts
 
 abbrev mutual
-  -- The text is printed of a tree, by these columns: it is that of the table of its runs; or of a sum, by these columns of its parts,
-  -- each of which was printed so, and read back.
-  pub IsPrinted : List Column → Tree → Bytes → Type 0
-  IsPrinted columns (of_runs runs) text = IsPrint text (table_of columns runs)
-  IsPrinted columns (of_parts parts) text =
-      (texts : List Bytes) × (sum : PartSum) × ArePrinted sum.columns parts texts × SumsParts texts sum × AreAt sum.places columns sum.columns × IsPrint text sum.sum
+  -- The text is printed of a tree, in this unit and by these columns: it is that of the table of its runs; or of a sum, by these
+  -- columns of its parts, each of which was printed so, and read back.
+  pub IsPrinted : TimeUnit → List Column → Tree → Bytes → Type 0
+  IsPrinted unit columns (of_runs runs) text = IsPrint unit text (table_of columns runs)
+  IsPrinted unit columns (of_parts parts) text =
+      (texts : List Bytes) × (sum : PartSum) × ArePrinted unit sum.columns parts texts × SumsParts texts sum × AreAt sum.places columns sum.columns ×
+      (sum.unit ≡ unit) × IsPrint unit text sum.sum
 
-  pub ArePrinted : List Column → Trees → List Bytes → Type 0
-  ArePrinted columns no_trees [] = Unit {0}
-  ArePrinted columns no_trees (text ∷ texts) = ⊥
-  ArePrinted columns (tree part parts) [] = ⊥
-  ArePrinted columns (tree part parts) (text ∷ texts) = IsPrinted columns part text × ArePrinted columns parts texts
+  pub ArePrinted : TimeUnit → List Column → Trees → List Bytes → Type 0
+  ArePrinted unit columns no_trees [] = Unit {0}
+  ArePrinted unit columns no_trees (text ∷ texts) = ⊥
+  ArePrinted unit columns (tree part parts) [] = ⊥
+  ArePrinted unit columns (tree part parts) (text ∷ texts) = IsPrinted unit columns part text × ArePrinted unit columns parts texts
 
 -- whatever the tree, what is printed is the table of all its runs
 abbrev pub TreesLoseNothing : Type 0
-TreesLoseNothing = (columns : List Column) (whole : Tree) (text : Bytes) → IsPrinted columns whole text → IsPrint text (table_of columns (runs_in whole))
+TreesLoseNothing = (unit : TimeUnit) (columns : List Column) (whole : Tree) (text : Bytes) → IsPrinted unit columns whole text → IsPrint unit text (table_of columns (runs_in whole))
 
 -- two trees of the same runs, in whatever order, are printed alike
 abbrev pub TreesPrintAlike : Type 0
-TreesPrintAlike = (columns : List Column) (one other : Tree) (text told : Bytes) → IsPermutation (runs_in one) (runs_in other) →
-    IsPrinted columns one text → IsPrinted columns other told → text ≡ told
+TreesPrintAlike = (unit : TimeUnit) (columns : List Column) (one other : Tree) (text told : Bytes) → IsPermutation (runs_in one) (runs_in other) →
+    IsPrinted unit columns one text → IsPrinted unit columns other told → text ≡ told

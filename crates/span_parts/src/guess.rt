@@ -8,6 +8,7 @@ ghost use Rattle.json.specs.Token.{Token as Told, end_array, key};
 ghost use Rattle.span_event.specs.Text.{Bytes};
 ghost use Rattle.span_event.specs.declared.args.ArgValue.{ArgValue as TheValue};
 ghost use Rattle.span_event.specs.declared.args.ArgValue.TheVariants.{Whole};
+ghost use Rattle.span_event.specs.declared.unit.Unit.{Unit as TheUnit};
 ghost use Rattle.span_table.specs.declared.column.Column.{Column as TheColumn};
 ghost use Rattle.span_table.specs.declared.heads.Head.{Head as TheHead};
 ghost use Rattle.span_table.specs.declared.sums.Sums.{Sums as TheSums};
@@ -16,20 +17,21 @@ ghost use Rattle.span_table.specs.Columns.{column_name};
 ghost use Rattle.span_table.specs.Json.{fit, head_fits};
 ghost use Rattle.span_table.specs.Keys.{TableKey};
 ghost use Rattle.span_table.specs.Printed.{AreColumns, AreDistinct, IsKeyOf, IsOfArgument, IsRowOf};
-ghost use Rattle.span_table.specs.Tokens.{counts_tokens, head_tokens, key_tokens, name_tokens, number_tokens, numbers_tokens, row_tokens, sums_tokens, value_tokens};
+ghost use Rattle.span_table.specs.Tokens.{counts_tokens, head_tokens, key_tokens, name_tokens, number_tokens, numbers_tokens, row_tokens, sums_tokens, unit_tokens, value_tokens};
 ghost use Rattle.span_parts.specs.First.{MayBegin, Says};
-ghost use Rattle.span_parts.specs.Guess.{Found, Leaves, MayFollow};
+ghost use Rattle.span_parts.specs.Guess.{Finds, Found, Leaves, MayFollow};
 
 use crate::heads::MOST_COLUMNS;
 use crate::tokens::{after_one, key_after, number_after, text_after};
 use json::Token;
-use span_event::{ArgValue, Text};
+use span_event::{ArgValue, Text, Unit};
 use span_table::{Column, Head, HeadCounts, Key, Row, Sum, Sums};
 use std::alloc::{AllocError, Global};
 
-/// The columns, the number of rows and the head of a first line.
+/// The unit, the columns, the number of rows and the head of a first line.
 #[derive(Drop)]
 pub(crate) struct FirstLine {
+    pub(crate) unit: Unit,
     pub(crate) columns: Vec<Column>,
     pub(crate) rows: u64,
     pub(crate) head: Head,
@@ -39,11 +41,11 @@ pub(crate) fn first_line_of(
     alloc: Global,
     tokens: &[Token],
 ) -> Result<Option<FirstLine>, AllocError>
-    ensures { IfOk result (λ found. (columns : List TheColumn) (rows : ℕ) (head : TheHead) → MayBegin columns rows head
-        → map token_of tokens.now ≡ head_tokens columns rows head → Says columns rows head found) }
+    ensures { IfOk result (λ found. (unit : TheUnit) (columns : List TheColumn) (rows : ℕ) (head : TheHead) → MayBegin columns rows head
+        → map token_of tokens.now ≡ head_tokens unit columns rows head → Says unit columns rows head found) }
 {
     let mut columns = Vec::new(alloc);
-    let Some(rest) = after_start(tokens) else {
+    let Some((unit, rest)) = unit_of(tokens) else {
         return Ok(None);
     };
     let Some(rest) = put_columns(alloc, rest, &mut columns)? else {
@@ -54,6 +56,7 @@ pub(crate) fn first_line_of(
     };
     match head_of(rest) {
         Some((rows, head)) => Ok(Some(FirstLine {
+            unit,
             columns,
             rows,
             head,
@@ -62,13 +65,17 @@ pub(crate) fn first_line_of(
     }
 }
 
-// What is behind `{"tracebook":1,"columns":[`.
-fn after_start<'t, 'a>(tokens: &'t [Token<'a>]) -> Option<&'t [Token<'a>]>
-    ensures { (a b c d e : Told) (rest : List Told) → map token_of tokens.now ≡ a ∷ b ∷ c ∷ d ∷ e ∷ rest → Leaves rest result }
+// The unit that is said behind `{"tracebook":1`, and what is behind `"columns":[`.
+fn unit_of<'t, 'a>(tokens: &'t [Token<'a>]) -> Option<(Unit, &'t [Token<'a>])>
+    ensures { (unit : TheUnit) (a b c d : Told) (rest : List Told)
+        → map token_of tokens.now ≡ a ∷ b ∷ c ∷ (unit_tokens unit ++ key (codes "columns") ∷ d ∷ rest) → Finds unit rest result }
 {
-    let object = after_one(tokens)?;
-    let version = after_one(after_one(object)?)?;
-    after_one(after_one(version)?)
+    let version = after_one(after_one(after_one(tokens)?)?)?;
+    let (unit, rest) = match key_after(version, "unit") {
+        Some(rest) => (Unit::Nanoseconds, after_one(rest)?),
+        None => (Unit::Microseconds, version),
+    };
+    Some((unit, after_one(after_one(rest)?)?))
 }
 
 // Adds columns of these names, but not more than may be, and gives the tokens behind them.

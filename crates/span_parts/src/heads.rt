@@ -2,6 +2,7 @@
 ghost use Rattle.std.specs.Prelude.{◌≡◌, ◌↔◌, ◌==◌, ◌++◌, ◌∷◌, [], ℕ, List, map, IfErr, IfOk, IfSome, IsTrue};
 ghost use Rattle.std.specs.List.{list_any};
 ghost use Rattle.span_event.specs.Text.{Bytes};
+ghost use Rattle.span_event.specs.declared.unit.Unit.{Unit as TheUnit};
 ghost use Rattle.span_table.specs.declared.column.Column.{Column as TheColumn};
 ghost use Rattle.span_table.specs.declared.heads.Head.{Head as TheHead};
 ghost use Rattle.span_table.specs.Columns.{column_name};
@@ -50,8 +51,8 @@ fn head_of_line(
     room: &mut LineRoom,
 ) -> Result<Option<FirstLine>, AllocError>
     ensures is { IfOk result (λ found. IfSome found (IsFirstLine line.now)) }
-    ensures found { IfOk result (λ found. (columns : List TheColumn) (rows : ℕ) (head : TheHead) → MayBegin columns rows head
-        → line.now ++ 10 ∷ [] ≡ json_head columns rows head → Says columns rows head found) }
+    ensures found { IfOk result (λ found. (unit : TheUnit) (columns : List TheColumn) (rows : ℕ) (head : TheHead) → MayBegin columns rows head
+        → line.now ++ 10 ∷ [] ≡ json_head unit columns rows head → Says unit columns rows head found) }
 {
     let tokens = tokens_of(alloc, line, &mut room.scratch)?;
     let Some(first) = first_line_of(alloc, &tokens)? else {
@@ -72,12 +73,14 @@ fn head_of_line(
 
 // Whether this is printed as the line.
 fn is_head(alloc: Global, first: &FirstLine, line: &str) -> Result<bool, AllocError>
-    ensures { IfOk result (λ same. IsTrue same ↔ line.now ++ 10 ∷ [] ≡ json_head first.now.columns.items first.now.rows first.now.head) }
+    ensures { IfOk result (λ same. IsTrue same ↔ line.now ++ 10 ∷ []
+        ≡ json_head first.now.unit first.now.columns.items first.now.rows first.now.head) }
 {
     let mut printed = String::new(alloc);
     put_json_head(
         alloc,
         &mut printed,
+        first.unit,
         &first.columns,
         first.rows as usize,
         first.head,

@@ -1,5 +1,5 @@
 //! Parts that are added.
-ghost use Rattle.std.specs.Prelude.{◌≡◌, IfErr, IfOk};
+ghost use Rattle.std.specs.Prelude.{◌↔◌, ◌≡◌, IfErr, IfOk, IsTrue};
 ghost use Rattle.span_event.specs.Text.{Bytes};
 ghost use Rattle.span_parts.specs.First.{Begins, MayBegin};
 ghost use Rattle.span_parts.specs.Sum.{FirstFails, PartFails, RefusesOthers, TakesFirst, TakesNone, TakesPart};
@@ -10,14 +10,17 @@ use crate::guess::FirstLine;
 use crate::heads::begin;
 use crate::room::LineRoom;
 use crate::sums::{add_part, look_through};
+use span_event::Unit;
 use span_keyed_tracks::HashKeys;
 use span_table::{Addition, Column, Table, copies_of};
 use std::alloc::{AllocError, Global};
 use std::marker::Model;
 
-/// The sum of parts by the same columns, of which some may be dropped.
+/// The sum of parts in the same unit and by the same columns, of which some may be dropped.
 #[derive(Drop)]
 pub struct Parts {
+    // That of each part.
+    unit: Unit,
     // Those of each part.
     columns: Vec<Column>,
     // Which of them the sum has, in its order.
@@ -30,7 +33,7 @@ impl Model for Parts {
 
     ghost Value = { PartSum };
 
-    ghost view = { λ p. record { columns = p.columns.items; places = p.places.items; sum = p.sum } };
+    ghost view = { λ p. record { unit = p.unit; columns = p.columns.items; places = p.places.items; sum = p.sum } };
 
     ghost invariant = { λ p. IsByThese p.columns.items p.places.items p.sum };
 }
@@ -64,6 +67,7 @@ impl Parts {
         };
         match add_part(alloc, &places, &first, rest, sum, &mut room) {
             Ok(sum) => Ok(Parts {
+                unit: first.unit,
                 columns: first.columns,
                 places,
                 sum,
@@ -72,11 +76,12 @@ impl Parts {
         }
     }
 
-    /// The sum of no parts, by the same columns of parts like these.
+    /// The sum of no parts, in the same unit and by the same columns of parts like these.
     pub fn of_none_beside(&self, alloc: Global, keys: HashKeys) -> Result<Parts, AllocError>
         ensures { IfOk result (TakesNone self.now) }
     {
         Ok(Parts {
+            unit: self.unit,
             columns: copies_of(alloc, &self.columns)?,
             places: copy_of_places(alloc, &self.places)?,
             sum: Addition::new(alloc, keys, self.sum.columns())?,
@@ -86,9 +91,10 @@ impl Parts {
     /// With the part that this text is.
     pub fn add(self, alloc: Global, text: &[u8]) -> Result<Parts, PartFault>
         ensures sum { IfOk result (TakesPart text.now self) }
-        ensures fault { IfErr result (PartFails self.columns text.now) }
+        ensures fault { IfErr result (PartFails self.unit self.columns text.now) }
     {
         let Parts {
+            unit,
             columns,
             places,
             sum,
@@ -98,17 +104,25 @@ impl Parts {
             Ok(begun) => begun,
             Err(fault) => return Err(fault),
         };
-        if !are_same(&first.columns, &columns) {
+        if !is_alike(&first, unit, &columns) {
             return Err(fault_of_others(alloc, &first, rest, &mut room));
         }
         match add_part(alloc, &places, &first, rest, sum, &mut room) {
             Ok(sum) => Ok(Parts {
+                unit,
                 columns,
                 places,
                 sum,
             }),
             Err(fault) => Err(fault),
         }
+    }
+
+    /// That of each part, and so of the sum.
+    pub fn unit(&self) -> Unit
+        ensures { result ≡ self.now.unit }
+    {
+        self.unit
     }
 
     /// The table of the sum.
@@ -119,10 +133,17 @@ impl Parts {
     }
 }
 
-// Why a text that begins so is refused: for its columns, if it is a part.
+// Whether a part that begins so is in this unit and by these columns.
+fn is_alike(first: &FirstLine, unit: Unit, columns: &[Column]) -> bool
+    ensures { IsTrue result ↔ (first.now.unit ≡ unit) × (first.now.columns.items ≡ columns.now) }
+{
+    first.unit == unit && are_same(&first.columns, columns)
+}
+
+// Why a text that begins so is refused: for its unit or its columns, if it is a part.
 fn fault_of_others(alloc: Global, first: &FirstLine, rest: &str, room: &mut LineRoom) -> PartFault
     requires { MayBegin first.now.columns.items first.now.rows first.now.head }
-    ensures { (text : Bytes) → Begins text first.now rest.now → RefusesOthers first.now.columns.items text result }
+    ensures { (text : Bytes) → Begins text first.now rest.now → RefusesOthers first.now.unit first.now.columns.items text result }
 {
     match look_through(alloc, first, rest, room) {
         Ok(()) => PartFault::OtherColumns,

@@ -30,7 +30,7 @@ pub(crate) fn add_part(
 ) -> Result<Addition, PartFault>
     requires { MayBegin first.now.columns.items first.now.rows first.now.head }
     ensures added { IfOk result (λ new. (text : Bytes) → Begins text first.now rest.now
-        → IsAdded first.now.columns.items places.now text sum new) }
+        → IsAdded first.now.unit first.now.columns.items places.now text sum new) }
     ensures fault { IfErr result (λ fault. (text : Bytes) → Begins text first.now rest.now → SumFails text fault) }
 {
     let mut sum = match sum.add_head(&first.head) {
@@ -57,7 +57,7 @@ pub(crate) fn look_through(
     room: &mut LineRoom,
 ) -> Result<(), PartFault>
     requires { MayBegin first.now.columns.items first.now.rows first.now.head }
-    ensures is { OnOk result ((text : Bytes) → Begins text first.now rest.now → HasColumns first.now.columns.items text) }
+    ensures is { OnOk result ((text : Bytes) → Begins text first.now rest.now → HasColumns first.now.unit first.now.columns.items text) }
     ensures fault { IfErr result (λ fault. (text : Bytes) → Begins text first.now rest.now → SumFails text fault) }
 {
     // All rows have one key, of no values, so there is nothing to keep.

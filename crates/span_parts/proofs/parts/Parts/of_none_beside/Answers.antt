@@ -20,6 +20,7 @@ returns c =
     let columns = c.in_ok-copies_of.ensures ∙ c.deref.ensures.value in
     let places = c.in_ok-copy_of_places.ensures ∙ c.deref-2.ensures.value in
     record {
+      unit = ap (λ (p : PartSum). p.unit) c.self.view_is;
       columns = columns ∙ ap (λ (p : PartSum). p.columns) c.self.view_is;
       places = places ∙ ap (λ (p : PartSum). p.places) c.self.view_is;
       sums = record {
