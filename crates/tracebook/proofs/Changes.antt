@@ -34,12 +34,12 @@ module _ (view : ComparisonView) (base files : List Input) (settings : Settings)
     in_turn = in_turn;
   }
 
-  pub ComparisonLeaves-text : (fault : ComparisonFault) → ChangesLeave view fault (run_of_files base base_run.ends.items base_journal) (run_of_files files run.ends.items journal) old new →
+  pub ComparisonLeaves-text : (fault : ComparisonFault) → ChangesLeave settings.unit view fault (run_of_files base base_run.ends.items base_journal) (run_of_files files run.ends.items journal) old new →
       ComparisonLeaves view fault base files settings old new
   ComparisonLeaves-text (Run FileCount) leaves = absurd leaves
   ComparisonLeaves-text (Run Memory) leaves = leaves
   ComparisonLeaves-text (Run (Unaccounted entries calls)) leaves = absurd leaves
-  ComparisonLeaves-text (Run (Output written)) leaves = both-hold (λ earlier later. TakesFirst view written earlier later old new) leaves
+  ComparisonLeaves-text (Run (Output written)) leaves = both-hold (λ earlier later. TakesFirst settings.unit view written earlier later old new) leaves
       (λ separate_base separate. subst (λ (text : Bytes). (written ≤ length text) × Fails old new (take written text))
       (changes_of_runs-in_turn view base files settings base_run run base_journal journal base_ended ended separate_base separate below) leaves)
   ComparisonLeaves-text TooGreat leaves = (

@@ -5,6 +5,7 @@ use Rattle.span_collect.specs.declared.settings.Settings.{Settings}
 use Rattle.span_runs.specs.declared.summed.Summed.{Summed}
 use Rattle.span_runs.specs.Apart.{run_alone}
 use Rattle.span_runs.specs.Source.{SourceBytes}
+use Rattle.span_event.specs.declared.unit.Unit.{Unit}
 use Rattle.span_table.specs.declared.column.Column.{Column}
 use Rattle.span_table.specs.Printed.{IsPrint}
 use Rattle.span_table.specs.Tables.{Run, SpanTable, table_of}
@@ -16,10 +17,10 @@ use Rattle.tracebook.specs.Sums.{SumsInputs}
 use Rattle.tracebook.specs.Tables.{FormFits, TableFits, formed, table_text}
 
 -- a whole table that fits is printed
-table_text-whole : (view : TableView) (table : SpanTable) → IsWhole view → TableFits view table → IsPrint (table_text view true table) table
-table_text-whole view table whole fits =
-    subst (λ text. IsPrint text table) (sym (ap (λ (form : TableForm). formed form view.options.shown true table) whole.json))
-    (json_of-print view.options.shown table whole.all (subst (λ (form : TableForm). FormFits form view.options.shown table) whole.json fits))
+table_text-whole : (unit : Unit) (view : TableView) (table : SpanTable) → IsWhole view → TableFits view table → IsPrint unit (table_text unit view true table) table
+table_text-whole unit view table whole fits =
+    subst (λ text. IsPrint unit text table) (sym (ap (λ (form : TableForm). formed unit form view.options.shown true table) whole.json))
+    (json_of-print unit view.options.shown table whole.all (subst (λ (form : TableForm). FormFits form view.options.shown table) whole.json fits))
 
 -- what files come to is the table of their runs
 SumsInputs-runs : (source : SourceBytes) (names : List Bytes) (settings : Settings) (columns : List Column) (summed : Summed) → SumsInputs source names settings columns summed →
@@ -32,18 +33,18 @@ SumsInputs-runs source (name ∷ names) settings columns summed sums =
 pub sums-leaves : SumsAreLeaves
 sums-leaves source names settings view status old new sums whole =
     let found = SumsInputs-runs source names settings view.options.columns.items sums.summed sums.sums in
-    (found.0, found.1, subst (IsPrint (table_text view true sums.summed.sum)) found.2 (table_text-whole view sums.summed.sum whole sums.fits))
+    (found.0, found.1, subst (IsPrint settings.unit (table_text settings.unit view true sums.summed.sum)) found.2 (table_text-whole settings.unit view sums.summed.sum whole sums.fits))
 
 pub adds-trees : AddsAreTrees
 adds-trees source [] view status old new adds whole = (
   adds.added.0.texts,
   adds.added.0.held,
   λ parts printed.
-      (adds.added.0.texts, adds.sum, printed, adds.added.0.sums, adds.added.1, table_text-whole view adds.sum.sum whole adds.fits),
+      (adds.added.0.texts, adds.sum, printed, adds.added.0.sums, adds.added.1, refl, table_text-whole adds.sum.unit view adds.sum.sum whole adds.fits),
 )
 adds-trees source (name ∷ names) view status old new adds whole = (
   adds.added.0.texts,
   adds.added.0.held,
   λ parts printed.
-      (adds.added.0.texts, adds.sum, printed, adds.added.0.sums, adds.added.1, table_text-whole view adds.sum.sum whole adds.fits),
+      (adds.added.0.texts, adds.sum, printed, adds.added.0.sums, adds.added.1, refl, table_text-whole adds.sum.unit view adds.sum.sum whole adds.fits),
 )

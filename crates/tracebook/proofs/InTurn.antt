@@ -39,13 +39,13 @@ module _ (files : List Input) (settings : Settings) (ends : List FileEnd) (asked
   -- each view
   pub text_of-in_turn : (view : View) → text_of settings.unit view files ends journal ≡ text_in_turn (text_of settings.unit view files) files [] settings
   text_of-in_turn Report = report_of-alike settings.unit journal (journal_in_turn settings files []) alike
-  text_of-in_turn (Table view) = ap (table_text view false) (table-in_turn view)
+  text_of-in_turn (Table view) = ap (table_text settings.unit view false) (table-in_turn view)
   text_of-in_turn Refusals = refusals_of-in_turn files [] settings ends asked sealing journal account separate below
   text_of-in_turn (Folded labels) = (stacks-alike journal (journal_in_turn settings files []) alike).text labels.items
   text_of-in_turn (Page view) =
-      page_of-alike settings.unit view.labels.items (table_text view.table false (asked_table view.table (run_of_files files ends journal))) files ends (ends_from settings.unit 1 files) journal (journal_in_turn settings files []) alike
+      page_of-alike settings.unit view.labels.items (table_text settings.unit view.table false (asked_table view.table (run_of_files files ends journal))) files ends (ends_from settings.unit 1 files) journal (journal_in_turn settings files []) alike
       (refusals_of-in_turn files [] settings ends asked sealing journal account separate below) (end_lines-in_turn files [] settings ends asked sealing journal account separate below)
-      ∙ ap (λ (table : SpanTable). page_of settings.unit view.labels.items (table_text view.table false table) files (ends_from settings.unit 1 files) (journal_in_turn settings files [])) (table-in_turn view.table)
+      ∙ ap (λ (table : SpanTable). page_of settings.unit view.labels.items (table_text settings.unit view.table false table) files (ends_from settings.unit 1 files) (journal_in_turn settings files [])) (table-in_turn view.table)
 
   -- whether folded stacks have more names than they may
   pub ExceedsNames-in_turn : (view : View) → ExceedsNames view ends journal → ExceedsNames view (ends_from settings.unit 1 files) (journal_in_turn settings files [])
@@ -82,8 +82,8 @@ module _ (view : ComparisonView) (base files : List Input) (settings : Settings)
   pub other-in_turn : compared_table view (run_of_files files run.ends.items journal) ≡ compared_table view (run_in_turn settings files)
   other-in_turn = table_of_run-in_turn files settings run.ends.items run.asked run.sealing journal ended.account separate (rw ended.status at other_below) view.options.columns.items
 
-  pub changes_of_runs-in_turn : changes_of_runs view (run_of_files base base_run.ends.items base_journal) (run_of_files files run.ends.items journal) ≡ comparison_in_turn view base files settings
-  changes_of_runs-in_turn = λ i. changes_text view false (base-in_turn i) (other-in_turn i)
+  pub changes_of_runs-in_turn : changes_of_runs settings.unit view (run_of_files base base_run.ends.items base_journal) (run_of_files files run.ends.items journal) ≡ comparison_in_turn view base files settings
+  changes_of_runs-in_turn = λ i. changes_text settings.unit view false (base-in_turn i) (other-in_turn i)
 
   pub AreTooGreat-in_turn : AreTooGreat view (run_of_files base base_run.ends.items base_journal) (run_of_files files run.ends.items journal) → AreTooGreat view (run_in_turn settings base) (run_in_turn settings files)
   AreTooGreat-in_turn = subst (λ T. T) (λ i. HasTooGreat view (base-in_turn i) (other-in_turn i))

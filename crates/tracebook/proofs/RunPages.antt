@@ -94,17 +94,17 @@ module _ (known : Bytes → Option Bytes) (settings : Settings) (view : PageView
 
 -- a text that is the page of what is held shows the files
 AreShown-held : (known : Bytes → Option Bytes) (names : List Bytes) (settings : Settings) (view : PageView) (shown : ShownFiles) (text : Bytes) →
-    AreHeld (shown_runs settings) known names settings view shown → IsPageOf view shown text → AreShown known names settings view shown.summed text
-AreShown-held known names settings view shown text held is = record { sums = held.sums; page = is settings.unit (shown_runs settings held.sums.files) held.runs }
+    AreHeld (shown_runs settings) known names settings view shown → IsPageOf settings.unit view shown text → AreShown known names settings view shown.summed text
+AreShown-held known names settings view shown text held is = record { sums = held.sums; page = is (shown_runs settings held.sums.files) held.runs }
 
 pub ShowsInputs-held : (source : SourceBytes) (names : List Bytes) (settings : Settings) (view : PageView) (shown : ShownFiles) (text : Bytes) →
-    HoldsInputs source names settings view shown → IsPageOf view shown text → ShowsInputs source names settings view shown.summed text
+    HoldsInputs source names settings view shown → IsPageOf settings.unit view shown text → ShowsInputs source names settings view shown.summed text
 ShowsInputs-held source [] settings view shown text = AreShown-held (λ name. source.standard) _ settings view shown text
 ShowsInputs-held source (name ∷ names) settings view shown text = AreShown-held source.file (name ∷ names) settings view shown text
 
 -- what was held is written as a page
 pub Pages-written : (source : SourceBytes) (names : List Bytes) (settings : Settings) (view : PageView) (shown : ShownFiles) (status : ℕ) (old new : SinkState) →
-    HoldsInputs source names settings view shown → TableFits view.table shown.summed.sum → WritesPage view shown status old new → Pages source names settings view status old new
+    HoldsInputs source names settings view shown → TableFits view.table shown.summed.sum → WritesPage settings.unit view shown status old new → Pages source names settings view status old new
 Pages-written source names settings view shown status old new held fits (text, is, written) = record {
   summed = shown.summed;
   text = text;
@@ -115,7 +115,7 @@ Pages-written source names settings view shown status old new held fits (text, i
 
 -- or a part of it is
 pub PagesPart-written : (source : SourceBytes) (names : List Bytes) (settings : Settings) (view : PageView) (shown : ShownFiles) (old new : SinkState) →
-    HoldsInputs source names settings view shown → WritesPagePart view shown old new → PagesPart source names settings view old new
+    HoldsInputs source names settings view shown → WritesPagePart settings.unit view shown old new → PagesPart source names settings view old new
 PagesPart-written source names settings view shown old new held (inl silent) = inl silent
 PagesPart-written source names settings view shown old new held (inr (text, is, written)) =
     inr (shown.summed, text, ShowsInputs-held source names settings view shown text held is, written)

@@ -39,9 +39,10 @@ pub record AddsFiles (known : Known) (names : List Bytes) (sum : PartSum) : Type
 abbrev pub AddsChosen : List Column → PartSum → Known → List Bytes → Type 0
 AddsChosen wanted sum known names = AddsFiles known names sum × Chooses wanted sum
 
--- the sum of these files has the same columns as another, at the same places
+-- the sum of these files is in the same unit as another, and has the same columns, at the same places
 pub record AddsBeside (base sum : PartSum) (known : Known) (names : List Bytes) : Type 0 where
   pub added : AddsFiles known names sum
+  pub unit : sum.unit ≡ base.unit
   pub columns : sum.columns ≡ base.columns
   pub places : sum.places ≡ base.places
 
@@ -50,23 +51,23 @@ pub record Adds (source : SourceBytes) (names : List Bytes) (view : TableView) (
   pub sum : PartSum
   pub added : OfInputs source names (AddsChosen view.options.columns.items sum)
   pub fits : TableFits view sum.sum
-  pub written : WritesAll (table_text view true sum.sum) [] status old new
+  pub written : WritesAll (table_text sum.unit view true sum.sum) [] status old new
 
 -- nothing was written, or first bytes of that
 abbrev pub AddsPart : SourceBytes → List Bytes → TableView → SinkState → SinkState → Type 0
 AddsPart source names view old new = (new ≡ old)
-    ⊎ ((sum : PartSum) × OfInputs source names (AddsChosen view.options.columns.items sum) × WritesPart (table_text view true sum.sum) old new)
+    ⊎ ((sum : PartSum) × OfInputs source names (AddsChosen view.options.columns.items sum) × WritesPart (table_text sum.unit view true sum.sum) old new)
 
--- the base's files were added, and the others by the same columns, and what changed between the sums is written
+-- the base's files were added, and the others in the same unit and by the same columns, and what changed between the sums is written
 pub record ComparesAdded (source : SourceBytes) (base_names names : List Bytes) (view : ComparisonView) (status : ℕ) (old new : SinkState) : Type 0 where
   pub base : PartSum
   pub other : PartSum
   pub base_added : AddsChosen view.options.columns.items base source.file base_names
   pub added : OfInputs source names (AddsBeside base other)
-  pub written : WritesAll (changes_text view true base.sum other.sum) [] status old new
+  pub written : WritesAll (changes_text base.unit view true base.sum other.sum) [] status old new
 
 -- nothing was written, or first bytes of that
 abbrev pub ComparesAddedPart : SourceBytes → List Bytes → List Bytes → ComparisonView → SinkState → SinkState → Type 0
 ComparesAddedPart source base_names names view old new = (new ≡ old)
     ⊎ ((base : PartSum) × (other : PartSum) × AddsChosen view.options.columns.items base source.file base_names
-    × OfInputs source names (AddsBeside base other) × WritesPart (changes_text view true base.sum other.sum) old new)
+    × OfInputs source names (AddsBeside base other) × WritesPart (changes_text base.unit view true base.sum other.sum) old new)

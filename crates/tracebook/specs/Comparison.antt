@@ -13,6 +13,7 @@ use Rattle.span_collect.specs.Collection.{AreNoneOrTooMany, HasMore}
 use Rattle.span_collect.specs.InTurn.{AreSeparate}
 use Rattle.span_collect.specs.Run.{run_code, status_of}
 use Rattle.span_collect.specs.Seals.{SealedAccount}
+use Rattle.span_event.specs.declared.unit.Unit.{Unit}
 use Rattle.span_table.specs.Comparison.{comparison_of}
 use Rattle.span_table.specs.Json.{json_changes_fit, json_comparison_of}
 use Rattle.span_table.specs.Shown.{Wanted}
@@ -25,10 +26,10 @@ use Rattle.tracebook.specs.declared.comparison.ComparisonForm.{ComparisonForm}
 use Rattle.tracebook.specs.declared.comparison.ComparisonForm.TheVariants.{Text, Json}
 use Rattle.tracebook.specs.declared.comparison.ComparisonView.{ComparisonView}
 
--- what changed between two tables, in a form
-abbrev pub changes_formed : ComparisonForm → Wanted → Bool → SpanTable → SpanTable → Bytes
-changes_formed (Text by) shown tells_runs base other = comparison_of by shown tells_runs base other
-changes_formed Json shown tells_runs base other = json_comparison_of shown base other
+-- what changed between two tables whose times are in this unit, in a form
+abbrev pub changes_formed : Unit → ComparisonForm → Wanted → Bool → SpanTable → SpanTable → Bytes
+changes_formed unit (Text by) shown tells_runs base other = comparison_of unit by shown tells_runs base other
+changes_formed unit Json shown tells_runs base other = json_comparison_of unit shown base other
 
 -- it is for other programs, and a number has more than 64 bits
 abbrev pub FormHasTooGreat : ComparisonForm → Wanted → SpanTable → SpanTable → Type 0
@@ -36,8 +37,8 @@ FormHasTooGreat (Text by) shown base other = ⊥
 FormHasTooGreat Json shown base other = json_changes_fit shown base other ≡ false
 
 -- what is printed of what changed, under heads that tell of runs or don't
-abbrev pub changes_text : ComparisonView → Bool → SpanTable → SpanTable → Bytes
-changes_text view tells_runs base other = changes_formed view.form view.options.shown tells_runs base other
+abbrev pub changes_text : Unit → ComparisonView → Bool → SpanTable → SpanTable → Bytes
+changes_text unit view tells_runs base other = changes_formed unit view.form view.options.shown tells_runs base other
 
 abbrev pub HasTooGreat : ComparisonView → SpanTable → SpanTable → Type 0
 HasTooGreat view base other = FormHasTooGreat view.form view.options.shown base other
@@ -47,24 +48,24 @@ abbrev pub compared_table : ComparisonView → Run → SpanTable
 compared_table view run = table_of_run view.options.columns.items run
 
 -- the same for two runs
-abbrev pub changes_of_runs : ComparisonView → Run → Run → Bytes
-changes_of_runs view base other = changes_text view false (compared_table view base) (compared_table view other)
+abbrev pub changes_of_runs : Unit → ComparisonView → Run → Run → Bytes
+changes_of_runs unit view base other = changes_text unit view false (compared_table view base) (compared_table view other)
 
 abbrev pub AreTooGreat : ComparisonView → Run → Run → Type 0
 AreTooGreat view base other = HasTooGreat view (compared_table view base) (compared_table view other)
 
 -- a failed output took just the first `written` bytes of what changed
-abbrev pub TakesFirst : ComparisonView → ℕ → Run → Run → SinkState → SinkState → Type 0
-TakesFirst view written base other old new =
-    (written ≤ length (changes_of_runs view base other)) × Fails old new (take written (changes_of_runs view base other))
+abbrev pub TakesFirst : Unit → ComparisonView → ℕ → Run → Run → SinkState → SinkState → Type 0
+TakesFirst unit view written base other old new =
+    (written ≤ length (changes_of_runs unit view base other)) × Fails old new (take written (changes_of_runs unit view base other))
 
 -- what the writing of a comparison ends with where it isn't whole; but for a failed output it leaves the output as it was
-abbrev pub ChangesLeave : ComparisonView → ComparisonFault → Run → Run → SinkState → SinkState → Type 0
-ChangesLeave view (OfRun Memory) base other old new = new ≡ old
-ChangesLeave view (OfRun (Output written)) base other old new = TakesFirst view written base other old new
-ChangesLeave view (OfRun FileCount) base other old new = ⊥
-ChangesLeave view (OfRun (Unaccounted entries calls)) base other old new = ⊥
-ChangesLeave view TooGreat base other old new = (new ≡ old) × AreTooGreat view base other
+abbrev pub ChangesLeave : Unit → ComparisonView → ComparisonFault → Run → Run → SinkState → SinkState → Type 0
+ChangesLeave unit view (OfRun Memory) base other old new = new ≡ old
+ChangesLeave unit view (OfRun (Output written)) base other old new = TakesFirst unit view written base other old new
+ChangesLeave unit view (OfRun FileCount) base other old new = ⊥
+ChangesLeave unit view (OfRun (Unaccounted entries calls)) base other old new = ⊥
+ChangesLeave unit view TooGreat base other old new = (new ≡ old) × AreTooGreat view base other
 
 -- a run of these files, without queries, ended so, and this journal accounts for them
 pub record HasEnded (files : List Input) (settings : Settings) (run : RunEnd) (journal : List Entry) : Type 0 where
@@ -77,7 +78,7 @@ greater a b = if nat_lt a b then b else a
 
 -- What changes between two runs of files that are read in turn.
 abbrev pub comparison_in_turn : ComparisonView → List Input → List Input → Settings → Bytes
-comparison_in_turn view base files settings = changes_of_runs view (run_in_turn settings base) (run_in_turn settings files)
+comparison_in_turn view base files settings = changes_of_runs settings.unit view (run_in_turn settings base) (run_in_turn settings files)
 
 -- A run of the base's files and one of the others ended, each with a journal of its own. Unless one ended with 2, what changed between
 -- these journals was written, else nothing. If the files of each are separate, it is what changes where they are read in turn.
@@ -87,7 +88,7 @@ pub record IsComparisonOf (view : ComparisonView) (base files : List Input) (set
   pub base_ended : HasEnded base settings base_run base_journal
   pub ended : HasEnded files settings run journal
   pub written : greater base_run.status run.status < 2
-      → TakesBytes old new (changes_of_runs view (run_of_files base base_run.ends.items base_journal) (run_of_files files run.ends.items journal))
+      → TakesBytes old new (changes_of_runs settings.unit view (run_of_files base base_run.ends.items base_journal) (run_of_files files run.ends.items journal))
   pub silent : greater base_run.status run.status ≡ 2 → new ≡ old
   pub in_turn : AreSeparate settings.unit base → AreSeparate settings.unit files → greater base_run.status run.status < 2 → TakesBytes old new (comparison_in_turn view base files settings)
 
@@ -111,7 +112,7 @@ ComparisonLeaves view (OfRun Memory) base files settings old new = new ≡ old
 ComparisonLeaves view (OfRun (Unaccounted entries calls)) base files settings old new =
     (HasMore base [] settings entries calls ⊎ HasMore files [] settings entries calls) × (new ≡ old)
 ComparisonLeaves view (OfRun (Output written)) base files settings old new =
-    HoldsOfBoth (λ earlier later. TakesFirst view written earlier later old new) base files settings
+    HoldsOfBoth (λ earlier later. TakesFirst settings.unit view written earlier later old new) base files settings
 ComparisonLeaves view TooGreat base files settings old new = HoldsOfBoth (AreTooGreat view) base files settings × (new ≡ old)
 
 abbrev pub comparison_code : ComparisonFault → ℕ

@@ -31,7 +31,7 @@ shown_runs settings files = if nat_le (length files) most_shown then map (shown_
 -- Each of the files of these names was collected alone, and the text is the page of their runs with the table of their sum.
 pub record AreShown (known : Bytes → Option Bytes) (names : List Bytes) (settings : Settings) (view : PageView) (summed : Summed) (text : Bytes) : Type 0 where
   pub sums : AreSummed known names settings view.table.options.columns.items summed.sum summed.lines.items
-  pub page : text ≡ page_of_runs settings.unit view.labels.items (table_text view.table true summed.sum) (shown_runs settings sums.files)
+  pub page : text ≡ page_of_runs settings.unit view.labels.items (table_text settings.unit view.table true summed.sum) (shown_runs settings sums.files)
 
 -- the same of standard input, as the file `-`, where there are no names
 abbrev pub ShowsInputs : SourceBytes → List Bytes → Settings → PageView → Summed → Bytes → Type 0
@@ -62,17 +62,17 @@ HoldsInputs source [] settings view shown = AreHeld (shown_runs settings) (λ na
 HoldsInputs source (name ∷ names) settings view shown = AreHeld (shown_runs settings) source.file (name ∷ names) settings view shown
 
 -- the text is the page of the runs that are held
-abbrev pub IsPageOf : PageView → ShownFiles → Bytes → Type 0
-IsPageOf view shown text = (unit : Unit) (runs : List ShownRun) → Holds unit view.labels.items runs shown.page →
-    text ≡ page_of_runs unit view.labels.items (table_text view.table true shown.summed.sum) runs
+abbrev pub IsPageOf : Unit → PageView → ShownFiles → Bytes → Type 0
+IsPageOf unit view shown text = (runs : List ShownRun) → Holds unit view.labels.items runs shown.page →
+    text ≡ page_of_runs unit view.labels.items (table_text unit view.table true shown.summed.sum) runs
 
 -- that text is written
-abbrev pub WritesPage : PageView → ShownFiles → ℕ → SinkState → SinkState → Type 0
-WritesPage view shown status old new = (text : Bytes) × IsPageOf view shown text × WritesAll text shown.summed.lines.items status old new
+abbrev pub WritesPage : Unit → PageView → ShownFiles → ℕ → SinkState → SinkState → Type 0
+WritesPage unit view shown status old new = (text : Bytes) × IsPageOf unit view shown text × WritesAll text shown.summed.lines.items status old new
 
 -- nothing was written, or first bytes of it
-abbrev pub WritesPagePart : PageView → ShownFiles → SinkState → SinkState → Type 0
-WritesPagePart view shown old new = (new ≡ old) ⊎ ((text : Bytes) × IsPageOf view shown text × WritesPart text old new)
+abbrev pub WritesPagePart : Unit → PageView → ShownFiles → SinkState → SinkState → Type 0
+WritesPagePart unit view shown old new = (new ≡ old) ⊎ ((text : Bytes) × IsPageOf unit view shown text × WritesPart text old new)
 
 -- what was collected of a file, as a page shows it
 abbrev pub shown_run : FileRun → ShownRun

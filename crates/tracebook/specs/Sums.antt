@@ -35,12 +35,12 @@ pub record Sums (source : SourceBytes) (names : List (List ℕ)) (settings : Set
   pub summed : Summed
   pub sums : SumsInputs source names settings view.options.columns.items summed
   pub fits : TableFits view summed.sum
-  pub written : WritesAll (table_text view true summed.sum) summed.lines.items status old new
+  pub written : WritesAll (table_text settings.unit view true summed.sum) summed.lines.items status old new
 
 -- nothing was written, or first bytes of that
 abbrev pub SumsPart : SourceBytes → List (List ℕ) → Settings → TableView → SinkState → SinkState → Type 0
 SumsPart source names settings view old new = (new ≡ old)
-    ⊎ ((summed : Summed) × SumsInputs source names settings view.options.columns.items summed × WritesPart (table_text view true summed.sum) old new)
+    ⊎ ((summed : Summed) × SumsInputs source names settings view.options.columns.items summed × WritesPart (table_text settings.unit view true summed.sum) old new)
 
 -- the base's files were summed, and the others, and what changed between the sums is written
 pub record ComparesSums (source : SourceBytes) (base_names names : List (List ℕ)) (settings : Settings) (view : ComparisonView) (status : ℕ) (old new : SinkState) : Type 0 where
@@ -48,10 +48,10 @@ pub record ComparesSums (source : SourceBytes) (base_names names : List (List �
   pub other : Summed
   pub base_sums : SumsFiles source.file base_names settings view.options.columns.items base
   pub sums : SumsInputs source names settings view.options.columns.items other
-  pub written : WritesAll (changes_text view true base.sum other.sum) (base.lines.items ++ other.lines.items) status old new
+  pub written : WritesAll (changes_text settings.unit view true base.sum other.sum) (base.lines.items ++ other.lines.items) status old new
 
 -- nothing was written, or first bytes of that
 abbrev pub ComparesSumsPart : SourceBytes → List (List ℕ) → List (List ℕ) → Settings → ComparisonView → SinkState → SinkState → Type 0
 ComparesSumsPart source base_names names settings view old new = (new ≡ old)
     ⊎ ((base : Summed) × (other : Summed) × SumsFiles source.file base_names settings view.options.columns.items base
-    × SumsInputs source names settings view.options.columns.items other × WritesPart (changes_text view true base.sum other.sum) old new)
+    × SumsInputs source names settings view.options.columns.items other × WritesPart (changes_text settings.unit view true base.sum other.sum) old new)

@@ -1,6 +1,7 @@
 -- The texts of tables.
 use Rattle.std.specs.Prelude.{◌≡◌, Bool, false, ⊤}
 use Rattle.span_event.specs.Text.{Bytes}
+use Rattle.span_event.specs.declared.unit.Unit.{Unit}
 use Rattle.span_table.specs.Columns.{Run}
 use Rattle.span_table.specs.Json.{json_fits, json_of, shown_table}
 use Rattle.span_table.specs.Printed.{AllFit}
@@ -12,10 +13,10 @@ use Rattle.tracebook.specs.declared.tables.TableForm.{TableForm}
 use Rattle.tracebook.specs.declared.tables.TableForm.TheVariants.{Ranking, Json}
 use Rattle.tracebook.specs.declared.tables.TableView.{TableView}
 
--- a table in this form
-abbrev pub formed : TableForm → Wanted → Bool → SpanTable → Bytes
-formed (Ranking most by) shown tells_runs table = ranking_of most by shown tells_runs table
-formed Json shown tells_runs table = json_of shown table
+-- a table in this form, whose times are in this unit
+abbrev pub formed : Unit → TableForm → Wanted → Bool → SpanTable → Bytes
+formed unit (Ranking most by) shown tells_runs table = ranking_of unit most by shown tells_runs table
+formed unit Json shown tells_runs table = json_of unit shown table
 
 -- numbers for other programs have 64 bits; for people they have no bound
 abbrev pub FormFits : TableForm → Wanted → SpanTable → Type 0
@@ -28,8 +29,8 @@ FormExceeds (Ranking most by) shown table = ⊥
 FormExceeds Json shown table = json_fits shown table ≡ false
 
 -- what is printed of a table, whose head tells of runs or doesn't
-abbrev pub table_text : TableView → Bool → SpanTable → Bytes
-table_text view tells_runs table = formed view.form view.options.shown tells_runs table
+abbrev pub table_text : Unit → TableView → Bool → SpanTable → Bytes
+table_text unit view tells_runs table = formed unit view.form view.options.shown tells_runs table
 
 abbrev pub TableFits : TableView → SpanTable → Type 0
 TableFits view table = FormFits view.form view.options.shown table

@@ -32,10 +32,10 @@ use Rattle.tracebook.specs.Tables.{TableExceeds, TableFits, asked_table, table_t
 -- this view of what was collected in this unit
 abbrev pub text_of : Unit → View → List Input → TextOf
 text_of unit Report files ends journal = report_of unit journal
-text_of unit (Table view) files ends journal = table_text view false (asked_table view (run_of_files files ends journal))
+text_of unit (Table view) files ends journal = table_text unit view false (asked_table view (run_of_files files ends journal))
 text_of unit Refusals files ends journal = refusals_of unit files ends journal
 text_of unit (Folded labels) files ends journal = folded_of labels.items journal
-text_of unit (Page view) files ends journal = page_of unit view.labels.items (table_text view.table false (asked_table view.table (run_of_files files ends journal))) files ends journal
+text_of unit (Page view) files ends journal = page_of unit view.labels.items (table_text unit view.table false (asked_table view.table (run_of_files files ends journal))) files ends journal
 
 -- what holds of files that ended so, and of their journal
 abbrev pub OfEnds : Type 1

@@ -30,7 +30,7 @@ pub(crate) enum AddStop {
     NotOpened(Text, Reason),
     /// 53: this file is no table that was printed.
     NotTable(Text),
-    /// 54: the columns of this one are others, or lack one that is asked for.
+    /// 54: the unit or the columns of this one are others, or it lacks a column that is asked for.
     OtherColumns(Text),
     /// 31: memory was refused.
     Memory,
@@ -88,8 +88,9 @@ pub(crate) fn add_files<R: RandomSource, S: Source, O: Sink, F: Faults>(
         Err(stop) => return fail_add(alloc, stop, faults),
     };
     source.end();
+    let unit = sum.unit();
     match sum.into_table() {
-        Ok(table) => write_runs_table(alloc, table, view, &[], out, faults),
+        Ok(table) => write_runs_table(alloc, unit, table, view, &[], out, faults),
         Err(_) => fail(alloc, Fault::Memory.code(), faults),
     }
 }
@@ -123,9 +124,10 @@ pub(crate) fn compare_added<R: RandomSource, S: Source, O: Sink, F: Faults>(
         Err(stop) => return fail_add(alloc, stop, faults),
     };
     source.end();
+    let unit = earlier.unit();
     match (earlier.into_table(), later.into_table()) {
         (Ok(earlier), Ok(later)) => {
-            write_runs_changes(alloc, earlier, later, view, &[], out, faults)
+            write_runs_changes(alloc, unit, earlier, later, view, &[], out, faults)
         }
         _ => fail(alloc, Fault::Memory.code(), faults),
     }
@@ -260,7 +262,7 @@ fn sum_first<S: Source>(
 // The sum with the table of this name.
 fn add_file<S: Source>(alloc: Global, sum: Parts, name: &Text, source: &S) -> Result<Parts, AddStop>
     ensures sum { IfOk result (AddsFile (S.bytes source.now).file name.now sum) }
-    ensures stop { IfErr result (StopsAt (S.bytes source.now).file (HasOtherColumns sum.columns) name.now) }
+    ensures stop { IfErr result (StopsAt (S.bytes source.now).file (HasOtherColumns sum.unit sum.columns) name.now) }
 {
     let text = match text_of_file(alloc, name, source) {
         Ok(text) => text,

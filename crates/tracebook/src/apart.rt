@@ -11,7 +11,7 @@ use crate::standard::Standard;
 use crate::sums::{write_runs_changes, write_runs_table};
 use crate::tables::TableView;
 use span_collect::Settings;
-use span_event::{Fault, Text};
+use span_event::{Fault, Text, Unit};
 use span_report::Sink;
 use span_runs::{Source, Stop, Summed, sum_apart};
 use span_table::Column;
@@ -57,7 +57,7 @@ pub(crate) fn sum_files<
     match sum_inputs(rt, alloc, apart, &view.options.columns, &names, source) {
         Ok(summed) => {
             source.end();
-            write_sum(alloc, summed, view, out, faults)
+            write_sum(alloc, apart.settings.unit, summed, view, out, faults)
         }
         Err(stop) => fail_stop(alloc, stop, faults),
     }
@@ -104,7 +104,15 @@ pub(crate) fn compare_sums<
     match sum_inputs(rt, alloc, apart, columns, &names, source) {
         Ok(later) => {
             source.end();
-            write_comparison(alloc, earlier, later, view, out, faults)
+            write_comparison(
+                alloc,
+                apart.settings.unit,
+                earlier,
+                later,
+                view,
+                out,
+                faults,
+            )
         }
         Err(stop) => {
             say(&earlier.lines, faults);
@@ -168,6 +176,7 @@ pub(crate) fn jobs_of<R: Threads>(rt: &R, apart: &Apart) -> u32 {
 // Writes a sum, and then the fault lines of files that are no trace.
 fn write_sum<O: Sink, F: Faults>(
     alloc: Global,
+    unit: Unit,
     summed: Summed,
     view: &TableView,
     out: &mut O,
@@ -176,19 +185,20 @@ fn write_sum<O: Sink, F: Faults>(
     ensures status { result ≤ 2 }
     ensures fits { result < 2 → TableFits view.now summed.sum }
     ensures done { result < 2
-        → WritesAll (table_text view.now true summed.sum) summed.lines.items result (O.state out.old) (O.state out.new) }
-    ensures failed { result ≡ 2 → WritesPart (table_text view.now true summed.sum) (O.state out.old) (O.state out.new) }
+        → WritesAll (table_text unit view.now true summed.sum) summed.lines.items result (O.state out.old) (O.state out.new) }
+    ensures failed { result ≡ 2 → WritesPart (table_text unit view.now true summed.sum) (O.state out.old) (O.state out.new) }
     ensures said { result < 2 → Says summed.lines.items (F.state faults.old) (F.state faults.new) }
 {
     let Summed { sum, lines } = summed;
     match sum.into_table() {
-        Ok(table) => write_runs_table(alloc, table, view, &lines, out, faults),
+        Ok(table) => write_runs_table(alloc, unit, table, view, &lines, out, faults),
         Err(_) => fail(alloc, Fault::Memory.code(), faults),
     }
 }
 
 fn write_comparison<O: Sink, F: Faults>(
     alloc: Global,
+    unit: Unit,
     base: Summed,
     other: Summed,
     view: &ComparisonView,
@@ -196,10 +206,10 @@ fn write_comparison<O: Sink, F: Faults>(
     faults: &mut F,
 ) -> u8
     ensures status { result ≤ 2 }
-    ensures done { result < 2 → WritesAll (changes_text view.now true base.sum other.sum)
+    ensures done { result < 2 → WritesAll (changes_text unit view.now true base.sum other.sum)
         (base.lines.items ++ other.lines.items) result (O.state out.old) (O.state out.new) }
     ensures failed { result ≡ 2
-        → WritesPart (changes_text view.now true base.sum other.sum) (O.state out.old) (O.state out.new) }
+        → WritesPart (changes_text unit view.now true base.sum other.sum) (O.state out.old) (O.state out.new) }
     ensures said { result < 2 → Says (base.lines.items ++ other.lines.items) (F.state faults.old) (F.state faults.new) }
 {
     let Summed {
@@ -215,7 +225,7 @@ fn write_comparison<O: Sink, F: Faults>(
     }
     match (earlier.into_table(), later.into_table()) {
         (Ok(earlier), Ok(later)) => {
-            write_runs_changes(alloc, earlier, later, view, &lines, out, faults)
+            write_runs_changes(alloc, unit, earlier, later, view, &lines, out, faults)
         }
         _ => fail(alloc, Fault::Memory.code(), faults),
     }

@@ -7,7 +7,7 @@ ghost use Rattle.tracebook.specs.Comparison.{AreTooGreat, ChangesLeave, Comparis
 
 use crate::tables::TableOptions;
 use span_collect::{Collected, Input, RunError, Settings, collect_to_ledger};
-use span_event::Fault;
+use span_event::{Fault, Unit};
 use span_report::{Sink, write_bytes};
 use span_runs::table_of_run;
 use span_table::{By, JsonFault, Table, comparison, json_comparison};
@@ -97,7 +97,7 @@ pub(crate) fn run_comparison<O: Sink, R: Threads + Wait + RandomSource + Sync>(
     if greater(compared.base.end.status, compared.other.end.status) == 2 {
         return Ok(compared);
     }
-    match write_changes(rt, alloc, base, files, &compared, view, out) {
+    match write_changes(rt, alloc, settings.unit, base, files, &compared, view, out) {
         Ok(()) => Ok(compared),
         Err(fault) => Err(fault),
     }
@@ -107,21 +107,22 @@ pub(crate) fn run_comparison<O: Sink, R: Threads + Wait + RandomSource + Sync>(
 fn write_changes<O: Sink, R: RandomSource>(
     rt: &R,
     alloc: Global,
+    unit: Unit,
     base: &[Input],
     files: &[Input],
     compared: &Compared,
     view: &ComparisonView,
     out: &mut O,
 ) -> Result<(), ComparisonFault>
-    ensures ok { OnOk result (TakesBytes (O.state out.old) (O.state out.new) (changes_of_runs view.now
+    ensures ok { OnOk result (TakesBytes (O.state out.old) (O.state out.new) (changes_of_runs unit view.now
         (run_of_files base.now compared.now.base.end.ends.items compared.now.base.ledger.journal)
         (run_of_files files.now compared.now.other.end.ends.items compared.now.other.ledger.journal))) }
-    ensures fault { IfErr result (λ fault. ChangesLeave view.now fault
+    ensures fault { IfErr result (λ fault. ChangesLeave unit view.now fault
         (run_of_files base.now compared.now.base.end.ends.items compared.now.base.ledger.journal)
         (run_of_files files.now compared.now.other.end.ends.items compared.now.other.ledger.journal)
         (O.state out.old) (O.state out.new)) }
 {
-    let text = match changes_of(rt, alloc, base, files, compared, view) {
+    let text = match changes_of(rt, alloc, unit, base, files, compared, view) {
         Ok(text) => text,
         Err(JsonFault::Memory) => return Err(ComparisonFault::Run(RunError::Memory)),
         Err(JsonFault::TooGreat) => return Err(ComparisonFault::TooGreat),
@@ -133,12 +134,13 @@ fn write_changes<O: Sink, R: RandomSource>(
 fn changes_of<R: RandomSource>(
     rt: &R,
     alloc: Global,
+    unit: Unit,
     base: &[Input],
     files: &[Input],
     compared: &Compared,
     view: &ComparisonView,
 ) -> Result<Vec<u8>, JsonFault>
-    ensures text { IfOk result (λ text. text.items ≡ changes_of_runs view.now
+    ensures text { IfOk result (λ text. text.items ≡ changes_of_runs unit view.now
         (run_of_files base.now compared.now.base.end.ends.items compared.now.base.ledger.journal)
         (run_of_files files.now compared.now.other.end.ends.items compared.now.other.ledger.journal)) }
     ensures too_great { IfErr result (λ fault. fault ≡ TooGreat → AreTooGreat view.now
@@ -153,29 +155,32 @@ fn changes_of<R: RandomSource>(
         drop(earlier);
         return Err(JsonFault::Memory);
     };
-    let text = changes_text(alloc, &earlier, &later, view, false);
+    let text = changes_text(alloc, unit, &earlier, &later, view, false);
     // The program ends soon, and then the system frees all at once, where freeing one by one takes long.
     forget(earlier);
     forget(later);
     text
 }
 
-/// What changed between two tables, whose heads tell of runs or don't.
+/// What changed between two tables in a unit, whose heads tell of runs or don't.
 pub(crate) fn changes_text(
     alloc: Global,
+    unit: Unit,
     base: &Table,
     other: &Table,
     view: &ComparisonView,
     tells_runs: bool,
 ) -> Result<Vec<u8>, JsonFault>
-    ensures text { IfOk result (λ text. text.items ≡ changes_text view.now tells_runs base.now other.now) }
+    ensures text { IfOk result (λ text. text.items ≡ changes_text unit view.now tells_runs base.now other.now) }
     ensures too_great { IfErr result (λ fault. fault ≡ TooGreat → HasTooGreat view.now base.now other.now) }
 {
     let shown = &view.options.shown;
     match view.form {
         ComparisonForm::Text { by } => {
-            comparison(alloc, base, other, shown, by, tells_runs).map_err(|_| JsonFault::Memory)
+            comparison(alloc, unit, base, other, shown, by, tells_runs).map_err(
+                |_| JsonFault::Memory,
+            )
         }
-        ComparisonForm::Json => json_comparison(alloc, base, other, shown),
+        ComparisonForm::Json => json_comparison(alloc, unit, base, other, shown),
     }
 }

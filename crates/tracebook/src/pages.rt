@@ -63,7 +63,7 @@ pub(crate) fn page_files<
     match show_inputs(rt, alloc, apart, view, &names, source) {
         Ok(shown) => {
             source.end();
-            write_shown(alloc, shown, view, out, faults)
+            write_shown(alloc, apart.settings.unit, shown, view, out, faults)
         }
         Err(stop) => fail_stop(alloc, stop, faults),
     }
@@ -233,6 +233,7 @@ fn with_run(
 // Writes the page, and then the fault lines of files that are no trace.
 fn write_shown<O: Sink, F: Faults>(
     alloc: Global,
+    unit: Unit,
     shown: ShownFiles,
     view: &PageView,
     out: &mut O,
@@ -240,8 +241,8 @@ fn write_shown<O: Sink, F: Faults>(
 ) -> u8
     ensures status { result ≤ 2 }
     ensures fits { result < 2 → TableFits view.now.table shown.summed.sum }
-    ensures done { result < 2 → WritesPage view.now shown result (O.state out.old) (O.state out.new) }
-    ensures failed { result ≡ 2 → WritesPagePart view.now shown (O.state out.old) (O.state out.new) }
+    ensures done { result < 2 → WritesPage unit view.now shown result (O.state out.old) (O.state out.new) }
+    ensures failed { result ≡ 2 → WritesPagePart unit view.now shown (O.state out.old) (O.state out.new) }
     ensures said { result < 2 → Says shown.summed.lines.items (F.state faults.old) (F.state faults.new) }
 {
     let ShownFiles { summed, page } = shown;
@@ -249,22 +250,23 @@ fn write_shown<O: Sink, F: Faults>(
     let Ok(table) = sum.into_table() else {
         return fail(alloc, Fault::Memory.code(), faults);
     };
-    let text = page_text(alloc, table, page, view);
+    let text = page_text(alloc, unit, table, page, view);
     write_told(alloc, text, &lines, out, faults)
 }
 
 fn page_text(
     alloc: Global,
+    unit: Unit,
     table: Table,
     page: RunsPage,
     view: &PageView,
 ) -> Result<Vec<u8>, JsonFault>
-    ensures text { IfOk result (λ text. (unit : Unit) (runs : List ShownRun)
+    ensures text { IfOk result (λ text. (runs : List ShownRun)
         → Holds unit view.now.labels.items runs page
-        → text.items ≡ page_of_runs unit view.now.labels.items (table_text view.now.table true table) runs) }
+        → text.items ≡ page_of_runs unit view.now.labels.items (table_text unit view.now.table true table) runs) }
     ensures fits { OnOk result (TableFits view.now.table table) }
 {
-    let lines = match table_text(alloc, &table, &view.table, true) {
+    let lines = match table_text(alloc, unit, &table, &view.table, true) {
         Ok(lines) => lines,
         Err(fault) => return Err(fault),
     };

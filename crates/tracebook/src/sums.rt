@@ -8,15 +8,16 @@ ghost use Rattle.tracebook.specs.Tables.{TableFits, table_text};
 use crate::comparison::{ComparisonView, changes_text};
 use crate::faults::{FAILED, Faults, fail, say};
 use crate::tables::{TableView, table_text};
-use span_event::Fault;
+use span_event::{Fault, Unit};
 use span_report::{Sink, write_bytes};
 use span_table::{JsonFault, Table};
 use std::alloc::Global;
 use std::mem::forget;
 
-/// Writes a table, and then these fault lines.
+/// Writes a table in a unit, and then these fault lines.
 pub(crate) fn write_runs_table<O: Sink, F: Faults>(
     alloc: Global,
+    unit: Unit,
     table: Table,
     view: &TableView,
     lines: &[u8],
@@ -26,19 +27,20 @@ pub(crate) fn write_runs_table<O: Sink, F: Faults>(
     ensures status { result ≤ 2 }
     ensures fits { result < 2 → TableFits view.now table }
     ensures done { result < 2
-        → WritesAll (table_text view.now true table) lines.now result (O.state out.old) (O.state out.new) }
-    ensures failed { result ≡ 2 → WritesPart (table_text view.now true table) (O.state out.old) (O.state out.new) }
+        → WritesAll (table_text unit view.now true table) lines.now result (O.state out.old) (O.state out.new) }
+    ensures failed { result ≡ 2 → WritesPart (table_text unit view.now true table) (O.state out.old) (O.state out.new) }
     ensures said { result < 2 → Says lines.now (F.state faults.old) (F.state faults.new) }
 {
-    let text = table_text(alloc, &table, view, true);
+    let text = table_text(alloc, unit, &table, view, true);
     // The program ends soon, and then the system frees all at once, where freeing one by one takes long.
     forget(table);
     write_told(alloc, text, lines, out, faults)
 }
 
-/// Writes what changed between two tables, and then these fault lines.
+/// Writes what changed between two tables in a unit, and then these fault lines.
 pub(crate) fn write_runs_changes<O: Sink, F: Faults>(
     alloc: Global,
+    unit: Unit,
     base: Table,
     other: Table,
     view: &ComparisonView,
@@ -48,11 +50,11 @@ pub(crate) fn write_runs_changes<O: Sink, F: Faults>(
 ) -> u8
     ensures status { result ≤ 2 }
     ensures done { result < 2
-        → WritesAll (changes_text view.now true base other) lines.now result (O.state out.old) (O.state out.new) }
-    ensures failed { result ≡ 2 → WritesPart (changes_text view.now true base other) (O.state out.old) (O.state out.new) }
+        → WritesAll (changes_text unit view.now true base other) lines.now result (O.state out.old) (O.state out.new) }
+    ensures failed { result ≡ 2 → WritesPart (changes_text unit view.now true base other) (O.state out.old) (O.state out.new) }
     ensures said { result < 2 → Says lines.now (F.state faults.old) (F.state faults.new) }
 {
-    let text = changes_text(alloc, &base, &other, view, true);
+    let text = changes_text(alloc, unit, &base, &other, view, true);
     // The program ends soon, and then the system frees all at once, where freeing one by one takes long.
     forget(base);
     forget(other);

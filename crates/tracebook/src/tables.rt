@@ -3,6 +3,7 @@ ghost use Rattle.std.specs.Prelude.{◌≡◌, true, false, string_bytes, IfOk, 
 ghost use Rattle.span_table.specs.declared.json_lines.JsonFault.TheVariants.{Memory, TooGreat};
 ghost use Rattle.tracebook.specs.Tables.{TableExceeds, TableFits, table_text};
 
+use span_event::Unit;
 use span_table::{By, Column, JsonFault, Shown, Table, json_table, ranking};
 use std::alloc::Global;
 
@@ -29,26 +30,27 @@ pub struct TableView {
     pub form: TableForm,
 }
 
-/// The text of a table, whose head tells of runs or doesn't.
+/// The text of a table in a unit, whose head tells of runs or doesn't.
 pub(crate) fn table_text(
     alloc: Global,
+    unit: Unit,
     table: &Table,
     view: &TableView,
     tells_runs: bool,
 ) -> Result<Vec<u8>, JsonFault>
-    ensures text { IfOk result (λ text. text.items ≡ table_text view.now tells_runs table.now) }
+    ensures text { IfOk result (λ text. text.items ≡ table_text unit view.now tells_runs table.now) }
     ensures fits { OnOk result (TableFits view.now table.now) }
     ensures too_great { IfErr result (λ fault. fault ≡ TooGreat → TableExceeds view.now table.now) }
 {
     let shown = &view.options.shown;
     match view.form {
         TableForm::Ranking { most, by } => {
-            match ranking(alloc, table, shown, most, by, tells_runs) {
+            match ranking(alloc, unit, table, shown, most, by, tells_runs) {
                 Ok(text) => Ok(text),
                 Err(_) => Err(JsonFault::Memory),
             }
         }
-        TableForm::Json => json_table(alloc, table, shown),
+        TableForm::Json => json_table(alloc, unit, table, shown),
     }
 }
 

@@ -163,7 +163,7 @@ fn write_table<O: Sink, R: RandomSource>(
     ensures fault { IfErr result (λ fault. TextLeaves unit (OfTable view.now) files.now fault
         collected.now.end.ends.items collected.now.ledger.journal (O.state out.old) (O.state out.new)) }
 {
-    let text = match text_of_run(rt, alloc, files, collected, view, true) {
+    let text = match text_of_run(rt, alloc, unit, files, collected, view, true) {
         Ok(text) => text,
         Err(JsonFault::Memory) => return Err(ViewFault::Run(RunError::Memory)),
         Err(JsonFault::TooGreat) => return Err(ViewFault::TooGreat),
@@ -188,7 +188,7 @@ fn write_page_view<O: Sink, R: RandomSource>(
     ensures fault { IfErr result (λ fault. TextLeaves unit (OfPage view.now) files.now fault
         collected.now.end.ends.items collected.now.ledger.journal (O.state out.old) (O.state out.new)) }
 {
-    let text = match text_of_run(rt, alloc, files, collected, &view.table, false) {
+    let text = match text_of_run(rt, alloc, unit, files, collected, &view.table, false) {
         Ok(text) => text,
         Err(JsonFault::Memory) => return Err(ViewFault::Run(RunError::Memory)),
         Err(JsonFault::TooGreat) => return Err(ViewFault::TooGreat),
@@ -214,12 +214,13 @@ fn write_page_view<O: Sink, R: RandomSource>(
 fn text_of_run<R: RandomSource>(
     rt: &R,
     alloc: Global,
+    unit: Unit,
     files: &[Input],
     collected: &Collected,
     view: &TableView,
     is_last: bool,
 ) -> Result<Vec<u8>, JsonFault>
-    ensures text { IfOk result (λ text. text.items ≡ table_text view.now false
+    ensures text { IfOk result (λ text. text.items ≡ table_text unit view.now false
         (asked_table view.now (run_of_files files.now collected.now.end.ends.items collected.now.ledger.journal))) }
     ensures fits { OnOk result (TableFits view.now
         (asked_table view.now (run_of_files files.now collected.now.end.ends.items collected.now.ledger.journal))) }
@@ -230,7 +231,7 @@ fn text_of_run<R: RandomSource>(
     let Ok(table) = table_of_run(rt, alloc, columns, files, collected) else {
         return Err(JsonFault::Memory);
     };
-    let text = table_text(alloc, &table, view, false);
+    let text = table_text(alloc, unit, &table, view, false);
     let_go(table, is_last);
     text
 }
