@@ -7,8 +7,8 @@ set -eu
 here=$(cd "$(dirname "$0")" && pwd)
 folder=$(cd "$1" && pwd)
 scratch=$(mktemp -d)
-trap 'kill "$viewer" 2> /dev/null; rm -rf "$scratch"' EXIT
 viewer=
+trap 'rm -rf "$scratch"; [ -z "$viewer" ] || kill "$viewer"' EXIT
 go build -o "$scratch/small" "$here/small.go"
 "$scratch/small" > "$scratch/trace.out"
 BROWSER=true go tool trace -http=127.0.0.1:6061 "$scratch/trace.out" 2> /dev/null &
