@@ -24,7 +24,7 @@ FAULTS = {
          for value in ["0.5", '"1"', "null", "true", "[]", "{}", "-0", "9223372036854775808", "1e3"]],
 }
 
-# What is no time in either unit, and further in each.
+# What neither unit takes as a time, and what one of them alone doesn't.
 NO_TIMES = ['"5"', '"1.5"', "null", "true", "[1]", "{}", "9223372036854775808", "-9223372036854775809", "18446744073709551616", "1e300"]
 NO_TIMES_IN = {
     MICROSECONDS: ["1.5", "1.0", "1e3", "-0", "9007199254740992", "-9007199254740992"],
