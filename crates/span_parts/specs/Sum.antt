@@ -118,7 +118,8 @@ abbrev pub FindsPlaces : List Column → List Column → Option (Vec ℕ) → Ty
 FindsPlaces wanted columns None = (places : List ℕ) → AreAt places wanted columns → ⊥
 FindsPlaces wanted columns (Some found) = AreAt found.items wanted columns
 
--- the part of this text was added, in this unit and by these columns: its head and its rows, each with the values at these places of its key
+-- The part of this text was added, in this unit and by these columns: its head and its rows, each with the values at these places of
+-- its key.
 pub record IsAdded (unit : TimeUnit) (columns : List Column) (places : List ℕ) (text : Bytes) (old new : SpanTable) : Type 0 where
   pub part : SpanTable
   pub is : IsPart unit text part

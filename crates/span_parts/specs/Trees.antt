@@ -45,7 +45,8 @@ abbrev mutual
 
 -- whatever the tree, what is printed is the table of all its runs
 abbrev pub TreesLoseNothing : Type 0
-TreesLoseNothing = (unit : TimeUnit) (columns : List Column) (whole : Tree) (text : Bytes) → IsPrinted unit columns whole text → IsPrint unit text (table_of columns (runs_in whole))
+TreesLoseNothing = (unit : TimeUnit) (columns : List Column) (whole : Tree) (text : Bytes) → IsPrinted unit columns whole text →
+    IsPrint unit text (table_of columns (runs_in whole))
 
 -- two trees of the same runs, in whatever order, are printed alike
 abbrev pub TreesPrintAlike : Type 0
