@@ -36,15 +36,15 @@ bench: tracebook
 	cd crates/bench_reading && rt run < stdin
 	cd crates/bench_tracking && rt run < stdin
 	bench/reading
-	bench/tracking
-	bench/flooding
+	bench/self_time
+	bench/colliding_keys
 	bench/hostile
 	bench/folding
 	bench/tables
 	bench/build
 	bench/added
-	bench/threads
-	bench/workers
+	bench/many_threads
+	bench/several_files
 
 install: $(PROGRAM)
 	install -d $(DESTDIR)$(PREFIX)/bin
