@@ -11,23 +11,26 @@ use Rattle.std.proofs.lemmas.List.Sums.{sum_by-append, sum_by-cons}
 use Rattle.std.proofs.lemmas.Option.{slice_get-map}
 use Rattle.std.proofs.lemmas.Simd.{map-map}
 use Rattle.span_event.specs.declared.thread.Thread.{Thread}
+use Rattle.span_keyed_tracks.specs.declared.async_track.AsyncRow.{AsyncRow}
 use Rattle.span_keyed_tracks.specs.Keyed.{Keyed, keys_in, steps_at}
 use Rattle.span_keyed_tracks.proofs.Keyed.{has_key}
 use Rattle.span_keyed_tracks.proofs.SameKeys.{step_keys}
 use Rattle.span_ledger.specs.declared.rows.CountRow.{CountRow}
 use Rattle.span_ledger.specs.Journal.{accepted}
-use Rattle.span_ledger.specs.Rows.{thread_keys}
+use Rattle.span_ledger.specs.Rows.{async_rows, thread_keys}
 use Rattle.span_ledger.specs.Timed.{Timed, timed_spans}
 use Rattle.span_self_time.proofs.Mapped.{sum_by-map}
 use Rattle.span_table.specs.declared.column.Column.{Column}
+use Rattle.span_table.specs.declared.of.Of.{Of}
+use Rattle.span_table.specs.declared.of.Of.TheVariants.{Spans, Async}
 use Rattle.span_table.specs.declared.sums.Sums.{Sums}
 use Rattle.span_table.specs.declared.heads.Head.{Head}
 use Rattle.span_table.specs.declared.table.Row.{Row}
 use Rattle.span_table.specs.Adding.{AddingLosesNothing, DroppingAdds, OrderIsNothing, keyed_by, keyed_rows, picked}
-use Rattle.span_table.specs.Columns.{value_at}
+use Rattle.span_table.specs.Columns.{async_value_at, value_at}
 use Rattle.span_table.specs.KeyLaws.{key_cmp_total, key_cmp-same}
 use Rattle.span_table.specs.Keys.{TableKey, key_cmp}
-use Rattle.span_table.specs.Tables.{KeyedSums, Run, SpanTable, head_of, heads_together, keyed_span, row_of, rows_of, run_sums, sums_together, table_of, thread_sums}
+use Rattle.span_table.specs.Tables.{KeyedSums, Run, SpanTable, head_of, heads_together, keyed_async, keyed_span, row_of, rows_of, run_sums, sums_together, table_of, thread_sums}
 use Rattle.span_table.proofs.Alike.{AddUpAlike, AddUpAlike-flat_map, AddUpAlike-grouped, has_key-append, summed-alike}
 use Rattle.span_table.proofs.Tallies.{made_of, tally, tally-append, under}
 
@@ -48,11 +51,11 @@ map-flat_map f g [] = refl
 map-flat_map f g (x ∷ xs) = map-append f (g x) (flat_map g xs) ∙ ap (λ l. map f (g x) ++ l) (map-flat_map f g xs)
 
 -- sums put together by key, each under another key
-abbrev regrouped : (TableKey → TableKey) → KeyedSums → KeyedSums
+abbrev pub regrouped : (TableKey → TableKey) → KeyedSums → KeyedSums
 regrouped g es = map (under g) (map (made_of (λ k. sums_together (steps_at key_cmp k es))) (keys_in key_cmp es))
 
 -- so are rows, where each goes under another key
-rows-regrouped : (g : TableKey → TableKey) (es : KeyedSums) → map (λ (row : Row). record { key = g row.key; step = row.sums }) (rows_of es) ≡ regrouped g es
+pub rows-regrouped : (g : TableKey → TableKey) (es : KeyedSums) → map (λ (row : Row). record { key = g row.key; step = row.sums }) (rows_of es) ≡ regrouped g es
 rows-regrouped g es = keys (keys_in key_cmp es)
   where
     keys : (ks : List TableKey) → map (λ (row : Row). record { key = g row.key; step = row.sums }) (map row_of (map (λ k. (k, sums_together (steps_at key_cmp k es))) ks)) ≡ map (under g) (map (made_of (λ k. sums_together (steps_at key_cmp k es))) ks)
@@ -97,17 +100,17 @@ head-same a b same =
 
 -- the tables of lists of runs, added, are the table of all these runs together
 pub add_tables-parts : AddingLosesNothing
-add_tables-parts columns parts = λ i. record { columns = columns; head = heads i; rows = rows i }
+add_tables-parts of columns parts = λ i. record { of = of; columns = columns; head = heads i; rows = rows i }
   where
-    heads : heads_together (map (λ (table : SpanTable). table.head) (map (table_of columns) parts)) ≡ heads_together (map head_of (flat_map (λ part. part) parts))
-    heads = ap heads_together (map-map (λ (table : SpanTable). table.head) (table_of columns) parts)
+    heads : heads_together (map (λ (table : SpanTable). table.head) (map (table_of of columns) parts)) ≡ heads_together (map head_of (flat_map (λ part. part) parts))
+    heads = ap heads_together (map-map (λ (table : SpanTable). table.head) (table_of of columns) parts)
         ∙ head-same (heads_together (map (λ part. heads_together (map head_of part)) parts)) (heads_together (map head_of (flat_map (λ part. part) parts))) (λ f adds. number-parts f adds parts)
 
-    rows : rows_of (flat_map (λ (table : SpanTable). keyed_rows table.rows) (map (table_of columns) parts)) ≡ rows_of (flat_map (run_sums columns) (flat_map (λ part. part) parts))
-    rows = ap rows_of (flat_map-map (λ (table : SpanTable). keyed_rows table.rows) (table_of columns) parts)
-        ∙ rows_of-alike (flat_map (λ part. keyed_rows (rows_of (flat_map (run_sums columns) part))) parts) (flat_map (λ part. flat_map (run_sums columns) part) parts)
-        (AddUpAlike-flat_map (λ part. keyed_rows (rows_of (flat_map (run_sums columns) part))) (λ part. flat_map (run_sums columns) part) (λ part. rows-back (flat_map (run_sums columns) part)) parts)
-        ∙ ap rows_of (sym (flat_map-flat_map (run_sums columns) (λ part. part) parts))
+    rows : rows_of (flat_map (λ (table : SpanTable). keyed_rows table.rows) (map (table_of of columns) parts)) ≡ rows_of (flat_map (run_sums of columns) (flat_map (λ part. part) parts))
+    rows = ap rows_of (flat_map-map (λ (table : SpanTable). keyed_rows table.rows) (table_of of columns) parts)
+        ∙ rows_of-alike (flat_map (λ part. keyed_rows (rows_of (flat_map (run_sums of columns) part))) parts) (flat_map (λ part. flat_map (run_sums of columns) part) parts)
+        (AddUpAlike-flat_map (λ part. keyed_rows (rows_of (flat_map (run_sums of columns) part))) (λ part. flat_map (run_sums of columns) part) (λ part. rows-back (flat_map (run_sums of columns) part)) parts)
+        ∙ ap rows_of (sym (flat_map-flat_map (run_sums of columns) (λ part. part) parts))
 
 picked-map : {A B : Type 0} (f : A → B) (xs : List A) (ps : List ℕ) → picked ps (map f xs) ≡ map f (picked ps xs)
 picked-map f xs [] = refl
@@ -123,20 +126,24 @@ module _ (places : List ℕ) (columns : List Column) where
       map-map (under (picked places)) (keyed_span columns run thread) (timed_spans run.journal thread)
       ∙ (λ i. map (λ (t : Timed). record { key = picked-map (value_at run thread t.span.name t.span.args) columns places i; step = (keyed_span columns run thread t).step }) (timed_spans run.journal thread))
 
-  run_picked : (run : Run) → map (under (picked places)) (run_sums columns run) ≡ run_sums (picked places columns) run
-  run_picked run =
+  run_picked : (of : Of) (run : Run) → map (under (picked places)) (run_sums of columns run) ≡ run_sums of (picked places columns) run
+  run_picked Spans run =
       map-flat_map (under (picked places)) (thread_sums columns run) (thread_keys (accepted run.journal))
       ∙ (λ i. flat_map (λ thread. thread_picked run thread i) (thread_keys (accepted run.journal)))
+  run_picked Async run =
+      map-map (under (picked places)) (keyed_async columns run) (async_rows run.journal)
+      ∙ (λ i. map (λ (row : AsyncRow). record { key = picked-map (async_value_at run row.key) columns places i; step = (keyed_async columns run row).step }) (async_rows run.journal))
 
-  rows-picked : (runs : List Run) → rows_of (map (keyed_by places) (rows_of (flat_map (run_sums columns) runs))) ≡ rows_of (flat_map (run_sums (picked places columns)) runs)
-  rows-picked runs =
-      ap rows_of (rows-regrouped (picked places) (flat_map (run_sums columns) runs))
-      ∙ rows_of-alike (regrouped (picked places) (flat_map (run_sums columns) runs)) (map (under (picked places)) (flat_map (run_sums columns) runs)) (AddUpAlike-grouped key_cmp_total key_cmp-same (picked places) (flat_map (run_sums columns) runs))
-      ∙ ap rows_of (map-flat_map (under (picked places)) (run_sums columns) runs ∙ (λ i. flat_map (λ run. run_picked run i) runs))
+  rows-picked : (of : Of) (runs : List Run) → rows_of (map (keyed_by places) (rows_of (flat_map (run_sums of columns) runs))) ≡ rows_of (flat_map (run_sums of (picked places columns)) runs)
+  rows-picked of runs =
+      let sums = flat_map (run_sums of columns) runs in
+      ap rows_of (rows-regrouped (picked places) sums)
+      ∙ rows_of-alike (regrouped (picked places) sums) (map (under (picked places)) sums) (AddUpAlike-grouped key_cmp_total key_cmp-same (picked places) sums)
+      ∙ ap rows_of (map-flat_map (under (picked places)) (run_sums of columns) runs ∙ (λ i. flat_map (λ run. run_picked of run i) runs))
 
 -- a table by fewer columns is the table by more, with the others dropped
 pub table_of-picked : DroppingAdds
-table_of-picked places columns runs = λ i. record { columns = picked places columns; head = heads_together (map head_of runs); rows = rows-picked places columns runs i }
+table_of-picked places of columns runs = λ i. record { of = of; columns = picked places columns; head = heads_together (map head_of runs); rows = rows-picked places columns of runs i }
 
 -- what adds up over runs is the same in whatever order they come
 module _ (F : Run → KeyedSums) (k : TableKey) where
@@ -164,19 +171,21 @@ module _ (F : Run → KeyedSums) (k : TableKey) where
         let count = tally-moved (λ (s : Sums). s.count) in
         let total = tally-moved (λ (s : Sums). s.total) in
         let self_time = tally-moved (λ (s : Sums). s.self_time) in
-        λ i. record { count = count i; total = total i; self_time = self_time i }
+        let unclosed = tally-moved (λ (s : Sums). s.unclosed) in
+        let points = tally-moved (λ (s : Sums). s.points) in
+        λ i. record { count = count i; total = total i; self_time = self_time i; unclosed = unclosed i; points = points i }
 
 -- a table is the same for runs in whatever order
 pub table_of-moved : OrderIsNothing
-table_of-moved columns runs other moved = λ i. record { columns = columns; head = heads i; rows = rows i }
+table_of-moved of columns runs other moved = λ i. record { of = of; columns = columns; head = heads i; rows = rows i }
   where
     heads : heads_together (map head_of runs) ≡ heads_together (map head_of other)
     heads = head-same (heads_together (map head_of runs)) (heads_together (map head_of other))
         (λ f adds. adds (map head_of runs) ∙ sym (sum_by-IsPermutation f (map head_of runs) (map head_of other) (IsPermutation-map head_of runs other moved)) ∙ sym (adds (map head_of other)))
 
-    rows : rows_of (flat_map (run_sums columns) runs) ≡ rows_of (flat_map (run_sums columns) other)
-    rows = rows_of-alike (flat_map (run_sums columns) runs) (flat_map (run_sums columns) other) (record {
-      there = λ k h. sym (keys-moved (run_sums columns) k runs other moved) ∙ h;
-      back = λ k h. keys-moved (run_sums columns) k runs other moved ∙ h;
-      sums = λ k. sums-moved (run_sums columns) k runs other moved;
+    rows : rows_of (flat_map (run_sums of columns) runs) ≡ rows_of (flat_map (run_sums of columns) other)
+    rows = rows_of-alike (flat_map (run_sums of columns) runs) (flat_map (run_sums of columns) other) (record {
+      there = λ k h. sym (keys-moved (run_sums of columns) k runs other moved) ∙ h;
+      back = λ k h. keys-moved (run_sums of columns) k runs other moved ∙ h;
+      sums = λ k. sums-moved (run_sums of columns) k runs other moved;
     })

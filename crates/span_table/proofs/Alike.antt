@@ -81,7 +81,9 @@ sums_at-append k es fs =
     let count = tally-append key_cmp (λ (s : Sums). s.count) k es fs in
     let total = tally-append key_cmp (λ (s : Sums). s.total) k es fs in
     let self_time = tally-append key_cmp (λ (s : Sums). s.self_time) k es fs in
-    λ i. record { count = count i; total = total i; self_time = self_time i }
+    let unclosed = tally-append key_cmp (λ (s : Sums). s.unclosed) k es fs in
+    let points = tally-append key_cmp (λ (s : Sums). s.points) k es fs in
+    λ i. record { count = count i; total = total i; self_time = self_time i; unclosed = unclosed i; points = points i }
 
 Within-append : (es fs es' fs' : KeyedSums) → Within key_cmp (step_keys es) (step_keys es') → Within key_cmp (step_keys fs) (step_keys fs') → Within key_cmp (step_keys (es ++ fs)) (step_keys (es' ++ fs'))
 Within-append es fs es' fs' first second k h =
@@ -184,5 +186,7 @@ module _ {K : Type 0} {cmp : K → K → Ordering} (o : IsTotalOrder cmp) (same 
           let count = one_sum (λ (s : Sums). s.count) (λ k. refl) j in
           let total = one_sum (λ (s : Sums). s.total) (λ k. refl) j in
           let self_time = one_sum (λ (s : Sums). s.self_time) (λ k. refl) j in
-          λ i. record { count = count i; total = total i; self_time = self_time i };
+          let unclosed = one_sum (λ (s : Sums). s.unclosed) (λ k. refl) j in
+          let points = one_sum (λ (s : Sums). s.points) (λ k. refl) j in
+          λ i. record { count = count i; total = total i; self_time = self_time i; unclosed = unclosed i; points = points i };
     }

@@ -19,12 +19,12 @@ use Rattle.span_ledger.proofs.Sorted.{map-map}
 use Rattle.span_self_time.specs.Spans.{Span, named}
 use Rattle.span_track.specs.Nesting.{closed_spans}
 use Rattle.span_table.specs.declared.column.Column.{Column}
-use Rattle.span_table.specs.declared.column.Column.TheVariants.{Pid, Tid, Process, Thread as OfThread, Name, File, Argument}
+use Rattle.span_table.specs.declared.column.Column.TheVariants.{Pid, Tid, Process, Thread as OfThread, Name, File, Cat, Scope, Id, Argument}
 use Rattle.span_table.specs.declared.sums.Sums.{Sums}
 use Rattle.span_table.specs.Collected.{keyed_span_row, row_sums, sums_of_row}
 use Rattle.span_table.specs.Columns.{Run, Value, is_argument, value_at}
 use Rattle.span_table.specs.Keys.{TableKey}
-use Rattle.span_table.specs.Tables.{KeyedSums, keyed_span, run_sums, summed, sums_of, sums_together, thread_sums}
+use Rattle.span_table.specs.Tables.{KeyedSums, keyed_span, span_sums, summed, sums_of, sums_together, thread_sums}
 use Rattle.span_table.proofs.Alike.{AddUpAlike, AddUpAlike-flat_map, AddUpAlike-grouped, summed-alike}
 use Rattle.span_table.proofs.Tallies.{made_of, under}
 
@@ -36,6 +36,9 @@ value_at-no_argument run thread name args Process h = refl
 value_at-no_argument run thread name args OfThread h = refl
 value_at-no_argument run thread name args Name h = refl
 value_at-no_argument run thread name args File h = refl
+value_at-no_argument run thread name args Cat h = refl
+value_at-no_argument run thread name args Scope h = refl
+value_at-no_argument run thread name args Id h = refl
 value_at-no_argument run thread name args (Argument key) h = cc
 
 key-no_argument : (run : Run) (thread : Thread) (name : Bytes) (args : Arguments) (columns : List Column) → list_any is_argument columns ≡ false → map (value_at run thread name args) columns ≡ map (value_at run thread name []) columns
@@ -51,6 +54,10 @@ key-no_argument run thread name args (column ∷ columns) h =
 sum_by-map : {A B : Type 0} (f : B → ℕ) (g : A → B) (xs : List A) → sum_by f (map g xs) ≡ sum_by (λ x. f (g x)) xs
 sum_by-map f g [] = refl
 sum_by-map f g (x ∷ xs) = sum_by-cons f (g x) (map g xs) ∙ ap (λ n. f (g x) + n) (sum_by-map f g xs) ∙ sym (sum_by-cons (λ x. f (g x)) x xs)
+
+sum_by-none : {A : Type 0} (xs : List A) → sum_by (λ x. 0) xs ≡ 0
+sum_by-none [] = refl
+sum_by-none (x ∷ xs) = omega (arith, sum_by-cons (λ x. 0) x xs, sum_by-none xs)
 
 sum_by-one : {A : Type 0} (xs : List A) → sum_by (λ x. 1) xs ≡ length xs
 sum_by-one [] = refl
@@ -79,8 +86,17 @@ module _ (spans : List (Span Bytes)) where
       let count = one (λ (s : Sums). s.count) in
       let total = one (λ (s : Sums). s.total) in
       let self = one (λ (s : Sums). s.self_time) in
+      let unclosed = one (λ (s : Sums). s.unclosed) in
+      let points = one (λ (s : Sums). s.points) in
       let number = sum_by-one (named same_text name spans) in
-      λ i. record { count = (sym number ∙ sym count) i; total = sym total i; self_time = sym self i }
+      let none = sum_by-none (named same_text name spans) in
+      λ i. record {
+        count = (sym number ∙ sym count) i;
+        total = sym total i;
+        self_time = sym self i;
+        unclosed = (sym none ∙ sym unclosed) i;
+        points = (sym none ∙ sym points) i;
+      }
     where
       one : (f : Sums → ℕ) → sum_by f (steps_at text_cmp name (map of_span spans)) ≡ sum_by (λ s. f (sums_of (timed_in spans s))) (named same_text name spans)
       one f = ap (sum_by f) (steps-named name spans) ∙ sum_by-map f (λ s. sums_of (timed_in spans s)) (named same_text name spans)
@@ -123,12 +139,12 @@ module _ (columns : List Column) (run : Run) (no_arguments : list_any is_argumen
       ∙ ap (λ l. map (keyed_span_row columns run) (thread_span_rows run.journal t) ++ l) (rows-by_thread threads)
 
   -- the rows of names add up as their spans do
-  pub row_sums-alike : AddUpAlike (row_sums columns run) (run_sums columns run)
+  pub row_sums-alike : AddUpAlike (row_sums columns run) (span_sums columns run)
   row_sums-alike =
       let threads = thread_keys (accepted run.journal) in
-      subst (λ (es : KeyedSums). AddUpAlike es (run_sums columns run)) (sym (rows-by_thread threads))
+      subst (λ (es : KeyedSums). AddUpAlike es (span_sums columns run)) (sym (rows-by_thread threads))
       (AddUpAlike-flat_map (λ thread. map (keyed_span_row columns run) (thread_span_rows run.journal thread)) (thread_sums columns run) thread-alike threads)
 
   -- so they are kept alike
-  pub summed-rows : summed (row_sums columns run) ≡ summed (run_sums columns run)
-  summed-rows = summed-alike (row_sums columns run) (run_sums columns run) row_sums-alike
+  pub summed-rows : summed (row_sums columns run) ≡ summed (span_sums columns run)
+  summed-rows = summed-alike (row_sums columns run) (span_sums columns run) row_sums-alike

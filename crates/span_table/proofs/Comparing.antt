@@ -18,23 +18,31 @@ use Rattle.std.proofs.lemmas.List.Sorted.{searchable_from_sorted}
 use Rattle.span_keyed_tracks.specs.Keyed.{Keyed, steps_at}
 use Rattle.span_keyed_tracks.proofs.Keyed.{same_from_is_eq}
 use Rattle.span_keyed_tracks.proofs.Uses.{is_eq-turned}
+use Rattle.span_table.specs.declared.of.Of.{Of}
+use Rattle.span_table.specs.declared.of.Of.TheVariants.{Spans, Async}
 use Rattle.span_table.specs.declared.sums.By.{By}
-use Rattle.span_table.specs.declared.sums.By.TheVariants.{SelfTime, Total}
+use Rattle.span_table.specs.declared.sums.By.TheVariants.{SelfTime, Total, Count, Open}
 use Rattle.span_table.specs.declared.sums.Sums.{Sums}
 use Rattle.span_table.specs.declared.table.Row.{Row}
 use Rattle.span_table.specs.Adding.{keyed_row, keyed_rows}
 use Rattle.span_table.specs.Changed.{Tells, found_at, from_other, is_new}
-use Rattle.span_table.specs.Changes.{Change, change_order, compared_at, gap_by, is_changed, is_same, same_count, shown_changes, sums_at}
+use Rattle.span_table.specs.Changes.{Change, by_gap, change_order, compared_at, gap_by, is_changed, is_same, same_count, shown_changes, sums_at, usual_order}
 use Rattle.span_table.specs.KeyLaws.{key_cmp_total, key_cmp-same}
 use Rattle.span_table.specs.Keys.{TableKey, key_cmp}
 use Rattle.span_table.specs.Shown.{Wanted, is_wanted}
 use Rattle.span_table.specs.Tables.{RowsRise, sums_together}
 
+by_gap-total : (by : By) → IsTotalOrder (by_gap by)
+by_gap-total by = on_total (gap_by by) (back_total nat_cmp_total)
+
+usual_order-total : (of : Of) → IsTotalOrder (usual_order of)
+usual_order-total Spans = then_total (by_gap-total SelfTime) (then_total (by_gap-total Total) (on_total (λ (c : Change). c.key) key_cmp_total))
+usual_order-total Async =
+    then_total (by_gap-total Total) (then_total (by_gap-total Open) (then_total (by_gap-total Count) (on_total (λ (c : Change). c.key) key_cmp_total)))
+
 -- the order of changes is total
-pub change_order-total : (by : By) → IsTotalOrder (change_order by)
-change_order-total by =
-    then_total (on_total (gap_by by) (back_total nat_cmp_total)) (then_total (on_total (gap_by SelfTime) (back_total nat_cmp_total))
-    (then_total (on_total (gap_by Total) (back_total nat_cmp_total)) (on_total (λ (c : Change). c.key) key_cmp_total)))
+pub change_order-total : (of : Of) (by : By) → IsTotalOrder (change_order of by)
+change_order-total of by = then_total (by_gap-total by) (usual_order-total of)
 
 -- in rows that rise no later one has the key of the first
 none_later : (row : Row) (rows : List Row) → AllByRecursion (λ (r : Row). key_cmp row.key r.key ≡ Less) rows → find (λ (r : Row). is_eq (key_cmp r.key row.key)) rows ≡ None
@@ -52,12 +60,15 @@ steps-none key (r ∷ rows) none = by (is_eq (key_cmp r.key key)) (steps-none ke
     by true rest none = cc
     by false rest none = rest none
 
-sums_together-one : (s : Sums) → sums_together (s ∷ []) ≡ s
+-- one alone stays as it is
+pub sums_together-one : (s : Sums) → sums_together (s ∷ []) ≡ s
 sums_together-one s =
     let count : 0 + s.count ≡ s.count = omega arith in
     let total : 0 + s.total ≡ s.total = omega arith in
     let self_time : 0 + s.self_time ≡ s.self_time = omega arith in
-    λ i. record { count = count i; total = total i; self_time = self_time i }
+    let unclosed : 0 + s.unclosed ≡ s.unclosed = omega arith in
+    let points : 0 + s.points ≡ s.points = omega arith in
+    λ i. record { count = count i; total = total i; self_time = self_time i; unclosed = unclosed i; points = points i }
 
 -- what rows that rise have under a key is what the row with the key has
 pub sums_at-found : (key : TableKey) (rows : List Row) → RowsRise rows → sums_at rows key ≡ unwrap_or (option_map (λ (row : Row). row.sums) (found_at rows key)) (sums_together [])

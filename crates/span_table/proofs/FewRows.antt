@@ -1,4 +1,4 @@
--- A journal lists no more threads, and has no more rows of names, than it has entries.
+-- A journal lists no more threads, and has no more rows of names and of asynchronous keys, than it has entries.
 use Rattle.std.proofs.Common.{◌≡◌, ℕ, ◌+◌, ◌≤◌, Bool, true, false, cond, List, [], ◌∷◌, ◌++◌, length, map, Option, Some, None, refl, ap, subst, ◌∙◌, append_assoc, append-nil, arith, length-append}
 use Rattle.std.specs.Prelude.{filter, filter_map, fold, sum_by}
 use Rattle.std.specs.BTreeSet.{insert_key}
@@ -15,7 +15,8 @@ use Rattle.span_event.specs.declared.thread.Thread.{Thread}
 use Rattle.span_event.specs.Orders.{thread_cmp}
 use Rattle.span_event.specs.Text.{Bytes, text_cmp}
 use Rattle.span_event.proofs.Orders.{thread_cmp-same, thread_cmp-total}
-use Rattle.span_keyed_tracks.specs.Keyed.{Keyed, ascending, steps_at}
+use Rattle.span_keyed_tracks.specs.Async.{AsyncEvent, async_cmp, async_row, async_spans}
+use Rattle.span_keyed_tracks.specs.Keyed.{Keyed, ascending, entries_in, entry_of, keys_in, steps_at}
 use Rattle.span_keyed_tracks.specs.Matching.{opens, closes, closes_all, other, closed_with, opener}
 use Rattle.span_keyed_tracks.proofs.Keyed.{same_from_is_eq}
 use Rattle.span_keyed_tracks.proofs.Matching.Closed.{closed_of-append, length-closed_with}
@@ -23,8 +24,8 @@ use Rattle.span_keyed_tracks.proofs.Matching.Open.{opener-open_of, open_of-close
 use Rattle.span_keyed_tracks.proofs.Sorted.{ascending-sorted}
 use Rattle.span_ledger.specs.declared.entry.Entry.{Entry}
 use Rattle.span_ledger.specs.Journal.{Accepted, Act, accepted, accepted_by, accepted_from, placed}
-use Rattle.span_ledger.specs.Rows.{span_row, span_rows, thread_keys, thread_span_rows}
-use Rattle.span_ledger.specs.Told.{listed_by, span_events, thread_events, to_thread_at, told}
+use Rattle.span_ledger.specs.Rows.{async_rows, span_row, span_rows, thread_keys, thread_span_rows}
+use Rattle.span_ledger.specs.Told.{async_events, listed_by, span_events, thread_events, to_async_at, to_thread_at, told}
 use Rattle.span_ledger.proofs.Later.{filter_map-length}
 use Rattle.span_track.specs.Nesting.{ThreadEvent, closed_spans, open_spans, span_between, span_sealed, whole_span}
 use Rattle.span_track.proofs.Threads.Sealing.{length-sealed_spans}
@@ -155,5 +156,20 @@ module _ (journal : List Entry) where
         sum_by-le (λ thread. length (thread_span_rows journal thread)) (λ thread. length (steps_at thread_cmp thread events)) length-thread_span_rows threads,
         length-steps-each thread_cmp-total (λ (a b : Thread). thread_cmp-same a b) threads sorted events,
         filter_map-length (λ (a : Accepted). to_thread_at (told a)) (accepted journal),
+        length-accepted_from 0 journal,
+      )
+
+  -- nor rows of asynchronous keys
+  pub length-async_rows : length (async_rows journal) ≤ length journal
+  length-async_rows =
+      let events = async_events (accepted journal) in
+      let keys = map (λ (e : AsyncEvent). e.key) events in
+      omega (
+        arith,
+        length-map (entries_in async_cmp async_spans events) async_row,
+        length-map (keys_in async_cmp events) (entry_of (λ key. async_spans (steps_at async_cmp key events))),
+        length-ascending async_cmp keys,
+        length-map events (λ (e : AsyncEvent). e.key),
+        filter_map-length (λ (a : Accepted). to_async_at (told a)) (accepted journal),
         length-accepted_from 0 journal,
       )

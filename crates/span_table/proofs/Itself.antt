@@ -60,7 +60,9 @@ module _ (rows : List Row) where
       let self_time : (sums.self_time == sums.self_time) ≡ true = eq-eqb sums.self_time sums.self_time refl in
       let total : (sums.total == sums.total) ≡ true = eq-eqb sums.total sums.total refl in
       let count : (sums.count == sums.count) ≡ true = eq-eqb sums.count sums.count refl in
-      ap₂ (λ a b. a && b) self_time (ap₂ (λ a b. a && b) total count)
+      let unclosed : (sums.unclosed == sums.unclosed) ≡ true = eq-eqb sums.unclosed sums.unclosed refl in
+      let points : (sums.points == sums.points) ≡ true = eq-eqb sums.points sums.points refl in
+      λ i. self_time i && (total i && (count i && (unclosed i && points i)))
 
   none_changed : (xs : List Row) → filter is_changed (map made xs) ≡ []
   none_changed [] = refl
@@ -77,5 +79,5 @@ comparison_of-itself unit by wanted tells_runs table rise =
     let many : length shown ≡ length (shown_rows wanted rows) = ap length are ∙ length-map (shown_rows wanted rows) (made rows) in
     let every : length all ≡ length rows = ap length (compared-itself rows rise) ∙ length-map rows (made rows) in
     let same : same_count shown ≡ length (shown_rows wanted rows) = omega (arith, length-changes shown, ap length none, many) in
-    λ i. first_line ++ (unit_line unit ++ (compared_heads tells_runs table.head table.head ++ (shown_line wanted (many i) (every i) ++ (change_columns table.columns ++
-    (flat_map change_line (ascending (change_order by) (none i)) ++ same_line (same i))))))
+    λ i. first_line ++ (unit_line unit ++ (compared_heads tells_runs table.head table.head ++ (shown_line wanted (many i) (every i) ++ (change_columns table.of table.columns ++
+    (flat_map (change_line table.of) (ascending (change_order table.of by) (none i)) ++ same_line (same i))))))

@@ -1,16 +1,15 @@
 -- What is kept of runs and of rows, once more is added.
 use Rattle.std.proofs.Common.{◌≡◌, ℕ, ◌+◌, ◌*◌, ◌^◌, ◌<◌, List, [], ◌∷◌, ◌++◌, append-nil, map, refl, sym, ap, ap₂, subst, ◌∙◌, arith}
-use Rattle.std.specs.Prelude.{All, OnOk, Result, Ok, Err, true, ◌&&◌, nat_lt}
-use Rattle.std.proofs.lemmas.Bool.{ltb-true}
+use Rattle.std.specs.Prelude.{All, OnOk, Result, Ok, Err, true}
 use Rattle.std.specs.declared.alloc.AllocError.{AllocError}
 use Rattle.std.specs.List.Sorted.{IsStrictlySortedBy}
 use Rattle.std.specs.Map.{values_of}
 use Rattle.std.proofs.lemmas.List.Elements.{All-cons, All-nil}
 use Rattle.span_keyed_tracks.specs.Keyed.{entry_of, keys_in, steps_at}
 use Rattle.span_keyed_tracks.proofs.Keyed.{kept_at-entries_in}
-use Rattle.span_keyed_tracks.proofs.Matching.Closed.{both_true}
 use Rattle.span_table.specs.declared.column.Column.{Column}
 use Rattle.span_table.specs.declared.heads.Head.{Head}
+use Rattle.span_table.specs.declared.of.Of.{Of}
 use Rattle.span_table.specs.declared.sums.Sums.{Sums}
 use Rattle.span_table.specs.declared.table.Row.{Row}
 use Rattle.span_table.specs.Adding.{JoinsRuns, TakesRuns, add_tables, keyed_row, keyed_rows, with_row, with_run}
@@ -25,6 +24,7 @@ use Rattle.span_table.specs.Tables.{KeyedSums, RowsRise, SpanTable, SumsByKey, h
 use Rattle.span_table.proofs.AddedTables.{add_tables-parts, rows-back, rows_of-alike}
 use Rattle.span_table.proofs.Alike.{AddUpAlike, AddUpAlike-append, AddUpAlike-refl, AddUpAlike-sym, sums_at-append, summed-alike}
 use Rattle.span_table.proofs.OwnRows.{rows_of-own}
+use Rattle.span_table.proofs.PrintedLines.{sums_small}
 use Rattle.span_table.proofs.Rows.{RowsRise-rows_of}
 use Rattle.span_table.proofs.Summing.{found-within, with_sums-within}
 
@@ -58,7 +58,13 @@ AllWithin-summed n es within = each (keys_in key_cmp es)
     each (k ∷ ks) = All-cons (IsWithin n) (found k es) (values_of (map (entry_of (λ k. found k es)) ks)) (within k) (each ks)
 
 part-within : (n : ℕ) (a b : Sums) → IsWithin n (with_sums a b) → IsWithin n a
-part-within n a b within = record { count = omega (arith, within.count); total = omega (arith, within.total); self_time = omega (arith, within.self_time) }
+part-within n a b within = record {
+  count = omega (arith, within.count);
+  total = omega (arith, within.total);
+  self_time = omega (arith, within.self_time);
+  unclosed = omega (arith, within.unclosed);
+  points = omega (arith, within.points);
+}
 
 -- what was kept, with a part of sums that are kept elsewhere: no key has more of the part than of all of these
 pub AllWithin-part : (m n : ℕ) (old new other : SumsByKey) (done left : KeyedSums) → RowsRise (map row_of old) → RowsRise (map row_of other) → AllWithin m old → AllWithin n other →
@@ -98,42 +104,42 @@ heads_together-one a =
     }
 
 -- a table, by what is kept of it
-abbrev pub table_kept : List Column → Head → SumsByKey → SpanTable
-table_kept columns head kept = record { columns = columns; head = head; rows = map row_of kept }
+abbrev pub table_kept : Of → List Column → Head → SumsByKey → SpanTable
+table_kept of columns head kept = record { of = of; columns = columns; head = head; rows = map row_of kept }
 
 -- sums of a run that are taken make the table with this run
-pub with_run-taken : (columns : List Column) (head : Head) (old new : SumsByKey) (run : Run) → RowsRise (map row_of old) → Takes old new (run_sums columns run) →
-    table_kept columns (heads_together (head ∷ head_of run ∷ [])) new ≡ with_run (table_kept columns head old) run
-with_run-taken columns head old new run rise takes = λ i. record { columns = columns; head = heads i; rows = rows i }
+pub with_run-taken : (of : Of) (columns : List Column) (head : Head) (old new : SumsByKey) (run : Run) → RowsRise (map row_of old) → Takes old new (run_sums of columns run) →
+    table_kept of columns (heads_together (head ∷ head_of run ∷ [])) new ≡ with_run (table_kept of columns head old) run
+with_run-taken of columns head old new run rise takes = λ i. record { of = of; columns = columns; head = heads i; rows = rows i }
   where
     heads : heads_together (head ∷ head_of run ∷ []) ≡ heads_together (head ∷ heads_together (head_of run ∷ []) ∷ [])
     heads = ap (λ (h : Head). heads_together (head ∷ h ∷ [])) (sym (heads_together-one (head_of run)))
 
-    rows : map row_of new ≡ rows_of (keyed_rows (map row_of old) ++ (keyed_rows (rows_of (run_sums columns run ++ [])) ++ []))
+    rows : map row_of new ≡ rows_of (keyed_rows (map row_of old) ++ (keyed_rows (rows_of (run_sums of columns run ++ [])) ++ []))
     rows =
         let es = keyed_rows (map row_of old) in
-        let all = run_sums columns run ++ [] in
+        let all = run_sums of columns run ++ [] in
         let back = keyed_rows (rows_of all) in
-        rows-taken old new (run_sums columns run) rise takes ∙ ap (λ l. rows_of (es ++ l)) (sym (append-nil (run_sums columns run)))
+        rows-taken old new (run_sums of columns run) rise takes ∙ ap (λ l. rows_of (es ++ l)) (sym (append-nil (run_sums of columns run)))
         ∙ rows_of-alike (es ++ all) (es ++ back) (AddUpAlike-append es all es back (AddUpAlike-refl es) (AddUpAlike-sym back all (rows-back all)))
         ∙ ap (λ l. rows_of (es ++ l)) (sym (append-nil back))
 
 -- sums of another table that are taken make the table of both
-pub add_tables-taken : (columns : List Column) (head more : Head) (old new other : SumsByKey) (others : List Column) → RowsRise (map row_of old) → Takes old new (keyed_rows (map row_of other)) →
-    table_kept columns (heads_together (head ∷ more ∷ [])) new ≡ add_tables columns (table_kept columns head old ∷ table_kept others more other ∷ [])
-add_tables-taken columns head more old new other others rise takes = λ i. record { columns = columns; head = heads_together (head ∷ more ∷ []); rows = rows i }
+pub add_tables-taken : (of second : Of) (columns : List Column) (head more : Head) (old new other : SumsByKey) (others : List Column) → RowsRise (map row_of old) → Takes old new (keyed_rows (map row_of other)) →
+    table_kept of columns (heads_together (head ∷ more ∷ [])) new ≡ add_tables of columns (table_kept of columns head old ∷ table_kept second others more other ∷ [])
+add_tables-taken of second columns head more old new other others rise takes = λ i. record { of = of; columns = columns; head = heads_together (head ∷ more ∷ []); rows = rows i }
   where
     rows : map row_of new ≡ rows_of (keyed_rows (map row_of old) ++ (keyed_rows (map row_of other) ++ []))
     rows = rows-taken old new (keyed_rows (map row_of other)) rise takes ∙ ap (λ l. rows_of (keyed_rows (map row_of old) ++ l)) (sym (append-nil (keyed_rows (map row_of other))))
 
 -- a table of some runs, with one more
 pub with_run-runs : (table : SpanTable) (run : Run) → TakesRuns table (run ∷ []) (with_run table run)
-with_run-runs table run = λ columns runs is. ap (λ t. with_run t run) is ∙ add_tables-parts columns (runs ∷ (run ∷ []) ∷ [])
+with_run-runs table run = λ of columns runs is. ap (λ t. with_run t run) is ∙ add_tables-parts of columns (runs ∷ (run ∷ []) ∷ [])
 
 -- tables of some runs each, added
-pub add_tables-runs : (one other : SpanTable) → JoinsRuns one other (add_tables one.columns (one ∷ other ∷ []))
-add_tables-runs one other = λ columns runs others first second.
-    ap₂ (λ (a b : SpanTable). add_tables a.columns (a ∷ b ∷ [])) first second ∙ add_tables-parts columns (runs ∷ others ∷ []) ∙ ap (λ l. table_of columns (runs ++ l)) (append-nil others)
+pub add_tables-runs : (one other : SpanTable) → JoinsRuns one other (add_tables one.of one.columns (one ∷ other ∷ []))
+add_tables-runs one other = λ of columns runs others first second.
+    ap₂ (λ (a b : SpanTable). add_tables a.of a.columns (a ∷ b ∷ [])) first second ∙ add_tables-parts of columns (runs ∷ others ∷ []) ∙ ap (λ l. table_of of columns (runs ++ l)) (append-nil others)
 
 heads_together-within : (m n : ℕ) (a b : Head) → IsHeadWithin m a → IsHeadWithin n b → IsHeadWithin (m + n) (heads_together (a ∷ b ∷ []))
 heads_together-within m n a b first second = record {
@@ -189,12 +195,14 @@ IsAdded-none = record { few = omega arith; numbers = IsKept-none.numbers; rise =
 -- sums that have 64 bits
 pub fit-within : (sums : Sums) → fit sums ≡ true → IsWithin (2 ^ 64) sums
 fit-within sums fits =
-    let all = both_true (nat_lt sums.count (2 ^ 64)) (nat_lt sums.total (2 ^ 64) && nat_lt sums.self_time (2 ^ 64)) fits in
-    let times = both_true (nat_lt sums.total (2 ^ 64)) (nat_lt sums.self_time (2 ^ 64)) all.1 in
-    let count = ltb-true sums.count (2 ^ 64) all.0 in
-    let total = ltb-true sums.total (2 ^ 64) times.0 in
-    let self_time = ltb-true sums.self_time (2 ^ 64) times.1 in
-    record { count = omega (arith, count); total = omega (arith, total); self_time = omega (arith, self_time) }
+    let small = sums_small sums fits in
+    record {
+      count = omega (arith, small.0);
+      total = omega (arith, small.1);
+      self_time = omega (arith, small.2);
+      unclosed = omega (arith, small.3);
+      points = omega (arith, small.4);
+    }
 
 -- what is kept stays within its bounds with one more row
 pub IsAdded-row : (heads rows : ℕ) (head : Head) (old new : SumsByKey) (row : Row) → fit row.sums ≡ true → IsAdded heads rows head old → Takes old new (keyed_row row ∷ []) →
@@ -209,6 +217,6 @@ IsAdded-row heads rows head old new row fits kept takes grows =
     }
 
 -- a row that is taken makes the table with this row
-pub with_row-taken : (columns : List Column) (head : Head) (old new : SumsByKey) (row : Row) → RowsRise (map row_of old) → Takes old new (keyed_row row ∷ []) →
-    table_kept columns head new ≡ with_row (table_kept columns head old) row
-with_row-taken columns head old new row rise takes = λ i. record { columns = columns; head = head; rows = rows-taken old new (keyed_row row ∷ []) rise takes i }
+pub with_row-taken : (of : Of) (columns : List Column) (head : Head) (old new : SumsByKey) (row : Row) → RowsRise (map row_of old) → Takes old new (keyed_row row ∷ []) →
+    table_kept of columns head new ≡ with_row (table_kept of columns head old) row
+with_row-taken of columns head old new row rise takes = λ i. record { of = of; columns = columns; head = head; rows = rows-taken old new (keyed_row row ∷ []) rise takes i }

@@ -23,7 +23,7 @@ use Rattle.span_table.specs.Changes.{sums_at}
 use Rattle.span_table.specs.KeyLaws.{key_cmp_total}
 use Rattle.span_table.specs.Keys.{key_cmp}
 use Rattle.span_table.specs.Laws.{RowsAreSpanRows, of_span_row, row_columns}
-use Rattle.span_table.specs.Tables.{RowsRise, row_of, rows_of, run_sums}
+use Rattle.span_table.specs.Tables.{RowsRise, row_of, rows_of, span_sums}
 use Rattle.span_table.proofs.ByName.{summed-rows}
 use Rattle.span_table.proofs.Comparing.{sums_at-own}
 
@@ -95,7 +95,7 @@ span_rows-rise (row ∷ rows) sorted = (below rows sorted.0, span_rows-rise rows
 pub rows-are_span_rows : RowsAreSpanRows
 rows-are_span_rows run =
     let rows = map of_span_row (span_rows run.journal) in
-    ap rows_of (append-nil (run_sums row_columns run))
+    ap rows_of (append-nil (span_sums row_columns run))
     ∙ ap (map row_of) (sym (summed-rows row_columns run refl))
     ∙ ap rows_of (sym (map-map keyed_row of_span_row (span_rows run.journal)))
     ∙ rows_of-own rows (span_rows-rise (span_rows run.journal) (span_rows-sorted run.journal))

@@ -15,11 +15,13 @@ use Rattle.span_keyed_tracks.proofs.Uses.{is_eq-turned}
 use Rattle.span_ledger.proofs.Selected.{filter-ascending}
 use Rattle.span_ledger.proofs.Sorted.{AllByRecursion-append, AllByRecursion-map, ascending-sorted, map-map, map-sorted}
 use Rattle.span_ledger.proofs.Sorting.{ascending-permutation}
+use Rattle.span_table.specs.declared.of.Of.{Of}
+use Rattle.span_table.specs.declared.of.Of.TheVariants.{Spans, Async}
 use Rattle.span_table.specs.declared.sums.By.{By}
-use Rattle.span_table.specs.declared.sums.By.TheVariants.{SelfTime, Total}
+use Rattle.span_table.specs.declared.sums.By.TheVariants.{SelfTime, Total, Count, Open}
 use Rattle.span_table.specs.declared.table.Row.{Row}
 use Rattle.span_table.specs.Changed.{base_keys, found_at, is_new, new_keys}
-use Rattle.span_table.specs.Changes.{Change, by_gap, change_order, compared, compared_at, is_changed, is_same, same_count, shown_changes}
+use Rattle.span_table.specs.Changes.{Change, by_gap, change_order, compared, compared_at, is_changed, is_same, same_count, shown_changes, usual_order}
 use Rattle.span_table.specs.KeyLaws.{key_cmp_total, key_cmp-same}
 use Rattle.span_table.specs.Keys.{TableKey, key_cmp}
 use Rattle.span_table.specs.Shown.{Wanted, is_wanted}
@@ -211,29 +213,30 @@ module _ (base other : List Row) where
       ∙ length_permutation (filter (λ k. true) all_keys) (filter (λ k. true) told_keys) (picked base_rises other_rises (λ k. true))
       ∙ ap length (filter-true all_keys) ∙ sym (length-map all_keys make)
 
-apart : (p q r s : Ordering) → s ≡ Less → is_eq (ordering_then p (ordering_then q (ordering_then r s))) ≡ false
-apart Less q r s below = refl
-apart Greater q r s below = refl
-apart Equal Less r s below = refl
-apart Equal Greater r s below = refl
-apart Equal Equal Less s below = refl
-apart Equal Equal Greater s below = refl
-apart Equal Equal Equal s below = ap is_eq below
+-- where the later of two orders tells things apart, both do
+apart : (p q : Ordering) → is_eq q ≡ false → is_eq (ordering_then p q) ≡ false
+apart Less q told = refl
+apart Greater q told = refl
+apart Equal q told = told
 
-IsDistinct-sorted : (by : By) (changes : List Change) → IsStrictlySortedBy (λ (a b : Change). key_cmp a.key b.key) changes → IsDistinct (eq_by_cmp (change_order by)) changes
+usual_order-apart : (of : Of) (x y : Change) → key_cmp x.key y.key ≡ Less → is_eq (usual_order of x y) ≡ false
+usual_order-apart Spans x y below = apart (by_gap SelfTime x y) _ (apart (by_gap Total x y) (key_cmp x.key y.key) (ap is_eq below))
+usual_order-apart Async x y below = apart (by_gap Total x y) _ (apart (by_gap Open x y) _ (apart (by_gap Count x y) (key_cmp x.key y.key) (ap is_eq below)))
+
+IsDistinct-sorted : (of : Of) (by : By) (changes : List Change) → IsStrictlySortedBy (λ (a b : Change). key_cmp a.key b.key) changes → IsDistinct (eq_by_cmp (change_order of by)) changes
 unfolding IsStrictlySortedBy IsDistinct
-IsDistinct-sorted by [] sorted = tt
-IsDistinct-sorted by (x ∷ xs) sorted = (
-  AllByRecursion-map (λ (y : Change). key_cmp x.key y.key ≡ Less) (λ (y : Change). eq_by_cmp (change_order by) x y ≡ false)
-      (λ (y : Change) (below : key_cmp x.key y.key ≡ Less). apart (by_gap by x y) (by_gap SelfTime x y) (by_gap Total x y) (key_cmp x.key y.key) below) xs sorted.0,
-  IsDistinct-sorted by xs sorted.1,
+IsDistinct-sorted of by [] sorted = tt
+IsDistinct-sorted of by (x ∷ xs) sorted = (
+  AllByRecursion-map (λ (y : Change). key_cmp x.key y.key ≡ Less) (λ (y : Change). eq_by_cmp (change_order of by) x y ≡ false)
+      (λ (y : Change) (below : key_cmp x.key y.key ≡ Less). apart (by_gap by x y) (usual_order of x y) (usual_order-apart of x y below)) xs sorted.0,
+  IsDistinct-sorted of by xs sorted.1,
 )
 
 -- no two changes stand at one place
-pub changes-distinct : (by : By) (wanted : Wanted) (base other : List Row) → IsDistinct (eq_by_cmp (change_order by)) (filter is_changed (shown_changes wanted (compared base other)))
-changes-distinct by wanted base other =
+pub changes-distinct : (of : Of) (by : By) (wanted : Wanted) (base other : List Row) → IsDistinct (eq_by_cmp (change_order of by)) (filter is_changed (shown_changes wanted (compared base other)))
+changes-distinct of by wanted base other =
     let by_key = λ (a b : Change). key_cmp a.key b.key in
     let keys = map key_of (base ++ other) in
-    IsDistinct-sorted by (filter is_changed (shown_changes wanted (compared base other)))
+    IsDistinct-sorted of by (filter is_changed (shown_changes wanted (compared base other)))
     (filter-sorted by_key is_changed (shown_changes wanted (compared base other)) (filter-sorted by_key (λ (c : Change). is_wanted wanted c.key) (compared base other)
     (map-sorted key_cmp (λ (c : Change). c.key) (compared_at base other) (λ key. refl) (ascending key_cmp keys) (ascending-sorted key_cmp_total keys))))

@@ -11,11 +11,13 @@ use Rattle.std.proofs.lemmas.List.{append-nil}
 use Rattle.span_event.specs.Text.{Bytes}
 use Rattle.span_report.specs.Lines.{line_of, right_in}
 use Rattle.span_table.specs.declared.column.Column.{Column}
+use Rattle.span_table.specs.declared.of.Of.{Of}
+use Rattle.span_table.specs.declared.of.Of.TheVariants.{Spans, Async}
 use Rattle.span_table.specs.declared.table.Row.{Row}
 use Rattle.span_table.specs.Lines.{column_title, value_text}
 use Rattle.span_table.specs.Changes.{Change, gap}
 use Rattle.span_table.specs.Comparison.{change_columns, change_line, difference_text}
-use Rattle.span_table.specs.Pieces.{both_text, change_names, sums_text, then_title, then_value}
+use Rattle.span_table.specs.Pieces.{both_text, change_names, sums_names, sums_text, then_title, then_value}
 use Rattle.span_table.specs.Ranking.{column_line, ranked_line}
 
 -- parts with a byte between them, from the first and the others with the byte before each
@@ -47,15 +49,26 @@ pieces {A = A} a b c f xs =
     joined : (l : Bytes) → a ++ ((32 ∷ (b ++ (32 ∷ (c ++ l)))) ++ 10 ∷ []) ≡ (a ++ (32 ∷ (b ++ 32 ∷ c))) ++ (l ++ 10 ∷ [])
     joined l = simp append_assoc refl
 
+-- a line of four words and then some more
+four : {A : Type 0} (a b c d : Bytes) (f : A → Bytes) (xs : List A) → line_of (a ∷ b ∷ c ∷ d ∷ map f xs) ≡ (a ++ (32 ∷ (b ++ 32 ∷ (c ++ 32 ∷ d)))) ++ (flat_map (λ x. 32 ∷ f x) xs ++ 10 ∷ [])
+four {A = A} a b c d f xs =
+    line_of-spaced a (b ∷ c ∷ d ∷ map f xs) ∙ ap (λ l. a ++ ((32 ∷ (b ++ (32 ∷ (c ++ (32 ∷ (d ++ l)))))) ++ 10 ∷ [])) (spaced-map f xs) ∙ joined (flat_map (λ x. 32 ∷ f x) xs)
+  where
+    joined : (l : Bytes) → a ++ ((32 ∷ (b ++ (32 ∷ (c ++ (32 ∷ (d ++ l)))))) ++ 10 ∷ []) ≡ (a ++ (32 ∷ (b ++ 32 ∷ (c ++ 32 ∷ d)))) ++ (l ++ 10 ∷ [])
+    joined l = simp append_assoc refl
+
 -- the line of a row, from its pieces
-pub ranked_line_pieces : (row : Row) → ranked_line row ≡ sums_text row.sums ++ (flat_map then_value row.key ++ 10 ∷ [])
+pub ranked_line_pieces : (of : Of) (row : Row) → ranked_line of row ≡ sums_text of row.sums ++ (flat_map then_value row.key ++ 10 ∷ [])
 unfolding ranked_line
-ranked_line_pieces row = pieces (right_in 16 (decimal row.sums.self_time)) (right_in 16 (decimal row.sums.total)) (right_in 8 (decimal row.sums.count)) value_text row.key
+ranked_line_pieces Async row =
+    four (right_in 16 (decimal row.sums.total)) (right_in 8 (decimal row.sums.count)) (right_in 8 (decimal row.sums.unclosed)) (right_in 8 (decimal row.sums.points)) value_text row.key
+ranked_line_pieces Spans row = pieces (right_in 16 (decimal row.sums.self_time)) (right_in 16 (decimal row.sums.total)) (right_in 8 (decimal row.sums.count)) value_text row.key
 
 -- the names of a ranking's columns, from their pieces
-pub column_line_pieces : (columns : List Column) → column_line columns ≡ codes "            self            total    count" ++ (flat_map then_title columns ++ 10 ∷ [])
-unfolding column_line
-column_line_pieces columns = pieces (right_in 16 (codes "self")) (right_in 16 (codes "total")) (right_in 8 (codes "count")) column_title columns
+pub column_line_pieces : (of : Of) (columns : List Column) → column_line of columns ≡ sums_names of ++ (flat_map then_title columns ++ 10 ∷ [])
+unfolding column_line sums_names
+column_line_pieces Async columns = four (right_in 16 (codes "total")) (right_in 8 (codes "closed")) (right_in 8 (codes "open")) (right_in 8 (codes "points")) column_title columns
+column_line_pieces Spans columns = pieces (right_in 16 (codes "self")) (right_in 16 (codes "total")) (right_in 8 (codes "count")) column_title columns
 
 -- a line of eight words and then some more
 eight : {A : Type 0} (a b c d e f g h : Bytes) (show : A → Bytes) (xs : List A) →
@@ -70,20 +83,40 @@ eight a b c d e f g h show xs =
         ≡ ((a ++ (32 ∷ b ++ 32 ∷ c)) ++ 32 ∷ ((d ++ (32 ∷ e ++ 32 ∷ f)) ++ (32 ∷ g ++ 32 ∷ h))) ++ (l ++ 10 ∷ [])
     joined l = simp append_assoc refl
 
+-- a line of seven words and then some more
+seven : {A : Type 0} (a b c d e f g : Bytes) (show : A → Bytes) (xs : List A) →
+    line_of (a ∷ b ∷ c ∷ d ∷ e ∷ f ∷ g ∷ map show xs)
+    ≡ ((a ++ (32 ∷ b ++ 32 ∷ c)) ++ ((32 ∷ d ++ 32 ∷ e) ++ (32 ∷ f ++ 32 ∷ g))) ++ (flat_map (λ x. 32 ∷ show x) xs ++ 10 ∷ [])
+seven a b c d e f g show xs =
+    line_of-spaced a (b ∷ c ∷ d ∷ e ∷ f ∷ g ∷ map show xs)
+    ∙ ap (λ l. a ++ ((32 ∷ (b ++ (32 ∷ (c ++ (32 ∷ (d ++ (32 ∷ (e ++ (32 ∷ (f ++ (32 ∷ (g ++ l)))))))))))) ++ 10 ∷ [])) (spaced-map show xs)
+    ∙ joined (flat_map (λ x. 32 ∷ show x) xs)
+  where
+    joined : (l : Bytes) → a ++ ((32 ∷ (b ++ (32 ∷ (c ++ (32 ∷ (d ++ (32 ∷ (e ++ (32 ∷ (f ++ (32 ∷ (g ++ l)))))))))))) ++ 10 ∷ [])
+        ≡ ((a ++ (32 ∷ b ++ 32 ∷ c)) ++ ((32 ∷ d ++ 32 ∷ e) ++ (32 ∷ f ++ 32 ∷ g))) ++ (l ++ 10 ∷ [])
+    joined l = simp append_assoc refl
+
 -- the line of a change, from its pieces
-pub change_line_pieces : (change : Change) → change_line change ≡ both_text change.both ++ (flat_map then_value change.key ++ 10 ∷ [])
+pub change_line_pieces : (of : Of) (change : Change) → change_line of change ≡ both_text of change.both ++ (flat_map then_value change.key ++ 10 ∷ [])
 unfolding change_line
-change_line_pieces change =
+change_line_pieces Async change =
+    let base = change.both.base in
+    let other = change.both.other in
+    seven (right_in 16 (difference_text base.total other.total)) (right_in 16 (decimal base.total)) (right_in 16 (decimal other.total))
+    (right_in 8 (decimal base.count)) (right_in 8 (decimal other.count)) (right_in 8 (decimal base.unclosed)) (right_in 8 (decimal other.unclosed)) value_text change.key
+change_line_pieces Spans change =
     let base = change.both.base in
     let other = change.both.other in
     eight (right_in 16 (difference_text base.self_time other.self_time)) (right_in 16 (decimal base.self_time)) (right_in 16 (decimal other.self_time))
     (right_in 16 (difference_text base.total other.total)) (right_in 16 (decimal base.total)) (right_in 16 (decimal other.total)) (right_in 8 (decimal base.count)) (right_in 8 (decimal other.count)) value_text change.key
 
 -- the names of a comparison's columns, from their pieces
-pub change_columns_pieces : (columns : List Column) →
-    change_columns columns ≡ change_names ++ (flat_map then_title columns ++ 10 ∷ [])
+pub change_columns_pieces : (of : Of) (columns : List Column) → change_columns of columns ≡ change_names of ++ (flat_map then_title columns ++ 10 ∷ [])
 unfolding change_columns change_names
-change_columns_pieces columns =
+change_columns_pieces Async columns =
+    seven (right_in 16 (codes "dtotal")) (right_in 16 (codes "total0")) (right_in 16 (codes "total1")) (right_in 8 (codes "closed0")) (right_in 8 (codes "closed1"))
+    (right_in 8 (codes "open0")) (right_in 8 (codes "open1")) column_title columns
+change_columns_pieces Spans columns =
     eight (right_in 16 (codes "dself")) (right_in 16 (codes "self0")) (right_in 16 (codes "self1")) (right_in 16 (codes "dtotal")) (right_in 16 (codes "total0")) (right_in 16 (codes "total1"))
     (right_in 8 (codes "count0")) (right_in 8 (codes "count1")) column_title columns
 

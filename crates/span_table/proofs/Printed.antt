@@ -10,13 +10,15 @@ use Rattle.span_event.specs.declared.unit.Unit.TheVariants.{Microseconds, Nanose
 use Rattle.span_report.specs.Lines.{json_text_of}
 use Rattle.span_table.specs.declared.column.Column.{Column}
 use Rattle.span_table.specs.declared.heads.Head.{Head}
+use Rattle.span_table.specs.declared.of.Of.{Of}
+use Rattle.span_table.specs.declared.of.Of.TheVariants.{Spans, Async}
 use Rattle.span_table.specs.declared.sums.Sums.{Sums}
 use Rattle.span_table.specs.declared.table.Row.{Row}
 use Rattle.span_table.specs.Columns.{column_name}
-use Rattle.span_table.specs.Json.{column_json, json_head, json_line, json_of_value, unit_member, with_commas}
+use Rattle.span_table.specs.Json.{column_json, json_head, json_line, json_of_value, of_member, unit_member, with_commas}
 use Rattle.span_table.specs.JsonPieces.{count_text, end_text, events_text, files_text, head_text, members_text, others_text, start_text, sums_text}
 use Rattle.span_table.specs.Keys.{TableKey}
-use Rattle.span_table.specs.Tokens.{head_tokens, key_tokens, name_tokens, numbers_tokens, row_tokens, sums_tokens, unit_tokens, value_tokens}
+use Rattle.span_table.specs.Tokens.{head_tokens, key_tokens, name_tokens, numbers_tokens, of_tokens, row_tokens, sums_tokens, unit_tokens, value_tokens}
 use Rattle.span_table.proofs.JsonPieces.{json_head_pieces, json_line_pieces}
 
 -- a value, and then some more
@@ -57,18 +59,28 @@ keys-print (column ∷ columns) (Some value ∷ values) name ts =
 three-ended : (a b c : Bytes) → (a ++ 44 ∷ (b ++ 44 ∷ (c ++ 125 ∷ []))) ++ 10 ∷ [] ≡ (a ++ 44 ∷ (b ++ 44 ∷ c)) ++ 125 ∷ 10 ∷ []
 three-ended a b c = simp append_assoc refl
 
-sums-print : (sums : Sums) → print_from false (sums_tokens sums ++ end_object ∷ []) ++ 10 ∷ [] ≡ sums_text sums ++ end_text
+four-ended : (a b c d : Bytes) → (a ++ 44 ∷ (b ++ 44 ∷ (c ++ 44 ∷ (d ++ 125 ∷ [])))) ++ 10 ∷ [] ≡ (a ++ 44 ∷ (b ++ 44 ∷ (c ++ 44 ∷ d))) ++ 125 ∷ 10 ∷ []
+four-ended a b c d = simp append_assoc refl
+
+sums-print : (of : Of) (sums : Sums) → print_from false (sums_tokens of sums ++ end_object ∷ []) ++ 10 ∷ [] ≡ sums_text of sums ++ end_text
 unfolding print_from escape_byte sums_text end_text
-sums-print sums = three-ended (codes "\"count\":" ++ decimal sums.count) (codes "\"total\":" ++ decimal sums.total) (codes "\"self\":" ++ decimal sums.self_time)
+sums-print Async sums =
+    four-ended (codes "\"closed\":" ++ decimal sums.count) (codes "\"total\":" ++ decimal sums.total) (codes "\"open\":" ++ decimal sums.unclosed) (codes "\"points\":" ++ decimal sums.points)
+sums-print Spans sums = three-ended (codes "\"count\":" ++ decimal sums.count) (codes "\"total\":" ++ decimal sums.total) (codes "\"self\":" ++ decimal sums.self_time)
 
 -- the line of a row is its tokens, printed
-pub json_line-print : (columns : List Column) (row : Row) → json_line columns row ≡ print (row_tokens columns row) ++ 10 ∷ []
+pub json_line-print : (of : Of) (columns : List Column) (row : Row) → json_line of columns row ≡ print (row_tokens of columns row) ++ 10 ∷ []
 unfolding print_from
-json_line-print columns row =
-    let sums = print_from false (sums_tokens row.sums ++ end_object ∷ []) in
-    json_line_pieces columns row
-    ∙ sym (ap (λ l. 123 ∷ (l ++ 10 ∷ [])) (keys-print columns row.key _ _)
-    ∙ ap (λ l. 123 ∷ l) (append_assoc (members_text columns row.key) sums (10 ∷ []) ∙ ap (λ l. members_text columns row.key ++ l) (sums-print row.sums)))
+json_line-print of columns row =
+    let sums = print_from false (sums_tokens of row.sums ++ end_object ∷ []) in
+    json_line_pieces of columns row
+    ∙ sym (ap (λ l. 123 ∷ (l ++ 10 ∷ [])) (key-sums-print of columns row)
+    ∙ ap (λ l. 123 ∷ l) (append_assoc (members_text columns row.key) sums (10 ∷ []) ∙ ap (λ l. members_text columns row.key ++ l) (sums-print of row.sums)))
+  where
+    key-sums-print : (of : Of) (columns : List Column) (row : Row) →
+        print_from false (key_tokens columns row.key ++ (sums_tokens of row.sums ++ end_object ∷ [])) ≡ members_text columns row.key ++ print_from false (sums_tokens of row.sums ++ end_object ∷ [])
+    key-sums-print Spans columns row = keys-print columns row.key _ _
+    key-sums-print Async columns row = keys-print columns row.key _ _
 
 -- the names of columns, and then some more
 names-print : (columns : List Column) (ts : List Token) → print_from false (name_tokens columns ++ end_array ∷ ts) ≡ with_commas (map column_json columns) ++ 93 ∷ print_from true ts
@@ -84,19 +96,22 @@ unfolding print_from escape_byte count_text files_text events_text others_text e
 numbers-print rows head = simp append_assoc refl
 
 -- what is in front of the names of columns, and then some more
-start-print : (unit : Unit) (ts : List Token) → print (begin_object ∷ key (codes "tracebook") ∷ number (codes "1") ∷ (unit_tokens unit ++ (key (codes "columns") ∷ begin_array ∷ ts))) ++ 10 ∷ []
-    ≡ start_text unit ++ 91 ∷ (print_from false ts ++ 10 ∷ [])
-unfolding print_from escape_byte start_text unit_member
-start-print Microseconds ts = refl
-start-print Nanoseconds ts = refl
+start-print : (of : Of) (unit : Unit) (ts : List Token) →
+    print (begin_object ∷ key (codes "tracebook") ∷ number (codes "1") ∷ (of_tokens of ++ (unit_tokens unit ++ (key (codes "columns") ∷ begin_array ∷ ts)))) ++ 10 ∷ []
+    ≡ start_text of unit ++ 91 ∷ (print_from false ts ++ 10 ∷ [])
+unfolding print_from escape_byte start_text of_member unit_member
+start-print Spans Microseconds ts = refl
+start-print Spans Nanoseconds ts = refl
+start-print Async Microseconds ts = refl
+start-print Async Nanoseconds ts = refl
 
 -- the first line is its tokens, printed
-pub json_head-print : (unit : Unit) (columns : List Column) (rows : ℕ) (head : Head) → json_head unit columns rows head ≡ print (head_tokens unit columns rows head) ++ 10 ∷ []
-json_head-print unit columns rows head =
+pub json_head-print : (of : Of) (unit : Unit) (columns : List Column) (rows : ℕ) (head : Head) → json_head of unit columns rows head ≡ print (head_tokens of unit columns rows head) ++ 10 ∷ []
+json_head-print of unit columns rows head =
     let names = with_commas (map column_json columns) in
     let numbers = print_from true (numbers_tokens rows head ++ end_object ∷ []) in
-    json_head_pieces unit columns rows head
-    ∙ sym (start-print unit (name_tokens columns ++ end_array ∷ (numbers_tokens rows head ++ end_object ∷ []))
-    ∙ ap (λ l. start_text unit ++ 91 ∷ (l ++ 10 ∷ [])) (names-print columns (numbers_tokens rows head ++ end_object ∷ []))
-    ∙ ap (λ l. start_text unit ++ 91 ∷ l) (append_assoc names (93 ∷ numbers) (10 ∷ []) ∙ ap (λ l. names ++ 93 ∷ l) (numbers-print rows head)
+    json_head_pieces of unit columns rows head
+    ∙ sym (start-print of unit (name_tokens columns ++ end_array ∷ (numbers_tokens rows head ++ end_object ∷ []))
+    ∙ ap (λ l. start_text of unit ++ 91 ∷ (l ++ 10 ∷ [])) (names-print columns (numbers_tokens rows head ++ end_object ∷ []))
+    ∙ ap (λ l. start_text of unit ++ 91 ∷ l) (append_assoc names (93 ∷ numbers) (10 ∷ []) ∙ ap (λ l. names ++ 93 ∷ l) (numbers-print rows head)
     ∙ sym (append_assoc names (93 ∷ []) (count_text rows ++ (head_text head ++ end_text)))))

@@ -23,16 +23,18 @@ use Rattle.span_event.specs.Text.{Bytes}
 use Rattle.span_event.specs.declared.unit.Unit.{Unit}
 use Rattle.span_event.specs.declared.unit.Unit.TheVariants.{Microseconds, Nanoseconds}
 use Rattle.span_table.specs.declared.column.Column.{Column}
-use Rattle.span_table.specs.declared.column.Column.TheVariants.{Pid, Tid, Process, Thread, Name, File, Argument}
+use Rattle.span_table.specs.declared.column.Column.TheVariants.{Pid, Tid, Process, Thread, Name, File, Cat, Scope, Id, Argument}
 use Rattle.span_table.specs.declared.heads.Head.{Head}
+use Rattle.span_table.specs.declared.of.Of.{Of}
+use Rattle.span_table.specs.declared.of.Of.TheVariants.{Spans, Async}
 use Rattle.span_table.specs.declared.sums.Sums.{Sums}
 use Rattle.span_table.specs.declared.table.Row.{Row}
 use Rattle.span_table.specs.Columns.{Value}
 use Rattle.span_table.specs.Json.{fit, head_fits, numbers_fit}
 use Rattle.span_table.specs.Keys.{TableKey}
-use Rattle.span_table.specs.Printed.{IsKeyOf, IsOfArgument, IsRowOf, KeyFits, MayHave}
+use Rattle.span_table.specs.Printed.{HasOwn, IsKeyOf, IsOfArgument, IsRowOf, KeyFits, MayHave}
 use Rattle.span_table.specs.Tables.{SpanTable}
-use Rattle.span_table.specs.Tokens.{columns_tokens, counts_tokens, head_tokens, key_tokens, name_tokens, numbers_tokens, row_tokens, sums_tokens, unit_tokens, value_tokens}
+use Rattle.span_table.specs.Tokens.{columns_tokens, counts_tokens, head_tokens, key_tokens, name_tokens, numbers_tokens, of_tokens, row_tokens, sums_tokens, unit_tokens, value_tokens}
 
 -- no line feed is among the bytes
 abbrev pub IsLine : Bytes → Type 0
@@ -155,11 +157,13 @@ signed_decimal-in_line (negsuc n) h =
     (IsNumber-signed_decimal (negsuc n) h.sfits, ((λ e. omega arith), digits-line (decimal (suc n)) (decimal_is_IsNumeral (suc n) small).0.1))
 
 -- the numbers of sums
-pub sums_small : (sums : Sums) → fit sums ≡ true → (sums.count < 2 ^ 64) × (sums.total < 2 ^ 64) × (sums.self_time < 2 ^ 64)
+pub sums_small : (sums : Sums) → fit sums ≡ true → (sums.count < 2 ^ 64) × (sums.total < 2 ^ 64) × (sums.self_time < 2 ^ 64) × (sums.unclosed < 2 ^ 64) × (sums.points < 2 ^ 64)
 sums_small sums h =
     let one = and_parts (nat_lt sums.count (2 ^ 64)) _ h in
     let two = and_parts (nat_lt sums.total (2 ^ 64)) _ one.1 in
-    (ltb-true _ _ one.0, ltb-true _ _ two.0, ltb-true _ _ two.1)
+    let three = and_parts (nat_lt sums.self_time (2 ^ 64)) _ two.1 in
+    let four = and_parts (nat_lt sums.unclosed (2 ^ 64)) _ three.1 in
+    (ltb-true _ _ one.0, ltb-true _ _ two.0, ltb-true _ _ three.0, ltb-true _ _ four.0, ltb-true _ _ four.1)
 
 -- the numbers of a table, where all of them fit
 pub numbers_fit-each : (table : SpanTable) → numbers_fit table ≡ true → (head_fits table.head ≡ true) × All (λ row. fit row.sums ≡ true) table.rows
@@ -168,8 +172,11 @@ numbers_fit-each table h =
     let parts = and_parts (head_fits table.head) (list_all fits table.rows) h in
     (parts.0, AllPass-from_list_all fits table.rows parts.1)
 
-sums-in_line : (sums : Sums) → fit sums ≡ true → AreInLine (sums_tokens sums)
-sums-in_line sums h =
+sums-in_line : (of : Of) (sums : Sums) → fit sums ≡ true → AreInLine (sums_tokens of sums)
+sums-in_line Async sums h =
+    let small = sums_small sums h in
+    (tt, (decimal-in_line sums.count small.0, (tt, (decimal-in_line sums.total small.1, (tt, (decimal-in_line sums.unclosed small.3, (tt, (decimal-in_line sums.points small.4, tt))))))))
+sums-in_line Spans sums h =
     let small = sums_small sums h in
     (tt, (decimal-in_line sums.count small.0, (tt, (decimal-in_line sums.total small.1, (tt, (decimal-in_line sums.self_time small.2, tt))))))
 
@@ -228,6 +235,9 @@ whole_fits Process whole h = absurd h
 whole_fits Thread whole h = absurd h
 whole_fits Name whole h = absurd h
 whole_fits File whole h = absurd h
+whole_fits Cat whole h = absurd h
+whole_fits Scope whole h = absurd h
+whole_fits Id whole h = absurd h
 whole_fits (Argument name) whole h = h
 
 -- a value that a column may have, an argument may have
@@ -250,13 +260,14 @@ IsKeyOf-told (column ∷ columns) [] h = absurd h
 IsKeyOf-told (column ∷ columns) (value ∷ values) h = let rest = IsKeyOf-told columns values h.1 in (ap suc rest.0, (IsOfArgument-any column value h.0, rest.1))
 
 -- a row that a line tells
-pub record IsTold (columns : List Column) (row : Row) : Type 0 where
+pub record IsTold (of : Of) (columns : List Column) (row : Row) : Type 0 where
   pub key : IsToldKey columns row.key
+  pub own : HasOwn of row.sums
   pub sums : fit row.sums ≡ true
 
 -- so is each that a table may have
-pub IsRowOf-told : (columns : List Column) (row : Row) → IsRowOf columns row → IsTold columns row
-IsRowOf-told columns row is = record { key = IsKeyOf-told columns row.key is.key; sums = is.fits }
+pub IsRowOf-told : (of : Of) (columns : List Column) (row : Row) → IsRowOf of columns row → IsTold of columns row
+IsRowOf-told of columns row is = record { key = IsKeyOf-told columns row.key is.key; own = is.own; sums = is.fits }
 
 value-in_line : (value : ArgValue) → IsOfArgument (Some value) → AreInLine (value_tokens value)
 value-in_line Nil h = (tt, tt)
@@ -271,10 +282,10 @@ key-in_line (column ∷ columns) [] h = tt
 key-in_line (column ∷ columns) (None ∷ values) h = key-in_line columns values h.1
 key-in_line (column ∷ columns) (Some value ∷ values) h = (tt, AreInLine-append (value_tokens value) _ (value-in_line value h.0) (key-in_line columns values h.1))
 
-row-in_line : (columns : List Column) (row : Row) → IsTold columns row → AreInLine (row_tokens columns row)
-row-in_line columns row is =
-    let sums = AreInLine-append (sums_tokens row.sums) (end_object ∷ []) (sums-in_line row.sums is.sums) (tt, tt) in
-    (tt, AreInLine-append (key_tokens columns row.key) (sums_tokens row.sums ++ end_object ∷ []) (key-in_line columns row.key is.key.1) sums)
+row-in_line : (of : Of) (columns : List Column) (row : Row) → IsTold of columns row → AreInLine (row_tokens of columns row)
+row-in_line of columns row is =
+    let sums = AreInLine-append (sums_tokens of row.sums) (end_object ∷ []) (sums-in_line of row.sums is.sums) (tt, tt) in
+    (tt, AreInLine-append (key_tokens columns row.key) (sums_tokens of row.sums ++ end_object ∷ []) (key-in_line columns row.key is.key.1) sums)
 
 names-in_line : (columns : List Column) → AreInLine (name_tokens columns)
 names-in_line [] = tt
@@ -284,36 +295,43 @@ one-in_line : IsInLine (number (codes "1"))
 unfolding after_number
 one-in_line = (refl, ((λ e. omega arith), tt))
 
+of-in_line : (of : Of) → AreInLine (of_tokens of)
+of-in_line Spans = tt
+of-in_line Async = (tt, (tt, tt))
+
 unit-in_line : (unit : Unit) → AreInLine (unit_tokens unit)
 unit-in_line Microseconds = tt
 unit-in_line Nanoseconds = (tt, (tt, tt))
 
-head-in_line : (unit : Unit) (columns : List Column) (rows : ℕ) (head : Head) → rows < 2 ^ 64 → AreSmall head → AreInLine (head_tokens unit columns rows head)
-head-in_line unit columns rows head few small =
+head-in_line : (of : Of) (unit : Unit) (columns : List Column) (rows : ℕ) (head : Head) → rows < 2 ^ 64 → AreSmall head → AreInLine (head_tokens of unit columns rows head)
+head-in_line of unit columns rows head few small =
     let numbers = AreInLine-append (numbers_tokens rows head) (end_object ∷ []) (numbers-in_line rows head few small) (tt, tt) in
     let names : AreInLine (columns_tokens columns rows head) = (tt, (tt, AreInLine-append (name_tokens columns) _ (names-in_line columns) (tt, numbers))) in
-    (tt, (tt, (one-in_line, AreInLine-append (unit_tokens unit) (columns_tokens columns rows head) (unit-in_line unit) names)))
+    let more = AreInLine-append (unit_tokens unit) (columns_tokens columns rows head) (unit-in_line unit) names in
+    (tt, (tt, (one-in_line, AreInLine-append (of_tokens of) (unit_tokens unit ++ columns_tokens columns rows head) (of-in_line of) more)))
 
 -- the tokens of a row are read back
-pub tokens-row : (columns : List Column) (row : Row) → IsTold columns row → tokens (print (row_tokens columns row)) ≡ row_tokens columns row
-tokens-row columns row is = tokens-print (row_tokens columns row) (all_printable (row_tokens columns row) (row-in_line columns row is))
+pub tokens-row : (of : Of) (columns : List Column) (row : Row) → IsTold of columns row → tokens (print (row_tokens of columns row)) ≡ row_tokens of columns row
+tokens-row of columns row is = tokens-print (row_tokens of columns row) (all_printable (row_tokens of columns row) (row-in_line of columns row is))
 
 -- those of the first line are read back
-pub tokens-head : (unit : Unit) (columns : List Column) (rows : ℕ) (head : Head) → rows < 2 ^ 64 → head_fits head ≡ true → tokens (print (head_tokens unit columns rows head)) ≡ head_tokens unit columns rows head
-tokens-head unit columns rows head few fits = tokens-print (head_tokens unit columns rows head) (all_printable (head_tokens unit columns rows head) (head-in_line unit columns rows head few (head_small head fits)))
+pub tokens-head : (of : Of) (unit : Unit) (columns : List Column) (rows : ℕ) (head : Head) → rows < 2 ^ 64 → head_fits head ≡ true →
+    tokens (print (head_tokens of unit columns rows head)) ≡ head_tokens of unit columns rows head
+tokens-head of unit columns rows head few fits =
+    tokens-print (head_tokens of unit columns rows head) (all_printable (head_tokens of unit columns rows head) (head-in_line of unit columns rows head few (head_small head fits)))
 
 -- the line of a row is one line
-pub print_row-IsLine : (columns : List Column) (row : Row) → IsTold columns row → IsLine (print (row_tokens columns row))
-print_row-IsLine columns row is = print-line false (row_tokens columns row) (row-in_line columns row is)
+pub print_row-IsLine : (of : Of) (columns : List Column) (row : Row) → IsTold of columns row → IsLine (print (row_tokens of columns row))
+print_row-IsLine of columns row is = print-line false (row_tokens of columns row) (row-in_line of columns row is)
 
 -- the first line is one line
-pub print_head-IsLine : (unit : Unit) (columns : List Column) (rows : ℕ) (head : Head) → rows < 2 ^ 64 → head_fits head ≡ true → IsLine (print (head_tokens unit columns rows head))
-print_head-IsLine unit columns rows head few fits = print-line false (head_tokens unit columns rows head) (head-in_line unit columns rows head few (head_small head fits))
+pub print_head-IsLine : (of : Of) (unit : Unit) (columns : List Column) (rows : ℕ) (head : Head) → rows < 2 ^ 64 → head_fits head ≡ true → IsLine (print (head_tokens of unit columns rows head))
+print_head-IsLine of unit columns rows head few fits = print-line false (head_tokens of unit columns rows head) (head-in_line of unit columns rows head few (head_small head fits))
 
 -- no line feed stands in the line of a row
-pub print_row-line : (columns : List Column) (row : Row) → IsTold columns row → All (λ byte. byte ≢ 10) (print (row_tokens columns row))
-print_row-line columns row is = All-from_recursion (λ byte. byte ≢ 10) (print (row_tokens columns row)) (print_row-IsLine columns row is)
+pub print_row-line : (of : Of) (columns : List Column) (row : Row) → IsTold of columns row → All (λ byte. byte ≢ 10) (print (row_tokens of columns row))
+print_row-line of columns row is = All-from_recursion (λ byte. byte ≢ 10) (print (row_tokens of columns row)) (print_row-IsLine of columns row is)
 
 -- no line feed stands in the first line
-pub print_head-line : (unit : Unit) (columns : List Column) (rows : ℕ) (head : Head) → rows < 2 ^ 64 → head_fits head ≡ true → All (λ byte. byte ≢ 10) (print (head_tokens unit columns rows head))
-print_head-line unit columns rows head few fits = All-from_recursion (λ byte. byte ≢ 10) (print (head_tokens unit columns rows head)) (print_head-IsLine unit columns rows head few fits)
+pub print_head-line : (of : Of) (unit : Unit) (columns : List Column) (rows : ℕ) (head : Head) → rows < 2 ^ 64 → head_fits head ≡ true → All (λ byte. byte ≢ 10) (print (head_tokens of unit columns rows head))
+print_head-line of unit columns rows head few fits = All-from_recursion (λ byte. byte ≢ 10) (print (head_tokens of unit columns rows head)) (print_head-IsLine of unit columns rows head few fits)

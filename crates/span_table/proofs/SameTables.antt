@@ -12,6 +12,8 @@ use Rattle.span_event.specs.Text.{Bytes}
 use Rattle.span_ledger.specs.declared.entry.Entry.{Entry}
 use Rattle.span_ledger.specs.declared.rows.ThreadRow.{ThreadRow}
 use Rattle.span_ledger.specs.Journal.{accepted}
+use Rattle.span_keyed_tracks.specs.declared.async_track.AsyncRow.{AsyncRow}
+use Rattle.span_keyed_tracks.specs.declared.keys.AsyncKey.{AsyncKey}
 use Rattle.span_keyed_tracks.specs.Meta.{Names}
 use Rattle.span_ledger.specs.Rows.{thread_keys, thread_row}
 use Rattle.span_ledger.specs.Timed.{Timed, timed_in, with_self_times}
@@ -25,10 +27,12 @@ use Rattle.span_self_time.proofs.Mapped.{self_time-map}
 use Rattle.span_track.specs.Nesting.{closed_spans}
 use Rattle.span_track.proofs.Threads.Renumbering.{closed_spans-renumbered}
 use Rattle.span_table.specs.declared.column.Column.{Column}
-use Rattle.span_table.specs.declared.column.Column.TheVariants.{Pid, Tid, Process, Thread as OfThread, Name, File, Argument}
-use Rattle.span_table.specs.Columns.{value_at}
+use Rattle.span_table.specs.declared.column.Column.TheVariants.{Pid, Tid, Process, Thread as OfThread, Name, File, Cat, Scope, Id, Argument}
+use Rattle.span_table.specs.declared.of.Of.{Of}
+use Rattle.span_table.specs.declared.of.Of.TheVariants.{Spans, Async}
+use Rattle.span_table.specs.Columns.{async_value_at, value_at}
 use Rattle.span_table.specs.Laws.{AreAlikeRuns, AreAllAlike, TablesFollowFromActs}
-use Rattle.span_table.specs.Tables.{Run, head_of, heads_together, keyed_span, rows_of, run_sums, thread_sums}
+use Rattle.span_table.specs.Tables.{Run, head_of, heads_together, keyed_span, rows_of, run_sums, sums_of_async, thread_sums}
 
 module _ (run other : Run) (alike : AreAlikeRuns run other) where
   value_at-alike : (thread : Thread) (name : Bytes) (args : Arguments) (column : Column) → value_at run thread name args column ≡ value_at other thread name args column
@@ -38,7 +42,22 @@ module _ (run other : Run) (alike : AreAlikeRuns run other) where
   value_at-alike thread name args OfThread = ap (λ (n : Names). option_map Words n.name) ((values-follow (of_process thread.pid) run.journal other.journal (alike.journals.acts (of_process thread.pid))).names (Some thread.tid))
   value_at-alike thread name args Name = refl
   value_at-alike thread name args File = ap (option_map Words) alike.file
+  value_at-alike thread name args Cat = refl
+  value_at-alike thread name args Scope = refl
+  value_at-alike thread name args Id = refl
   value_at-alike thread name args (Argument key) = refl
+
+  async_value_at-alike : (key : AsyncKey) (column : Column) → async_value_at run key column ≡ async_value_at other key column
+  async_value_at-alike key File = ap (option_map Words) alike.file
+  async_value_at-alike key Cat = refl
+  async_value_at-alike key Scope = refl
+  async_value_at-alike key Id = refl
+  async_value_at-alike key Name = refl
+  async_value_at-alike key Pid = refl
+  async_value_at-alike key Tid = refl
+  async_value_at-alike key Process = refl
+  async_value_at-alike key OfThread = refl
+  async_value_at-alike key (Argument name) = refl
 
   thread_keys-alike : thread_keys (accepted run.journal) ≡ thread_keys (accepted other.journal)
   thread_keys-alike =
@@ -54,7 +73,7 @@ module _ (run other : Run) (alike : AreAlikeRuns run other) where
     spans-renumbered thread f rises spans =
         map-map (keyed_span columns other thread) (timed_in (map (renumbered_span f) spans)) (map (renumbered_span f) spans)
         ∙ map-map (λ s. keyed_span columns other thread (timed_in (map (renumbered_span f) spans) s)) (renumbered_span f) spans
-        ∙ (λ i. map (λ s. record { key = map (value_at other thread s.name s.args) columns; step = record { count = 1; total = length_of s; self_time = same s i } }) spans)
+        ∙ (λ i. map (λ s. record { key = map (value_at other thread s.name s.args) columns; step = record { count = 1; total = length_of s; self_time = same s i; unclosed = 0; points = 0 } }) spans)
         ∙ sym (map-map (keyed_span columns other thread) (timed_in spans) spans)
       where
         ranks : (a b : Span Bytes) → outranks (renumbered_span f a) (renumbered_span f b) ≡ outranks a b
@@ -65,14 +84,17 @@ module _ (run other : Run) (alike : AreAlikeRuns run other) where
 
     thread_sums-alike : (thread : Thread) → thread_sums columns run thread ≡ thread_sums columns other thread
     thread_sums-alike thread =
-        (λ i. map (λ (t : Timed). record { key = map (λ column. value_at-alike thread t.span.name t.span.args column i) columns; step = record { count = 1; total = length_of t.span; self_time = t.self_time } })
+        (λ i. map (λ (t : Timed). record { key = map (λ column. value_at-alike thread t.span.name t.span.args column i) columns; step = record { count = 1; total = length_of t.span; self_time = t.self_time; unclosed = 0; points = 0 } })
         (with_self_times (closed_spans (thread_events thread run.journal))))
         ∙ thread_events-alike thread (λ es. map (keyed_span columns other thread) (with_self_times (closed_spans es)))
         (λ f rises es. ap (λ spans. map (keyed_span columns other thread) (with_self_times spans)) (closed_spans-renumbered f es) ∙ spans-renumbered thread f rises (closed_spans es))
         run.journal other.journal (alike.journals.acts (of_process thread.pid))
 
-    run_sums-alike : run_sums columns run ≡ run_sums columns other
-    run_sums-alike = λ i. flat_map (λ thread. thread_sums-alike thread i) (thread_keys-alike i)
+    run_sums-alike : (of : Of) → run_sums of columns run ≡ run_sums of columns other
+    run_sums-alike Spans = λ i. flat_map (λ thread. thread_sums-alike thread i) (thread_keys-alike i)
+    run_sums-alike Async =
+        let rows = (rows-follow run.journal other.journal alike.journals).asynchronous in
+        λ i. map (λ (row : AsyncRow). record { key = map (λ column. async_value_at-alike row.key column i) columns; step = sums_of_async row }) (rows i)
 
 head_of-alike : (run other : Run) → AreAlikeRuns run other → head_of run ≡ head_of other
 head_of-alike run other alike = λ i. record { runs = 1; files = alike.files i; unread = alike.unread i; counts = alike.journals.counts i }
@@ -83,17 +105,18 @@ heads-alike [] (other ∷ others) alike = elim alike [ ]
 heads-alike (run ∷ runs) [] alike = elim alike [ ]
 heads-alike (run ∷ runs) (other ∷ others) alike = λ i. head_of-alike run other alike.0 i ∷ heads-alike runs others alike.1 i
 
-sums-alike : (columns : List Column) (runs others : List Run) → AreAllAlike runs others → flat_map (run_sums columns) runs ≡ flat_map (run_sums columns) others
-sums-alike columns [] [] alike = refl
-sums-alike columns [] (other ∷ others) alike = elim alike [ ]
-sums-alike columns (run ∷ runs) [] alike = elim alike [ ]
-sums-alike columns (run ∷ runs) (other ∷ others) alike =
-    λ i. run_sums-alike run other alike.0 columns i ++ sums-alike columns runs others alike.1 i
+sums-alike : (of : Of) (columns : List Column) (runs others : List Run) → AreAllAlike runs others → flat_map (run_sums of columns) runs ≡ flat_map (run_sums of columns) others
+sums-alike of columns [] [] alike = refl
+sums-alike of columns [] (other ∷ others) alike = elim alike [ ]
+sums-alike of columns (run ∷ runs) [] alike = elim alike [ ]
+sums-alike of columns (run ∷ runs) (other ∷ others) alike =
+    λ i. run_sums-alike run other alike.0 columns of i ++ sums-alike of columns runs others alike.1 i
 
 -- runs that are alike have the same table
 pub table_of-alike : TablesFollowFromActs
-table_of-alike columns runs others alike = λ i. record {
+table_of-alike of columns runs others alike = λ i. record {
+  of = of;
   columns = columns;
   head = heads_together (heads-alike runs others alike i);
-  rows = rows_of (sums-alike columns runs others alike i);
+  rows = rows_of (sums-alike of columns runs others alike i);
 }

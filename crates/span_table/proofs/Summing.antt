@@ -22,7 +22,9 @@ sums_together-push sums more =
     let count = sum_by_push (λ (s : Sums). s.count) sums more in
     let total = sum_by_push (λ (s : Sums). s.total) sums more in
     let self_time = sum_by_push (λ (s : Sums). s.self_time) sums more in
-    λ i. record { count = count i; total = total i; self_time = self_time i }
+    let unclosed = sum_by_push (λ (s : Sums). s.unclosed) sums more in
+    let points = sum_by_push (λ (s : Sums). s.points) sums more in
+    λ i. record { count = count i; total = total i; self_time = self_time i; unclosed = unclosed i; points = points i }
 
 -- keys that are kept rise
 pub summed-sorted : (sums : KeyedSums) → IsStrictlySortedBy key_cmp (keys_of (summed sums))
@@ -30,14 +32,20 @@ summed-sorted sums = rw (keys_of-made (λ key. sums_together (steps_at key_cmp k
 
 -- what is within some number is within a greater one
 pub IsWithin-le : (m n : ℕ) (sums : Sums) → m ≤ n → IsWithin m sums → IsWithin n sums
-IsWithin-le m n sums low within = record { count = omega (arith, within.count); total = omega (arith, within.total); self_time = omega (arith, within.self_time) }
+IsWithin-le m n sums low within = record {
+  count = omega (arith, within.count);
+  total = omega (arith, within.total);
+  self_time = omega (arith, within.self_time);
+  unclosed = omega (arith, within.unclosed);
+  points = omega (arith, within.points);
+}
 
 -- what was found for a key is within what all that is kept is within
 pub found-within : (n : ℕ) (key : TableKey) (es : SumsByKey) → All (IsWithin n) (values_of es) → IsWithin n (unwrap_or (lookup (is_at (key_cmp key)) es) (sums_together []))
 found-within n key es within = by (lookup (is_at (key_cmp key)) es) (IfSome-lookup_from_All (IsWithin n) (is_at (key_cmp key)) es within)
   where
     by : (found : Option Sums) → IfSome found (IsWithin n) → IsWithin n (unwrap_or found (sums_together []))
-    by None h = record { count = omega arith; total = omega arith; self_time = omega arith }
+    by None h = record { count = omega arith; total = omega arith; self_time = omega arith; unclosed = omega arith; points = omega arith }
     by (Some sums) h = h
 
 -- two sums added are within both numbers added
@@ -46,6 +54,8 @@ with_sums-within m n a b first second = record {
   count = omega (arith, first.count, second.count);
   total = omega (arith, first.total, second.total);
   self_time = omega (arith, first.self_time, second.self_time);
+  unclosed = omega (arith, first.unclosed, second.unclosed);
+  points = omega (arith, first.points, second.points);
 }
 
 -- sums that are added to those of their key, or to none, are taken, and no key's grow by more

@@ -14,10 +14,12 @@ use Rattle.span_keyed_tracks.specs.Keyed.{ascending}
 use Rattle.span_keyed_tracks.proofs.SameKeys.{ascending-members}
 use Rattle.span_ledger.proofs.Sorted.{map-map}
 use Rattle.span_self_time.proofs.Mapped.{filter-map}
+use Rattle.span_table.specs.declared.of.Of.{Of}
+use Rattle.span_table.specs.declared.of.Of.TheVariants.{Spans, Async}
 use Rattle.span_table.specs.declared.sums.By.{By}
-use Rattle.span_table.specs.declared.sums.By.TheVariants.{SelfTime, Total}
+use Rattle.span_table.specs.declared.sums.By.TheVariants.{SelfTime, Total, Count, Open}
 use Rattle.span_table.specs.declared.table.Row.{Row}
-use Rattle.span_table.specs.Changes.{Change, by_gap, change_order, changes_of, compared, compared_at, gap, gap_by, is_changed, is_same, same_count, shown_changes}
+use Rattle.span_table.specs.Changes.{Change, by_gap, change_order, changes_of, compared, compared_at, gap, gap_by, is_changed, is_same, same_count, shown_changes, usual_order}
 use Rattle.span_table.specs.KeyLaws.{key_cmp_total, key_cmp-same}
 use Rattle.span_table.specs.Keys.{TableKey, key_cmp}
 use Rattle.span_table.specs.Ranks.{number_by}
@@ -44,8 +46,12 @@ is_same-turned : (c : Change) → is_same (turned c).both ≡ is_same c.both
 is_same-turned c =
     let base = c.both.base in
     let other = c.both.other in
-    ap₂ (λ a b. a && b) (nat_eq_equiv.symm other.self_time base.self_time)
-    (ap₂ (λ a b. a && b) (nat_eq_equiv.symm other.total base.total) (nat_eq_equiv.symm other.count base.count))
+    let self_time = nat_eq_equiv.symm other.self_time base.self_time in
+    let total = nat_eq_equiv.symm other.total base.total in
+    let count = nat_eq_equiv.symm other.count base.count in
+    let unclosed = nat_eq_equiv.symm other.unclosed base.unclosed in
+    let points = nat_eq_equiv.symm other.points base.points in
+    λ i. self_time i && (total i && (count i && (unclosed i && points i)))
 
 filter-turned : (changes : List Change) → filter is_changed (map turned changes) ≡ map turned (filter is_changed changes)
 filter-turned changes = filter-map is_changed turned changes ∙ (λ i. map turned (filter (λ (c : Change). not (is_same-turned c i)) changes))
@@ -59,9 +65,13 @@ gap_by-turned by c = turns (number_by by c.both.base) (number_by by c.both.other
 by_gap-turned : (by : By) (a b : Change) → by_gap by (turned a) (turned b) ≡ by_gap by a b
 by_gap-turned by a b = ap₂ nat_cmp (gap_by-turned by b) (gap_by-turned by a)
 
-change_order-turned : (by : By) (a b : Change) → change_order by (turned a) (turned b) ≡ change_order by a b
-change_order-turned by a b =
-    λ i. ordering_then (by_gap-turned by a b i) (ordering_then (by_gap-turned SelfTime a b i) (ordering_then (by_gap-turned Total a b i) (key_cmp a.key b.key)))
+usual_order-turned : (of : Of) (a b : Change) → usual_order of (turned a) (turned b) ≡ usual_order of a b
+usual_order-turned Spans a b = λ i. ordering_then (by_gap-turned SelfTime a b i) (ordering_then (by_gap-turned Total a b i) (key_cmp a.key b.key))
+usual_order-turned Async a b =
+    λ i. ordering_then (by_gap-turned Total a b i) (ordering_then (by_gap-turned Open a b i) (ordering_then (by_gap-turned Count a b i) (key_cmp a.key b.key)))
+
+change_order-turned : (of : Of) (by : By) (a b : Change) → change_order of by (turned a) (turned b) ≡ change_order of by a b
+change_order-turned of by a b = λ i. ordering_then (by_gap-turned by a b i) (usual_order-turned of a b i)
 
 -- what a function that an order does not see makes of rows in order
 module _ {A B : Type 0} (R : A → A → Ordering) (S : B → B → Ordering) (f : A → B) (same : (x y : A) → S (f x) (f y) ≡ R x y) where
@@ -83,9 +93,9 @@ module _ {A B : Type 0} (R : A → A → Ordering) (S : B → B → Ordering) (f
   ascending-map : (xs : List A) → ascending S (map f xs) ≡ map f (ascending R xs)
   ascending-map xs = fold-map [] xs
 
-changes_of-turned : (by : By) (changes : List Change) → changes_of by (map turned changes) ≡ map turned (changes_of by changes)
-changes_of-turned by changes =
-    ap (ascending (change_order by)) (filter-turned changes) ∙ ascending-map (change_order by) (change_order by) turned (change_order-turned by) (filter is_changed changes)
+changes_of-turned : (of : Of) (by : By) (changes : List Change) → changes_of of by (map turned changes) ≡ map turned (changes_of of by changes)
+changes_of-turned of by changes =
+    ap (ascending (change_order of by)) (filter-turned changes) ∙ ascending-map (change_order of by) (change_order of by) turned (change_order-turned of by) (filter is_changed changes)
 
 same_count-turned : (changes : List Change) → same_count (map turned changes) ≡ same_count changes
 same_count-turned changes =
@@ -93,10 +103,10 @@ same_count-turned changes =
 
 -- the other way round the same keys changed, and as many did not
 pub comparisons-turned : ComparisonsTurn
-comparisons-turned by wanted base other =
+comparisons-turned of by wanted base other =
     let shown = shown_changes wanted (compared base other) in
     let turns : shown_changes wanted (compared other base) ≡ map turned shown = ap (shown_changes wanted) (compared-turned base other) ∙ shown_changes-turned wanted (compared base other) in
-    record { changes = ap (changes_of by) turns ∙ changes_of-turned by shown; same = ap same_count turns ∙ same_count-turned shown }
+    record { changes = ap (changes_of of by) turns ∙ changes_of-turned of by shown; same = ap same_count turns ∙ same_count-turned shown }
 
 -- a difference is as great the other way round
 pub difference_text-turned : DifferencesTurn

@@ -4,6 +4,7 @@ use Rattle.std.specs.List.Sorted.{IsPermutation}
 use Rattle.span_keyed_tracks.specs.Keyed.{Keyed}
 use Rattle.span_table.specs.declared.column.Column.{Column}
 use Rattle.span_table.specs.declared.heads.Head.{Head}
+use Rattle.span_table.specs.declared.of.Of.{Of}
 use Rattle.span_table.specs.declared.sums.Sums.{Sums}
 use Rattle.span_table.specs.declared.table.Row.{Row}
 use Rattle.span_table.specs.Keys.{TableKey}
@@ -16,9 +17,10 @@ keyed_row row = record { key = row.key; step = row.sums }
 abbrev pub keyed_rows : List Row → KeyedSums
 keyed_rows rows = map keyed_row rows
 
--- tables of the same columns added: heads added, and for each key that one of them has its sums
-abbrev pub add_tables : List Column → List SpanTable → SpanTable
-add_tables columns tables = record {
+-- tables of the same columns, that sum the same, added: heads added, and for each key that one of them has its sums
+abbrev pub add_tables : Of → List Column → List SpanTable → SpanTable
+add_tables of columns tables = record {
+  of = of;
   columns = columns;
   head = heads_together (map (λ (table : SpanTable). table.head) tables);
   rows = rows_of (flat_map (λ (table : SpanTable). keyed_rows table.rows) tables);
@@ -26,31 +28,31 @@ add_tables columns tables = record {
 
 -- a table with the head of another added, and none of its rows
 abbrev pub with_head : SpanTable → Head → SpanTable
-with_head table head = record { columns = table.columns; head = heads_together (table.head ∷ head ∷ []); rows = table.rows }
+with_head table head = record { of = table.of; columns = table.columns; head = heads_together (table.head ∷ head ∷ []); rows = table.rows }
 
 -- a table with a row of another added
 abbrev pub with_row : SpanTable → Row → SpanTable
-with_row table row = record { columns = table.columns; head = table.head; rows = rows_of (keyed_rows table.rows ++ keyed_row row ∷ []) }
+with_row table row = record { of = table.of; columns = table.columns; head = table.head; rows = rows_of (keyed_rows table.rows ++ keyed_row row ∷ []) }
 
 -- a table with a run added
 abbrev pub with_run : SpanTable → Run → SpanTable
-with_run table run = add_tables table.columns (table ∷ table_of table.columns (run ∷ []) ∷ [])
+with_run table run = add_tables table.of table.columns (table ∷ table_of table.of table.columns (run ∷ []) ∷ [])
 
 -- where one is the table of some runs, the other is that of these and more
 abbrev pub TakesRuns : SpanTable → List Run → SpanTable → Type 0
-TakesRuns old more new = (columns : List Column) (runs : List Run) → old ≡ table_of columns runs → new ≡ table_of columns (runs ++ more)
+TakesRuns old more new = (of : Of) (columns : List Column) (runs : List Run) → old ≡ table_of of columns runs → new ≡ table_of of columns (runs ++ more)
 
 -- where two are tables of some runs each, the third is that of all of these
 abbrev pub JoinsRuns : SpanTable → SpanTable → SpanTable → Type 0
-JoinsRuns one other both = (columns : List Column) (runs others : List Run) → one ≡ table_of columns runs → other ≡ table_of columns others → both ≡ table_of columns (runs ++ others)
+JoinsRuns one other both = (of : Of) (columns : List Column) (runs others : List Run) → one ≡ table_of of columns runs → other ≡ table_of of columns others → both ≡ table_of of columns (runs ++ others)
 
 -- the tables of lists of runs, added, are the table of all these runs together
 abbrev pub AddingLosesNothing : Type 0
-AddingLosesNothing = (columns : List Column) (parts : List (List Run)) → add_tables columns (map (table_of columns) parts) ≡ table_of columns (flat_map (λ part. part) parts)
+AddingLosesNothing = (of : Of) (columns : List Column) (parts : List (List Run)) → add_tables of columns (map (table_of of columns) parts) ≡ table_of of columns (flat_map (λ part. part) parts)
 
 -- a table is the same for runs in whatever order
 abbrev pub OrderIsNothing : Type 0
-OrderIsNothing = (columns : List Column) (runs other : List Run) → IsPermutation runs other → table_of columns runs ≡ table_of columns other
+OrderIsNothing = (of : Of) (columns : List Column) (runs other : List Run) → IsPermutation runs other → table_of of columns runs ≡ table_of of columns other
 
 -- those at these places of a list
 abbrev pub picked : {A : Type 0} → List ℕ → List A → List A
@@ -62,8 +64,8 @@ keyed_by places row = record { key = picked places row.key; step = row.sums }
 
 -- a table with fewer columns, or in another order: rows whose keys are then the same are added
 abbrev pub with_columns : List ℕ → SpanTable → SpanTable
-with_columns places table = record { columns = picked places table.columns; head = table.head; rows = rows_of (map (keyed_by places) table.rows) }
+with_columns places table = record { of = table.of; columns = picked places table.columns; head = table.head; rows = rows_of (map (keyed_by places) table.rows) }
 
 -- a table by fewer columns is the table by more, with the others dropped
 abbrev pub DroppingAdds : Type 0
-DroppingAdds = (places : List ℕ) (columns : List Column) (runs : List Run) → with_columns places (table_of columns runs) ≡ table_of (picked places columns) runs
+DroppingAdds = (places : List ℕ) (of : Of) (columns : List Column) (runs : List Run) → with_columns places (table_of of columns runs) ≡ table_of of (picked places columns) runs

@@ -4,8 +4,10 @@ use Rattle.std.specs.declared.cmp.Ordering.{Ordering}
 use Rattle.std.specs.Ordering.{nat_cmp, ordering_then}
 use Rattle.span_keyed_tracks.specs.Keyed.{ascending, steps_at}
 use Rattle.span_table.specs.declared.changes.Both.{Both}
+use Rattle.span_table.specs.declared.of.Of.{Of}
+use Rattle.span_table.specs.declared.of.Of.TheVariants.{Spans, Async}
 use Rattle.span_table.specs.declared.sums.By.{By}
-use Rattle.span_table.specs.declared.sums.By.TheVariants.{SelfTime, Total}
+use Rattle.span_table.specs.declared.sums.By.TheVariants.{SelfTime, Total, Count, Open}
 use Rattle.span_table.specs.declared.sums.Sums.{Sums}
 use Rattle.span_table.specs.declared.table.Row.{Row}
 use Rattle.span_table.specs.Adding.{keyed_rows}
@@ -36,7 +38,7 @@ shown_changes wanted changes = filter (λ (change : Change). is_wanted wanted ch
 
 -- all numbers are equal
 abbrev pub same_sums : Sums → Sums → Bool
-same_sums a b = (a.self_time == b.self_time) && ((a.total == b.total) && (a.count == b.count))
+same_sums a b = (a.self_time == b.self_time) && ((a.total == b.total) && ((a.count == b.count) && ((a.unclosed == b.unclosed) && (a.points == b.points))))
 
 abbrev pub is_same : Both → Bool
 is_same both = same_sums both.base both.other
@@ -57,13 +59,19 @@ gap_by by change = gap (number_by by change.both.base) (number_by by change.both
 abbrev pub by_gap : By → Change → Change → Ordering
 by_gap by a b = nat_cmp (gap_by by b) (gap_by by a)
 
--- by the gap of this number, then of the self times, then of the totals, and then by key
-abbrev pub change_order : By → Change → Change → Ordering
-change_order by a b = ordering_then (by_gap by a b) (ordering_then (by_gap SelfTime a b) (ordering_then (by_gap Total a b) (key_cmp a.key b.key)))
+-- of spans by the gap of the self times, and then of the totals; of asynchronous spans by that of the totals, then of how many are
+-- open, and then of how many are closed; and then by key
+abbrev pub usual_order : Of → Change → Change → Ordering
+usual_order Spans a b = ordering_then (by_gap SelfTime a b) (ordering_then (by_gap Total a b) (key_cmp a.key b.key))
+usual_order Async a b = ordering_then (by_gap Total a b) (ordering_then (by_gap Open a b) (ordering_then (by_gap Count a b) (key_cmp a.key b.key)))
+
+-- by the gap of this number, and then as usual
+abbrev pub change_order : Of → By → Change → Change → Ordering
+change_order of by a b = ordering_then (by_gap by a b) (usual_order of a b)
 
 -- those of which some number differs, in this order
-abbrev pub changes_of : By → List Change → List Change
-changes_of by changes = ascending (change_order by) (filter is_changed changes)
+abbrev pub changes_of : Of → By → List Change → List Change
+changes_of of by changes = ascending (change_order of by) (filter is_changed changes)
 
 -- how many have the same numbers in both
 abbrev pub same_count : List Change → ℕ

@@ -1,4 +1,4 @@
--- How the sums of a table are collected: row by row of a ledger's names, or span by span.
+-- How the sums of a table are collected: row by row of a ledger's names or asynchronous keys, or span by span.
 use Rattle.std.specs.Prelude.{◌≡◌, ℕ, ◌+◌, ◌≤◌, List, [], ◌++◌, All, map, slice_get, Option, Some, None}
 use Rattle.std.specs.Ordering.{eq_by_cmp}
 use Rattle.span_keyed_tracks.specs.Keyed.{Keyed}
@@ -14,17 +14,25 @@ use Rattle.span_table.specs.Tables.{KeyedSums, SumsByKey, summed}
 
 -- the sums of a row
 abbrev pub sums_of_row : SpanRow → Sums
-sums_of_row row = record { count = row.count; total = row.total; self_time = row.self_time }
+sums_of_row row = record { count = row.count; total = row.total; self_time = row.self_time; unclosed = 0; points = 0 }
 
 -- these sums added
 abbrev pub with_sums : Sums → Sums → Sums
-with_sums a b = record { count = a.count + b.count; total = a.total + b.total; self_time = a.self_time + b.self_time }
+with_sums a b = record {
+  count = a.count + b.count;
+  total = a.total + b.total;
+  self_time = a.self_time + b.self_time;
+  unclosed = a.unclosed + b.unclosed;
+  points = a.points + b.points;
+}
 
 -- none is greater than this
 pub record IsWithin (most : ℕ) (sums : Sums) : Type 0 where
   pub count : sums.count ≤ most
   pub total : sums.total ≤ most
   pub self_time : sums.self_time ≤ most
+  pub unclosed : sums.unclosed ≤ most
+  pub points : sums.points ≤ most
 
 -- the sums of no key are greater than this
 abbrev pub AllWithin : ℕ → SumsByKey → Type 0

@@ -1,16 +1,20 @@
 -- The columns by which spans are summed, and the value that a span has in each.
-use Rattle.std.specs.Prelude.{ℕ, Bool, true, false, List, ◌++◌, Option, Some, None, codes}
+use Rattle.std.specs.Prelude.{ℕ, Bool, true, false, not, ◌||◌, List, ◌++◌, Option, Some, None, codes}
 use Rattle.std.specs.Option.{option_map}
 use Rattle.span_event.specs.declared.args.ArgValue.{ArgValue}
 use Rattle.span_event.specs.declared.args.ArgValue.TheVariants.{Whole, Words}
 use Rattle.span_event.specs.declared.thread.Thread.{Thread}
 use Rattle.span_event.specs.Args.{Arguments, value_of}
 use Rattle.span_event.specs.Text.{Bytes}
+use Rattle.span_keyed_tracks.specs.declared.keys.AsyncKey.{AsyncKey}
 use Rattle.span_keyed_tracks.specs.Meta.{Holder}
 use Rattle.span_ledger.specs.declared.entry.Entry.{Entry}
 use Rattle.span_ledger.specs.Rows.{names_of}
+use Rattle.span_report.specs.Lines.{with_home}
 use Rattle.span_table.specs.declared.column.Column.{Column}
-use Rattle.span_table.specs.declared.column.Column.TheVariants.{Pid, Tid, Process, Thread as OfThread, Name, File, Argument}
+use Rattle.span_table.specs.declared.column.Column.TheVariants.{Pid, Tid, Process, Thread as OfThread, Name, File, Cat, Scope, Id, Argument}
+use Rattle.span_table.specs.declared.of.Of.{Of}
+use Rattle.span_table.specs.declared.of.Of.TheVariants.{Spans, Async}
 
 -- what one ledger holds once it is closed, the number of its files, how many of them were refused as a whole, and the name of its only
 -- file: None where it has not just one that has a name
@@ -40,6 +44,16 @@ value_at run thread name args OfThread = holder_name run.journal (thread.pid, So
 value_at run thread name args Name = Some (Words name)
 value_at run thread name args File = option_map Words run.file
 value_at run thread name args (Argument key) = value_of key args
+value_at run thread name args column = None
+
+-- the value of a column at an asynchronous key of a run: its id has the process before it that it belongs to
+abbrev pub async_value_at : Run → AsyncKey → Column → Value
+async_value_at run key Cat = Some (Words key.cat)
+async_value_at run key Scope = Some (Words key.scope)
+async_value_at run key Id = Some (Words (with_home key.id.home key.id.id))
+async_value_at run key Name = Some (Words key.name)
+async_value_at run key File = option_map Words run.file
+async_value_at run key column = None
 
 -- what a column is called
 abbrev pub column_name : Column → Bytes
@@ -49,9 +63,30 @@ column_name Process = codes "process"
 column_name OfThread = codes "thread"
 column_name Name = codes "name"
 column_name File = codes "file"
+column_name Cat = codes "cat"
+column_name Scope = codes "scope"
+column_name Id = codes "id"
 column_name (Argument key) = codes "args." ++ key
 
 -- the column is an argument
 abbrev pub is_argument : Column → Bool
 is_argument (Argument key) = true
 is_argument column = false
+
+-- only asynchronous spans have the column
+abbrev pub is_of_async : Column → Bool
+is_of_async Cat = true
+is_of_async Scope = true
+is_of_async Id = true
+is_of_async column = false
+
+-- whatever a table sums has the column
+abbrev pub is_of_all : Column → Bool
+is_of_all Name = true
+is_of_all File = true
+is_of_all column = false
+
+-- what the table sums has the column
+abbrev pub goes_with : Of → Column → Bool
+goes_with Spans column = not (is_of_async column)
+goes_with Async column = is_of_async column || is_of_all column

@@ -11,7 +11,8 @@ use Rattle.span_ledger.specs.declared.rows.CountRow.{CountRow}
 use Rattle.span_report.specs.Lines.{json_text_of}
 use Rattle.span_table.specs.declared.changes.Both.{Both}
 use Rattle.span_table.specs.declared.column.Column.{Column}
-use Rattle.span_table.specs.declared.sums.By.TheVariants.{SelfTime}
+use Rattle.span_table.specs.declared.of.Of.{Of}
+use Rattle.span_table.specs.declared.of.Of.TheVariants.{Spans, Async}
 use Rattle.span_table.specs.declared.sums.Sums.{Sums}
 use Rattle.span_table.specs.declared.heads.Head.{Head}
 use Rattle.span_table.specs.declared.table.Row.{Row}
@@ -19,6 +20,7 @@ use Rattle.span_table.specs.Changes.{Change, changes_of, compared, same_count, s
 use Rattle.span_table.specs.Columns.{column_name}
 use Rattle.span_table.specs.Keys.{TableKey}
 use Rattle.span_table.specs.Lines.{flag_text}
+use Rattle.span_table.specs.Ranks.{usual_by}
 use Rattle.span_table.specs.Shown.{Wanted, shown_rows}
 use Rattle.span_table.specs.Tables.{SpanTable}
 
@@ -71,8 +73,15 @@ value_members (column ∷ columns) [] = []
 value_members (column ∷ columns) (None ∷ key) = value_members columns key
 value_members (column ∷ columns) (Some value ∷ key) = value_member column value ∷ value_members columns key
 
-abbrev pub sums_members : Sums → List Bytes
-sums_members sums = number_member (codes "count") sums.count ∷ number_member (codes "total") sums.total ∷ number_member (codes "self") sums.self_time ∷ []
+abbrev pub sums_members : Of → Sums → List Bytes
+sums_members Spans sums = number_member (codes "count") sums.count ∷ number_member (codes "total") sums.total ∷ number_member (codes "self") sums.self_time ∷ []
+sums_members Async sums =
+    number_member (codes "closed") sums.count ∷ number_member (codes "total") sums.total ∷ number_member (codes "open") sums.unclosed ∷ number_member (codes "points") sums.points ∷ []
+
+-- what a table sums, where that isn't the spans of threads
+unfoldable pub of_member : Of → Bytes
+of_member Spans = []
+of_member Async = codes ",\"of\":\"async\""
 
 -- the unit of all times, where it isn't microseconds
 unfoldable pub unit_member : Unit → Bytes
@@ -80,32 +89,33 @@ unit_member Microseconds = []
 unit_member Nanoseconds = codes ",\"unit\":\"ns\""
 
 -- with this each first line begins
-abbrev pub version_member : Unit → Bytes
-version_member unit = codes "\"tracebook\":1" ++ unit_member unit
+abbrev pub version_member : Of → Unit → Bytes
+version_member of unit = codes "\"tracebook\":1" ++ (of_member of ++ unit_member unit)
 
 -- the line of a row
-unfoldable pub json_line : List Column → Row → Bytes
-json_line columns row = object_of (value_members columns row.key ++ sums_members row.sums) ++ 10 ∷ []
+unfoldable pub json_line : Of → List Column → Row → Bytes
+json_line of columns row = object_of (value_members columns row.key ++ sums_members of row.sums) ++ 10 ∷ []
 
 -- the first line
-unfoldable pub json_head : Unit → List Column → ℕ → Head → Bytes
-json_head unit columns rows head =
-    object_of (version_member unit ∷ member_of (codes "columns") (columns_json columns) ∷ number_member (codes "rows") rows ∷ head_members head) ++ 10 ∷ []
+unfoldable pub json_head : Of → Unit → List Column → ℕ → Head → Bytes
+json_head of unit columns rows head =
+    object_of (version_member of unit ∷ member_of (codes "columns") (columns_json columns) ∷ number_member (codes "rows") rows ∷ head_members head) ++ 10 ∷ []
 
 -- the first line, and then one for each row
 abbrev pub text_of : Unit → SpanTable → Bytes
-text_of unit table = json_head unit table.columns (length table.rows) table.head ++ flat_map (json_line table.columns) table.rows
+text_of unit table = json_head table.of unit table.columns (length table.rows) table.head ++ flat_map (json_line table.of table.columns) table.rows
 
 -- the table without the rows that aren't shown
 abbrev pub shown_table : Wanted → SpanTable → SpanTable
-shown_table wanted table = record { columns = table.columns; head = table.head; rows = shown_rows wanted table.rows }
+shown_table wanted table = record { of = table.of; columns = table.columns; head = table.head; rows = shown_rows wanted table.rows }
 
 abbrev pub json_of : Unit → Wanted → SpanTable → Bytes
 json_of unit wanted table = text_of unit (shown_table wanted table)
 
 -- the sums have 64 bits
 abbrev pub fit : Sums → Bool
-fit sums = nat_lt sums.count (2 ^ 64) && (nat_lt sums.total (2 ^ 64) && nat_lt sums.self_time (2 ^ 64))
+fit sums =
+    nat_lt sums.count (2 ^ 64) && (nat_lt sums.total (2 ^ 64) && (nat_lt sums.self_time (2 ^ 64) && (nat_lt sums.unclosed (2 ^ 64) && nat_lt sums.points (2 ^ 64))))
 
 -- the counts have 64 bits
 abbrev pub counts_fit : CountRow → Bool
@@ -124,28 +134,37 @@ abbrev pub json_fits : Wanted → SpanTable → Bool
 json_fits wanted table = numbers_fit (shown_table wanted table)
 
 -- the sums of both sides
-abbrev pub both_members : Both → List Bytes
-both_members both =
+abbrev pub both_members : Of → Both → List Bytes
+both_members Spans both =
     number_member (codes "count0") both.base.count ∷ number_member (codes "count1") both.other.count ∷
     number_member (codes "total0") both.base.total ∷ number_member (codes "total1") both.other.total ∷
     number_member (codes "self0") both.base.self_time ∷ number_member (codes "self1") both.other.self_time ∷ []
+both_members Async both =
+    number_member (codes "closed0") both.base.count ∷ number_member (codes "closed1") both.other.count ∷
+    number_member (codes "total0") both.base.total ∷ number_member (codes "total1") both.other.total ∷
+    number_member (codes "open0") both.base.unclosed ∷ number_member (codes "open1") both.other.unclosed ∷
+    number_member (codes "points0") both.base.points ∷ number_member (codes "points1") both.other.points ∷ []
 
 -- the line of a change
-unfoldable pub json_change : List Column → Change → Bytes
-json_change columns change = object_of (value_members columns change.key ++ both_members change.both) ++ 10 ∷ []
+unfoldable pub json_change : Of → List Column → Change → Bytes
+json_change of columns change = object_of (value_members columns change.key ++ both_members of change.both) ++ 10 ∷ []
 
 -- the first line of a comparison
-unfoldable pub json_heads : Unit → List Column → ℕ → ℕ → Head → Head → Bytes
-json_heads unit columns rows same base other =
-    object_of (version_member unit ∷ member_of (codes "columns") (columns_json columns) ∷ number_member (codes "rows") rows ∷ number_member (codes "same") same ∷
+unfoldable pub json_heads : Of → Unit → List Column → ℕ → ℕ → Head → Head → Bytes
+json_heads of unit columns rows same base other =
+    object_of (version_member of unit ∷ member_of (codes "columns") (columns_json columns) ∷ number_member (codes "rows") rows ∷ number_member (codes "same") same ∷
     member_of (codes "base") (object_of (head_members base)) ∷ member_of (codes "other") (object_of (head_members other)) ∷ []) ++ 10 ∷ []
 
--- the first line, and then one for each change that is shown, in the order of a comparison by self time
+-- the changes that are shown, in the order of a comparison where no number is named
+abbrev pub json_changes_of : Wanted → SpanTable → SpanTable → List Change
+json_changes_of wanted base other = changes_of other.of (usual_by other.of) (shown_changes wanted (compared base.rows other.rows))
+
+-- the first line, and then one for each of these
 abbrev pub json_comparison_of : Unit → Wanted → SpanTable → SpanTable → Bytes
 json_comparison_of unit wanted base other =
-    let shown = shown_changes wanted (compared base.rows other.rows) in
-    let changes = changes_of SelfTime shown in
-    json_heads unit other.columns (length changes) (same_count shown) base.head other.head ++ flat_map (json_change other.columns) changes
+    let changes = json_changes_of wanted base other in
+    json_heads other.of unit other.columns (length changes) (same_count (shown_changes wanted (compared base.rows other.rows))) base.head other.head
+    ++ flat_map (json_change other.of other.columns) changes
 
 -- both sums have 64 bits
 abbrev pub both_fit : Change → Bool
@@ -153,4 +172,4 @@ both_fit change = fit change.both.base && fit change.both.other
 
 -- both heads, and all sums of the changes that are shown, have 64 bits
 abbrev pub json_changes_fit : Wanted → SpanTable → SpanTable → Bool
-json_changes_fit wanted base other = (head_fits base.head && head_fits other.head) && list_all both_fit (changes_of SelfTime (shown_changes wanted (compared base.rows other.rows)))
+json_changes_fit wanted base other = (head_fits base.head && head_fits other.head) && list_all both_fit (json_changes_of wanted base other)

@@ -1,19 +1,26 @@
 -- The facts that hold of every table.
 use Rattle.std.specs.Prelude.{◌≡◌, List, [], ◌∷◌, filter, map, sum_by, take, Some}
-use Rattle.std.specs.Ordering.{is_eq}
+use Rattle.std.specs.List.{IsDistinct}
+use Rattle.std.specs.List.Sorted.{IsPermutation}
+use Rattle.std.specs.Ordering.{eq_by_cmp, is_eq}
 use Rattle.span_event.specs.declared.args.ArgValue.TheVariants.{Whole, Words}
 use Rattle.span_event.specs.declared.thread.Thread.{Thread}
+use Rattle.span_keyed_tracks.specs.declared.async_track.AsyncRow.{AsyncRow}
 use Rattle.span_self_time.specs.Laws.{AreSpans}
 use Rattle.span_track.specs.Nesting.{closed_spans}
 use Rattle.span_ledger.specs.declared.rows.SpanRow.{SpanRow}
-use Rattle.span_ledger.specs.Rows.{span_rows, thread_row}
+use Rattle.span_ledger.specs.Rows.{async_rows, span_rows, thread_row}
 use Rattle.span_ledger.specs.Told.{thread_events}
 use Rattle.span_ledger.specs.Topics.{AreAlike}
+use Rattle.span_report.specs.Lines.{with_home}
 use Rattle.span_table.specs.declared.column.Column.{Column}
-use Rattle.span_table.specs.declared.column.Column.TheVariants.{Pid, Tid, Name}
+use Rattle.span_table.specs.declared.column.Column.TheVariants.{Pid, Tid, Name, Cat, Scope, Id}
+use Rattle.span_table.specs.declared.of.Of.{Of}
+use Rattle.span_table.specs.declared.of.Of.TheVariants.{Spans, Async}
 use Rattle.span_table.specs.declared.table.Row.{Row}
+use Rattle.span_table.specs.Collected.{sums_of_row}
 use Rattle.span_table.specs.Keys.{TableKey, key_cmp}
-use Rattle.span_table.specs.Tables.{Run, RowsRise, table_of}
+use Rattle.span_table.specs.Tables.{Run, RowsRise, sums_of_async, table_of}
 
 -- two runs have journals that are alike, and as many files, of which as many were refused, and the same name of an only file
 pub record AreAlikeRuns (run other : Run) : Type 0 where
@@ -30,22 +37,22 @@ AreAllAlike runs others = ⊥
 
 -- runs that are alike have the same table
 abbrev pub TablesFollowFromActs : Type 0
-TablesFollowFromActs = (columns : List Column) (runs others : List Run) → AreAllAlike runs others → table_of columns runs ≡ table_of columns others
+TablesFollowFromActs = (of : Of) (columns : List Column) (runs others : List Run) → AreAllAlike runs others → table_of of columns runs ≡ table_of of columns others
 
 -- each key has one place
 abbrev pub KeysStandOnce : Type 0
-KeysStandOnce = (columns : List Column) (runs : List Run) → RowsRise (table_of columns runs).rows
+KeysStandOnce = (of : Of) (columns : List Column) (runs : List Run) → RowsRise (table_of of columns runs).rows
 
 -- the columns of the rows of spans, and such a row as one of a table
 abbrev pub row_columns : List Column
 row_columns = Pid ∷ Tid ∷ Name ∷ []
 
 abbrev pub of_span_row : SpanRow → Row
-of_span_row row = record { key = Some (Whole row.pid) ∷ Some (Whole row.tid) ∷ Some (Words row.name) ∷ []; sums = record { count = row.count; total = row.total; self_time = row.self_time } }
+of_span_row row = record { key = Some (Whole row.pid) ∷ Some (Whole row.tid) ∷ Some (Words row.name) ∷ []; sums = sums_of_row row }
 
 -- by process, thread and name a table of one run has the rows of spans
 abbrev pub RowsAreSpanRows : Type 0
-RowsAreSpanRows = (run : Run) → (table_of row_columns (run ∷ [])).rows ≡ map of_span_row (span_rows run.journal)
+RowsAreSpanRows = (run : Run) → (table_of Spans row_columns (run ∷ [])).rows ≡ map of_span_row (span_rows run.journal)
 
 -- the values of a process and a thread
 abbrev pub thread_key : Thread → TableKey
@@ -57,8 +64,36 @@ rows_of_thread thread rows = filter (λ (row : Row). is_eq (key_cmp (take 2 row.
 
 -- by process, thread and name the self times of a thread's rows add up to its busy time
 abbrev pub AddUpToBusy : Run → Thread → Type 0
-AddUpToBusy run thread = sum_by (λ (row : Row). row.sums.self_time) (rows_of_thread thread (table_of row_columns (run ∷ [])).rows) ≡ (thread_row run.journal thread).busy
+AddUpToBusy run thread = sum_by (λ (row : Row). row.sums.self_time) (rows_of_thread thread (table_of Spans row_columns (run ∷ [])).rows) ≡ (thread_row run.journal thread).busy
 
 -- this holds of each thread, if its spans have positions that differ, and none ends before it starts
 abbrev pub RowsAddUpToBusy : Type 0
 RowsAddUpToBusy = (run : Run) (thread : Thread) → AreSpans (closed_spans (thread_events thread run.journal)) → AddUpToBusy run thread
+
+-- the columns of the asynchronous rows, and such a row as one of a table
+abbrev pub async_columns : List Column
+async_columns = Cat ∷ Scope ∷ Id ∷ Name ∷ []
+
+abbrev pub of_async_row : AsyncRow → Row
+of_async_row row = record {
+  key = Some (Words row.key.cat) ∷ Some (Words row.key.scope) ∷ Some (Words (with_home row.key.id.home row.key.id.id)) ∷ Some (Words row.key.name) ∷ [];
+  sums = sums_of_async row;
+}
+
+-- no two of the rows have the same texts, as an id that is known everywhere may have those of one that belongs to a process
+abbrev pub AreToldByTexts : List AsyncRow → Type 0
+AreToldByTexts rows = IsDistinct (eq_by_cmp key_cmp) (map (λ (row : AsyncRow). (of_async_row row).key) rows)
+
+-- by category, scope, id and name a table of one run has its asynchronous rows, in the order of their texts, if these tell them apart
+abbrev pub RowsAreAsyncRows : Type 0
+RowsAreAsyncRows = (run : Run) → AreToldByTexts (async_rows run.journal) → IsPermutation (map of_async_row (async_rows run.journal)) (table_of Async async_columns (run ∷ [])).rows
+
+-- by whatever columns, the rows of a table of one run have in all what its asynchronous rows have
+pub record AddUpToAsync (columns : List Column) (run : Run) : Type 0 where
+  pub closed : sum_by (λ (row : Row). row.sums.count) (table_of Async columns (run ∷ [])).rows ≡ sum_by (λ (row : AsyncRow). row.totals.closed) (async_rows run.journal)
+  pub total : sum_by (λ (row : Row). row.sums.total) (table_of Async columns (run ∷ [])).rows ≡ sum_by (λ (row : AsyncRow). row.totals.total) (async_rows run.journal)
+  pub unclosed : sum_by (λ (row : Row). row.sums.unclosed) (table_of Async columns (run ∷ [])).rows ≡ sum_by (λ (row : AsyncRow). row.totals.unclosed) (async_rows run.journal)
+  pub points : sum_by (λ (row : Row). row.sums.points) (table_of Async columns (run ∷ [])).rows ≡ sum_by (λ (row : AsyncRow). row.totals.points) (async_rows run.journal)
+
+abbrev pub RowsAddUpToAsync : Type 0
+RowsAddUpToAsync = (columns : List Column) (run : Run) → AddUpToAsync columns run

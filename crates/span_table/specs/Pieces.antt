@@ -3,6 +3,8 @@ use Rattle.std.specs.Prelude.{ℕ, ◌∷◌, ◌++◌, codes, decimal}
 use Rattle.span_event.specs.Text.{Bytes}
 use Rattle.span_report.specs.Lines.{right_in}
 use Rattle.span_table.specs.declared.changes.Both.{Both}
+use Rattle.span_table.specs.declared.of.Of.{Of}
+use Rattle.span_table.specs.declared.of.Of.TheVariants.{Spans, Async}
 use Rattle.span_table.specs.declared.sums.Sums.{Sums}
 use Rattle.span_table.specs.declared.column.Column.{Column}
 use Rattle.span_table.specs.Columns.{Value}
@@ -21,18 +23,28 @@ abbrev pub then_right : ℕ → Bytes → Bytes
 then_right width word = 32 ∷ right_in width word
 
 -- the numbers of a row in a ranking
-abbrev pub sums_text : Sums → Bytes
-sums_text sums = right_in 16 (decimal sums.self_time) ++ (then_right 16 (decimal sums.total) ++ then_right 8 (decimal sums.count))
+abbrev pub sums_text : Of → Sums → Bytes
+sums_text Spans sums = right_in 16 (decimal sums.self_time) ++ (then_right 16 (decimal sums.total) ++ then_right 8 (decimal sums.count))
+sums_text Async sums = right_in 16 (decimal sums.total) ++ (then_right 8 (decimal sums.count) ++ (then_right 8 (decimal sums.unclosed) ++ then_right 8 (decimal sums.points)))
+
+-- their names
+unfoldable pub sums_names : Of → Bytes
+sums_names Spans = codes "            self            total    count"
+sums_names Async = codes "           total   closed     open   points"
 
 -- two sums of times, after how they differ
 abbrev pub times_text : ℕ → ℕ → Bytes
 times_text base other = right_in 16 (difference_text base other) ++ (then_right 16 (decimal base) ++ then_right 16 (decimal other))
 
 -- the numbers of a change
-abbrev pub both_text : Both → Bytes
-both_text both =
+abbrev pub both_text : Of → Both → Bytes
+both_text Spans both =
     times_text both.base.self_time both.other.self_time ++ (32 ∷ (times_text both.base.total both.other.total ++ (then_right 8 (decimal both.base.count) ++ then_right 8 (decimal both.other.count))))
+both_text Async both =
+    times_text both.base.total both.other.total ++ ((then_right 8 (decimal both.base.count) ++ then_right 8 (decimal both.other.count))
+    ++ (then_right 8 (decimal both.base.unclosed) ++ then_right 8 (decimal both.other.unclosed)))
 
 -- the names of the numbers of a change
-unfoldable pub change_names : Bytes
-change_names = codes "           dself            self0            self1           dtotal           total0           total1   count0   count1"
+unfoldable pub change_names : Of → Bytes
+change_names Spans = codes "           dself            self0            self1           dtotal           total0           total1   count0   count1"
+change_names Async = codes "          dtotal           total0           total1  closed0  closed1    open0    open1"

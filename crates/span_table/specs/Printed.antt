@@ -7,9 +7,12 @@ use Rattle.span_event.specs.declared.args.ArgValue.TheVariants.{Whole, Words}
 use Rattle.span_event.specs.Text.{Bytes}
 use Rattle.span_event.specs.declared.unit.Unit.{Unit}
 use Rattle.span_table.specs.declared.column.Column.{Column}
-use Rattle.span_table.specs.declared.column.Column.TheVariants.{Pid, Tid, Process, Thread, Name, File, Argument}
+use Rattle.span_table.specs.declared.column.Column.TheVariants.{Pid, Tid, Process, Thread, Name, File, Cat, Scope, Id, Argument}
+use Rattle.span_table.specs.declared.of.Of.{Of}
+use Rattle.span_table.specs.declared.of.Of.TheVariants.{Spans, Async}
+use Rattle.span_table.specs.declared.sums.Sums.{Sums}
 use Rattle.span_table.specs.declared.table.Row.{Row}
-use Rattle.span_table.specs.Columns.{Run, Value, column_name}
+use Rattle.span_table.specs.Columns.{Run, Value, column_name, goes_with}
 use Rattle.span_table.specs.Json.{fit, head_fits, json_of, numbers_fit, shown_table, text_of}
 use Rattle.span_table.specs.Keys.{TableKey}
 use Rattle.span_table.specs.Shown.{Wanted, wants_all}
@@ -34,7 +37,7 @@ abbrev pub IsOfArgument : Value → Type 0
 IsOfArgument (Some (Whole number)) = FitsSigned w64 number
 IsOfArgument value = ⊤
 
--- a value that a span may have in a column
+-- a value that what is summed may have in a column
 abbrev pub MayHave : Column → Value → Type 0
 MayHave Pid value = IsWhole value
 MayHave Tid value = IsWhole value
@@ -42,6 +45,9 @@ MayHave Process value = IsName value
 MayHave Thread value = IsName value
 MayHave Name value = IsWords value
 MayHave File value = IsWords value
+MayHave Cat value = IsWords value
+MayHave Scope value = IsWords value
+MayHave Id value = IsWords value
 MayHave (Argument key) value = IsOfArgument value
 
 -- the numbers of a key have 64 bits, as far as there are columns
@@ -76,10 +82,21 @@ IsKeyOf [] [] = ⊤
 IsKeyOf (column ∷ columns) (value ∷ key) = MayHave column value × IsKeyOf columns key
 IsKeyOf columns key = ⊥
 
+-- numbers that what is summed doesn't have are 0
+abbrev pub HasOwn : Of → Sums → Type 0
+HasOwn Spans sums = (sums.unclosed ≡ 0) × (sums.points ≡ 0)
+HasOwn Async sums = sums.self_time ≡ 0
+
+-- a key of spans has one; an asynchronous key may have no closed span
+abbrev pub HasSome : Of → Sums → Type 0
+HasSome Spans sums = 0 < sums.count
+HasSome Async sums = ⊤
+
 -- a row that a table by these columns may have
-pub record IsRowOf (columns : List Column) (row : Row) : Type 0 where
+pub record IsRowOf (of : Of) (columns : List Column) (row : Row) : Type 0 where
   pub key : IsKeyOf columns row.key
-  pub some : 0 < row.sums.count
+  pub own : HasOwn of row.sums
+  pub some : HasSome of row.sums
   pub fits : fit row.sums ≡ true
 
 -- an argument's key has a byte, and no comma
@@ -93,18 +110,19 @@ AreDistinct [] = ⊤
 AreDistinct (name ∷ names) = All (λ other. name ≢ other) names × AreDistinct names
 
 -- the columns that a table may have
-pub record AreColumns (columns : List Column) : Type 0 where
+pub record AreColumns (of : Of) (columns : List Column) : Type 0 where
   pub some : 0 < length columns
   pub few : length columns ≤ 8
   pub each : All (λ column. is_column column ≡ true) columns
+  pub suited : All (λ column. goes_with of column ≡ true) columns
   pub distinct : AreDistinct (map column_name columns)
 
 -- a table whose text can be read back
 pub record IsTable (table : SpanTable) : Type 0 where
-  pub columns : AreColumns table.columns
+  pub columns : AreColumns table.of table.columns
   pub head : head_fits table.head ≡ true
   pub few : length table.rows < 2 ^ 64
-  pub rows : All (IsRowOf table.columns) table.rows
+  pub rows : All (IsRowOf table.of table.columns) table.rows
   pub rise : RowsRise table.rows
 
 -- a part: the text of such a table, in this unit
@@ -123,5 +141,5 @@ AllIsPrinted = (unit : Unit) (wanted : Wanted) (table : SpanTable) → wants_all
 
 -- what is printed of runs is a part, if they have their files, and its text is UTF-8
 abbrev pub PrintsAreParts : Type 0
-PrintsAreParts = (unit : Unit) (columns : List Column) (runs : List Run) (text : Bytes) → AreColumns columns → HaveFiles columns runs → IsUtf8 text →
-    IsPrint unit text (table_of columns runs) → IsPart unit text (table_of columns runs)
+PrintsAreParts = (unit : Unit) (of : Of) (columns : List Column) (runs : List Run) (text : Bytes) → AreColumns of columns → HaveFiles columns runs → IsUtf8 text →
+    IsPrint unit text (table_of of columns runs) → IsPart unit text (table_of of columns runs)

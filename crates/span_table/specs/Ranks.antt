@@ -3,8 +3,10 @@ use Rattle.std.specs.Prelude.{ℕ, List}
 use Rattle.std.specs.declared.cmp.Ordering.{Ordering}
 use Rattle.std.specs.Ordering.{nat_cmp, ordering_then}
 use Rattle.span_keyed_tracks.specs.Keyed.{ascending}
+use Rattle.span_table.specs.declared.of.Of.{Of}
+use Rattle.span_table.specs.declared.of.Of.TheVariants.{Spans, Async}
 use Rattle.span_table.specs.declared.sums.By.{By}
-use Rattle.span_table.specs.declared.sums.By.TheVariants.{SelfTime, Total, Count}
+use Rattle.span_table.specs.declared.sums.By.TheVariants.{SelfTime, Total, Count, Open, Points}
 use Rattle.span_table.specs.declared.sums.Sums.{Sums}
 use Rattle.span_table.specs.declared.table.Row.{Row}
 use Rattle.span_table.specs.Keys.{key_cmp}
@@ -14,6 +16,13 @@ abbrev pub number_by : By → Sums → ℕ
 number_by SelfTime sums = sums.self_time
 number_by Total sums = sums.total
 number_by Count sums = sums.count
+number_by Open sums = sums.unclosed
+number_by Points sums = sums.points
+
+-- the number that rows go by where none is named
+abbrev pub usual_by : Of → By
+usual_by Spans = SelfTime
+usual_by Async = Total
 
 -- the greater number first, and then by key
 abbrev pub rank_order : By → Row → Row → Ordering

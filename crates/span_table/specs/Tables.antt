@@ -1,24 +1,31 @@
--- Tables: the closed spans of runs, summed by columns.
+-- Tables: the closed spans of runs, or their asynchronous spans, summed by columns.
 use Rattle.std.specs.Prelude.{List, map, flat_map, sum_by}
 use Rattle.std.specs.List.Sorted.{IsStrictlySortedBy}
 use Rattle.span_event.specs.declared.thread.Thread.{Thread}
+use Rattle.span_keyed_tracks.specs.declared.async_track.AsyncRow.{AsyncRow}
 use Rattle.span_keyed_tracks.specs.Keyed.{Keyed, entries_in}
 use Rattle.span_ledger.specs.declared.rows.CountRow.{CountRow}
 use Rattle.span_ledger.specs.Journal.{accepted}
-use Rattle.span_ledger.specs.Rows.{count_row, thread_keys}
+use Rattle.span_ledger.specs.Rows.{async_rows, count_row, thread_keys}
 use Rattle.span_ledger.specs.Timed.{Timed, timed_spans}
 use Rattle.span_self_time.specs.Spans.{length_of}
 use Rattle.span_table.specs.declared.column.Column.{Column}
+use Rattle.span_table.specs.declared.of.Of.{Of}
+use Rattle.span_table.specs.declared.of.Of.TheVariants.{Spans, Async}
 use Rattle.span_table.specs.declared.sums.Sums.{Sums}
 use Rattle.span_table.specs.declared.heads.Head.{Head}
 use Rattle.span_table.specs.declared.table.Row.{Row}
-use Rattle.span_table.specs.Columns.{value_at}
+use Rattle.span_table.specs.Columns.{async_value_at, value_at}
 pub use Rattle.span_table.specs.Columns.{Run}
 use Rattle.span_table.specs.Keys.{TableKey, key_cmp}
 
 -- a closed span with its self time
 abbrev pub sums_of : Timed → Sums
-sums_of t = record { count = 1; total = length_of t.span; self_time = t.self_time }
+sums_of t = record { count = 1; total = length_of t.span; self_time = t.self_time; unclosed = 0; points = 0 }
+
+-- an asynchronous key with its numbers
+abbrev pub sums_of_async : AsyncRow → Sums
+sums_of_async row = record { count = row.totals.closed; total = row.totals.total; self_time = 0; unclosed = row.totals.unclosed; points = row.totals.points }
 
 -- all of these added
 abbrev pub sums_together : List Sums → Sums
@@ -26,6 +33,8 @@ sums_together sums = record {
   count = sum_by (λ (s : Sums). s.count) sums;
   total = sum_by (λ (s : Sums). s.total) sums;
   self_time = sum_by (λ (s : Sums). s.self_time) sums;
+  unclosed = sum_by (λ (s : Sums). s.unclosed) sums;
+  points = sum_by (λ (s : Sums). s.points) sums;
 }
 
 -- sums, each under its key
@@ -41,8 +50,21 @@ abbrev pub thread_sums : List Column → Run → Thread → KeyedSums
 thread_sums columns run thread = map (keyed_span columns run thread) (timed_spans run.journal thread)
 
 -- those of all threads of a run
-abbrev pub run_sums : List Column → Run → KeyedSums
-run_sums columns run = flat_map (thread_sums columns run) (thread_keys (accepted run.journal))
+abbrev pub span_sums : List Column → Run → KeyedSums
+span_sums columns run = flat_map (thread_sums columns run) (thread_keys (accepted run.journal))
+
+-- what an asynchronous key has, under the key of the table
+abbrev pub keyed_async : List Column → Run → AsyncRow → Keyed TableKey Sums
+keyed_async columns run row = record { key = map (async_value_at run row.key) columns; step = sums_of_async row }
+
+-- what the asynchronous keys of a run have that have an accepted event
+abbrev pub async_sums : List Column → Run → KeyedSums
+async_sums columns run = map (keyed_async columns run) (async_rows run.journal)
+
+-- what a table sums of a run
+abbrev pub run_sums : Of → List Column → Run → KeyedSums
+run_sums Spans columns run = span_sums columns run
+run_sums Async columns run = async_sums columns run
 
 -- each key with its sums
 abbrev pub SumsByKey : Type 0
@@ -87,14 +109,16 @@ head_of run = record { runs = 1; files = run.files; unread = run.unread; counts 
 
 -- spans summed by columns
 pub record SpanTable : Type 0 where
+  pub of : Of
   pub columns : List Column
   pub head : Head
   pub rows : List Row
 
 -- the table of some runs by columns
-abbrev pub table_of : List Column → List Run → SpanTable
-table_of columns runs = record {
+abbrev pub table_of : Of → List Column → List Run → SpanTable
+table_of of columns runs = record {
+  of = of;
   columns = columns;
   head = heads_together (map head_of runs);
-  rows = rows_of (flat_map (run_sums columns) runs);
+  rows = rows_of (flat_map (run_sums of columns) runs);
 }

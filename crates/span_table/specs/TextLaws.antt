@@ -3,6 +3,7 @@ use Rattle.std.specs.Prelude.{◌≡◌, ℕ, Bool, ◌-◌, ◌<◌, List, ◌+
 use Rattle.std.specs.List.Sorted.{IsPermutation, IsStrictlySortedBy}
 use Rattle.span_event.specs.declared.unit.Unit.{Unit}
 use Rattle.span_report.specs.Lines.{first_line, unit_line}
+use Rattle.span_table.specs.declared.of.Of.{Of}
 use Rattle.span_table.specs.declared.sums.By.{By}
 use Rattle.span_table.specs.declared.table.Row.{Row}
 use Rattle.span_table.specs.Changes.{Change, changes_of, compared, same_count, shown_changes}
@@ -26,7 +27,7 @@ abbrev pub ComparesWithItself : Unit → By → Wanted → Bool → SpanTable �
 ComparesWithItself unit by wanted tells_runs table = let shown = length (shown_rows wanted table.rows) in
     comparison_of unit by wanted tells_runs table table
     ≡ first_line ++ (unit_line unit ++ (compared_heads tells_runs table.head table.head ++
-    (shown_line wanted shown (length table.rows) ++ (change_columns table.columns ++ same_line shown))))
+    (shown_line wanted shown (length table.rows) ++ (change_columns table.of table.columns ++ same_line shown))))
 
 -- this holds of each table, in whatever unit and order
 abbrev pub TablesCompareWithThemselves : Type 0
@@ -41,13 +42,13 @@ abbrev pub shown_between : Wanted → List Row → List Row → List Change
 shown_between wanted base other = shown_changes wanted (compared base other)
 
 -- the other way round the same keys changed, told in the same order, and as many did not
-pub record TurnsEachChange (by : By) (wanted : Wanted) (base other : List Row) : Type 0 where
-  pub changes : changes_of by (shown_between wanted other base) ≡ map turned (changes_of by (shown_between wanted base other))
+pub record TurnsEachChange (of : Of) (by : By) (wanted : Wanted) (base other : List Row) : Type 0 where
+  pub changes : changes_of of by (shown_between wanted other base) ≡ map turned (changes_of of by (shown_between wanted base other))
   pub same : same_count (shown_between wanted other base) ≡ same_count (shown_between wanted base other)
 
 -- this holds of any two lists of rows, by whatever number
 abbrev pub ComparisonsTurn : Type 0
-ComparisonsTurn = (by : By) (wanted : Wanted) (base other : List Row) → TurnsEachChange by wanted base other
+ComparisonsTurn = (of : Of) (by : By) (wanted : Wanted) (base other : List Row) → TurnsEachChange of by wanted base other
 
 -- where one number is less than another, the difference is told with `+` to the greater and with `-` back, and is as great
 abbrev pub DifferencesTurn : Type 0

@@ -9,6 +9,8 @@ use Rattle.span_event.specs.declared.unit.Unit.TheVariants.{Microseconds, Nanose
 use Rattle.span_ledger.specs.declared.rows.CountRow.{CountRow}
 use Rattle.span_table.specs.declared.column.Column.{Column}
 use Rattle.span_table.specs.declared.heads.Head.{Head}
+use Rattle.span_table.specs.declared.of.Of.{Of}
+use Rattle.span_table.specs.declared.of.Of.TheVariants.{Spans, Async}
 use Rattle.span_table.specs.declared.sums.Sums.{Sums}
 use Rattle.span_table.specs.declared.table.Row.{Row}
 use Rattle.span_table.specs.Columns.{column_name}
@@ -31,11 +33,13 @@ key_tokens (column ∷ columns) (Some value ∷ values) = key (column_name colum
 abbrev pub number_tokens : List ℕ → ℕ → List Token
 number_tokens name n = key name ∷ number (decimal n) ∷ []
 
-abbrev pub sums_tokens : Sums → List Token
-sums_tokens sums = number_tokens (codes "count") sums.count ++ (number_tokens (codes "total") sums.total ++ number_tokens (codes "self") sums.self_time)
+abbrev pub sums_tokens : Of → Sums → List Token
+sums_tokens Spans sums = number_tokens (codes "count") sums.count ++ (number_tokens (codes "total") sums.total ++ number_tokens (codes "self") sums.self_time)
+sums_tokens Async sums =
+    number_tokens (codes "closed") sums.count ++ (number_tokens (codes "total") sums.total ++ (number_tokens (codes "open") sums.unclosed ++ number_tokens (codes "points") sums.points))
 
-abbrev pub row_tokens : List Column → Row → List Token
-row_tokens columns row = begin_object ∷ (key_tokens columns row.key ++ (sums_tokens row.sums ++ end_object ∷ []))
+abbrev pub row_tokens : Of → List Column → Row → List Token
+row_tokens of columns row = begin_object ∷ (key_tokens columns row.key ++ (sums_tokens of row.sums ++ end_object ∷ []))
 
 -- the names of columns
 abbrev pub name_tokens : List Column → List Token
@@ -52,6 +56,11 @@ numbers_tokens rows head =
     number_tokens (codes "rows") rows ++ (number_tokens (codes "runs") head.runs ++ (number_tokens (codes "files") head.files
     ++ (number_tokens (codes "unread") head.unread ++ counts_tokens head.counts)))
 
+-- what a table sums, where that isn't the spans of threads
+abbrev pub of_tokens : Of → List Token
+of_tokens Spans = []
+of_tokens Async = key (codes "of") ∷ string (codes "async") ∷ []
+
 -- the unit of all times, where it isn't microseconds
 abbrev pub unit_tokens : Unit → List Token
 unit_tokens Microseconds = []
@@ -63,5 +72,6 @@ columns_tokens columns rows head =
     key (codes "columns") ∷ begin_array ∷ (name_tokens columns ++ (end_array ∷ (numbers_tokens rows head ++ end_object ∷ [])))
 
 -- the first line
-abbrev pub head_tokens : Unit → List Column → ℕ → Head → List Token
-head_tokens unit columns rows head = begin_object ∷ key (codes "tracebook") ∷ number (codes "1") ∷ (unit_tokens unit ++ columns_tokens columns rows head)
+abbrev pub head_tokens : Of → Unit → List Column → ℕ → Head → List Token
+head_tokens of unit columns rows head =
+    begin_object ∷ key (codes "tracebook") ∷ number (codes "1") ∷ (of_tokens of ++ (unit_tokens unit ++ columns_tokens columns rows head))

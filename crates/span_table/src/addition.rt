@@ -7,6 +7,7 @@ ghost use Rattle.span_table.specs.Json.{fit, head_fits};
 use crate::column::{Column, copies_of};
 use crate::groups::Groups;
 use crate::heads::Head;
+use crate::of::Of;
 use crate::table::{Row, Table, table_of_groups};
 use crate::table_sum::SumFault;
 use span_keyed_tracks::HashKeys;
@@ -16,9 +17,10 @@ use std::marker::Model;
 // A sum has fewer heads than this, so that no number of it is too great.
 const HEADS: u64 = 1 << 32;
 
-/// The sum of tables by the same columns. A row costs a look-up, however many there were before.
+/// The sum of tables of the same by the same columns. A row costs a look-up, however many there were before.
 #[derive(Drop)]
 pub struct Addition {
+    of: Of,
     columns: Vec<Column>,
     head: Head,
     groups: Groups,
@@ -34,17 +36,23 @@ impl Model for Addition {
 
     ghost Value = { SpanTable };
 
-    ghost view = { λ s. record { columns = s.columns.items; head = s.head; rows = map row_of s.groups } };
+    ghost view = { λ s. record { of = s.of; columns = s.columns.items; head = s.head; rows = map row_of s.groups } };
 
     ghost invariant = { λ s. IsAdded s.heads s.rows s.head s.groups };
 }
 
 impl Addition {
-    /// The sum of no tables by these columns. Maps that files fill are hashed by these keys.
-    pub fn new(alloc: Global, keys: HashKeys, columns: &[Column]) -> Result<Addition, AllocError>
-        ensures { IfOk result (λ sum. sum ≡ add_tables columns.now []) }
+    /// The sum of no tables, of what they sum, by these columns. Maps that files fill are hashed by these keys.
+    pub fn new(
+        alloc: Global,
+        keys: HashKeys,
+        of: Of,
+        columns: &[Column],
+    ) -> Result<Addition, AllocError>
+        ensures { IfOk result (λ sum. sum ≡ add_tables of columns.now []) }
     {
         Ok(Addition {
+            of,
             columns: copies_of(alloc, columns)?,
             head: Head::of_none(),
             groups: Groups::new(alloc, keys),
@@ -69,6 +77,7 @@ impl Addition {
             return Err(SumFault::TooMany);
         }
         let Addition {
+            of,
             columns,
             head: mut sum,
             groups,
@@ -77,6 +86,7 @@ impl Addition {
         } = self;
         sum.add(head);
         Ok(Addition {
+            of,
             columns,
             head: sum,
             groups,
@@ -108,11 +118,12 @@ impl Addition {
         ensures { IfOk result (λ table. table ≡ self) }
     {
         let Addition {
+            of,
             columns,
             head,
             groups,
             ..
         } = self;
-        table_of_groups(columns, head, groups)
+        table_of_groups(of, columns, head, groups)
     }
 }

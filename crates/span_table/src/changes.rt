@@ -1,10 +1,11 @@
 //! What changed between two tables of the same columns.
 ghost use Rattle.std.specs.Prelude.{◌≡◌, ◌++◌, ◌∷◌, [], ◌<◌, ◌≤◌, ◌+◌, ◌-◌, ◌^◌, List, length, option_copied, IfOk, OnOk};
 ghost use Rattle.span_table.specs.Changed.{Tells, base_keys, found_at, new_key, new_keys};
-ghost use Rattle.span_table.specs.Changes.{Change, change_order, changes_of, compared, gap_by, is_changed, same_count, shown_changes, sums_at};
+ghost use Rattle.span_table.specs.Changes.{Change, by_gap, change_order, changes_of, compared, gap_by, is_changed, same_count, shown_changes, sums_at, usual_order};
 ghost use Rattle.span_table.specs.Tables.{RowsRise};
 
 use crate::key::Key;
+use crate::of::Of;
 use crate::shown::Shown;
 use crate::sum::Sum;
 use crate::sums::{By, Sums};
@@ -49,19 +50,36 @@ impl<'a> Changed<'a> {
     }
 
     // Which of two comes first.
-    fn compare(&self, other: &Changed<'a>, by: By) -> Ordering
-        ensures { result ≡ change_order by self.now other.now }
+    fn compare(&self, other: &Changed<'a>, of: Of, by: By) -> Ordering
+        ensures { result ≡ change_order of by self.now other.now }
+    {
+        let usual = self.usual_order(other, of);
+        self.by_gap(other, by).then(usual)
+    }
+
+    // Which of two comes first where no number is named.
+    fn usual_order(&self, other: &Changed<'a>, of: Of) -> Ordering
+        ensures { result ≡ usual_order of self.now other.now }
     {
         let by_key = self.key.cmp(other.key);
-        let by_total = other
-            .gap(By::Total)
-            .compare(&self.gap(By::Total))
-            .then(by_key);
-        let by_self = other
-            .gap(By::SelfTime)
-            .compare(&self.gap(By::SelfTime))
-            .then(by_total);
-        other.gap(by).compare(&self.gap(by)).then(by_self)
+        match of {
+            Of::Spans => {
+                let by_total = self.by_gap(other, By::Total).then(by_key);
+                self.by_gap(other, By::SelfTime).then(by_total)
+            }
+            Of::Async => {
+                let by_count = self.by_gap(other, By::Count).then(by_key);
+                let by_open = self.by_gap(other, By::Open).then(by_count);
+                self.by_gap(other, By::Total).then(by_open)
+            }
+        }
+    }
+
+    // Which of two comes first by how far a number lies apart.
+    fn by_gap(&self, other: &Changed<'a>, by: By) -> Ordering
+        ensures { result ≡ by_gap by self.now other.now }
+    {
+        other.gap(by).compare(&self.gap(by))
     }
 }
 
@@ -86,6 +104,7 @@ struct Told<'a> {
 /// What changed from the base to the other, the greatest change of a number first.
 pub(crate) fn differences<'a>(
     alloc: Global,
+    of: Of,
     base: &'a [Row],
     other: &'a [Row],
     shown: &Shown,
@@ -94,7 +113,7 @@ pub(crate) fn differences<'a>(
     requires base { RowsRise base.now }
     requires other { RowsRise other.now }
     ensures changes { IfOk result (λ found. found.changes.items
-        ≡ changes_of by (shown_changes shown.now (compared base.now other.now))) }
+        ≡ changes_of of by (shown_changes shown.now (compared base.now other.now))) }
     ensures same { IfOk result (λ found. found.same
         ≡ same_count (shown_changes shown.now (compared base.now other.now))) }
     ensures shown { IfOk result (λ found. found.shown
@@ -114,7 +133,7 @@ pub(crate) fn differences<'a>(
         all,
     } = found;
     let shown = changes.len() as u128 + same;
-    changes.sort_unstable_by(|a, b| a.compare(b, by));
+    changes.sort_unstable_by(|a, b| a.compare(b, of, by));
     Ok(ComparedTables {
         changes,
         same,

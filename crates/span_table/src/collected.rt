@@ -1,33 +1,53 @@
-//! Adds the sums of a run: from the rows of names, or span by span where a column is an argument.
+//! Adds the sums of a run: from the rows of names or of asynchronous keys, or span by span where a column is an argument.
 ghost use Rattle.std.specs.Prelude.{◌≡◌, ◌+◌, ◌≤◌, ◌^◌, ◌∷◌, [], ℕ, map, IfOk, OnOk};
 ghost use Rattle.span_event.specs.Text.{Bytes};
 ghost use Rattle.span_table.specs.Adding.{keyed_rows};
 ghost use Rattle.span_table.specs.Collected.{AllWithin, GrowsBy, Takes, keyed_span_row, row_sums};
 ghost use Rattle.std.specs.List.{list_any};
-ghost use Rattle.span_table.specs.Columns.{is_argument, value_at};
+ghost use Rattle.span_table.specs.Columns.{async_value_at, is_argument, value_at};
 ghost use Rattle.span_event.specs.Time.{distance};
 ghost use Rattle.span_ledger.specs.Order.{thread_of_row};
 ghost use Rattle.span_ledger.specs.Timed.{timed_spans};
-ghost use Rattle.span_table.specs.Tables.{RowsRise, keyed_span, row_of, run_sums, thread_sums};
+ghost use Rattle.span_table.specs.Tables.{RowsRise, async_sums, keyed_async, keyed_span, row_of, run_sums, span_sums, thread_sums};
 
 use crate::column::Column;
 use crate::groups::Groups;
 use crate::key::Key;
+use crate::of::Of;
 use crate::run::LedgerRun;
 use crate::sums::Sums;
 use span_event::{Args, Text, Thread};
+use span_keyed_tracks::{AsyncKey, AsyncRow};
 use span_ledger::{SpanRow, ThreadRow, TimedSpan};
 use std::alloc::{AllocError, Global};
 
-/// Adds the sums of a run's closed spans by columns.
+/// Adds the sums of a run by columns.
 pub(crate) fn add_run(
+    alloc: Global,
+    groups: &mut Groups,
+    run: &LedgerRun,
+    of: Of,
+    columns: &[Column],
+) -> Result<(), AllocError>
+    requires { AllWithin (2 ^ 198) groups.old }
+    ensures takes { OnOk result (Takes groups.old groups.new (run_sums of columns.now run.now)) }
+    ensures bound { OnOk result (GrowsBy (2 ^ 160) groups.old groups.new) }
+{
+    match of {
+        Of::Spans => add_closed(alloc, groups, run, columns),
+        Of::Async => add_async_rows(alloc, groups, run, columns),
+    }
+}
+
+// The sums of a run's closed spans.
+fn add_closed(
     alloc: Global,
     groups: &mut Groups,
     run: &LedgerRun,
     columns: &[Column],
 ) -> Result<(), AllocError>
     requires { AllWithin (2 ^ 198) groups.old }
-    ensures takes { OnOk result (Takes groups.old groups.new (run_sums columns.now run.now)) }
+    ensures takes { OnOk result (Takes groups.old groups.new (span_sums columns.now run.now)) }
     ensures bound { OnOk result (GrowsBy (2 ^ 160) groups.old groups.new) }
 {
     if has_argument(columns) {
@@ -81,6 +101,41 @@ fn add_row(
     groups.add(key, Sums::of_row(row))
 }
 
+// The sums of the rows of asynchronous keys.
+fn add_async_rows(
+    alloc: Global,
+    groups: &mut Groups,
+    run: &LedgerRun,
+    columns: &[Column],
+) -> Result<(), AllocError>
+    requires { AllWithin (2 ^ 198) groups.old }
+    ensures takes { OnOk result (Takes groups.old groups.new (async_sums columns.now run.now)) }
+    ensures bound { OnOk result (GrowsBy (2 ^ 160) groups.old groups.new) }
+{
+    run.entries();
+    let rows = run.ledger.async_rows(alloc)?;
+    for row in &rows {
+        add_async_row(alloc, groups, run, columns, row)?;
+    }
+    Ok(())
+}
+
+fn add_async_row(
+    alloc: Global,
+    groups: &mut Groups,
+    run: &LedgerRun,
+    columns: &[Column],
+    row: &AsyncRow,
+) -> Result<(), AllocError>
+    requires { AllWithin (2 ^ 200) groups.old }
+    ensures takes { OnOk result
+        (Takes groups.old groups.new (keyed_async columns.now run.now row.now ∷ [])) }
+    ensures bound { OnOk result (GrowsBy (2 ^ 128) groups.old groups.new) }
+{
+    let key = async_key_of(alloc, run, columns, &row.key)?;
+    groups.add(key, Sums::of_async(row))
+}
+
 // The sums of closed spans, one by one.
 fn add_spans(
     alloc: Global,
@@ -89,7 +144,7 @@ fn add_spans(
     columns: &[Column],
 ) -> Result<(), AllocError>
     requires { AllWithin (2 ^ 198) groups.old }
-    ensures takes { OnOk result (Takes groups.old groups.new (run_sums columns.now run.now)) }
+    ensures takes { OnOk result (Takes groups.old groups.new (span_sums columns.now run.now)) }
     ensures bound { OnOk result (GrowsBy (2 ^ 160) groups.old groups.new) }
 {
     run.entries();
@@ -182,6 +237,22 @@ fn key_of(
     let mut values = Vec::with_capacity(alloc, columns.len())?;
     for column in columns {
         values.push(column.value(alloc, run, thread, name, args)?)?;
+    }
+    Ok(Key::of(values))
+}
+
+// The key of an asynchronous key.
+fn async_key_of(
+    alloc: Global,
+    run: &LedgerRun,
+    columns: &[Column],
+    key: &AsyncKey,
+) -> Result<Key, AllocError>
+    ensures { IfOk result (λ values. values ≡ map (async_value_at run.now key.now) columns.now) }
+{
+    let mut values = Vec::with_capacity(alloc, columns.len())?;
+    for column in columns {
+        values.push(column.async_value(alloc, run, key)?)?;
     }
     Ok(Key::of(values))
 }

@@ -4,14 +4,18 @@ ghost use Rattle.span_event.specs.declared.args.ArgValue.TheVariants.{Words};
 ghost use Rattle.span_event.specs.Text.{Bytes};
 ghost use Rattle.span_table.specs.declared.column.Column.{Column};
 ghost use Rattle.span_table.specs.declared.column.Column.TheVariants.{Argument};
-ghost use Rattle.span_table.specs.Columns.{column_name, is_argument, value_at};
+ghost use Rattle.span_table.specs.Columns.{async_value_at, column_name, goes_with, is_argument, is_of_all, is_of_async, value_at};
+ghost use Rattle.span_report.specs.Lines.{with_home};
 ghost use Rattle.span_table.specs.Printed.{is_column};
 
+use crate::of::Of;
 use crate::run::LedgerRun;
-use span_event::{ArgValue, Args, Text, Thread};
+use span_event::{ArgValue, Args, IdKey, Text, Thread};
+use span_keyed_tracks::AsyncKey;
 use std::alloc::{AllocError, Global};
 
-/// A column of a table. A process or a thread may have no name, a run not just one file with a name, and a span not the argument.
+/// A column of a table. A process or a thread may have no name, a run not just one file with a name, and a span not the argument. Of
+/// the columns of spans an asynchronous one has a name and a file.
 #[derive(Debug, Drop, PartialEq, Eq)]
 pub enum Column {
     Pid,
@@ -21,13 +25,19 @@ pub enum Column {
     Name,
     /// The name of the only file of the run.
     File,
+    /// The category of an asynchronous span.
+    Cat,
+    /// The scope of an asynchronous span.
+    Scope,
+    /// The id of an asynchronous span: of one that belongs to a process the process, a colon and the id.
+    Id,
     /// An argument of the span, by its key: `args.KEY`.
     Argument(Text),
 }
 
 impl Column {
-    /// The column of this name, as `name` gives it: `pid`, `tid`, `process`, `thread`, `name`, `file`, or `args.KEY` with whatever
-    /// KEY that is not empty. None where no column has the name.
+    /// The column of this name, as `name` gives it: `pid`, `tid`, `process`, `thread`, `name`, `file`, `cat`, `scope`, `id`, or
+    /// `args.KEY` with whatever KEY that is not empty. None where no column has the name.
     pub fn named(alloc: Global, name: &str) -> Result<Option<Column>, AllocError>
         ensures name { IfOk result (λ found. IfSome found (λ column. column_name column ≡ name.now)) }
         ensures found { IfOk result (λ found. (column : Column) → is_column column ≡ true → column_name column ≡ name.now → found ≡ Some column) }
@@ -40,6 +50,9 @@ impl Column {
             "thread" => Ok(Some(Column::Thread)),
             "name" => Ok(Some(Column::Name)),
             "file" => Ok(Some(Column::File)),
+            "cat" => Ok(Some(Column::Cat)),
+            "scope" => Ok(Some(Column::Scope)),
+            "id" => Ok(Some(Column::Id)),
             _ => argument_named(alloc, name),
         }
     }
@@ -55,6 +68,9 @@ impl Column {
             Column::Thread => Text::of(alloc, "thread"),
             Column::Name => Text::of(alloc, "name"),
             Column::File => Text::of(alloc, "file"),
+            Column::Cat => Text::of(alloc, "cat"),
+            Column::Scope => Text::of(alloc, "scope"),
+            Column::Id => Text::of(alloc, "id"),
             Column::Argument(key) => {
                 let key = key.as_str();
                 let name = format!(in alloc; "args.{key}")?;
@@ -73,6 +89,9 @@ impl Column {
             Column::Thread => Column::Thread,
             Column::Name => Column::Name,
             Column::File => Column::File,
+            Column::Cat => Column::Cat,
+            Column::Scope => Column::Scope,
+            Column::Id => Column::Id,
             Column::Argument(key) => Column::Argument(key.try_clone(alloc)?),
         })
     }
@@ -81,6 +100,30 @@ impl Column {
         ensures { result ≡ is_argument self.now }
     {
         matches!(self, Column::Argument(_))
+    }
+
+    /// Whether what a table sums has the column.
+    pub fn goes_with(&self, of: Of) -> bool
+        ensures { result ≡ goes_with of self.now }
+    {
+        match of {
+            Of::Spans => !self.is_of_async(),
+            Of::Async => self.is_of_async() || self.is_of_all(),
+        }
+    }
+
+    // Whether only asynchronous spans have the column.
+    fn is_of_async(&self) -> bool
+        ensures { result ≡ is_of_async self.now }
+    {
+        matches!(self, Column::Cat | Column::Scope | Column::Id)
+    }
+
+    // Whether whatever a table sums has the column.
+    fn is_of_all(&self) -> bool
+        ensures { result ≡ is_of_all self.now }
+    {
+        matches!(self, Column::Name | Column::File)
     }
 
     /// The value of the column at a closed span of a thread of a run, by the name and the arguments of the span. Texts are shared.
@@ -102,8 +145,41 @@ impl Column {
             Column::Name => words_of(alloc, Some(name)),
             Column::File => words_of(alloc, run.file),
             Column::Argument(key) => copy_of(alloc, args.get(key.as_str())),
+            Column::Cat | Column::Scope | Column::Id => Ok(None),
         }
     }
+
+    /// The value of the column at an asynchronous key of a run. Texts are shared.
+    pub(crate) fn async_value(
+        &self,
+        alloc: Global,
+        run: &LedgerRun,
+        key: &AsyncKey,
+    ) -> Result<Option<ArgValue>, AllocError>
+        ensures { IfOk result (λ value. value ≡ async_value_at run.now key.now self.now) }
+    {
+        match self {
+            Column::Cat => words_of(alloc, Some(&key.cat)),
+            Column::Scope => words_of(alloc, Some(&key.scope)),
+            Column::Id => Ok(Some(ArgValue::Words(id_text(alloc, key.id.as_key())?))),
+            Column::Name => words_of(alloc, Some(&key.name)),
+            Column::File => words_of(alloc, run.file),
+            Column::Pid | Column::Tid | Column::Process | Column::Thread => Ok(None),
+            Column::Argument(_) => Ok(None),
+        }
+    }
+}
+
+// An id, with the process before it that it belongs to.
+fn id_text(alloc: Global, key: &IdKey) -> Result<Text, AllocError>
+    ensures { IfOk result (λ text. text ≡ with_home key.now.home key.now.id) }
+{
+    let Some(home) = key.home else {
+        return key.id.try_clone(alloc);
+    };
+    let id = key.id.as_str();
+    let text = format!(in alloc; "{home}:{id}")?;
+    Text::of(alloc, text.as_str())
 }
 
 fn argument_named(alloc: Global, name: &str) -> Result<Option<Column>, AllocError>

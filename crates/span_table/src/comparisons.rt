@@ -1,12 +1,16 @@
 //! The text of a comparison of two tables.
-ghost use Rattle.std.specs.Prelude.{◌≡◌, ◌++◌, decimal, string_bytes, flat_map, OnOk, IfOk};
+ghost use Rattle.std.specs.Prelude.{◌≡◌, ◌++◌, string_bytes, flat_map, OnOk, IfOk};
+ghost use Rattle.span_table.specs.declared.of.Of.TheVariants.{Spans, Async};
 ghost use Rattle.span_table.specs.Comparison.{base_lines, base_runs_line, change_columns, change_line, compared_heads, comparison_of, difference_text, other_lines, same_line};
-ghost use Rattle.span_table.specs.Pieces.{both_text, change_names, then_right, times_text};
+ghost use Rattle.span_table.specs.Pieces.{both_text, change_names, times_text};
 
 use crate::changes::{Both, Changed, differences};
 use crate::column::Column;
 use crate::heads::{Head, HeadCounts};
-use crate::lines::{put_counts, put_right, put_runs, put_seals, put_shown, put_titles, put_values};
+use crate::lines::{
+    put_count, put_counts, put_right, put_runs, put_seals, put_shown, put_titles, put_values,
+};
+use crate::of::Of;
 use crate::shown::Shown;
 use crate::sum::Sum;
 use crate::sums::By;
@@ -16,10 +20,7 @@ use span_report::{first_line, put_unit};
 use std::alloc::{AllocError, Global};
 use std::cmp::Ordering;
 
-const COLUMNS: &str =
-    "           dself            self0            self1           dtotal           total0           total1   count0   count1";
-
-/// The text of the comparison of two tables of the same columns in a unit: of the keys that are shown those of which a number differs, the greatest
+/// The text of the comparison of two tables, of the same by the same columns, in a unit: of the keys that are shown those of which a number differs, the greatest
 /// change of this number first. The heads tell of runs or don't.
 pub fn comparison(
     alloc: Global,
@@ -35,10 +36,11 @@ pub fn comparison(
     let mut out = first_line(alloc)?;
     put_unit(&mut out, unit)?;
     put_heads(&mut out, &base.head(), &other.head(), tells_runs)?;
-    let found = differences(alloc, base.rows(), other.rows(), shown, by)?;
+    let of = other.kind();
+    let found = differences(alloc, of, base.rows(), other.rows(), shown, by)?;
     put_shown(&mut out, shown, found.shown, found.all)?;
-    put_columns(alloc, &mut out, other.columns())?;
-    put_changes(alloc, &mut out, &found.changes)?;
+    put_columns(alloc, &mut out, of, other.columns())?;
+    put_changes(alloc, &mut out, of, &found.changes)?;
     put_same(&mut out, found.same)?;
     Ok(out.into_bytes())
 }
@@ -88,42 +90,80 @@ fn put_other(out: &mut String, counts: &HeadCounts) -> Result<(), AllocError>
 }
 
 #[tactic(auto, using(crate::proofs::Pieces::change_columns_pieces, std::proofs::Common::append_assoc))]
-fn put_columns(alloc: Global, out: &mut String, columns: &[Column]) -> Result<(), AllocError>
-    ensures { OnOk result (string_bytes out.new ≡ string_bytes out.old ++ change_columns columns.now) }
+fn put_columns(
+    alloc: Global,
+    out: &mut String,
+    of: Of,
+    columns: &[Column],
+) -> Result<(), AllocError>
+    ensures { OnOk result (string_bytes out.new ≡ string_bytes out.old ++ change_columns of columns.now) }
 {
-    put_names(out)?;
+    put_names(out, of)?;
     put_titles(alloc, out, columns)?;
     out.push('\n')
 }
 
 #[tactic(auto, unfolding(crate::specs::Pieces::change_names))]
-fn put_names(out: &mut String) -> Result<(), AllocError>
-    ensures { OnOk result (string_bytes out.new ≡ string_bytes out.old ++ change_names) }
+fn put_names(out: &mut String, of: Of) -> Result<(), AllocError>
+    ensures { OnOk result (string_bytes out.new ≡ string_bytes out.old ++ change_names of) }
 {
-    out.push_str(COLUMNS)
+    match of {
+        Of::Spans => out.push_str(
+            "           dself            self0            self1           dtotal           total0           total1   count0   count1",
+        ),
+        Of::Async => out.push_str(
+            "          dtotal           total0           total1  closed0  closed1    open0    open1",
+        ),
+    }
 }
 
-fn put_changes(alloc: Global, out: &mut String, changes: &[Changed]) -> Result<(), AllocError>
-    ensures { OnOk result (string_bytes out.new ≡ string_bytes out.old ++ flat_map change_line changes.now) }
+fn put_changes(
+    alloc: Global,
+    out: &mut String,
+    of: Of,
+    changes: &[Changed],
+) -> Result<(), AllocError>
+    ensures { OnOk result (string_bytes out.new ≡ string_bytes out.old ++ flat_map (change_line of) changes.now) }
 {
     for change in changes {
-        put_change(alloc, out, change)?;
+        put_change(alloc, out, of, change)?;
     }
     Ok(())
 }
 
 #[tactic(auto, using(crate::proofs::Pieces::change_line_pieces, std::proofs::Common::append_assoc))]
-fn put_change(alloc: Global, out: &mut String, change: &Changed) -> Result<(), AllocError>
-    ensures { OnOk result (string_bytes out.new ≡ string_bytes out.old ++ change_line change.now) }
+fn put_change(alloc: Global, out: &mut String, of: Of, change: &Changed) -> Result<(), AllocError>
+    ensures { OnOk result (string_bytes out.new ≡ string_bytes out.old ++ change_line of change.now) }
 {
-    put_both(alloc, out, &change.both)?;
+    put_both(alloc, out, of, &change.both)?;
     put_values(alloc, out, change.key.values())?;
     out.push('\n')
 }
 
+fn put_both(alloc: Global, out: &mut String, of: Of, both: &Both) -> Result<(), AllocError>
+    ensures { OnOk result (string_bytes out.new ≡ string_bytes out.old ++ both_text of both.now) }
+{
+    match of {
+        Of::Spans => put_both_spans(alloc, out, both),
+        Of::Async => put_both_async(alloc, out, both),
+    }
+}
+
 #[tactic(auto, using(std::proofs::Common::append_assoc))]
-fn put_both(alloc: Global, out: &mut String, both: &Both) -> Result<(), AllocError>
-    ensures { OnOk result (string_bytes out.new ≡ string_bytes out.old ++ both_text both.now) }
+fn put_both_async(alloc: Global, out: &mut String, both: &Both) -> Result<(), AllocError>
+    ensures { OnOk result (string_bytes out.new ≡ string_bytes out.old ++ both_text Async both.now) }
+{
+    let (base, other) = (&both.base, &both.other);
+    put_times(alloc, out, &base.total, &other.total)?;
+    put_count(alloc, out, &base.count)?;
+    put_count(alloc, out, &other.count)?;
+    put_count(alloc, out, &base.unclosed)?;
+    put_count(alloc, out, &other.unclosed)
+}
+
+#[tactic(auto, using(std::proofs::Common::append_assoc))]
+fn put_both_spans(alloc: Global, out: &mut String, both: &Both) -> Result<(), AllocError>
+    ensures { OnOk result (string_bytes out.new ≡ string_bytes out.old ++ both_text Spans both.now) }
 {
     let (base, other) = (&both.base, &both.other);
     put_times(alloc, out, &base.self_time, &other.self_time)?;
@@ -143,14 +183,6 @@ fn put_times(alloc: Global, out: &mut String, base: &Sum, other: &Sum) -> Result
     put_right(out, 16, &base.shown(alloc)?)?;
     out.push(' ')?;
     put_right(out, 16, &other.shown(alloc)?)
-}
-
-#[tactic(auto, using(std::proofs::Common::append_assoc))]
-fn put_count(alloc: Global, out: &mut String, count: &Sum) -> Result<(), AllocError>
-    ensures { OnOk result (string_bytes out.new ≡ string_bytes out.old ++ then_right 8 (decimal count.now)) }
-{
-    out.push(' ')?;
-    put_right(out, 8, &count.shown(alloc)?)
 }
 
 fn difference(alloc: Global, base: &Sum, other: &Sum) -> Result<String, AllocError>

@@ -3,7 +3,8 @@ ghost use Rattle.std.specs.Prelude.{◌≡◌, ◌++◌, ◌&&◌, true, false, 
 ghost use Rattle.std.specs.List.{list_all};
 ghost use Rattle.span_table.specs.declared.json_lines.JsonFault.TheVariants.{TooGreat};
 ghost use Rattle.span_table.specs.Json.{both_fit, head_fits, json_change, json_changes_fit, json_comparison_of, json_heads};
-ghost use Rattle.span_table.specs.JsonPieces.{both_text, counts_text, ends_text, heads_text, other_text, selves_text, spans_text, totals_text};
+ghost use Rattle.span_table.specs.declared.of.Of.TheVariants.{Spans, Async};
+ghost use Rattle.span_table.specs.JsonPieces.{both_text, closed_text, counts_text, ends_text, heads_text, open_text, other_text, points_text, selves_text, spans_text, totals_text};
 
 use crate::changes::{Both, Changed, ComparedTables, differences};
 use crate::column::Column;
@@ -11,14 +12,14 @@ use crate::heads::Head;
 use crate::json_lines::{
     JsonFault, fits, head_fits, put_columns, put_end, put_head, put_members, put_start,
 };
+use crate::of::Of;
 use crate::shown::Shown;
-use crate::sums::By;
 use crate::table::Table;
 use span_event::Unit;
 use std::alloc::{AllocError, Global};
 
-/// What changed between two tables of the same columns in a unit, for machines: of the keys that are shown those of which a number differs, the
-/// greatest change of a self time first.
+/// What changed between two tables, of the same by the same columns, in a unit, for machines: of the keys that are shown those of which
+/// a number differs, the greatest change first of the number that rows go by where none is named.
 pub fn json_comparison(
     alloc: Global,
     unit: Unit,
@@ -30,7 +31,8 @@ pub fn json_comparison(
     ensures fits { OnOk result (json_changes_fit shown.now base.now other.now ≡ true) }
     ensures too_great { IfErr result (λ fault. fault ≡ TooGreat → json_changes_fit shown.now base.now other.now ≡ false) }
 {
-    let Ok(found) = differences(alloc, base.rows(), other.rows(), shown, By::SelfTime) else {
+    let of = other.kind();
+    let Ok(found) = differences(alloc, of, base.rows(), other.rows(), shown, of.by()) else {
         return Err(JsonFault::Memory);
     };
     if !heads_fit(base, other) || !all_fit(&found.changes) {
@@ -62,14 +64,15 @@ fn text_of(
     found: &ComparedTables,
 ) -> Result<Vec<u8>, AllocError>
     ensures { IfOk result (λ text. text.items
-        ≡ json_heads unit other.now.columns (length found.now.changes.items) found.now.same base.now.head other.now.head
-        ++ flat_map (json_change other.now.columns) found.now.changes.items) }
+        ≡ json_heads other.now.of unit other.now.columns (length found.now.changes.items) found.now.same base.now.head other.now.head
+        ++ flat_map (json_change other.now.of other.now.columns) found.now.changes.items) }
 {
     let mut out = String::new(alloc);
+    let of = other.kind();
     let columns = other.columns();
     put_first(alloc, &mut out, unit, base, other, found)?;
     for change in &found.changes {
-        put_change(alloc, &mut out, columns, change)?;
+        put_change(alloc, &mut out, of, columns, change)?;
     }
     Ok(out.into_bytes())
 }
@@ -84,9 +87,9 @@ fn put_first(
     found: &ComparedTables,
 ) -> Result<(), AllocError>
     ensures { OnOk result (string_bytes out.new ≡ string_bytes out.old
-        ++ json_heads unit other.now.columns (length found.now.changes.items) found.now.same base.now.head other.now.head) }
+        ++ json_heads other.now.of unit other.now.columns (length found.now.changes.items) found.now.same base.now.head other.now.head) }
 {
-    put_start(out, unit)?;
+    put_start(out, other.kind(), unit)?;
     put_columns(alloc, out, other.columns())?;
     put_counts(out, found.changes.len(), found.same)?;
     put_heads(out, base.head(), other.head())
@@ -127,24 +130,44 @@ fn put_ends(out: &mut String) -> Result<(), AllocError>
 fn put_change(
     alloc: Global,
     out: &mut String,
+    of: Of,
     columns: &[Column],
     change: &Changed,
 ) -> Result<(), AllocError>
-    ensures { OnOk result (string_bytes out.new ≡ string_bytes out.old ++ json_change columns.now change.now) }
+    ensures { OnOk result (string_bytes out.new ≡ string_bytes out.old ++ json_change of columns.now change.now) }
 {
     out.push('{')?;
     put_members(alloc, out, columns, change.key.values())?;
-    put_both(alloc, out, &change.both)?;
+    put_both(alloc, out, of, &change.both)?;
     put_end(out)
 }
 
+fn put_both(alloc: Global, out: &mut String, of: Of, both: &Both) -> Result<(), AllocError>
+    ensures { OnOk result (string_bytes out.new ≡ string_bytes out.old ++ both_text of both.now) }
+{
+    match of {
+        Of::Spans => put_both_spans(alloc, out, both),
+        Of::Async => put_both_async(alloc, out, both),
+    }
+}
+
 #[tactic(auto, using(std::proofs::Common::append_assoc))]
-fn put_both(alloc: Global, out: &mut String, both: &Both) -> Result<(), AllocError>
-    ensures { OnOk result (string_bytes out.new ≡ string_bytes out.old ++ both_text both.now) }
+fn put_both_spans(alloc: Global, out: &mut String, both: &Both) -> Result<(), AllocError>
+    ensures { OnOk result (string_bytes out.new ≡ string_bytes out.old ++ both_text Spans both.now) }
 {
     put_spans(alloc, out, both)?;
     put_totals(alloc, out, both)?;
     put_selves(alloc, out, both)
+}
+
+#[tactic(auto, using(std::proofs::Common::append_assoc))]
+fn put_both_async(alloc: Global, out: &mut String, both: &Both) -> Result<(), AllocError>
+    ensures { OnOk result (string_bytes out.new ≡ string_bytes out.old ++ both_text Async both.now) }
+{
+    put_closed(alloc, out, both)?;
+    put_totals(alloc, out, both)?;
+    put_open(alloc, out, both)?;
+    put_points(alloc, out, both)
 }
 
 #[tactic(auto, unfolding(crate::specs::JsonPieces::spans_text))]
@@ -172,4 +195,31 @@ fn put_selves(alloc: Global, out: &mut String, both: &Both) -> Result<(), AllocE
     let base = both.base.self_time.shown(alloc)?;
     let other = both.other.self_time.shown(alloc)?;
     write!(out, "\"self0\":{base},\"self1\":{other}")
+}
+
+#[tactic(auto, unfolding(crate::specs::JsonPieces::closed_text))]
+fn put_closed(alloc: Global, out: &mut String, both: &Both) -> Result<(), AllocError>
+    ensures { OnOk result (string_bytes out.new ≡ string_bytes out.old ++ closed_text both.now) }
+{
+    let base = both.base.count.shown(alloc)?;
+    let other = both.other.count.shown(alloc)?;
+    write!(out, "\"closed0\":{base},\"closed1\":{other},")
+}
+
+#[tactic(auto, unfolding(crate::specs::JsonPieces::open_text))]
+fn put_open(alloc: Global, out: &mut String, both: &Both) -> Result<(), AllocError>
+    ensures { OnOk result (string_bytes out.new ≡ string_bytes out.old ++ open_text both.now) }
+{
+    let base = both.base.unclosed.shown(alloc)?;
+    let other = both.other.unclosed.shown(alloc)?;
+    write!(out, "\"open0\":{base},\"open1\":{other},")
+}
+
+#[tactic(auto, unfolding(crate::specs::JsonPieces::points_text))]
+fn put_points(alloc: Global, out: &mut String, both: &Both) -> Result<(), AllocError>
+    ensures { OnOk result (string_bytes out.new ≡ string_bytes out.old ++ points_text both.now) }
+{
+    let base = both.base.points.shown(alloc)?;
+    let other = both.other.points.shown(alloc)?;
+    write!(out, "\"points0\":{base},\"points1\":{other}")
 }

@@ -2,13 +2,14 @@
 ghost use Rattle.std.specs.Prelude.{◌≡◌, ◌<◌, ◌^◌, nat_lt, All, ◌++◌, ◌∷◌, true, false, map, flat_map, length, string_bytes, IfOk, IfErr, OnOk};
 ghost use Rattle.std.specs.List.{join_with_byte, list_all};
 ghost use Rattle.span_table.specs.declared.json_lines.JsonFault.TheVariants.{TooGreat};
-ghost use Rattle.span_table.specs.Json.{column_json, columns_json, counts_fit, fit, head_fits, json_fits, json_head, json_line, json_of, json_of_value, shown_table};
+ghost use Rattle.span_table.specs.Json.{column_json, columns_json, counts_fit, fit, head_fits, json_fits, json_head, json_line, json_of, json_of_value, of_member, shown_table, unit_member};
 ghost use Rattle.span_table.specs.Printed.{AllFit, KeyFits};
 ghost use Rattle.span_table.specs.JsonPieces.{count_text, end_text, events_text, files_text, head_text, member_text, members_text, others_text, start_text};
 
 use crate::column::Column;
 use crate::heads::{Head, HeadCounts};
 use crate::json_rows::{column_names, with_json_row};
+use crate::of::Of;
 use crate::shown::{Shown, ShownRow};
 use crate::sums::Sums;
 use crate::table::{Row, Table};
@@ -61,6 +62,8 @@ pub fn fits(sums: &Sums) -> bool
     sums.count.as_u64().is_some()
         && sums.total.as_u64().is_some()
         && sums.self_time.as_u64().is_some()
+        && sums.unclosed.as_u64().is_some()
+        && sums.points.as_u64().is_some()
 }
 
 /// Whether the numbers of the head have 64 bits.
@@ -98,14 +101,16 @@ fn text_of(
 ) -> Result<Vec<u8>, AllocError>
     requires { list_all (λ row. fit row.sums) rows.now ≡ true }
     ensures text { IfOk result (λ text. text.items
-        ≡ json_head unit table.now.columns (length rows.now) table.now.head ++ flat_map (json_line table.now.columns) rows.now) }
+        ≡ json_head table.now.of unit table.now.columns (length rows.now) table.now.head ++ flat_map (json_line table.now.of table.now.columns) rows.now) }
     ensures few { OnOk result (length rows.now < 2 ^ 64) }
     ensures keys { OnOk result (All (λ row. KeyFits table.now.columns row.key) rows.now) }
 {
     let mut out = String::new(alloc);
+    let of = table.kind();
     put_json_head(
         alloc,
         &mut out,
+        of,
         unit,
         table.columns(),
         rows.len(),
@@ -118,37 +123,58 @@ fn text_of(
     let mut line = Vec::new(alloc);
     for shown in rows {
         line.clear();
-        line = with_json_row(line, columns, &names, shown.row)?;
+        line = with_json_row(line, of, columns, &names, shown.row)?;
         out.extend_from_slice(&line)?;
     }
     Ok(out)
 }
 
-/// Appends the first line of a table of so many rows in a unit.
+/// Appends the first line of a table of so many rows in a unit, by what it sums.
 #[tactic(auto, using(crate::proofs::JsonPieces::json_head_pieces, std::proofs::Common::append_assoc))]
 pub fn put_json_head(
     alloc: Global,
     out: &mut String,
+    of: Of,
     unit: Unit,
     columns: &[Column],
     rows: usize,
     head: Head,
 ) -> Result<(), AllocError>
-    ensures { OnOk result (string_bytes out.new ≡ string_bytes out.old ++ json_head unit columns.now rows head) }
+    ensures { OnOk result (string_bytes out.new ≡ string_bytes out.old ++ json_head of unit columns.now rows head) }
 {
-    put_start(out, unit)?;
+    put_start(out, of, unit)?;
     put_columns(alloc, out, columns)?;
     put_count(out, rows)?;
     put_head(out, head)?;
     put_end(out)
 }
 
-pub(crate) fn put_start(out: &mut String, unit: Unit) -> Result<(), AllocError>
-    ensures { OnOk result (string_bytes out.new ≡ string_bytes out.old ++ start_text unit) }
+pub(crate) fn put_start(out: &mut String, of: Of, unit: Unit) -> Result<(), AllocError>
+    ensures { OnOk result (string_bytes out.new ≡ string_bytes out.old ++ start_text of unit) }
+{
+    out.push_str("{\"tracebook\":1")?;
+    put_of(out, of)?;
+    put_unit(out, unit)?;
+    out.push_str(",\"columns\":")
+}
+
+#[tactic(auto, unfolding(crate::specs::Json::of_member))]
+fn put_of(out: &mut String, of: Of) -> Result<(), AllocError>
+    ensures { OnOk result (string_bytes out.new ≡ string_bytes out.old ++ of_member of) }
+{
+    match of {
+        Of::Spans => Ok(()),
+        Of::Async => out.push_str(",\"of\":\"async\""),
+    }
+}
+
+#[tactic(auto, unfolding(crate::specs::Json::unit_member))]
+fn put_unit(out: &mut String, unit: Unit) -> Result<(), AllocError>
+    ensures { OnOk result (string_bytes out.new ≡ string_bytes out.old ++ unit_member unit) }
 {
     match unit {
-        Unit::Microseconds => out.push_str("{\"tracebook\":1,\"columns\":"),
-        Unit::Nanoseconds => out.push_str("{\"tracebook\":1,\"unit\":\"ns\",\"columns\":"),
+        Unit::Microseconds => Ok(()),
+        Unit::Nanoseconds => out.push_str(",\"unit\":\"ns\""),
     }
 }
 

@@ -1,12 +1,14 @@
 //! The line of a row for machines, as the tokens that it is printed of.
 ghost use Rattle.std.specs.Prelude.{◌≡◌, ◌<◌, ◌^◌, ◌++◌, ◌∷◌, [], true, map, IfOk, OnOk, Some};
 ghost use Rattle.json.specs.Token.{key};
+ghost use Rattle.span_table.specs.declared.of.Of.TheVariants.{Spans, Async};
 ghost use Rattle.span_table.specs.Columns.{column_name};
 ghost use Rattle.span_table.specs.Json.{fit, json_line};
 ghost use Rattle.span_table.specs.Printed.{IsOfArgument, KeyFits};
 ghost use Rattle.span_table.specs.Tokens.{key_tokens, number_tokens, row_tokens, sums_tokens, value_tokens};
 
 use crate::column::Column;
+use crate::of::Of;
 use crate::sum::Sum;
 use crate::sums::Sums;
 use crate::table::Row;
@@ -25,20 +27,21 @@ pub fn column_names(alloc: Global, columns: &[Column]) -> Result<Vec<Text>, Allo
     Ok(names)
 }
 
-/// A text with the line of a row behind it, by columns of these names.
+/// A text with the line of a row behind it, of a table by columns of these names.
 pub fn with_json_row(
     out: Vec<u8>,
+    of: Of,
     columns: &[Column],
     names: &[Text],
     row: &Row,
 ) -> Result<Vec<u8>, AllocError>
     requires names { names.now ≡ map column_name columns.now }
     requires fits { fit row.now.sums ≡ true }
-    ensures line { IfOk result (λ new. new.items ≡ out.items ++ json_line columns.now row.now) }
+    ensures line { IfOk result (λ new. new.items ≡ out.items ++ json_line of columns.now row.now) }
     ensures key_fits { OnOk result (KeyFits columns.now row.now.key) }
 {
     let mut writer = Writer::new(out);
-    match put_row(&mut writer, columns, names, row) {
+    match put_row(&mut writer, of, columns, names, row) {
         Ok(()) => match with_line_feed(writer.into_inner()) {
             Ok(line) => Ok(line),
             Err(refused) => Err(refused),
@@ -59,6 +62,7 @@ fn with_line_feed(out: Vec<u8>) -> Result<Vec<u8>, AllocError>
 
 fn put_row(
     writer: &mut Writer,
+    of: Of,
     columns: &[Column],
     names: &[Text],
     row: &Row,
@@ -66,12 +70,12 @@ fn put_row(
     requires names { names.now ≡ map column_name columns.now }
     requires fits { fit row.now.sums ≡ true }
     ensures before { OnOk result (writer.new.before ≡ writer.old.before) }
-    ensures tokens { OnOk result (writer.new.tokens ≡ writer.old.tokens ++ row_tokens columns.now row.now) }
+    ensures tokens { OnOk result (writer.new.tokens ≡ writer.old.tokens ++ row_tokens of columns.now row.now) }
     ensures key_fits { OnOk result (KeyFits columns.now row.now.key) }
 {
     writer.begin_object()?;
     put_members(writer, columns, names, row.key.values())?;
-    put_sums(writer, &row.sums)?;
+    put_sums(writer, of, &row.sums)?;
     writer.end_object()
 }
 
@@ -128,14 +132,36 @@ fn put_value(writer: &mut Writer, value: &ArgValue) -> Result<(), AllocError>
     }
 }
 
-fn put_sums(writer: &mut Writer, sums: &Sums) -> Result<(), AllocError>
+fn put_sums(writer: &mut Writer, of: Of, sums: &Sums) -> Result<(), AllocError>
     requires { fit sums.now ≡ true }
     ensures before { OnOk result (writer.new.before ≡ writer.old.before) }
-    ensures tokens { OnOk result (writer.new.tokens ≡ writer.old.tokens ++ sums_tokens sums.now) }
+    ensures tokens { OnOk result (writer.new.tokens ≡ writer.old.tokens ++ sums_tokens of sums.now) }
+{
+    match of {
+        Of::Spans => put_span_sums(writer, sums),
+        Of::Async => put_async_sums(writer, sums),
+    }
+}
+
+fn put_span_sums(writer: &mut Writer, sums: &Sums) -> Result<(), AllocError>
+    requires { fit sums.now ≡ true }
+    ensures before { OnOk result (writer.new.before ≡ writer.old.before) }
+    ensures tokens { OnOk result (writer.new.tokens ≡ writer.old.tokens ++ sums_tokens Spans sums.now) }
 {
     put_sum(writer, "count", &sums.count)?;
     put_sum(writer, "total", &sums.total)?;
     put_sum(writer, "self", &sums.self_time)
+}
+
+fn put_async_sums(writer: &mut Writer, sums: &Sums) -> Result<(), AllocError>
+    requires { fit sums.now ≡ true }
+    ensures before { OnOk result (writer.new.before ≡ writer.old.before) }
+    ensures tokens { OnOk result (writer.new.tokens ≡ writer.old.tokens ++ sums_tokens Async sums.now) }
+{
+    put_sum(writer, "closed", &sums.count)?;
+    put_sum(writer, "total", &sums.total)?;
+    put_sum(writer, "open", &sums.unclosed)?;
+    put_sum(writer, "points", &sums.points)
 }
 
 fn put_sum(writer: &mut Writer, name: &str, sum: &Sum) -> Result<(), AllocError>

@@ -1,6 +1,6 @@
 //! The facts that hold of every table.
 ghost use Rattle.span_table.specs.Adding.{AddingLosesNothing, DroppingAdds, OrderIsNothing};
-ghost use Rattle.span_table.specs.Laws.{KeysStandOnce, RowsAddUpToBusy, RowsAreSpanRows, TablesFollowFromActs};
+ghost use Rattle.span_table.specs.Laws.{KeysStandOnce, RowsAddUpToAsync, RowsAddUpToBusy, RowsAreAsyncRows, RowsAreSpanRows, TablesFollowFromActs};
 ghost use Rattle.span_table.specs.Printed.{AllIsPrinted, PartsAreTold, PrintsAreParts};
 ghost use Rattle.span_table.specs.TextLaws.{ComparisonsTurn, DifferencesTurn, RankingsHaveEachRow, TablesCompareWithThemselves};
 
@@ -19,6 +19,13 @@ pub fn key_law()
 /// law.
 pub fn row_law()
     ensures { RowsAreSpanRows }
+{}
+
+/// By category, scope, id and name a table of one run has the asynchronous rows of the report, in the order of their texts, if these
+/// tell them apart; and by whatever columns its rows have in all what those have. The function does nothing: its contract is the law.
+pub fn async_law()
+    ensures rows { RowsAreAsyncRows }
+    ensures totals { RowsAddUpToAsync }
 {}
 
 /// By process, thread and name the self times of a thread's rows add up to its busy time. The function does nothing: its contract is

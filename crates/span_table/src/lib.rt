@@ -1,5 +1,5 @@
-//! Tables: the closed spans of a run summed by columns, and the texts that show them: a ranking, a comparison with another run, and
-//! JSON Lines for machines.
+//! Tables: the closed spans of a run, or its asynchronous spans, summed by columns, and the texts that show them: a ranking, a
+//! comparison with another run, and JSON Lines for machines.
 #![tactic(auto)]
 
 mod addition;
@@ -15,6 +15,7 @@ mod json_rows;
 mod key;
 pub mod laws;
 mod lines;
+mod of;
 mod rankings;
 mod run;
 mod shown;
@@ -32,6 +33,7 @@ pub use json_changes::json_comparison;
 pub use json_lines::{JsonFault, fits, head_fits, json_table, put_json_head};
 pub use json_rows::{column_names, with_json_row};
 pub use key::Key;
+pub use of::Of;
 pub use rankings::ranking;
 pub use shown::Shown;
 pub use sum::Sum;

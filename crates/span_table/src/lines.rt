@@ -1,14 +1,15 @@
 //! What the texts for people have in common: numbers in a width, values, the names of columns, and how many rows are shown.
-ghost use Rattle.std.specs.Prelude.{◌≡◌, ◌++◌, flat_map, string_bytes, OnOk};
+ghost use Rattle.std.specs.Prelude.{◌≡◌, ◌++◌, decimal, flat_map, string_bytes, OnOk};
 ghost use Rattle.span_report.specs.Lines.{count_line, right_in, seals_line};
 ghost use Rattle.span_table.specs.Lines.{arg_text, runs_line, shown_line};
-ghost use Rattle.span_table.specs.Pieces.{then_title, then_value};
+ghost use Rattle.span_table.specs.Pieces.{then_right, then_title, then_value};
 ghost use Rattle.json.specs.Print.{escape, quoted};
 ghost use Rattle.span_event.specs.Text.{Bytes};
 
 use crate::column::Column;
 use crate::heads::{Head, HeadCounts};
 use crate::shown::Shown;
+use crate::sum::Sum;
 use span_event::{ArgValue, Text};
 use span_report::json_text;
 use std::alloc::{AllocError, Global};
@@ -57,6 +58,15 @@ pub(crate) fn put_right(out: &mut String, width: usize, text: &str) -> Result<()
         out.push(' ')?;
     }
     out.push_str(text)
+}
+
+/// Appends a count, with a blank before it.
+#[tactic(auto, using(std::proofs::Common::append_assoc))]
+pub(crate) fn put_count(alloc: Global, out: &mut String, count: &Sum) -> Result<(), AllocError>
+    ensures { OnOk result (string_bytes out.new ≡ string_bytes out.old ++ then_right 8 (decimal count.now)) }
+{
+    out.push(' ')?;
+    put_right(out, 8, &count.shown(alloc)?)
 }
 
 /// Appends each value of a key, with a blank before it.

@@ -3,13 +3,17 @@ ghost use Rattle.std.specs.Prelude.{◌≡◌, ◌++◌, string_bytes, take, fla
 ghost use Rattle.std.specs.List.{IsDistinct};
 ghost use Rattle.std.specs.Ordering.{eq_by_cmp};
 ghost use Rattle.span_report.specs.Report.{head_lines};
-ghost use Rattle.span_table.specs.Pieces.{sums_text};
+ghost use Rattle.span_table.specs.declared.of.Of.TheVariants.{Spans, Async};
+ghost use Rattle.span_table.specs.Pieces.{sums_names, sums_text};
 ghost use Rattle.span_table.specs.Ranking.{column_line, ranked_line, ranking_of};
 ghost use Rattle.span_table.specs.Ranks.{rank_order, ranked};
 
 use crate::column::Column;
 use crate::heads::HeadCounts;
-use crate::lines::{put_counts, put_right, put_runs, put_seals, put_shown, put_titles, put_values};
+use crate::lines::{
+    put_count, put_counts, put_right, put_runs, put_seals, put_shown, put_titles, put_values,
+};
+use crate::of::Of;
 use crate::shown::{Shown, ShownRow};
 use crate::sums::{By, Sums};
 use crate::table::{Row, Table};
@@ -17,8 +21,6 @@ use span_event::Unit;
 use span_report::{first_line, put_unit};
 use std::alloc::{AllocError, Global};
 use std::cmp::Ordering;
-
-const COLUMNS: &str = "            self            total    count";
 
 /// The text of the ranking of a table in a unit, with at most so many of the rows that are shown. Its head tells of runs or doesn't.
 pub fn ranking(
@@ -41,9 +43,10 @@ pub fn ranking(
         rows.len() as u128,
         table.rows().len() as u128,
     )?;
-    put_columns(alloc, &mut out, table.columns())?;
+    let of = table.kind();
+    put_columns(alloc, &mut out, of, table.columns())?;
     let rows = in_order(rows, by);
-    put_first(alloc, &mut out, &rows, most)?;
+    put_first(alloc, &mut out, of, &rows, most)?;
     Ok(out.into_bytes())
 }
 
@@ -76,45 +79,80 @@ fn in_order<'a>(mut rows: Vec<ShownRow<'a>>, by: By) -> Vec<ShownRow<'a>>
 }
 
 #[tactic(auto, using(crate::proofs::Pieces::column_line_pieces, std::proofs::Common::append_assoc))]
-fn put_columns(alloc: Global, out: &mut String, columns: &[Column]) -> Result<(), AllocError>
-    ensures { OnOk result (string_bytes out.new ≡ string_bytes out.old ++ column_line columns.now) }
+fn put_columns(
+    alloc: Global,
+    out: &mut String,
+    of: Of,
+    columns: &[Column],
+) -> Result<(), AllocError>
+    ensures { OnOk result (string_bytes out.new ≡ string_bytes out.old ++ column_line of columns.now) }
 {
-    out.push_str(COLUMNS)?;
+    put_names(out, of)?;
     put_titles(alloc, out, columns)?;
     out.push('\n')
+}
+
+#[tactic(auto, unfolding(crate::specs::Pieces::sums_names))]
+fn put_names(out: &mut String, of: Of) -> Result<(), AllocError>
+    ensures { OnOk result (string_bytes out.new ≡ string_bytes out.old ++ sums_names of) }
+{
+    match of {
+        Of::Spans => out.push_str("            self            total    count"),
+        Of::Async => out.push_str("           total   closed     open   points"),
+    }
 }
 
 fn put_first(
     alloc: Global,
     out: &mut String,
+    of: Of,
     rows: &[ShownRow],
     most: u32,
 ) -> Result<(), AllocError>
-    ensures { OnOk result (string_bytes out.new ≡ string_bytes out.old ++ flat_map ranked_line (take most rows.now)) }
+    ensures { OnOk result (string_bytes out.new ≡ string_bytes out.old ++ flat_map (ranked_line of) (take most rows.now)) }
 {
     let shown = rows.len().min(most as usize);
     for ranked in &rows[..shown] {
-        put_row(alloc, out, ranked.row)?;
+        put_row(alloc, out, of, ranked.row)?;
     }
     Ok(())
 }
 
 #[tactic(auto, using(crate::proofs::Pieces::ranked_line_pieces, std::proofs::Common::append_assoc))]
-fn put_row(alloc: Global, out: &mut String, row: &Row) -> Result<(), AllocError>
-    ensures { OnOk result (string_bytes out.new ≡ string_bytes out.old ++ ranked_line row.now) }
+fn put_row(alloc: Global, out: &mut String, of: Of, row: &Row) -> Result<(), AllocError>
+    ensures { OnOk result (string_bytes out.new ≡ string_bytes out.old ++ ranked_line of row.now) }
 {
-    put_sums(alloc, out, &row.sums)?;
+    put_sums(alloc, out, of, &row.sums)?;
     put_values(alloc, out, row.key.values())?;
     out.push('\n')
 }
 
+fn put_sums(alloc: Global, out: &mut String, of: Of, sums: &Sums) -> Result<(), AllocError>
+    ensures { OnOk result (string_bytes out.new ≡ string_bytes out.old ++ sums_text of sums.now) }
+{
+    match of {
+        Of::Spans => put_span_sums(alloc, out, sums),
+        Of::Async => put_async_sums(alloc, out, sums),
+    }
+}
+
 #[tactic(auto, using(std::proofs::Common::append_assoc))]
-fn put_sums(alloc: Global, out: &mut String, sums: &Sums) -> Result<(), AllocError>
-    ensures { OnOk result (string_bytes out.new ≡ string_bytes out.old ++ sums_text sums.now) }
+fn put_span_sums(alloc: Global, out: &mut String, sums: &Sums) -> Result<(), AllocError>
+    ensures { OnOk result (string_bytes out.new ≡ string_bytes out.old ++ sums_text Spans sums.now) }
 {
     put_right(out, 16, &sums.self_time.shown(alloc)?)?;
     out.push(' ')?;
     put_right(out, 16, &sums.total.shown(alloc)?)?;
     out.push(' ')?;
     put_right(out, 8, &sums.count.shown(alloc)?)
+}
+
+#[tactic(auto, using(std::proofs::Common::append_assoc))]
+fn put_async_sums(alloc: Global, out: &mut String, sums: &Sums) -> Result<(), AllocError>
+    ensures { OnOk result (string_bytes out.new ≡ string_bytes out.old ++ sums_text Async sums.now) }
+{
+    put_right(out, 16, &sums.total.shown(alloc)?)?;
+    put_count(alloc, out, &sums.count)?;
+    put_count(alloc, out, &sums.unclosed)?;
+    put_count(alloc, out, &sums.points)
 }

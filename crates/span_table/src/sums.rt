@@ -3,17 +3,21 @@ ghost use Rattle.std.specs.Prelude.{◌≡◌, ◌+◌, ◌≤◌, ◌^◌, ℕ,
 ghost use Rattle.span_table.specs.Collected.{IsWithin, sums_of_row, with_sums};
 ghost use Rattle.span_table.specs.Changes.{same_sums};
 ghost use Rattle.span_table.specs.Ranks.{number_by};
-ghost use Rattle.span_table.specs.Tables.{sums_together};
+ghost use Rattle.span_table.specs.Tables.{sums_of_async, sums_together};
 
 use crate::sum::Sum;
+use span_keyed_tracks::AsyncRow;
 use span_ledger::SpanRow;
 
-/// How many spans, their lengths, and their self times together. Times are ticks: microseconds or nanoseconds, as the runs count.
+/// How many closed spans, their lengths, and their self times together; and of asynchronous spans how many are open, and how many
+/// points there are. These have no self time. Times are ticks: microseconds or nanoseconds, as the runs count.
 #[derive(Clone, Copy)]
 pub struct Sums {
     pub count: Sum,
     pub total: Sum,
     pub self_time: Sum,
+    pub unclosed: Sum,
+    pub points: Sum,
 }
 
 /// The number that rows go by.
@@ -22,6 +26,8 @@ pub enum By {
     SelfTime,
     Total,
     Count,
+    Open,
+    Points,
 }
 
 impl Sums {
@@ -32,6 +38,8 @@ impl Sums {
             count: Sum::zero(),
             total: Sum::zero(),
             self_time: Sum::zero(),
+            unclosed: Sum::zero(),
+            points: Sum::zero(),
         }
     }
 
@@ -43,18 +51,36 @@ impl Sums {
             count: Sum::of(u128::from(row.count)),
             total: Sum::of(row.total),
             self_time: Sum::of(u128::from(row.self_time)),
+            unclosed: Sum::zero(),
+            points: Sum::zero(),
+        }
+    }
+
+    pub(crate) fn of_async(row: &AsyncRow) -> Sums
+        ensures value { result ≡ sums_of_async row.now }
+        ensures bound { IsWithin (2 ^ 128) result }
+    {
+        let totals = &row.totals;
+        Sums {
+            count: Sum::of(u128::from(totals.closed)),
+            total: Sum::of(totals.total),
+            self_time: Sum::zero(),
+            unclosed: Sum::of(u128::from(totals.unclosed)),
+            points: Sum::of(u128::from(totals.points)),
         }
     }
 
     /// Of one span of this length and self time.
     pub(crate) fn of_span(length: u64, self_time: u64) -> Sums
-        ensures value { result ≡ record { count = 1; total = length; self_time = self_time } }
+        ensures value { result ≡ record { count = 1; total = length; self_time = self_time; unclosed = 0; points = 0 } }
         ensures bound { IsWithin (2 ^ 64) result }
     {
         Sums {
             count: Sum::of(1),
             total: Sum::of(u128::from(length)),
             self_time: Sum::of(u128::from(self_time)),
+            unclosed: Sum::zero(),
+            points: Sum::zero(),
         }
     }
 
@@ -67,6 +93,8 @@ impl Sums {
         self.count.add(&more.count);
         self.total.add(&more.total);
         self.self_time.add(&more.self_time);
+        self.unclosed.add(&more.unclosed);
+        self.points.add(&more.points);
     }
 
     /// The number that rows go by.
@@ -77,6 +105,8 @@ impl Sums {
             By::SelfTime => self.self_time,
             By::Total => self.total,
             By::Count => self.count,
+            By::Open => self.unclosed,
+            By::Points => self.points,
         }
     }
 
@@ -86,5 +116,7 @@ impl Sums {
         self.self_time.equals(&other.self_time)
             && self.total.equals(&other.total)
             && self.count.equals(&other.count)
+            && self.unclosed.equals(&other.unclosed)
+            && self.points.equals(&other.points)
     }
 }

@@ -7,6 +7,7 @@ use crate::column::Column;
 use crate::groups::Groups;
 use crate::heads::Head;
 use crate::key::Key;
+use crate::of::Of;
 use crate::run::LedgerRun;
 use crate::sums::Sums;
 use crate::table_sum::TableSum;
@@ -16,7 +17,7 @@ use span_ledger::Ledger;
 use std::alloc::{AllocError, Global};
 use std::marker::Model;
 
-/// The spans of one key.
+/// What one key has.
 #[derive(Drop)]
 pub struct Row {
     pub key: Key,
@@ -26,6 +27,7 @@ pub struct Row {
 /// Spans summed by columns: a row for each key that a span has, in ascending order of keys.
 #[derive(Drop)]
 pub struct Table {
+    of: Of,
     columns: Vec<Column>,
     head: Head,
     rows: Vec<Row>,
@@ -36,17 +38,18 @@ impl Model for Table {
 
     ghost Value = { SpanTable };
 
-    ghost view = { λ t. record { columns = t.columns.items; head = t.head; rows = t.rows.items } };
+    ghost view = { λ t. record { of = t.of; columns = t.columns.items; head = t.head; rows = t.rows.items } };
 
     ghost invariant = { λ t. RowsRise t.rows.items };
 }
 
 impl Table {
-    /// The table of one run by these columns: that of a ledger of so many files, of which so many were refused as a whole, with the
-    /// name of its file if it has just one that has a name. Maps that a file fills are hashed by these keys.
+    /// The table of what one run has to sum, by these columns: that of a ledger of so many files, of which so many were refused as a
+    /// whole, with the name of its file if it has just one that has a name. Maps that a file fills are hashed by these keys.
     pub fn of(
         alloc: Global,
         keys: HashKeys,
+        of: Of,
         columns: &[Column],
         ledger: &Ledger,
         files: u64,
@@ -54,7 +57,7 @@ impl Table {
         file: Option<&Text>,
     ) -> Result<Table, AllocError>
         ensures { IfOk result (λ table. table
-            ≡ table_of columns.now (run_of ledger.now.journal files unread (option_copied file.entry) ∷ [])) }
+            ≡ table_of of columns.now (run_of ledger.now.journal files unread (option_copied file.entry) ∷ [])) }
     {
         let run = LedgerRun {
             ledger,
@@ -62,19 +65,27 @@ impl Table {
             unread,
             file,
         };
-        let sum = TableSum::new(alloc, keys, columns)?;
+        let sum = TableSum::new(alloc, keys, of, columns)?;
         sum.with_run(&run)?.into_table()
     }
 
-    pub(crate) fn from_rows(columns: Vec<Column>, head: Head, rows: Vec<Row>) -> Table
+    pub(crate) fn from_rows(of: Of, columns: Vec<Column>, head: Head, rows: Vec<Row>) -> Table
         requires { RowsRise rows.items }
-        ensures { result ≡ record { columns = columns.items; head = head; rows = rows.items } }
+        ensures { result ≡ record { of = of; columns = columns.items; head = head; rows = rows.items } }
     {
         Table {
+            of,
             columns,
             head,
             rows,
         }
+    }
+
+    /// What the table sums.
+    pub fn kind(&self) -> Of
+        ensures { result ≡ self.now.of }
+    {
+        self.of
     }
 
     pub fn columns(&self) -> &[Column]
@@ -100,16 +111,17 @@ impl Table {
 
 /// The table of what is kept, its rows put in order.
 pub(crate) fn table_of_groups(
+    of: Of,
     columns: Vec<Column>,
     head: Head,
     groups: Groups,
 ) -> Result<Table, AllocError>
     requires { RowsRise (map row_of groups) }
-    ensures { IfOk result (λ table. table ≡ record { columns = columns.items; head = head; rows = map row_of groups }) }
+    ensures { IfOk result (λ table. table ≡ record { of = of; columns = columns.items; head = head; rows = map row_of groups }) }
 {
     let alloc = groups.allocator();
     let rows = rows_of(alloc, groups.into_entries()?)?;
-    Ok(Table::from_rows(columns, head, rows))
+    Ok(Table::from_rows(of, columns, head, rows))
 }
 
 // The rows of keys with their sums.

@@ -9,6 +9,7 @@ use crate::collected::{add_entries, add_run};
 use crate::column::{Column, copies_of};
 use crate::groups::Groups;
 use crate::heads::Head;
+use crate::of::Of;
 use crate::run::LedgerRun;
 use crate::table::{Table, table_of_groups};
 use span_event::Text;
@@ -32,6 +33,7 @@ pub enum SumFault {
 /// The table of the runs so far. A run costs a look-up for each of its rows, however many there were before.
 #[derive(Drop)]
 pub struct TableSum {
+    of: Of,
     columns: Vec<Column>,
     head: Head,
     groups: Groups,
@@ -44,17 +46,23 @@ impl Model for TableSum {
 
     ghost Value = { SpanTable };
 
-    ghost view = { λ s. record { columns = s.columns.items; head = s.head; rows = map row_of s.groups } };
+    ghost view = { λ s. record { of = s.of; columns = s.columns.items; head = s.head; rows = map row_of s.groups } };
 
     ghost invariant = { λ s. IsKept s.head s.groups };
 }
 
 impl TableSum {
-    /// The table of no runs by these columns. Maps that files fill are hashed by these keys.
-    pub fn new(alloc: Global, keys: HashKeys, columns: &[Column]) -> Result<TableSum, AllocError>
-        ensures { IfOk result (λ sum. sum ≡ table_of columns.now []) }
+    /// The table of no runs, of what it is to sum, by these columns. Maps that files fill are hashed by these keys.
+    pub fn new(
+        alloc: Global,
+        keys: HashKeys,
+        of: Of,
+        columns: &[Column],
+    ) -> Result<TableSum, AllocError>
+        ensures { IfOk result (λ sum. sum ≡ table_of of columns.now []) }
     {
         Ok(TableSum {
+            of,
             columns: copies_of(alloc, columns)?,
             head: Head::of_none(),
             groups: Groups::new(alloc, keys),
@@ -98,23 +106,25 @@ impl TableSum {
         ensures { IfOk result (λ sum. sum ≡ with_run self run.now) }
     {
         let TableSum {
+            of,
             columns,
             mut head,
             mut groups,
         } = self;
         let alloc = groups.allocator();
-        add_run(alloc, &mut groups, run, &columns)?;
+        add_run(alloc, &mut groups, run, of, &columns)?;
         head.add(&Head::of(run));
         Ok(TableSum {
+            of,
             columns,
             head,
             groups,
         })
     }
 
-    /// With the runs of another sum by the same columns. It costs a look-up for each row of the other.
+    /// With the runs of another sum of the same by the same columns. It costs a look-up for each row of the other.
     pub fn add(self, other: TableSum) -> Result<TableSum, SumFault>
-        ensures added { IfOk result (λ sum. sum ≡ add_tables self.columns (self ∷ other ∷ [])) }
+        ensures added { IfOk result (λ sum. sum ≡ add_tables self.of self.columns (self ∷ other ∷ [])) }
         ensures runs { IfOk result (λ sum. JoinsRuns self other sum) }
         ensures few { OnOk result (self.head.runs + other.head.runs < 2 ^ 32) }
         ensures too_many { IfErr result (λ fault. fault ≡ TooMany → 2 ^ 32 ≤ self.head.runs + other.head.runs) }
@@ -130,14 +140,16 @@ impl TableSum {
 
     fn joined(self, other: TableSum) -> Result<TableSum, AllocError>
         requires { self.head.runs + other.head.runs < 2 ^ 32 }
-        ensures { IfOk result (λ sum. sum ≡ add_tables self.columns (self ∷ other ∷ [])) }
+        ensures { IfOk result (λ sum. sum ≡ add_tables self.of self.columns (self ∷ other ∷ [])) }
     {
         let TableSum {
+            of,
             columns,
             mut head,
             mut groups,
         } = self;
         let TableSum {
+            of: _,
             columns: _,
             head: more,
             groups: others,
@@ -145,6 +157,7 @@ impl TableSum {
         add_entries(&mut groups, others.into_entries()?)?;
         head.add(&more);
         Ok(TableSum {
+            of,
             columns,
             head,
             groups,
@@ -156,10 +169,11 @@ impl TableSum {
         ensures { IfOk result (λ table. table ≡ self) }
     {
         let TableSum {
+            of,
             columns,
             head,
             groups,
         } = self;
-        table_of_groups(columns, head, groups)
+        table_of_groups(of, columns, head, groups)
     }
 }

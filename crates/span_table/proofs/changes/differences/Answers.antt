@@ -20,12 +20,12 @@ returns-clause-changes c =
     let base = c.args.base.now in
     let other = c.args.other.now in
     let wanted = c.args.shown.now in
-    let total = change_order-total c.args.by in
+    let total = change_order-total c.args.of c.args.by in
     let sorted = c.sort_unstable_by.new.self.items in
     let found = c.tell_new.new.found.changes.items in
     let rows = filter is_changed (shown_changes wanted (compared base other)) in
     let told = subst (IsPermutation rows) (sym c.in_ok-tell_new.ensures.told.changes) (shown-permuted base other wanted c.requires.base c.requires.other is_changed) in
-    sorted-ascending total rows sorted (changes-distinct c.args.by wanted base other) (IsPermutation-trans rows found sorted told c.sort_unstable_by.ensures.permutation)
+    sorted-ascending total rows sorted (changes-distinct c.args.of c.args.by wanted base other) (IsPermutation-trans rows found sorted told c.sort_unstable_by.ensures.permutation)
     (IsSorted-from_sort_by total sorted c.sort_unstable_by.ensures.sorted (λ a r f' call. search rules))
 
 pub returns-clause-same : goal.returns-clause-same

@@ -1,6 +1,6 @@
 use Rattle.std.proofs.Common.{◌≡◌, ◌+◌, Bool, true, false, cond, List, ◌∷◌, [], ◌++◌, map, take, refl, sym, ap, subst, ◌∙◌, append_assoc, arith}
 use Rattle.std.specs.Prelude.{filter}
-use Rattle.std.proofs.lemmas.List.{map-append, take_more}
+use Rattle.std.proofs.lemmas.List.{map-append, take_all, take_more}
 use Rattle.std.proofs.lemmas.List.Elements.{filter-append}
 use Rattle.span_table.specs.declared.table.Row.{Row}
 use Rattle.span_table.specs.Changed.{Tells, base_keys, from_other, is_new, new_key}
@@ -40,3 +40,11 @@ loop-row-preserved c =
     by : (make : Row → Change) (row : Row) (b : Bool) → (b ≡ true → from_other row ≡ make row) → cond b (from_other row ∷ []) [] ≡ map make (cond b (row ∷ []) [])
     by make row true is = ap (λ c. c ∷ []) (is refl)
     by make row false is = refl
+
+pub returns-clause-told : goal.returns-clause-told
+returns-clause-told c =
+    let base = c.args.base.now in
+    let other = c.args.other.now in
+    let keys = λ (rows : List Row). base_keys base other ++ map (λ (row : Row). compared_at base other row.key) (filter (is_new base) rows) in
+    let passed = take_all c.loop-row.row-index other c.loop-row-test.false in
+    subst (λ (rows : List Row). Tells c.args.shown.now (keys rows) c.loop-row.found.changes.items c.loop-row.found.same c.loop-row.found.all) passed c.loop-row.invariant.told

@@ -4,4 +4,4 @@ use Rattle.span_table.proofs.comparisons.put_changes.Given as goal
 
 -- the lines of those so far
 abbrev pub invariant-loop-change : goal.invariant-loop-change
-invariant-loop-change l = string_bytes l.out ≡ string_bytes l.fn.out ++ flat_map change_line (take l.change-index l.changes)
+invariant-loop-change l = string_bytes l.out ≡ string_bytes l.fn.out ++ flat_map (change_line l.of) (take l.change-index l.changes)

@@ -4,4 +4,4 @@ use Rattle.span_table.proofs.Rows.{RowsRise-rows_of}
 use Rattle.span_table.proofs.laws.key_law.Goals as goal
 
 pub returns : goal.returns
-returns c = λ columns runs. RowsRise-rows_of (flat_map (run_sums columns) runs)
+returns c = λ of columns runs. RowsRise-rows_of (flat_map (run_sums of columns) runs)

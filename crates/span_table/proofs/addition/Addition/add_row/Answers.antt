@@ -11,5 +11,5 @@ invariant_of-self c =
 pub returns-in-Ok-clause-added : goal.returns-in-Ok-clause-added
 returns-in-Ok-clause-added c =
     let inside = c.self.inside in
-    with_row-taken inside.columns.items inside.head inside.groups c.add_copy.new.self c.args.row.now c.self.invariant.rise c.in-Ok.ensures.takes
+    with_row-taken inside.of inside.columns.items inside.head inside.groups c.add_copy.new.self c.args.row.now c.self.invariant.rise c.in-Ok.ensures.takes
     ∙ ap (λ t. with_row t c.args.row.now) c.self.view_is

@@ -16,7 +16,13 @@ zero n = omega arith
 
 -- sums that are added to none stay as they are
 none-added : (more : Sums) → more ≡ with_sums (sums_together []) more
-none-added more = λ i. record { count = zero more.count i; total = zero more.total i; self_time = zero more.self_time i }
+none-added more = λ i. record {
+  count = zero more.count i;
+  total = zero more.total i;
+  self_time = zero more.self_time i;
+  unclosed = zero more.unclosed i;
+  points = zero more.points i;
+}
 
 pub returns : goal.returns
 returns c =

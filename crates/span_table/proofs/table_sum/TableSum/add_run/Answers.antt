@@ -5,6 +5,6 @@ use Rattle.span_table.proofs.Kept.{with_run-runs}
 use Rattle.span_table.proofs.table_sum.TableSum.add_run.Goals as goal
 
 pub returns-in-Ok-clause-runs : goal.returns-in-Ok-clause-runs
-returns-in-Ok-clause-runs c = λ columns runs is.
+returns-in-Ok-clause-runs c = λ of columns runs is.
     let run = run_of c.args.ledger.now.journal c.args.files c.args.unread (option_copied c.args.file) in
-    c.in-Ok.ensures ∙ with_run-runs c.args.self run columns runs is
+    c.in-Ok.ensures ∙ with_run-runs c.args.self run of columns runs is

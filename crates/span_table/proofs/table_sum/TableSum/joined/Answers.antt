@@ -24,10 +24,11 @@ pub returns : goal.returns
 returns c =
     let head = c.self.inside.head in
     let more = c.other.inside.head in
+    let of = c.self.inside.of in
     let columns = c.self.inside.columns.items in
     let old = c.self.inside.groups in
     let new = c.add_entries.new.groups in
     let takes = subst (λ (es : SumsByKey). Takes old new (keyed_rows (map row_of es))) c.in_ok-into_entries.ensures c.in_ok-add_entries.ensures.takes in
-    ap (λ (h : Head). table_kept columns h new) c.add.ensures
-    ∙ add_tables-taken columns head more old new c.other.inside.groups c.other.inside.columns.items c.self.invariant.rise takes
-    ∙ ap₂ (λ (a b : SpanTable). add_tables a.columns (a ∷ b ∷ [])) c.self.view_is c.other.view_is
+    ap (λ (h : Head). table_kept of columns h new) c.add.ensures
+    ∙ add_tables-taken of c.other.inside.of columns head more old new c.other.inside.groups c.other.inside.columns.items c.self.invariant.rise takes
+    ∙ ap₂ (λ (a b : SpanTable). add_tables a.of a.columns (a ∷ b ∷ [])) c.self.view_is c.other.view_is

@@ -26,11 +26,12 @@ invariant_of-result c =
 pub returns : goal.returns
 returns c =
     let head = c.self.inside.head in
+    let of = c.self.inside.of in
     let columns = c.self.inside.columns.items in
     let old = c.self.inside.groups in
     let new = c.add_run.new.groups in
     let run = c.args.run.now in
-    let takes = subst (λ (cs : List Column). Takes old new (run_sums cs run)) c.deref.ensures.value c.in_ok-add_run.ensures.takes in
-    ap (λ (h : Head). table_kept columns h new) (c.add.ensures ∙ ap (λ (h : Head). heads_together (head ∷ h ∷ [])) c.of.ensures.value)
-    ∙ with_run-taken columns head old new run c.self.invariant.rise takes
+    let takes = subst (λ (cs : List Column). Takes old new (run_sums of cs run)) c.deref.ensures.value c.in_ok-add_run.ensures.takes in
+    ap (λ (h : Head). table_kept of columns h new) (c.add.ensures ∙ ap (λ (h : Head). heads_together (head ∷ h ∷ [])) c.of.ensures.value)
+    ∙ with_run-taken of columns head old new run c.self.invariant.rise takes
     ∙ ap (λ t. with_run t run) c.self.view_is

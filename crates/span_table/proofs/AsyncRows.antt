@@ -1,0 +1,122 @@
+-- By category, scope, id and name a table has the asynchronous rows of its run, if their texts tell them apart; by whatever columns it
+-- has in all what these have.
+use Rattle.std.proofs.Common.{◌≡◌, ℕ, Bool, false, cond, List, [], ◌∷◌, ◌++◌, map, refl, sym, ap, ap₂, subst, ◌∙◌}
+use Rattle.std.specs.Prelude.{filter, sum_by}
+use Rattle.std.specs.Cmp.{tied_itself}
+use Rattle.std.specs.List.{AllByRecursion, IsDistinct}
+use Rattle.std.specs.List.Sorted.{IsPermutation}
+use Rattle.std.specs.Ordering.{eq_by_cmp, is_eq}
+use Rattle.std.proofs.lemmas.List.{append-nil}
+use Rattle.std.proofs.lemmas.List.Sorted.{IsPermutation-map}
+use Rattle.span_keyed_tracks.specs.declared.async_track.AsyncRow.{AsyncRow}
+use Rattle.span_keyed_tracks.specs.Keyed.{Keyed, ascending, entry_of, steps_at}
+use Rattle.span_keyed_tracks.proofs.InKeyOrder.{AreApart-distinct}
+use Rattle.span_keyed_tracks.proofs.Keyed.{has_key, neither}
+use Rattle.span_keyed_tracks.proofs.SameKeys.{step_keys}
+use Rattle.span_keyed_tracks.proofs.Sorting.{ascending-permutation}
+use Rattle.span_keyed_tracks.proofs.Uses.{AreApart, is_eq-turned}
+use Rattle.span_ledger.specs.Rows.{async_rows}
+use Rattle.span_ledger.proofs.Sorted.{map-map}
+use Rattle.span_self_time.proofs.Mapped.{sum_by-map}
+use Rattle.span_table.specs.declared.of.Of.TheVariants.{Async}
+use Rattle.span_table.specs.declared.sums.Sums.{Sums}
+use Rattle.span_table.specs.declared.table.Row.{Row}
+use Rattle.span_table.specs.KeyLaws.{key_cmp_total, key_cmp-same}
+use Rattle.span_table.specs.Keys.{TableKey, key_cmp}
+use Rattle.span_table.specs.Laws.{RowsAddUpToAsync, RowsAreAsyncRows, async_columns, of_async_row}
+use Rattle.span_table.specs.Tables.{KeyedSums, async_sums, keyed_async, row_of, rows_of, sums_of_async, sums_together, table_of}
+use Rattle.span_table.proofs.AddedTables.{regrouped, rows-regrouped}
+use Rattle.span_table.proofs.Alike.{AddUpAlike-grouped}
+use Rattle.span_table.proofs.Comparing.{sums_together-one}
+use Rattle.span_table.proofs.Tallies.{under}
+
+abbrev Entry : Type 0
+Entry = Keyed TableKey Sums
+
+-- sums of other keys are not among those of a key
+steps-absent : (k : TableKey) (es : KeyedSums) → has_key key_cmp k (step_keys es) ≡ false → steps_at key_cmp k es ≡ []
+steps-absent k [] none = refl
+steps-absent k (e ∷ es) none =
+    let parts = neither (is_eq (key_cmp k e.key)) (has_key key_cmp k (step_keys es)) none in
+    let rest = filter (λ (x : Entry). is_eq (key_cmp x.key k)) es in
+    ap (λ (b : Bool). map (λ (x : Entry). x.step) (cond b (e ∷ rest) rest)) (is_eq-turned key_cmp_total e.key k ∙ parts.0) ∙ steps-absent k es parts.1
+
+-- where keys are apart, each has its own sums alone
+steps-own : (es : KeyedSums) → AreApart key_cmp_total (step_keys es) → AllByRecursion (λ (x : Entry). steps_at key_cmp x.key es ≡ x.step ∷ []) es
+steps-own [] apart = tt
+steps-own (e ∷ es) apart = (first, later es apart.0 (steps-own es apart.1))
+  where
+    first : steps_at key_cmp e.key (e ∷ es) ≡ e.step ∷ []
+    first =
+        let rest = filter (λ (x : Entry). is_eq (key_cmp x.key e.key)) es in
+        ap (λ (b : Bool). map (λ (x : Entry). x.step) (cond b (e ∷ rest) rest)) (ap is_eq (tied_itself key_cmp_total e.key)) ∙ ap (λ l. e.step ∷ l) (steps-absent e.key es apart.0)
+
+    later : (fs : KeyedSums) → has_key key_cmp e.key (step_keys fs) ≡ false → AllByRecursion (λ (x : Entry). steps_at key_cmp x.key es ≡ x.step ∷ []) fs
+        → AllByRecursion (λ (x : Entry). steps_at key_cmp x.key (e ∷ es) ≡ x.step ∷ []) fs
+    later [] none all = tt
+    later (f ∷ fs) none all =
+        let parts = neither (is_eq (key_cmp e.key f.key)) (has_key key_cmp e.key (step_keys fs)) none in
+        let rest = filter (λ (x : Entry). is_eq (key_cmp x.key f.key)) es in
+        (ap (λ (b : Bool). map (λ (x : Entry). x.step) (cond b (e ∷ rest) rest)) parts.0 ∙ all.0, later fs parts.1 all.1)
+
+module _ (es : KeyedSums) where
+  abbrev made : TableKey → Row
+  made k = row_of (k, sums_together (steps_at key_cmp k es))
+
+  abbrev own : Entry → Row
+  own e = record { key = e.key; sums = e.step }
+
+  made-own : (fs : KeyedSums) → AllByRecursion (λ (x : Entry). steps_at key_cmp x.key es ≡ x.step ∷ []) fs → map made (step_keys fs) ≡ map own fs
+  made-own [] all = refl
+  made-own (f ∷ fs) all = ap₂ (λ sums (l : List Row). record { key = f.key; sums = sums } ∷ l) (ap sums_together all.0 ∙ sums_together-one f.step) (made-own fs all.1)
+
+  -- where keys are distinct, each of the sums has a row
+  rows_of-distinct : IsDistinct (eq_by_cmp key_cmp) (step_keys es) → IsPermutation (map own es) (rows_of es)
+  rows_of-distinct distinct =
+      let keys = step_keys es in
+      let entry = entry_of (λ k. sums_together (steps_at key_cmp k es)) in
+      subst (λ rows. IsPermutation rows (rows_of es)) (made-own es (steps-own es (AreApart-distinct key_cmp_total keys distinct)))
+      (subst (IsPermutation (map made keys)) (sym (map-map row_of entry (ascending key_cmp keys)))
+      (IsPermutation-map made keys (ascending key_cmp keys) (ascending-permutation key_cmp_total keys distinct)))
+
+-- by category, scope, id and name a table of one run has its asynchronous rows
+pub rows-are_async_rows : RowsAreAsyncRows
+rows-are_async_rows run told =
+    let rows = async_rows run.journal in
+    let sums = async_sums async_columns run in
+    let make = keyed_async async_columns run in
+    let distinct = subst (IsDistinct (eq_by_cmp key_cmp)) (sym (map-map (λ (e : Entry). e.key) make rows)) told in
+    subst (IsPermutation (map of_async_row rows)) (ap rows_of (sym (append-nil sums)))
+    (subst (λ l. IsPermutation l (rows_of sums)) (map-map (own sums) make rows) (rows_of-distinct sums distinct))
+
+-- under the key of no columns stand all
+steps-all : {A : Type 0} (h : A → Sums) (xs : List A) → steps_at key_cmp [] (map (λ x. record { key = []; step = h x }) xs) ≡ map h xs
+steps-all h [] = refl
+steps-all h (x ∷ xs) = ap (λ l. h x ∷ l) (steps-all h xs)
+
+-- what rows have of a number is what the sums have
+rows-total : (f : Sums → ℕ) → ((sums : List Sums) → f (sums_together sums) ≡ sum_by f sums) → (es : KeyedSums) → sum_by (λ (row : Row). f row.sums) (rows_of es) ≡ sum_by (λ (e : Entry). f e.step) es
+rows-total f adds es =
+    let none : TableKey → TableKey = λ k. [] in
+    let alike = AddUpAlike-grouped key_cmp_total key_cmp-same none es in
+    sym (sum_by-map f (λ (row : Row). row.sums) (rows_of es))
+    ∙ ap (sum_by f) (sym (steps-all (λ (row : Row). row.sums) (rows_of es)))
+    ∙ ap (λ (l : KeyedSums). sum_by f (steps_at key_cmp [] l)) (rows-regrouped none es)
+    ∙ sym (adds (steps_at key_cmp [] (regrouped none es))) ∙ ap f (alike.sums []) ∙ adds (steps_at key_cmp [] (map (under none) es))
+    ∙ ap (sum_by f) (steps-all (λ (e : Entry). e.step) es) ∙ sum_by-map f (λ (e : Entry). e.step) es
+
+-- by whatever columns, the rows have in all what the asynchronous rows have
+pub rows-add_up : RowsAddUpToAsync
+rows-add_up columns run = record {
+  closed = number (λ (s : Sums). s.count) (λ sums. refl);
+  total = number (λ (s : Sums). s.total) (λ sums. refl);
+  unclosed = number (λ (s : Sums). s.unclosed) (λ sums. refl);
+  points = number (λ (s : Sums). s.points) (λ sums. refl);
+}
+  where
+    number : (f : Sums → ℕ) → ((sums : List Sums) → f (sums_together sums) ≡ sum_by f sums) →
+        sum_by (λ (row : Row). f row.sums) (table_of Async columns (run ∷ [])).rows ≡ sum_by (λ (row : AsyncRow). f (sums_of_async row)) (async_rows run.journal)
+    number f adds =
+        let sums = async_sums columns run in
+        rows-total f adds (sums ++ []) ∙ ap (sum_by (λ (e : Entry). f e.step)) (append-nil sums)
+        ∙ sum_by-map (λ (e : Entry). f e.step) (keyed_async columns run) (async_rows run.journal)
