@@ -1,5 +1,6 @@
 //! Tables of worked examples, and their texts.
 
+mod asynchronous;
 mod columns;
 mod comparisons;
 mod json_lines;

@@ -4,7 +4,7 @@ use super::tabled::{columns_of, tabled};
 use span_event::Text;
 use span_keyed_tracks::HashKeys;
 use span_ledger::Ledger;
-use span_table::{Head, HeadCounts, Key, Row, Sum, Table};
+use span_table::{Head, HeadCounts, Key, Of, Row, Sum, Table};
 use span_test_support::told;
 use std::alloc::{AllocError, AllocGlobal, Global};
 use std::process::Abort;
@@ -131,7 +131,7 @@ fn by_file(alloc: Global, ledger: &Ledger, file: &str) -> Result<String, AllocEr
     let file = Text::of(alloc, file)?;
     let columns = columns_of(alloc, &["file", "name"])?;
     let keys = HashKeys::fixed();
-    let table = Table::of(alloc, keys, &columns, ledger, 1, 0, Some(&file));
+    let table = Table::of(alloc, keys, Of::Spans, &columns, ledger, 1, 0, Some(&file));
     drop(columns);
     drop(file);
     rows_of(alloc, &table?)

@@ -4,7 +4,7 @@ use super::tabled::{columns_of, shown};
 use span_event::Unit;
 use span_keyed_tracks::HashKeys;
 use span_ledger::Ledger;
-use span_table::{By, TableSum, json_table, ranking};
+use span_table::{By, Of, TableSum, json_table, ranking};
 use span_test_support::{told, told_at_last};
 use std::alloc::{AllocGlobal, Global};
 use std::process::Abort;
@@ -38,7 +38,7 @@ events 40000 refused 0 skipped 0 queries 0
 
 fn of_none(alloc: Global, names: &[&str]) -> Option<TableSum> {
     let columns = columns_of(alloc, names).ok()?;
-    let sum = TableSum::new(alloc, HashKeys::fixed(), &columns).ok();
+    let sum = TableSum::new(alloc, HashKeys::fixed(), Of::Spans, &columns).ok();
     drop(columns);
     sum
 }

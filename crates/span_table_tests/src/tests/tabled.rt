@@ -3,11 +3,12 @@
 use span_event::Text;
 use span_keyed_tracks::HashKeys;
 use span_ledger::Ledger;
-use span_table::{Column, Shown, Table};
+use span_table::{Column, Of, Shown, Table};
 use span_test_support::told_at_last;
 use std::alloc::{AllocError, Global};
 
-/// The columns with these names, which are `pid`, `tid`, `process`, `thread`, `name`, `file`, or else the key of an argument.
+/// The columns with these names, which are `pid`, `tid`, `process`, `thread`, `name`, `file`, `cat`, `scope`, `id`, or else the key of
+/// an argument.
 pub(super) fn columns_of(alloc: Global, names: &[&str]) -> Result<Vec<Column>, AllocError> {
     let mut columns = Vec::new(alloc);
     for name in names {
@@ -18,6 +19,9 @@ pub(super) fn columns_of(alloc: Global, names: &[&str]) -> Result<Vec<Column>, A
             "thread" => Column::Thread,
             "name" => Column::Name,
             "file" => Column::File,
+            "cat" => Column::Cat,
+            "scope" => Column::Scope,
+            "id" => Column::Id,
             key => Column::Argument(Text::of(alloc, key)?),
         })?;
     }
@@ -30,16 +34,30 @@ pub(super) fn table_of(
     ledger: &Ledger,
     names: &[&str],
 ) -> Result<Table, AllocError> {
+    table_of_kind(alloc, Of::Spans, ledger, names)
+}
+
+fn table_of_kind(
+    alloc: Global,
+    of: Of,
+    ledger: &Ledger,
+    names: &[&str],
+) -> Result<Table, AllocError> {
     let columns = columns_of(alloc, names)?;
-    let table = Table::of(alloc, HashKeys::fixed(), &columns, ledger, 3, 1, None);
+    let table = Table::of(alloc, HashKeys::fixed(), of, &columns, ledger, 3, 1, None);
     drop(columns);
     table
 }
 
 /// The table of a text. None where it is no trace, or memory was refused; where that was once, its ledger is made once more.
 pub(super) fn tabled(alloc: Global, text: &str, names: &[&str]) -> Option<Table> {
+    tabled_of(alloc, Of::Spans, text, names)
+}
+
+/// The same of what is to be summed.
+pub(super) fn tabled_of(alloc: Global, of: Of, text: &str, names: &[&str]) -> Option<Table> {
     let ledger = told_at_last(alloc, text)?;
-    let table = table_of(alloc, &ledger, names).ok();
+    let table = table_of_kind(alloc, of, &ledger, names).ok();
     drop(ledger);
     table
 }
