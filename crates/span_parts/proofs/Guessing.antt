@@ -7,12 +7,15 @@ use Rattle.json.specs.Token.{Token, end_array, key, string}
 use Rattle.json.specs.declared.token.Token.{Token as Given}
 use Rattle.span_event.specs.Text.{Bytes}
 use Rattle.span_table.specs.declared.column.Column.{Column}
-use Rattle.span_table.specs.declared.column.Column.TheVariants.{Pid, Tid, Process, Thread, Name, File, Argument}
+use Rattle.span_table.specs.declared.of.Of.{Of}
+use Rattle.span_table.specs.declared.of.Of.TheVariants.{Spans, Async}
+use Rattle.span_table.specs.declared.sums.Sums.{Sums}
 use Rattle.span_event.specs.declared.args.ArgValue.{ArgValue}
 use Rattle.span_table.specs.Columns.{Value, column_name}
 use Rattle.span_table.specs.Keys.{TableKey}
 use Rattle.span_table.specs.Printed.{AreDistinct, IsKeyOf, IsOfArgument, is_column}
-use Rattle.span_table.specs.Tokens.{key_tokens, name_tokens, value_tokens}
+use Rattle.span_table.specs.Tokens.{key_tokens, name_tokens, sums_tokens, value_tokens}
+use Rattle.span_table.proofs.PartsTold.{column_name-not_first_number, first_number}
 use Rattle.span_table.proofs.PrintedLines.{IsOfArgument-any}
 use Rattle.span_parts.specs.Guess.{Found, MayFollow}
 use Rattle.std.proofs.lemmas.List.{length-append}
@@ -45,16 +48,6 @@ pub no_column : (later : List Column) (tokens rest : List Token) → ((name : By
 no_column [] tokens rest none next = (refl, next)
 no_column (column ∷ later) tokens rest none next = absurd (none (column_name column) (name_tokens later ++ end_array ∷ rest) next)
 
--- no column is called as the number of spans is
-count-name : (column : Column) → column_name column ≢ codes "count"
-count-name Pid same = let heads : 112 ≡ 99 = ap (λ l. get_or l 0 0) same in omega (arith, heads)
-count-name Tid same = let heads : 116 ≡ 99 = ap (λ l. get_or l 0 0) same in omega (arith, heads)
-count-name Process same = let heads : 112 ≡ 99 = ap (λ l. get_or l 0 0) same in omega (arith, heads)
-count-name Thread same = let heads : 116 ≡ 99 = ap (λ l. get_or l 0 0) same in omega (arith, heads)
-count-name Name same = let heads : 110 ≡ 99 = ap (λ l. get_or l 0 0) same in omega (arith, heads)
-count-name File same = let heads : 102 ≡ 99 = ap (λ l. get_or l 0 0) same in omega (arith, heads)
-count-name (Argument text) same = let heads : 97 ≡ 99 = ap (λ l. get_or l 0 0) same in omega (arith, heads)
-
 -- a key that is next, and not of this name
 record NextKey (name : Bytes) (tokens : List Token) : Type 0 where
   pub other : Bytes
@@ -62,44 +55,50 @@ record NextKey (name : Bytes) (tokens : List Token) : Type 0 where
   pub next : tokens ≡ key other ∷ behind
   pub differs : other ≢ name
 
--- behind a column without a value comes the key of another column, or that of the number of spans
-next_key : (name : Bytes) (columns : List Column) (values : TableKey) (rest : List Token) → name ≢ codes "count" → All (λ other. name ≢ other) (map column_name columns) → NextKey name (key_tokens columns values ++ key (codes "count") ∷ rest)
-next_key name [] values rest uncounted differ = record { other = codes "count"; behind = rest; next = refl; differs = λ same. uncounted (sym same) }
-next_key name (column ∷ columns) [] rest uncounted differ = record { other = codes "count"; behind = rest; next = refl; differs = λ same. uncounted (sym same) }
-next_key name (column ∷ columns) (None ∷ values) rest uncounted differ = next_key name columns values rest uncounted (All-tail (λ other. name ≢ other) (column_name column) (map column_name columns) differ)
-next_key name (column ∷ columns) (Some value ∷ values) rest uncounted differ = record {
+-- the numbers of a row begin with the name of the first
+next_number : (name : Bytes) (of : Of) (sums : Sums) (rest : List Token) → name ≢ first_number of → NextKey name (sums_tokens of sums ++ rest)
+next_number name Spans sums rest differs = record { other = codes "count"; behind = _; next = refl; differs = λ same. differs (sym same) }
+next_number name Async sums rest differs = record { other = codes "closed"; behind = _; next = refl; differs = λ same. differs (sym same) }
+
+-- behind a column without a value comes the key of another column, or that of the first number
+next_key : (name : Bytes) (of : Of) (columns : List Column) (values : TableKey) (sums : Sums) (rest : List Token) → name ≢ first_number of → All (λ other. name ≢ other) (map column_name columns)
+    → NextKey name (key_tokens columns values ++ (sums_tokens of sums ++ rest))
+next_key name of [] values sums rest uncounted differ = next_number name of sums rest uncounted
+next_key name of (column ∷ columns) [] sums rest uncounted differ = next_number name of sums rest uncounted
+next_key name of (column ∷ columns) (None ∷ values) sums rest uncounted differ = next_key name of columns values sums rest uncounted (All-tail (λ other. name ≢ other) (column_name column) (map column_name columns) differ)
+next_key name of (column ∷ columns) (Some value ∷ values) sums rest uncounted differ = record {
   other = column_name column;
-  behind = (value_tokens value ++ key_tokens columns values) ++ key (codes "count") ∷ rest;
+  behind = (value_tokens value ++ key_tokens columns values) ++ (sums_tokens of sums ++ rest);
   next = refl;
   differs = λ same. All-at (λ other. name ≢ other) [] (column_name column) (map column_name columns) differ (sym same);
 }
 
 -- what was found for the first name is the first value of the key
-pub record NextValue (names : List Bytes) (values : TableKey) (rest : List Token) (found : Value × Bor (List Given)) : Type 0 where
+pub record NextValue (names : List Bytes) (values : TableKey) (of : Of) (sums : Sums) (rest : List Token) (found : Value × Bor (List Given)) : Type 0 where
   pub columns : List Column
   pub later : TableKey
   pub split : values ≡ found.0 ∷ later
   pub keys : IsKeyOf columns later
   pub named : names ≡ map column_name columns
-  pub next : map token_of found.1.now ≡ key_tokens columns later ++ key (codes "count") ∷ rest
+  pub next : map token_of found.1.now ≡ key_tokens columns later ++ (sums_tokens of sums ++ rest)
 
-module _ (name : Bytes) (names : List Bytes) (tokens rest : List Token) (found : Value × Bor (List Given))
+module _ (name : Bytes) (names : List Bytes) (of : Of) (sums : Sums) (tokens rest : List Token) (found : Value × Bor (List Given))
     (there : (value : ArgValue) (left : List Token) → IsOfArgument (Some value) → tokens ≡ key name ∷ (value_tokens value ++ left) → Found (Some value) left found)
     (missing : (other : Bytes) (left : List Token) → other ≢ name → tokens ≡ key other ∷ left → Found None (key other ∷ left) found) where
-  pub next_value : (columns : List Column) (values : TableKey) → AreDistinct (name ∷ names) → IsKeyOf columns values → name ∷ names ≡ map column_name columns → tokens ≡ key_tokens columns values ++ key (codes "count") ∷ rest → NextValue names values rest found
+  pub next_value : (columns : List Column) (values : TableKey) → AreDistinct (name ∷ names) → IsKeyOf columns values → name ∷ names ≡ map column_name columns → tokens ≡ key_tokens columns values ++ (sums_tokens of sums ++ rest) → NextValue names values of sums rest found
   next_value [] values distinct keys named is = absurd cc
   next_value (column ∷ columns) [] distinct keys named is = absurd keys
   next_value (column ∷ columns) (None ∷ values) distinct keys named is =
       let own : column_name column ≡ name = cc in
       let others : names ≡ map column_name columns = cc in
-      let uncounted : name ≢ codes "count" = λ same. count-name column (own ∙ same) in
-      let next = next_key name columns values rest uncounted (subst (All (λ other. name ≢ other)) others distinct.0) in
+      let uncounted : name ≢ first_number of = λ same. column_name-not_first_number of column (own ∙ same) in
+      let next = next_key name of columns values sums rest uncounted (subst (All (λ other. name ≢ other)) others distinct.0) in
       let left = missing next.other next.behind next.differs (is ∙ next.next) in
       record { columns = columns; later = values; split = ap (λ v. v ∷ values) (sym left.0); keys = keys.1; named = others; next = left.1 ∙ sym next.next }
   next_value (column ∷ columns) (Some value ∷ values) distinct keys named is =
       let own : column_name column ≡ name = cc in
       let others : names ≡ map column_name columns = cc in
-      let behind = key_tokens columns values ++ key (codes "count") ∷ rest in
+      let behind = key_tokens columns values ++ (sums_tokens of sums ++ rest) in
       let left = there value behind (IsOfArgument-any column (Some value) keys.0)
-      (is ∙ (λ i. key (own i) ∷ append_assoc (value_tokens value) (key_tokens columns values) (key (codes "count") ∷ rest) i)) in
+      (is ∙ (λ i. key (own i) ∷ append_assoc (value_tokens value) (key_tokens columns values) (sums_tokens of sums ++ rest) i)) in
       record { columns = columns; later = values; split = ap (λ v. v ∷ values) (sym left.0); keys = keys.1; named = others; next = left.1 }

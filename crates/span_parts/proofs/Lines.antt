@@ -7,6 +7,7 @@ use Rattle.span_event.specs.Text.{Bytes}
 use Rattle.span_event.specs.declared.unit.Unit.{Unit as TimeUnit}
 use Rattle.span_table.specs.declared.column.Column.{Column}
 use Rattle.span_table.specs.declared.heads.Head.{Head}
+use Rattle.span_table.specs.declared.of.Of.{Of}
 use Rattle.span_table.specs.declared.table.Row.{Row}
 use Rattle.span_table.specs.Json.{json_head}
 use Rattle.span_table.specs.Tokens.{head_tokens, row_tokens}
@@ -16,9 +17,9 @@ use Rattle.span_parts.specs.First.{MayBegin}
 use Rattle.span_parts.specs.Rows.{IsRowLine}
 
 -- the tokens of a first line are those that were printed
-pub tokens-first : (unit : TimeUnit) (columns : List Column) (rows : ℕ) (head : Head) (line : Bytes) → MayBegin columns rows head → line ++ 10 ∷ [] ≡ json_head unit columns rows head → tokens line ≡ head_tokens unit columns rows head
-tokens-first unit columns rows head line may is = ap tokens (append_cancel_right line (print (head_tokens unit columns rows head)) (10 ∷ []) (is ∙ json_head-print unit columns rows head)) ∙ tokens-head unit columns rows head may.few may.head_fits
+pub tokens-first : (of : Of) (unit : TimeUnit) (columns : List Column) (rows : ℕ) (head : Head) (line : Bytes) → MayBegin of columns rows head → line ++ 10 ∷ [] ≡ json_head of unit columns rows head → tokens line ≡ head_tokens of unit columns rows head
+tokens-first of unit columns rows head line may is = ap tokens (append_cancel_right line (print (head_tokens of unit columns rows head)) (10 ∷ []) (is ∙ json_head-print of unit columns rows head)) ∙ tokens-head of unit columns rows head may.few may.head_fits
 
 -- and those of the line of a row
-pub tokens-line : (columns : List Column) (row : Row) (line : Bytes) → IsRowLine columns line row → tokens line ≡ row_tokens columns row
-tokens-line columns row line is = ap tokens (append_cancel_right line (print (row_tokens columns row)) (10 ∷ []) (is.printed ∙ json_line-print columns row)) ∙ tokens-row columns row (IsRowOf-told columns row is.fits)
+pub tokens-line : (of : Of) (columns : List Column) (row : Row) (line : Bytes) → IsRowLine of columns line row → tokens line ≡ row_tokens of columns row
+tokens-line of columns row line is = ap tokens (append_cancel_right line (print (row_tokens of columns row)) (10 ∷ []) (is.printed ∙ json_line-print of columns row)) ∙ tokens-row of columns row (IsRowOf-told of columns row is.fits)

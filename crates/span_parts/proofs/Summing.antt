@@ -6,6 +6,7 @@ use Rattle.std.proofs.lemmas.List.Sums.{sum_by-append}
 use Rattle.std.proofs.lemmas.Grind.{flat_map-append}
 use Rattle.span_table.specs.declared.column.Column.{Column}
 use Rattle.span_table.specs.declared.heads.Head.{Head}
+use Rattle.span_table.specs.declared.of.Of.{Of}
 use Rattle.span_table.specs.declared.table.Row.{Row}
 use Rattle.span_table.specs.Adding.{add_tables, keyed_by, keyed_rows, with_columns, with_head, with_row}
 use Rattle.span_table.specs.Tables.{KeyedSums, RowsRise, SpanTable, heads_together, rows_of}
@@ -20,23 +21,23 @@ rows-then sums more = rows_of-alike (keyed_rows (rows_of sums) ++ more) (sums ++
 
 -- a table whose rows are those of some sums
 abbrev table_with : SpanTable → KeyedSums → SpanTable
-table_with table sums = record { columns = table.columns; head = table.head; rows = rows_of sums }
+table_with table sums = record { of = table.of; columns = table.columns; head = table.head; rows = rows_of sums }
 
 -- rows added one by one are those of all
 with_rows-of : (places : List ℕ) (rows : List Row) (table : SpanTable) (sums : KeyedSums) → with_rows places rows (table_with table sums) ≡ table_with table (sums ++ map (keyed_by places) rows)
 with_rows-of places [] table sums = ap (table_with table) (sym (append-nil sums))
 with_rows-of places (row ∷ rows) table sums =
-    ap (with_rows places rows) (λ i. record { columns = table.columns; head = table.head; rows = rows-then sums (keyed_by places row ∷ []) i })
+    ap (with_rows places rows) (λ i. record { of = table.of; columns = table.columns; head = table.head; rows = rows-then sums (keyed_by places row ∷ []) i })
     ∙ with_rows-of places rows table (sums ++ keyed_by places row ∷ [])
     ∙ ap (table_with table) (append_assoc sums (keyed_by places row ∷ []) (map (keyed_by places) rows))
 
 -- the head and the rows of a part added are the part added
 pub with_rows-part : (places : List ℕ) (old part : SpanTable) → RowsRise old.rows →
-    with_rows places part.rows (with_head old part.head) ≡ add_tables old.columns (old ∷ with_columns places part ∷ [])
+    with_rows places part.rows (with_head old part.head) ≡ add_tables old.of old.columns (old ∷ with_columns places part ∷ [])
 with_rows-part places old part rise =
-    ap (λ l. with_rows places part.rows (record { columns = old.columns; head = heads_together (old.head ∷ part.head ∷ []); rows = l })) (sym (rows_of-own old.rows rise))
+    ap (λ l. with_rows places part.rows (record { of = old.of; columns = old.columns; head = heads_together (old.head ∷ part.head ∷ []); rows = l })) (sym (rows_of-own old.rows rise))
     ∙ with_rows-of places part.rows (with_head old part.head) (keyed_rows old.rows)
-    ∙ (λ i. record { columns = old.columns; head = heads_together (old.head ∷ part.head ∷ []); rows = all i })
+    ∙ (λ i. record { of = old.of; columns = old.columns; head = heads_together (old.head ∷ part.head ∷ []); rows = all i })
   where
     more : KeyedSums
     more = map (keyed_by places) part.rows
@@ -52,8 +53,8 @@ with_rows-push places [] row table = refl
 with_rows-push places (first ∷ rows) row table = with_rows-push places rows row (with_row table (row_at places first))
 
 -- a table added to a sum is one more of those that it has
-pub add_tables-more : (columns : List Column) (tables : List SpanTable) (table : SpanTable) → add_tables columns (add_tables columns tables ∷ table ∷ []) ≡ add_tables columns (tables ++ table ∷ [])
-add_tables-more columns tables table = λ i. record { columns = columns; head = heads i; rows = rows i }
+pub add_tables-more : (of : Of) (columns : List Column) (tables : List SpanTable) (table : SpanTable) → add_tables of columns (add_tables of columns tables ∷ table ∷ []) ≡ add_tables of columns (tables ++ table ∷ [])
+add_tables-more of columns tables table = λ i. record { of = of; columns = columns; head = heads i; rows = rows i }
   where
     head_in : SpanTable → Head
     head_in t = t.head

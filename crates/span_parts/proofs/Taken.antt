@@ -6,6 +6,7 @@ use Rattle.std.proofs.lemmas.List.Elements.{All-cons, All-nil, All-push}
 use Rattle.span_event.specs.Text.{Bytes}
 use Rattle.span_event.specs.declared.unit.Unit.{Unit as TimeUnit}
 use Rattle.span_table.specs.declared.column.Column.{Column}
+use Rattle.span_table.specs.declared.of.Of.{Of}
 use Rattle.span_table.specs.declared.table.Row.{Row}
 use Rattle.span_table.specs.Adding.{add_tables, keyed_rows, picked, with_columns, with_head, with_row}
 use Rattle.span_table.specs.Printed.{IsPart}
@@ -23,10 +24,16 @@ with_rows-columns : (places : List ℕ) (rows : List Row) (table : SpanTable) �
 with_rows-columns places [] table = refl
 with_rows-columns places (row ∷ rows) table = with_rows-columns places rows (with_row table (row_at places row))
 
+-- and what the table sums
+with_rows-kind : (places : List ℕ) (rows : List Row) (table : SpanTable) → (with_rows places rows table).of ≡ table.of
+with_rows-kind places [] table = refl
+with_rows-kind places (row ∷ rows) table = with_rows-kind places rows (with_row table (row_at places row))
+
 -- and so does a part
-pub IsByThese-added : (unit : TimeUnit) (columns : List Column) (places : List ℕ) (text : Bytes) (old new : SpanTable) → IsByThese columns places old → IsAdded unit columns places text old new → IsByThese columns places new
-IsByThese-added unit columns places text old new by added = record {
+pub IsByThese-added : (of : Of) (unit : TimeUnit) (columns : List Column) (places : List ℕ) (text : Bytes) (old new : SpanTable) → IsByThese of columns places old → IsAdded of unit columns places text old new → IsByThese of columns places new
+IsByThese-added of unit columns places text old new by added = record {
   fit = by.fit;
+  kind = ap (λ (t : SpanTable). t.of) added.sum ∙ with_rows-kind places added.part.rows (with_head old added.part.head) ∙ by.kind;
   by = ap (λ (t : SpanTable). t.columns) added.sum ∙ with_rows-columns places added.part.rows (with_head old added.part.head) ∙ by.by;
 }
 
@@ -37,61 +44,64 @@ AreParts-push unit (other ∷ texts) [] text part are is = absurd are
 AreParts-push unit (other ∷ texts) (one ∷ parts) text part are is = (are.0, AreParts-push unit texts parts text part are.1 is)
 
 -- a sum of tables, with a part
-added-more : (columns : List Column) (places : List ℕ) (tables : List SpanTable) (old part : SpanTable) → old ≡ add_tables columns tables →
-    with_rows places part.rows (with_head old part.head) ≡ add_tables columns (tables ++ with_columns places part ∷ [])
-added-more columns places tables old part is =
+added-more : (of : Of) (columns : List Column) (places : List ℕ) (tables : List SpanTable) (old part : SpanTable) → old ≡ add_tables of columns tables →
+    with_rows places part.rows (with_head old part.head) ≡ add_tables of columns (tables ++ with_columns places part ∷ [])
+added-more of columns places tables old part is =
     with_rows-part places old part (subst (λ (t : SpanTable). RowsRise t.rows) (sym is) (RowsRise-rows_of (flat_map (λ (table : SpanTable). keyed_rows table.rows) tables)))
-    ∙ ap (λ (t : SpanTable). add_tables t.columns (t ∷ with_columns places part ∷ [])) is
-    ∙ add_tables-more columns tables (with_columns places part)
+    ∙ ap (λ (t : SpanTable). add_tables t.of t.columns (t ∷ with_columns places part ∷ [])) is
+    ∙ add_tables-more of columns tables (with_columns places part)
 
-pub TakesPart-added : (old : PartSum) (text : Bytes) (new : SpanTable) → IsAdded old.unit old.columns old.places text old.sum new → TakesPart text old (record { unit = old.unit; columns = old.columns; places = old.places; sum = new })
+pub TakesPart-added : (old : PartSum) (text : Bytes) (new : SpanTable) → IsAdded old.of old.unit old.columns old.places text old.sum new → TakesPart text old (record { of = old.of; unit = old.unit; columns = old.columns; places = old.places; sum = new })
 TakesPart-added old text new added = record {
+  of = refl;
   unit = refl;
   columns = refl;
   places = refl;
   sums = λ texts sums. record {
     parts = sums.parts ++ added.part ∷ [];
     are = AreParts-push old.unit texts sums.parts text added.part sums.are added.is;
+    kinds = All-push (λ (part : SpanTable). part.of ≡ old.of) sums.parts added.part sums.kinds added.kind;
     columns = All-push (λ (part : SpanTable). part.columns ≡ old.columns) sums.parts added.part sums.columns added.by;
-    adds = added.sum ∙ added-more (picked old.places old.columns) old.places (map (with_columns old.places) sums.parts) old.sum added.part sums.adds
-        ∙ ap (add_tables (picked old.places old.columns)) (sym (map-append (with_columns old.places) sums.parts (added.part ∷ [])));
+    adds = added.sum ∙ added-more old.of (picked old.places old.columns) old.places (map (with_columns old.places) sums.parts) old.sum added.part sums.adds
+        ∙ ap (add_tables old.of (picked old.places old.columns)) (sym (map-append (with_columns old.places) sums.parts (added.part ∷ [])));
   };
 }
 
-pub TakesFirst-added : (unit : TimeUnit) (wanted columns : List Column) (places : List ℕ) (text : Bytes) (old new : SpanTable) → AreAt places (chosen wanted columns) columns → old ≡ add_tables (chosen wanted columns) [] →
-    IsAdded unit columns places text old new → TakesFirst wanted text (record { unit = unit; columns = columns; places = places; sum = new })
-TakesFirst-added unit wanted columns places text old new at none added = record {
+pub TakesFirst-added : (of : Of) (unit : TimeUnit) (wanted columns : List Column) (places : List ℕ) (text : Bytes) (old new : SpanTable) → AreAt places (chosen wanted columns) columns → old ≡ add_tables of (chosen wanted columns) [] →
+    IsAdded of unit columns places text old new → TakesFirst wanted text (record { of = of; unit = unit; columns = columns; places = places; sum = new })
+TakesFirst-added of unit wanted columns places text old new at none added = record {
   chooses = at;
   sums = record {
     parts = added.part ∷ [];
     are = (added.is, tt);
+    kinds = All-cons (λ (part : SpanTable). part.of ≡ of) added.part [] added.kind (All-nil (λ (part : SpanTable). part.of ≡ of));
     columns = All-cons (λ (part : SpanTable). part.columns ≡ columns) added.part [] added.by (All-nil (λ (part : SpanTable). part.columns ≡ columns));
-    adds = added.sum ∙ added-more (picked places columns) places [] old added.part (none ∙ ap (λ l. add_tables l []) (sym (picked-at places (chosen wanted columns) columns at)));
+    adds = added.sum ∙ added-more of (picked places columns) places [] old added.part (none ∙ ap (λ l. add_tables of l []) (sym (picked-at places (chosen wanted columns) columns at)));
   };
 }
 
--- what refuses a part in another unit or by other columns
-pub PartFails-others : (unit second : TimeUnit) (own columns : List Column) (text : Bytes) (fault : PartFault) → (second ≡ unit → columns ≢ own) → RefusesOthers second columns text fault
-    → PartFails unit own text fault
-PartFails-others unit second own columns text NotTable differ fails = fails
-PartFails-others unit second own columns text OtherColumns differ fails =
-    record { own = second; part = fails.part; is = fails.is; other = λ one same. differ one (sym fails.by ∙ same) }
-PartFails-others unit second own columns text Memory differ fails = tt
-PartFails-others unit second own columns text TooMany differ fails = tt
+-- what refuses a part that sums something else, in another unit or by other columns
+pub PartFails-others : (of kind : Of) (unit second : TimeUnit) (own columns : List Column) (text : Bytes) (fault : PartFault) → (kind ≡ of → second ≡ unit → columns ≢ own) → RefusesOthers kind second columns text fault
+    → PartFails of unit own text fault
+PartFails-others of kind unit second own columns text NotTable differ fails = fails
+PartFails-others of kind unit second own columns text OtherColumns differ fails =
+    record { own = second; part = fails.part; is = fails.is; other = λ sums one same. differ (sym fails.kind ∙ sums) one (sym fails.by ∙ same) }
+PartFails-others of kind unit second own columns text Memory differ fails = tt
+PartFails-others of kind unit second own columns text TooMany differ fails = tt
 
-pub FirstFails-others : (unit : TimeUnit) (wanted columns : List Column) (text : Bytes) (fault : PartFault) → ((places : List ℕ) → AreAt places (chosen wanted columns) columns → ⊥)
-    → RefusesOthers unit columns text fault → FirstFails wanted text fault
-FirstFails-others unit wanted columns text NotTable none fails = fails
-FirstFails-others unit wanted columns text OtherColumns none fails = record { unit = unit; part = fails.part; is = fails.is; lacks = λ places at. none places (subst (λ l. AreAt places (chosen wanted l) l) fails.by at) }
-FirstFails-others unit wanted columns text Memory none fails = tt
-FirstFails-others unit wanted columns text TooMany none fails = tt
+pub FirstFails-others : (of : Of) (unit : TimeUnit) (wanted columns : List Column) (text : Bytes) (fault : PartFault) → ((places : List ℕ) → AreAt places (chosen wanted columns) columns → ⊥)
+    → RefusesOthers of unit columns text fault → FirstFails wanted text fault
+FirstFails-others of unit wanted columns text NotTable none fails = fails
+FirstFails-others of unit wanted columns text OtherColumns none fails = record { unit = unit; part = fails.part; is = fails.is; lacks = λ places at. none places (subst (λ l. AreAt places (chosen wanted l) l) fails.by at) }
+FirstFails-others of unit wanted columns text Memory none fails = tt
+FirstFails-others of unit wanted columns text TooMany none fails = tt
 
 -- what refuses a sum
-pub PartFails-sum : (unit : TimeUnit) (own : List Column) (text : Bytes) (fault : PartFault) → SumFails text fault → PartFails unit own text fault
-PartFails-sum unit own text NotTable fails = fails
-PartFails-sum unit own text OtherColumns fails = absurd fails
-PartFails-sum unit own text Memory fails = tt
-PartFails-sum unit own text TooMany fails = tt
+pub PartFails-sum : (of : Of) (unit : TimeUnit) (own : List Column) (text : Bytes) (fault : PartFault) → SumFails text fault → PartFails of unit own text fault
+PartFails-sum of unit own text NotTable fails = fails
+PartFails-sum of unit own text OtherColumns fails = absurd fails
+PartFails-sum of unit own text Memory fails = tt
+PartFails-sum of unit own text TooMany fails = tt
 
 pub FirstFails-sum : (wanted : List Column) (text : Bytes) (fault : PartFault) → SumFails text fault → FirstFails wanted text fault
 FirstFails-sum wanted text NotTable fails = fails

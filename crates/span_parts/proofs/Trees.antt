@@ -4,6 +4,7 @@ use Rattle.std.specs.Prelude.{flat_map}
 use Rattle.span_event.specs.Text.{Bytes}
 use Rattle.span_event.specs.declared.unit.Unit.{Unit as TimeUnit}
 use Rattle.span_table.specs.declared.column.Column.{Column}
+use Rattle.span_table.specs.declared.of.Of.{Of}
 use Rattle.span_table.specs.Adding.{add_tables, picked, with_columns}
 use Rattle.span_table.specs.Json.{text_of}
 use Rattle.span_table.specs.Printed.{IsPrint}
@@ -24,38 +25,39 @@ runs_each-all no_trees = refl
 runs_each-all (tree part parts) = ap (λ l. runs_in part ++ l) (runs_each-all parts)
 
 -- tables of the same columns that are added, each by some of them, are the table of all runs by these
-sum-runs : (columns own : List Column) (places : List ℕ) (runs : List (List Run)) → AreAt places columns own →
-    add_tables (picked places own) (map (with_columns places) (map (table_of own) runs)) ≡ table_of columns (flat_map (λ part. part) runs)
-sum-runs columns own places runs at =
-    ap (add_tables (picked places own)) (each runs) ∙ add_tables-parts (picked places own) runs ∙ ap (λ l. table_of l (flat_map (λ part. part) runs)) (picked-at places columns own at)
+sum-runs : (of : Of) (columns own : List Column) (places : List ℕ) (runs : List (List Run)) → AreAt places columns own →
+    add_tables of (picked places own) (map (with_columns places) (map (table_of of own) runs)) ≡ table_of of columns (flat_map (λ part. part) runs)
+sum-runs of columns own places runs at =
+    ap (add_tables of (picked places own)) (each runs) ∙ add_tables-parts of (picked places own) runs ∙ ap (λ l. table_of of l (flat_map (λ part. part) runs)) (picked-at places columns own at)
   where
-    each : (runs : List (List Run)) → map (with_columns places) (map (table_of own) runs) ≡ map (table_of (picked places own)) runs
+    each : (runs : List (List Run)) → map (with_columns places) (map (table_of of own) runs) ≡ map (table_of of (picked places own)) runs
     each [] = refl
-    each (part ∷ parts) = ap₂ (λ (t : SpanTable) l. t ∷ l) (table_of-picked places own part) (each parts)
+    each (part ∷ parts) = ap₂ (λ (t : SpanTable) l. t ∷ l) (table_of-picked places of own part) (each parts)
 
 mutual
   pub trees-lose_nothing : TreesLoseNothing
-  trees-lose_nothing unit columns (of_runs runs) text printed = printed
-  trees-lose_nothing unit columns (of_parts parts) text (texts, sum, each, sums, at, one, print) =
-      let tables = parts-runs unit sum.unit sum.columns parts texts sums.parts each sums.are in
+  trees-lose_nothing of unit columns (of_runs runs) text printed = printed
+  trees-lose_nothing of unit columns (of_parts parts) text (texts, sum, each, sums, at, kind, one, print) =
+      let tables = parts-runs of unit sum.unit sum.columns parts texts sums.parts each sums.are in
       subst (IsPrint unit text)
-      (sums.adds ∙ ap (λ l. add_tables (picked sum.places sum.columns) (map (with_columns sum.places) l)) tables
-      ∙ sum-runs columns sum.columns sum.places (runs_each parts) at ∙ ap (table_of columns) (runs_each-all parts))
+      (sums.adds ∙ ap (λ k. add_tables k (picked sum.places sum.columns) (map (with_columns sum.places) sums.parts)) kind
+      ∙ ap (λ l. add_tables of (picked sum.places sum.columns) (map (with_columns sum.places) l)) tables
+      ∙ sum-runs of columns sum.columns sum.places (runs_each parts) at ∙ ap (table_of of columns) (runs_each-all parts))
       print
 
   -- the parts are the tables of the runs of each tree
-  parts-runs : (unit second : TimeUnit) (columns : List Column) (parts : Trees) (texts : List Bytes) (tables : List SpanTable) → ArePrinted unit columns parts texts → AreParts second texts tables → tables ≡ map (table_of columns) (runs_each parts)
-  parts-runs unit second columns no_trees [] [] printed are = refl
-  parts-runs unit second columns no_trees [] (table ∷ tables) printed are = absurd are
-  parts-runs unit second columns no_trees (text ∷ texts) tables printed are = absurd printed
-  parts-runs unit second columns (tree part parts) [] tables printed are = absurd printed
-  parts-runs unit second columns (tree part parts) (text ∷ texts) [] printed are = absurd are
-  parts-runs unit second columns (tree part parts) (text ∷ texts) (table ∷ tables) printed are =
+  parts-runs : (of : Of) (unit second : TimeUnit) (columns : List Column) (parts : Trees) (texts : List Bytes) (tables : List SpanTable) → ArePrinted of unit columns parts texts → AreParts second texts tables → tables ≡ map (table_of of columns) (runs_each parts)
+  parts-runs of unit second columns no_trees [] [] printed are = refl
+  parts-runs of unit second columns no_trees [] (table ∷ tables) printed are = absurd are
+  parts-runs of unit second columns no_trees (text ∷ texts) tables printed are = absurd printed
+  parts-runs of unit second columns (tree part parts) [] tables printed are = absurd printed
+  parts-runs of unit second columns (tree part parts) (text ∷ texts) [] printed are = absurd are
+  parts-runs of unit second columns (tree part parts) (text ∷ texts) (table ∷ tables) printed are =
       ap₂ (λ (t : SpanTable) l. t ∷ l)
-      (part-table_of columns (runs_in part) second unit text table are.0 (trees-lose_nothing unit columns part text printed.0)).1
-      (parts-runs unit second columns parts texts tables printed.1 are.1)
+      (part-table_of of columns (runs_in part) second unit text table are.0 (trees-lose_nothing of unit columns part text printed.0)).1
+      (parts-runs of unit second columns parts texts tables printed.1 are.1)
 
 -- so two trees of the same runs are printed alike
 pub trees-print_alike : TreesPrintAlike
-trees-print_alike unit columns one other text told moved first second =
-    (trees-lose_nothing unit columns one text first).printed ∙ ap (text_of unit) (table_of-moved columns (runs_in one) (runs_in other) moved) ∙ sym (trees-lose_nothing unit columns other told second).printed
+trees-print_alike of unit columns one other text told moved first second =
+    (trees-lose_nothing of unit columns one text first).printed ∙ ap (text_of unit) (table_of-moved of columns (runs_in one) (runs_in other) moved) ∙ sym (trees-lose_nothing of unit columns other told second).printed

@@ -5,6 +5,7 @@ use Rattle.json.specs.Print.{print}
 use Rattle.span_event.specs.Text.{Bytes}
 use Rattle.span_event.specs.declared.unit.Unit.{Unit as TimeUnit}
 use Rattle.span_table.specs.declared.column.Column.{Column}
+use Rattle.span_table.specs.declared.of.Of.{Of}
 use Rattle.span_table.specs.declared.table.Row.{Row}
 use Rattle.span_table.specs.Adding.{with_head}
 use Rattle.span_table.specs.Json.{json_head, json_line}
@@ -22,40 +23,40 @@ use Rattle.span_parts.specs.Sum.{IsAdded, IsNoPart, RefusesOthers, SumFails}
 use Rattle.span_parts.proofs.Added.{EndsLine}
 
 -- how a part begins
-pub begins_so : (unit : TimeUnit) (text : Bytes) (part : SpanTable) → IsPart unit text part → MayBegin part.columns (length part.rows) part.head
+pub begins_so : (unit : TimeUnit) (text : Bytes) (part : SpanTable) → IsPart unit text part → MayBegin part.of part.columns (length part.rows) part.head
 begins_so unit text part is = record { columns_fit = is.is.columns; few = is.is.few; head_fits = is.is.head }
 
 -- a text without a line that ends is none
 pub no_line-part : (text : Bytes) → ((xs ys : Bytes) → text ≡ xs ++ 10 ∷ ys → All (λ byte. byte ≢ 10) xs → ⊥) → IsNoPart text
 no_line-part text none unit part is =
-    let told = print (head_tokens unit part.columns (length part.rows) part.head) in
-    let lines = flat_map (json_line part.columns) part.rows in
+    let told = print (head_tokens part.of unit part.columns (length part.rows) part.head) in
+    let lines = flat_map (json_line part.of part.columns) part.rows in
     none told lines
-    (is.printed ∙ ap (λ l. l ++ lines) (json_head-print unit part.columns (length part.rows) part.head) ∙ append_assoc told (10 ∷ []) lines)
-    (print_head-line unit part.columns (length part.rows) part.head is.is.few is.is.head)
+    (is.printed ∙ ap (λ l. l ++ lines) (json_head-print part.of unit part.columns (length part.rows) part.head) ∙ append_assoc told (10 ∷ []) lines)
+    (print_head-line part.of unit part.columns (length part.rows) part.head is.is.few is.is.head)
 
 module _ (text line rest : Bytes) (ends : EndsLine text line rest) (unit : TimeUnit) (part : SpanTable) (is : IsPart unit text part) where
-  cut : (line ≡ print (head_tokens unit part.columns (length part.rows) part.head)) × (rest ≡ flat_map (json_line part.columns) part.rows)
+  cut : (line ≡ print (head_tokens part.of unit part.columns (length part.rows) part.head)) × (rest ≡ flat_map (json_line part.of part.columns) part.rows)
   cut =
-      let told = print (head_tokens unit part.columns (length part.rows) part.head) in
-      let lines = flat_map (json_line part.columns) part.rows in
+      let told = print (head_tokens part.of unit part.columns (length part.rows) part.head) in
+      let lines = flat_map (json_line part.of part.columns) part.rows in
       ends told lines
-      (is.printed ∙ ap (λ l. l ++ lines) (json_head-print unit part.columns (length part.rows) part.head) ∙ append_assoc told (10 ∷ []) lines)
-      (print_head-line unit part.columns (length part.rows) part.head is.is.few is.is.head)
+      (is.printed ∙ ap (λ l. l ++ lines) (json_head-print part.of unit part.columns (length part.rows) part.head) ∙ append_assoc told (10 ∷ []) lines)
+      (print_head-line part.of unit part.columns (length part.rows) part.head is.is.few is.is.head)
 
   -- its first line
-  pub line-part : line ++ 10 ∷ [] ≡ json_head unit part.columns (length part.rows) part.head
-  line-part = ap (λ l. l ++ 10 ∷ []) cut.0 ∙ sym (json_head-print unit part.columns (length part.rows) part.head)
+  pub line-part : line ++ 10 ∷ [] ≡ json_head part.of unit part.columns (length part.rows) part.head
+  line-part = ap (λ l. l ++ 10 ∷ []) cut.0 ∙ sym (json_head-print part.of unit part.columns (length part.rows) part.head)
 
   -- and what is behind it
-  pub rest-part : rest ≡ flat_map (json_line part.columns) part.rows
+  pub rest-part : rest ≡ flat_map (json_line part.of part.columns) part.rows
   rest-part = cut.1
 
 module _ (text rest : Bytes) (first : FirstLine) (begins : Begins text first rest) where
   -- with its rows a text that begins so is a part
-  pub IsAdded-rows : (places : List ℕ) (old new : SpanTable) → AllAdded first.columns.items places rest first.rows (with_head old first.head) new → IsAdded first.unit first.columns.items places text old new
+  pub IsAdded-rows : (places : List ℕ) (old new : SpanTable) → AllAdded first.of first.columns.items places rest first.rows (with_head old first.head) new → IsAdded first.of first.unit first.columns.items places text old new
   IsAdded-rows places old new added = record {
-    part = record { columns = first.columns.items; head = first.head; rows = added.rows };
+    part = record { of = first.of; columns = first.columns.items; head = first.head; rows = added.rows };
     is = record {
       is = record {
         columns = begins.may.columns_fit;
@@ -65,33 +66,35 @@ module _ (text rest : Bytes) (first : FirstLine) (begins : Begins text first res
         rise = added.are.rise;
       };
       utf8 = begins.utf8;
-      printed = begins.printed ∙ (λ i. json_head first.unit first.columns.items (sym added.so_many i) first.head ++ added.are.lines i);
+      printed = begins.printed ∙ (λ i. json_head first.of first.unit first.columns.items (sym added.so_many i) first.head ++ added.are.lines i);
     };
+    kind = refl;
     by = refl;
     sum = added.sum;
   }
 
   -- without them it is none
-  pub IsNoPart-rows : ((rows : List Row) → AreRows first.columns.items rest rows → length rows ≡ first.rows → ⊥) → IsNoPart text
+  pub IsNoPart-rows : ((rows : List Row) → AreRows first.of first.columns.items rest rows → length rows ≡ first.rows → ⊥) → IsNoPart text
   IsNoPart-rows none unit part is =
+      let kind = begins.of unit part is in
       let same = begins.columns unit part is in
       none part.rows
       (record {
-        each = subst (λ l. All (IsRowOf l) part.rows) same is.is.rows;
+        each = subst (λ l. All (IsRowOf first.of l) part.rows) same (subst (λ k. All (IsRowOf k part.columns) part.rows) kind is.is.rows);
         rise = is.is.rise;
-        lines = begins.lines unit part is ∙ ap (λ l. flat_map (json_line l) part.rows) same;
+        lines = begins.lines unit part is ∙ (λ i. flat_map (json_line (kind i) (same i)) part.rows);
       })
       (begins.rows unit part is)
 
-  pub SumFails-rows : (fault : PartFault) → RowsFail first.columns.items rest first.rows fault → SumFails text fault
+  pub SumFails-rows : (fault : PartFault) → RowsFail first.of first.columns.items rest first.rows fault → SumFails text fault
   SumFails-rows NotTable fails = IsNoPart-rows fails
   SumFails-rows OtherColumns fails = fails
   SumFails-rows Memory fails = tt
   SumFails-rows TooMany fails = tt
 
 -- a sum that is refused refuses what has other columns
-pub RefusesOthers-sum : (unit : TimeUnit) (columns : List Column) (text : Bytes) (fault : PartFault) → SumFails text fault → RefusesOthers unit columns text fault
-RefusesOthers-sum unit columns text NotTable fails = fails
-RefusesOthers-sum unit columns text OtherColumns fails = absurd fails
-RefusesOthers-sum unit columns text Memory fails = tt
-RefusesOthers-sum unit columns text TooMany fails = tt
+pub RefusesOthers-sum : (of : Of) (unit : TimeUnit) (columns : List Column) (text : Bytes) (fault : PartFault) → SumFails text fault → RefusesOthers of unit columns text fault
+RefusesOthers-sum of unit columns text NotTable fails = fails
+RefusesOthers-sum of unit columns text OtherColumns fails = absurd fails
+RefusesOthers-sum of unit columns text Memory fails = tt
+RefusesOthers-sum of unit columns text TooMany fails = tt

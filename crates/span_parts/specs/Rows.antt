@@ -5,6 +5,7 @@ use Rattle.span_event.specs.Text.{Bytes}
 use Rattle.span_parts.specs.declared.fault.PartFault.{PartFault}
 use Rattle.span_parts.specs.declared.fault.PartFault.TheVariants.{NotTable, OtherColumns, Memory, TooMany}
 use Rattle.span_table.specs.declared.column.Column.{Column}
+use Rattle.span_table.specs.declared.of.Of.{Of}
 use Rattle.span_table.specs.declared.table.Row.{Row}
 use Rattle.span_table.specs.Adding.{picked, with_row}
 use Rattle.span_table.specs.Json.{json_line}
@@ -13,9 +14,9 @@ use Rattle.span_table.specs.Printed.{IsRowOf}
 use Rattle.span_table.specs.Tables.{RowsRise, SpanTable}
 
 -- the line, without its end, is that of this row
-pub record IsRowLine (columns : List Column) (line : Bytes) (row : Row) : Type 0 where
-  pub fits : IsRowOf columns row
-  pub printed : line ++ 10 ∷ [] ≡ json_line columns row
+pub record IsRowLine (of : Of) (columns : List Column) (line : Bytes) (row : Row) : Type 0 where
+  pub fits : IsRowOf of columns row
+  pub printed : line ++ 10 ∷ [] ≡ json_line of columns row
 
 -- the row with these values of its key
 abbrev pub row_at : List ℕ → Row → Row
@@ -37,56 +38,56 @@ abbrev pub with_rows : List ℕ → List Row → SpanTable → SpanTable
 with_rows places rows table = fold with_row table (map (row_at places) rows)
 
 -- rows of a part by these columns, and their lines
-pub record AreRows (columns : List Column) (text : Bytes) (rows : List Row) : Type 0 where
-  pub each : All (IsRowOf columns) rows
+pub record AreRows (of : Of) (columns : List Column) (text : Bytes) (rows : List Row) : Type 0 where
+  pub each : All (IsRowOf of columns) rows
   pub rise : RowsRise rows
-  pub lines : text ≡ flat_map (json_line columns) rows
+  pub lines : text ≡ flat_map (json_line of columns) rows
 
 -- the rows of a text begin with these, and the rest has the lines of the others
-pub record BeginWith (columns : List Column) (rest : Bytes) (done all : List Row) : Type 0 where
+pub record BeginWith (of : Of) (columns : List Column) (rest : Bytes) (done all : List Row) : Type 0 where
   pub later : List Row
   pub split : all ≡ done ++ later
-  pub lines : rest ≡ flat_map (json_line columns) later
+  pub lines : rest ≡ flat_map (json_line of columns) later
 
 -- these rows were read of a text, up to the rest of it, and added
-pub record AreAdded (columns : List Column) (places : List ℕ) (text rest : Bytes) (done : ℕ) (newest : Option Row) (old new : SpanTable) : Type 0 where
+pub record AreAdded (of : Of) (columns : List Column) (places : List ℕ) (text rest : Bytes) (done : ℕ) (newest : Option Row) (old new : SpanTable) : Type 0 where
   pub rows : List Row
-  pub each : All (IsRowOf columns) rows
+  pub each : All (IsRowOf of columns) rows
   pub rise : RowsRise rows
   pub count : length rows ≡ done
   pub last : last_row rows ≡ newest
-  pub read : text ≡ flat_map (json_line columns) rows ++ rest
-  pub only : (all : List Row) → AreRows columns text all → BeginWith columns rest rows all
+  pub read : text ≡ flat_map (json_line of columns) rows ++ rest
+  pub only : (all : List Row) → AreRows of columns text all → BeginWith of columns rest rows all
   pub sum : new ≡ with_rows places rows old
 
 -- all rows of a text, so many, were read and added
-pub record AllAdded (columns : List Column) (places : List ℕ) (text : Bytes) (count : ℕ) (old new : SpanTable) : Type 0 where
+pub record AllAdded (of : Of) (columns : List Column) (places : List ℕ) (text : Bytes) (count : ℕ) (old new : SpanTable) : Type 0 where
   pub rows : List Row
-  pub are : AreRows columns text rows
+  pub are : AreRows of columns text rows
   pub so_many : length rows ≡ count
   pub sum : new ≡ with_rows places rows old
 
 -- the text is not that of so many rows
-abbrev pub AreNoRows : List Column → Bytes → ℕ → Type 0
-AreNoRows columns text count = (rows : List Row) → AreRows columns text rows → length rows ≡ count → ⊥
+abbrev pub AreNoRows : Of → List Column → Bytes → ℕ → Type 0
+AreNoRows of columns text count = (rows : List Row) → AreRows of columns text rows → length rows ≡ count → ⊥
 
 -- the line is that of this row, which comes after the last one
-abbrev pub IsNextRow : List Column → Bytes → Option Row → Row → Type 0
-IsNextRow columns line last row = IsRowLine columns line row × (comes_after row last ≡ true)
+abbrev pub IsNextRow : Of → List Column → Bytes → Option Row → Row → Type 0
+IsNextRow of columns line last row = IsRowLine of columns line row × (comes_after row last ≡ true)
 
 -- why there is no next row
-abbrev pub RowFails : List Column → Bytes → Option Row → PartFault → Type 0
-RowFails columns line last NotTable = (row : Row) → IsNextRow columns line last row → ⊥
-RowFails columns line last OtherColumns = ⊥
-RowFails columns line last Memory = Unit {0}
-RowFails columns line last TooMany = Unit {0}
+abbrev pub RowFails : Of → List Column → Bytes → Option Row → PartFault → Type 0
+RowFails of columns line last NotTable = (row : Row) → IsNextRow of columns line last row → ⊥
+RowFails of columns line last OtherColumns = ⊥
+RowFails of columns line last Memory = Unit {0}
+RowFails of columns line last TooMany = Unit {0}
 
 -- why rows are not added: they are none, or of the sum's doing
-abbrev pub RowsFail : List Column → Bytes → ℕ → PartFault → Type 0
-RowsFail columns text count NotTable = AreNoRows columns text count
-RowsFail columns text count OtherColumns = ⊥
-RowsFail columns text count Memory = Unit {0}
-RowsFail columns text count TooMany = Unit {0}
+abbrev pub RowsFail : Of → List Column → Bytes → ℕ → PartFault → Type 0
+RowsFail of columns text count NotTable = AreNoRows of columns text count
+RowsFail of columns text count OtherColumns = ⊥
+RowsFail of columns text count Memory = Unit {0}
+RowsFail of columns text count TooMany = Unit {0}
 
 -- a fault that says nothing of a text
 abbrev pub IsOfSum : PartFault → Type 0

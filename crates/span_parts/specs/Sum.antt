@@ -6,21 +6,24 @@ use Rattle.span_event.specs.declared.unit.Unit.{Unit as TimeUnit}
 use Rattle.span_parts.specs.declared.fault.PartFault.{PartFault}
 use Rattle.span_parts.specs.declared.fault.PartFault.TheVariants.{NotTable, OtherColumns, Memory, TooMany}
 use Rattle.span_table.specs.declared.column.Column.{Column}
+use Rattle.span_table.specs.declared.of.Of.{Of}
 use Rattle.span_table.specs.Adding.{add_tables, picked, with_columns, with_head}
 use Rattle.span_table.specs.Printed.{AreColumns, IsPart}
 use Rattle.span_table.specs.Tables.{SpanTable}
 use Rattle.span_parts.specs.Rows.{with_rows}
 
--- what a sum of parts is seen as: the unit and the columns of each part, which of these the sum has, and the sum
+-- what a sum of parts is seen as: what each part sums, the unit and the columns of each, which of these the sum has, and the sum
 pub record PartSum : Type 0 where
+  pub of : Of
   pub unit : TimeUnit
   pub columns : List Column
   pub places : List ℕ
   pub sum : SpanTable
 
--- a sum of parts by such columns is by those of them that it has
-pub record IsByThese (columns : List Column) (places : List ℕ) (sum : SpanTable) : Type 0 where
-  pub fit : AreColumns columns
+-- a sum of parts that sum this, by such columns, sums this too, and is by those of the columns that it has
+pub record IsByThese (of : Of) (columns : List Column) (places : List ℕ) (sum : SpanTable) : Type 0 where
+  pub fit : AreColumns of columns
+  pub kind : sum.of ≡ of
   pub by : sum.columns ≡ picked places columns
 
 -- the columns that are asked for; where none is, all
@@ -42,15 +45,17 @@ AreParts unit [] [] = Unit {0}
 AreParts unit (text ∷ texts) (part ∷ parts) = IsPart unit text part × AreParts unit texts parts
 AreParts unit texts parts = ⊥
 
--- the parts of these texts are added, each by the columns of the sum
+-- the parts of these texts are added, of which each sums what the sum does, and by the columns of the sum
 pub record SumsParts (texts : List Bytes) (sum : PartSum) : Type 0 where
   pub parts : List SpanTable
   pub are : AreParts sum.unit texts parts
+  pub kinds : All (λ part. part.of ≡ sum.of) parts
   pub columns : All (λ part. part.columns ≡ sum.columns) parts
-  pub adds : sum.sum ≡ add_tables (picked sum.places sum.columns) (map (with_columns sum.places) parts)
+  pub adds : sum.sum ≡ add_tables sum.of (picked sum.places sum.columns) (map (with_columns sum.places) parts)
 
--- one sum is that of another's parts and of one part more, in the same unit and by the same columns
+-- one sum is that of another's parts and of one part more, which sums the same, in the same unit and by the same columns
 pub record TakesPart (text : Bytes) (old new : PartSum) : Type 0 where
+  pub of : new.of ≡ old.of
   pub unit : new.unit ≡ old.unit
   pub columns : new.columns ≡ old.columns
   pub places : new.places ≡ old.places
@@ -61,8 +66,9 @@ pub record TakesFirst (wanted : List Column) (text : Bytes) (sum : PartSum) : Ty
   pub chooses : Chooses wanted sum
   pub sums : SumsParts (text ∷ []) sum
 
--- the sum of no parts, in the same unit and by the same columns as another
+-- the sum of no parts, which sums the same as another, in the same unit and by the same columns
 pub record TakesNone (other sum : PartSum) : Type 0 where
+  pub of : sum.of ≡ other.of
   pub unit : sum.unit ≡ other.unit
   pub columns : sum.columns ≡ other.columns
   pub places : sum.places ≡ other.places
@@ -72,18 +78,19 @@ pub record TakesNone (other sum : PartSum) : Type 0 where
 abbrev pub IsNoPart : Bytes → Type 0
 IsNoPart text = (unit : TimeUnit) (part : SpanTable) → IsPart unit text part → ⊥
 
--- the text is of a table in this unit, by these columns
-pub record HasColumns (unit : TimeUnit) (columns : List Column) (text : Bytes) : Type 0 where
+-- the text is of a table that sums this, in this unit, by these columns
+pub record HasColumns (of : Of) (unit : TimeUnit) (columns : List Column) (text : Bytes) : Type 0 where
   pub part : SpanTable
   pub is : IsPart unit text part
+  pub kind : part.of ≡ of
   pub by : part.columns ≡ columns
 
--- the text is of a table in another unit, or by other columns
-pub record HasOtherColumns (unit : TimeUnit) (columns : List Column) (text : Bytes) : Type 0 where
+-- the text is of a table that sums something else, in another unit, or by other columns
+pub record HasOtherColumns (of : Of) (unit : TimeUnit) (columns : List Column) (text : Bytes) : Type 0 where
   pub own : TimeUnit
   pub part : SpanTable
   pub is : IsPart own text part
-  pub other : own ≡ unit → part.columns ≢ columns
+  pub other : part.of ≡ of → own ≡ unit → part.columns ≢ columns
 
 -- the text is of a table that lacks a column that is asked for
 pub record LacksColumn (wanted : List Column) (text : Bytes) : Type 0 where
@@ -99,12 +106,12 @@ FirstFails wanted text OtherColumns = LacksColumn wanted text
 FirstFails wanted text Memory = Unit {0}
 FirstFails wanted text TooMany = Unit {0}
 
--- why one of several in this unit and by these columns is not added
-abbrev pub PartFails : TimeUnit → List Column → Bytes → PartFault → Type 0
-PartFails unit columns text NotTable = IsNoPart text
-PartFails unit columns text OtherColumns = HasOtherColumns unit columns text
-PartFails unit columns text Memory = Unit {0}
-PartFails unit columns text TooMany = Unit {0}
+-- why one of several that sum this, in this unit and by these columns, is not added
+abbrev pub PartFails : Of → TimeUnit → List Column → Bytes → PartFault → Type 0
+PartFails of unit columns text NotTable = IsNoPart text
+PartFails of unit columns text OtherColumns = HasOtherColumns of unit columns text
+PartFails of unit columns text Memory = Unit {0}
+PartFails of unit columns text TooMany = Unit {0}
 
 -- why a text doesn't begin as a part does
 abbrev pub FailsToBegin : Bytes → PartFault → Type 0
@@ -118,11 +125,12 @@ abbrev pub FindsPlaces : List Column → List Column → Option (Vec ℕ) → Ty
 FindsPlaces wanted columns None = (places : List ℕ) → AreAt places wanted columns → ⊥
 FindsPlaces wanted columns (Some found) = AreAt found.items wanted columns
 
--- The part of this text was added, in this unit and by these columns: its head and its rows, each with the values at these places of
--- its key.
-pub record IsAdded (unit : TimeUnit) (columns : List Column) (places : List ℕ) (text : Bytes) (old new : SpanTable) : Type 0 where
+-- the part of this text, which sums this, in this unit and by these columns, was added: its head and its rows, each with the values at
+-- these places of its key
+pub record IsAdded (of : Of) (unit : TimeUnit) (columns : List Column) (places : List ℕ) (text : Bytes) (old new : SpanTable) : Type 0 where
   pub part : SpanTable
   pub is : IsPart unit text part
+  pub kind : part.of ≡ of
   pub by : part.columns ≡ columns
   pub sum : new ≡ with_rows places part.rows (with_head old part.head)
 
@@ -133,9 +141,9 @@ SumFails text OtherColumns = ⊥
 SumFails text Memory = Unit {0}
 SumFails text TooMany = Unit {0}
 
--- why a text that begins well is refused though it may be a part: for its unit or its columns
-abbrev pub RefusesOthers : TimeUnit → List Column → Bytes → PartFault → Type 0
-RefusesOthers unit columns text NotTable = IsNoPart text
-RefusesOthers unit columns text OtherColumns = HasColumns unit columns text
-RefusesOthers unit columns text Memory = Unit {0}
-RefusesOthers unit columns text TooMany = Unit {0}
+-- why a text that begins well is refused though it may be a part: for what it sums, its unit or its columns
+abbrev pub RefusesOthers : Of → TimeUnit → List Column → Bytes → PartFault → Type 0
+RefusesOthers of unit columns text NotTable = IsNoPart text
+RefusesOthers of unit columns text OtherColumns = HasColumns of unit columns text
+RefusesOthers of unit columns text Memory = Unit {0}
+RefusesOthers of unit columns text TooMany = Unit {0}

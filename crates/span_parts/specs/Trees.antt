@@ -4,6 +4,7 @@ use Rattle.std.specs.List.Sorted.{IsPermutation}
 use Rattle.span_event.specs.Text.{Bytes}
 use Rattle.span_event.specs.declared.unit.Unit.{Unit as TimeUnit}
 use Rattle.span_table.specs.declared.column.Column.{Column}
+use Rattle.span_table.specs.declared.of.Of.{Of}
 use Rattle.span_table.specs.Printed.{IsPrint}
 use Rattle.span_table.specs.Tables.{Run, table_of}
 use Rattle.span_parts.specs.Sum.{AreAt, PartSum, SumsParts}
@@ -29,26 +30,25 @@ abbrev mutual
   runs_in_all (tree part parts) = runs_in part ++ runs_in_all parts
 
 abbrev mutual
-  -- The text is printed of a tree, in this unit and by these columns: it is that of the table of its runs; or of a sum, by these
-  -- columns of its parts, each of which was printed so, and read back.
-  pub IsPrinted : TimeUnit → List Column → Tree → Bytes → Type 0
-  IsPrinted unit columns (of_runs runs) text = IsPrint unit text (table_of columns runs)
-  IsPrinted unit columns (of_parts parts) text =
-      (texts : List Bytes) × (sum : PartSum) × ArePrinted unit sum.columns parts texts × SumsParts texts sum × AreAt sum.places columns sum.columns ×
-      (sum.unit ≡ unit) × IsPrint unit text sum.sum
+  -- The text is printed of a tree, summing this, in this unit and by these columns: it is that of the table of its runs; or of a sum, by
+  -- these columns of its parts, each of which was printed so, and read back.
+  pub IsPrinted : Of → TimeUnit → List Column → Tree → Bytes → Type 0
+  IsPrinted of unit columns (of_runs runs) text = IsPrint unit text (table_of of columns runs)
+  IsPrinted of unit columns (of_parts parts) text =
+      (texts : List Bytes) × (sum : PartSum) × ArePrinted of unit sum.columns parts texts × SumsParts texts sum × AreAt sum.places columns sum.columns ×
+      (sum.of ≡ of) × (sum.unit ≡ unit) × IsPrint unit text sum.sum
 
-  pub ArePrinted : TimeUnit → List Column → Trees → List Bytes → Type 0
-  ArePrinted unit columns no_trees [] = Unit {0}
-  ArePrinted unit columns no_trees (text ∷ texts) = ⊥
-  ArePrinted unit columns (tree part parts) [] = ⊥
-  ArePrinted unit columns (tree part parts) (text ∷ texts) = IsPrinted unit columns part text × ArePrinted unit columns parts texts
+  pub ArePrinted : Of → TimeUnit → List Column → Trees → List Bytes → Type 0
+  ArePrinted of unit columns no_trees [] = Unit {0}
+  ArePrinted of unit columns no_trees (text ∷ texts) = ⊥
+  ArePrinted of unit columns (tree part parts) [] = ⊥
+  ArePrinted of unit columns (tree part parts) (text ∷ texts) = IsPrinted of unit columns part text × ArePrinted of unit columns parts texts
 
 -- whatever the tree, what is printed is the table of all its runs
 abbrev pub TreesLoseNothing : Type 0
-TreesLoseNothing = (unit : TimeUnit) (columns : List Column) (whole : Tree) (text : Bytes) → IsPrinted unit columns whole text →
-    IsPrint unit text (table_of columns (runs_in whole))
+TreesLoseNothing = (of : Of) (unit : TimeUnit) (columns : List Column) (whole : Tree) (text : Bytes) → IsPrinted of unit columns whole text → IsPrint unit text (table_of of columns (runs_in whole))
 
 -- two trees of the same runs, in whatever order, are printed alike
 abbrev pub TreesPrintAlike : Type 0
-TreesPrintAlike = (unit : TimeUnit) (columns : List Column) (one other : Tree) (text told : Bytes) → IsPermutation (runs_in one) (runs_in other) →
-    IsPrinted unit columns one text → IsPrinted unit columns other told → text ≡ told
+TreesPrintAlike = (of : Of) (unit : TimeUnit) (columns : List Column) (one other : Tree) (text told : Bytes) → IsPermutation (runs_in one) (runs_in other) →
+    IsPrinted of unit columns one text → IsPrinted of unit columns other told → text ≡ told

@@ -7,7 +7,7 @@ use std::alloc::AllocError;
 pub enum PartFault {
     /// The text is not that of a table that was printed.
     NotTable,
-    /// Its unit or its columns are not those of the parts before it, or it lacks a column that is asked for.
+    /// What it sums, its unit or its columns are not those of the parts before it, or it lacks a column that is asked for.
     OtherColumns,
     /// Memory was refused.
     Memory,

@@ -11,13 +11,15 @@ ghost use Rattle.span_event.specs.declared.args.ArgValue.TheVariants.{Whole};
 ghost use Rattle.span_event.specs.declared.unit.Unit.{Unit as TheUnit};
 ghost use Rattle.span_table.specs.declared.column.Column.{Column as TheColumn};
 ghost use Rattle.span_table.specs.declared.heads.Head.{Head as TheHead};
+ghost use Rattle.span_table.specs.declared.of.Of.{Of as TheOf};
+ghost use Rattle.span_table.specs.declared.of.Of.TheVariants.{Async, Spans};
 ghost use Rattle.span_table.specs.declared.sums.Sums.{Sums as TheSums};
 ghost use Rattle.span_table.specs.declared.table.Row.{Row as TheRow};
 ghost use Rattle.span_table.specs.Columns.{column_name};
 ghost use Rattle.span_table.specs.Json.{fit, head_fits};
 ghost use Rattle.span_table.specs.Keys.{TableKey};
-ghost use Rattle.span_table.specs.Printed.{AreColumns, AreDistinct, IsKeyOf, IsOfArgument, IsRowOf};
-ghost use Rattle.span_table.specs.Tokens.{counts_tokens, head_tokens, key_tokens, name_tokens, number_tokens, numbers_tokens, row_tokens, sums_tokens, unit_tokens, value_tokens};
+ghost use Rattle.span_table.specs.Printed.{AreColumns, AreDistinct, HasOwn, IsKeyOf, IsOfArgument, IsRowOf};
+ghost use Rattle.span_table.specs.Tokens.{counts_tokens, head_tokens, key_tokens, name_tokens, number_tokens, numbers_tokens, of_tokens, row_tokens, sums_tokens, unit_tokens, value_tokens};
 ghost use Rattle.span_parts.specs.First.{MayBegin, Says};
 ghost use Rattle.span_parts.specs.Guess.{Finds, Found, Leaves, MayFollow};
 
@@ -25,12 +27,13 @@ use crate::heads::MOST_COLUMNS;
 use crate::tokens::{after_one, key_after, number_after, text_after};
 use json::Token;
 use span_event::{ArgValue, Text, Unit};
-use span_table::{Column, Head, HeadCounts, Key, Row, Sum, Sums};
+use span_table::{Column, Head, HeadCounts, Key, Of, Row, Sum, Sums};
 use std::alloc::{AllocError, Global};
 
-/// The unit, the columns, the number of rows and the head of a first line.
+/// What a first line says: what is summed, the unit, the columns, the number of rows and the head.
 #[derive(Drop)]
 pub(crate) struct FirstLine {
+    pub(crate) of: Of,
     pub(crate) unit: Unit,
     pub(crate) columns: Vec<Column>,
     pub(crate) rows: u64,
@@ -41,11 +44,15 @@ pub(crate) fn first_line_of(
     alloc: Global,
     tokens: &[Token],
 ) -> Result<Option<FirstLine>, AllocError>
-    ensures { IfOk result (λ found. (unit : TheUnit) (columns : List TheColumn) (rows : ℕ) (head : TheHead) → MayBegin columns rows head
-        → map token_of tokens.now ≡ head_tokens unit columns rows head → Says unit columns rows head found) }
+    ensures { IfOk result (λ found. (of : TheOf) (unit : TheUnit) (columns : List TheColumn) (rows : ℕ) (head : TheHead)
+        → MayBegin of columns rows head → map token_of tokens.now ≡ head_tokens of unit columns rows head
+        → Says of unit columns rows head found) }
 {
     let mut columns = Vec::new(alloc);
-    let Some((unit, rest)) = unit_of(tokens) else {
+    let Some((of, rest)) = of_after(tokens) else {
+        return Ok(None);
+    };
+    let Some((unit, rest)) = unit_after(rest) else {
         return Ok(None);
     };
     let Some(rest) = put_columns(alloc, rest, &mut columns)? else {
@@ -56,6 +63,7 @@ pub(crate) fn first_line_of(
     };
     match head_of(rest) {
         Some((rows, head)) => Ok(Some(FirstLine {
+            of,
             unit,
             columns,
             rows,
@@ -65,15 +73,27 @@ pub(crate) fn first_line_of(
     }
 }
 
-// The unit that is said behind `{"tracebook":1`, and what is behind `"columns":[`.
-fn unit_of<'t, 'a>(tokens: &'t [Token<'a>]) -> Option<(Unit, &'t [Token<'a>])>
-    ensures { (unit : TheUnit) (a b c d : Told) (rest : List Told)
-        → map token_of tokens.now ≡ a ∷ b ∷ c ∷ (unit_tokens unit ++ key (codes "columns") ∷ d ∷ rest) → Finds unit rest result }
+// What is summed, as is said behind `{"tracebook":1`, and what is behind that.
+fn of_after<'t, 'a>(tokens: &'t [Token<'a>]) -> Option<(Of, &'t [Token<'a>])>
+    ensures { (of : TheOf) (unit : TheUnit) (a b c : Told) (rest : List Told)
+        → map token_of tokens.now ≡ a ∷ b ∷ c ∷ (of_tokens of ++ (unit_tokens unit ++ key (codes "columns") ∷ rest))
+        → Finds of (unit_tokens unit ++ key (codes "columns") ∷ rest) result }
 {
     let version = after_one(after_one(after_one(tokens)?)?)?;
-    let (unit, rest) = match key_after(version, "unit") {
+    match key_after(version, "of") {
+        Some(rest) => Some((Of::Async, after_one(rest)?)),
+        None => Some((Of::Spans, version)),
+    }
+}
+
+// The unit that is said next, and what is behind `"columns":[`.
+fn unit_after<'t, 'a>(tokens: &'t [Token<'a>]) -> Option<(Unit, &'t [Token<'a>])>
+    ensures { (unit : TheUnit) (array : Told) (rest : List Told)
+        → map token_of tokens.now ≡ unit_tokens unit ++ key (codes "columns") ∷ array ∷ rest → Finds unit rest result }
+{
+    let (unit, rest) = match key_after(tokens, "unit") {
         Some(rest) => (Unit::Nanoseconds, after_one(rest)?),
-        None => (Unit::Microseconds, version),
+        None => (Unit::Microseconds, tokens),
     };
     Some((unit, after_one(after_one(rest)?)?))
 }
@@ -139,20 +159,21 @@ fn counts_of(tokens: &[Token]) -> Option<HeadCounts>
     })
 }
 
-/// The row of a table by columns of these names.
+/// The row of a table that sums this, by columns of these names.
 pub(crate) fn row_of(
     alloc: Global,
+    of: Of,
     names: &[Text],
     tokens: &[Token],
 ) -> Result<Option<Row>, AllocError>
-    ensures { IfOk result (λ found. (columns : List TheColumn) (row : TheRow) → AreColumns columns → IsRowOf columns row
-        → names.now ≡ map column_name columns → map token_of tokens.now ≡ row_tokens columns row → found ≡ Some row) }
+    ensures { IfOk result (λ found. (columns : List TheColumn) (row : TheRow) → AreColumns of columns → IsRowOf of columns row
+        → names.now ≡ map column_name columns → map token_of tokens.now ≡ row_tokens of columns row → found ≡ Some row) }
 {
     let Some(members) = after_one(tokens) else {
         return Ok(None);
     };
     let (key, rest) = key_of(alloc, names, members)?;
-    match sums_of(rest) {
+    match sums_of(of, rest) {
         Some(sums) => Ok(Some(Row { key, sums })),
         None => Ok(None),
     }
@@ -164,10 +185,10 @@ fn key_of<'t, 'a>(
     names: &[Text],
     tokens: &'t [Token<'a>],
 ) -> Result<(Key, &'t [Token<'a>]), AllocError>
-    ensures { IfOk result (λ found. (columns : List TheColumn) (values : TableKey) (rest : List Told) → AreDistinct names.now
-        → IsKeyOf columns values → names.now ≡ map column_name columns
-        → map token_of tokens.now ≡ key_tokens columns values ++ key (codes "count") ∷ rest
-        → Found values (key (codes "count") ∷ rest) found) }
+    ensures { IfOk result (λ found. (of : TheOf) (columns : List TheColumn) (values : TableKey) (sums : TheSums) (rest : List Told)
+        → AreDistinct names.now → IsKeyOf columns values → names.now ≡ map column_name columns
+        → map token_of tokens.now ≡ key_tokens columns values ++ (sums_tokens of sums ++ rest)
+        → Found values (sums_tokens of sums ++ rest) found) }
 {
     let mut values = Vec::with_capacity(alloc, names.len())?;
     let rest = put_values(alloc, names, tokens, &mut values)?;
@@ -180,10 +201,10 @@ fn put_values<'t, 'a>(
     tokens: &'t [Token<'a>],
     values: &mut Vec<Option<ArgValue>>,
 ) -> Result<&'t [Token<'a>], AllocError>
-    ensures { IfOk result (λ left. (columns : List TheColumn) (more : TableKey) (rest : List Told) → AreDistinct names.now
-        → IsKeyOf columns more → names.now ≡ map column_name columns
-        → map token_of tokens.now ≡ key_tokens columns more ++ key (codes "count") ∷ rest
-        → Found (values.old.items ++ more) (key (codes "count") ∷ rest) (values.new.items, left)) }
+    ensures { IfOk result (λ left. (of : TheOf) (columns : List TheColumn) (more : TableKey) (sums : TheSums) (rest : List Told)
+        → AreDistinct names.now → IsKeyOf columns more → names.now ≡ map column_name columns
+        → map token_of tokens.now ≡ key_tokens columns more ++ (sums_tokens of sums ++ rest)
+        → Found (values.old.items ++ more) (sums_tokens of sums ++ rest) (values.new.items, left)) }
 {
     let Some((name, names)) = names.split_first() else {
         return Ok(tokens);
@@ -196,9 +217,19 @@ fn put_values<'t, 'a>(
     }
 }
 
-fn sums_of(tokens: &[Token]) -> Option<Sums>
-    ensures { (sums : TheSums) (rest : List Told) → fit sums ≡ true
-        → map token_of tokens.now ≡ sums_tokens sums ++ rest → result ≡ Some sums }
+fn sums_of(of: Of, tokens: &[Token]) -> Option<Sums>
+    ensures { (sums : TheSums) (rest : List Told) → HasOwn of sums → fit sums ≡ true
+        → map token_of tokens.now ≡ sums_tokens of sums ++ rest → result ≡ Some sums }
+{
+    match of {
+        Of::Spans => span_sums_of(tokens),
+        Of::Async => async_sums_of(tokens),
+    }
+}
+
+fn span_sums_of(tokens: &[Token]) -> Option<Sums>
+    ensures { (sums : TheSums) (rest : List Told) → HasOwn Spans sums → fit sums ≡ true
+        → map token_of tokens.now ≡ sums_tokens Spans sums ++ rest → result ≡ Some sums }
 {
     let (count, rest) = number_after(tokens, "count")?;
     let (total, rest) = number_after(rest, "total")?;
@@ -207,6 +238,25 @@ fn sums_of(tokens: &[Token]) -> Option<Sums>
         count: Sum::of(u128::from(count)),
         total: Sum::of(u128::from(total)),
         self_time: Sum::of(u128::from(self_time)),
+        unclosed: Sum::of(0),
+        points: Sum::of(0),
+    })
+}
+
+fn async_sums_of(tokens: &[Token]) -> Option<Sums>
+    ensures { (sums : TheSums) (rest : List Told) → HasOwn Async sums → fit sums ≡ true
+        → map token_of tokens.now ≡ sums_tokens Async sums ++ rest → result ≡ Some sums }
+{
+    let (closed, rest) = number_after(tokens, "closed")?;
+    let (total, rest) = number_after(rest, "total")?;
+    let (unclosed, rest) = number_after(rest, "open")?;
+    let (points, _) = number_after(rest, "points")?;
+    Some(Sums {
+        count: Sum::of(u128::from(closed)),
+        total: Sum::of(u128::from(total)),
+        self_time: Sum::of(0),
+        unclosed: Sum::of(u128::from(unclosed)),
+        points: Sum::of(u128::from(points)),
     })
 }
 

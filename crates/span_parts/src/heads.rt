@@ -5,6 +5,7 @@ ghost use Rattle.span_event.specs.Text.{Bytes};
 ghost use Rattle.span_event.specs.declared.unit.Unit.{Unit as TheUnit};
 ghost use Rattle.span_table.specs.declared.column.Column.{Column as TheColumn};
 ghost use Rattle.span_table.specs.declared.heads.Head.{Head as TheHead};
+ghost use Rattle.span_table.specs.declared.of.Of.{Of as TheOf};
 ghost use Rattle.span_table.specs.Columns.{column_name};
 ghost use Rattle.span_table.specs.Json.{json_head};
 ghost use Rattle.span_table.specs.Printed.{AreColumns, AreDistinct, is_column};
@@ -16,7 +17,7 @@ use crate::guess::{FirstLine, first_line_of};
 use crate::room::{LineRoom, is_line};
 use crate::tokens::tokens_of;
 use span_event::Text;
-use span_table::{Column, column_names, head_fits, put_json_head};
+use span_table::{Column, Of, column_names, head_fits, put_json_head};
 use std::alloc::{AllocError, Global};
 
 /// A table has at most so many.
@@ -51,15 +52,16 @@ fn head_of_line(
     room: &mut LineRoom,
 ) -> Result<Option<FirstLine>, AllocError>
     ensures is { IfOk result (λ found. IfSome found (IsFirstLine line.now)) }
-    ensures found { IfOk result (λ found. (unit : TheUnit) (columns : List TheColumn) (rows : ℕ) (head : TheHead) → MayBegin columns rows head
-        → line.now ++ 10 ∷ [] ≡ json_head unit columns rows head → Says unit columns rows head found) }
+    ensures found { IfOk result (λ found. (of : TheOf) (unit : TheUnit) (columns : List TheColumn) (rows : ℕ) (head : TheHead)
+        → MayBegin of columns rows head → line.now ++ 10 ∷ [] ≡ json_head of unit columns rows head
+        → Says of unit columns rows head found) }
 {
     let tokens = tokens_of(alloc, line, &mut room.scratch)?;
     let Some(first) = first_line_of(alloc, &tokens)? else {
         return Ok(None);
     };
     let names = column_names(alloc, &first.columns)?;
-    if !are_columns(&first.columns, &names) {
+    if !are_columns(first.of, &first.columns, &names) {
         return Ok(None);
     }
     if !head_fits(&first.head) {
@@ -74,12 +76,13 @@ fn head_of_line(
 // Whether this is printed as the line.
 fn is_head(alloc: Global, first: &FirstLine, line: &str) -> Result<bool, AllocError>
     ensures { IfOk result (λ same. IsTrue same ↔ line.now ++ 10 ∷ []
-        ≡ json_head first.now.unit first.now.columns.items first.now.rows first.now.head) }
+        ≡ json_head first.now.of first.now.unit first.now.columns.items first.now.rows first.now.head) }
 {
     let mut printed = String::new(alloc);
     put_json_head(
         alloc,
         &mut printed,
+        first.of,
         first.unit,
         &first.columns,
         first.rows as usize,
@@ -88,13 +91,15 @@ fn is_head(alloc: Global, first: &FirstLine, line: &str) -> Result<bool, AllocEr
     Ok(is_line(printed.as_bytes(), line))
 }
 
-fn are_columns(columns: &[Column], names: &[Text]) -> bool
+// Whether a table that sums this may have these columns, of these names.
+fn are_columns(of: Of, columns: &[Column], names: &[Text]) -> bool
     requires { names.now ≡ map column_name columns.now }
-    ensures { IsTrue result ↔ AreColumns columns.now }
+    ensures { IsTrue result ↔ AreColumns of columns.now }
 {
     !columns.is_empty()
         && columns.len() <= MOST_COLUMNS
         && columns.iter().all(|column| is_column(column))
+        && columns.iter().all(|column| column.goes_with(of))
         && are_distinct(names)
 }
 

@@ -12,14 +12,16 @@ use crate::room::LineRoom;
 use crate::sums::{add_part, look_through};
 use span_event::Unit;
 use span_keyed_tracks::HashKeys;
-use span_table::{Addition, Column, Table, copies_of};
+use span_table::{Addition, Column, Of, Table, copies_of};
 use std::alloc::{AllocError, Global};
 use std::marker::Model;
 
-/// The sum of parts in the same unit and by the same columns, of which some may be dropped.
+/// The sum of parts that sum the same, in the same unit and by the same columns, of which some may be dropped.
 #[derive(Drop)]
 pub struct Parts {
-    // That of each part.
+    // What each part sums.
+    of: Of,
+    // The unit of each part.
     unit: Unit,
     // Those of each part.
     columns: Vec<Column>,
@@ -33,9 +35,9 @@ impl Model for Parts {
 
     ghost Value = { PartSum };
 
-    ghost view = { λ p. record { unit = p.unit; columns = p.columns.items; places = p.places.items; sum = p.sum } };
+    ghost view = { λ p. record { of = p.of; unit = p.unit; columns = p.columns.items; places = p.places.items; sum = p.sum } };
 
-    ghost invariant = { λ p. IsByThese p.columns.items p.places.items p.sum };
+    ghost invariant = { λ p. IsByThese p.of p.columns.items p.places.items p.sum };
 }
 
 impl Parts {
@@ -61,12 +63,13 @@ impl Parts {
             Ok(None) => return Err(fault_of_others(alloc, &first, rest, &mut room)),
             Err(_) => return Err(PartFault::Memory),
         };
-        let sum = match Addition::new(alloc, keys, wanted) {
+        let sum = match Addition::new(alloc, keys, first.of, wanted) {
             Ok(sum) => sum,
             Err(_) => return Err(PartFault::Memory),
         };
         match add_part(alloc, &places, &first, rest, sum, &mut room) {
             Ok(sum) => Ok(Parts {
+                of: first.of,
                 unit: first.unit,
                 columns: first.columns,
                 places,
@@ -76,24 +79,26 @@ impl Parts {
         }
     }
 
-    /// The sum of no parts, in the same unit and by the same columns of parts like these.
+    /// The sum of no parts, which are to sum the same as these, in the same unit and by the same columns.
     pub fn of_none_beside(&self, alloc: Global, keys: HashKeys) -> Result<Parts, AllocError>
         ensures { IfOk result (TakesNone self.now) }
     {
         Ok(Parts {
+            of: self.of,
             unit: self.unit,
             columns: copies_of(alloc, &self.columns)?,
             places: copy_of_places(alloc, &self.places)?,
-            sum: Addition::new(alloc, keys, self.sum.columns())?,
+            sum: Addition::new(alloc, keys, self.of, self.sum.columns())?,
         })
     }
 
     /// With the part that this text is.
     pub fn add(self, alloc: Global, text: &[u8]) -> Result<Parts, PartFault>
         ensures sum { IfOk result (TakesPart text.now self) }
-        ensures fault { IfErr result (PartFails self.unit self.columns text.now) }
+        ensures fault { IfErr result (PartFails self.of self.unit self.columns text.now) }
     {
         let Parts {
+            of,
             unit,
             columns,
             places,
@@ -104,11 +109,12 @@ impl Parts {
             Ok(begun) => begun,
             Err(fault) => return Err(fault),
         };
-        if !is_alike(&first, unit, &columns) {
+        if !is_alike(&first, of, unit, &columns) {
             return Err(fault_of_others(alloc, &first, rest, &mut room));
         }
         match add_part(alloc, &places, &first, rest, sum, &mut room) {
             Ok(sum) => Ok(Parts {
+                of,
                 unit,
                 columns,
                 places,
@@ -133,17 +139,17 @@ impl Parts {
     }
 }
 
-// Whether a part that begins so is in this unit and by these columns.
-fn is_alike(first: &FirstLine, unit: Unit, columns: &[Column]) -> bool
-    ensures { IsTrue result ↔ (first.now.unit ≡ unit) × (first.now.columns.items ≡ columns.now) }
+// Whether a part that begins so sums this, in this unit and by these columns.
+fn is_alike(first: &FirstLine, of: Of, unit: Unit, columns: &[Column]) -> bool
+    ensures { IsTrue result ↔ (first.now.of ≡ of) × (first.now.unit ≡ unit) × (first.now.columns.items ≡ columns.now) }
 {
-    first.unit == unit && are_same(&first.columns, columns)
+    first.of == of && first.unit == unit && are_same(&first.columns, columns)
 }
 
-// Why a text that begins so is refused: for its unit or its columns, if it is a part.
+// Why a text that begins so is refused: for what it sums, its unit or its columns, if it is a part.
 fn fault_of_others(alloc: Global, first: &FirstLine, rest: &str, room: &mut LineRoom) -> PartFault
-    requires { MayBegin first.now.columns.items first.now.rows first.now.head }
-    ensures { (text : Bytes) → Begins text first.now rest.now → RefusesOthers first.now.unit first.now.columns.items text result }
+    requires { MayBegin first.now.of first.now.columns.items first.now.rows first.now.head }
+    ensures { (text : Bytes) → Begins text first.now rest.now → RefusesOthers first.now.of first.now.unit first.now.columns.items text result }
 {
     match look_through(alloc, first, rest, room) {
         Ok(()) => PartFault::OtherColumns,

@@ -1,41 +1,42 @@
 //! The rows of a part.
-ghost use Rattle.std.specs.Prelude.{◌≡◌, ◌↔◌, ◌<◌, ◌++◌, ◌∷◌, [], true, FitsSigned, IfOk, IfSome, IsTrue, Some, map};
+ghost use Rattle.std.specs.Prelude.{◌≡◌, ◌↔◌, ◌++◌, ◌∷◌, [], true, FitsSigned, IfOk, IfSome, IsTrue, Some, map};
 ghost use Rattle.std.specs.Int.{w64};
 ghost use Rattle.span_table.specs.declared.table.Row.{Row as TheRow};
 ghost use Rattle.span_table.specs.Columns.{column_name};
 ghost use Rattle.span_table.specs.Json.{fit, json_line};
-ghost use Rattle.span_table.specs.Printed.{AreColumns, IsKeyOf, IsRowOf, IsWhole, MayHave};
+ghost use Rattle.span_table.specs.Printed.{AreColumns, HasOwn, HasSome, IsKeyOf, IsRowOf, IsWhole, MayHave};
 ghost use Rattle.span_parts.specs.Rows.{IsRowLine};
 
 use crate::guess;
 use crate::room::{LineRoom, is_line};
 use crate::tokens::tokens_of;
 use span_event::{ArgValue, Text};
-use span_table::{Column, Row, fits, with_json_row};
+use span_table::{Column, Of, Row, Sum, Sums, fits, with_json_row};
 use std::alloc::{AllocError, Global};
 use std::mem::replace;
 
-/// The row that was printed as this line, by columns of these names. None where none was.
+/// The row that was printed as this line, of a table that sums this, by columns of these names. None where none was.
 pub(crate) fn row_of_line(
     alloc: Global,
+    of: Of,
     columns: &[Column],
     names: &[Text],
     line: &str,
     room: &mut LineRoom,
 ) -> Result<Option<Row>, AllocError>
-    requires columns { AreColumns columns.now }
+    requires columns { AreColumns of columns.now }
     requires names { names.now ≡ map column_name columns.now }
-    ensures is { IfOk result (λ found. IfSome found (IsRowLine columns.now line.now)) }
-    ensures found { IfOk result (λ found. (row : TheRow) → IsRowLine columns.now line.now row → found ≡ Some row) }
+    ensures is { IfOk result (λ found. IfSome found (IsRowLine of columns.now line.now)) }
+    ensures found { IfOk result (λ found. (row : TheRow) → IsRowLine of columns.now line.now row → found ≡ Some row) }
 {
     let tokens = tokens_of(alloc, line, &mut room.scratch)?;
-    let Some(row) = guess::row_of(alloc, names, &tokens)? else {
+    let Some(row) = guess::row_of(alloc, of, names, &tokens)? else {
         return Ok(None);
     };
-    if !is_row_of(columns, &row) {
+    if !is_row_of(of, columns, &row) {
         return Ok(None);
     }
-    if !is_row(alloc, columns, names, &row, line, &mut room.printed)? {
+    if !is_row(alloc, of, columns, names, &row, line, &mut room.printed)? {
         return Ok(None);
     }
     Ok(Some(row))
@@ -44,6 +45,7 @@ pub(crate) fn row_of_line(
 // Whether the row is printed as this line.
 fn is_row(
     alloc: Global,
+    of: Of,
     columns: &[Column],
     names: &[Text],
     row: &Row,
@@ -52,29 +54,50 @@ fn is_row(
 ) -> Result<bool, AllocError>
     requires names { names.now ≡ map column_name columns.now }
     requires fits { fit row.now.sums ≡ true }
-    ensures { IfOk result (λ same. IsTrue same ↔ line.now ++ 10 ∷ [] ≡ json_line columns.now row.now) }
+    ensures { IfOk result (λ same. IsTrue same ↔ line.now ++ 10 ∷ [] ≡ json_line of columns.now row.now) }
 {
     let mut out = replace(printed, Vec::new(alloc));
     out.clear();
-    let out = with_json_row(out, columns, names, row)?;
+    let out = with_json_row(out, of, columns, names, row)?;
     let same = is_line(&out, line);
     *printed = out;
     Ok(same)
 }
 
-fn is_row_of(columns: &[Column], row: &Row) -> bool
-    ensures { IsTrue result ↔ IsRowOf columns.now row.now }
+fn is_row_of(of: Of, columns: &[Column], row: &Row) -> bool
+    ensures { IsTrue result ↔ IsRowOf of columns.now row.now }
 {
-    fits(&row.sums) && has_spans(row) && is_key_of(columns, row.key.values())
+    fits(&row.sums)
+        && has_own(of, &row.sums)
+        && has_some(of, &row.sums)
+        && is_key_of(columns, row.key.values())
 }
 
-// Whether a row, whose numbers have 64 bits, has a span.
-fn has_spans(row: &Row) -> bool
-    requires { fit row.now.sums ≡ true }
-    ensures { IsTrue result ↔ 0 < row.now.sums.count }
+// Whether numbers that what is summed doesn't have are 0.
+fn has_own(of: Of, sums: &Sums) -> bool
+    ensures { IsTrue result ↔ HasOwn of sums.now }
 {
-    match row.sums.count.as_u64() {
-        Some(count) => count > 0,
+    match of {
+        Of::Spans => is_none(&sums.unclosed) && is_none(&sums.points),
+        Of::Async => is_none(&sums.self_time),
+    }
+}
+
+// Whether a key of spans has one.
+fn has_some(of: Of, sums: &Sums) -> bool
+    ensures { IsTrue result ↔ HasSome of sums.now }
+{
+    match of {
+        Of::Spans => !is_none(&sums.count),
+        Of::Async => true,
+    }
+}
+
+fn is_none(sum: &Sum) -> bool
+    ensures { IsTrue result ↔ sum.now ≡ 0 }
+{
+    match sum.as_u64() {
+        Some(number) => number == 0,
         None => false,
     }
 }
@@ -97,7 +120,10 @@ fn may_have(column: &Column, value: &Option<ArgValue>) -> bool
     match column {
         Column::Pid | Column::Tid => is_whole(value),
         Column::Process | Column::Thread => matches!(value, None | Some(ArgValue::Words(_))),
-        Column::Name | Column::File => matches!(value, Some(ArgValue::Words(_))),
+        Column::Name | Column::File | Column::Cat | Column::Scope | Column::Id => matches!(
+            value,
+            Some(ArgValue::Words(_))
+        ),
         Column::Argument(_) => is_whole(value) || !matches!(value, Some(ArgValue::Whole(_))),
     }
 }

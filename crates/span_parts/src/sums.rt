@@ -16,7 +16,7 @@ use crate::room::LineRoom;
 use crate::rows::row_of_line;
 use span_event::{ArgValue, Text};
 use span_keyed_tracks::HashKeys;
-use span_table::{Addition, Column, Key, Row, SumFault, column_names};
+use span_table::{Addition, Column, Key, Of, Row, SumFault, column_names};
 use std::alloc::{AllocError, Global};
 
 /// Adds a part that begins so, and whose rows are this rest.
@@ -28,9 +28,9 @@ pub(crate) fn add_part(
     sum: Addition,
     room: &mut LineRoom,
 ) -> Result<Addition, PartFault>
-    requires { MayBegin first.now.columns.items first.now.rows first.now.head }
+    requires { MayBegin first.now.of first.now.columns.items first.now.rows first.now.head }
     ensures added { IfOk result (λ new. (text : Bytes) → Begins text first.now rest.now
-        → IsAdded first.now.unit first.now.columns.items places.now text sum new) }
+        → IsAdded first.now.of first.now.unit first.now.columns.items places.now text sum new) }
     ensures fault { IfErr result (λ fault. (text : Bytes) → Begins text first.now rest.now → SumFails text fault) }
 {
     let mut sum = match sum.add_head(&first.head) {
@@ -39,6 +39,7 @@ pub(crate) fn add_part(
     };
     add_rows(
         alloc,
+        first.of,
         &first.columns,
         places,
         rest,
@@ -56,12 +57,12 @@ pub(crate) fn look_through(
     rest: &str,
     room: &mut LineRoom,
 ) -> Result<(), PartFault>
-    requires { MayBegin first.now.columns.items first.now.rows first.now.head }
-    ensures is { OnOk result ((text : Bytes) → Begins text first.now rest.now → HasColumns first.now.unit first.now.columns.items text) }
+    requires { MayBegin first.now.of first.now.columns.items first.now.rows first.now.head }
+    ensures is { OnOk result ((text : Bytes) → Begins text first.now rest.now → HasColumns first.now.of first.now.unit first.now.columns.items text) }
     ensures fault { IfErr result (λ fault. (text : Bytes) → Begins text first.now rest.now → SumFails text fault) }
 {
     // All rows have one key, of no values, so there is nothing to keep.
-    let sum = Addition::new(alloc, HashKeys::fixed(), &[])?;
+    let sum = Addition::new(alloc, HashKeys::fixed(), first.of, &[])?;
     match add_part(alloc, &[], first, rest, sum, room) {
         Ok(sum) => {
             drop(sum);
@@ -71,10 +72,11 @@ pub(crate) fn look_through(
     }
 }
 
-// Adds the rows of a text, which are to be so many, each with the values at these places of its key. Those before a fault are added
-// nevertheless.
+// Adds the rows of a table that sums this, which are to be so many, each with the values at these places of its key. Those before a
+// fault are added nevertheless.
 fn add_rows(
     alloc: Global,
+    of: Of,
     columns: &[Column],
     places: &[usize],
     text: &str,
@@ -82,16 +84,16 @@ fn add_rows(
     sum: &mut Addition,
     room: &mut LineRoom,
 ) -> Result<(), PartFault>
-    requires { AreColumns columns.now }
-    ensures added { OnOk result (AllAdded columns.now places.now text.now count sum.old sum.new) }
-    ensures fault { IfErr result (RowsFail columns.now text.now count) }
+    requires { AreColumns of columns.now }
+    ensures added { OnOk result (AllAdded of columns.now places.now text.now count sum.old sum.new) }
+    ensures fault { IfErr result (RowsFail of columns.now text.now count) }
 {
     let names = column_names(alloc, columns)?;
     let mut last = None;
     let mut rest = text;
     let mut done = 0;
     while let Some((line, after)) = rest.split_once('\n') {
-        let row = match next_row(alloc, columns, &names, line, &last, room) {
+        let row = match next_row(alloc, of, columns, &names, line, &last, room) {
             Ok(row) => row,
             Err(fault) => return Err(fault),
         };
@@ -112,19 +114,20 @@ fn add_rows(
 // The row of the next line, which comes after the last one.
 fn next_row(
     alloc: Global,
+    of: Of,
     columns: &[Column],
     names: &[Text],
     line: &str,
     last: &Option<Row>,
     room: &mut LineRoom,
 ) -> Result<Row, PartFault>
-    requires columns { AreColumns columns.now }
+    requires columns { AreColumns of columns.now }
     requires names { names.now ≡ map column_name columns.now }
-    ensures row { IfOk result (IsNextRow columns.now line.now last.now) }
-    ensures only { IfOk result (λ row. (other : TheRow) → IsNextRow columns.now line.now last.now other → row ≡ other) }
-    ensures fault { IfErr result (RowFails columns.now line.now last.now) }
+    ensures row { IfOk result (IsNextRow of columns.now line.now last.now) }
+    ensures only { IfOk result (λ row. (other : TheRow) → IsNextRow of columns.now line.now last.now other → row ≡ other) }
+    ensures fault { IfErr result (RowFails of columns.now line.now last.now) }
 {
-    match row_of_line(alloc, columns, names, line, room) {
+    match row_of_line(alloc, of, columns, names, line, room) {
         Ok(Some(row)) if comes_after(&row, last) => Ok(row),
         Ok(_) => Err(PartFault::NotTable),
         Err(_) => Err(PartFault::Memory),

@@ -10,8 +10,8 @@ returns-clause-added c = λ text begins.
     let places = c.args.places.now in
     let rest = c.args.rest.now in
     let new = c.add_rows.new.sum in
-    let by = subst (λ columns. AllAdded columns places rest first.rows c.in-Ok.sum new) c.deref.ensures.value c.in_ok-add_rows.ensures.added in
-    IsAdded-rows text rest first begins places c.args.sum new (subst (λ sum. AllAdded first.columns.items places rest first.rows sum new) c.in-Ok.ensures.added by)
+    let by = subst (λ columns. AllAdded first.of columns places rest first.rows c.in-Ok.sum new) c.deref.ensures.value c.in_ok-add_rows.ensures.added in
+    IsAdded-rows text rest first begins places c.args.sum new (subst (λ sum. AllAdded first.of first.columns.items places rest first.rows sum new) c.in-Ok.ensures.added by)
 
 pub returns-in_err-add_rows-clause-fault : goal.returns-in_err-add_rows-clause-fault
 returns-in_err-add_rows-clause-fault c =
@@ -19,4 +19,4 @@ returns-in_err-add_rows-clause-fault c =
     rw (p.1, p.2) (λ text begins.
     let first = c.args.first.now in
     SumFails-rows text c.args.rest.now first begins c.in_err-add_rows.field-0.0
-    (subst (λ columns. RowsFail columns c.args.rest.now first.rows c.in_err-add_rows.field-0.0) c.deref.ensures.value c.in_err-add_rows.ensures.fault))
+    (subst (λ columns. RowsFail first.of columns c.args.rest.now first.rows c.in_err-add_rows.field-0.0) c.deref.ensures.value c.in_err-add_rows.ensures.fault))

@@ -1,6 +1,7 @@
 use Rattle.std.proofs.Common.{List, sym, subst, ◌∙◌}
 use Rattle.span_event.specs.declared.unit.Unit.{Unit as TimeUnit}
 use Rattle.span_table.specs.declared.column.Column.{Column}
+use Rattle.span_table.specs.declared.of.Of.{Of}
 use Rattle.span_parts.specs.Sum.{IsAdded, PartFails, PartSum, TakesPart}
 use Rattle.span_parts.proofs.Lists.{no-both}
 use Rattle.span_parts.proofs.Taken.{IsByThese-added, PartFails-others, PartFails-sum, TakesPart-added}
@@ -12,9 +13,10 @@ invariant_of-result c =
     let new = c.in-Ok-add_part.sum in
     let text = c.args.text.now in
     let same = c.is_alike.ensures.0 c.if-not-is_alike.false in
-    let first = subst (λ (u : TimeUnit). IsAdded u c.in-Ok.begun.0.columns.items c.deref-2.result.now text own.sum new) same.0 (c.in-Ok-add_part.ensures.added text c.in-Ok.ensures.begins) in
-    let by = subst (λ (l : List Column). IsAdded own.unit l c.deref-2.result.now text own.sum new) (same.1 ∙ c.deref.ensures.value) first in
-    IsByThese-added own.unit own.columns.items own.places.items text own.sum new c.self.invariant (subst (λ l. IsAdded own.unit own.columns.items l text own.sum new) c.deref-2.ensures.value by)
+    let kind = subst (λ (k : Of). IsAdded k c.in-Ok.begun.0.unit c.in-Ok.begun.0.columns.items c.deref-2.result.now text own.sum new) same.0 (c.in-Ok-add_part.ensures.added text c.in-Ok.ensures.begins) in
+    let first = subst (λ (u : TimeUnit). IsAdded own.of u c.in-Ok.begun.0.columns.items c.deref-2.result.now text own.sum new) same.1 kind in
+    let by = subst (λ (l : List Column). IsAdded own.of own.unit l c.deref-2.result.now text own.sum new) (same.2 ∙ c.deref.ensures.value) first in
+    IsByThese-added own.of own.unit own.columns.items own.places.items text own.sum new c.self.invariant (subst (λ l. IsAdded own.of own.unit own.columns.items l text own.sum new) c.deref-2.ensures.value by)
 
 pub returns-in-Ok-add_part-clause-sum : goal.returns-in-Ok-add_part-clause-sum
 returns-in-Ok-add_part-clause-sum c =
@@ -22,11 +24,12 @@ returns-in-Ok-add_part-clause-sum c =
     let new = c.in-Ok-add_part.sum in
     let text = c.args.text.now in
     let same = c.is_alike.ensures.0 c.if-not-is_alike.false in
-    let first = subst (λ (u : TimeUnit). IsAdded u c.in-Ok.begun.0.columns.items c.deref-2.result.now text own.sum new) same.0 (c.in-Ok-add_part.ensures.added text c.in-Ok.ensures.begins) in
-    let by = subst (λ (l : List Column). IsAdded own.unit l c.deref-2.result.now text own.sum new) (same.1 ∙ c.deref.ensures.value) first in
-    let old : PartSum = record { unit = own.unit; columns = own.columns.items; places = own.places.items; sum = own.sum } in
-    let after : PartSum = record { unit = own.unit; columns = own.columns.items; places = own.places.items; sum = new } in
-    subst (λ p. TakesPart text p after) c.self.view_is (TakesPart-added old text new (subst (λ l. IsAdded own.unit own.columns.items l text own.sum new) c.deref-2.ensures.value by))
+    let kind = subst (λ (k : Of). IsAdded k c.in-Ok.begun.0.unit c.in-Ok.begun.0.columns.items c.deref-2.result.now text own.sum new) same.0 (c.in-Ok-add_part.ensures.added text c.in-Ok.ensures.begins) in
+    let first = subst (λ (u : TimeUnit). IsAdded own.of u c.in-Ok.begun.0.columns.items c.deref-2.result.now text own.sum new) same.1 kind in
+    let by = subst (λ (l : List Column). IsAdded own.of own.unit l c.deref-2.result.now text own.sum new) (same.2 ∙ c.deref.ensures.value) first in
+    let old : PartSum = record { of = own.of; unit = own.unit; columns = own.columns.items; places = own.places.items; sum = own.sum } in
+    let after : PartSum = record { of = own.of; unit = own.unit; columns = own.columns.items; places = own.places.items; sum = new } in
+    subst (λ p. TakesPart text p after) c.self.view_is (TakesPart-added old text new (subst (λ l. IsAdded own.of own.unit own.columns.items l text own.sum new) c.deref-2.ensures.value by))
 
 pub returns-then-not-is_alike-clause-fault : goal.returns-then-not-is_alike-clause-fault
 returns-then-not-is_alike-clause-fault c =
@@ -34,10 +37,10 @@ returns-then-not-is_alike-clause-fault c =
     let first = c.in-Ok.begun.0 in
     let text = c.args.text.now in
     let fault = c.fault_of_others.result in
-    subst (λ (p : PartSum). PartFails p.unit p.columns text fault) c.self.view_is
-    (PartFails-others own.unit first.unit own.columns.items first.columns.items text fault
-    (λ one same. no-both c.is_alike.result c.if-not-is_alike.true (c.is_alike.ensures.1 (one, same ∙ sym c.deref.ensures.value)))
+    subst (λ (p : PartSum). PartFails p.of p.unit p.columns text fault) c.self.view_is
+    (PartFails-others own.of first.of own.unit first.unit own.columns.items first.columns.items text fault
+    (λ kind one same. no-both c.is_alike.result c.if-not-is_alike.true (c.is_alike.ensures.1 (kind, one, same ∙ sym c.deref.ensures.value)))
     (c.fault_of_others.ensures text c.in-Ok.ensures.begins))
 
 pub returns-in-Err-add_part-clause-fault : goal.returns-in-Err-add_part-clause-fault
-returns-in-Err-add_part-clause-fault c = PartFails-sum c.args.self.unit c.args.self.columns c.args.text.now c.in-Err-add_part.fault (c.in-Err-add_part.ensures.fault c.args.text.now c.in-Ok.ensures.begins)
+returns-in-Err-add_part-clause-fault c = PartFails-sum c.args.self.of c.args.self.unit c.args.self.columns c.args.text.now c.in-Err-add_part.fault (c.in-Err-add_part.ensures.fault c.args.text.now c.in-Ok.ensures.begins)

@@ -11,7 +11,8 @@ invariant_of-result c =
     let columns = c.in_ok-copies_of.ensures ∙ c.deref.ensures.value in
     let places = c.in_ok-copy_of_places.ensures ∙ c.deref-2.ensures.value in
     record {
-      fit = subst AreColumns (sym columns) c.self.invariant.fit;
+      fit = subst (AreColumns c.self.inside.of) (sym columns) c.self.invariant.fit;
+      kind = ap (λ (t : SpanTable). t.of) c.in_ok-new.ensures;
       by = ap (λ (t : SpanTable). t.columns) c.in_ok-new.ensures ∙ c.columns.ensures ∙ c.self.invariant.by ∙ (λ i. picked (sym places i) (sym columns i));
     }
 
@@ -20,13 +21,15 @@ returns c =
     let columns = c.in_ok-copies_of.ensures ∙ c.deref.ensures.value in
     let places = c.in_ok-copy_of_places.ensures ∙ c.deref-2.ensures.value in
     record {
+      of = ap (λ (p : PartSum). p.of) c.self.view_is;
       unit = ap (λ (p : PartSum). p.unit) c.self.view_is;
       columns = columns ∙ ap (λ (p : PartSum). p.columns) c.self.view_is;
       places = places ∙ ap (λ (p : PartSum). p.places) c.self.view_is;
       sums = record {
         parts = [];
         are = tt;
+        kinds = All-nil _;
         columns = All-nil _;
-        adds = c.in_ok-new.ensures ∙ ap (λ l. add_tables l []) (c.columns.ensures ∙ c.self.invariant.by ∙ (λ i. picked (sym places i) (sym columns i)));
+        adds = c.in_ok-new.ensures ∙ ap (λ l. add_tables c.self.inside.of l []) (c.columns.ensures ∙ c.self.invariant.by ∙ (λ i. picked (sym places i) (sym columns i)));
       };
     }
