@@ -11,6 +11,7 @@ use Rattle.span_collect.specs.Run.{status_of}
 use Rattle.span_collect.specs.Seals.{SealedAccount}
 use Rattle.span_collect.proofs.InTurn.Accounted.{AreAlike-in_turn, unread_of-in_turn}
 use Rattle.span_table.specs.declared.column.Column.{Column}
+use Rattle.span_table.specs.declared.of.Of.{Of}
 use Rattle.span_table.specs.Laws.{AreAlikeRuns}
 use Rattle.span_table.proofs.SameTables.{table_of-alike}
 use Rattle.span_runs.specs.Runs.{run_in_turn, run_of_files, table_of_run}
@@ -27,5 +28,5 @@ module _ (files : List Input) (settings : Settings) (ends : List FileEnd) (asked
   }
 
   -- so they have the same tables
-  pub table_of_run-in_turn : (columns : List Column) → table_of_run columns (run_of_files files ends journal) ≡ table_of_run columns (run_in_turn settings files)
-  table_of_run-in_turn columns = table_of-alike columns (run_of_files files ends journal ∷ []) (run_in_turn settings files ∷ []) (AreAlikeRuns-in_turn, tt)
+  pub table_of_run-in_turn : (of : Of) (columns : List Column) → table_of_run of columns (run_of_files files ends journal) ≡ table_of_run of columns (run_in_turn settings files)
+  table_of_run-in_turn of columns = table_of-alike of columns (run_of_files files ends journal ∷ []) (run_in_turn settings files ∷ []) (AreAlikeRuns-in_turn, tt)

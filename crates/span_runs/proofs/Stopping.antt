@@ -7,18 +7,17 @@ use Rattle.std.proofs.lemmas.List.{take-append-drop}
 use Rattle.std.proofs.lemmas.List.Elements.{All-append, All-nil}
 use Rattle.span_event.specs.Text.{Bytes}
 use Rattle.span_collect.specs.declared.settings.Settings.{Settings}
-use Rattle.span_table.specs.declared.column.Column.{Column}
-use Rattle.span_table.specs.Tables.{SpanTable}
+use Rattle.span_table.specs.Columns.{Run as TableRun}
 use Rattle.span_runs.specs.declared.stop.Halt.{Halt}
 use Rattle.span_runs.specs.declared.stop.Halt.TheVariants.{Stopped, GaveUp}
 use Rattle.span_runs.specs.declared.stop.Stop.{Stop}
 use Rattle.span_runs.specs.declared.stop.StopCause.{StopCause}
 use Rattle.span_runs.specs.declared.stop.StopCause.TheVariants.{NotOpened, Memory, Run, Cut, TooMany}
-use Rattle.span_runs.specs.Apart.{AreSummed, IsAccounted, refusal_line}
+use Rattle.span_runs.specs.Apart.{AreGathered, IsAccounted, refusal_line}
 use Rattle.span_runs.specs.Inputs.{most_read}
 use Rattle.span_runs.specs.Source.{AreFirst}
 use Rattle.span_runs.specs.Stops.{ComesAfter, HaltsAfter, HaltsAmong, IsCut, IsOfSum, IsStopOfSum, IsUnread, SaysCut, StopsAmong, StopsAt, StopsBefore}
-use Rattle.span_runs.proofs.Summing.{AreFiles-append}
+use Rattle.span_runs.proofs.GatheredFiles.{AreFiles-append}
 
 module _ (known : Bytes → Option Bytes) (settings : Settings) where
   -- what has no file of its own may stop before any files
@@ -63,10 +62,10 @@ module _ (known : Bytes → Option Bytes) (settings : Settings) where
     cause = StopsBefore-of_sum names stop.cause of_sum.1;
   }
 
-  -- behind files that were summed
-  pub StopsAmong-behind : (done later : List Bytes) (columns : List Column) (table : SpanTable) (lines : Bytes) (stop : Stop) → AreSummed known done settings columns table lines →
+  -- behind files that were gathered
+  pub StopsAmong-behind : (done later : List Bytes) (ComeTo : List TableRun → Type 0) (lines : Bytes) (stop : Stop) → AreGathered known done settings ComeTo lines →
       stop.lines.items ≡ lines → StopsBefore known settings later stop.cause → StopsAmong known settings (done ++ later) stop
-  StopsAmong-behind done later columns table lines stop summed same cause = record {
+  StopsAmong-behind done later ComeTo lines stop summed same cause = record {
     done = done;
     later = later;
     split = refl;
@@ -78,13 +77,13 @@ module _ (known : Bytes → Option Bytes) (settings : Settings) where
   }
 
   -- at the file of this place
-  pub StopsAmong-at : (names : List Bytes) (place : ℕ) (name : Bytes) (columns : List Column) (table : SpanTable) (lines : Bytes) (stop : Stop) → place < length names →
-      name ≡ get_or names place name → AreSummed known (take place names) settings columns table lines → stop.lines.items ≡ lines → StopsAt known settings name stop.cause →
+  pub StopsAmong-at : (names : List Bytes) (place : ℕ) (name : Bytes) (ComeTo : List TableRun → Type 0) (lines : Bytes) (stop : Stop) → place < length names →
+      name ≡ get_or names place name → AreGathered known (take place names) settings ComeTo lines → stop.lines.items ≡ lines → StopsAt known settings name stop.cause →
       StopsAmong known settings names stop
-  StopsAmong-at names place name columns table lines stop low is summed same cause =
+  StopsAmong-at names place name ComeTo lines stop low is summed same cause =
       subst (λ (ns : List Bytes). StopsAmong known settings ns stop)
       (ap (λ n. take place names ++ n ∷ drop (suc place) names) is ∙ ap (λ (ns : List Bytes). take place names ++ ns) (sym (drop-cons names place name low)) ∙ take-append-drop place names)
-      (StopsAmong-behind (take place names) (name ∷ drop (suc place) names) columns table lines stop summed same cause)
+      (StopsAmong-behind (take place names) (name ∷ drop (suc place) names) ComeTo lines stop summed same cause)
 
   -- with more files after them
   StopsAmong-append : (names more : List Bytes) (stop : Stop) → StopsAmong known settings names stop → StopsAmong known settings (names ++ more) stop
@@ -103,10 +102,10 @@ module _ (known : Bytes → Option Bytes) (settings : Settings) where
   HaltsAmong-append names more (Stopped stop) stops = StopsAmong-append names more stop stops
   HaltsAmong-append names more GaveUp stops = tt
 
-  -- with files before them that were summed
-  StopsAmong-after : (names more : List Bytes) (columns : List Column) (table : SpanTable) (lines : Bytes) (old new : Stop) → AreSummed known names settings columns table lines →
+  -- with files before them that were gathered
+  StopsAmong-after : (names more : List Bytes) (ComeTo : List TableRun → Type 0) (lines : Bytes) (old new : Stop) → AreGathered known names settings ComeTo lines →
       StopsAmong known settings more old → ComesAfter lines old new → StopsAmong known settings (names ++ more) new
-  StopsAmong-after names more columns table lines old new summed stops (inl (told, cause)) = record {
+  StopsAmong-after names more ComeTo lines old new summed stops (inl (told, cause)) = record {
     done = names ++ stops.done;
     later = stops.later;
     split = ap (λ (ns : List Bytes). names ++ ns) stops.split ∙ sym (append_assoc names stops.done stops.later);
@@ -116,12 +115,12 @@ module _ (known : Bytes → Option Bytes) (settings : Settings) where
     told = told ∙ ap₂ (λ (xs ys : Bytes). xs ++ ys) summed.told stops.told ∙ sym (flat_map-append (refusal_line settings.unit) summed.files stops.files);
     cause = rw cause stops.cause;
   }
-  StopsAmong-after names more columns table lines old new summed stops (inr of_sum) =
-      StopsAmong-behind names more columns table lines new summed of_sum.0 (StopsBefore-of_sum more new.cause of_sum.1)
+  StopsAmong-after names more ComeTo lines old new summed stops (inr of_sum) =
+      StopsAmong-behind names more ComeTo lines new summed of_sum.0 (StopsBefore-of_sum more new.cause of_sum.1)
 
-  pub HaltsAmong-after : (names more : List Bytes) (columns : List Column) (table : SpanTable) (lines : Bytes) (old new : Halt) → AreSummed known names settings columns table lines →
+  pub HaltsAmong-after : (names more : List Bytes) (ComeTo : List TableRun → Type 0) (lines : Bytes) (old new : Halt) → AreGathered known names settings ComeTo lines →
       HaltsAmong known settings more old → HaltsAfter lines old new → HaltsAmong known settings (names ++ more) new
-  HaltsAmong-after names more columns table lines (Stopped old) (Stopped new) summed stops after = StopsAmong-after names more columns table lines old new summed stops after
-  HaltsAmong-after names more columns table lines (Stopped old) GaveUp summed stops after = absurd after
-  HaltsAmong-after names more columns table lines GaveUp (Stopped new) summed stops after = absurd after
-  HaltsAmong-after names more columns table lines GaveUp GaveUp summed stops after = tt
+  HaltsAmong-after names more ComeTo lines (Stopped old) (Stopped new) summed stops after = StopsAmong-after names more ComeTo lines old new summed stops after
+  HaltsAmong-after names more ComeTo lines (Stopped old) GaveUp summed stops after = absurd after
+  HaltsAmong-after names more ComeTo lines GaveUp (Stopped new) summed stops after = absurd after
+  HaltsAmong-after names more ComeTo lines GaveUp GaveUp summed stops after = tt

@@ -1,4 +1,4 @@
--- Files each of which is a run of its own, summed into one table.
+-- Files each of which is a run of its own, gathered.
 use Rattle.std.specs.Prelude.{◌≡◌, ℕ, ◌<◌, List, [], ◌∷◌, ◌++◌, length, map, flat_map, All, Option}
 use Rattle.span_event.specs.Text.{Bytes}
 use Rattle.span_ledger.specs.declared.entry.Entry.{Entry}
@@ -12,13 +12,10 @@ use Rattle.span_collect.specs.declared.settings.Settings.{Settings}
 use Rattle.span_collect.specs.FaultLines.{end_line}
 use Rattle.span_collect.specs.Run.{end_by, status_of}
 use Rattle.span_collect.specs.Seals.{SealedAccount}
-use Rattle.span_table.specs.declared.column.Column.{Column}
-use Rattle.span_table.specs.Adding.{TakesRuns}
 use Rattle.span_table.specs.Columns.{Run}
 use Rattle.span_table.specs.Laws.{AreAlikeRuns}
-use Rattle.span_table.specs.Tables.{SpanTable, table_of}
 use Rattle.span_runs.specs.declared.file_run.FileRun.{FileRun}
-use Rattle.span_runs.specs.declared.summed.Summed.{Summed}
+use Rattle.span_runs.specs.declared.gathered.Gathered.{Gathered}
 use Rattle.span_runs.specs.Inputs.{AreFiles, most_read}
 use Rattle.span_runs.specs.Runs.{run_in_turn, run_of_files}
 use Rattle.span_runs.specs.Source.{AreFirst}
@@ -54,24 +51,24 @@ run_of run = run_of_files (run.file ∷ []) run.collected.end.ends.items run.col
 abbrev pub refusal_line : Unit → Input → Bytes
 refusal_line unit file = end_line file.name (end_by 1 (doc unit file.bytes.items))
 
--- Each of the files of these names was collected alone; the table is that of their runs, and the lines are those of the files that are
--- no trace, both in the files' order.
-pub record AreSummed (known : List ℕ → Option (List ℕ)) (names : List (List ℕ)) (settings : Settings) (columns : List Column) (table : SpanTable) (lines : Bytes) : Type 0 where
+-- Each of the files of these names was collected alone; this is what the runs come to, and the lines are those of the files that are no trace,
+-- both in the files' order.
+pub record AreGathered (known : List ℕ → Option (List ℕ)) (names : List (List ℕ)) (settings : Settings) (ComeTo : List Run → Type 0) (lines : Bytes) : Type 0 where
   pub files : List Input
   pub read : AreFiles known names files
   pub accounted : All (IsAccounted settings) files
-  pub sum : table ≡ table_of columns (map (run_alone settings) files)
+  pub runs : ComeTo (map (run_alone settings) files)
   pub told : lines ≡ flat_map (refusal_line settings.unit) files
 
 -- this is what files of these names come to
-abbrev pub SumsFiles : (List ℕ → Option (List ℕ)) → List (List ℕ) → Settings → List Column → Summed → Type 0
-SumsFiles known names settings columns summed = AreSummed known names settings columns summed.sum summed.lines.items
+abbrev pub GathersFiles : {T : Type 0} → (List ℕ → Option (List ℕ)) → List (List ℕ) → Settings → (List Run → T → Type 0) → Gathered T → Type 0
+GathersFiles known names settings ComeTo gathered = AreGathered known names settings (λ runs. ComeTo runs gathered.runs) gathered.lines.items
 
--- one more file is summed
-pub record AddsFile (known : List ℕ → Option (List ℕ)) (name : List ℕ) (settings : Settings) (old new : Summed) : Type 0 where
+-- one more file is gathered
+pub record AddsFile {T : Type 0} (known : List ℕ → Option (List ℕ)) (name : List ℕ) (settings : Settings) (ComeTo : List Run → T → Type 0) (old new : Gathered T) : Type 0 where
   pub file : Input
   pub named : file.name ≡ name
   pub held : AreFirst most_read (known name) file.bytes.items
   pub accounted : IsAccounted settings file
-  pub sum : TakesRuns old.sum (run_alone settings file ∷ []) new.sum
+  pub runs : (runs : List Run) → ComeTo runs old.runs → ComeTo (runs ++ run_alone settings file ∷ []) new.runs
   pub lines : new.lines.items ≡ old.lines.items ++ refusal_line settings.unit file

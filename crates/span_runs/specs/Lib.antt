@@ -1,4 +1,5 @@
 pub mod Apart
+pub mod Gathering
 pub mod Inputs
 pub mod Listing
 pub mod Names

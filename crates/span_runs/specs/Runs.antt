@@ -8,6 +8,7 @@ use Rattle.span_collect.specs.declared.settings.Settings.{Settings}
 use Rattle.span_collect.specs.InTurn.{ends_from, journal_in_turn}
 use Rattle.span_collect.specs.Run.{unread_of}
 use Rattle.span_table.specs.declared.column.Column.{Column}
+use Rattle.span_table.specs.declared.of.Of.{Of}
 use Rattle.span_table.specs.Columns.{Run, run_of}
 use Rattle.span_table.specs.Tables.{SpanTable, table_of}
 
@@ -24,5 +25,5 @@ run_of_files files ends journal = run_of journal (length files) (unread_of ends)
 abbrev pub run_in_turn : Settings → List Input → Run
 run_in_turn settings files = run_of_files files (ends_from settings.unit 1 files) (journal_in_turn settings files [])
 
-abbrev pub table_of_run : List Column → Run → SpanTable
-table_of_run columns run = table_of columns (run ∷ [])
+abbrev pub table_of_run : Of → List Column → Run → SpanTable
+table_of_run of columns run = table_of of columns (run ∷ [])

@@ -1,4 +1,4 @@
--- Why files were not all summed: what stopped, and what is said of the files before it.
+-- Why files were not all gathered: what stopped, and what is said of the files before it.
 use Rattle.std.specs.Prelude.{◌≡◌, ◌⊎◌, List, [], ◌∷◌, ◌++◌, flat_map, All, Option, Some, None, Result, MatchResult}
 use Rattle.span_event.specs.Text.{Bytes}
 use Rattle.span_ledger.specs.Refusal.{code_of}
@@ -19,8 +19,10 @@ use Rattle.span_runs.specs.declared.stop.Stop.{Stop}
 use Rattle.span_runs.specs.declared.stop.StopCause.{StopCause}
 use Rattle.span_runs.specs.declared.stop.StopCause.TheVariants.{NotOpened, Memory, Run, Cut, TooMany}
 use Rattle.span_table.specs.declared.column.Column.{Column}
-use Rattle.span_runs.specs.declared.summed.Summed.{Summed}
-use Rattle.span_runs.specs.Apart.{AddsFile, IsAccounted, SumsFiles, refusal_line}
+use Rattle.span_table.specs.declared.of.Of.{Of}
+use Rattle.span_runs.specs.declared.gathered.Gathered.{Gathered}
+use Rattle.span_table.specs.Columns.{Run as TableRun}
+use Rattle.span_runs.specs.Apart.{AddsFile, GathersFiles, IsAccounted, refusal_line}
 use Rattle.span_runs.specs.Inputs.{AreFiles, most_read}
 use Rattle.span_runs.specs.Source.{AreFirst}
 
@@ -114,20 +116,21 @@ HaltsAfter lines (Stopped old) (Stopped new) = ComesAfter lines old new
 HaltsAfter lines GaveUp GaveUp = Unit {0}
 HaltsAfter lines old new = ⊥
 
--- the files of these names were summed, or something stopped among them
-abbrev pub SumsOrStops : (Bytes → Option Bytes) → List Bytes → Settings → List Column → Result Summed Stop → Type 0
-SumsOrStops known names settings columns result = MatchResult result (SumsFiles known names settings columns) (StopsAmong known settings names)
+-- the files of these names were gathered, or something stopped among them
+abbrev pub GathersOrStops : {T : Type 0} → (Bytes → Option Bytes) → List Bytes → Settings → (List TableRun → T → Type 0) → Result (Gathered T) Stop → Type 0
+GathersOrStops known names settings ComeTo result = MatchResult result (GathersFiles known names settings ComeTo) (StopsAmong known settings names)
 
 -- the same of a job
-abbrev pub SumsOrHalts : (Bytes → Option Bytes) → List Bytes → Settings → List Column → Result Summed Halt → Type 0
-SumsOrHalts known names settings columns result = MatchResult result (SumsFiles known names settings columns) (HaltsAmong known settings names)
+abbrev pub GathersOrHalts : {T : Type 0} → (Bytes → Option Bytes) → List Bytes → Settings → (List TableRun → T → Type 0) → Result (Gathered T) Halt → Type 0
+GathersOrHalts known names settings ComeTo result = MatchResult result (GathersFiles known names settings ComeTo) (HaltsAmong known settings names)
 
 -- where this is what becomes of files of these names, and that of files of those, the result is what becomes of them together
-abbrev pub JoinsFiles : Result Summed Halt → Result Summed Halt → Result Summed Halt → Type 0
-JoinsFiles first second both = (known : Bytes → Option Bytes) (names more : List Bytes) (settings : Settings) (columns : List Column) →
-    SumsOrHalts known names settings columns first → SumsOrHalts known more settings columns second → SumsOrHalts known (names ++ more) settings columns both
+abbrev pub JoinsFiles : {T : Type 0} → (Of → List Column → List TableRun → T → Type 0) → Result (Gathered T) Halt → Result (Gathered T) Halt → Result (Gathered T) Halt → Type 0
+JoinsFiles ComeTo first second both = (known : Bytes → Option Bytes) (names more : List Bytes) (settings : Settings) (of : Of) (columns : List Column) →
+    GathersOrHalts known names settings (ComeTo of columns) first → GathersOrHalts known more settings (ComeTo of columns) second
+    → GathersOrHalts known (names ++ more) settings (ComeTo of columns) both
 
--- one more file is summed, or something stopped at it
-abbrev pub AddsOrStops : (Bytes → Option Bytes) → Bytes → Settings → Summed → Result Summed Stop → Type 0
-AddsOrStops known name settings old result =
-    MatchResult result (AddsFile known name settings old) (λ stop. (stop.lines.items ≡ old.lines.items) × StopsAt known settings name stop.cause)
+-- one more file is gathered, or something stopped at it
+abbrev pub AddsOrStops : {T : Type 0} → (Bytes → Option Bytes) → Bytes → Settings → (List TableRun → T → Type 0) → Gathered T → Result (Gathered T) Stop → Type 0
+AddsOrStops known name settings ComeTo old result =
+    MatchResult result (AddsFile known name settings ComeTo old) (λ stop. (stop.lines.items ≡ old.lines.items) × StopsAt known settings name stop.cause)

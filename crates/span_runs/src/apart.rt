@@ -1,16 +1,18 @@
-//! Files each of which is a run of its own, summed into one table in several jobs at once.
+//! Files each of which is a run of its own, gathered in several jobs at once.
 ghost use Rattle.std.specs.Prelude.{◌≡◌, ◌<◌, ◌++◌, length, IfOk};
 ghost use Rattle.std.specs.Thread.{IsSync};
-ghost use Rattle.span_runs.specs.Stops.{AddsOrStops, JoinsFiles, SumsOrHalts, SumsOrStops};
+ghost use Rattle.span_runs.specs.Stops.{AddsOrStops, JoinsFiles, GathersOrHalts, GathersOrStops};
 
 use crate::cuts::cut;
 use crate::file_run::collect_file;
+use crate::gathered::Gathered;
+use crate::gathering::Gathering;
 use crate::source::Source;
 use crate::stop::{Halt, Stop};
-use crate::summed::Summed;
 use span_collect::Settings;
 use span_event::Text;
-use span_table::Column;
+use span_keyed_tracks::HashKeys;
+use span_table::{Column, Of};
 use std::alloc::{AllocError, Global};
 use std::random::RandomSource;
 use std::sync::Wait;
@@ -22,6 +24,8 @@ use std::thread::{Threads, join_mut};
 struct Work<'a, S> {
     source: &'a S,
     settings: Settings,
+    keys: HashKeys,
+    of: Of,
     columns: &'a [Column],
     // A place at which a file has stopped.
     stopped: &'a AtomicU64,
@@ -44,18 +48,19 @@ struct Part<'a> {
     jobs: u32,
 }
 
-/// Reads the files of these names one after another, in so many jobs at once, collects each as a run of its own, and sums their tables.
-/// The first file that stops, in the order of the names, decides.
-pub fn sum_apart<S: Source + Sync, R: Threads + Wait + RandomSource + Sync>(
+/// Reads the files of these names one after another, in so many jobs at once, collects each as a run of its own, and gathers their
+/// tables, which are of the same and by these columns. The first file that stops, in the order of the names, decides.
+pub fn gather_apart<T: Gathering, S: Source + Sync, R: Threads + Wait + RandomSource + Sync>(
     rt: &R,
     alloc: Global,
     source: &S,
     names: &[Text],
     settings: &Settings,
+    of: Of,
     columns: &[Column],
     jobs: u32,
-) -> Result<Summed, Stop>
-    ensures { SumsOrStops (S.bytes source.now).file names.now settings.now columns.now result }
+) -> Result<Gathered<T>, Stop>
+    ensures { GathersOrStops (S.bytes source.now).file names.now settings.now (T.come_to of columns.now) result }
 {
     let Ok(sizes) = sizes_of(alloc, source, names) else {
         return Err(Stop::of_memory(alloc));
@@ -64,6 +69,8 @@ pub fn sum_apart<S: Source + Sync, R: Threads + Wait + RandomSource + Sync>(
     let work = Work {
         source,
         settings: *settings,
+        keys: HashKeys::random(rt),
+        of,
         columns,
         stopped: &stopped,
     };
@@ -73,12 +80,12 @@ pub fn sum_apart<S: Source + Sync, R: Threads + Wait + RandomSource + Sync>(
         place: 0,
         jobs,
     };
-    match sum_in_jobs(rt, alloc, &work, all) {
-        Ok(summed) => Ok(summed),
+    match gather_in_jobs(rt, alloc, &work, all) {
+        Ok(gathered) => Ok(gathered),
         Err(Halt::Stopped(stop)) => Err(stop),
         // A job gives up where another has stopped before it, and then that one decides. No contract says so of the place that jobs
         // share, so what would follow if it were not so is said here.
-        Err(Halt::GaveUp) => sum_in_turn(rt, alloc, &work, names),
+        Err(Halt::GaveUp) => gather_in_turn(rt, alloc, &work, names),
     }
 }
 
@@ -92,19 +99,19 @@ fn sizes_of<S: Source>(alloc: Global, source: &S, names: &[Text]) -> Result<Vec<
     Ok(sizes)
 }
 
-// Sums these files, in two halves where there are jobs for both.
+// Gathers these files, in two halves where there are jobs for both.
 #[cycle(jobs)]
-fn sum_in_jobs<S: Source + Sync, R: Threads + Wait + RandomSource + Sync>(
+fn gather_in_jobs<T: Gathering, S: Source + Sync, R: Threads + Wait + RandomSource + Sync>(
     rt: &R,
     alloc: Global,
     work: &Work<S>,
     part: Part,
-) -> Result<Summed, Halt>
+) -> Result<Gathered<T>, Halt>
     requires { length part.sizes.now ≡ length part.names.now }
-    ensures { SumsOrHalts (S.bytes work.now.source.now).file part.entry.names.now work.now.settings work.now.columns.now result }
+    ensures { GathersOrHalts (S.bytes work.now.source.now).file part.entry.names.now work.now.settings (T.come_to work.now.of work.now.columns.now) result }
 {
     if part.jobs < 2 || part.names.len() < 2 {
-        return sum_in_job(rt, alloc, work, part.names, part.place);
+        return gather_in_job(rt, alloc, work, part.names, part.place);
     }
     let half = part.jobs / 2;
     let at = cut(part.sizes, half, part.jobs);
@@ -122,51 +129,51 @@ fn sum_in_jobs<S: Source + Sync, R: Threads + Wait + RandomSource + Sync>(
         place: part.place.saturating_add(at as u64),
         jobs: part.jobs - half,
     };
-    let (first, second) = sum_both(rt, alloc, work, front, back);
+    let (first, second) = gather_both(rt, alloc, work, front, back);
     joined(first, second)
 }
 
-// Sums two parts at once.
+// Gathers two parts at once.
 #[cycle(jobs)]
-fn sum_both<S: Source + Sync, R: Threads + Wait + RandomSource + Sync>(
+fn gather_both<T: Gathering, S: Source + Sync, R: Threads + Wait + RandomSource + Sync>(
     rt: &R,
     alloc: Global,
     work: &Work<S>,
     front: Part,
     back: Part,
-) -> (Result<Summed, Halt>, Result<Summed, Halt>)
+) -> (Result<Gathered<T>, Halt>, Result<Gathered<T>, Halt>)
     requires front { length front.sizes.now ≡ length front.names.now }
     requires back { length back.sizes.now ≡ length back.names.now }
     requires jobs { (0 < front.jobs) × (0 < back.jobs) }
-    ensures front { SumsOrHalts (S.bytes work.now.source.now).file front.entry.names.now work.now.settings work.now.columns.now result.0 }
-    ensures back { SumsOrHalts (S.bytes work.now.source.now).file back.entry.names.now work.now.settings work.now.columns.now result.1 }
+    ensures front { GathersOrHalts (S.bytes work.now.source.now).file front.entry.names.now work.now.settings (T.come_to work.now.of work.now.columns.now) result.0 }
+    ensures back { GathersOrHalts (S.bytes work.now.source.now).file back.entry.names.now work.now.settings (T.come_to work.now.of work.now.columns.now) result.1 }
 {
     join_mut(
         rt,
-        &mut || -> Result<Summed, Halt>
+        &mut || -> Result<Gathered<T>, Halt>
             requires sync { IsSync R.row }
             requires sizes { length front.sizes.now ≡ length front.names.now }
-            ensures { SumsOrHalts (S.bytes work.entry.now.source.now).file front.entry.names.now work.entry.now.settings work.entry.now.columns.now result }
-        { sum_in_jobs(rt, alloc, work, front) },
-        &mut || -> Result<Summed, Halt>
+            ensures { GathersOrHalts (S.bytes work.entry.now.source.now).file front.entry.names.now work.entry.now.settings (T.come_to work.entry.now.of work.entry.now.columns.now) result }
+        { gather_in_jobs(rt, alloc, work, front) },
+        &mut || -> Result<Gathered<T>, Halt>
             requires sync { IsSync R.row }
             requires sizes { length back.sizes.now ≡ length back.names.now }
-            ensures { SumsOrHalts (S.bytes work.entry.now.source.now).file back.entry.names.now work.entry.now.settings work.entry.now.columns.now result }
-        { sum_in_jobs(rt, alloc, work, back) },
+            ensures { GathersOrHalts (S.bytes work.entry.now.source.now).file back.entry.names.now work.entry.now.settings (T.come_to work.entry.now.of work.entry.now.columns.now) result }
+        { gather_in_jobs(rt, alloc, work, back) },
     )
 }
 
-// Sums the files from this place on, one after another, unless one before has stopped in another job.
-fn sum_in_job<S: Source, R: Threads + Wait + RandomSource + Sync>(
+// Gathers the files from this place on, one after another, unless one before has stopped in another job.
+fn gather_in_job<T: Gathering, S: Source, R: Threads + Wait + RandomSource + Sync>(
     rt: &R,
     alloc: Global,
     work: &Work<S>,
     names: &[Text],
     place: u64,
-) -> Result<Summed, Halt>
-    ensures { SumsOrHalts (S.bytes work.now.source.now).file names.now work.now.settings work.now.columns.now result }
+) -> Result<Gathered<T>, Halt>
+    ensures { GathersOrHalts (S.bytes work.now.source.now).file names.now work.now.settings (T.come_to work.now.of work.now.columns.now) result }
 {
-    let mut summed = match Summed::of_none(rt, alloc, work.columns) {
+    let mut gathered = match Gathered::of_none(alloc, work.keys, work.of, work.columns) {
         Ok(none) => none,
         Err(stop) => return Err(Halt::Stopped(stop)),
     };
@@ -175,7 +182,7 @@ fn sum_in_job<S: Source, R: Threads + Wait + RandomSource + Sync>(
         if work.has_stopped_before(place) {
             return Err(Halt::GaveUp);
         }
-        summed = match add_file(rt, alloc, work, name, summed) {
+        gathered = match add_file(rt, alloc, work, name, gathered) {
             Ok(more) => more,
             Err(stop) => {
                 work.stopped.store(place, Ordering::SeqCst);
@@ -184,54 +191,58 @@ fn sum_in_job<S: Source, R: Threads + Wait + RandomSource + Sync>(
         };
         place = place.saturating_add(1);
     }
-    Ok(summed)
+    Ok(gathered)
 }
 
-// Sums these files, one after another.
-fn sum_in_turn<S: Source, R: Threads + Wait + RandomSource + Sync>(
+// Gathers these files, one after another.
+fn gather_in_turn<T: Gathering, S: Source, R: Threads + Wait + RandomSource + Sync>(
     rt: &R,
     alloc: Global,
     work: &Work<S>,
     names: &[Text],
-) -> Result<Summed, Stop>
-    ensures { SumsOrStops (S.bytes work.now.source.now).file names.now work.now.settings work.now.columns.now result }
+) -> Result<Gathered<T>, Stop>
+    ensures { GathersOrStops (S.bytes work.now.source.now).file names.now work.now.settings (T.come_to work.now.of work.now.columns.now) result }
 {
-    let mut summed = match Summed::of_none(rt, alloc, work.columns) {
+    let mut gathered = match Gathered::of_none(alloc, work.keys, work.of, work.columns) {
         Ok(none) => none,
         Err(stop) => return Err(stop),
     };
     for name in names {
-        summed = match add_file(rt, alloc, work, name, summed) {
+        gathered = match add_file(rt, alloc, work, name, gathered) {
             Ok(more) => more,
             Err(stop) => return Err(stop),
         };
     }
-    Ok(summed)
+    Ok(gathered)
 }
 
 // With the file of this name.
-fn add_file<S: Source, R: Threads + Wait + RandomSource + Sync>(
+fn add_file<T: Gathering, S: Source, R: Threads + Wait + RandomSource + Sync>(
     rt: &R,
     alloc: Global,
     work: &Work<S>,
     name: &Text,
-    summed: Summed,
-) -> Result<Summed, Stop>
-    ensures { AddsOrStops (S.bytes work.now.source.now).file name.now work.now.settings summed result }
+    gathered: Gathered<T>,
+) -> Result<Gathered<T>, Stop>
+    ensures { AddsOrStops (S.bytes work.now.source.now).file name.now work.now.settings
+        (T.come_to work.now.of work.now.columns.now) gathered result }
 {
     let collected = match collect_file(rt, alloc, work.source, name, &work.settings) {
         Ok(collected) => collected,
-        Err(cause) => return Err(summed.stop(cause)),
+        Err(cause) => return Err(gathered.stop(cause)),
     };
-    match summed.with_run(alloc, &collected) {
+    match gathered.with_run(alloc, work.keys, work.of, work.columns, &collected) {
         Ok(more) => Ok(more),
         Err(stop) => Err(stop),
     }
 }
 
 // The files of two groups, of which those of the second come after those of the first.
-fn joined(first: Result<Summed, Halt>, second: Result<Summed, Halt>) -> Result<Summed, Halt>
-    ensures { JoinsFiles first second result }
+fn joined<T: Gathering>(
+    first: Result<Gathered<T>, Halt>,
+    second: Result<Gathered<T>, Halt>,
+) -> Result<Gathered<T>, Halt>
+    ensures { JoinsFiles T.come_to first second result }
 {
     let first = match first {
         Ok(first) => first,
@@ -241,7 +252,7 @@ fn joined(first: Result<Summed, Halt>, second: Result<Summed, Halt>) -> Result<S
         Ok(second) => second,
         Err(halt) => return Err(halt.after(first.lines)),
     };
-    match first.with(second) {
+    match first.joined(second) {
         Ok(both) => Ok(both),
         Err(stop) => Err(Halt::Stopped(stop)),
     }

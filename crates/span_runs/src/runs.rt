@@ -5,24 +5,26 @@ ghost use Rattle.span_runs.specs.Runs.{only_name, run_of_files, table_of_run};
 use span_collect::{Collected, Input};
 use span_event::Text;
 use span_keyed_tracks::HashKeys;
-use span_table::{Column, Table};
+use span_table::{Column, Of, Table};
 use std::alloc::{AllocError, Global};
 use std::random::RandomSource;
 
-/// The table by these columns of what was collected of these files as one run.
+/// The table, by these columns, of what was collected of these files as one run and is to be summed.
 pub fn table_of_run<R: RandomSource>(
     rt: &R,
     alloc: Global,
+    of: Of,
     columns: &[Column],
     files: &[Input],
     collected: &Collected,
 ) -> Result<Table, AllocError>
     ensures { IfOk result (λ table. table
-        ≡ table_of_run columns.now (run_of_files files.now collected.now.end.ends.items collected.now.ledger.journal)) }
+        ≡ table_of_run of columns.now (run_of_files files.now collected.now.end.ends.items collected.now.ledger.journal)) }
 {
     Table::of(
         alloc,
         HashKeys::random(rt),
+        of,
         columns,
         &collected.ledger,
         files.len() as u64,

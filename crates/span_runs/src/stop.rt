@@ -1,4 +1,4 @@
-//! Why files were not all summed.
+//! Why files were not all gathered.
 ghost use Rattle.std.specs.Prelude.{◌≡◌, [], IfErr};
 ghost use Rattle.span_runs.specs.declared.stop.StopCause.TheVariants.{Memory};
 ghost use Rattle.span_runs.specs.Stops.{ComesAfter, HaltsAfter, IsOfSum};
@@ -35,7 +35,7 @@ impl StopCause {
     }
 }
 
-/// Why files were not all summed: the fault lines of those before the one that stopped, and what stopped there.
+/// Why files were not all gathered: the fault lines of those before the one that stopped, and what stopped there.
 #[derive(Drop)]
 pub struct Stop {
     pub lines: Vec<u8>,
@@ -71,7 +71,7 @@ impl Stop {
     }
 }
 
-/// Why a job ended before its files were all summed.
+/// Why a job ended before its files were all gathered.
 #[derive(Drop)]
 pub(crate) enum Halt {
     Stopped(Stop),

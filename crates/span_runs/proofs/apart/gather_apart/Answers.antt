@@ -1,7 +1,7 @@
 use Rattle.std.proofs.Common.{sym, subst}
 use Rattle.span_runs.specs.Stops.{IsOfSum}
 use Rattle.span_runs.proofs.Stopping.{StopsAmong-first}
-use Rattle.span_runs.proofs.apart.sum_apart.Goals as goal
+use Rattle.span_runs.proofs.apart.gather_apart.Goals as goal
 
 -- before the first
 pub returns-in_default : goal.returns-in_default

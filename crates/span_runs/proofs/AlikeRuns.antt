@@ -1,0 +1,18 @@
+-- Runs of which the last is replaced by one that is alike have the same tables.
+use Rattle.std.proofs.Common.{◌≡◌, List, [], ◌∷◌, ◌++◌, refl}
+use Rattle.span_table.specs.declared.column.Column.{Column}
+use Rattle.span_table.specs.declared.of.Of.{Of}
+use Rattle.span_table.specs.Columns.{Run}
+use Rattle.span_table.specs.Laws.{AreAlikeRuns, AreAllAlike}
+use Rattle.span_table.specs.Tables.{table_of}
+use Rattle.span_table.proofs.SameTables.{table_of-alike}
+
+AreAlikeRuns-refl : (run : Run) → AreAlikeRuns run run
+AreAlikeRuns-refl run = record { journals = record { counts = refl; acts = λ topic. refl }; files = refl; unread = refl; file = refl }
+
+AreAllAlike-last : (runs : List Run) (run other : Run) → AreAlikeRuns run other → AreAllAlike (runs ++ run ∷ []) (runs ++ other ∷ [])
+AreAllAlike-last [] run other alike = (alike, tt)
+AreAllAlike-last (first ∷ runs) run other alike = (AreAlikeRuns-refl first, AreAllAlike-last runs run other alike)
+
+pub table_of-last : (of : Of) (columns : List Column) (runs : List Run) (run other : Run) → AreAlikeRuns run other → table_of of columns (runs ++ run ∷ []) ≡ table_of of columns (runs ++ other ∷ [])
+table_of-last of columns runs run other alike = table_of-alike of columns (runs ++ run ∷ []) (runs ++ other ∷ []) (AreAllAlike-last runs run other alike)
