@@ -11,6 +11,7 @@ use Rattle.span_parts.specs.Sum.{AreAt, Chooses, HasOtherColumns, PartSum, SumsP
 use Rattle.span_runs.specs.Source.{SourceBytes}
 use Rattle.span_event.specs.declared.unit.Unit.{Unit}
 use Rattle.span_table.specs.declared.column.Column.{Column}
+use Rattle.span_table.specs.declared.of.Of.{Of}
 use Rattle.span_table.specs.Adding.{add_tables, picked}
 use Rattle.span_table.specs.Tables.{SpanTable}
 use Rattle.tracebook.specs.declared.added.AddStop.{AddStop}
@@ -35,6 +36,7 @@ module _ (known : Known) where
   AddsMore-none sum = record {
     texts = [];
     held = tt;
+    of = refl;
     unit = refl;
     columns = refl;
     places = refl;
@@ -46,6 +48,7 @@ module _ (known : Known) where
   AddsMore-push names name old middle new more adds = record {
     texts = more.texts ++ adds.text ∷ [];
     held = AllZip-append (IsText known) names (name ∷ []) more.texts (adds.text ∷ []) more.held (adds.held, tt);
+    of = adds.takes.of ∙ more.of;
     unit = adds.takes.unit ∙ more.unit;
     columns = adds.takes.columns ∙ more.columns;
     places = adds.takes.places ∙ more.places;
@@ -67,6 +70,7 @@ module _ (known : Known) where
   pub AddsBeside-more : (names : List Bytes) (base none sum : PartSum) → TakesNone base none → AddsMore none sum known names → AddsBeside base sum known names
   AddsBeside-more names base none sum takes more = record {
     added = record { texts = more.texts; held = more.held; sums = more.sums [] takes.sums };
+    of = more.of ∙ takes.of;
     unit = more.unit ∙ takes.unit;
     columns = more.columns ∙ takes.columns;
     places = more.places ∙ takes.places;
@@ -74,15 +78,16 @@ module _ (known : Known) where
 
   -- at the file of this place
   pub StopsMore-at : (names : List Bytes) (place : ℕ) (name : Bytes) (old middle : PartSum) (stop : AddStop) → place < length names → name ≡ get_or names place name →
-      AddsMore old middle known (take place names) → StopsAt known (HasOtherColumns middle.unit middle.columns) name stop → StopsMore old stop known names
+      AddsMore old middle known (take place names) → StopsAt known (HasOtherColumns middle.of middle.unit middle.columns) name stop → StopsMore old stop known names
   StopsMore-at names place name old middle stop low is more stops = record {
     done = take place names;
     later = name ∷ drop (suc place) names;
     split = sym (ap (λ n. take place names ++ n ∷ drop (suc place) names) is ∙ ap (λ (ns : List Bytes). take place names ++ ns) (sym (drop-cons names place name low)) ∙ take-append-drop place names);
     sum = middle;
     added = more;
-    cause = subst (λ (columns : List Column). StopsAt known (HasOtherColumns old.unit columns) name stop) more.columns
-        (subst (λ (unit : Unit). StopsAt known (HasOtherColumns unit middle.columns) name stop) more.unit stops);
+    cause = subst (λ (columns : List Column). StopsAt known (HasOtherColumns old.of old.unit columns) name stop) more.columns
+        (subst (λ (unit : Unit). StopsAt known (HasOtherColumns old.of unit middle.columns) name stop) more.unit
+        (subst (λ (of : Of). StopsAt known (HasOtherColumns of middle.unit middle.columns) name stop) more.of stops));
   }
 
   -- behind the first
@@ -93,8 +98,9 @@ module _ (known : Known) where
     split = ap (λ (ns : List Bytes). name ∷ ns) stops.split;
     sum = stops.sum;
     added = AddsChosen-more wanted name stops.done first stops.sum begins stops.added;
-    cause = subst (λ (columns : List Column). StopsNext stops.sum.unit columns stop known stops.later) (sym stops.added.columns)
-        (subst (λ (unit : Unit). StopsNext unit first.columns stop known stops.later) (sym stops.added.unit) stops.cause);
+    cause = subst (λ (columns : List Column). StopsNext stops.sum.of stops.sum.unit columns stop known stops.later) (sym stops.added.columns)
+        (subst (λ (unit : Unit). StopsNext stops.sum.of unit first.columns stop known stops.later) (sym stops.added.unit)
+        (subst (λ (of : Of). StopsNext of first.unit first.columns stop known stops.later) (sym stops.added.of) stops.cause));
   })
 
   -- beside a sum
@@ -105,8 +111,9 @@ module _ (known : Known) where
     split = stops.split;
     sum = stops.sum;
     added = AddsBeside-more stops.done base none stops.sum takes stops.added;
-    cause = subst (λ (columns : List Column). StopsNext base.unit columns stop known stops.later) takes.columns
-        (subst (λ (unit : Unit). StopsNext unit none.columns stop known stops.later) takes.unit stops.cause);
+    cause = subst (λ (columns : List Column). StopsNext base.of base.unit columns stop known stops.later) takes.columns
+        (subst (λ (unit : Unit). StopsNext base.of unit none.columns stop known stops.later) takes.unit
+        (subst (λ (of : Of). StopsNext of none.unit none.columns stop known stops.later) takes.of stops.cause));
   }
 
   -- for want of memory, before the first
@@ -116,17 +123,17 @@ module _ (known : Known) where
     later = names;
     split = refl;
     sum = none;
-    added = record { added = record { texts = []; held = tt; sums = sums }; unit = refl; columns = refl; places = refl };
+    added = record { added = record { texts = []; held = tt; sums = sums }; of = refl; unit = refl; columns = refl; places = refl };
     cause = stops names;
   }
     where
       none : PartSum
-      none = record { unit = base.unit; columns = base.columns; places = base.places; sum = add_tables (picked base.places base.columns) [] }
+      none = record { of = base.of; unit = base.unit; columns = base.columns; places = base.places; sum = add_tables base.of (picked base.places base.columns) [] }
 
       sums : SumsParts [] none
-      sums = record { parts = []; are = tt; columns = All-nil (λ (part : SpanTable). part.columns ≡ base.columns); adds = refl }
+      sums = record { parts = []; are = tt; kinds = All-nil (λ (part : SpanTable). part.of ≡ base.of); columns = All-nil (λ (part : SpanTable). part.columns ≡ base.columns); adds = refl }
 
-      stops : (later : List Bytes) → StopsNext base.unit base.columns Memory known later
+      stops : (later : List Bytes) → StopsNext base.of base.unit base.columns Memory known later
       stops [] = refl
       stops (name ∷ later) = tt
 

@@ -2,18 +2,19 @@
 use Rattle.std.proofs.Common.{◌≡◌, true, List, [], ◌∷◌, map, refl, sym, ap, subst}
 use Rattle.span_event.specs.Text.{Bytes}
 use Rattle.span_collect.specs.declared.settings.Settings.{Settings}
-use Rattle.span_runs.specs.declared.summed.Summed.{Summed}
 use Rattle.span_runs.specs.Apart.{run_alone}
+use Rattle.span_runs.specs.Gathering.{IsTableOf}
 use Rattle.span_runs.specs.Source.{SourceBytes}
 use Rattle.span_event.specs.declared.unit.Unit.{Unit}
 use Rattle.span_table.specs.declared.column.Column.{Column}
+use Rattle.span_table.specs.declared.of.Of.{Of}
 use Rattle.span_table.specs.Printed.{IsPrint}
-use Rattle.span_table.specs.Tables.{Run, SpanTable, table_of}
+use Rattle.span_table.specs.Tables.{Run, SpanTable}
 use Rattle.span_table.proofs.RunTables.{json_of-print}
 use Rattle.tracebook.specs.declared.tables.TableForm.{TableForm}
 use Rattle.tracebook.specs.declared.tables.TableView.{TableView}
 use Rattle.tracebook.specs.Fleet.{AddsAreTrees, AreRunsOf, IsWhole, SumsAreLeaves}
-use Rattle.tracebook.specs.Sums.{SumsInputs}
+use Rattle.tracebook.specs.Sums.{Summed, SumsInputs}
 use Rattle.tracebook.specs.Tables.{FormFits, TableFits, formed, table_text}
 
 -- a whole table that fits is printed
@@ -23,28 +24,28 @@ table_text-whole unit view table whole fits =
     (json_of-print unit view.options.shown table whole.all (subst (λ (form : TableForm). FormFits form view.options.shown table) whole.json fits))
 
 -- what files come to is the table of their runs
-SumsInputs-runs : (source : SourceBytes) (names : List Bytes) (settings : Settings) (columns : List Column) (summed : Summed) → SumsInputs source names settings columns summed →
-    (runs : List Run) × AreRunsOf source names settings runs × (summed.sum ≡ table_of columns runs)
-SumsInputs-runs source [] settings columns summed sums =
-    (map (run_alone settings) sums.files, record { files = sums.files; read = sums.read; accounted = sums.accounted; are = refl }, sums.sum)
-SumsInputs-runs source (name ∷ names) settings columns summed sums =
-    (map (run_alone settings) sums.files, record { files = sums.files; read = sums.read; accounted = sums.accounted; are = refl }, sums.sum)
+SumsInputs-runs : (source : SourceBytes) (names : List Bytes) (settings : Settings) (of : Of) (columns : List Column) (summed : Summed) → SumsInputs source names settings of columns summed →
+    (runs : List Run) × AreRunsOf source names settings runs × IsTableOf of columns runs summed.runs
+SumsInputs-runs source [] settings of columns summed sums =
+    (map (run_alone settings) sums.files, record { files = sums.files; read = sums.read; accounted = sums.accounted; are = refl }, sums.runs)
+SumsInputs-runs source (name ∷ names) settings of columns summed sums =
+    (map (run_alone settings) sums.files, record { files = sums.files; read = sums.read; accounted = sums.accounted; are = refl }, sums.runs)
 
 pub sums-leaves : SumsAreLeaves
 sums-leaves source names settings view status old new sums whole =
-    let found = SumsInputs-runs source names settings view.options.columns.items sums.summed sums.sums in
-    (found.0, found.1, subst (IsPrint settings.unit (table_text settings.unit view true sums.summed.sum)) found.2 (table_text-whole settings.unit view sums.summed.sum whole sums.fits))
+    let found = SumsInputs-runs source names settings view.options.of view.options.columns.items sums.summed sums.sums in
+    (found.0, found.1, subst (IsPrint settings.unit (table_text settings.unit view true sums.summed.runs)) found.2 (table_text-whole settings.unit view sums.summed.runs whole sums.fits))
 
 pub adds-trees : AddsAreTrees
 adds-trees source [] view status old new adds whole = (
   adds.added.0.texts,
   adds.added.0.held,
   λ parts printed.
-      (adds.added.0.texts, adds.sum, printed, adds.added.0.sums, adds.added.1, refl, table_text-whole adds.sum.unit view adds.sum.sum whole adds.fits),
+      (adds.added.0.texts, adds.sum, printed, adds.added.0.sums, adds.added.1, refl, refl, table_text-whole adds.sum.unit view adds.sum.sum whole adds.fits),
 )
 adds-trees source (name ∷ names) view status old new adds whole = (
   adds.added.0.texts,
   adds.added.0.held,
   λ parts printed.
-      (adds.added.0.texts, adds.sum, printed, adds.added.0.sums, adds.added.1, refl, table_text-whole adds.sum.unit view adds.sum.sum whole adds.fits),
+      (adds.added.0.texts, adds.sum, printed, adds.added.0.sums, adds.added.1, refl, refl, table_text-whole adds.sum.unit view adds.sum.sum whole adds.fits),
 )

@@ -34,7 +34,7 @@ module _ (files : List Input) (settings : Settings) (ends : List FileEnd) (asked
   alike = AreAlike-in_turn files [] settings ends asked sealing journal account separate below
 
   table-in_turn : (view : TableView) → asked_table view (run_of_files files ends journal) ≡ asked_table view (run_in_turn settings files)
-  table-in_turn view = table_of_run-in_turn files settings ends asked sealing journal account separate below view.options.columns.items
+  table-in_turn view = table_of_run-in_turn files settings ends asked sealing journal account separate below view.options.of view.options.columns.items
 
   -- each view
   pub text_of-in_turn : (view : View) → text_of settings.unit view files ends journal ≡ text_in_turn (text_of settings.unit view files) files [] settings
@@ -76,11 +76,11 @@ module _ (view : ComparisonView) (base files : List Input) (settings : Settings)
   -- the table of the base
   pub base-in_turn : compared_table view (run_of_files base base_run.ends.items base_journal) ≡ compared_table view (run_in_turn settings base)
   base-in_turn =
-      table_of_run-in_turn base settings base_run.ends.items base_run.asked base_run.sealing base_journal base_ended.account separate_base (rw base_ended.status at base_below) view.options.columns.items
+      table_of_run-in_turn base settings base_run.ends.items base_run.asked base_run.sealing base_journal base_ended.account separate_base (rw base_ended.status at base_below) view.options.of view.options.columns.items
 
   -- and that of the other
   pub other-in_turn : compared_table view (run_of_files files run.ends.items journal) ≡ compared_table view (run_in_turn settings files)
-  other-in_turn = table_of_run-in_turn files settings run.ends.items run.asked run.sealing journal ended.account separate (rw ended.status at other_below) view.options.columns.items
+  other-in_turn = table_of_run-in_turn files settings run.ends.items run.asked run.sealing journal ended.account separate (rw ended.status at other_below) view.options.of view.options.columns.items
 
   pub changes_of_runs-in_turn : changes_of_runs settings.unit view (run_of_files base base_run.ends.items base_journal) (run_of_files files run.ends.items journal) ≡ comparison_in_turn view base files settings
   changes_of_runs-in_turn = λ i. changes_text settings.unit view false (base-in_turn i) (other-in_turn i)

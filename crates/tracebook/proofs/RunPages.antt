@@ -19,11 +19,11 @@ use Rattle.span_runs.specs.declared.file_run.FileRun.{FileRun}
 use Rattle.span_runs.specs.Apart.{IsFileRun}
 use Rattle.span_runs.specs.Inputs.{AreFiles}
 use Rattle.span_runs.specs.Source.{SourceBytes}
-use Rattle.span_runs.proofs.Summing.{AreSummed-none, AreSummed-push}
+use Rattle.span_runs.proofs.GatheredFiles.{AreGathered-none, AreGathered-push}
 use Rattle.tracebook.specs.declared.pages.ShownFiles.{ShownFiles}
 use Rattle.tracebook.specs.declared.view.PageView.{PageView}
 use Rattle.tracebook.specs.Tables.{TableFits}
-use Rattle.tracebook.specs.Pages.{AreHeld, AreShown, HoldsInputs, IsPageOf, Pages, PagesPart, ShowsFile, ShowsInputs, WritesPage, WritesPagePart, shown_alone, shown_run, shown_runs}
+use Rattle.tracebook.specs.Pages.{AreHeld, AreShown, HoldsInputs, IsPageOf, Pages, PagesPart, ShowsFile, ShowsInputs, WritesPage, WritesPagePart, asked_for, shown_alone, shown_run, shown_runs}
 
 -- what was collected of a file may stand for the run in which its items stand in their order
 pub TakesRun-alone : (labels : List SpanColumn) (known : Bytes → Option Bytes) (name : Bytes) (settings : Settings) (run : FileRun) (old new : BegunPage) →
@@ -44,10 +44,10 @@ TakesRun-alone labels known name settings run old new is takes runs holds =
 
 module _ (known : Bytes → Option Bytes) (settings : Settings) (view : PageView) where
   -- no files
-  pub AreHeld-none : (shown : ShownFiles) → shown.summed.sum ≡ table_of view.table.options.columns.items [] → shown.summed.lines.items ≡ [] → Holds settings.unit view.labels.items [] shown.page →
+  pub AreHeld-none : (shown : ShownFiles) → shown.summed.runs ≡ table_of view.table.options.of view.table.options.columns.items [] → shown.summed.lines.items ≡ [] → Holds settings.unit view.labels.items [] shown.page →
       AreHeld (map (shown_alone settings)) known [] settings view shown
   AreHeld-none shown sum lines runs = record {
-    sums = AreSummed-none known settings view.table.options.columns.items shown.summed.sum shown.summed.lines.items sum lines;
+    sums = AreGathered-none known settings (λ runs. asked_for view runs shown.summed.runs) shown.summed.lines.items sum lines;
     runs = runs;
   }
 
@@ -55,7 +55,7 @@ module _ (known : Bytes → Option Bytes) (settings : Settings) (view : PageView
   pub AreHeld-push : (names : List Bytes) (name : Bytes) (old new : ShownFiles) → AreHeld (map (shown_alone settings)) known names settings view old →
       ShowsFile known name settings view old new → AreHeld (map (shown_alone settings)) known (names ++ name ∷ []) settings view new
   AreHeld-push names name old new held shows = record {
-    sums = AreSummed-push known names name settings view.table.options.columns.items old.summed new.summed held.sums shows.adds;
+    sums = AreGathered-push known names name settings (asked_for view) old.summed new.summed held.sums shows.adds;
     runs = subst (λ (runs : List ShownRun). Holds settings.unit view.labels.items runs new.page) (sym (map_push (shown_alone settings) held.sums.files shows.adds.file))
         (shows.page (map (shown_alone settings) held.sums.files) held.runs);
   }
@@ -104,7 +104,7 @@ ShowsInputs-held source (name ∷ names) settings view shown text = AreShown-hel
 
 -- what was held is written as a page
 pub Pages-written : (source : SourceBytes) (names : List Bytes) (settings : Settings) (view : PageView) (shown : ShownFiles) (status : ℕ) (old new : SinkState) →
-    HoldsInputs source names settings view shown → TableFits view.table shown.summed.sum → WritesPage settings.unit view shown status old new → Pages source names settings view status old new
+    HoldsInputs source names settings view shown → TableFits view.table shown.summed.runs → WritesPage settings.unit view shown status old new → Pages source names settings view status old new
 Pages-written source names settings view shown status old new held fits (text, is, written) = record {
   summed = shown.summed;
   text = text;

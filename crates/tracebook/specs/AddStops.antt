@@ -7,6 +7,7 @@ use Rattle.span_parts.specs.declared.fault.PartFault.TheVariants as part
 use Rattle.span_parts.specs.Sum.{HasOtherColumns, IsNoPart, LacksColumn, PartSum, SumsParts, TakesFirst, TakesPart}
 use Rattle.span_event.specs.declared.unit.Unit.{Unit as TimeUnit}
 use Rattle.span_table.specs.declared.column.Column.{Column}
+use Rattle.span_table.specs.declared.of.Of.{Of}
 use Rattle.tracebook.specs.declared.added.AddStop.{AddStop}
 use Rattle.tracebook.specs.declared.added.AddStop.TheVariants.{NotOpened, NotTable, OtherColumns, Memory, FileCount}
 use Rattle.tracebook.specs.Added.{AddsBeside, AddsChosen, IsText, Known}
@@ -23,10 +24,11 @@ pub record AddsFile (known : Known) (name : Bytes) (old new : PartSum) : Type 0 
   pub held : IsText known name text
   pub takes : TakesPart text old new
 
--- more files are added, in the same unit and by the same columns
+-- more files are added, which sum the same, in the same unit and by the same columns
 pub record AddsMore (old new : PartSum) (known : Known) (names : List Bytes) : Type 0 where
   pub texts : List Bytes
   pub held : AllZip (IsText known) names texts
+  pub of : new.of ≡ old.of
   pub unit : new.unit ≡ old.unit
   pub columns : new.columns ≡ old.columns
   pub places : new.places ≡ old.places
@@ -50,7 +52,7 @@ IsOfPart name fault (OtherColumns named) = (named ≡ name) × (fault ≡ part.O
 IsOfPart name fault Memory = Unit {0}
 IsOfPart name fault FileCount = fault ≡ part.TooMany
 
--- this stopped at the file, whose table is in another unit or by other columns where that holds of its text
+-- this stopped at the file, whose table sums something else, or is in another unit or by other columns where that holds of its text
 abbrev pub StopsAt : Known → (Bytes → Type 0) → Bytes → AddStop → Type 0
 StopsAt known IsOther name (NotOpened named reason) = named ≡ name
 StopsAt known IsOther name (NotTable named) = (named ≡ name) × HoldsOfText known name IsNoPart
@@ -63,10 +65,10 @@ abbrev pub StopsFirst : List Column → AddStop → Known → List Bytes → Typ
 StopsFirst wanted stop known [] = stop ≡ FileCount
 StopsFirst wanted stop known (name ∷ later) = StopsAt known (LacksColumn wanted) name stop
 
--- this stopped at the first of these, behind files that have this unit and these columns; where there is none, memory was refused
-abbrev pub StopsNext : TimeUnit → List Column → AddStop → Known → List Bytes → Type 0
-StopsNext unit columns stop known [] = stop ≡ Memory
-StopsNext unit columns stop known (name ∷ later) = StopsAt known (HasOtherColumns unit columns) name stop
+-- this stopped at the first of these, behind files that sum this, and have this unit and these columns; where there is none, memory was refused
+abbrev pub StopsNext : Of → TimeUnit → List Column → AddStop → Known → List Bytes → Type 0
+StopsNext of unit columns stop known [] = stop ≡ Memory
+StopsNext of unit columns stop known (name ∷ later) = StopsAt known (HasOtherColumns of unit columns) name stop
 
 -- the first of these files were added to a sum, and this stopped at the next
 pub record StopsMore (old : PartSum) (stop : AddStop) (known : Known) (names : List Bytes) : Type 0 where
@@ -75,7 +77,7 @@ pub record StopsMore (old : PartSum) (stop : AddStop) (known : Known) (names : L
   pub split : names ≡ done ++ later
   pub sum : PartSum
   pub added : AddsMore old sum known done
-  pub cause : StopsNext old.unit old.columns stop known later
+  pub cause : StopsNext old.of old.unit old.columns stop known later
 
 -- the first of these files were added, by the columns that are asked for, and this stopped at the next
 pub record StopsLater (wanted : List Column) (stop : AddStop) (known : Known) (names : List Bytes) : Type 0 where
@@ -84,7 +86,7 @@ pub record StopsLater (wanted : List Column) (stop : AddStop) (known : Known) (n
   pub split : names ≡ done ++ later
   pub sum : PartSum
   pub added : AddsChosen wanted sum known done
-  pub cause : StopsNext sum.unit sum.columns stop known later
+  pub cause : StopsNext sum.of sum.unit sum.columns stop known later
 
 -- why these files were not all added
 abbrev pub Stops : List Column → AddStop → Known → List Bytes → Type 0
@@ -97,4 +99,4 @@ pub record StopsBeside (base : PartSum) (stop : AddStop) (known : Known) (names 
   pub split : names ≡ done ++ later
   pub sum : PartSum
   pub added : AddsBeside base sum known done
-  pub cause : StopsNext base.unit base.columns stop known later
+  pub cause : StopsNext base.of base.unit base.columns stop known later

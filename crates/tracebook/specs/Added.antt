@@ -39,9 +39,10 @@ pub record AddsFiles (known : Known) (names : List Bytes) (sum : PartSum) : Type
 abbrev pub AddsChosen : List Column → PartSum → Known → List Bytes → Type 0
 AddsChosen wanted sum known names = AddsFiles known names sum × Chooses wanted sum
 
--- the sum of these files is in the same unit as another, and has the same columns, at the same places
+-- the sum of these files sums the same as another, in the same unit, and has the same columns, at the same places
 pub record AddsBeside (base sum : PartSum) (known : Known) (names : List Bytes) : Type 0 where
   pub added : AddsFiles known names sum
+  pub of : sum.of ≡ base.of
   pub unit : sum.unit ≡ base.unit
   pub columns : sum.columns ≡ base.columns
   pub places : sum.places ≡ base.places
@@ -58,7 +59,7 @@ abbrev pub AddsPart : SourceBytes → List Bytes → TableView → SinkState →
 AddsPart source names view old new = (new ≡ old)
     ⊎ ((sum : PartSum) × OfInputs source names (AddsChosen view.options.columns.items sum) × WritesPart (table_text sum.unit view true sum.sum) old new)
 
--- the base's files were added, and the others in the same unit and by the same columns, and what changed between the sums is written
+-- the base's files were added, and the others, which sum the same, in the same unit and by the same columns, and what changed between the sums is written
 pub record ComparesAdded (source : SourceBytes) (base_names names : List Bytes) (view : ComparisonView) (status : ℕ) (old new : SinkState) : Type 0 where
   pub base : PartSum
   pub other : PartSum

@@ -25,10 +25,11 @@ use Rattle.tracebook.specs.declared.comparison.ComparisonFault.TheVariants.{Run 
 use Rattle.tracebook.specs.declared.comparison.ComparisonForm.{ComparisonForm}
 use Rattle.tracebook.specs.declared.comparison.ComparisonForm.TheVariants.{Text, Json}
 use Rattle.tracebook.specs.declared.comparison.ComparisonView.{ComparisonView}
+use Rattle.tracebook.specs.Tables.{asked_by}
 
 -- what changed between two tables whose times are in this unit, in a form
 abbrev pub changes_formed : Unit → ComparisonForm → Wanted → Bool → SpanTable → SpanTable → Bytes
-changes_formed unit (Text by) shown tells_runs base other = comparison_of unit by shown tells_runs base other
+changes_formed unit (Text by) shown tells_runs base other = comparison_of unit (asked_by other.of by) shown tells_runs base other
 changes_formed unit Json shown tells_runs base other = json_comparison_of unit shown base other
 
 -- it is for other programs, and a number has more than 64 bits
@@ -45,7 +46,7 @@ HasTooGreat view base other = FormHasTooGreat view.form view.options.shown base 
 
 -- the table of one run that is asked for
 abbrev pub compared_table : ComparisonView → Run → SpanTable
-compared_table view run = table_of_run view.options.columns.items run
+compared_table view run = table_of_run view.options.of view.options.columns.items run
 
 -- the same for two runs
 abbrev pub changes_of_runs : Unit → ComparisonView → Run → Run → Bytes

@@ -35,11 +35,11 @@ pub record IsWhole (view : TableView) : Type 0 where
 abbrev pub SumsAreLeaves : Type 0
 SumsAreLeaves = (source : SourceBytes) (names : List Bytes) (settings : Settings) (view : TableView) (status : ℕ) (old new : SinkState)
     (sums : Sums source names settings view status old new) → IsWhole view →
-    (runs : List Run) × AreRunsOf source names settings runs × IsPrinted settings.unit view.options.columns.items (of_runs runs) (table_text settings.unit view true sums.summed.sum)
+    (runs : List Run) × AreRunsOf source names settings runs × IsPrinted view.options.of settings.unit view.options.columns.items (of_runs runs) (table_text settings.unit view true sums.summed.runs)
 
 -- what is printed of tables that are added is what a tree wants of a sum, whatever trees they were printed of
 abbrev pub AddsAreTrees : Type 0
 AddsAreTrees = (source : SourceBytes) (names : List Bytes) (view : TableView) (status : ℕ) (old new : SinkState) (adds : Adds source names view status old new) → IsWhole view →
     (texts : List Bytes) × OfInputs source names (λ known names. AllZip (IsText known) names texts)
-    × ((parts : Trees) → ArePrinted adds.sum.unit adds.sum.columns parts texts
-    → IsPrinted adds.sum.unit (chosen view.options.columns.items adds.sum.columns) (of_parts parts) (table_text adds.sum.unit view true adds.sum.sum))
+    × ((parts : Trees) → ArePrinted adds.sum.of adds.sum.unit adds.sum.columns parts texts
+    → IsPrinted adds.sum.of adds.sum.unit (chosen view.options.columns.items adds.sum.columns) (of_parts parts) (table_text adds.sum.unit view true adds.sum.sum))

@@ -6,6 +6,7 @@ pub mod Fleet
 pub mod Pages
 pub mod Reading
 pub mod Request
+pub mod Sides
 pub mod Sums
 pub mod Tables
 pub mod View

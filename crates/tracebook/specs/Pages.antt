@@ -7,13 +7,15 @@ use Rattle.span_collect.specs.declared.files.Input.{Input}
 use Rattle.span_collect.specs.declared.settings.Settings.{Settings}
 use Rattle.span_collect.specs.InTurn.{ends_from, journal_in_turn}
 use Rattle.span_page.specs.Runs.{Holds, ShownRun, TakesRun, page_of_runs}
-use Rattle.span_runs.specs.declared.summed.Summed.{Summed}
 use Rattle.span_runs.specs.declared.file_run.FileRun.{FileRun}
-use Rattle.span_runs.specs.Apart.{AddsFile, AreSummed}
+use Rattle.span_runs.specs.Apart.{AddsFile, GathersFiles}
+use Rattle.span_runs.specs.Gathering.{IsTableOf}
 use Rattle.span_runs.specs.Source.{SourceBytes}
 use Rattle.tracebook.specs.declared.pages.ShownFiles.{ShownFiles}
 use Rattle.tracebook.specs.declared.view.PageView.{PageView}
-use Rattle.tracebook.specs.Sums.{WritesAll, WritesPart}
+use Rattle.span_table.specs.Columns.{Run}
+use Rattle.span_table.specs.Tables.{SpanTable}
+use Rattle.tracebook.specs.Sums.{Summed, WritesAll, WritesPart}
 use Rattle.tracebook.specs.Tables.{TableFits, table_text}
 
 -- the run of a file alone, in which its items stand in their order, as a page shows it
@@ -28,10 +30,14 @@ most_shown = 64
 abbrev pub shown_runs : Settings → List Input → List ShownRun
 shown_runs settings files = if nat_le (length files) most_shown then map (shown_alone settings) files else []
 
+-- the runs come to the table that the page has of them
+abbrev pub asked_for : PageView → List Run → SpanTable → Type 0
+asked_for view = IsTableOf view.table.options.of view.table.options.columns.items
+
 -- Each of the files of these names was collected alone, and the text is the page of their runs with the table of their sum.
 pub record AreShown (known : Bytes → Option Bytes) (names : List Bytes) (settings : Settings) (view : PageView) (summed : Summed) (text : Bytes) : Type 0 where
-  pub sums : AreSummed known names settings view.table.options.columns.items summed.sum summed.lines.items
-  pub page : text ≡ page_of_runs settings.unit view.labels.items (table_text settings.unit view.table true summed.sum) (shown_runs settings sums.files)
+  pub sums : GathersFiles known names settings (asked_for view) summed
+  pub page : text ≡ page_of_runs settings.unit view.labels.items (table_text settings.unit view.table true summed.runs) (shown_runs settings sums.files)
 
 -- the same of standard input, as the file `-`, where there are no names
 abbrev pub ShowsInputs : SourceBytes → List Bytes → Settings → PageView → Summed → Bytes → Type 0
@@ -43,7 +49,7 @@ pub record Pages (source : SourceBytes) (names : List Bytes) (settings : Setting
   pub summed : Summed
   pub text : Bytes
   pub shows : ShowsInputs source names settings view summed text
-  pub fits : TableFits view.table summed.sum
+  pub fits : TableFits view.table summed.runs
   pub written : WritesAll text summed.lines.items status old new
 
 -- nothing was written, or first bytes of that
@@ -53,7 +59,7 @@ PagesPart source names settings view old new = (new ≡ old)
 
 -- Each of the files of these names was collected alone, and is summed; the page has these runs of them so far.
 pub record AreHeld (runs_of : List Input → List ShownRun) (known : Bytes → Option Bytes) (names : List Bytes) (settings : Settings) (view : PageView) (shown : ShownFiles) : Type 0 where
-  pub sums : AreSummed known names settings view.table.options.columns.items shown.summed.sum shown.summed.lines.items
+  pub sums : GathersFiles known names settings (asked_for view) shown.summed
   pub runs : Holds settings.unit view.labels.items (runs_of sums.files) shown.page
 
 -- the same of standard input, as the file `-`, where there are no names
@@ -64,7 +70,7 @@ HoldsInputs source (name ∷ names) settings view shown = AreHeld (shown_runs se
 -- the text is the page of the runs that are held
 abbrev pub IsPageOf : Unit → PageView → ShownFiles → Bytes → Type 0
 IsPageOf unit view shown text = (runs : List ShownRun) → Holds unit view.labels.items runs shown.page →
-    text ≡ page_of_runs unit view.labels.items (table_text unit view.table true shown.summed.sum) runs
+    text ≡ page_of_runs unit view.labels.items (table_text unit view.table true shown.summed.runs) runs
 
 -- that text is written
 abbrev pub WritesPage : Unit → PageView → ShownFiles → ℕ → SinkState → SinkState → Type 0
@@ -80,5 +86,5 @@ shown_run run = record { files = run.file ∷ []; ends = run.collected.end.ends.
 
 -- one more file is shown
 pub record ShowsFile (known : Bytes → Option Bytes) (name : Bytes) (settings : Settings) (view : PageView) (old new : ShownFiles) : Type 0 where
-  pub adds : AddsFile known name settings old.summed new.summed
+  pub adds : AddsFile known name settings (asked_for view) old.summed new.summed
   pub page : TakesRun settings.unit view.labels.items (shown_alone settings adds.file) old.page new.page

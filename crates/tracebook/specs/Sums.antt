@@ -3,19 +3,35 @@ use Rattle.std.specs.Prelude.{◌≡◌, ℕ, ◌≤◌, ◌⊎◌, ◌==◌, if
 use Rattle.span_event.specs.Text.{Bytes}
 use Rattle.span_report.specs.Sink.{SinkState, TakesBytes, Fails}
 use Rattle.span_collect.specs.declared.settings.Settings.{Settings}
-use Rattle.span_runs.specs.declared.summed.Summed.{Summed}
-use Rattle.span_runs.specs.Apart.{SumsFiles}
+use Rattle.span_runs.specs.declared.gathered.Gathered.{Gathered}
+use Rattle.span_runs.specs.Apart.{GathersFiles}
+use Rattle.span_runs.specs.Gathering.{IsTableOf}
 use Rattle.span_runs.specs.Source.{SourceBytes}
 use Rattle.span_table.specs.declared.column.Column.{Column}
+use Rattle.span_table.specs.declared.of.Of.{Of}
+use Rattle.span_table.specs.Columns.{Run}
+use Rattle.span_table.specs.Tables.{SpanTable}
 use Rattle.tracebook.specs.declared.comparison.ComparisonView.{ComparisonView}
 use Rattle.tracebook.specs.declared.tables.TableView.{TableView}
 use Rattle.tracebook.specs.Comparison.{changes_text}
 use Rattle.tracebook.specs.Tables.{TableFits, table_text}
 
 -- what files of these names come to, each a run of its own; standard input, as the file `-`, where there are none
-abbrev pub SumsInputs : SourceBytes → List (List ℕ) → Settings → List Column → Summed → Type 0
-SumsInputs source [] settings columns summed = SumsFiles (λ name. source.standard) (codes "-" ∷ []) settings columns summed
-SumsInputs source (name ∷ names) settings columns summed = SumsFiles source.file (name ∷ names) settings columns summed
+abbrev pub GathersInputs : {T : Type 0} → SourceBytes → List (List ℕ) → Settings → (List Run → T → Type 0) → Gathered T → Type 0
+GathersInputs source [] settings ComeTo gathered = GathersFiles (λ name. source.standard) (codes "-" ∷ []) settings ComeTo gathered
+GathersInputs source (name ∷ names) settings ComeTo gathered = GathersFiles source.file (name ∷ names) settings ComeTo gathered
+
+-- what the base's files come to, and the others
+pub record GathersBoth {T : Type 0} (source : SourceBytes) (base_names names : List (List ℕ)) (settings : Settings) (ComeTo : List Run → T → Type 0) (base other : Gathered T) : Type 0 where
+  pub earlier : GathersFiles source.file base_names settings ComeTo base
+  pub later : GathersInputs source names settings ComeTo other
+
+-- files that were each a run of its own, and the table of all
+abbrev pub Summed : Type 0
+Summed = Gathered SpanTable
+
+abbrev pub SumsInputs : SourceBytes → List (List ℕ) → Settings → Of → List Column → Summed → Type 0
+SumsInputs source names settings of columns summed = GathersInputs source names settings (IsTableOf of columns) summed
 
 -- 1 where a fault line is said, else 0
 abbrev pub told_status : Bytes → ℕ
@@ -33,25 +49,24 @@ WritesPart text old new = (new ≡ old) ⊎ ((written : ℕ) × (written ≤ len
 -- the files of these names were summed, and this view of the sum is written
 pub record Sums (source : SourceBytes) (names : List (List ℕ)) (settings : Settings) (view : TableView) (status : ℕ) (old new : SinkState) : Type 0 where
   pub summed : Summed
-  pub sums : SumsInputs source names settings view.options.columns.items summed
-  pub fits : TableFits view summed.sum
-  pub written : WritesAll (table_text settings.unit view true summed.sum) summed.lines.items status old new
+  pub sums : SumsInputs source names settings view.options.of view.options.columns.items summed
+  pub fits : TableFits view summed.runs
+  pub written : WritesAll (table_text settings.unit view true summed.runs) summed.lines.items status old new
 
 -- nothing was written, or first bytes of that
 abbrev pub SumsPart : SourceBytes → List (List ℕ) → Settings → TableView → SinkState → SinkState → Type 0
 SumsPart source names settings view old new = (new ≡ old)
-    ⊎ ((summed : Summed) × SumsInputs source names settings view.options.columns.items summed × WritesPart (table_text settings.unit view true summed.sum) old new)
+    ⊎ ((summed : Summed) × SumsInputs source names settings view.options.of view.options.columns.items summed × WritesPart (table_text settings.unit view true summed.runs) old new)
 
 -- the base's files were summed, and the others, and what changed between the sums is written
 pub record ComparesSums (source : SourceBytes) (base_names names : List (List ℕ)) (settings : Settings) (view : ComparisonView) (status : ℕ) (old new : SinkState) : Type 0 where
   pub base : Summed
   pub other : Summed
-  pub base_sums : SumsFiles source.file base_names settings view.options.columns.items base
-  pub sums : SumsInputs source names settings view.options.columns.items other
-  pub written : WritesAll (changes_text settings.unit view true base.sum other.sum) (base.lines.items ++ other.lines.items) status old new
+  pub sums : GathersBoth source base_names names settings (IsTableOf view.options.of view.options.columns.items) base other
+  pub written : WritesAll (changes_text settings.unit view true base.runs other.runs) (base.lines.items ++ other.lines.items) status old new
 
 -- nothing was written, or first bytes of that
 abbrev pub ComparesSumsPart : SourceBytes → List (List ℕ) → List (List ℕ) → Settings → ComparisonView → SinkState → SinkState → Type 0
 ComparesSumsPart source base_names names settings view old new = (new ≡ old)
-    ⊎ ((base : Summed) × (other : Summed) × SumsFiles source.file base_names settings view.options.columns.items base
-    × SumsInputs source names settings view.options.columns.items other × WritesPart (changes_text settings.unit view true base.sum other.sum) old new)
+    ⊎ ((base : Summed) × (other : Summed) × GathersBoth source base_names names settings (IsTableOf view.options.of view.options.columns.items) base other
+    × WritesPart (changes_text settings.unit view true base.runs other.runs) old new)

@@ -1,11 +1,14 @@
 -- The texts of tables.
-use Rattle.std.specs.Prelude.{◌≡◌, Bool, false, ⊤}
+use Rattle.std.specs.Prelude.{◌≡◌, Bool, false, Option, Some, None, ⊤}
 use Rattle.span_event.specs.Text.{Bytes}
 use Rattle.span_event.specs.declared.unit.Unit.{Unit}
+use Rattle.span_table.specs.declared.of.Of.{Of}
+use Rattle.span_table.specs.declared.sums.By.{By}
 use Rattle.span_table.specs.Columns.{Run}
 use Rattle.span_table.specs.Json.{json_fits, json_of, shown_table}
 use Rattle.span_table.specs.Printed.{AllFit}
 use Rattle.span_table.specs.Ranking.{ranking_of}
+use Rattle.span_table.specs.Ranks.{usual_by}
 use Rattle.span_table.specs.Shown.{Wanted}
 use Rattle.span_table.specs.Tables.{SpanTable}
 use Rattle.span_runs.specs.Runs.{table_of_run}
@@ -13,9 +16,14 @@ use Rattle.tracebook.specs.declared.tables.TableForm.{TableForm}
 use Rattle.tracebook.specs.declared.tables.TableForm.TheVariants.{Ranking, Json}
 use Rattle.tracebook.specs.declared.tables.TableView.{TableView}
 
+-- the number that rows go by: the named one, or the usual one of what a table sums
+abbrev pub asked_by : Of → Option By → By
+asked_by of None = usual_by of
+asked_by of (Some by) = by
+
 -- a table in this form, whose times are in this unit
 abbrev pub formed : Unit → TableForm → Wanted → Bool → SpanTable → Bytes
-formed unit (Ranking most by) shown tells_runs table = ranking_of unit most by shown tells_runs table
+formed unit (Ranking most by) shown tells_runs table = ranking_of unit most (asked_by table.of by) shown tells_runs table
 formed unit Json shown tells_runs table = json_of unit shown table
 
 -- numbers for other programs have 64 bits; for people they have no bound
@@ -40,4 +48,4 @@ TableExceeds view table = FormExceeds view.form view.options.shown table
 
 -- the table of one run that is asked for
 abbrev pub asked_table : TableView → Run → SpanTable
-asked_table view run = table_of_run view.options.columns.items run
+asked_table view run = table_of_run view.options.of view.options.columns.items run

@@ -30,7 +30,7 @@ pub(crate) enum AddStop {
     NotOpened(Text, Reason),
     /// 53: this file is no table that was printed.
     NotTable(Text),
-    /// 54: the unit or the columns of this one are others, or it lacks a column that is asked for.
+    /// 54: what this one sums, its unit or its columns are others, or it lacks a column that is asked for.
     OtherColumns(Text),
     /// 31: memory was refused.
     Memory,
@@ -262,7 +262,7 @@ fn sum_first<S: Source>(
 // The sum with the table of this name.
 fn add_file<S: Source>(alloc: Global, sum: Parts, name: &Text, source: &S) -> Result<Parts, AddStop>
     ensures sum { IfOk result (AddsFile (S.bytes source.now).file name.now sum) }
-    ensures stop { IfErr result (StopsAt (S.bytes source.now).file (HasOtherColumns sum.unit sum.columns) name.now) }
+    ensures stop { IfErr result (StopsAt (S.bytes source.now).file (HasOtherColumns sum.of sum.unit sum.columns) name.now) }
 {
     let text = match text_of_file(alloc, name, source) {
         Ok(text) => text,

@@ -1,20 +1,21 @@
 //! Files each of which is a run of its own: their tables, summed and printed.
-ghost use Rattle.std.specs.Prelude.{◌≡◌, ◌<◌, ◌≤◌, ◌++◌, [], true, IfOk};
+ghost use Rattle.std.specs.Prelude.{◌≡◌, ◌<◌, ◌≤◌, ◌++◌, [], true, IfErr, IfOk, OnOk};
 ghost use Rattle.tracebook.specs.Comparison.{changes_text};
 ghost use Rattle.tracebook.specs.FaultLines.{Says};
-ghost use Rattle.tracebook.specs.Sums.{ComparesSums, ComparesSumsPart, Sums, SumsInputs, SumsPart, WritesAll, WritesPart};
+ghost use Rattle.tracebook.specs.Sides.{GathersSides};
+ghost use Rattle.tracebook.specs.Sums.{ComparesSums, ComparesSumsPart, GathersInputs, Sums, SumsPart, WritesAll, WritesPart};
 ghost use Rattle.tracebook.specs.Tables.{TableFits, table_text};
 
 use crate::comparison::ComparisonView;
 use crate::faults::{Faults, fail, fail_stop, say};
 use crate::standard::Standard;
 use crate::sums::{write_runs_changes, write_runs_table};
-use crate::tables::TableView;
+use crate::tables::{TableOptions, TableView};
 use span_collect::Settings;
 use span_event::{Fault, Text, Unit};
 use span_report::Sink;
-use span_runs::{Source, Stop, Summed, sum_apart};
-use span_table::Column;
+use span_runs::{Gathered, Gathering, Source, Stop, gather_apart};
+use span_table::{Column, Of, TableSum};
 use std::alloc::Global;
 use std::random::RandomSource;
 use std::slice::from_ref;
@@ -54,7 +55,15 @@ pub(crate) fn sum_files<
         → SumsPart (S.bytes source.now) names.items apart.now.settings view.now (O.state out.old) (O.state out.new) }
 {
     source.begin_apart(names.len() as u64);
-    match sum_inputs(rt, alloc, apart, &view.options.columns, &names, source) {
+    match gather_inputs(
+        rt,
+        alloc,
+        apart,
+        view.options.of,
+        &view.options.columns,
+        &names,
+        source,
+    ) {
         Ok(summed) => {
             source.end();
             write_sum(alloc, apart.settings.unit, summed, view, out, faults)
@@ -86,80 +95,119 @@ pub(crate) fn compare_sums<
     ensures failed { result ≡ 2 → ComparesSumsPart (S.bytes source.now) base.items names.items apart.now.settings
         view.now (O.state out.old) (O.state out.new) }
 {
-    let columns = &view.options.columns;
+    let options = &view.options;
+    match gather_sides(rt, alloc, apart, options, &base, &names, source, faults) {
+        Ok(sides) => {
+            let unit = apart.settings.unit;
+            write_comparison(alloc, unit, sides, view, out, faults)
+        }
+        Err(status) => status,
+    }
+}
+
+/// What the base's files come to, and the others.
+#[derive(Drop)]
+pub(crate) struct Sides<T> {
+    pub(crate) base: Gathered<T>,
+    pub(crate) other: Gathered<T>,
+}
+
+/// Gathers the base's files, and then the others. Where something stops, it says so, and gives the status.
+pub(crate) fn gather_sides<
+    T: Gathering,
+    R: Threads + Wait + RandomSource + Sync,
+    S: Source + Sync,
+    F: Faults,
+>(
+    rt: &R,
+    alloc: Global,
+    apart: &Apart,
+    options: &TableOptions,
+    base: &[Text],
+    names: &[Text],
+    source: &S,
+    faults: &mut F,
+) -> Result<Sides<T>, u8>
+    ensures sides { IfOk result (GathersSides (S.bytes source.now) base.now names.now apart.now.settings
+        (T.come_to options.now.of options.now.columns.items)) }
+    ensures status { IfErr result (λ status. status ≡ 2) }
+    ensures said { OnOk result (F.state faults.new ≡ F.state faults.old) }
+{
+    let of = options.of;
+    let columns = &options.columns;
     let files = (base.len() as u64).saturating_add(names.len() as u64);
     source.begin_apart(files);
-    let earlier = match sum_apart(
-        rt,
-        alloc,
-        source,
-        &base,
-        &apart.settings,
-        columns,
-        jobs_of(rt, apart),
-    ) {
+    let jobs = jobs_of(rt, apart);
+    let earlier = match gather_apart(rt, alloc, source, base, &apart.settings, of, columns, jobs) {
         Ok(earlier) => earlier,
-        Err(stop) => return fail_stop(alloc, stop, faults),
+        Err(stop) => return Err(fail_stop(alloc, stop, faults)),
     };
-    match sum_inputs(rt, alloc, apart, columns, &names, source) {
+    match gather_inputs(rt, alloc, apart, of, columns, names, source) {
         Ok(later) => {
             source.end();
-            write_comparison(
-                alloc,
-                apart.settings.unit,
-                earlier,
-                later,
-                view,
-                out,
-                faults,
-            )
+            Ok(Sides {
+                base: earlier,
+                other: later,
+            })
         }
         Err(stop) => {
             say(&earlier.lines, faults);
-            fail_stop(alloc, stop, faults)
+            Err(fail_stop(alloc, stop, faults))
         }
     }
 }
 
-// Sums the files of these names, or standard input, as the file `-`, where there are none.
-fn sum_inputs<R: Threads + Wait + RandomSource + Sync, S: Source + Sync>(
+// Gathers the files of these names, or standard input, as the file `-`, where there are none.
+fn gather_inputs<T: Gathering, R: Threads + Wait + RandomSource + Sync, S: Source + Sync>(
     rt: &R,
     alloc: Global,
     apart: &Apart,
+    of: Of,
     columns: &[Column],
     names: &[Text],
     source: &S,
-) -> Result<Summed, Stop>
-    ensures { IfOk result (SumsInputs (S.bytes source.now) names.now apart.now.settings columns.now) }
+) -> Result<Gathered<T>, Stop>
+    ensures { IfOk result (GathersInputs (S.bytes source.now) names.now apart.now.settings (T.come_to of columns.now)) }
 {
     if !names.is_empty() {
-        return sum_apart(
+        return gather_apart(
             rt,
             alloc,
             source,
             names,
             &apart.settings,
+            of,
             columns,
             jobs_of(rt, apart),
         );
     }
-    sum_standard(rt, alloc, &apart.settings, columns, source)
+    gather_standard(rt, alloc, &apart.settings, of, columns, source)
 }
 
-fn sum_standard<R: Threads + Wait + RandomSource + Sync, S: Source + Sync>(
+fn gather_standard<T: Gathering, R: Threads + Wait + RandomSource + Sync, S: Source + Sync>(
     rt: &R,
     alloc: Global,
     settings: &Settings,
+    of: Of,
     columns: &[Column],
     source: &S,
-) -> Result<Summed, Stop>
-    ensures { IfOk result (SumsInputs (S.bytes source.now) [] settings.now columns.now) }
+) -> Result<Gathered<T>, Stop>
+    ensures { IfOk result (GathersInputs (S.bytes source.now) [] settings.now (T.come_to of columns.now)) }
 {
     let Ok(name) = Text::of(alloc, "-") else {
         return Err(Stop::of_memory(alloc));
     };
     let standard = Standard { source };
-    sum_apart(rt, alloc, &standard, from_ref(&name), settings, columns, 1)
+    gather_apart(
+        rt,
+        alloc,
+        &standard,
+        from_ref(&name),
+        settings,
+        of,
+        columns,
+        1,
+    )
 }
 
 /// How many jobs there are at once.
@@ -177,19 +225,19 @@ pub(crate) fn jobs_of<R: Threads>(rt: &R, apart: &Apart) -> u32 {
 fn write_sum<O: Sink, F: Faults>(
     alloc: Global,
     unit: Unit,
-    summed: Summed,
+    summed: Gathered<TableSum>,
     view: &TableView,
     out: &mut O,
     faults: &mut F,
 ) -> u8
     ensures status { result ≤ 2 }
-    ensures fits { result < 2 → TableFits view.now summed.sum }
+    ensures fits { result < 2 → TableFits view.now summed.runs }
     ensures done { result < 2
-        → WritesAll (table_text unit view.now true summed.sum) summed.lines.items result (O.state out.old) (O.state out.new) }
-    ensures failed { result ≡ 2 → WritesPart (table_text unit view.now true summed.sum) (O.state out.old) (O.state out.new) }
+        → WritesAll (table_text unit view.now true summed.runs) summed.lines.items result (O.state out.old) (O.state out.new) }
+    ensures failed { result ≡ 2 → WritesPart (table_text unit view.now true summed.runs) (O.state out.old) (O.state out.new) }
     ensures said { result < 2 → Says summed.lines.items (F.state faults.old) (F.state faults.new) }
 {
-    let Summed { sum, lines } = summed;
+    let Gathered { runs: sum, lines } = summed;
     match sum.into_table() {
         Ok(table) => write_runs_table(alloc, unit, table, view, &lines, out, faults),
         Err(_) => fail(alloc, Fault::Memory.code(), faults),
@@ -199,25 +247,25 @@ fn write_sum<O: Sink, F: Faults>(
 fn write_comparison<O: Sink, F: Faults>(
     alloc: Global,
     unit: Unit,
-    base: Summed,
-    other: Summed,
+    sides: Sides<TableSum>,
     view: &ComparisonView,
     out: &mut O,
     faults: &mut F,
 ) -> u8
     ensures status { result ≤ 2 }
-    ensures done { result < 2 → WritesAll (changes_text unit view.now true base.sum other.sum)
-        (base.lines.items ++ other.lines.items) result (O.state out.old) (O.state out.new) }
+    ensures done { result < 2 → WritesAll (changes_text unit view.now true sides.base.runs sides.other.runs)
+        (sides.base.lines.items ++ sides.other.lines.items) result (O.state out.old) (O.state out.new) }
     ensures failed { result ≡ 2
-        → WritesPart (changes_text unit view.now true base.sum other.sum) (O.state out.old) (O.state out.new) }
-    ensures said { result < 2 → Says (base.lines.items ++ other.lines.items) (F.state faults.old) (F.state faults.new) }
+        → WritesPart (changes_text unit view.now true sides.base.runs sides.other.runs) (O.state out.old) (O.state out.new) }
+    ensures said { result < 2 → Says (sides.base.lines.items ++ sides.other.lines.items) (F.state faults.old) (F.state faults.new) }
 {
-    let Summed {
-        sum: earlier,
+    let Sides { base, other } = sides;
+    let Gathered {
+        runs: earlier,
         mut lines,
     } = base;
-    let Summed {
-        sum: later,
+    let Gathered {
+        runs: later,
         lines: more,
     } = other;
     if lines.extend_from_slice(&more).is_err() {

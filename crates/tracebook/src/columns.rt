@@ -1,22 +1,54 @@
 //! The columns of a table, as the command line names them.
 
 use span_report::stacks::SpanColumn;
-use span_table::Column;
+use span_table::{Column, Of};
 use std::alloc::{AllocError, Global};
 
 const MOST: usize = 8;
 
-/// Said of a list that names none, more than may be, one twice, or one that is no column.
-pub(crate) const RULE: &str =
+const RULE: &str =
     "the columns of '--group-by' are pid, tid, process, thread, name, args.KEY, and with '--apart' or '--add' file: 1 to 8 of them, with commas between, none twice";
 
-/// Said of the column `file` where a run may have several.
-pub(crate) const FILE_RULE: &str =
+const ASYNC_RULE: &str =
+    "the columns of '--group-by' with '--of async' are cat, scope, id, name, and with '--apart' file: at least one of them, with commas between, none twice";
+
+// Said of columns that asynchronous spans alone have.
+const OTHERS_RULE: &str =
+    "the columns cat, scope, id go with '--of async' alone; others are pid, tid, process, thread, name, args.KEY";
+
+const FILE_RULE: &str =
     "the column 'file' goes with '--apart' and '--add' alone; others are pid, tid, process, thread, name, args.KEY";
+
+const ASYNC_FILE_RULE: &str =
+    "the column 'file' goes with '--apart' and '--add' alone; others with '--of async' are cat, scope, id, name";
 
 /// Said of other columns of folded stacks.
 pub(crate) const LABEL_RULE: &str =
     "the columns of '--group-by' with '--folded' are name, args.KEY: 1 to 8 of them, with commas between, none twice";
+
+/// Said of a list that names none, more than may be, one twice, or one that is no column.
+pub(crate) fn rule_of(of: Of) -> &'static str {
+    match of {
+        Of::Spans => RULE,
+        Of::Async => ASYNC_RULE,
+    }
+}
+
+/// Said of columns that what is summed doesn't have.
+pub(crate) fn others_rule_of(of: Of) -> &'static str {
+    match of {
+        Of::Spans => OTHERS_RULE,
+        Of::Async => ASYNC_RULE,
+    }
+}
+
+/// Said of the column `file` where a run may have several.
+pub(crate) fn file_rule_of(of: Of) -> &'static str {
+    match of {
+        Of::Spans => FILE_RULE,
+        Of::Async => ASYNC_FILE_RULE,
+    }
+}
 
 /// The columns with these names, which stand between commas. None where they are no columns.
 pub(crate) fn columns_of(alloc: Global, names: &str) -> Result<Option<Vec<Column>>, AllocError> {
@@ -61,6 +93,19 @@ pub(crate) fn named(alloc: Global) -> Result<Vec<Column>, AllocError> {
     columns.push(Column::Thread)?;
     columns.push(Column::Name)?;
     Ok(columns)
+}
+
+/// Those of a table of asynchronous spans: ids differ from run to run.
+pub(crate) fn of_async(alloc: Global) -> Result<Vec<Column>, AllocError> {
+    let mut columns = Vec::new(alloc);
+    columns.push(Column::Cat)?;
+    columns.push(Column::Name)?;
+    Ok(columns)
+}
+
+/// Whether what is summed has all of the columns.
+pub(crate) fn go_with(of: Of, columns: &[Column]) -> bool {
+    columns.iter().all(|column| column.goes_with(of))
 }
 
 /// That of folded stacks.

@@ -5,10 +5,11 @@ ghost use Rattle.tracebook.specs.Request.{AsksFor, is_option};
 
 use crate::apart::Apart;
 use crate::columns::{
-    FILE_RULE, LABEL_RULE, RULE, are_of_spans, columns_of, labels_of, name_alone, named, paged,
-    ranked,
+    LABEL_RULE, are_of_spans, columns_of, file_rule_of, go_with, labels_of, name_alone, named,
+    of_async, others_rule_of, paged, ranked, rule_of,
 };
 use crate::comparison::{ComparisonForm, ComparisonView};
+use crate::numbers::{NUMBER_RULE, has_number, number_named};
 use crate::options::command_of;
 use crate::tables::{TableForm, TableOptions, TableView};
 use crate::view::{PageView, View};
@@ -17,7 +18,7 @@ use clap::{ArgMatches, Command};
 use span_collect::Settings;
 use span_event::{Text, Unit};
 use span_runs::Named;
-use span_table::{By, Column, Shown};
+use span_table::{By, Column, Of, Shown};
 use std::alloc::{AllocError, Global};
 
 /// The most entries of the journal, where the command line does not say.
@@ -125,16 +126,48 @@ fn parsed_request(alloc: Global, words: &[Text]) -> Result<Request, AllocError> 
     if let Some(idle) = idle_option(&matches) {
         return refuse(alloc, &mut command, idle.rule);
     }
-    let Some(columns) = asked_columns(alloc, &matches)? else {
-        return refuse(alloc, &mut command, RULE);
+    let of = of_of(&matches);
+    let Some(columns) = asked_columns(alloc, &matches, of)? else {
+        return refuse(alloc, &mut command, rule_of(of));
     };
-    if columns.contains(&Column::File) && !is_any_given(&matches, &["apart", "add"]) {
-        return refuse(alloc, &mut command, FILE_RULE);
+    if let Some(rule) = broken_rule(&matches, of, &columns) {
+        return refuse(alloc, &mut command, rule);
     }
-    if matches.get_flag("folded") && !are_of_spans(&columns) {
-        return refuse(alloc, &mut command, LABEL_RULE);
+    request_of_matches(alloc, &matches, of, columns)
+}
+
+fn of_of(matches: &ArgMatches<'_>) -> Of {
+    match matches.get_str("of") {
+        Some("async") => Of::Async,
+        _ => Of::Spans,
     }
-    request_of_matches(alloc, &matches, columns)
+}
+
+// What the columns or the number that is named go against: what is summed, or the text that is asked for.
+fn broken_rule(matches: &ArgMatches<'_>, of: Of, columns: &[Column]) -> Option<&'static str> {
+    // Tables that are added say themselves what they sum.
+    let is_known = !matches.get_flag("add");
+    if is_known && !go_with(of, columns) {
+        return Some(others_rule_of(of));
+    }
+    if columns.contains(&Column::File) && !is_any_given(matches, &["apart", "add"]) {
+        return Some(file_rule_of(of));
+    }
+    if matches.get_flag("folded") && !are_of_spans(columns) {
+        return Some(LABEL_RULE);
+    }
+    if is_known && goes_by_another(matches, of) {
+        return Some(NUMBER_RULE);
+    }
+    None
+}
+
+// Whether a number is named that what is summed doesn't have.
+fn goes_by_another(matches: &ArgMatches<'_>, of: Of) -> bool {
+    match matches.get_str("by") {
+        Some(name) => !has_number(of, name),
+        None => false,
+    }
 }
 
 // An option that has an effect with some texts alone.
@@ -156,7 +189,12 @@ const BOUND: &[Bound] = &[
     Bound {
         option: "by",
         texts: &["top", "base"],
-        rule: "the argument '--by <self|total|count>' goes with '--top <N>' and '--base <FILE>' alone",
+        rule: "the argument '--by <SUM>' goes with '--top <N>' and '--base <FILE>' alone",
+    },
+    Bound {
+        option: "of",
+        texts: TABLES,
+        rule: "the argument '--of <spans|async>' goes with '--top <N>', '--json' and '--base <FILE>' alone",
     },
     Bound {
         option: "group-by",
@@ -251,12 +289,16 @@ fn with_program<'a>(alloc: Global, words: &'a [Text]) -> Result<Vec<&'a str>, Al
 fn asked_columns(
     alloc: Global,
     matches: &ArgMatches<'_>,
+    of: Of,
 ) -> Result<Option<Vec<Column>>, AllocError> {
     if let Some(names) = matches.get_str("group-by") {
         return columns_of(alloc, names);
     }
     if matches.get_flag("add") {
         return Ok(Some(Vec::new(alloc)));
+    }
+    if let Of::Async = of {
+        return Ok(Some(of_async(alloc)?));
     }
     if matches.contains_id("top") {
         return Ok(Some(ranked(alloc)?));
@@ -273,6 +315,7 @@ fn asked_columns(
 fn request_of_matches(
     alloc: Global,
     matches: &ArgMatches<'_>,
+    of: Of,
     columns: Vec<Column>,
 ) -> Result<Request, AllocError> {
     let settings = settings_of(matches);
@@ -281,7 +324,7 @@ fn request_of_matches(
         only: texts_of(alloc, matches, "only")?,
         skip: texts_of(alloc, matches, "skip")?,
     };
-    let options = TableOptions { columns, shown };
+    let options = TableOptions { of, columns, shown };
     let task = task_of(alloc, matches, settings, options)?;
     Ok(Request::Run { task, files })
 }
@@ -426,12 +469,9 @@ fn comparison_form(matches: &ArgMatches<'_>) -> ComparisonForm {
     ComparisonForm::Text { by }
 }
 
-fn by_of(matches: &ArgMatches<'_>) -> By {
-    match matches.get_str("by") {
-        Some("total") => By::Total,
-        Some("count") => By::Count,
-        _ => By::SelfTime,
-    }
+// The number that is named.
+fn by_of(matches: &ArgMatches<'_>) -> Option<By> {
+    number_named(matches.get_str("by")?)
 }
 
 // The values of an argument that may be given several times.

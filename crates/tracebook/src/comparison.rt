@@ -5,7 +5,7 @@ ghost use Rattle.span_runs.specs.Runs.{run_of_files};
 ghost use Rattle.span_table.specs.declared.json_lines.JsonFault.TheVariants.{TooGreat};
 ghost use Rattle.tracebook.specs.Comparison.{AreTooGreat, ChangesLeave, ComparisonLeaves, HasTooGreat, IsComparisonOf, changes_of_runs, changes_text, comparison_code, greater};
 
-use crate::tables::TableOptions;
+use crate::tables::{TableOptions, asked_by};
 use span_collect::{Collected, Input, RunError, Settings, collect_to_ledger};
 use span_event::{Fault, Unit};
 use span_report::{Sink, write_bytes};
@@ -21,7 +21,7 @@ use std::thread::Threads;
 #[derive(Clone, Copy)]
 pub enum ComparisonForm {
     /// For people, with the greatest change of this number first.
-    Text { by: By },
+    Text { by: Option<By> },
     /// For other programs.
     Json,
 }
@@ -147,11 +147,12 @@ fn changes_of<R: RandomSource>(
         (run_of_files base.now compared.now.base.end.ends.items compared.now.base.ledger.journal)
         (run_of_files files.now compared.now.other.end.ends.items compared.now.other.ledger.journal)) }
 {
+    let of = view.options.of;
     let columns = &view.options.columns;
-    let Ok(earlier) = table_of_run(rt, alloc, columns, base, &compared.base) else {
+    let Ok(earlier) = table_of_run(rt, alloc, of, columns, base, &compared.base) else {
         return Err(JsonFault::Memory);
     };
-    let Ok(later) = table_of_run(rt, alloc, columns, files, &compared.other) else {
+    let Ok(later) = table_of_run(rt, alloc, of, columns, files, &compared.other) else {
         drop(earlier);
         return Err(JsonFault::Memory);
     };
@@ -177,9 +178,11 @@ pub(crate) fn changes_text(
     let shown = &view.options.shown;
     match view.form {
         ComparisonForm::Text { by } => {
-            comparison(alloc, unit, base, other, shown, by, tells_runs).map_err(
-                |_| JsonFault::Memory,
-            )
+            let by = asked_by(other.kind(), by);
+            match comparison(alloc, unit, base, other, shown, by, tells_runs) {
+                Ok(text) => Ok(text),
+                Err(_) => Err(JsonFault::Memory),
+            }
         }
         ComparisonForm::Json => json_comparison(alloc, unit, base, other, shown),
     }

@@ -10,6 +10,7 @@ mod faults;
 mod hints;
 mod inputs;
 mod laws;
+mod numbers;
 mod options;
 mod pages;
 mod program;

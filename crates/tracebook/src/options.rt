@@ -15,14 +15,22 @@ where a missing end is an error to look for"#;
 const STRICT_HELP: &str = r#"Refuse (27) an end that names another span than the one it would
 close, which then stays open; for a trace that may have lost begins"#;
 
-const BY_WORDS: &[&str] = &["self", "total", "count"];
+const OF_WORDS: &[&str] = &["spans", "async"];
+
+// Those of spans, and then what asynchronous spans alone have.
+const BY_WORDS: &[&str] = &["self", "total", "count", "closed", "open", "points"];
 
 const TOP_HELP: &str = r#"Print the first N rows of a table of all spans instead of the report;
 without --group-by a row is a process, a thread and a name"#;
 
-const BY_HELP: &str = r#"The number that --top goes by, or whose change --base goes by: self
-time, total time or the number of spans
-[default: self]"#;
+const BY_HELP: &str = r#"The number that --top goes by, or whose change --base goes by: self,
+total or count of spans; total, closed, open or points of async spans
+[default: self; of async spans total]"#;
+
+const OF_HELP: &str = r#"What a table sums: the spans of threads, or async spans, whose columns
+are cat, scope, id, name, and with --apart file; without --group-by
+these are summed by cat and name; with --top, --json and --base
+[default: spans]"#;
 
 const GROUP_BY_HELP: &str = r#"Sum the spans of a table by these columns, 1 to 8 of them: pid, tid,
 process, thread, name, args.KEY (an argument of the span), and with
@@ -35,7 +43,8 @@ sum their tables; any number of files; with --top, --json, --base and
 --page"#;
 
 const ADD_HELP: &str = r#"Take each FILE as a table that --json printed, without --base, and add
-them; any number of files; with --top, --json and --base"#;
+them; any number of files; with --top, --json and --base. Tables say
+themselves what they sum"#;
 
 const JOBS_HELP: &str = r#"How many files are read and collected at once with --apart, 1 to 64
 [default: the processors that the system grants]"#;
@@ -134,6 +143,7 @@ fn arguments_of<'a>(alloc: Global, limit_help: &'a str) -> Result<Vec<Arg<'a>>, 
 fn add_table_options(alloc: Global, arguments: &mut Vec<Arg<'_>>) -> Result<(), AllocError> {
     arguments.push(number_option(alloc, "top", TOP_HELP))?;
     arguments.push(by_option(alloc))?;
+    arguments.push(of_option(alloc))?;
     arguments.push(list_option(alloc, "base", "FILE", BASE_HELP))?;
     arguments.push(json_option(alloc)?)?;
     arguments.push(switch(alloc, "apart", APART_HELP))?;
@@ -177,16 +187,34 @@ fn jobs_option(alloc: Global) -> Arg<'static> {
 
 fn add_option(alloc: Global) -> Result<Arg<'static>, AllocError> {
     let add = switch(alloc, "add", ADD_HELP);
-    add.conflicts_with_all(&["limit", "nanoseconds", "seal", "strict", "apart", "jobs"])
+    add.conflicts_with_all(&[
+        "limit",
+        "nanoseconds",
+        "seal",
+        "strict",
+        "of",
+        "apart",
+        "jobs",
+    ])
 }
 
 fn by_option(alloc: Global) -> Arg<'static> {
     Arg::new(alloc, "by")
         .long("by")
-        .value_name("self|total|count")
+        .value_name("SUM")
         .value_parser(BY_WORDS)
+        .hide_possible_values(true)
         .action(ArgAction::Set)
         .help(BY_HELP)
+}
+
+fn of_option(alloc: Global) -> Arg<'static> {
+    Arg::new(alloc, "of")
+        .long("of")
+        .value_name("spans|async")
+        .value_parser(OF_WORDS)
+        .action(ArgAction::Set)
+        .help(OF_HELP)
 }
 
 fn group_by_option(alloc: Global) -> Arg<'static> {

@@ -14,11 +14,12 @@ use crate::tables::{string_of, table_text};
 use crate::view::PageView;
 use span_collect::Settings;
 use span_event::{Fault, Text, Unit};
+use span_keyed_tracks::HashKeys;
 use span_page::RunsPage;
 use span_report::Sink;
 use span_report::stacks::SpanColumn;
-use span_runs::{FileRun, Source, Stop, StopCause, Summed, collect_file, sum_apart};
-use span_table::{JsonFault, Table};
+use span_runs::{FileRun, Gathered, Source, Stop, StopCause, collect_file, gather_apart};
+use span_table::{JsonFault, Table, TableSum};
 use std::alloc::{AllocError, Global};
 use std::mem::forget;
 use std::random::RandomSource;
@@ -32,7 +33,7 @@ const MOST_SHOWN: usize = 64;
 // Files that were each a run of its own, as they are summed, and the page of their runs.
 #[derive(Drop)]
 struct ShownFiles {
-    summed: Summed,
+    summed: Gathered<TableSum>,
     page: RunsPage,
 }
 
@@ -134,9 +135,10 @@ fn show_sum<R: Threads + Wait + RandomSource + Sync, S: Source + Sync>(
     let Ok(page) = RunsPage::begin(alloc) else {
         return Err(Stop::of_memory(alloc));
     };
+    let of = view.table.options.of;
     let columns = &view.table.options.columns;
     let jobs = jobs_of(rt, apart);
-    match sum_apart(rt, alloc, source, names, &apart.settings, columns, jobs) {
+    match gather_apart(rt, alloc, source, names, &apart.settings, of, columns, jobs) {
         Ok(summed) => Ok(ShownFiles { summed, page }),
         Err(stop) => Err(stop),
     }
@@ -154,12 +156,13 @@ fn show_in_turn<R: Threads + Wait + RandomSource + Sync, S: Source>(
     ensures { IfOk result
         (AreHeld (map (shown_alone settings.now)) (S.bytes source.now).file names.now settings.now view.now) }
 {
-    let mut shown = match show_none(rt, alloc, view) {
+    let keys = HashKeys::random(rt);
+    let mut shown = match show_none(alloc, keys, view) {
         Ok(none) => none,
         Err(stop) => return Err(stop),
     };
     for name in names {
-        shown = match show_file(rt, alloc, settings, view, name, source, shown) {
+        shown = match show_file(rt, alloc, keys, settings, view, name, source, shown) {
             Ok(more) => more,
             Err(stop) => return Err(stop),
         };
@@ -167,13 +170,14 @@ fn show_in_turn<R: Threads + Wait + RandomSource + Sync, S: Source>(
     Ok(shown)
 }
 
-fn show_none<R: RandomSource>(rt: &R, alloc: Global, view: &PageView) -> Result<ShownFiles, Stop>
+fn show_none(alloc: Global, keys: HashKeys, view: &PageView) -> Result<ShownFiles, Stop>
     ensures sum { IfOk result
-        (λ none. none.summed.sum ≡ table_of view.now.table.options.columns.items []) }
+        (λ none. none.summed.runs ≡ table_of view.now.table.options.of view.now.table.options.columns.items []) }
     ensures lines { IfOk result (λ none. none.summed.lines.items ≡ []) }
     ensures runs { IfOk result (λ none. (unit : Unit) → Holds unit view.now.labels.items [] none.page) }
 {
-    let summed = match Summed::of_none(rt, alloc, &view.table.options.columns) {
+    let options = &view.table.options;
+    let summed = match Gathered::of_none(alloc, keys, options.of, &options.columns) {
         Ok(summed) => summed,
         Err(stop) => return Err(stop),
     };
@@ -187,6 +191,7 @@ fn show_none<R: RandomSource>(rt: &R, alloc: Global, view: &PageView) -> Result<
 fn show_file<R: Threads + Wait + RandomSource + Sync, S: Source>(
     rt: &R,
     alloc: Global,
+    keys: HashKeys,
     settings: &Settings,
     view: &PageView,
     name: &Text,
@@ -203,7 +208,8 @@ fn show_file<R: Threads + Wait + RandomSource + Sync, S: Source>(
     let Ok(page) = with_run(alloc, settings.unit, page, &taken, &view.labels) else {
         return Err(summed.stop(StopCause::Memory));
     };
-    match summed.with_run(alloc, &taken) {
+    let options = &view.table.options;
+    match summed.with_run(alloc, keys, options.of, &options.columns, &taken) {
         Ok(summed) => Ok(ShownFiles { summed, page }),
         Err(stop) => Err(stop),
     }
@@ -240,13 +246,13 @@ fn write_shown<O: Sink, F: Faults>(
     faults: &mut F,
 ) -> u8
     ensures status { result ≤ 2 }
-    ensures fits { result < 2 → TableFits view.now.table shown.summed.sum }
+    ensures fits { result < 2 → TableFits view.now.table shown.summed.runs }
     ensures done { result < 2 → WritesPage unit view.now shown result (O.state out.old) (O.state out.new) }
     ensures failed { result ≡ 2 → WritesPagePart unit view.now shown (O.state out.old) (O.state out.new) }
     ensures said { result < 2 → Says shown.summed.lines.items (F.state faults.old) (F.state faults.new) }
 {
     let ShownFiles { summed, page } = shown;
-    let Summed { sum, lines } = summed;
+    let Gathered { runs: sum, lines } = summed;
     let Ok(table) = sum.into_table() else {
         return fail(alloc, Fault::Memory.code(), faults);
     };

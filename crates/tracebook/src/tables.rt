@@ -1,15 +1,17 @@
 //! The tables that the command line asks for, and their texts.
 ghost use Rattle.std.specs.Prelude.{◌≡◌, true, false, string_bytes, IfOk, IfErr, OnOk};
 ghost use Rattle.span_table.specs.declared.json_lines.JsonFault.TheVariants.{Memory, TooGreat};
-ghost use Rattle.tracebook.specs.Tables.{TableExceeds, TableFits, table_text};
+ghost use Rattle.tracebook.specs.Tables.{TableExceeds, TableFits, asked_by, table_text};
 
 use span_event::Unit;
-use span_table::{By, Column, JsonFault, Shown, Table, json_table, ranking};
+use span_table::{By, Column, JsonFault, Of, Shown, Table, json_table, ranking};
 use std::alloc::Global;
 
-/// Which table is printed: by which columns spans are summed, and which rows are shown. Of tables that are added no columns are all.
+/// Which table is printed: what is summed, by which columns, and which rows are shown. Tables that are added say themselves what they
+/// sum, and no columns are all of theirs.
 #[derive(Drop)]
 pub struct TableOptions {
+    pub of: Of,
     pub columns: Vec<Column>,
     pub shown: Shown,
 }
@@ -17,8 +19,8 @@ pub struct TableOptions {
 /// How a table is printed.
 #[derive(Clone, Copy)]
 pub enum TableForm {
-    /// The first rows by this number, at most so many.
-    Ranking { most: u32, by: By },
+    /// The first rows by this number, or by the usual one of what is summed, at most so many.
+    Ranking { most: u32, by: Option<By> },
     /// The rows for other programs.
     Json,
 }
@@ -45,12 +47,23 @@ pub(crate) fn table_text(
     let shown = &view.options.shown;
     match view.form {
         TableForm::Ranking { most, by } => {
+            let by = asked_by(table.kind(), by);
             match ranking(alloc, unit, table, shown, most, by, tells_runs) {
                 Ok(text) => Ok(text),
                 Err(_) => Err(JsonFault::Memory),
             }
         }
         TableForm::Json => json_table(alloc, unit, table, shown),
+    }
+}
+
+/// The number that rows go by: the named one, or the usual one of what a table sums.
+pub(crate) fn asked_by(of: Of, by: Option<By>) -> By
+    ensures { result ≡ asked_by of by }
+{
+    match by {
+        Some(by) => by,
+        None => of.by(),
     }
 }
 

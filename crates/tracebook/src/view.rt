@@ -227,8 +227,9 @@ fn text_of_run<R: RandomSource>(
     ensures too_great { IfErr result (λ fault. fault ≡ TooGreat → TableExceeds view.now
         (asked_table view.now (run_of_files files.now collected.now.end.ends.items collected.now.ledger.journal))) }
 {
+    let of = view.options.of;
     let columns = &view.options.columns;
-    let Ok(table) = table_of_run(rt, alloc, columns, files, collected) else {
+    let Ok(table) = table_of_run(rt, alloc, of, columns, files, collected) else {
         return Err(JsonFault::Memory);
     };
     let text = table_text(alloc, unit, &table, view, false);

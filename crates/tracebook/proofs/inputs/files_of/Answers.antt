@@ -1,4 +1,4 @@
-use Rattle.span_runs.proofs.Summing.{AreFiles-push}
+use Rattle.span_runs.proofs.GatheredFiles.{AreFiles-push}
 use Rattle.tracebook.proofs.inputs.files_of.Goals as goal
 
 -- one more file is read

@@ -1,5 +1,12 @@
+use Rattle.std.proofs.Common.{ap, ◌∙◌}
+use Rattle.span_table.specs.declared.of.Of.{Of}
+use Rattle.span_table.specs.declared.sums.By.{By}
+use Rattle.span_table.specs.Ranking.{ranking_of}
+use Rattle.tracebook.specs.Tables.{asked_by}
 use Rattle.tracebook.proofs.tables.table_text.Goals as goal
 
 -- the ranking is what the form asks for
 pub returns-in-Ok-clause-text : goal.returns-in-Ok-clause-text
-returns-in-Ok-clause-text c = rw c.in-Ranking.is c.in-Ok.ensures
+returns-in-Ok-clause-text c =
+    rw c.in-Ranking.is (c.in-Ok.ensures ∙ ap (λ (by : By). ranking_of c.args.unit c.in-Ranking.most by c.args.view.now.options.shown c.args.tells_runs c.args.table.now)
+    (c.asked_by-by.ensures ∙ ap (λ (of : Of). asked_by of c.in-Ranking.by) c.kind.ensures))

@@ -1,0 +1,12 @@
+use Rattle.std.proofs.Common.{ap, ◌∙◌}
+use Rattle.span_table.specs.declared.of.Of.{Of}
+use Rattle.span_table.specs.declared.sums.By.{By}
+use Rattle.span_table.specs.Comparison.{comparison_of}
+use Rattle.tracebook.specs.Tables.{asked_by}
+use Rattle.tracebook.proofs.comparison.changes_text.Goals as goal
+
+-- the comparison is what the form asks for
+pub returns-in-Ok-clause-text : goal.returns-in-Ok-clause-text
+returns-in-Ok-clause-text c =
+    rw c.in-Text.is (c.in-Ok.ensures ∙ ap (λ (by : By). comparison_of c.args.unit by c.args.view.now.options.shown c.args.tells_runs c.args.base.now c.args.other.now)
+    (c.asked_by-by.ensures ∙ ap (λ (of : Of). asked_by of c.in-Text.by) c.kind.ensures))
