@@ -1,10 +1,10 @@
 #!/usr/bin/env python3
-"""A plain model of the tables of docs/report.md: closed spans summed by columns, as a ranking, a comparison, and JSON Lines. Files are
-read and collected as for the report (report.py); like that, it is written from the pages alone. With --add they are tables, which are
-added up.
+"""A plain model of the tables of docs/report.md: closed spans or async keys (sums.py) summed by columns, as a ranking, a comparison, and
+JSON Lines. Files are read and collected as for the report (report.py); like that, it is written from the pages alone. With --add they
+are tables, which are added up.
 
-usage: tables.py [--seal] [--strict] [--nanoseconds] [--apart | --add] (--top N | --json) [--by self|total|count] [--group-by COLUMNS]
-                 [--only TEXT].. [--skip TEXT].. [--base FILE].. FILE...
+usage: tables.py [--seal] [--strict] [--nanoseconds] [--of spans|async] [--apart | --add] (--top N | --json) [--by NUMBER]
+                 [--group-by COLUMNS] [--only TEXT].. [--skip TEXT].. [--base FILE].. FILE...
 """
 import argparse
 import gc
@@ -13,79 +13,15 @@ import sys
 from dataclasses import dataclass
 from json.encoder import encode_basestring as json_text
 
-from ledger import self_times
-from reading import MICROSECONDS, NANOSECONDS, is_whole
+from reading import MICROSECONDS, NANOSECONDS
 from report import bytes_of, collect, first_lines, text_of
+from sums import ASYNC, MISSING, NIL, OTHER, SPANS, SUMS, TIMES, WHOLE, WORDS, Of, added, argument_value
 
 RANKED_BY = "pid,tid,thread,name"
 COMPARED_BY = "process,thread,name"
-MOST_COLUMNS = 8
+ASYNC_BY = "cat,name"
 # Below this are the numbers of JSON Lines.
 BEYOND = 2**64
-BY = {"self": 2, "total": 1, "count": 0}
-
-# Values, each in a tuple with its place in the order of kinds, so that they compare as keys do.
-MISSING, NIL, OTHER = (0,), (1,), (5,)
-FLAG, WHOLE, WORDS = 2, 3, 4
-
-
-def whole(number):
-    return (WHOLE, number)
-
-
-def words(text):
-    return (WORDS, text)
-
-
-def name_value(name):
-    return MISSING if name is None else words(name)
-
-
-def argument_value(args, key):
-    if key not in args:
-        return MISSING
-    value = args[key]
-    if value is None:
-        return NIL
-    if type(value) is bool:
-        return (FLAG, value)
-    if type(value) is str:
-        return words(value)
-    return whole(value) if is_whole(value) else OTHER
-
-
-def is_column(column):
-    return column in ("pid", "tid", "process", "thread", "name", "file") or column.startswith("args.") and column != "args."
-
-
-def columns_of(text):
-    """The columns of a list with commas."""
-    columns = text.split(",")
-    if len(columns) > MOST_COLUMNS or len(set(columns)) < len(columns) or not all(map(is_column, columns)):
-        raise ValueError(text)
-    return columns
-
-
-def value_of(column, run, number, span):
-    """The value of a column at a closed span of the thread of this number."""
-    process = run.ledger.processes[number[0]]
-    if column == "file":
-        return words(run.name)
-    if column in ("pid", "tid"):
-        return whole(number[column == "tid"])
-    if column == "process":
-        return name_value(process.name)
-    if column == "thread":
-        return name_value(process.threads[number].name)
-    return words(span[3]) if column == "name" else argument_value(span[4], column.removeprefix("args."))
-
-
-# Sums are a number of spans, their total time and their self time.
-NOTHING = (0, 0, 0)
-
-
-def added(sums, more):
-    return tuple(a + b for a, b in zip(sums, more))
 
 
 @dataclass
@@ -116,9 +52,10 @@ def all_counts(each):
 class Table:
     columns: list
     counts: dict
-    rows: dict  # the sums of each key
+    rows: dict  # the numbers of each key
     tells_runs: bool = True
     unit: str = MICROSECONDS
+    of: Of = SPANS
 
     def head_lines(self):
         """The lines of the head behind its first ones, but for that of shown rows."""
@@ -129,26 +66,22 @@ class Table:
             yield "runs {runs} files {files} unread {unread}".format(**self.counts)
 
 
-def table_of(columns, runs, tells_runs=False):
-    rows = {}
-    for run in runs:
-        for process in run.ledger.processes.values():
-            for number, thread in process.threads.items():
-                for span, own in zip(thread.closed, self_times(thread.closed)):
-                    key = tuple(value_of(column, run, number, span) for column in columns)
-                    rows[key] = added(rows.get(key, NOTHING), (1, span[1] - span[0], own))
-    return Table(columns, all_counts([counts_of(run) for run in runs]), rows, tells_runs, runs[0].ledger.unit)
+def table_of(columns, runs, tells_runs=False, of=SPANS):
+    rows = added(entry for run in runs for entry in SUMS[of](columns, run))
+    return Table(columns, all_counts([counts_of(run) for run in runs]), rows, tells_runs, runs[0].ledger.unit, of)
+
+
+def rows_by(columns, table):
+    """The keys of a table by these of its columns, each with the numbers of a row."""
+    places = [table.columns.index(column) for column in columns]
+    for key, numbers in table.rows.items():
+        yield tuple(key[place] for place in places), numbers
 
 
 def sum_of(tables, columns):
     """The sum of tables, by these of their columns."""
-    rows = {}
-    for table in tables:
-        places = [table.columns.index(column) for column in columns]
-        for key, sums in table.rows.items():
-            kept = tuple(key[place] for place in places)
-            rows[kept] = added(rows.get(kept, NOTHING), sums)
-    return Table(columns, all_counts([table.counts for table in tables]), rows, unit=tables[0].unit)
+    rows = added(row for table in tables for row in rows_by(columns, table))
+    return Table(columns, all_counts([table.counts for table in tables]), rows, unit=tables[0].unit, of=tables[0].of)
 
 
 @dataclass
@@ -187,18 +120,29 @@ def title(column):
     return json_text(column)[1:-1]
 
 
+def right(name, text):
+    """A number of this name, or its title, aligned."""
+    return f"{text:>{16 if name in TIMES else 8}}"
+
+
+def title_line(names, columns):
+    """The titles of numbers, each with the name that aligns it, and of columns."""
+    return " ".join([*(right(name, text) for name, text in names), *map(title, columns)])
+
+
 def ranking_lines(table, most, by, wanted):
+    of = table.of
     yield from first_lines(table.unit)
     yield from table.head_lines()
     yield from wanted.line(table.rows)
-    yield " ".join([f"{'self':>16} {'total':>16} {'count':>8}", *map(title, table.columns)])
-    shown = [(key, sums) for key, sums in table.rows.items() if wanted.shows(key)]
-    for key, (count, total, own) in sorted(shown, key=lambda row: (-row[1][BY[by]], row[0]))[:most]:
-        yield " ".join([f"{own:16} {total:16} {count:8}", *map(value_text, key)])
+    yield title_line([(name, name) for name in of.ranked], table.columns)
+    shown = [(key, numbers) for key, numbers in table.rows.items() if wanted.shows(key)]
+    for key, numbers in sorted(shown, key=lambda row: (-of.number(by, row[1]), row[0]))[:most]:
+        yield " ".join([*(right(name, of.number(name, numbers)) for name in of.ranked), *map(value_text, key)])
 
 
-def ranking_of(table, most, by="self", wanted=ALL):
-    return text_of(ranking_lines(table, most, by, wanted))
+def ranking_of(table, most, by=None, wanted=ALL):
+    return text_of(ranking_lines(table, most, by or table.of.order[0], wanted))
 
 
 def difference(base, other):
@@ -206,16 +150,34 @@ def difference(base, other):
 
 
 def changes_of(base, other, by, wanted):
-    """The shown keys of which a number differs, in order, each with its sums in both, and how many shown keys have none."""
+    """The shown keys of which a number differs, in order, each with its numbers in both, and how many shown keys have none."""
+    of = other.of
     keys = [key for key in base.rows.keys() | other.rows.keys() if wanted.shows(key)]
-    both = [(key, base.rows.get(key, NOTHING), other.rows.get(key, NOTHING)) for key in keys]
+    both = [(key, base.rows.get(key, of.nothing()), other.rows.get(key, of.nothing())) for key in keys]
     changed = [change for change in both if change[1] != change[2]]
 
     def order(change):
         key, earlier, later = change
-        return [*(-abs(earlier[BY[number]] - later[BY[number]]) for number in (by, "self", "total")), key]
+        return [*(-abs(of.number(name, earlier) - of.number(name, later)) for name in (by, *of.order)), key]
 
     return sorted(changed, key=order), len(both) - len(changed)
+
+
+def compared_titles(of):
+    """The titles of a comparison, each with the number that aligns it."""
+    for name in of.compared:
+        if name in TIMES:
+            yield name, f"d{name}"
+        yield from ((name, f"{name}0"), (name, f"{name}1"))
+
+
+def compared_numbers(of, earlier, later):
+    """The numbers below these titles."""
+    for name in of.compared:
+        both = of.number(name, earlier), of.number(name, later)
+        if name in TIMES:
+            yield right(name, difference(*both))
+        yield from (right(name, number) for number in both)
 
 
 def comparison_lines(base, other, by, wanted):
@@ -224,17 +186,15 @@ def comparison_lines(base, other, by, wanted):
         yield f"base {line}"
     yield from other.head_lines()
     yield from wanted.line(base.rows.keys() | other.rows.keys())
-    times = " ".join(f"{word:>16}" for word in ["dself", "self0", "self1", "dtotal", "total0", "total1"])
-    yield " ".join([f"{times} {'count0':>8} {'count1':>8}", *map(title, other.columns)])
+    yield title_line(compared_titles(other.of), other.columns)
     changes, same = changes_of(base, other, by, wanted)
-    for key, (count0, total0, self0), (count1, total1, self1) in changes:
-        times = f"{difference(self0, self1):>16} {self0:16} {self1:16} {difference(total0, total1):>16} {total0:16} {total1:16}"
-        yield " ".join([f"{times} {count0:8} {count1:8}", *map(value_text, key)])
+    for key, earlier, later in changes:
+        yield " ".join([*compared_numbers(other.of, earlier, later), *map(value_text, key)])
     yield f"same {same}"
 
 
-def comparison_of(base, other, by="self", wanted=ALL):
-    return text_of(comparison_lines(base, other, by, wanted))
+def comparison_of(base, other, by=None, wanted=ALL):
+    return text_of(comparison_lines(base, other, by or other.of.order[0], wanted))
 
 
 # JSON Lines
@@ -275,20 +235,23 @@ def head_members(table):
     return number_members(COUNTS, [table.counts[name] for name in COUNTS])
 
 
-# What the head of JSON Lines says of the unit.
+# What the head of JSON Lines says of what is summed and of the unit, and what it means.
+OF_MEMBERS = {SPANS: [], ASYNC: [("of", '"async"')]}
+OFS = {None: SPANS, "async": ASYNC}
 UNIT_MEMBERS = {MICROSECONDS: [], NANOSECONDS: [("unit", '"ns"')]}
 UNITS = {None: MICROSECONDS, "ns": NANOSECONDS}
 
 
 def first_members(table):
-    return [("tracebook", "1"), *UNIT_MEMBERS[table.unit], ("columns", "[" + ",".join(map(json_text, table.columns)) + "]")]
+    columns = "[" + ",".join(map(json_text, table.columns)) + "]"
+    return [("tracebook", "1"), *OF_MEMBERS[table.of], *UNIT_MEMBERS[table.unit], ("columns", columns)]
 
 
 def json_lines(table, wanted):
-    rows = sorted((key, sums) for key, sums in table.rows.items() if wanted.shows(key))
+    rows = sorted((key, numbers) for key, numbers in table.rows.items() if wanted.shows(key))
     yield members([*first_members(table), ("rows", number(len(rows))), *head_members(table)])
-    for key, sums in rows:
-        yield members(key_members(table.columns, key) + number_members(["count", "total", "self"], sums))
+    for key, numbers in rows:
+        yield members(key_members(table.columns, key) + number_members(table.of.numbers, numbers))
 
 
 def json_of(table, wanted=ALL):
@@ -297,10 +260,10 @@ def json_of(table, wanted=ALL):
 
 
 def json_comparison_lines(base, other, wanted):
-    changes, same = changes_of(base, other, "self", wanted)
+    changes, same = changes_of(base, other, other.of.order[0], wanted)
     head = [*first_members(other), *number_members(["rows", "same"], [len(changes), same])]
     yield members([*head, ("base", members(head_members(base))), ("other", members(head_members(other)))])
-    names = ["count0", "count1", "total0", "total1", "self0", "self1"]
+    names = [f"{name}{side}" for name in other.of.numbers for side in (0, 1)]
     for key, earlier, later in changes:
         numbers = [part for both in zip(earlier, later) for part in both]
         yield members(key_members(other.columns, key) + number_members(names, numbers))
@@ -325,7 +288,8 @@ class Stopped(Exception):
 
 
 # The kinds of value that a column can have; an argument can have any.
-KINDS = {"pid": {WHOLE}, "tid": {WHOLE}, "process": {MISSING[0], WORDS}, "thread": {MISSING[0], WORDS}, "name": {WORDS}, "file": {WORDS}}
+KINDS = {"pid": {WHOLE}, "tid": {WHOLE}, "process": {MISSING[0], WORDS}, "thread": {MISSING[0], WORDS}}
+KINDS |= {column: {WORDS} for column in ["name", "file", "cat", "scope", "id"]}
 
 
 def printed_value(column, members):
@@ -342,17 +306,19 @@ def printed_number(members, name, least=0):
     return members[name]
 
 
-def printed_sums(members):
-    return (printed_number(members, "count", 1), printed_number(members, "total"), printed_number(members, "self"))
+def printed_numbers(of, members):
+    """The numbers of the object of a row; the first of them counts spans."""
+    return tuple(printed_number(members, name, 0 if place else of.least) for place, name in enumerate(of.numbers))
 
 
 def table_of_text(data):
     """The table of which JSON Lines print just these bytes; there is none with any other text, such as one that was cut off."""
     head, *rows = [json.loads(line) for line in data.decode().split("\n")[:-1]] or [{}]
-    columns = columns_of(",".join(head["columns"]))
+    of = OFS[head.get("of")]
+    columns = of.columns_of(",".join(head["columns"]))
     counts = {name: printed_number(head, name) for name in COUNTS}
-    keys = [tuple(printed_value(column, row) for column in columns) for row in rows]
-    table = Table(columns, counts, dict(zip(keys, map(printed_sums, rows))), unit=UNITS[head.get("unit")])
+    keyed = {tuple(printed_value(column, row) for column in columns): printed_numbers(of, row) for row in rows}
+    table = Table(columns, counts, keyed, unit=UNITS[head.get("unit")], of=of)
     if json_of(table) != data:
         raise ValueError("another text")
     return table
@@ -373,14 +339,14 @@ def bytes_or_stop(path):
 
 
 def tables_of_files(line):
-    """The tables of the base's files, and those of the others, or of standard input where there are none. All have the unit and the
-    columns of the first, and those columns that are asked for."""
+    """The tables of the base's files, and those of the others, or of standard input where there are none. All sum what the first does,
+    and have its unit and its columns, and those columns that are asked for."""
     tables = []
     for path in [*line.base, *line.files] if line.files else [*line.base, None]:
         name = "-" if path is None else path
         table = table_of_file(name, sys.stdin.buffer.read() if path is None else bytes_or_stop(path))
         first = tables[0] if tables else table
-        is_like_first = (table.unit, table.columns) == (first.unit, first.columns)
+        is_like_first = (table.of, table.unit, table.columns) == (first.of, first.unit, first.columns)
         if not is_like_first or not set(table.columns).issuperset(wanted_columns(line, table)):
             raise Stopped(f"tracebook: {json_text(name)}: 54 OtherColumns")
         tables.append(table)
@@ -388,7 +354,7 @@ def tables_of_files(line):
 
 
 def wanted_columns(line, table):
-    return columns_of(line.group_by) if line.group_by else table.columns
+    return line.group_by.split(",") if line.group_by else table.columns
 
 
 # The command line
@@ -399,7 +365,8 @@ def words_of_line():
     for switch in "--seal", "--strict", "--nanoseconds", "--json", "--apart", "--add":
         parser.add_argument(switch, action="store_true")
     parser.add_argument("--top", type=int)
-    parser.add_argument("--by", choices=BY, default="self")
+    parser.add_argument("--of", choices=["spans", "async"])
+    parser.add_argument("--by", choices=sorted({*SPANS.ranked, *ASYNC.ranked}))
     parser.add_argument("--group-by")
     for several in "--only", "--skip", "--base":
         parser.add_argument(several, action="append", default=[])
@@ -415,18 +382,27 @@ def run_of(line, files, name=""):
     return Run(ledger, len(files), len(faults), name), faults
 
 
-def table_of_files(line, columns, paths):
+def table_of_files(line, of, columns, paths):
     """The table of files, or of standard input where there are none, and the lines of those that are refused."""
     files = [(path, bytes_of(path)) for path in paths] or [("-", sys.stdin.buffer.read())]
     together = [run_of(line, [file], file[0]) for file in files] if line.apart else [run_of(line, files)]
-    return table_of(columns, [run for run, _ in together], line.apart), [fault for _, faults in together for fault in faults]
+    table = table_of(columns, [run for run, _ in together], line.apart, of)
+    return table, [fault for _, faults in together for fault in faults]
+
+
+def usual_columns(line, of):
+    """The columns where none are named."""
+    if of == ASYNC:
+        return ASYNC_BY
+    return COMPARED_BY if line.top is None else RANKED_BY
 
 
 def collected(line):
     """The tables of the base, if there is one, and of the other files, and the lines of those that are refused."""
-    columns = columns_of(line.group_by or (COMPARED_BY if line.top is None else RANKED_BY))
-    base, faults = table_of_files(line, columns, line.base) if line.base else (None, [])
-    other, more = table_of_files(line, columns, line.files)
+    of = ASYNC if line.of == "async" else SPANS
+    columns = of.columns_of(line.group_by or usual_columns(line, of))
+    base, faults = table_of_files(line, of, columns, line.base) if line.base else (None, [])
+    other, more = table_of_files(line, of, columns, line.files)
     return base, other, faults + more
 
 

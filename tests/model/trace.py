@@ -22,6 +22,7 @@ PROCESSES = 1_600
 THREADS = 2_700
 NAMES = 4_000
 ASYNC_KEYS = 60_000
+ALIKE_KEYS = 1_500
 FLOW_KEYS = 40_000
 LONG_CHAIN = 5_000
 DEEP_STACK = 10_000
@@ -283,18 +284,24 @@ def id_forms(draw, number):
     return [f',"id2":{{"local":{number // PROCESSES}}}', f',"id2":{{"local":"{number // PROCESSES}"}}'], True
 
 
-def put_key(trace, number, steps, common, unread):
-    """Puts the events of a key, in the order of their letters; `<` stands for an end or a point before the one before it."""
-    draw, part = trace.draw, number % PARTS
-    forms, is_local = id_forms(draw, number)
+def put_steps(trace, part, home, forms, steps, common, unread):
+    """Puts the events of a key, in the order of their letters, all in its home if it has one; `<` stands for an end or a point before the
+    one before it."""
+    draw = trace.draw
     place, spread, time = draw.fraction(), draw.fraction() / 1_000, trace.time_below(1_000_000)
     for letter in steps:
         time += trace.time_below(100)
-        process = trace.processes[number % PROCESSES] if is_local else trace.process_in(part)
+        process = trace.process_in(part) if home is None else home
         phase = letter if letter != "<" else "e" if steps[0] == "b" else "t"
         members = draw.of(forms) + common + draw.of(trace.args)
         trace.put_event(place, part, phase, time if letter != "<" else -time - 1, process, members, unread)
         place += spread
+
+
+def put_key(trace, number, steps, common, unread):
+    forms, is_local = id_forms(trace.draw, number)
+    home = trace.processes[number % PROCESSES] if is_local else None
+    put_steps(trace, number % PARTS, home, forms, steps, common, unread)
 
 
 def put_keys(trace):
@@ -306,6 +313,16 @@ def put_keys(trace):
     for number in range(trace.some(FLOW_KEYS)):
         common = f',"cat":{draw.of(trace.categories)},"name":{draw.of(trace.names)}'
         put_key(trace, number, draw.of(FLOW_STEPS), common, UNREAD_AT_FLOW)
+
+
+def put_alike_keys(trace):
+    """Async keys that differ in their ids alone: ids of one text, each local to another process, and for each of them an id that is known
+    everywhere and has the process before that text."""
+    for index in range(trace.some(ALIKE_KEYS)):
+        home = trace.processes[index]
+        for forms in [',"id2":{"local":"alike"}'], [f',"id":"{home}:alike"']:
+            steps = trace.draw.of(["be", "bbe", "b", "n", "bnne"])
+            put_steps(trace, index % PARTS, home, forms, steps, ',"cat":"c","name":"alike"', UNREAD_AT_KEY)
 
 
 def put_large_keys(trace):
@@ -400,8 +417,9 @@ def main():
     gc.disable()  # Nothing here is let go in rings, and to look for them takes long.
     *switch, seed, folder = sys.argv[1:]
     trace = Trace(seed, FractionTimes if switch == ["--nanoseconds"] else WholeTimes)
-    for put in [put_threads, put_keys, put_large_keys, put_counters, put_instants, put_names, put_elements, put_large_elements]:
+    for put in [put_threads, put_keys, put_alike_keys, put_large_keys, put_counters, put_instants, put_names, put_elements]:
         put(trace)
+    put_large_elements(trace)
     trace.elements.sort(key=lambda element: element[0])
     write(os.path.join(folder, "whole.json"), "[", [text for _, _, text in trace.elements], "]\n")
     frames = [("[", "]"), ("\n[\n", ",\n"), ("[", ""), ('{"traceEvents":[', '],"displayTimeUnit":"ns"}')]
