@@ -1,9 +1,9 @@
 # Completes the command line of tracebook in bash: its options, the words that follow them, and files.
 
-_tracebook_options="--limit --nanoseconds --seal --strict --top --by --group-by --only --skip --json --apart --jobs --add --files-from --refused --folded --page --base --help --version"
+_tracebook_options="--limit --nanoseconds --seal --strict --top --by --of --group-by --only --skip --json --apart --jobs --add --files-from --refused --folded --page --base --help --version"
 
 _tracebook() {
-    local word=${COMP_WORDS[COMP_CWORD]} before=${COMP_WORDS[COMP_CWORD-1]} earlier columns
+    local word=${COMP_WORDS[COMP_CWORD]} before=${COMP_WORDS[COMP_CWORD-1]} earlier of=spans numbers names columns
     COMPREPLY=()
     # An equals sign is a word of its own.
     if [[ $word == "=" ]]; then
@@ -14,14 +14,22 @@ _tracebook() {
     # Behind -- every word is a file, which bash completes itself where there is no reply.
     for earlier in "${COMP_WORDS[@]:1:COMP_CWORD-1}"; do
         [[ $earlier == "--" ]] && return
+        [[ $earlier == "async" || $earlier == "--add" ]] && of=$earlier
     done
+    case $of in
+        spans) numbers="self total count" names="pid tid process thread name file args." ;;
+        async) numbers="total closed open points" names="cat scope id name file" ;;
+        # Tables that are added say themselves what they sum.
+        --add) numbers="self total count closed open points" names="pid tid process thread name file cat scope id args." ;;
+    esac
     case $before in
-        --by) mapfile -t COMPREPLY < <(compgen -W "self total count" -- "$word") ;;
+        --of) mapfile -t COMPREPLY < <(compgen -W "spans async" -- "$word") ;;
+        --by) mapfile -t COMPREPLY < <(compgen -W "$numbers" -- "$word") ;;
         --group-by)
             # The columns before the last comma stay.
             columns=${word%"${word##*,}"}
             compopt -o nospace 2>/dev/null
-            mapfile -t COMPREPLY < <(compgen -P "$columns" -W "pid tid process thread name file args." -- "${word##*,}")
+            mapfile -t COMPREPLY < <(compgen -P "$columns" -W "$names" -- "${word##*,}")
             ;;
         --limit | --top | --jobs | --only | --skip) compopt +o default 2>/dev/null ;;
         --base | --files-from) ;;
