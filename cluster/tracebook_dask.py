@@ -29,6 +29,7 @@ PROGRAM = "tracebook"
 # The columns without --group-by, as the program has them.
 RANKED_BY = "pid,tid,thread,name"
 COMPARED_BY = "process,thread,name"
+ASYNC_BY = "cat,name"
 # A chunk has at most so many bytes, and there are so many chunks at least for each thread of a worker, where there are as many files.
 MOST_BYTES = 256_000_000
 CHUNKS_EACH = 8
@@ -374,8 +375,8 @@ def words_of_line():
         prog=NAME,
         allow_abbrev=False,
         usage=f"{NAME} [--scheduler ADDRESS | --workers N] [--parts FOLDER] [--limit N] [--nanoseconds] [--seal]\n"
-        "         [--strict] [--group-by COLUMNS] [--only TEXT].. [--skip TEXT].. (--top N [--by NUMBER] |\n"
-        "         --json [--base FILE].. | --base FILE.. [--by NUMBER]) [--files-from FILE] [FILE...]",
+        "         [--strict] [--of spans|async] [--group-by COLUMNS] [--only TEXT].. [--skip TEXT]..\n"
+        "         (--top N [--by SUM] | --json [--base FILE].. | --base FILE.. [--by SUM]) [--files-from FILE] [FILE...]",
         description="Prints what tracebook --apart prints for the same files, which the workers of a Dask cluster read.",
         epilog="The other flags are those of tracebook.",
     )
@@ -384,7 +385,7 @@ def words_of_line():
     parser.add_argument("--parts", metavar="FOLDER", help="keep a part of each file here, and take those that stand")
     for switch in "--apart", "--nanoseconds", "--seal", "--strict", "--json":
         parser.add_argument(switch, action="store_true", help=argparse.SUPPRESS)
-    for word in "--limit", "--top", "--by", "--group-by", "--files-from":
+    for word in "--limit", "--top", "--by", "--of", "--group-by", "--files-from":
         parser.add_argument(word, help=argparse.SUPPRESS)
     for several in "--only", "--skip", "--base":
         parser.add_argument(several, action="append", default=[], help=argparse.SUPPRESS)
@@ -402,10 +403,20 @@ def journal_flags(line):
     return limit + ["--nanoseconds"] * line.nanoseconds + ["--seal"] * line.seal + ["--strict"] * line.strict
 
 
+def of_flags(line):
+    return [] if line.of is None else [f"--of={line.of}"]
+
+
+def usual_columns(line):
+    """The columns without --group-by."""
+    if line.of == "async":
+        return ASYNC_BY
+    return COMPARED_BY if line.top is None else RANKED_BY
+
+
 def table_flags(line):
     """The flags that a file's table follows from."""
-    columns = line.group_by or (COMPARED_BY if line.top is None else RANKED_BY)
-    return [f"--group-by={columns}", *journal_flags(line)]
+    return [*of_flags(line), f"--group-by={line.group_by or usual_columns(line)}", *journal_flags(line)]
 
 
 def text_flags(line):
@@ -419,7 +430,7 @@ def expect_flags(line):
     """Lets the program look at the flags before anything is read: without files it says that there are none."""
     columns = [] if line.group_by is None else [f"--group-by={line.group_by}"]
     bases = [f"--base={name}" for name in line.base]
-    words = ["--apart", *columns, *journal_flags(line), *text_flags(line), *bases, "--files-from", os.devnull]
+    words = ["--apart", *of_flags(line), *columns, *journal_flags(line), *text_flags(line), *bases, "--files-from", os.devnull]
     ended = subprocess.run([PROGRAM, *words], stdin=subprocess.DEVNULL, stdout=subprocess.DEVNULL, stderr=subprocess.PIPE)
     said = ended_lines(ended)
     if said != f"{PROGRAM}: 41 FileCount\n":
