@@ -12,8 +12,8 @@ TIMES = ("self", "total")
 
 @dataclass(frozen=True)
 class Of:
-    """What a table sums. Its columns stand here without those of arguments, and its numbers as they stand in JSON Lines, in a ranking,
-    and on each side of a comparison. `order` are those by which changes go, and the first of them that by which rows go."""
+    """What a table sums: its columns, but for those of arguments; and its numbers as they stand in JSON Lines, in a ranking and on each
+    side of a comparison, and in the order in which changes go by them. Rows go by the first of these, where none is named."""
 
     columns: tuple
     has_arguments: bool
