@@ -1,11 +1,12 @@
 //! What changed between two tables of the same columns.
-ghost use Rattle.std.specs.Prelude.{◌≡◌, ◌++◌, ◌∷◌, [], ◌<◌, ◌≤◌, ◌+◌, ◌-◌, ◌^◌, List, length, option_copied, IfOk, OnOk};
-ghost use Rattle.span_table.specs.Changed.{Tells, base_keys, found_at, new_key, new_keys};
-ghost use Rattle.span_table.specs.Changes.{Change, by_gap, change_order, changes_of, compared, gap_by, is_changed, same_count, shown_changes, sums_at, usual_order};
+ghost use Rattle.std.specs.Prelude.{◌≡◌, ◌++◌, ◌∷◌, [], ◌<◌, ◌≤◌, ◌+◌, ◌-◌, ◌^◌, List, length, IfOk, OnOk};
+ghost use Rattle.span_table.specs.Changed.{Tells, base_keys, new_key, new_keys};
+ghost use Rattle.span_table.specs.Changes.{Change, by_gap, change_order, changes_of, compared, gap_by, is_changed, same_count, shown_changes, usual_order};
 ghost use Rattle.span_table.specs.Tables.{RowsRise};
 
 use crate::key::Key;
 use crate::of::Of;
+use crate::row_search::{find, sums_at};
 use crate::shown::Shown;
 use crate::sum::Sum;
 use crate::sums::{By, Sums};
@@ -227,26 +228,4 @@ fn tell<'a>(found: &mut Told<'a>, changed: Changed<'a>, shown: &Shown) -> Result
         found.same += 1;
     }
     Ok(())
-}
-
-// What rows have under a key; zeros where none has it.
-fn sums_at(rows: &[Row], key: &Key) -> Sums
-    requires { RowsRise rows.now }
-    ensures { result ≡ sums_at rows.now key.now }
-{
-    match find(rows, key) {
-        Some(row) => row.sums,
-        None => Sums::of_none(),
-    }
-}
-
-// The row with this key.
-fn find<'a>(rows: &'a [Row], key: &Key) -> Option<&'a Row>
-    requires { RowsRise rows.now }
-    ensures { option_copied result ≡ found_at rows.now key.now }
-{
-    match rows.binary_search_by(|row| row.key.cmp(key)) {
-        Ok(i) => Some(&rows[i]),
-        Err(_) => None,
-    }
 }

@@ -17,6 +17,7 @@ pub mod laws;
 mod lines;
 mod of;
 mod rankings;
+mod row_search;
 mod run;
 mod shown;
 mod sum;

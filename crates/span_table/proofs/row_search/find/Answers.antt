@@ -5,7 +5,7 @@ use Rattle.span_table.specs.Changed.{found_at}
 use Rattle.span_table.specs.KeyLaws.{key_cmp-same}
 use Rattle.span_table.specs.Keys.{key_cmp}
 use Rattle.span_table.proofs.Comparing.{answers_by, found_at-none, found_at-own, searchable}
-use Rattle.span_table.proofs.changes.find.Goals as goal
+use Rattle.span_table.proofs.row_search.find.Goals as goal
 
 pub returns-in-Ok : goal.returns-in-Ok
 returns-in-Ok c =

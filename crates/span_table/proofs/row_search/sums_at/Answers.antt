@@ -4,7 +4,7 @@ use Rattle.std.specs.Option.{option_map}
 use Rattle.span_table.specs.declared.table.Row.{Row}
 use Rattle.span_table.specs.Tables.{sums_together}
 use Rattle.span_table.proofs.Comparing.{sums_at-found}
-use Rattle.span_table.proofs.changes.sums_at.Goals as goal
+use Rattle.span_table.proofs.row_search.sums_at.Goals as goal
 
 pub returns-in-Some : goal.returns-in-Some
 returns-in-Some c = ap (λ found. unwrap_or (option_map (λ (row : Row). row.sums) found) (sums_together [])) c.in-Some.ensures ∙ sym (sums_at-found c.args.key.now c.args.rows.now c.requires)
