@@ -1,6 +1,7 @@
 -- What is kept of what is added.
-use Rattle.std.specs.Prelude.{ℕ, ◌*◌, ◌<◌, ◌^◌, map}
+use Rattle.std.specs.Prelude.{ℕ, ◌*◌, ◌<◌, ◌^◌, List, map}
 use Rattle.span_table.specs.declared.heads.Head.{Head}
+use Rattle.span_table.specs.declared.table.Row.{Row}
 use Rattle.span_table.specs.Collected.{AllWithin}
 use Rattle.span_table.specs.Heads.{IsHeadWithin}
 use Rattle.span_table.specs.Tables.{RowsRise, SumsByKey, row_of}
@@ -18,3 +19,8 @@ pub record IsAdded (heads rows : ℕ) (head : Head) (sums : SumsByKey) : Type 0 
   pub numbers : IsHeadWithin (heads * 2 ^ 64) head
   pub rise : RowsRise (map row_of sums)
   pub within : AllWithin (rows * 2 ^ 64) sums
+
+-- of a table: keys rise, and the numbers of its head are those of fewer than 2^32 heads
+pub record IsTabled (head : Head) (rows : List Row) : Type 0 where
+  pub numbers : IsHeadWithin (2 ^ 96) head
+  pub rise : RowsRise rows

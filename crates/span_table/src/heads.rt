@@ -47,8 +47,8 @@ impl HeadCounts {
     }
 
     fn add(&mut self, more: &HeadCounts)
-        requires mine { AreCountsWithin (2 ^ 100) self.old }
-        requires its { AreCountsWithin (2 ^ 100) more.now }
+        requires mine { AreCountsWithin (2 ^ 120) self.old }
+        requires its { AreCountsWithin (2 ^ 120) more.now }
         ensures { self.new ≡ counts_together (self.old ∷ more.now ∷ []) }
     {
         self.accepted += more.accepted;
@@ -101,8 +101,8 @@ impl Head {
     }
 
     pub(crate) fn add(&mut self, more: &Head)
-        requires mine { IsHeadWithin (2 ^ 100) self.old }
-        requires its { IsHeadWithin (2 ^ 100) more.now }
+        requires mine { IsHeadWithin (2 ^ 120) self.old }
+        requires its { IsHeadWithin (2 ^ 120) more.now }
         ensures { self.new ≡ heads_together (self.old ∷ more.now ∷ []) }
     {
         self.runs += more.runs;

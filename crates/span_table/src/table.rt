@@ -1,6 +1,8 @@
 //! A table of spans.
-ghost use Rattle.std.specs.Prelude.{◌≡◌, ◌∷◌, [], map, option_copied, IfOk};
+ghost use Rattle.std.specs.Prelude.{◌≡◌, ◌^◌, ◌∷◌, [], map, option_copied, IfOk};
 ghost use Rattle.span_table.specs.Columns.{run_of};
+ghost use Rattle.span_table.specs.Heads.{IsHeadWithin};
+ghost use Rattle.span_table.specs.Kept.{IsTabled};
 ghost use Rattle.span_table.specs.Tables.{RowsRise, row_of, table_of};
 
 use crate::column::Column;
@@ -34,13 +36,14 @@ pub struct Table {
 }
 
 impl Model for Table {
-    ghost use Rattle.span_table.specs.Tables.{RowsRise, SpanTable};
+    ghost use Rattle.span_table.specs.Kept.{IsTabled};
+    ghost use Rattle.span_table.specs.Tables.{SpanTable};
 
     ghost Value = { SpanTable };
 
     ghost view = { λ t. record { of = t.of; columns = t.columns.items; head = t.head; rows = t.rows.items } };
 
-    ghost invariant = { λ t. RowsRise t.rows.items };
+    ghost invariant = { λ t. IsTabled t.head t.rows.items };
 }
 
 impl Table {
@@ -70,7 +73,7 @@ impl Table {
     }
 
     pub(crate) fn from_rows(of: Of, columns: Vec<Column>, head: Head, rows: Vec<Row>) -> Table
-        requires { RowsRise rows.items }
+        requires { IsTabled head rows.items }
         ensures { result ≡ record { of = of; columns = columns.items; head = head; rows = rows.items } }
     {
         Table {
@@ -95,7 +98,8 @@ impl Table {
     }
 
     pub fn head(&self) -> Head
-        ensures { result ≡ self.now.head }
+        ensures value { result ≡ self.now.head }
+        ensures bound { IsHeadWithin (2 ^ 96) self.now.head }
     {
         self.head
     }
@@ -116,7 +120,7 @@ pub(crate) fn table_of_groups(
     head: Head,
     groups: Groups,
 ) -> Result<Table, AllocError>
-    requires { RowsRise (map row_of groups) }
+    requires { IsTabled head (map row_of groups) }
     ensures { IfOk result (λ table. table ≡ record { of = of; columns = columns.items; head = head; rows = map row_of groups }) }
 {
     let alloc = groups.allocator();
