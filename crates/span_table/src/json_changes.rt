@@ -70,29 +70,44 @@ fn text_of(
     let mut out = String::new(alloc);
     let of = other.kind();
     let columns = other.columns();
-    put_first(alloc, &mut out, unit, base, other, found)?;
+    let line = FirstLine {
+        of,
+        unit,
+        columns,
+        rows: found.changes.len(),
+        same: found.same,
+        base: base.head(),
+        other: other.head(),
+    };
+    put_first(alloc, &mut out, &line)?;
     for change in &found.changes {
         put_change(alloc, &mut out, of, columns, change)?;
     }
     Ok(out.into_bytes())
 }
 
+/// What the first line of a comparison tells.
+#[derive(Drop)]
+pub(crate) struct FirstLine<'a> {
+    pub(crate) of: Of,
+    pub(crate) unit: Unit,
+    pub(crate) columns: &'a [Column],
+    pub(crate) rows: usize,
+    pub(crate) same: u128,
+    pub(crate) base: Head,
+    pub(crate) other: Head,
+}
+
+/// Appends the first line of a comparison.
 #[tactic(auto, using(crate::proofs::JsonPieces::json_heads_pieces, std::proofs::Common::append_assoc))]
-fn put_first(
-    alloc: Global,
-    out: &mut String,
-    unit: Unit,
-    base: &Table,
-    other: &Table,
-    found: &ComparedTables,
-) -> Result<(), AllocError>
+pub(crate) fn put_first(alloc: Global, out: &mut String, line: &FirstLine) -> Result<(), AllocError>
     ensures { OnOk result (string_bytes out.new ≡ string_bytes out.old
-        ++ json_heads other.now.of unit other.now.columns (length found.now.changes.items) found.now.same base.now.head other.now.head) }
+        ++ json_heads line.now.of line.now.unit line.now.columns.now line.now.rows line.now.same line.now.base line.now.other) }
 {
-    put_start(out, other.kind(), unit)?;
-    put_columns(alloc, out, other.columns())?;
-    put_counts(out, found.changes.len(), found.same)?;
-    put_heads(out, base.head(), other.head())
+    put_start(out, line.of, line.unit)?;
+    put_columns(alloc, out, line.columns)?;
+    put_counts(out, line.rows, line.same)?;
+    put_heads(out, line.base, line.other)
 }
 
 #[tactic(auto, using(std::proofs::Common::append_assoc))]
