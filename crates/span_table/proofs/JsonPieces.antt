@@ -10,9 +10,10 @@ use Rattle.span_table.specs.declared.of.Of.{Of}
 use Rattle.span_table.specs.declared.of.Of.TheVariants.{Spans, Async}
 use Rattle.span_table.specs.declared.table.Row.{Row}
 use Rattle.span_table.specs.Json.{both_members, columns_json, head_members, json_change, json_head, json_heads, json_line, object_of, member_of, number_member, sums_members, value_member, value_members, version_member, with_commas}
-use Rattle.span_table.specs.JsonPieces.{both_text, closed_text, count_text, counts_text, ends_text, open_text, other_text, points_text, selves_text, spans_text, totals_text, end_text, events_text, files_text, head_text, heads_text, others_text, members_text, start_text, sums_text}
+use Rattle.span_table.specs.JsonPieces.{base_values_text, both_text, closed_text, count_text, counts_text, ends_text, open_text, other_text, points_text, selves_text, spans_text, totals_text, end_text, events_text, files_text, head_text, heads_text, others_text, members_text, other_values_text, start_text, sums_text}
 use Rattle.span_table.specs.Changes.{Change}
 use Rattle.span_table.specs.Keys.{TableKey}
+use Rattle.span_table.specs.Repeats.{json_values, values_json}
 
 -- the members of a key, and then some more
 pub members-then : (columns : List Column) (key : TableKey) (m : Bytes) (ms : List Bytes) → with_commas (value_members columns key ++ m ∷ ms) ≡ members_text columns key ++ with_commas (m ∷ ms)
@@ -114,3 +115,12 @@ unfolding json_heads counts_text
 json_heads_pieces of unit columns rows same base other =
     heads-then of unit (columns_json columns) (decimal rows) (decimal same) (with_commas (head_members base)) (with_commas (head_members other))
     ∙ (λ i. start_text of unit ++ (columns_json columns ++ (counts_text rows same ++ (head_members-text base i ++ (other_text ++ (head_members-text other i ++ ends_text))))))
+
+-- the line of a key with its values, from its pieces
+pub json_values_pieces : (columns : List Column) (key : TableKey) (base other : List ℕ) →
+    json_values columns key base other ≡ 123 ∷ (members_text columns key ++ (base_values_text base ++ 44 ∷ (other_values_text other ++ end_text)))
+unfolding json_values base_values_text other_values_text end_text
+json_values_pieces columns key base other =
+    ap (λ l. 123 ∷ (l ++ 125 ∷ []) ++ 10 ∷ []) (members-then columns key (member_of (codes "values0") (values_json base)) (member_of (codes "values1") (values_json other) ∷ []))
+    ∙ ended (members_text columns key) (with_commas (member_of (codes "values0") (values_json base) ∷ member_of (codes "values1") (values_json other) ∷ []))
+    ∙ ap (λ l. 123 ∷ (members_text columns key ++ (codes "\"values0\":" ++ l))) (append_assoc (values_json base) (codes ",\"values1\":" ++ values_json other) (125 ∷ 10 ∷ []))

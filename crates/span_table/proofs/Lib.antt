@@ -15,9 +15,12 @@ pub mod Permuted
 pub mod Pieces
 pub mod Printed
 pub mod PrintedLines
+pub mod RepeatedKeys
 pub mod Rows
 pub mod RunTables
 pub mod SameTables
+pub mod Sorts
+pub mod SpreadOrder
 pub mod Substrings
 pub mod SumText
 pub mod Summing

@@ -214,7 +214,7 @@ module _ (base other : List Row) where
       ∙ ap length (filter-true all_keys) ∙ sym (length-map all_keys make)
 
 -- where the later of two orders tells things apart, both do
-apart : (p q : Ordering) → is_eq q ≡ false → is_eq (ordering_then p q) ≡ false
+pub apart : (p q : Ordering) → is_eq q ≡ false → is_eq (ordering_then p q) ≡ false
 apart Less q told = refl
 apart Greater q told = refl
 apart Equal q told = told

@@ -17,8 +17,10 @@ use Rattle.span_table.specs.declared.table.Row.{Row}
 use Rattle.span_table.specs.Lines.{column_title, value_text}
 use Rattle.span_table.specs.Changes.{Change, gap}
 use Rattle.span_table.specs.Comparison.{change_columns, change_line, difference_text}
-use Rattle.span_table.specs.Pieces.{both_text, change_names, sums_names, sums_text, then_title, then_value}
+use Rattle.span_table.specs.Pieces.{both_text, change_names, extent_text, spread_names, sums_names, sums_text, then_title, then_value, times_text}
 use Rattle.span_table.specs.Ranking.{column_line, ranked_line}
+use Rattle.span_table.specs.Repeats.{spread_columns, spread_line}
+use Rattle.span_table.specs.Spreads.{Spreads}
 
 -- parts with a byte between them, from the first and the others with the byte before each
 pub join_with_byte-each : {A : Type 0} (b : ℕ) (f : A → Bytes) (x : A) (xs : List A) → join_with_byte b (map f (x ∷ xs)) ≡ f x ++ flat_map (λ y. b ∷ f y) xs
@@ -119,6 +121,24 @@ change_columns_pieces Async columns =
 change_columns_pieces Spans columns =
     eight (right_in 16 (codes "dself")) (right_in 16 (codes "self0")) (right_in 16 (codes "self1")) (right_in 16 (codes "dtotal")) (right_in 16 (codes "total0")) (right_in 16 (codes "total1"))
     (right_in 8 (codes "count0")) (right_in 8 (codes "count1")) column_title columns
+
+-- the line of a key whose sides are apart, from its pieces
+pub spread_line_pieces : (s : Spreads) → spread_line s ≡ times_text s.base.median s.other.median ++ (extent_text s.base ++ (extent_text s.other ++ (flat_map then_value s.key ++ 10 ∷ [])))
+unfolding spread_line
+spread_line_pieces s =
+    seven (right_in 16 (difference_text s.base.median s.other.median)) (right_in 16 (decimal s.base.median)) (right_in 16 (decimal s.other.median))
+    (right_in 16 (decimal s.base.least)) (right_in 16 (decimal s.base.greatest)) (right_in 16 (decimal s.other.least)) (right_in 16 (decimal s.other.greatest)) value_text s.key
+    ∙ joined (times_text s.base.median s.other.median) (extent_text s.base) (extent_text s.other) (flat_map then_value s.key ++ 10 ∷ [])
+  where
+    joined : (a b c d : Bytes) → (a ++ (b ++ c)) ++ d ≡ a ++ (b ++ (c ++ d))
+    joined a b c d = simp append_assoc refl
+
+-- the names of the columns of repeated runs, from their pieces
+pub spread_columns_pieces : (columns : List Column) → spread_columns columns ≡ spread_names ++ (flat_map then_title columns ++ 10 ∷ [])
+unfolding spread_columns spread_names
+spread_columns_pieces columns =
+    seven (right_in 16 (codes "dmedian")) (right_in 16 (codes "median0")) (right_in 16 (codes "median1")) (right_in 16 (codes "least0")) (right_in 16 (codes "greatest0"))
+    (right_in 16 (codes "least1")) (right_in 16 (codes "greatest1")) column_title columns
 
 -- numbers that are equal lie no further apart than 0
 pub difference_text-equal : (base other : ℕ) → Equal ≡ nat_cmp base other → decimal (gap base other) ≡ difference_text base other

@@ -12,6 +12,7 @@ use Rattle.span_table.specs.declared.sums.Sums.{Sums}
 use Rattle.span_table.specs.declared.heads.Head.{Head}
 use Rattle.span_table.specs.Json.{of_member, sums_members, unit_member, value_member, with_commas}
 use Rattle.span_table.specs.Keys.{TableKey}
+use Rattle.span_table.specs.Repeats.{values_json}
 
 -- a column with its value and a comma, if it has a value
 abbrev pub member_text : Column → Value → Bytes
@@ -87,3 +88,10 @@ points_text both = codes "\"points0\":" ++ (decimal both.base.points ++ (codes "
 abbrev pub both_text : Of → Both → Bytes
 both_text Spans both = spans_text both ++ (totals_text both ++ selves_text both)
 both_text Async both = closed_text both ++ (totals_text both ++ (open_text both ++ points_text both))
+
+-- the values of the base, and those of the other, behind their names
+unfoldable pub base_values_text : List ℕ → Bytes
+base_values_text values = codes "\"values0\":" ++ values_json values
+
+unfoldable pub other_values_text : List ℕ → Bytes
+other_values_text values = codes "\"values1\":" ++ values_json values

@@ -17,7 +17,10 @@ pub mod Pieces
 pub mod Printed
 pub mod Ranking
 pub mod Ranks
+pub mod Repeats
 pub mod Shown
+pub mod Sides
+pub mod Spreads
 pub mod SumLaws
 pub mod Tables
 pub mod TextLaws

@@ -5,6 +5,7 @@ use Rattle.span_report.specs.Lines.{right_in}
 use Rattle.span_table.specs.declared.changes.Both.{Both}
 use Rattle.span_table.specs.declared.of.Of.{Of}
 use Rattle.span_table.specs.declared.of.Of.TheVariants.{Spans, Async}
+use Rattle.span_table.specs.declared.spreads.Spread.{Spread}
 use Rattle.span_table.specs.declared.sums.Sums.{Sums}
 use Rattle.span_table.specs.declared.column.Column.{Column}
 use Rattle.span_table.specs.Columns.{Value}
@@ -48,3 +49,11 @@ both_text Async both =
 unfoldable pub change_names : Of → Bytes
 change_names Spans = codes "           dself            self0            self1           dtotal           total0           total1   count0   count1"
 change_names Async = codes "          dtotal           total0           total1  closed0  closed1    open0    open1"
+
+-- the least and the greatest of a spread, with a blank before each
+abbrev pub extent_text : Spread → Bytes
+extent_text spread = then_right 16 (decimal spread.least) ++ then_right 16 (decimal spread.greatest)
+
+-- the names of the numbers of repeated runs
+unfoldable pub spread_names : Bytes
+spread_names = codes "         dmedian          median0          median1           least0        greatest0           least1        greatest1"

@@ -45,8 +45,9 @@ pub fn comparison(
     Ok(out.into_bytes())
 }
 
+/// Appends both heads but for their first line.
 #[tactic(auto, using(std::proofs::Common::append_assoc), unfolding(crate::specs::Comparison::compared_heads))]
-fn put_heads(
+pub(crate) fn put_heads(
     out: &mut String,
     base: &Head,
     other: &Head,
@@ -173,9 +174,14 @@ fn put_both_spans(alloc: Global, out: &mut String, both: &Both) -> Result<(), Al
     put_count(alloc, out, &other.count)
 }
 
-// How far two sums of times lie apart, and the sums.
+/// Appends how far two sums lie apart, and the sums.
 #[tactic(auto, using(std::proofs::Common::append_assoc))]
-fn put_times(alloc: Global, out: &mut String, base: &Sum, other: &Sum) -> Result<(), AllocError>
+pub(crate) fn put_times(
+    alloc: Global,
+    out: &mut String,
+    base: &Sum,
+    other: &Sum,
+) -> Result<(), AllocError>
     ensures { OnOk result (string_bytes out.new ≡ string_bytes out.old ++ times_text base.now other.now) }
 {
     put_right(out, 16, &difference(alloc, base, other)?)?;

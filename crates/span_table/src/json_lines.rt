@@ -26,6 +26,17 @@ pub enum JsonFault {
     TooGreat,
 }
 
+impl From<AllocError> for JsonFault {
+    ghost use Rattle.std.specs.Prelude.{◌≡◌};
+    ghost use Rattle.span_table.specs.declared.json_lines.JsonFault.TheVariants.{Memory};
+
+    ghost from_gives = { λ _ fault. fault ≡ Memory };
+
+    fn from(_: AllocError) -> JsonFault {
+        JsonFault::Memory
+    }
+}
+
 /// The rows of a table in a unit that are shown, for machines.
 pub fn json_table(
     alloc: Global,

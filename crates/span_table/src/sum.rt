@@ -80,6 +80,12 @@ impl Sum {
         }
     }
 
+    pub(crate) fn is_less(&self, other: &Sum) -> bool
+        ensures { result ≡ nat_lt self.now other.now }
+    {
+        self.compare(other).is_lt()
+    }
+
     pub(crate) fn equals(&self, other: &Sum) -> bool
         ensures { result ≡ (self.now == other.now) }
     {

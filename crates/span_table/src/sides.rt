@@ -1,0 +1,80 @@
+//! A side of repeated runs: a table for each repetition.
+ghost use Rattle.std.specs.Prelude.{◌≡◌, ◌≤◌, map, length, OnOk, IfOk};
+ghost use Rattle.span_table.specs.Repeats.{side_head};
+ghost use Rattle.span_table.specs.Spreads.{spread_of, values_at};
+
+use crate::heads::Head;
+use crate::key::Key;
+use crate::row_search::sums_at;
+use crate::spreads::Spread;
+use crate::sum::Sum;
+use crate::sums::By;
+use crate::table::Table;
+use std::alloc::{AllocError, Global};
+use std::marker::Model;
+
+/// The tables of a side, with the values of the key that was looked up last.
+#[derive(Drop)]
+pub(crate) struct Side<'a> {
+    tables: &'a [Table],
+    values: Vec<Sum>,
+}
+
+impl<'a> Model for Side<'a> {
+    ghost use Rattle.span_table.specs.Sides.{SideValues};
+
+    ghost Value = { SideValues };
+
+    ghost view = { λ s. record { tables = s.tables.now; values = s.values.items } };
+}
+
+impl<'a> Side<'a> {
+    pub(crate) fn of(alloc: Global, tables: &'a [Table]) -> Side<'a>
+        ensures { result.tables ≡ tables.now }
+    {
+        Side {
+            tables,
+            values: Vec::new(alloc),
+        }
+    }
+
+    /// Finds the values of a key, in the order of the tables.
+    pub(crate) fn look_up(&mut self, key: &Key, by: By) -> Result<(), AllocError>
+        ensures tables { self.new.tables ≡ self.old.tables }
+        ensures values { OnOk result (self.new.values ≡ values_at by self.old.tables key.now) }
+    {
+        self.values.clear();
+        for table in self.tables {
+            self.values.push(sums_at(table.rows(), key).by(by))?;
+        }
+        Ok(())
+    }
+
+    /// Those that were found last, in this order until they are spread.
+    pub(crate) fn values(&self) -> &[Sum]
+        ensures { result.now ≡ self.now.values }
+    {
+        &self.values
+    }
+
+    /// How they are spread. They are put in order.
+    pub(crate) fn spread(&mut self) -> Spread
+        ensures tables { self.new.tables ≡ self.old.tables }
+        ensures value { result ≡ spread_of self.old.values }
+        ensures order { result.least ≤ result.greatest }
+    {
+        Spread::of(&mut self.values)
+    }
+}
+
+/// The heads of a side's tables added.
+pub(crate) fn side_head(tables: &[Table]) -> Head
+    requires { length tables.now ≤ 64 }
+    ensures { result ≡ side_head tables.now }
+{
+    let mut head = Head::of_none();
+    for table in tables {
+        head.add(&table.head());
+    }
+    head
+}
