@@ -1,5 +1,6 @@
 pub mod AddedTables
 pub mod Alike
+pub mod AnyOrder
 pub mod AsyncRows
 pub mod Busy
 pub mod ByName

@@ -1,8 +1,9 @@
--- The facts that hold of every ranking and every comparison.
-use Rattle.std.specs.Prelude.{◌≡◌, ℕ, Bool, ◌-◌, ◌<◌, List, ◌++◌, codes, decimal, length, map}
-use Rattle.std.specs.List.Sorted.{IsPermutation, IsStrictlySortedBy}
+-- The facts that hold of every ranking, every comparison and every text of repeated runs.
+use Rattle.std.specs.Prelude.{◌≡◌, ℕ, Bool, ◌+◌, ◌-◌, ◌<◌, List, ◌++◌, codes, decimal, length, map}
+use Rattle.std.specs.List.Sorted.{IsNonDecreasing, IsPermutation, IsStrictlySortedBy}
 use Rattle.span_event.specs.declared.unit.Unit.{Unit}
 use Rattle.span_report.specs.Lines.{first_line, unit_line}
+use Rattle.span_table.specs.declared.column.Column.{Column}
 use Rattle.span_table.specs.declared.of.Of.{Of}
 use Rattle.span_table.specs.declared.sums.By.{By}
 use Rattle.span_table.specs.declared.table.Row.{Row}
@@ -10,7 +11,9 @@ use Rattle.span_table.specs.Changes.{Change, changes_of, compared, same_count, s
 use Rattle.span_table.specs.Comparison.{change_columns, compared_heads, comparison_of, difference_text, same_line}
 use Rattle.span_table.specs.Lines.{shown_line}
 use Rattle.span_table.specs.Ranks.{rank_order, ranked}
+use Rattle.span_table.specs.Repeats.{repeats_of}
 use Rattle.span_table.specs.Shown.{Wanted, shown_rows}
+use Rattle.span_table.specs.Spreads.{alike_count, apart_spreads, overlap_count, shown_spreads, sorted}
 use Rattle.span_table.specs.Tables.{RowsRise, SpanTable}
 
 -- each row has its place, and no two rank alike
@@ -53,3 +56,22 @@ ComparisonsTurn = (of : Of) (by : By) (wanted : Wanted) (base other : List Row) 
 -- where one number is less than another, the difference is told with `+` to the greater and with `-` back, and is as great
 abbrev pub DifferencesTurn : Type 0
 DifferencesTurn = (m n : ℕ) → m < n → (difference_text m n ≡ codes "+" ++ decimal (n - m)) × (difference_text n m ≡ codes "-" ++ decimal (n - m))
+
+-- sorted values are these values, and none is less than the one before it
+pub record SortsValues (values : List ℕ) : Type 0 where
+  pub all : IsPermutation values (sorted values)
+  pub order : IsNonDecreasing (sorted values)
+
+-- this holds of any values
+abbrev pub ValuesAreSorted : Type 0
+ValuesAreSorted = (values : List ℕ) → SortsValues values
+
+-- each key that is shown has its line, overlaps, or is the same
+abbrev pub EachKeyIsCounted : Type 0
+EachKeyIsCounted = (by : By) (wanted : Wanted) (base other : List SpanTable) → let shown = shown_spreads by wanted base other in
+    length (apart_spreads shown) + (overlap_count shown + alike_count shown) ≡ length shown
+
+-- the text of repeated runs is the same for the repetitions of a side in whatever order
+abbrev pub RepetitionsHaveNoOrder : Type 0
+RepetitionsHaveNoOrder = (unit : Unit) (by : By) (wanted : Wanted) (columns : List Column) (base other moved_base moved_other : List SpanTable) →
+    IsPermutation base moved_base → IsPermutation other moved_other → repeats_of unit by wanted columns base other ≡ repeats_of unit by wanted columns moved_base moved_other

@@ -2,7 +2,7 @@
 ghost use Rattle.span_table.specs.Adding.{AddingLosesNothing, DroppingAdds, OrderIsNothing};
 ghost use Rattle.span_table.specs.Laws.{KeysStandOnce, RowsAddUpToAsync, RowsAddUpToBusy, RowsAreAsyncRows, RowsAreSpanRows, TablesFollowFromActs};
 ghost use Rattle.span_table.specs.Printed.{AllIsPrinted, PartsAreTold, PrintsAreParts};
-ghost use Rattle.span_table.specs.TextLaws.{ComparisonsTurn, DifferencesTurn, RankingsHaveEachRow, TablesCompareWithThemselves};
+ghost use Rattle.span_table.specs.TextLaws.{ComparisonsTurn, DifferencesTurn, EachKeyIsCounted, RankingsHaveEachRow, RepetitionsHaveNoOrder, TablesCompareWithThemselves, ValuesAreSorted};
 
 /// The table of runs follows from how many entries their journals have of each kind, and from their accepted acts on each topic, in
 /// their order. The function does nothing: its contract is the law.
@@ -58,6 +58,15 @@ pub fn same_law()
 pub fn turn_law()
     ensures changes { ComparisonsTurn }
     ensures differences { DifferencesTurn }
+{}
+
+/// In whatever order the repetitions of a side come, the text of repeated runs is the same; each key that is shown has a line there, or
+/// is counted, once; and the values that medians are taken from are those of the repetitions, sorted. The function does nothing: its
+/// contract is the law.
+pub fn repeats_law()
+    ensures order { RepetitionsHaveNoOrder }
+    ensures keys { EachKeyIsCounted }
+    ensures values { ValuesAreSorted }
 {}
 
 /// Two tables that are printed alike are the same. The function does nothing: its contract is the law.
