@@ -20,6 +20,7 @@ pub mod RepeatedKeys
 pub mod Rows
 pub mod RunTables
 pub mod SameTables
+pub mod Searched
 pub mod Sorts
 pub mod SpreadOrder
 pub mod Substrings

@@ -1,7 +1,10 @@
 -- How what changed is found: key by key of the base, and then of the other where the base lacks it.
-use Rattle.std.specs.Prelude.{◌≡◌, ℕ, Bool, if◌then◌else◌, [], ◌∷◌, List, filter, is_none, length, map, Option}
+use Rattle.std.specs.Prelude.{◌≡◌, ℕ, ◌-◌, ◌==◌, ◌||◌, Bool, if◌then◌else◌, [], ◌∷◌, List, filter, is_none, length, map, slice_get, Option}
 use Rattle.std.specs.List.{find}
-use Rattle.std.specs.Ordering.{is_eq}
+use Rattle.std.specs.Option.{option_map_or}
+use Rattle.std.specs.Ordering.{is_eq, is_lt}
+use Rattle.std.specs.declared.cmp.Ordering.{Ordering}
+use Rattle.std.specs.declared.cmp.Ordering.TheVariants.{Greater}
 use Rattle.span_table.specs.declared.table.Row.{Row}
 use Rattle.span_table.specs.Changes.{Change, compared_at, is_changed, same_count, shown_changes}
 use Rattle.span_table.specs.Keys.{TableKey, key_cmp}
@@ -11,6 +14,14 @@ use Rattle.span_table.specs.Tables.{sums_together}
 -- the row with this key, if there is one
 abbrev pub found_at : List Row → TableKey → Option Row
 found_at rows key = find (λ (row : Row). is_eq (key_cmp row.key key)) rows
+
+-- how the key of the row at a place compares with a key; behind all rows keys are greater
+abbrev pub order_at : List Row → ℕ → TableKey → Ordering
+order_at rows place key = option_map_or (λ (row : Row). key_cmp row.key key) (slice_get rows place) Greater
+
+-- the row before a place, if there is one, has a lesser key
+abbrev pub is_behind : List Row → ℕ → TableKey → Bool
+is_behind rows place key = (place == 0) || is_lt (order_at rows (place - 1) key)
 
 -- the keys of the base
 abbrev pub base_keys : List Row → List Row → List Change

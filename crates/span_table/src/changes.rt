@@ -156,10 +156,11 @@ fn tell_base<'a>(
     ensures told { OnOk result (Tells shown.now (base_keys base.now other.now) found.new.changes.items found.new.same found.new.all) }
     ensures few { OnOk result (found.new.all < 2 ^ 64) }
 {
+    let mut place = 0;
     for row in base {
         let both = Both {
             base: row.sums,
-            other: sums_at(other, &row.key),
+            other: sums_at(other, &mut place, &row.key),
         };
         let key = &row.key;
         tell(found, Changed { key, both }, shown)?;
@@ -181,8 +182,9 @@ fn tell_new<'a>(
     ensures told { OnOk result (Tells shown.now (base_keys base.now other.now ++ new_keys base.now other.now) found.new.changes.items found.new.same found.new.all) }
     ensures few { OnOk result (found.new.all < 2 ^ 65) }
 {
+    let mut place = 0;
     for row in other {
-        tell_if_new(found, base, row, shown)?;
+        tell_if_new(found, base, &mut place, row, shown)?;
     }
     Ok(())
 }
@@ -190,6 +192,7 @@ fn tell_new<'a>(
 fn tell_if_new<'a>(
     found: &mut Told<'a>,
     base: &[Row],
+    place: &mut usize,
     row: &'a Row,
     shown: &Shown,
 ) -> Result<(), AllocError>
@@ -200,7 +203,7 @@ fn tell_if_new<'a>(
     ensures told { OnOk result ((keys : List Change) → Tells shown.now keys found.old.changes.items found.old.same found.old.all
         → Tells shown.now (keys ++ new_key base.now row.now) found.new.changes.items found.new.same found.new.all) }
 {
-    if find(base, &row.key).is_some() {
+    if find(base, place, &row.key).is_some() {
         return Ok(());
     }
     let both = Both {

@@ -70,8 +70,8 @@ fn put_rows(
     ensures fits { OnOk result (list_all (key_fits by base.now other.now) (map (λ key. key.now) keys.now) ≡ true) }
     ensures too_great { IfErr result (λ fault. fault ≡ TooGreat → list_all (key_fits by base.now other.now) (map (λ key. key.now) keys.now) ≡ false) }
 {
-    let mut base = Side::of(alloc, base);
-    let mut other = Side::of(alloc, other);
+    let mut base = Side::of(alloc, base)?;
+    let mut other = Side::of(alloc, other)?;
     for key in keys {
         put_row(alloc, out, columns, &mut base, &mut other, key, by)?;
     }

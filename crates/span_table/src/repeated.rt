@@ -111,8 +111,8 @@ fn told_of<'a>(
         overlap: 0,
         alike: 0,
     };
-    let mut base = Side::of(alloc, base);
-    let mut other = Side::of(alloc, other);
+    let mut base = Side::of(alloc, base)?;
+    let mut other = Side::of(alloc, other)?;
     for key in keys {
         let spreads = spreads_at(&mut base, &mut other, key, by)?;
         tell(&mut told, spreads)?;

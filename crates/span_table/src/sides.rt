@@ -17,25 +17,31 @@ use std::marker::Model;
 #[derive(Drop)]
 pub(crate) struct Side<'a> {
     tables: &'a [Table],
+    // Where the next key is looked for in each table.
+    places: Vec<usize>,
     values: Vec<Sum>,
 }
 
 impl<'a> Model for Side<'a> {
+    ghost use Rattle.std.specs.Prelude.{◌≡◌, length};
     ghost use Rattle.span_table.specs.Sides.{SideValues};
 
     ghost Value = { SideValues };
 
     ghost view = { λ s. record { tables = s.tables.now; values = s.values.items } };
+
+    ghost invariant = { λ s. length s.places.items ≡ length s.tables.now };
 }
 
 impl<'a> Side<'a> {
-    pub(crate) fn of(alloc: Global, tables: &'a [Table]) -> Side<'a>
-        ensures { result.tables ≡ tables.now }
+    pub(crate) fn of(alloc: Global, tables: &'a [Table]) -> Result<Side<'a>, AllocError>
+        ensures { IfOk result (λ side. side.tables ≡ tables.now) }
     {
-        Side {
+        Ok(Side {
             tables,
+            places: vec![in alloc; 0; tables.len()]?,
             values: Vec::new(alloc),
-        }
+        })
     }
 
     /// Finds the values of a key, in the order of the tables.
@@ -44,8 +50,9 @@ impl<'a> Side<'a> {
         ensures values { OnOk result (self.new.values ≡ values_at by self.old.tables key.now) }
     {
         self.values.clear();
-        for table in self.tables {
-            self.values.push(sums_at(table.rows(), key).by(by))?;
+        for i in 0..self.tables.len() {
+            let sums = sums_at(self.tables[i].rows(), &mut self.places[i], key);
+            self.values.push(sums.by(by))?;
         }
         Ok(())
     }

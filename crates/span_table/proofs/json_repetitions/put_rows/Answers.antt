@@ -17,7 +17,7 @@ returns-in_err-put_row-clause-too_great c =
     let at = c.loop-key.key-index in
     let fits = key_fits c.args.by base other in
     let tables = ap₂ (λ (b o : List SpanTable). key_fits c.args.by b o key.now) c.loop-key.invariant.base c.loop-key.invariant.other in
-    let is : c.from_residual.result ≡ Err c.in_err-put_row.field-0.0 = search rules in
+    let is : c.from_residual-in_err-put_row.result ≡ Err c.in_err-put_row.field-0.0 = search rules in
     subst (λ (result : Result (Unit {0}) JsonFault). IfErr result (λ fault. fault ≡ TooGreat → list_all fits (map (λ key. key.now) keys) ≡ false)) (sym is)
     (λ great. list_all-map fits (λ key. key.now) keys
     ∙ list_all_at (λ key. fits key.now) keys at key c.loop-key-test.true (ap (λ key. fits key.now) (sym c.key-item.is) ∙ sym tables ∙ c.in_err-put_row.ensures.too_great great))

@@ -1,26 +1,9 @@
-use Rattle.std.proofs.Common.{rules, ◌<◌, ◌≤◌, ℕ, ap, sym, ◌∙◌, arith, inl, inr, ◌⊎◌}
-use Rattle.std.specs.Ordering.{is_eq}
-use Rattle.span_table.specs.declared.table.Row.{Row}
-use Rattle.span_table.specs.Changed.{found_at}
-use Rattle.span_table.specs.KeyLaws.{key_cmp-same}
-use Rattle.span_table.specs.Keys.{key_cmp}
-use Rattle.span_table.proofs.Comparing.{answers_by, found_at-none, found_at-own, searchable}
+use Rattle.std.proofs.Common.{sym, ◌∙◌}
+use Rattle.span_table.proofs.Searched.{found_at-between, found_at-place}
 use Rattle.span_table.proofs.row_search.find.Goals as goal
 
-pub returns-in-Ok : goal.returns-in-Ok
-returns-in-Ok c =
-    let row = c.index-rows-i.result in
-    let at = c.in-Ok.ensures.position (λ (r : Row). key_cmp r.key c.args.key.now) (answers_by (λ (r : Row). key_cmp r.key c.args.key.now) (λ a r f' call. search rules)) row in
-    let same = key_cmp-same row.key c.args.key.now (ap (λ (r : Row). key_cmp r.key c.args.key.now) c.index-rows-i.is ∙ at) in
-    sym (found_at-own c.args.rows.now c.requires row c.in-Ok.i c.in-Ok.ensures.bound (sym c.index-rows-i.is)) ∙ ap (found_at c.args.rows.now) same
+pub returns-in-Equal : goal.returns-in-Equal
+returns-in-Equal c = found_at-place c.args.rows.now c.args.key.now c.requires c.args.place.now c.index-rows-place.result c.index-rows-place.is (sym c.in-Equal.ensures)
 
-pub returns-in-Err : goal.returns-in-Err
-returns-in-Err c =
-    let parted = c.in-Err.ensures.position (λ (r : Row). key_cmp r.key c.args.key.now) (answers_by (λ (r : Row). key_cmp r.key c.args.key.now) (λ a r f' call. search rules)) (searchable c.args.key.now c.args.rows.now c.requires) in
-    sym (found_at-none c.args.key.now c.args.rows.now (λ k d low. elim (sides k c.in-Err.field-0) [
-      | inl below ↦ ap is_eq (parted.0 k d (omega arith) below)
-      | inr above ↦ ap is_eq (parted.1 k d above low)
-    ]))
-  where
-    sides : (k i : ℕ) → (k < i) ⊎ (i ≤ k)
-    sides k i = search arith
+pub returns-in-Greater : goal.returns-in-Greater
+returns-in-Greater c = found_at-between c.args.rows.now c.args.key.now c.requires c.args.place.now (sym c.in-Greater.ensures) (sym c.is_behind.ensures ∙ c.if-is_behind.true)
