@@ -6,5 +6,6 @@ mod comparisons;
 mod json_lines;
 mod large;
 mod rankings;
+mod repetitions;
 mod sums;
 mod tabled;

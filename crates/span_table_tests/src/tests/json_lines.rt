@@ -53,7 +53,7 @@ fn a_line_for_each_row(rt: HostRuntime) -> Result<(), Fail> {
 }
 
 // So many spans that are as long as one can be: 2^64 is 2,048 of these lengths and 2,048.
-fn long_spans(alloc: Global, count: u32, last: u32) -> Result<String, AllocError> {
+pub(super) fn long_spans(alloc: Global, count: u32, last: u32) -> Result<String, AllocError> {
     let mut text = String::new(alloc);
     write!(text, r#"[{{"ph":"X","name":"a","ts":0,"dur":{last}}}"#)?;
     for _ in 0..count {

@@ -1,8 +1,9 @@
 //! A table of more keys than any worked example has.
 
-use super::tabled::table_of;
+use super::tabled::{columns_of, shown, table_of};
+use span_event::Unit;
 use span_ledger::Ledger;
-use span_table::{Row, Table};
+use span_table::{By, Row, Table, repeats};
 use span_test_support::told;
 use std::alloc::{AllocError, AllocGlobal, Global};
 use std::process::Abort;
@@ -51,6 +52,39 @@ fn fifty_thousand_keys(rt: HostRuntime) -> Result<(), Fail> {
     let alloc = rt.alloc();
     let ledger = told(alloc, numbered(alloc)?.as_str()).ok_or("not told")?;
     let tried = try_keys(&rt, &ledger);
+    drop(ledger);
+    tried
+}
+
+const REPEATED: &str = r#"tracebook 1
+base events 100002 refused 0 skipped 0 queries 0
+base runs 2 files 6 unread 2
+events 50001 refused 0 skipped 0 queries 0
+runs 1 files 3 unread 1
+         dmedian          median0          median1           least0        greatest0           least1        greatest1 args.k
+overlap 0 same 50000
+"#;
+
+fn try_repeats(rt: &(impl Abort + AllocGlobal), ledger: &Ledger) -> Result<(), Fail> {
+    let alloc = rt.alloc();
+    let base = [
+        table_of(alloc, ledger, &["k"])?,
+        table_of(alloc, ledger, &["k"])?,
+    ];
+    let other = [table_of(alloc, ledger, &["k"])?];
+    let columns = columns_of(alloc, &["k"])?;
+    let all = shown(alloc, &[], &[])?;
+    let unit = Unit::Microseconds;
+    let text = repeats(alloc, unit, &columns, &base, &other, &all, By::Total)?;
+    assert!(rt; text.as_slice() == REPEATED.as_bytes());
+    Ok(())
+}
+
+#[test]
+fn fifty_thousand_repeated_keys(rt: HostRuntime) -> Result<(), Fail> {
+    let alloc = rt.alloc();
+    let ledger = told(alloc, numbered(alloc)?.as_str()).ok_or("not told")?;
+    let tried = try_repeats(&rt, &ledger);
     drop(ledger);
     tried
 }
