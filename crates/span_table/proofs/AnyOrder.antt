@@ -17,7 +17,7 @@ use Rattle.span_table.specs.Lines.{shown_line}
 use Rattle.span_table.specs.Ranks.{number_by}
 use Rattle.span_table.specs.Repeats.{overlap_line, side_head, spread_columns, spread_line}
 use Rattle.span_table.specs.Shown.{is_wanted}
-use Rattle.span_table.specs.Spreads.{Spreads, alike_count, all_keys, apart_spreads, is_alike, is_apart, is_overlap, keys_of, overlap_count, shown_keys, shown_spreads, spread_of, spreads_at, values_at}
+use Rattle.span_table.specs.Spreads.{Spreads, all_keys, apart_spreads, has_same_spread, is_apart, is_overlap, keys_of, overlap_count, same_spread_count, shown_keys, shown_spreads, spread_of, spreads_at, values_at}
 use Rattle.span_table.specs.Tables.{SpanTable}
 use Rattle.span_table.specs.TextLaws.{EachKeyIsCounted, RepetitionsHaveNoOrder, ValuesAreSorted}
 use Rattle.span_table.proofs.AddedTables.{head-same}
@@ -64,7 +64,7 @@ side-moved by tables moved is key =
 pub repeats_of-moved : RepetitionsHaveNoOrder
 repeats_of-moved unit by wanted columns base other moved_base moved_other is_base is_other = λ i.
     first_line ++ (unit_line unit ++ (compared_heads true (side_head-moved base moved_base is_base i) (side_head-moved other moved_other is_other i)
-    ++ (shown_line wanted (length (shown i)) (length (keys i)) ++ (spread_columns columns ++ (flat_map spread_line (apart_spreads (shown i)) ++ overlap_line (overlap_count (shown i)) (alike_count (shown i)))))))
+    ++ (shown_line wanted (length (shown i)) (length (keys i)) ++ (spread_columns columns ++ (flat_map spread_line (apart_spreads (shown i)) ++ overlap_line (overlap_count (shown i)) (same_spread_count (shown i)))))))
   where
     keys : all_keys (base ++ other) ≡ all_keys (moved_base ++ moved_other)
     keys = all_keys-moved (base ++ other) (moved_base ++ moved_other) (IsPermutation-append base moved_base other moved_other is_base is_other)
@@ -73,17 +73,17 @@ repeats_of-moved unit by wanted columns base other moved_base moved_other is_bas
     shown = λ i. map (λ key. record { key = key; base = side-moved by base moved_base is_base key i; other = side-moved by other moved_other is_other key i }) (filter (is_wanted wanted) (keys i))
 
 -- sides that are spread the same are not apart
-alike-not_apart : (s : Spreads) → s.base.least ≤ s.base.greatest → is_alike s ≡ true → is_apart s ≡ false
-alike-not_apart s order alike = grind (arith, order, alike)
+same-not_apart : (s : Spreads) → s.base.least ≤ s.base.greatest → has_same_spread s ≡ true → is_apart s ≡ false
+same-not_apart s order same = grind (arith, order, same)
 
 -- a key is one of the three
 abbrev one_if : Bool → ℕ
 one_if b = cond b 1 0
 
-counted-once : (s : Spreads) → s.base.least ≤ s.base.greatest → one_if (is_apart s) + (one_if (is_overlap s) + one_if (is_alike s)) ≡ 1
-counted-once s order = by (is_apart s) (is_alike s) (alike-not_apart s order)
+counted-once : (s : Spreads) → s.base.least ≤ s.base.greatest → one_if (is_apart s) + (one_if (is_overlap s) + one_if (has_same_spread s)) ≡ 1
+counted-once s order = by (is_apart s) (has_same_spread s) (same-not_apart s order)
   where
-    by : (apart alike : Bool) → (alike ≡ true → apart ≡ false) → one_if apart + (one_if (not apart && not alike) + one_if alike) ≡ 1
+    by : (apart same : Bool) → (same ≡ true → apart ≡ false) → one_if apart + (one_if (not apart && not same) + one_if same) ≡ 1
     by true true never = absurd (let no = never refl in cc)
     by true false never = refl
     by false true never = refl
@@ -100,12 +100,12 @@ keys-counted by wanted base other =
     spreads : List TableKey → List Spreads
     spreads keys = map (spreads_at by base other) keys
 
-    each : (keys : List TableKey) → sum_by (λ s. one_if (is_apart s)) (spreads keys) + (overlap_count (spreads keys) + alike_count (spreads keys)) ≡ length (spreads keys)
+    each : (keys : List TableKey) → sum_by (λ s. one_if (is_apart s)) (spreads keys) + (overlap_count (spreads keys) + same_spread_count (spreads keys)) ≡ length (spreads keys)
     each [] = refl
     each (key ∷ keys) =
         let s = spreads_at by base other key in
         let rest = spreads keys in
         let apart = sum_by-cons (λ s. one_if (is_apart s)) s rest in
         let overlap = sum_by-cons (λ s. one_if (is_overlap s)) s rest in
-        let alike = sum_by-cons (λ s. one_if (is_alike s)) s rest in
-        omega (arith, apart, overlap, alike, counted-once s (sorted-ends (values_at by base key)), each keys)
+        let same = sum_by-cons (λ s. one_if (has_same_spread s)) s rest in
+        omega (arith, apart, overlap, same, counted-once s (sorted-ends (values_at by base key)), each keys)

@@ -42,8 +42,8 @@ spreads-distinct by wanted base other =
     (filter-sorted key_cmp (is_wanted wanted) (all_keys tables) (ascending-sorted key_cmp_total (keys_of tables)))))
 
 -- what is told of the keys that are shown, whatever stands for them, is told of these with their spreads
-pub told-shown : {A : Type 0} (at : A → TableKey) (by : By) (wanted : Wanted) (base other : List SpanTable) (keys : List A) (told : List Spreads) (overlap alike : ℕ) →
-    map at keys ≡ shown_keys wanted (base ++ other) → TellsSpreads (map (λ key. spreads_at by base other (at key)) keys) told overlap alike →
-    TellsSpreads (shown_spreads by wanted base other) told overlap alike
-told-shown at by wanted base other keys told overlap alike shown tells =
-    subst (λ spreads. TellsSpreads spreads told overlap alike) (sym (map-map (spreads_at by base other) at keys) ∙ ap (map (spreads_at by base other)) shown) tells
+pub told-shown : {A : Type 0} (at : A → TableKey) (by : By) (wanted : Wanted) (base other : List SpanTable) (keys : List A) (told : List Spreads) (overlap same : ℕ) →
+    map at keys ≡ shown_keys wanted (base ++ other) → TellsSpreads (map (λ key. spreads_at by base other (at key)) keys) told overlap same →
+    TellsSpreads (shown_spreads by wanted base other) told overlap same
+told-shown at by wanted base other keys told overlap same shown tells =
+    subst (λ spreads. TellsSpreads spreads told overlap same) (sym (map-map (spreads_at by base other) at keys) ∙ ap (map (spreads_at by base other)) shown) tells

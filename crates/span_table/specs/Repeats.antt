@@ -13,7 +13,7 @@ use Rattle.span_table.specs.Json.{head_fits, json_heads, member_of, object_of, v
 use Rattle.span_table.specs.Keys.{TableKey}
 use Rattle.span_table.specs.Lines.{column_title, shown_line, value_text}
 use Rattle.span_table.specs.Shown.{Wanted}
-use Rattle.span_table.specs.Spreads.{Spreads, alike_count, all_keys, apart_spreads, overlap_count, shown_keys, shown_spreads, values_at}
+use Rattle.span_table.specs.Spreads.{Spreads, all_keys, apart_spreads, overlap_count, same_spread_count, shown_keys, shown_spreads, values_at}
 use Rattle.span_table.specs.Tables.{SpanTable, heads_together}
 
 -- the heads of a side's repetitions added
@@ -41,7 +41,7 @@ abbrev pub repeats_of : Unit → By → Wanted → List Column → List SpanTabl
 repeats_of unit by wanted columns base other =
     let shown = shown_spreads by wanted base other in
     first_line ++ (unit_line unit ++ (compared_heads true (side_head base) (side_head other) ++ (shown_line wanted (length shown) (length (all_keys (base ++ other))) ++
-    (spread_columns columns ++ (flat_map spread_line (apart_spreads shown) ++ overlap_line (overlap_count shown) (alike_count shown))))))
+    (spread_columns columns ++ (flat_map spread_line (apart_spreads shown) ++ overlap_line (overlap_count shown) (same_spread_count shown))))))
 
 -- the values of a side, in the order of its repetitions
 abbrev pub values_json : List ℕ → Bytes
@@ -59,7 +59,7 @@ json_values_at by columns base other key = json_values columns key (values_at by
 abbrev pub json_repeats_of : Unit → Of → By → Wanted → List Column → List SpanTable → List SpanTable → Bytes
 json_repeats_of unit of by wanted columns base other =
     let keys = shown_keys wanted (base ++ other) in
-    json_heads of unit columns (length keys) (alike_count (shown_spreads by wanted base other)) (side_head base) (side_head other) ++ flat_map (json_values_at by columns base other) keys
+    json_heads of unit columns (length keys) (same_spread_count (shown_spreads by wanted base other)) (side_head base) (side_head other) ++ flat_map (json_values_at by columns base other) keys
 
 -- all of the values have 64 bits
 abbrev pub values_fit : List ℕ → Bool

@@ -64,12 +64,12 @@ abbrev pub is_apart : Spreads → Bool
 is_apart s = nat_lt s.base.greatest s.other.least || nat_lt s.other.greatest s.base.least
 
 -- both sides are spread the same
-abbrev pub is_alike : Spreads → Bool
-is_alike s = (s.base.median == s.other.median) && ((s.base.least == s.other.least) && (s.base.greatest == s.other.greatest))
+abbrev pub has_same_spread : Spreads → Bool
+has_same_spread s = (s.base.median == s.other.median) && ((s.base.least == s.other.least) && (s.base.greatest == s.other.greatest))
 
 -- neither
 abbrev pub is_overlap : Spreads → Bool
-is_overlap s = not (is_apart s) && not (is_alike s)
+is_overlap s = not (is_apart s) && not (has_same_spread s)
 
 -- how far the medians lie apart
 abbrev pub median_gap : Spreads → ℕ
@@ -87,5 +87,5 @@ apart_spreads spreads = ascending spread_order (filter is_apart spreads)
 abbrev pub overlap_count : List Spreads → ℕ
 overlap_count spreads = count_by is_overlap spreads
 
-abbrev pub alike_count : List Spreads → ℕ
-alike_count spreads = count_by is_alike spreads
+abbrev pub same_spread_count : List Spreads → ℕ
+same_spread_count spreads = count_by has_same_spread spreads

@@ -13,7 +13,7 @@ use Rattle.span_table.specs.Lines.{shown_line}
 use Rattle.span_table.specs.Ranks.{rank_order, ranked}
 use Rattle.span_table.specs.Repeats.{repeats_of}
 use Rattle.span_table.specs.Shown.{Wanted, shown_rows}
-use Rattle.span_table.specs.Spreads.{alike_count, apart_spreads, overlap_count, shown_spreads, sorted}
+use Rattle.span_table.specs.Spreads.{apart_spreads, overlap_count, same_spread_count, shown_spreads, sorted}
 use Rattle.span_table.specs.Tables.{RowsRise, SpanTable}
 
 -- each row has its place, and no two rank alike
@@ -69,7 +69,7 @@ ValuesAreSorted = (values : List ℕ) → SortsValues values
 -- each key that is shown has its line, overlaps, or is the same
 abbrev pub EachKeyIsCounted : Type 0
 EachKeyIsCounted = (by : By) (wanted : Wanted) (base other : List SpanTable) → let shown = shown_spreads by wanted base other in
-    length (apart_spreads shown) + (overlap_count shown + alike_count shown) ≡ length shown
+    length (apart_spreads shown) + (overlap_count shown + same_spread_count shown) ≡ length shown
 
 -- the text of repeated runs is the same for the repetitions of a side in whatever order
 abbrev pub RepetitionsHaveNoOrder : Type 0

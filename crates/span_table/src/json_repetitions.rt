@@ -43,7 +43,7 @@ pub fn json_repeats(
         unit,
         columns,
         rows: found.keys.len(),
-        same: found.alike,
+        same: found.same,
         base: side_head(base),
         other: side_head(other),
     };

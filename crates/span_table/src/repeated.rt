@@ -2,7 +2,7 @@
 ghost use Rattle.std.specs.Prelude.{◌≡◌, ◌++◌, ◌∷◌, ◌<◌, ◌≤◌, ◌+◌, ◌-◌, ◌^◌, [], List, length, map, IfOk, OnOk};
 ghost use Rattle.span_table.specs.Keys.{TableKey};
 ghost use Rattle.span_table.specs.Sides.{TellsSpreads};
-ghost use Rattle.span_table.specs.Spreads.{Spreads, alike_count, all_keys, apart_spreads, keys_of, overlap_count, shown_keys, shown_spreads, spreads_at};
+ghost use Rattle.span_table.specs.Spreads.{Spreads, all_keys, apart_spreads, keys_of, overlap_count, same_spread_count, shown_keys, shown_spreads, spreads_at};
 
 use crate::key::Key;
 use crate::shown::Shown;
@@ -19,7 +19,7 @@ pub(crate) struct RepeatedRuns<'a> {
     pub(crate) keys: Vec<&'a Key>,
     pub(crate) apart: Vec<Spreads<'a>>,
     pub(crate) overlap: u128,
-    pub(crate) alike: u128,
+    pub(crate) same: u128,
     pub(crate) all: usize,
 }
 
@@ -28,7 +28,7 @@ pub(crate) struct RepeatedRuns<'a> {
 struct Told<'a> {
     apart: Vec<Spreads<'a>>,
     overlap: u128,
-    alike: u128,
+    same: u128,
 }
 
 /// What the tables of both sides have of the keys that are shown.
@@ -42,7 +42,7 @@ pub(crate) fn repeated<'a>(
     ensures keys { IfOk result (λ found. map (λ key. key.now) found.keys.items ≡ shown_keys shown.now (base.now ++ other.now)) }
     ensures apart { IfOk result (λ found. found.apart.items ≡ apart_spreads (shown_spreads by shown.now base.now other.now)) }
     ensures overlap { IfOk result (λ found. found.overlap ≡ overlap_count (shown_spreads by shown.now base.now other.now)) }
-    ensures alike { IfOk result (λ found. found.alike ≡ alike_count (shown_spreads by shown.now base.now other.now)) }
+    ensures same { IfOk result (λ found. found.same ≡ same_spread_count (shown_spreads by shown.now base.now other.now)) }
     ensures all { IfOk result (λ found. found.all ≡ length (all_keys (base.now ++ other.now))) }
 {
     let mut keys = all_keys(alloc, base, other)?;
@@ -51,14 +51,14 @@ pub(crate) fn repeated<'a>(
     let Told {
         mut apart,
         overlap,
-        alike,
+        same,
     } = told_of(alloc, base, other, &keys, by)?;
     apart.sort_unstable_by(|a, b| a.compare(b));
     Ok(RepeatedRuns {
         keys,
         apart,
         overlap,
-        alike,
+        same,
         all,
     })
 }
@@ -104,12 +104,12 @@ fn told_of<'a>(
     keys: &[&'a Key],
     by: By,
 ) -> Result<Told<'a>, AllocError>
-    ensures { IfOk result (λ told. TellsSpreads (map (λ key. spreads_at by base.now other.now key.now) keys.now) told.apart.items told.overlap told.alike) }
+    ensures { IfOk result (λ told. TellsSpreads (map (λ key. spreads_at by base.now other.now key.now) keys.now) told.apart.items told.overlap told.same) }
 {
     let mut told = Told {
         apart: Vec::new(alloc),
         overlap: 0,
-        alike: 0,
+        same: 0,
     };
     let mut base = Side::of(alloc, base)?;
     let mut other = Side::of(alloc, other)?;
@@ -143,14 +143,14 @@ fn spreads_at<'a>(
 fn tell<'a>(told: &mut Told<'a>, spreads: Spreads<'a>) -> Result<(), AllocError>
     requires order { spreads.base.least ≤ spreads.base.greatest }
     requires overlap { told.old.overlap < 2 ^ 128 - 1 }
-    requires alike { told.old.alike < 2 ^ 128 - 1 }
+    requires same { told.old.same < 2 ^ 128 - 1 }
     ensures overlap { OnOk result (told.new.overlap ≤ told.old.overlap + 1) }
-    ensures alike { OnOk result (told.new.alike ≤ told.old.alike + 1) }
-    ensures told { OnOk result ((all : List Spreads) → TellsSpreads all told.old.apart.items told.old.overlap told.old.alike
-        → TellsSpreads (all ++ spreads.entry ∷ []) told.new.apart.items told.new.overlap told.new.alike) }
+    ensures same { OnOk result (told.new.same ≤ told.old.same + 1) }
+    ensures told { OnOk result ((all : List Spreads) → TellsSpreads all told.old.apart.items told.old.overlap told.old.same
+        → TellsSpreads (all ++ spreads.entry ∷ []) told.new.apart.items told.new.overlap told.new.same) }
 {
-    if spreads.is_alike() {
-        told.alike += 1;
+    if spreads.is_same() {
+        told.same += 1;
     } else if spreads.is_apart() {
         told.apart.push(spreads)?;
     } else {

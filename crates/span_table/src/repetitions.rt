@@ -38,7 +38,7 @@ pub fn repeats(
     put_shown(&mut out, shown, found.keys.len() as u128, found.all as u128)?;
     put_columns(alloc, &mut out, columns)?;
     put_lines(alloc, &mut out, &found.apart)?;
-    put_overlap(&mut out, found.overlap, found.alike)?;
+    put_overlap(&mut out, found.overlap, found.same)?;
     Ok(out.into_bytes())
 }
 
@@ -92,8 +92,8 @@ fn put_extent(alloc: Global, out: &mut String, spread: &Spread) -> Result<(), Al
 }
 
 #[tactic(auto, unfolding(crate::specs::Repeats::overlap_line))]
-fn put_overlap(out: &mut String, overlap: u128, alike: u128) -> Result<(), AllocError>
-    ensures { OnOk result (string_bytes out.new ≡ string_bytes out.old ++ overlap_line overlap alike) }
+fn put_overlap(out: &mut String, overlap: u128, same: u128) -> Result<(), AllocError>
+    ensures { OnOk result (string_bytes out.new ≡ string_bytes out.old ++ overlap_line overlap same) }
 {
-    writeln!(out, "overlap {overlap} same {alike}")
+    writeln!(out, "overlap {overlap} same {same}")
 }

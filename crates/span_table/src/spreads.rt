@@ -1,6 +1,6 @@
 //! How the values of a key are spread over repeated runs.
 ghost use Rattle.std.specs.Prelude.{◌≡◌, ◌≤◌, ◌||◌, get_or, nat_lt};
-ghost use Rattle.span_table.specs.Spreads.{is_alike, is_apart, median_gap, spread_of, spread_order};
+ghost use Rattle.span_table.specs.Spreads.{has_same_spread, is_apart, median_gap, spread_of, spread_order};
 
 use crate::key::Key;
 use crate::sum::Sum;
@@ -71,8 +71,8 @@ impl<'a> Spreads<'a> {
         self.base.is_below(&self.other) || self.other.is_below(&self.base)
     }
 
-    pub(crate) fn is_alike(&self) -> bool
-        ensures { result ≡ is_alike self.now }
+    pub(crate) fn is_same(&self) -> bool
+        ensures { result ≡ has_same_spread self.now }
     {
         self.base.median.equals(&self.other.median)
             && self.base.least.equals(&self.other.least)

@@ -25,7 +25,7 @@ returns-clause-apart c =
     let found = c.in_ok-apart.apart.items in
     let sorted = c.sort_unstable_by.new.self.items in
     let rows = filter is_apart (shown_spreads c.args.by c.args.shown.now base other) in
-    let tells = subst (λ l. TellsSpreads (map (λ key. spreads_at c.args.by base other key.now) l) c.in_ok-apart.field-0.apart.items c.in_ok-apart.field-0.overlap c.in_ok-apart.field-0.alike) c.deref.ensures.value c.in_ok-apart.ensures in
+    let tells = subst (λ l. TellsSpreads (map (λ key. spreads_at c.args.by base other key.now) l) c.in_ok-apart.field-0.apart.items c.in_ok-apart.field-0.overlap c.in_ok-apart.field-0.same) c.deref.ensures.value c.in_ok-apart.ensures in
     let told = told-shown (λ key. key.now) c.args.by c.args.shown.now base other keys _ _ _ (returns-clause-keys c) tells in
     let moved = subst (λ l. IsPermutation l sorted) told.apart c.sort_unstable_by.ensures.permutation in
     sorted-ascending spread_order-total rows sorted (spreads-distinct c.args.by c.args.shown.now base other) moved
@@ -35,12 +35,12 @@ pub returns-clause-overlap : goal.returns-clause-overlap
 returns-clause-overlap c =
     let base = c.args.base.now in
     let other = c.args.other.now in
-    let tells = subst (λ l. TellsSpreads (map (λ key. spreads_at c.args.by base other key.now) l) c.in_ok-apart.field-0.apart.items c.in_ok-apart.field-0.overlap c.in_ok-apart.field-0.alike) c.deref.ensures.value c.in_ok-apart.ensures in
+    let tells = subst (λ l. TellsSpreads (map (λ key. spreads_at c.args.by base other key.now) l) c.in_ok-apart.field-0.apart.items c.in_ok-apart.field-0.overlap c.in_ok-apart.field-0.same) c.deref.ensures.value c.in_ok-apart.ensures in
     (told-shown (λ key. key.now) c.args.by c.args.shown.now base other c.retain.new.self.items _ _ _ (returns-clause-keys c) tells).overlaps
 
-pub returns-clause-alike : goal.returns-clause-alike
-returns-clause-alike c =
+pub returns-clause-same : goal.returns-clause-same
+returns-clause-same c =
     let base = c.args.base.now in
     let other = c.args.other.now in
-    let tells = subst (λ l. TellsSpreads (map (λ key. spreads_at c.args.by base other key.now) l) c.in_ok-apart.field-0.apart.items c.in_ok-apart.field-0.overlap c.in_ok-apart.field-0.alike) c.deref.ensures.value c.in_ok-apart.ensures in
-    (told-shown (λ key. key.now) c.args.by c.args.shown.now base other c.retain.new.self.items _ _ _ (returns-clause-keys c) tells).alikes
+    let tells = subst (λ l. TellsSpreads (map (λ key. spreads_at c.args.by base other key.now) l) c.in_ok-apart.field-0.apart.items c.in_ok-apart.field-0.overlap c.in_ok-apart.field-0.same) c.deref.ensures.value c.in_ok-apart.ensures in
+    (told-shown (λ key. key.now) c.args.by c.args.shown.now base other c.retain.new.self.items _ _ _ (returns-clause-keys c) tells).sames

@@ -21,8 +21,8 @@ loop-key-preserved c =
     record {
       base = c.in_ok-spreads.ensures.base ∙ c.loop-key.invariant.base;
       other = c.in_ok-spreads.ensures.other ∙ c.loop-key.invariant.other;
-      told = subst (λ spreads. TellsSpreads spreads told.apart.items told.overlap told.alike) (ap (λ (s : Spreads). map make (take at keys) ++ s ∷ []) is ∙ sym passed)
+      told = subst (λ spreads. TellsSpreads spreads told.apart.items told.overlap told.same) (ap (λ (s : Spreads). map make (take at keys) ++ s ∷ []) is ∙ sym passed)
           (c.in_ok-tell.ensures.told (map make (take at keys)) c.loop-key.invariant.told);
       overlaps = omega (arith, c.in_ok-tell.ensures.overlap, c.loop-key.invariant.overlaps);
-      alikes = omega (arith, c.in_ok-tell.ensures.alike, c.loop-key.invariant.alikes);
+      sames = omega (arith, c.in_ok-tell.ensures.same, c.loop-key.invariant.sames);
     }
