@@ -21,7 +21,7 @@ use Rattle.span_keyed_tracks.proofs.Uses.{is_eq-turned}
 use Rattle.span_table.specs.declared.of.Of.{Of}
 use Rattle.span_table.specs.declared.of.Of.TheVariants.{Spans, Async}
 use Rattle.span_table.specs.declared.sums.By.{By}
-use Rattle.span_table.specs.declared.sums.By.TheVariants.{SelfTime, Total, Count, Open}
+use Rattle.span_table.specs.declared.sums.By.TheVariants.{SelfTime, Total, Closed, Open}
 use Rattle.span_table.specs.declared.sums.Sums.{Sums}
 use Rattle.span_table.specs.declared.table.Row.{Row}
 use Rattle.span_table.specs.Adding.{keyed_row, keyed_rows}
@@ -38,7 +38,7 @@ by_gap-total by = on_total (gap_by by) (back_total nat_cmp_total)
 usual_order-total : (of : Of) → IsTotalOrder (usual_order of)
 usual_order-total Spans = then_total (by_gap-total SelfTime) (then_total (by_gap-total Total) (on_total (λ (c : Change). c.key) key_cmp_total))
 usual_order-total Async =
-    then_total (by_gap-total Total) (then_total (by_gap-total Open) (then_total (by_gap-total Count) (on_total (λ (c : Change). c.key) key_cmp_total)))
+    then_total (by_gap-total Total) (then_total (by_gap-total Open) (then_total (by_gap-total Closed) (on_total (λ (c : Change). c.key) key_cmp_total)))
 
 -- the order of changes is total
 pub change_order-total : (of : Of) (by : By) → IsTotalOrder (change_order of by)

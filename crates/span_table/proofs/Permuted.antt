@@ -18,7 +18,7 @@ use Rattle.span_ledger.proofs.Sorting.{ascending-permutation}
 use Rattle.span_table.specs.declared.of.Of.{Of}
 use Rattle.span_table.specs.declared.of.Of.TheVariants.{Spans, Async}
 use Rattle.span_table.specs.declared.sums.By.{By}
-use Rattle.span_table.specs.declared.sums.By.TheVariants.{SelfTime, Total, Count, Open}
+use Rattle.span_table.specs.declared.sums.By.TheVariants.{SelfTime, Total, Closed, Open}
 use Rattle.span_table.specs.declared.table.Row.{Row}
 use Rattle.span_table.specs.Changed.{base_keys, found_at, is_new, new_keys}
 use Rattle.span_table.specs.Changes.{Change, by_gap, change_order, compared, compared_at, is_changed, is_same, same_count, shown_changes, usual_order}
@@ -221,7 +221,7 @@ apart Equal q told = told
 
 usual_order-apart : (of : Of) (x y : Change) → key_cmp x.key y.key ≡ Less → is_eq (usual_order of x y) ≡ false
 usual_order-apart Spans x y below = apart (by_gap SelfTime x y) _ (apart (by_gap Total x y) (key_cmp x.key y.key) (ap is_eq below))
-usual_order-apart Async x y below = apart (by_gap Total x y) _ (apart (by_gap Open x y) _ (apart (by_gap Count x y) (key_cmp x.key y.key) (ap is_eq below)))
+usual_order-apart Async x y below = apart (by_gap Total x y) _ (apart (by_gap Open x y) _ (apart (by_gap Closed x y) (key_cmp x.key y.key) (ap is_eq below)))
 
 IsDistinct-sorted : (of : Of) (by : By) (changes : List Change) → IsStrictlySortedBy (λ (a b : Change). key_cmp a.key b.key) changes → IsDistinct (eq_by_cmp (change_order of by)) changes
 unfolding IsStrictlySortedBy IsDistinct

@@ -17,7 +17,7 @@ use Rattle.span_self_time.proofs.Mapped.{filter-map}
 use Rattle.span_table.specs.declared.of.Of.{Of}
 use Rattle.span_table.specs.declared.of.Of.TheVariants.{Spans, Async}
 use Rattle.span_table.specs.declared.sums.By.{By}
-use Rattle.span_table.specs.declared.sums.By.TheVariants.{SelfTime, Total, Count, Open}
+use Rattle.span_table.specs.declared.sums.By.TheVariants.{SelfTime, Total, Closed, Open}
 use Rattle.span_table.specs.declared.table.Row.{Row}
 use Rattle.span_table.specs.Changes.{Change, by_gap, change_order, changes_of, compared, compared_at, gap, gap_by, is_changed, is_same, same_count, shown_changes, usual_order}
 use Rattle.span_table.specs.KeyLaws.{key_cmp_total, key_cmp-same}
@@ -68,7 +68,7 @@ by_gap-turned by a b = ap₂ nat_cmp (gap_by-turned by b) (gap_by-turned by a)
 usual_order-turned : (of : Of) (a b : Change) → usual_order of (turned a) (turned b) ≡ usual_order of a b
 usual_order-turned Spans a b = λ i. ordering_then (by_gap-turned SelfTime a b i) (ordering_then (by_gap-turned Total a b i) (key_cmp a.key b.key))
 usual_order-turned Async a b =
-    λ i. ordering_then (by_gap-turned Total a b i) (ordering_then (by_gap-turned Open a b i) (ordering_then (by_gap-turned Count a b i) (key_cmp a.key b.key)))
+    λ i. ordering_then (by_gap-turned Total a b i) (ordering_then (by_gap-turned Open a b i) (ordering_then (by_gap-turned Closed a b i) (key_cmp a.key b.key)))
 
 change_order-turned : (of : Of) (by : By) (a b : Change) → change_order of by (turned a) (turned b) ≡ change_order of by a b
 change_order-turned of by a b = λ i. ordering_then (by_gap-turned by a b i) (usual_order-turned of a b i)

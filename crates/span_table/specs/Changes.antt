@@ -7,7 +7,7 @@ use Rattle.span_table.specs.declared.changes.Both.{Both}
 use Rattle.span_table.specs.declared.of.Of.{Of}
 use Rattle.span_table.specs.declared.of.Of.TheVariants.{Spans, Async}
 use Rattle.span_table.specs.declared.sums.By.{By}
-use Rattle.span_table.specs.declared.sums.By.TheVariants.{SelfTime, Total, Count, Open}
+use Rattle.span_table.specs.declared.sums.By.TheVariants.{SelfTime, Total, Closed, Open}
 use Rattle.span_table.specs.declared.sums.Sums.{Sums}
 use Rattle.span_table.specs.declared.table.Row.{Row}
 use Rattle.span_table.specs.Adding.{keyed_rows}
@@ -63,7 +63,7 @@ by_gap by a b = nat_cmp (gap_by by b) (gap_by by a)
 -- open, and then of how many are closed; and then by key
 abbrev pub usual_order : Of → Change → Change → Ordering
 usual_order Spans a b = ordering_then (by_gap SelfTime a b) (ordering_then (by_gap Total a b) (key_cmp a.key b.key))
-usual_order Async a b = ordering_then (by_gap Total a b) (ordering_then (by_gap Open a b) (ordering_then (by_gap Count a b) (key_cmp a.key b.key)))
+usual_order Async a b = ordering_then (by_gap Total a b) (ordering_then (by_gap Open a b) (ordering_then (by_gap Closed a b) (key_cmp a.key b.key)))
 
 -- by the gap of this number, and then as usual
 abbrev pub change_order : Of → By → Change → Change → Ordering

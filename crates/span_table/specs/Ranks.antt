@@ -6,7 +6,7 @@ use Rattle.span_keyed_tracks.specs.Keyed.{ascending}
 use Rattle.span_table.specs.declared.of.Of.{Of}
 use Rattle.span_table.specs.declared.of.Of.TheVariants.{Spans, Async}
 use Rattle.span_table.specs.declared.sums.By.{By}
-use Rattle.span_table.specs.declared.sums.By.TheVariants.{SelfTime, Total, Count, Open, Points}
+use Rattle.span_table.specs.declared.sums.By.TheVariants.{SelfTime, Total, Count, Closed, Open, Points}
 use Rattle.span_table.specs.declared.sums.Sums.{Sums}
 use Rattle.span_table.specs.declared.table.Row.{Row}
 use Rattle.span_table.specs.Keys.{key_cmp}
@@ -16,6 +16,7 @@ abbrev pub number_by : By → Sums → ℕ
 number_by SelfTime sums = sums.self_time
 number_by Total sums = sums.total
 number_by Count sums = sums.count
+number_by Closed sums = sums.count
 number_by Open sums = sums.unclosed
 number_by Points sums = sums.points
 

@@ -69,8 +69,8 @@ impl<'a> Changed<'a> {
                 self.by_gap(other, By::SelfTime).then(by_total)
             }
             Of::Async => {
-                let by_count = self.by_gap(other, By::Count).then(by_key);
-                let by_open = self.by_gap(other, By::Open).then(by_count);
+                let by_closed = self.by_gap(other, By::Closed).then(by_key);
+                let by_open = self.by_gap(other, By::Open).then(by_closed);
                 self.by_gap(other, By::Total).then(by_open)
             }
         }

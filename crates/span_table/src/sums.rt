@@ -25,7 +25,10 @@ pub struct Sums {
 pub enum By {
     SelfTime,
     Total,
+    /// How many spans there are.
     Count,
+    /// How many asynchronous spans are closed.
+    Closed,
     Open,
     Points,
 }
@@ -104,7 +107,7 @@ impl Sums {
         match by {
             By::SelfTime => self.self_time,
             By::Total => self.total,
-            By::Count => self.count,
+            By::Count | By::Closed => self.count,
             By::Open => self.unclosed,
             By::Points => self.points,
         }
