@@ -124,6 +124,20 @@ impl Parts {
         }
     }
 
+    /// What each part sums, and so the sum.
+    pub fn kind(&self) -> Of
+        ensures { result ≡ self.now.of }
+    {
+        self.of
+    }
+
+    /// Those of the sum.
+    pub fn columns(&self) -> &[Column]
+        ensures { result.now ≡ self.now.sum.columns }
+    {
+        self.sum.columns()
+    }
+
     /// That of each part, and so of the sum.
     pub fn unit(&self) -> Unit
         ensures { result ≡ self.now.unit }
