@@ -1,25 +1,28 @@
 -- Tables that are added, one more, and what stopped among them.
-use Rattle.std.proofs.Common.{◌≡◌, ℕ, suc, ◌<◌, List, [], ◌∷◌, ◌++◌, length, take, drop, inr, refl, ap, sym, subst, ◌∙◌, append_assoc, append-nil}
+use Rattle.std.proofs.Common.{◌≡◌, ℕ, suc, ◌<◌, List, [], ◌∷◌, ◌++◌, length, take, drop, Option, inr, refl, ap, sym, subst, ◌∙◌, append_assoc, append-nil}
 use Rattle.std.specs.List.{AllZip}
-use Rattle.std.specs.Prelude.{codes}
+use Rattle.std.specs.Prelude.{All, codes, false}
 use Rattle.std.proofs.Math.ListN.{get_or}
 use Rattle.std.proofs.Math.Seq.{drop-cons}
 use Rattle.std.proofs.lemmas.List.{take-append-drop}
-use Rattle.std.proofs.lemmas.List.Elements.{All-nil}
+use Rattle.std.proofs.lemmas.List.Elements.{All-head, All-nil}
 use Rattle.span_event.specs.Text.{Bytes}
-use Rattle.span_parts.specs.Sum.{AreAt, Chooses, HasOtherColumns, PartSum, SumsParts, TakesNone, chosen}
+use Rattle.span_parts.specs.declared.fault.PartFault.TheVariants as part
+use Rattle.span_parts.specs.Sum.{AreAt, AreParts, Chooses, HasOtherColumns, PartSum, SumsParts, TakesNone, chosen}
 use Rattle.span_runs.specs.Source.{SourceBytes}
 use Rattle.span_event.specs.declared.unit.Unit.{Unit}
 use Rattle.span_table.specs.declared.column.Column.{Column}
 use Rattle.span_table.specs.declared.of.Of.{Of}
+use Rattle.span_table.specs.declared.sums.By.{By}
 use Rattle.span_table.specs.Adding.{add_tables, picked}
 use Rattle.span_table.specs.Tables.{SpanTable}
 use Rattle.tracebook.specs.declared.added.AddStop.{AddStop}
-use Rattle.tracebook.specs.declared.added.AddStop.TheVariants.{Memory}
-use Rattle.tracebook.specs.AddStops.{AddsFile, AddsMore, BeginsWith, Stops, StopsAt, StopsBeside, StopsMore, StopsNext}
+use Rattle.tracebook.specs.declared.added.AddStop.TheVariants.{FileCount, Memory, NotOpened, NotTable, OtherColumns}
+use Rattle.tracebook.specs.AddStops.{AddsFile, AddsMore, BeginsWith, IsOfPart, LacksAsked, LacksNumber, Stops, StopsAt, StopsBeside, StopsMore, StopsNext}
 use Rattle.tracebook.specs.Added.{AddsBeside, AddsChosen, IsText, Known, OfInputs}
+use Rattle.tracebook.specs.Tables.{goes_by}
 
-AllZip-append : {A B : Type 0} (R : A → B → Type 0) (xs more : List A) (ys others : List B) → AllZip R xs ys → AllZip R more others → AllZip R (xs ++ more) (ys ++ others)
+pub AllZip-append : {A B : Type 0} (R : A → B → Type 0) (xs more : List A) (ys others : List B) → AllZip R xs ys → AllZip R more others → AllZip R (xs ++ more) (ys ++ others)
 AllZip-append R [] more [] others one other = other
 AllZip-append R [] more (y ∷ ys) others one other = absurd one
 AllZip-append R (x ∷ xs) more [] others one other = absurd one
@@ -29,6 +32,16 @@ AllZip-append R (x ∷ xs) more (y ∷ ys) others one other = (one.0, AllZip-app
 Chooses-same : (wanted : List Column) (old new : PartSum) → new.columns ≡ old.columns → new.places ≡ old.places → Chooses wanted old → Chooses wanted new
 Chooses-same wanted old new columns places chooses =
     subst (λ (cs : List Column). AreAt new.places (chosen wanted cs) cs) (sym columns) (subst (λ (ps : List ℕ). AreAt ps (chosen wanted old.columns) old.columns) (sym places) chooses)
+
+-- the table of a text lacks a number that its sum lacks
+LacksNumber-first : (by : Option By) (text : Bytes) (unit : Unit) (of : Of) (parts : List SpanTable) → AreParts unit (text ∷ []) parts → All (λ (part : SpanTable). part.of ≡ of) parts → goes_by of by ≡ false → LacksNumber by text
+LacksNumber-first by text unit of [] are kinds lacks = absurd are
+LacksNumber-first by text unit of (part ∷ parts) are kinds lacks = record {
+  unit = unit;
+  part = part;
+  is = are.0;
+  lacks = ap (λ (o : Of). goes_by o by) (All-head (λ (p : SpanTable). p.of ≡ of) part parts kinds) ∙ lacks;
+}
 
 module _ (known : Known) where
   -- no more
@@ -90,9 +103,19 @@ module _ (known : Known) where
         (subst (λ (of : Of). StopsAt known (HasOtherColumns of middle.unit middle.columns) name stop) more.of stops));
   }
 
+  -- at the first, for its number
+  pub StopsAt-number : (wanted : List Column) (by : Option By) (name : Bytes) (first : PartSum) (stop : AddStop) → BeginsWith known wanted name first → goes_by first.of by ≡ false → IsOfPart name part.OtherColumns stop →
+      StopsAt known (LacksAsked wanted by) name stop
+  StopsAt-number wanted by name first (NotOpened named reason) begins lacks of_part = absurd of_part
+  StopsAt-number wanted by name first (NotTable named) begins lacks of_part = absurd (cc of_part.1)
+  StopsAt-number wanted by name first (OtherColumns named) begins lacks of_part =
+      let sums = begins.takes.sums in (of_part.0, (begins.text, begins.held, inr (LacksNumber-first by begins.text first.unit first.of sums.parts sums.are sums.kinds lacks)))
+  StopsAt-number wanted by name first Memory begins lacks of_part = tt
+  StopsAt-number wanted by name first FileCount begins lacks of_part = tt
+
   -- behind the first
-  pub Stops-later : (wanted : List Column) (name : Bytes) (names : List Bytes) (first : PartSum) (stop : AddStop) → BeginsWith known wanted name first → StopsMore first stop known names → Stops wanted stop known (name ∷ names)
-  Stops-later wanted name names first stop begins stops = inr (record {
+  pub Stops-later : (wanted : List Column) (by : Option By) (name : Bytes) (names : List Bytes) (first : PartSum) (stop : AddStop) → BeginsWith known wanted name first → StopsMore first stop known names → Stops wanted by stop known (name ∷ names)
+  Stops-later wanted by name names first stop begins stops = inr (record {
     done = name ∷ stops.done;
     later = stops.later;
     split = ap (λ (ns : List Bytes). name ∷ ns) stops.split;

@@ -5,5 +5,6 @@ mod FaultLines
 mod FleetTrees
 mod InTurn
 mod Parts
+mod RepeatedSides
 mod RunPages
 mod Views

@@ -1,5 +1,5 @@
 -- Tables are added one after another, and the first file that stops decides.
-use Rattle.std.specs.Prelude.{◌≡◌, ◌⊎◌, List, [], ◌∷◌, ◌++◌}
+use Rattle.std.specs.Prelude.{◌≡◌, ◌⊎◌, false, List, [], ◌∷◌, ◌++◌, Option}
 use Rattle.std.specs.List.{AllZip}
 use Rattle.span_event.specs.Text.{Bytes}
 use Rattle.span_parts.specs.declared.fault.PartFault.{PartFault}
@@ -8,9 +8,13 @@ use Rattle.span_parts.specs.Sum.{HasOtherColumns, IsNoPart, LacksColumn, PartSum
 use Rattle.span_event.specs.declared.unit.Unit.{Unit as TimeUnit}
 use Rattle.span_table.specs.declared.column.Column.{Column}
 use Rattle.span_table.specs.declared.of.Of.{Of}
+use Rattle.span_table.specs.declared.sums.By.{By}
+use Rattle.span_table.specs.Printed.{IsPart}
+use Rattle.span_table.specs.Tables.{SpanTable}
 use Rattle.tracebook.specs.declared.added.AddStop.{AddStop}
 use Rattle.tracebook.specs.declared.added.AddStop.TheVariants.{NotOpened, NotTable, OtherColumns, Memory, FileCount}
 use Rattle.tracebook.specs.Added.{AddsBeside, AddsChosen, IsText, Known}
+use Rattle.tracebook.specs.Tables.{goes_by}
 
 -- the sum of one file, by the columns that are asked for
 pub record BeginsWith (known : Known) (wanted : List Column) (name : Bytes) (sum : PartSum) : Type 0 where
@@ -60,10 +64,21 @@ StopsAt known IsOther name (OtherColumns named) = (named ≡ name) × HoldsOfTex
 StopsAt known IsOther name Memory = Unit {0}
 StopsAt known IsOther name FileCount = Unit {0}
 
+-- the text is of a table that lacks the number that rows are to go by
+pub record LacksNumber (by : Option By) (text : Bytes) : Type 0 where
+  pub unit : TimeUnit
+  pub part : SpanTable
+  pub is : IsPart unit text part
+  pub lacks : goes_by part.of by ≡ false
+
+-- the text is of a table that lacks a column, or the number, that is asked for
+abbrev pub LacksAsked : List Column → Option By → Bytes → Type 0
+LacksAsked wanted by text = LacksColumn wanted text ⊎ LacksNumber by text
+
 -- this stopped at the first file, or there is none
-abbrev pub StopsFirst : List Column → AddStop → Known → List Bytes → Type 0
-StopsFirst wanted stop known [] = stop ≡ FileCount
-StopsFirst wanted stop known (name ∷ later) = StopsAt known (LacksColumn wanted) name stop
+abbrev pub StopsFirst : List Column → Option By → AddStop → Known → List Bytes → Type 0
+StopsFirst wanted by stop known [] = stop ≡ FileCount
+StopsFirst wanted by stop known (name ∷ later) = StopsAt known (LacksAsked wanted by) name stop
 
 -- this stopped at the first of these, behind files that sum this, and have this unit and these columns; where there is none, memory was refused
 abbrev pub StopsNext : Of → TimeUnit → List Column → AddStop → Known → List Bytes → Type 0
@@ -89,8 +104,8 @@ pub record StopsLater (wanted : List Column) (stop : AddStop) (known : Known) (n
   pub cause : StopsNext sum.of sum.unit sum.columns stop known later
 
 -- why these files were not all added
-abbrev pub Stops : List Column → AddStop → Known → List Bytes → Type 0
-Stops wanted stop known names = StopsFirst wanted stop known names ⊎ StopsLater wanted stop known names
+abbrev pub Stops : List Column → Option By → AddStop → Known → List Bytes → Type 0
+Stops wanted by stop known names = StopsFirst wanted by stop known names ⊎ StopsLater wanted stop known names
 
 -- the first of these files were added, by the same columns as the base, and this stopped at the next
 pub record StopsBeside (base : PartSum) (stop : AddStop) (known : Known) (names : List Bytes) : Type 0 where

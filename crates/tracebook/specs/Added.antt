@@ -8,9 +8,9 @@ use Rattle.span_runs.specs.Source.{AreFirst, SourceBytes}
 use Rattle.span_table.specs.declared.column.Column.{Column}
 use Rattle.tracebook.specs.declared.comparison.ComparisonView.{ComparisonView}
 use Rattle.tracebook.specs.declared.tables.TableView.{TableView}
-use Rattle.tracebook.specs.Comparison.{changes_text}
+use Rattle.tracebook.specs.Comparison.{changes_text, compared_by}
 use Rattle.tracebook.specs.Sums.{WritesAll, WritesPart}
-use Rattle.tracebook.specs.Tables.{TableFits, table_text}
+use Rattle.tracebook.specs.Tables.{TableFits, goes_by, named_by, table_text}
 
 -- what is known of the bytes under each name
 abbrev pub Known : Type 0
@@ -51,6 +51,7 @@ pub record AddsBeside (base sum : PartSum) (known : Known) (names : List Bytes) 
 pub record Adds (source : SourceBytes) (names : List Bytes) (view : TableView) (status : ℕ) (old new : SinkState) : Type 0 where
   pub sum : PartSum
   pub added : OfInputs source names (AddsChosen view.options.columns.items sum)
+  pub number : goes_by sum.of (named_by view.form) ≡ true
   pub fits : TableFits view sum.sum
   pub written : WritesAll (table_text sum.unit view true sum.sum) [] status old new
 
@@ -65,6 +66,7 @@ pub record ComparesAdded (source : SourceBytes) (base_names names : List Bytes) 
   pub other : PartSum
   pub base_added : AddsChosen view.options.columns.items base source.file base_names
   pub added : OfInputs source names (AddsBeside base other)
+  pub number : goes_by base.of (compared_by view.form) ≡ true
   pub written : WritesAll (changes_text base.unit view true base.sum other.sum) [] status old new
 
 -- nothing was written, or first bytes of that

@@ -5,6 +5,8 @@ pub mod FaultLines
 pub mod Fleet
 pub mod Pages
 pub mod Reading
+pub mod RepeatedTables
+pub mod Repeats
 pub mod Request
 pub mod Sides
 pub mod Sums

@@ -9,7 +9,7 @@ use Rattle.span_collect.specs.declared.runs.RunEnd.{RunEnd}
 use Rattle.tracebook.specs.declared.command.Request.{Request}
 use Rattle.tracebook.specs.declared.command.Request.TheVariants.{Run, Show, Refuse}
 use Rattle.tracebook.specs.declared.command.Task.{Task}
-use Rattle.tracebook.specs.declared.command.Task.TheVariants.{Collect, Compare, Sum, Pages as PagesTask, CompareSums, Add, CompareAdded}
+use Rattle.tracebook.specs.declared.command.Task.TheVariants.{Collect, Compare, Sum, Pages as PagesTask, CompareSums, Repeat, Add, CompareAdded, RepeatAdded}
 use Rattle.tracebook.specs.declared.comparison.ComparisonFault.{ComparisonFault}
 use Rattle.tracebook.specs.declared.comparison.ComparisonView.{ComparisonView}
 use Rattle.tracebook.specs.declared.view.View.{View}
@@ -22,6 +22,7 @@ use Rattle.tracebook.specs.Added.{Adds, AddsPart, ComparesAdded, ComparesAddedPa
 use Rattle.tracebook.specs.Comparison.{ComparisonLeaves, IsComparisonOf, greater}
 use Rattle.span_runs.specs.Inputs.{AreFiles, AreInputs}
 use Rattle.tracebook.specs.Pages.{Pages, PagesPart}
+use Rattle.tracebook.specs.Repeats.{Repeats, RepeatsAdded, RepeatsAddedPart, RepeatsPart}
 use Rattle.tracebook.specs.Sums.{ComparesSums, ComparesSumsPart, Sums, SumsPart}
 use Rattle.tracebook.specs.View.{Prints, ViewLeaves}
 
@@ -109,8 +110,10 @@ Does source (Compare settings view base) names status old new = Compares source 
 Does source (Sum apart view) names status old new = Sums source names apart.settings view status old new
 Does source (PagesTask apart view) names status old new = Pages source names apart.settings view status old new
 Does source (CompareSums apart view base) names status old new = ComparesSums source base.items names apart.settings view status old new
+Does source (Repeat apart view base) names status old new = Repeats source base.items names apart.settings view status old new
 Does source (Add view) names status old new = Adds source names view status old new
 Does source (CompareAdded view base) names status old new = ComparesAdded source base.items names view status old new
+Does source (RepeatAdded view base) names status old new = RepeatsAdded source base.items names view status old new
 
 -- what was left where that ended with status 2
 abbrev pub DoesPart : SourceBytes → Task → List (List ℕ) → SinkState → SinkState → Type 0
@@ -119,8 +122,10 @@ DoesPart source (Compare settings view base) names old new = ComparesPart source
 DoesPart source (Sum apart view) names old new = SumsPart source names apart.settings view old new
 DoesPart source (PagesTask apart view) names old new = PagesPart source names apart.settings view old new
 DoesPart source (CompareSums apart view base) names old new = ComparesSumsPart source base.items names apart.settings view old new
+DoesPart source (Repeat apart view base) names old new = RepeatsPart source base.items names apart.settings view old new
 DoesPart source (Add view) names old new = AddsPart source names view old new
 DoesPart source (CompareAdded view base) names old new = ComparesAddedPart source base.items names view old new
+DoesPart source (RepeatAdded view base) names old new = RepeatsAddedPart source base.items names view old new
 
 -- this holds of the names that are given, with those of a list
 abbrev pub WithNames : SourceBytes → Named → (List (List ℕ) → Type 0) → Type 0

@@ -3,7 +3,7 @@ use Rattle.std.specs.Prelude.{ℕ, List}
 use Rattle.span_collect.specs.declared.settings.Settings.{Settings}
 use Rattle.span_runs.specs.Source.{SourceBytes}
 use Rattle.span_table.specs.Columns.{Run}
-use Rattle.tracebook.specs.declared.apart.Sides.{Sides}
+use Rattle.tracebook.specs.declared.sides.Sides.{Sides}
 use Rattle.tracebook.specs.Sums.{GathersBoth}
 
 -- the files of both sides were gathered

@@ -1,12 +1,14 @@
 //! Files each of which is a table that was printed: they are read back, added and printed.
-ghost use Rattle.std.specs.Prelude.{◌≡◌, ◌<◌, ◌≤◌, IfErr, IfOk};
-ghost use Rattle.span_parts.specs.Sum.{HasOtherColumns, LacksColumn};
-ghost use Rattle.tracebook.specs.AddStops.{AddsFile, AddsMore, BeginsWith, IsOfPart, IsUnread, Stops, StopsAt, StopsBeside, StopsMore};
+ghost use Rattle.std.specs.Prelude.{◌≡◌, ◌<◌, ◌≤◌, true, IfErr, IfOk};
+ghost use Rattle.span_parts.specs.Sum.{HasOtherColumns};
+ghost use Rattle.tracebook.specs.AddStops.{AddsFile, AddsMore, BeginsWith, IsOfPart, IsUnread, LacksAsked, Stops, StopsAt, StopsBeside, StopsMore};
 ghost use Rattle.tracebook.specs.Added.{Adds, AddsBeside, AddsChosen, AddsPart, ComparesAdded, ComparesAddedPart, IsText, OfInputs};
 ghost use Rattle.tracebook.specs.FaultLines.{SaysAndHints, stop_text};
+ghost use Rattle.tracebook.specs.Tables.{goes_by};
 
 use crate::comparison::ComparisonView;
 use crate::faults::{Faults, fail, fail_at, fail_cause};
+use crate::numbers::goes_by;
 use crate::standard::Standard;
 use crate::sums::{write_runs_changes, write_runs_table};
 use crate::tables::TableView;
@@ -15,7 +17,7 @@ use span_keyed_tracks::HashKeys;
 use span_parts::{PartFault, Parts};
 use span_report::Sink;
 use span_runs::{Reason, Source, SourceFault, StopCause};
-use span_table::Column;
+use span_table::{By, Column};
 use std::alloc::Global;
 use std::random::RandomSource;
 use std::slice::from_ref;
@@ -30,7 +32,7 @@ pub(crate) enum AddStop {
     NotOpened(Text, Reason),
     /// 53: this file is no table that was printed.
     NotTable(Text),
-    /// 54: what this one sums, its unit or its columns are others, or it lacks a column that is asked for.
+    /// 54: what this one sums, its unit or its columns are others, or it lacks a column or the number that is asked for.
     OtherColumns(Text),
     /// 31: memory was refused.
     Memory,
@@ -83,7 +85,8 @@ pub(crate) fn add_files<R: RandomSource, S: Source, O: Sink, F: Faults>(
 {
     source.begin_apart(names.len() as u64);
     let keys = HashKeys::random(rt);
-    let sum = match sum_inputs(alloc, keys, &view.options.columns, &names, source) {
+    let (columns, by) = (&view.options.columns, view.form.by());
+    let sum = match sum_inputs(alloc, keys, columns, by, &names, source) {
         Ok(sum) => sum,
         Err(stop) => return fail_add(alloc, stop, faults),
     };
@@ -115,7 +118,8 @@ pub(crate) fn compare_added<R: RandomSource, S: Source, O: Sink, F: Faults>(
     let files = (base.len() as u64).saturating_add(names.len() as u64);
     source.begin_apart(files);
     let keys = HashKeys::random(rt);
-    let earlier = match sum_names(alloc, keys, &view.options.columns, &base, source) {
+    let (columns, by) = (&view.options.columns, view.form.by());
+    let earlier = match sum_names(alloc, keys, columns, by, &base, source) {
         Ok(earlier) => earlier,
         Err(stop) => return fail_add(alloc, stop, faults),
     };
@@ -133,24 +137,34 @@ pub(crate) fn compare_added<R: RandomSource, S: Source, O: Sink, F: Faults>(
     }
 }
 
-// The sum of the tables of these names, or of the one on standard input, by the wanted columns; where none is named, by all of the first.
+// The sum of the tables of these names, or of the one on standard input, by the wanted columns, and with the number that rows
+// are to go by; where no column is named, by all of the first.
 fn sum_inputs<S: Source>(
     alloc: Global,
     keys: HashKeys,
     wanted: &[Column],
+    by: Option<By>,
     names: &[Text],
     source: &S,
 ) -> Result<Parts, AddStop>
     ensures sum { IfOk result (λ sum. OfInputs (S.bytes source.now) names.now (AddsChosen wanted.now sum)) }
-    ensures stop { IfErr result (λ stop. OfInputs (S.bytes source.now) names.now (Stops wanted.now stop)) }
+    ensures number { IfOk result (λ sum. goes_by sum.of by ≡ true) }
+    ensures stop { IfErr result (λ stop. OfInputs (S.bytes source.now) names.now (Stops wanted.now by stop)) }
 {
     if !names.is_empty() {
-        return sum_names(alloc, keys, wanted, names, source);
+        return sum_names(alloc, keys, wanted, by, names, source);
     }
     let Ok(name) = Text::of(alloc, "-") else {
         return Err(AddStop::Memory);
     };
-    sum_names(alloc, keys, wanted, from_ref(&name), &Standard { source })
+    sum_names(
+        alloc,
+        keys,
+        wanted,
+        by,
+        from_ref(&name),
+        &Standard { source },
+    )
 }
 
 // The same by the columns of another sum.
@@ -173,8 +187,8 @@ fn sum_inputs_beside<S: Source>(
     sum_beside(alloc, keys, base, from_ref(&name), &Standard { source })
 }
 
-// The sum of the tables of these names, by the columns of another sum.
-fn sum_beside<S: Source>(
+/// The sum of the tables of these names, by the columns of another sum.
+pub(crate) fn sum_beside<S: Source>(
     alloc: Global,
     keys: HashKeys,
     base: &Parts,
@@ -194,21 +208,24 @@ fn sum_beside<S: Source>(
     }
 }
 
-// The sum of the tables of these names, by the wanted columns; where none is named, by all of the first.
-fn sum_names<S: Source>(
+/// The sum of the tables of these names, by the wanted columns, and with the number that rows
+/// are to go by; where no column is named, by all of the first.
+pub(crate) fn sum_names<S: Source>(
     alloc: Global,
     keys: HashKeys,
     wanted: &[Column],
+    by: Option<By>,
     names: &[Text],
     source: &S,
 ) -> Result<Parts, AddStop>
     ensures sum { IfOk result (λ sum. AddsChosen wanted.now sum (S.bytes source.now).file names.now) }
-    ensures stop { IfErr result (λ stop. Stops wanted.now stop (S.bytes source.now).file names.now) }
+    ensures number { IfOk result (λ sum. goes_by sum.of by ≡ true) }
+    ensures stop { IfErr result (λ stop. Stops wanted.now by stop (S.bytes source.now).file names.now) }
 {
     let Some((first, later)) = names.split_first() else {
         return Err(AddStop::FileCount);
     };
-    let sum = match sum_first(alloc, keys, wanted, first, source) {
+    let sum = match sum_first(alloc, keys, wanted, by, first, source) {
         Ok(sum) => sum,
         Err(stop) => return Err(stop),
     };
@@ -243,20 +260,26 @@ fn sum_first<S: Source>(
     alloc: Global,
     keys: HashKeys,
     wanted: &[Column],
+    by: Option<By>,
     name: &Text,
     source: &S,
 ) -> Result<Parts, AddStop>
     ensures sum { IfOk result (BeginsWith (S.bytes source.now).file wanted.now name.now) }
-    ensures stop { IfErr result (StopsAt (S.bytes source.now).file (LacksColumn wanted.now) name.now) }
+    ensures number { IfOk result (λ sum. goes_by sum.of by ≡ true) }
+    ensures stop { IfErr result (StopsAt (S.bytes source.now).file (LacksAsked wanted.now by) name.now) }
 {
     let text = match text_of_file(alloc, name, source) {
         Ok(text) => text,
         Err(stop) => return Err(stop),
     };
-    match Parts::of_first(alloc, keys, wanted, &text) {
-        Ok(sum) => Ok(sum),
-        Err(fault) => Err(AddStop::of_part(alloc, name, fault)),
+    let sum = match Parts::of_first(alloc, keys, wanted, &text) {
+        Ok(sum) => sum,
+        Err(fault) => return Err(AddStop::of_part(alloc, name, fault)),
+    };
+    if !goes_by(sum.kind(), by) {
+        return Err(AddStop::of_part(alloc, name, PartFault::OtherColumns));
     }
+    Ok(sum)
 }
 
 // The sum with the table of this name.
@@ -284,8 +307,8 @@ fn text_of_file<S: Source>(alloc: Global, name: &Text, source: &S) -> Result<Vec
     }
 }
 
-// Says why tables were not all added.
-fn fail_add<F: Faults>(alloc: Global, stop: AddStop, faults: &mut F) -> u8
+/// Says why tables were not all added.
+pub(crate) fn fail_add<F: Faults>(alloc: Global, stop: AddStop, faults: &mut F) -> u8
     ensures status { result ≡ 2 }
     ensures said { SaysAndHints (stop_text stop) (F.state faults.old) (F.state faults.new) }
 {

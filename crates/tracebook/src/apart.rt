@@ -1,16 +1,16 @@
 //! Files each of which is a run of its own: their tables, summed and printed.
-ghost use Rattle.std.specs.Prelude.{◌≡◌, ◌<◌, ◌≤◌, ◌++◌, [], true, IfErr, IfOk, OnOk};
+ghost use Rattle.std.specs.Prelude.{◌≡◌, ◌<◌, ◌≤◌, ◌++◌, [], true, IfOk};
 ghost use Rattle.tracebook.specs.Comparison.{changes_text};
 ghost use Rattle.tracebook.specs.FaultLines.{Says};
-ghost use Rattle.tracebook.specs.Sides.{GathersSides};
 ghost use Rattle.tracebook.specs.Sums.{ComparesSums, ComparesSumsPart, GathersInputs, Sums, SumsPart, WritesAll, WritesPart};
 ghost use Rattle.tracebook.specs.Tables.{TableFits, table_text};
 
 use crate::comparison::ComparisonView;
-use crate::faults::{Faults, fail, fail_stop, say};
+use crate::faults::{Faults, fail, fail_stop};
+use crate::sides::{Sides, gather_sides};
 use crate::standard::Standard;
 use crate::sums::{write_runs_changes, write_runs_table};
-use crate::tables::{TableOptions, TableView};
+use crate::tables::TableView;
 use span_collect::Settings;
 use span_event::{Fault, Text, Unit};
 use span_report::Sink;
@@ -105,60 +105,12 @@ pub(crate) fn compare_sums<
     }
 }
 
-/// What the base's files come to, and the others.
-#[derive(Drop)]
-pub(crate) struct Sides<T> {
-    pub(crate) base: Gathered<T>,
-    pub(crate) other: Gathered<T>,
-}
-
-/// Gathers the base's files, and then the others. Where something stops, it says so, and gives the status.
-pub(crate) fn gather_sides<
+/// Gathers the files of these names, or standard input, as the file `-`, where there are none.
+pub(crate) fn gather_inputs<
     T: Gathering,
     R: Threads + Wait + RandomSource + Sync,
     S: Source + Sync,
-    F: Faults,
 >(
-    rt: &R,
-    alloc: Global,
-    apart: &Apart,
-    options: &TableOptions,
-    base: &[Text],
-    names: &[Text],
-    source: &S,
-    faults: &mut F,
-) -> Result<Sides<T>, u8>
-    ensures sides { IfOk result (GathersSides (S.bytes source.now) base.now names.now apart.now.settings
-        (T.come_to options.now.of options.now.columns.items)) }
-    ensures status { IfErr result (λ status. status ≡ 2) }
-    ensures said { OnOk result (F.state faults.new ≡ F.state faults.old) }
-{
-    let of = options.of;
-    let columns = &options.columns;
-    let files = (base.len() as u64).saturating_add(names.len() as u64);
-    source.begin_apart(files);
-    let jobs = jobs_of(rt, apart);
-    let earlier = match gather_apart(rt, alloc, source, base, &apart.settings, of, columns, jobs) {
-        Ok(earlier) => earlier,
-        Err(stop) => return Err(fail_stop(alloc, stop, faults)),
-    };
-    match gather_inputs(rt, alloc, apart, of, columns, names, source) {
-        Ok(later) => {
-            source.end();
-            Ok(Sides {
-                base: earlier,
-                other: later,
-            })
-        }
-        Err(stop) => {
-            say(&earlier.lines, faults);
-            Err(fail_stop(alloc, stop, faults))
-        }
-    }
-}
-
-// Gathers the files of these names, or standard input, as the file `-`, where there are none.
-fn gather_inputs<T: Gathering, R: Threads + Wait + RandomSource + Sync, S: Source + Sync>(
     rt: &R,
     alloc: Global,
     apart: &Apart,

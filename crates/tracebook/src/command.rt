@@ -9,8 +9,9 @@ use crate::columns::{
     of_async, others_rule_of, paged, ranked, rule_of,
 };
 use crate::comparison::{ComparisonForm, ComparisonView};
-use crate::numbers::{NUMBER_RULE, has_number, number_named};
+use crate::numbers::{NUMBER_RULE, goes_by, number_named};
 use crate::options::command_of;
+use crate::repeats::{RepeatsForm, RepeatsView};
 use crate::tables::{TableForm, TableOptions, TableView};
 use crate::view::{PageView, View};
 use clap::error::{Error, ErrorKind};
@@ -65,6 +66,12 @@ pub enum Task {
         view: ComparisonView,
         base: Vec<Text>,
     },
+    /// Collect each base file as a run of its own, and each of the others, and print how the numbers of both sides are spread.
+    Repeat {
+        apart: Apart,
+        view: RepeatsView,
+        base: Vec<Text>,
+    },
     /// Add them, each of which is a table that was printed, and print this of their sum.
     Add {
         view: TableView,
@@ -72,6 +79,11 @@ pub enum Task {
     /// Add the base files so, and the others, and print this of what changed.
     CompareAdded {
         view: ComparisonView,
+        base: Vec<Text>,
+    },
+    /// Take each base file as the table of one run, and each of the others, and print how the numbers of both sides are spread.
+    RepeatAdded {
+        view: RepeatsView,
         base: Vec<Text>,
     },
 }
@@ -156,19 +168,17 @@ fn broken_rule(matches: &ArgMatches<'_>, of: Of, columns: &[Column]) -> Option<&
     if matches.get_flag("folded") && !are_of_spans(columns) {
         return Some(LABEL_RULE);
     }
-    if is_known && goes_by_another(matches, of) {
+    if is_known && !goes_by(of, by_of(matches)) {
         return Some(NUMBER_RULE);
+    }
+    if matches.get_flag("json") && matches.contains_id("by") && !matches.get_flag("repeats") {
+        return Some(JSON_RULE);
     }
     None
 }
 
-// Whether a number is named that what is summed doesn't have.
-fn goes_by_another(matches: &ArgMatches<'_>, of: Of) -> bool {
-    match matches.get_str("by") {
-        Some(name) => !has_number(of, name),
-        None => false,
-    }
-}
+// Rows for other programs have all numbers, but for those of repeated runs.
+const JSON_RULE: &str = "the argument '--json' cannot be used with '--by <SUM>'";
 
 // An option that has an effect with some texts alone.
 #[derive(Clone, Copy)]
@@ -218,8 +228,13 @@ const BOUND: &[Bound] = &[
     },
     Bound {
         option: "jobs",
-        texts: &["apart"],
-        rule: "the argument '--jobs <N>' goes with '--apart' alone",
+        texts: &["apart", "repeats"],
+        rule: "the argument '--jobs <N>' goes with '--apart' and '--repeats' alone",
+    },
+    Bound {
+        option: "repeats",
+        texts: &["base"],
+        rule: "the argument '--repeats' goes with '--base <FILE>' alone",
     },
     Bound {
         option: "skip",
@@ -247,7 +262,7 @@ fn is_any_given(matches: &ArgMatches<'_>, texts: &[&str]) -> bool {
     false
 }
 
-const SWITCHES: &[&str] = &["json", "apart", "add", "folded", "page"];
+const SWITCHES: &[&str] = &["json", "apart", "repeats", "add", "folded", "page"];
 
 // A switch has a value even where it is not given.
 fn is_given(matches: &ArgMatches<'_>, option: &str) -> bool {
@@ -363,6 +378,9 @@ fn task_of(
 ) -> Result<Task, AllocError> {
     if matches.contains_id("base") {
         let base = texts_of(alloc, matches, "base")?;
+        if matches.get_flag("repeats") {
+            return Ok(repeats_task(matches, settings, options, base));
+        }
         let form = comparison_form(matches);
         let view = ComparisonView { options, form };
         return Ok(comparison_task(matches, settings, view, base));
@@ -422,6 +440,26 @@ fn comparison_task(
         view,
         base,
     }
+}
+
+fn repeats_task(
+    matches: &ArgMatches<'_>,
+    settings: Settings,
+    options: TableOptions,
+    base: Vec<Text>,
+) -> Task {
+    let by = by_of(matches);
+    let form = if matches.get_flag("json") {
+        RepeatsForm::Json
+    } else {
+        RepeatsForm::Text
+    };
+    let view = RepeatsView { options, by, form };
+    if matches.get_flag("add") {
+        return Task::RepeatAdded { view, base };
+    }
+    let apart = apart_of(matches, settings);
+    Task::Repeat { apart, view, base }
 }
 
 fn apart_of(matches: &ArgMatches<'_>, settings: Settings) -> Apart {

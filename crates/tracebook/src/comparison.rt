@@ -3,7 +3,7 @@ ghost use Rattle.std.specs.Prelude.{◌≡◌, IfOk, IfErr, OnOk};
 ghost use Rattle.span_report.specs.Sink.{TakesBytes};
 ghost use Rattle.span_runs.specs.Runs.{run_of_files};
 ghost use Rattle.span_table.specs.declared.json_lines.JsonFault.TheVariants.{TooGreat};
-ghost use Rattle.tracebook.specs.Comparison.{AreTooGreat, ChangesLeave, ComparisonLeaves, HasTooGreat, IsComparisonOf, changes_of_runs, changes_text, comparison_code, greater};
+ghost use Rattle.tracebook.specs.Comparison.{AreTooGreat, ChangesLeave, ComparisonLeaves, HasTooGreat, IsComparisonOf, changes_of_runs, changes_text, compared_by, comparison_code, greater};
 
 use crate::tables::{TableOptions, asked_by};
 use span_collect::{Collected, Input, RunError, Settings, collect_to_ledger};
@@ -24,6 +24,18 @@ pub enum ComparisonForm {
     Text { by: Option<By> },
     /// For other programs.
     Json,
+}
+
+impl ComparisonForm {
+    /// The number that is named.
+    pub(crate) fn by(self) -> Option<By>
+        ensures { result ≡ compared_by self }
+    {
+        match self {
+            ComparisonForm::Text { by } => by,
+            ComparisonForm::Json => None,
+        }
+    }
 }
 
 /// What is printed of what changed between two runs, or sums of runs: which rows of their tables, and how.

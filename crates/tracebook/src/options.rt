@@ -42,11 +42,17 @@ const APART_HELP: &str = r#"Take each FILE as a run of its own, whatever process
 sum their tables; any number of files; with --top, --json, --base and
 --page"#;
 
+const REPEATS_HELP: &str = r#"Take each FILE, and each --base FILE, as one repetition, a run of its
+own or with --add the table of one, and print the rows of which one
+side is wholly above the other, with median, least and greatest; 1 to
+64 on each side; with --base"#;
+
 const ADD_HELP: &str = r#"Take each FILE as a table that --json printed, without --base, and add
 them; any number of files; with --top, --json and --base. Tables say
 themselves what they sum"#;
 
-const JOBS_HELP: &str = r#"How many files are read and collected at once with --apart, 1 to 64
+const JOBS_HELP: &str = r#"How many files are read and collected at once with --apart or
+--repeats, 1 to 64
 [default: the processors that the system grants]"#;
 
 const FILES_FROM_HELP: &str =
@@ -147,6 +153,7 @@ fn add_table_options(alloc: Global, arguments: &mut Vec<Arg<'_>>) -> Result<(), 
     arguments.push(list_option(alloc, "base", "FILE", BASE_HELP))?;
     arguments.push(json_option(alloc)?)?;
     arguments.push(switch(alloc, "apart", APART_HELP))?;
+    arguments.push(repeats_option(alloc)?)?;
     arguments.push(jobs_option(alloc))?;
     arguments.push(add_option(alloc)?)?;
     arguments.push(group_by_option(alloc))?;
@@ -183,6 +190,10 @@ fn jobs_option(alloc: Global) -> Arg<'static> {
         .allow_negative_numbers(true)
         .action(ArgAction::Set)
         .help(JOBS_HELP)
+}
+
+fn repeats_option(alloc: Global) -> Result<Arg<'static>, AllocError> {
+    switch(alloc, "repeats", REPEATS_HELP).conflicts_with_all(&["apart"])
 }
 
 fn add_option(alloc: Global) -> Result<Arg<'static>, AllocError> {
@@ -226,7 +237,7 @@ fn group_by_option(alloc: Global) -> Arg<'static> {
 }
 
 fn json_option(alloc: Global) -> Result<Arg<'static>, AllocError> {
-    switch(alloc, "json", JSON_HELP).conflicts_with_all(&["top", "by", "refused", "folded", "page"])
+    switch(alloc, "json", JSON_HELP).conflicts_with_all(&["top", "refused", "folded", "page"])
 }
 
 // An option that may be given several times.

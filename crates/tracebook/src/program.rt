@@ -9,6 +9,8 @@ use crate::comparison::{ComparisonView, greater, run_comparison};
 use crate::faults::{FAILED, Faults, fail, fail_cause, fail_run, put_hints, report_faults, say};
 use crate::inputs::{inputs_of, pair_of};
 use crate::pages::page_files;
+use crate::repeated_tables::repeat_added;
+use crate::repeats::repeat_runs;
 use crate::view::{View, run_view};
 use span_collect::{Input, Settings};
 use span_event::{Fault, Text};
@@ -108,9 +110,15 @@ fn perform_task<R: Threads + Wait + RandomSource + Sync, S: Source + Sync, O: Si
         Task::CompareSums { apart, view, base } => {
             compare_sums(rt, alloc, &apart, &view, base, names, source, out, faults)
         }
+        Task::Repeat { apart, view, base } => {
+            repeat_runs(rt, alloc, &apart, &view, base, names, source, out, faults)
+        }
         Task::Add { view } => add_files(rt, alloc, &view, names, source, out, faults),
         Task::CompareAdded { view, base } => {
             compare_added(rt, alloc, &view, base, names, source, out, faults)
+        }
+        Task::RepeatAdded { view, base } => {
+            repeat_added(rt, alloc, &view, base, names, source, out, faults)
         }
     }
 }

@@ -1,7 +1,7 @@
 //! The tables that the command line asks for, and their texts.
 ghost use Rattle.std.specs.Prelude.{◌≡◌, true, false, string_bytes, IfOk, IfErr, OnOk};
 ghost use Rattle.span_table.specs.declared.json_lines.JsonFault.TheVariants.{Memory, TooGreat};
-ghost use Rattle.tracebook.specs.Tables.{TableExceeds, TableFits, asked_by, table_text};
+ghost use Rattle.tracebook.specs.Tables.{TableExceeds, TableFits, asked_by, named_by, table_text};
 
 use span_event::Unit;
 use span_table::{By, Column, JsonFault, Of, Shown, Table, json_table, ranking};
@@ -64,6 +64,18 @@ pub(crate) fn asked_by(of: Of, by: Option<By>) -> By
     match by {
         Some(by) => by,
         None => of.by(),
+    }
+}
+
+impl TableForm {
+    /// The number that is named.
+    pub(crate) fn by(self) -> Option<By>
+        ensures { result ≡ named_by self }
+    {
+        match self {
+            TableForm::Ranking { most: _, by } => by,
+            TableForm::Json => None,
+        }
     }
 }
 

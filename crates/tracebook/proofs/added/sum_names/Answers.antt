@@ -11,4 +11,4 @@ returns-in-Ok-add_names-clause-sum g c =
 pub returns-in-Err-add_names-clause-stop : goal.returns-in-Err-add_names-clause-stop
 returns-in-Err-add_names-clause-stop g c =
     rw c.in-Some.ensures.cases.0
-    (Stops-later (g.S.Source.bytes c.args.source.now).file c.args.wanted.now c.in-Some.first.now c.in-Some.later.now c.in-Ok.sum c.in-Err-add_names.stop c.in-Ok.ensures.sum c.in-Err-add_names.ensures.stop)
+    (Stops-later (g.S.Source.bytes c.args.source.now).file c.args.wanted.now c.args.by c.in-Some.first.now c.in-Some.later.now c.in-Ok.sum c.in-Err-add_names.stop c.in-Ok.ensures.sum c.in-Err-add_names.ensures.stop)

@@ -1,0 +1,170 @@
+//! Repeated runs, on each of two sides: how their numbers are spread, of traces or of tables that were printed.
+ghost use Rattle.std.specs.Prelude.{◌≡◌, ◌<◌, ◌≤◌, ◌++◌, true, ◌↔◌, IfOk, IsTrue, OnOk, length};
+ghost use Rattle.tracebook.specs.Repeats.{AreFew, RepeatsFit, Repeats, RepeatsPart, gathered_text, repeats_text};
+ghost use Rattle.tracebook.specs.Sums.{WritesAll, WritesPart};
+
+use crate::apart::Apart;
+use crate::faults::{Faults, fail};
+use crate::sides::{Sides, gather_sides};
+use crate::sums::write_told;
+use crate::tables::{TableOptions, asked_by};
+use span_event::{Fault, Text, Unit};
+use span_report::Sink;
+use span_runs::{Gathered, Source};
+use span_table::{By, Column, JsonFault, Of, Table, json_repeats, repeats};
+use std::alloc::Global;
+use std::mem::forget;
+use std::random::RandomSource;
+use std::sync::Wait;
+use std::thread::Threads;
+
+// The most repetitions of a side.
+const MOST_REPETITIONS: usize = 64;
+
+/// How it is printed.
+#[derive(Clone, Copy)]
+pub enum RepeatsForm {
+    /// For people: the keys whose sides are apart.
+    Text,
+    /// For other programs: the values of each key.
+    Json,
+}
+
+/// What is printed of repeated runs: which rows of their tables, by which number, or the usual one of what is summed, and how.
+#[derive(Drop)]
+pub struct RepeatsView {
+    pub options: TableOptions,
+    pub by: Option<By>,
+    pub form: RepeatsForm,
+}
+
+/// Collects the files of the base, each a run of its own, and then the others, and prints how their numbers are spread.
+pub(crate) fn repeat_runs<
+    R: Threads + Wait + RandomSource + Sync,
+    S: Source + Sync,
+    O: Sink,
+    F: Faults,
+>(
+    rt: &R,
+    alloc: Global,
+    apart: &Apart,
+    view: &RepeatsView,
+    base: Vec<Text>,
+    names: Vec<Text>,
+    source: &S,
+    out: &mut O,
+    faults: &mut F,
+) -> u8
+    ensures status { result ≤ 2 }
+    ensures done { result < 2 → Repeats (S.bytes source.now) base.items names.items apart.now.settings view.now
+        result (O.state out.old) (O.state out.new) }
+    ensures failed { result ≡ 2 → RepeatsPart (S.bytes source.now) base.items names.items apart.now.settings
+        view.now (O.state out.old) (O.state out.new) }
+{
+    if !are_few(&base, &names) {
+        return fail(alloc, Fault::FileCount.code(), faults);
+    }
+    let options = &view.options;
+    match gather_sides(rt, alloc, apart, options, &base, &names, source, faults) {
+        Ok(sides) => write_gathered(alloc, apart.settings.unit, sides, view, out, faults),
+        Err(status) => status,
+    }
+}
+
+/// Whether each side has a repetition, and not too many; where no other file is named, standard input is one.
+pub(crate) fn are_few(base: &[Text], names: &[Text]) -> bool
+    ensures { IsTrue result ↔ AreFew base.now names.now }
+{
+    !base.is_empty() && base.len() <= MOST_REPETITIONS && names.len() <= MOST_REPETITIONS
+}
+
+// Writes what was gathered, and then the fault lines of files that are no trace.
+fn write_gathered<O: Sink, F: Faults>(
+    alloc: Global,
+    unit: Unit,
+    sides: Sides<Vec<Table>>,
+    view: &RepeatsView,
+    out: &mut O,
+    faults: &mut F,
+) -> u8
+    requires base { length sides.base.runs.items ≤ 64 }
+    requires other { length sides.other.runs.items ≤ 64 }
+    ensures status { result ≤ 2 }
+    ensures fits { result < 2 → RepeatsFit view.now.options.of view.now sides.base.runs.items sides.other.runs.items }
+    ensures done { result < 2 → WritesAll (gathered_text unit view.now sides.base sides.other)
+        (sides.base.lines.items ++ sides.other.lines.items) result (O.state out.old) (O.state out.new) }
+    ensures failed { result ≡ 2
+        → WritesPart (gathered_text unit view.now sides.base sides.other) (O.state out.old) (O.state out.new) }
+{
+    let Sides { base, other } = sides;
+    let Gathered {
+        runs: earlier,
+        mut lines,
+    } = base;
+    let Gathered {
+        runs: later,
+        lines: more,
+    } = other;
+    if lines.extend_from_slice(&more).is_err() {
+        return fail(alloc, Fault::Memory.code(), faults);
+    }
+    let of = view.options.of;
+    let columns = &view.options.columns;
+    write_tables(
+        alloc, unit, of, columns, earlier, later, view, &lines, out, faults,
+    )
+}
+
+/// Writes how the numbers of these tables are spread, and then these fault lines.
+pub(crate) fn write_tables<O: Sink, F: Faults>(
+    alloc: Global,
+    unit: Unit,
+    of: Of,
+    columns: &[Column],
+    base: Vec<Table>,
+    other: Vec<Table>,
+    view: &RepeatsView,
+    lines: &[u8],
+    out: &mut O,
+    faults: &mut F,
+) -> u8
+    requires base { length base.items ≤ 64 }
+    requires other { length other.items ≤ 64 }
+    ensures status { result ≤ 2 }
+    ensures fits { result < 2 → RepeatsFit of view.now base.items other.items }
+    ensures done { result < 2 → WritesAll (repeats_text unit of columns.now view.now base.items other.items)
+        lines.now result (O.state out.old) (O.state out.new) }
+    ensures failed { result ≡ 2
+        → WritesPart (repeats_text unit of columns.now view.now base.items other.items) (O.state out.old) (O.state out.new) }
+{
+    let text = repeats_text(alloc, unit, of, columns, &base, &other, view);
+    // The program ends soon, and then the system frees all at once, where freeing one by one takes long.
+    forget(base);
+    forget(other);
+    write_told(alloc, text, lines, out, faults)
+}
+
+fn repeats_text(
+    alloc: Global,
+    unit: Unit,
+    of: Of,
+    columns: &[Column],
+    base: &[Table],
+    other: &[Table],
+    view: &RepeatsView,
+) -> Result<Vec<u8>, JsonFault>
+    requires base { length base.now ≤ 64 }
+    requires other { length other.now ≤ 64 }
+    ensures text { IfOk result (λ text. text.items ≡ repeats_text unit of columns.now view.now base.now other.now) }
+    ensures fits { OnOk result (RepeatsFit of view.now base.now other.now) }
+{
+    let by = asked_by(of, view.by);
+    let shown = &view.options.shown;
+    match view.form {
+        RepeatsForm::Text => match repeats(alloc, unit, columns, base, other, shown, by) {
+            Ok(text) => Ok(text),
+            Err(_) => Err(JsonFault::Memory),
+        },
+        RepeatsForm::Json => json_repeats(alloc, unit, of, columns, base, other, shown, by),
+    }
+}
