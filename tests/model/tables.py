@@ -340,14 +340,15 @@ def bytes_or_stop(path):
 
 def tables_of_files(line):
     """The tables of the base's files, and those of the others, or of standard input where there are none. All sum what the first does,
-    and have its unit and its columns, and those columns that are asked for."""
+    and have its unit and its columns, and those columns and the number that are asked for."""
     tables = []
     for path in [*line.base, *line.files] if line.files else [*line.base, None]:
         name = "-" if path is None else path
         table = table_of_file(name, sys.stdin.buffer.read() if path is None else bytes_or_stop(path))
         first = tables[0] if tables else table
         is_like_first = (table.of, table.unit, table.columns) == (first.of, first.unit, first.columns)
-        if not is_like_first or not set(table.columns).issuperset(wanted_columns(line, table)):
+        has_number = line.by is None or line.by in first.of.numbers
+        if not is_like_first or not has_number or not set(table.columns).issuperset(wanted_columns(line, table)):
             raise Stopped(f"tracebook: {json_text(name)}: 54 OtherColumns")
         tables.append(table)
     return tables[: len(line.base)], tables[len(line.base) :]
@@ -426,10 +427,11 @@ def text_of_line(line):
     return text, faults
 
 
-def main():
+def print_text(make):
+    """Prints the text that is made of the command line, with the lines of files that are refused, and gives the status."""
     gc.disable()  # Nothing here is let go in rings, and to look for them takes long.
     try:
-        text, faults = text_of_line(words_of_line())
+        text, faults = make(words_of_line())
     except Stopped as stopped:
         print(stopped, file=sys.stderr)
         return 2
@@ -440,4 +442,4 @@ def main():
 
 
 if __name__ == "__main__":
-    sys.exit(main())
+    sys.exit(print_text(text_of_line))
