@@ -31,7 +31,7 @@ check:
 
 # Times the reading of traces beside that of other readers, the division of a thread's time, a report beside its reading, names
 # that were chosen to collide beside ordinary ones, traces in which each event is new, folded stacks and tables beside reports, tables
-# that are added, and whole runs over many threads and over several files.
+# that are added, repeated runs beside their sums, and whole runs over many threads and over several files.
 bench: tracebook
 	cd crates/bench_reading && rt run < stdin
 	cd crates/bench_tracking && rt run < stdin
@@ -43,6 +43,7 @@ bench: tracebook
 	bench/tables
 	bench/build
 	bench/added
+	bench/repeats
 	bench/many_threads
 	bench/several_files
 
