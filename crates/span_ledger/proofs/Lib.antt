@@ -18,6 +18,7 @@ pub mod SeriesParts
 pub mod Sorted
 pub mod Sorting
 pub mod Taking
+pub mod Telling
 pub mod ThreadAnswers
 pub mod ThreadTelling
 pub mod Threads

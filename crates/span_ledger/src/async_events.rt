@@ -6,6 +6,7 @@ ghost use Rattle.span_keyed_tracks.specs.Matching.{opens, closes, other};
 ghost use Rattle.span_ledger.specs.Told.{async_step, async_event, IsAsync};
 ghost use Rattle.span_ledger.specs.Tracked.{TellsAsync};
 
+use crate::answer_pair::{AnswerPair, twice};
 use crate::entry::Answer;
 use crate::event_key::{put_async_key, take_async_key};
 use span_event::{Event, Phase};
@@ -17,7 +18,7 @@ pub(crate) fn tell_async(
     alloc: Global,
     track: &mut AsyncTrack,
     event: &mut Event,
-) -> Result<(Answer, Answer), TrackFault>
+) -> Result<AnswerPair, TrackFault>
     requires good { IsGood event.old }
     requires phase { IsAsync event.old.phase }
     requires room { (key : AsyncKey) → HasAsyncRoom track.old key }
@@ -36,7 +37,7 @@ fn tell_step(
     key: &AsyncKey,
     phase: Phase,
     ts: i64,
-) -> Result<(Answer, Answer), TrackFault>
+) -> Result<AnswerPair, TrackFault>
     requires room { HasAsyncRoom track.old key.now }
     requires in_time { IsTime ts }
     ensures { TellsAsync track.old (record { key = key.now; step = async_step phase ts }) result track.new }
@@ -48,38 +49,27 @@ fn tell_step(
     }
 }
 
-fn begin_async(
-    track: &mut AsyncTrack,
-    key: &AsyncKey,
-    ts: i64,
-) -> Result<(Answer, Answer), TrackFault>
+fn begin_async(track: &mut AsyncTrack, key: &AsyncKey, ts: i64) -> Result<AnswerPair, TrackFault>
     requires room { HasAsyncRoom track.old key.now }
     requires in_time { IsTime ts }
     ensures { TellsAsync track.old (record { key = key.now; step = opens ts }) result track.new }
 {
     track.begin_async(key, ts)?;
-    Ok((Answer::AsyncOpened, Answer::AsyncOpened))
+    Ok(twice!(Answer::AsyncOpened))
 }
 
-fn end_async(
-    track: &mut AsyncTrack,
-    key: &AsyncKey,
-    ts: i64,
-) -> Result<(Answer, Answer), TrackFault>
+fn end_async(track: &mut AsyncTrack, key: &AsyncKey, ts: i64) -> Result<AnswerPair, TrackFault>
     requires in_time { IsTime ts }
     ensures { TellsAsync track.old (record { key = key.now; step = closes ts }) result track.new }
 {
     let length = track.end_async(key, ts)?;
-    Ok((
-        Answer::AsyncClosed { length },
-        Answer::AsyncClosed { length },
-    ))
+    Ok(twice!(Answer::AsyncClosed { length }))
 }
 
-fn point(track: &mut AsyncTrack, key: &AsyncKey) -> Result<(Answer, Answer), TrackFault>
+fn point(track: &mut AsyncTrack, key: &AsyncKey) -> Result<AnswerPair, TrackFault>
     requires room { HasAsyncRoom track.old key.now }
     ensures { TellsAsync track.old (record { key = key.now; step = other tt }) result track.new }
 {
     track.point(key)?;
-    Ok((Answer::AsyncPoint, Answer::AsyncPoint))
+    Ok(twice!(Answer::AsyncPoint))
 }

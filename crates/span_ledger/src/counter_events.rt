@@ -6,6 +6,7 @@ ghost use Rattle.span_keyed_tracks.specs.Counters.{CounterStandsFor, HasCounterR
 ghost use Rattle.span_ledger.specs.Answers.{counter_answer};
 ghost use Rattle.span_ledger.specs.Tracked.{Tells};
 
+use crate::answer_pair::{AnswerPair, twice};
 use crate::entry::Answer;
 use span_event::Event;
 use span_keyed_tracks::{CounterTrack, TrackFault};
@@ -13,12 +14,12 @@ use span_keyed_tracks::{CounterTrack, TrackFault};
 pub(crate) fn tell_counter(
     track: &mut CounterTrack,
     event: &Event,
-) -> Result<(Answer, Answer), TrackFault>
+) -> Result<AnswerPair, TrackFault>
     requires good { IsGood event.now }
     requires phase { event.now.phase ≡ Counter }
     requires room { HasCounterRoom track.old }
     ensures { Tells CounterStandsFor counter_answer track.old event.now result track.new }
 {
     track.sample(event)?;
-    Ok((Answer::Counted, Answer::Counted))
+    Ok(twice!(Answer::Counted))
 }

@@ -5,6 +5,7 @@ ghost use Rattle.span_keyed_tracks.specs.Flow.{HasFlowRoom, started, stepped, fi
 ghost use Rattle.span_ledger.specs.Told.{flow_point, flow_event, IsFlow};
 ghost use Rattle.span_ledger.specs.Tracked.{TellsFlow};
 
+use crate::answer_pair::{AnswerPair, twice};
 use crate::entry::Answer;
 use crate::event_key::{put_flow_key, take_flow_key};
 use span_event::{Event, Phase};
@@ -16,7 +17,7 @@ pub(crate) fn tell_flow(
     alloc: Global,
     track: &mut FlowTrack,
     event: &mut Event,
-) -> Result<(Answer, Answer), TrackFault>
+) -> Result<AnswerPair, TrackFault>
     requires good { IsGood event.old }
     requires phase { IsFlow event.old.phase }
     requires room { (key : FlowKey) → HasFlowRoom track.old key }
@@ -35,7 +36,7 @@ fn tell_point(
     key: &FlowKey,
     phase: Phase,
     ts: i64,
-) -> Result<(Answer, Answer), TrackFault>
+) -> Result<AnswerPair, TrackFault>
     requires room { HasFlowRoom track.old key.now }
     requires in_time { IsTime ts }
     ensures { TellsFlow track.old (record { key = key.now; step = flow_point phase ts }) result track.new }
@@ -47,38 +48,35 @@ fn tell_point(
     }
 }
 
-fn start_flow(track: &mut FlowTrack, key: &FlowKey, ts: i64) -> Result<(Answer, Answer), TrackFault>
+fn start_flow(track: &mut FlowTrack, key: &FlowKey, ts: i64) -> Result<AnswerPair, TrackFault>
     requires room { HasFlowRoom track.old key.now }
     requires in_time { IsTime ts }
     ensures { TellsFlow track.old (record { key = key.now; step = started ts }) result track.new }
 {
     match track.start_flow(key, ts) {
-        Ok(()) => Ok((Answer::FlowStarted, Answer::FlowStarted)),
+        Ok(()) => Ok(twice!(Answer::FlowStarted)),
         Err(fault) => Err(fault),
     }
 }
 
-fn step_flow(track: &mut FlowTrack, key: &FlowKey, ts: i64) -> Result<(Answer, Answer), TrackFault>
+fn step_flow(track: &mut FlowTrack, key: &FlowKey, ts: i64) -> Result<AnswerPair, TrackFault>
     requires room { HasFlowRoom track.old key.now }
     requires in_time { IsTime ts }
     ensures { TellsFlow track.old (record { key = key.now; step = stepped ts }) result track.new }
 {
     match track.step_flow(key, ts) {
-        Ok(()) => Ok((Answer::FlowStep, Answer::FlowStep)),
+        Ok(()) => Ok(twice!(Answer::FlowStep)),
         Err(fault) => Err(fault),
     }
 }
 
-fn end_flow(track: &mut FlowTrack, key: &FlowKey, ts: i64) -> Result<(Answer, Answer), TrackFault>
+fn end_flow(track: &mut FlowTrack, key: &FlowKey, ts: i64) -> Result<AnswerPair, TrackFault>
     requires room { HasFlowRoom track.old key.now }
     requires in_time { IsTime ts }
     ensures { TellsFlow track.old (record { key = key.now; step = finished ts }) result track.new }
 {
     match track.end_flow(key, ts) {
-        Ok(FlowClosed { points, length }) => Ok((
-            Answer::FlowEnded { points, length },
-            Answer::FlowEnded { points, length },
-        )),
+        Ok(FlowClosed { points, length }) => Ok(twice!(Answer::FlowEnded { points, length })),
         Err(fault) => Err(fault),
     }
 }

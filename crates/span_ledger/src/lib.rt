@@ -2,6 +2,7 @@
 //! A tick is a microsecond or a nanosecond, as the run counts.
 #![tactic(auto)]
 
+mod answer_pair;
 mod async_events;
 mod counter_events;
 mod entry;

@@ -6,31 +6,26 @@ ghost use Rattle.span_keyed_tracks.specs.Meta.{MetaStandsFor, HasMetaRoom};
 ghost use Rattle.span_ledger.specs.Answers.{meta_answer};
 ghost use Rattle.span_ledger.specs.Tracked.{Tells};
 
+use crate::answer_pair::{AnswerPair, twice};
 use crate::entry::Answer;
 use span_event::Event;
 use span_keyed_tracks::{MetaTrack, TrackFault};
 
-pub(crate) fn tell_meta(
-    track: &mut MetaTrack,
-    event: &Event,
-) -> Result<(Answer, Answer), TrackFault>
+pub(crate) fn tell_meta(track: &mut MetaTrack, event: &Event) -> Result<AnswerPair, TrackFault>
     requires good { IsGood event.now }
     requires phase { event.now.phase ≡ Meta }
     ensures { Tells MetaStandsFor meta_answer track.old event.now result track.new }
 {
     track.name_event(event)?;
-    Ok((Answer::Named, Answer::Named))
+    Ok(twice!(Answer::Named))
 }
 
-pub(crate) fn tell_instant(
-    track: &mut MetaTrack,
-    event: &Event,
-) -> Result<(Answer, Answer), TrackFault>
+pub(crate) fn tell_instant(track: &mut MetaTrack, event: &Event) -> Result<AnswerPair, TrackFault>
     requires good { IsGood event.now }
     requires phase { event.now.phase ≡ Instant }
     requires room { HasMetaRoom track.old }
     ensures { Tells MetaStandsFor meta_answer track.old event.now result track.new }
 {
     track.instant(event)?;
-    Ok((Answer::Marked, Answer::Marked))
+    Ok(twice!(Answer::Marked))
 }

@@ -7,7 +7,7 @@ ghost use Rattle.span_ledger.specs.Told.{is_of_span, span_step};
 ghost use Rattle.span_ledger.specs.Tracked.{TellsThread};
 
 use super::{seal, tell_step};
-use crate::entry::Answer;
+use crate::answer_pair::AnswerPair;
 use span_event::Event;
 use span_keyed_tracks::TrackFault;
 use span_track::{ThreadTrack, Wanted};
@@ -51,7 +51,7 @@ pub(crate) fn tell_kept(
     wanted: Wanted,
     at: u32,
     event: &Event,
-) -> Result<(Answer, Answer), TrackFault>
+) -> Result<AnswerPair, TrackFault>
     requires good { IsGood event.now }
     requires phase { is_of_span event.now.phase ≡ true }
     requires room { HasRoom kept.old }
@@ -61,7 +61,7 @@ pub(crate) fn tell_kept(
     tell_step(alloc, &mut kept.track, number, wanted, at, event)
 }
 
-pub(crate) fn seal_kept(kept: &mut KeptTrack, ts: i64) -> Result<(Answer, Answer), TrackFault>
+pub(crate) fn seal_kept(kept: &mut KeptTrack, ts: i64) -> Result<AnswerPair, TrackFault>
     requires { IsSealTime ts }
     ensures { TellsThread any_name kept.old (sealed ts) result kept.new }
 {

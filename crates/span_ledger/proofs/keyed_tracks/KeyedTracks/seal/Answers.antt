@@ -1,5 +1,5 @@
 use Rattle.std.proofs.Common.{◌≡◌, refl, subst, to_z, of_z, w64, to_z-of_z}
-use Rattle.span_ledger.specs.Journal.{Accepted, a_seal}
+use Rattle.span_ledger.specs.Journal.{Accepted, a_seal, accepted_at}
 use Rattle.span_track.specs.Thread.{any_name}
 use Rattle.span_ledger.specs.Told.{thread_seal}
 use Rattle.span_ledger.specs.Tracked.{KeyedKept, TellsKeyed}
@@ -9,6 +9,6 @@ use Rattle.span_ledger.proofs.keyed_tracks.KeyedTracks.seal.Goals as goal
 pub returns : goal.returns
 returns c =
     let ts : to_z w64 (of_z w64 c.args.ts) ≡ c.args.ts = to_z-of_z c.ranges.ts in
-    let a : Accepted = record { at = c.args.at; act = a_seal c.args.thread.now c.args.ts } in
-    subst (λ (kept : KeyedKept). TellsKeyed any_name a kept c.seal.result (record { spans = c.seal.new.self; asynchronous = c.self.inside.asynchronous; flows = c.self.inside.flows; counters = c.self.inside.counters; meta = c.self.inside.meta })) c.self.view_is
-    (TellsKeyed-spans any_name a (thread_seal c.args.thread.now c.args.ts) refl _ c.seal.new.self c.seal.result (rw ts at c.seal.ensures))
+    let a : Accepted = accepted_at c.args.at (a_seal c.args.thread.now c.args.ts) in
+    subst (λ (kept : KeyedKept). TellsKeyed any_name kept a c.seal.result (record { spans = c.seal.new.self; asynchronous = c.self.inside.asynchronous; flows = c.self.inside.flows; counters = c.self.inside.counters; meta = c.self.inside.meta })) c.self.view_is
+    (TellsKeyed-spans any_name a _ c.seal.result (thread_seal c.args.thread.now c.args.ts) refl c.seal.new.self (rw ts at c.seal.ensures))
