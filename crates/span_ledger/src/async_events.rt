@@ -1,9 +1,8 @@
 //! An asynchronous event, told to the track of asynchronous spans.
-ghost use Rattle.std.specs.Prelude.{◌≡◌};
+ghost use Rattle.std.specs.Prelude.{◌≡◌, IsSome};
 ghost use Rattle.span_event.specs.Event.{IsGood, IsTime};
 ghost use Rattle.span_keyed_tracks.specs.Async.{HasAsyncRoom};
-ghost use Rattle.span_keyed_tracks.specs.Matching.{opens, closes, other};
-ghost use Rattle.span_ledger.specs.Told.{async_step, async_event, IsAsync};
+ghost use Rattle.span_ledger.specs.Told.{async_step, async_event};
 ghost use Rattle.span_ledger.specs.Tracked.{TellsAsync};
 
 use crate::answer_pair::{AnswerPair, twice};
@@ -20,13 +19,14 @@ pub(crate) fn tell_async(
     event: &mut Event,
 ) -> Result<AnswerPair, TrackFault>
     requires good { IsGood event.old }
-    requires phase { IsAsync event.old.phase }
+    requires key { IsSome event.old.key }
     requires room { (key : AsyncKey) → HasAsyncRoom track.old key }
     ensures same { event.new ≡ event.old }
     ensures tells { TellsAsync track.old (async_event event.old event.old.phase) result track.new }
 {
+    let (phase, ts) = (event.phase, event.ts);
     let key = take_async_key(alloc, event);
-    let told = tell_step(track, &key, event.phase, event.ts);
+    let told = tell_step(track, &key, phase, ts);
     put_async_key(event, key);
     told
 }
@@ -40,36 +40,21 @@ fn tell_step(
 ) -> Result<AnswerPair, TrackFault>
     requires room { HasAsyncRoom track.old key.now }
     requires in_time { IsTime ts }
-    ensures { TellsAsync track.old (record { key = key.now; step = async_step phase ts }) result track.new }
+    ensures { TellsAsync track.old
+        (record { key = key.now; step = async_step phase ts }) result track.new }
 {
     match phase {
-        Phase::AsyncBegin => begin_async(track, key, ts),
-        Phase::AsyncEnd => end_async(track, key, ts),
-        _ => point(track, key),
+        Phase::AsyncBegin => {
+            track.begin_async(key, ts)?;
+            Ok(twice!(Answer::AsyncOpened))
+        }
+        Phase::AsyncEnd => {
+            let length = track.end_async(key, ts)?;
+            Ok(twice!(Answer::AsyncClosed { length }))
+        }
+        _ => {
+            track.point(key)?;
+            Ok(twice!(Answer::AsyncPoint))
+        }
     }
-}
-
-fn begin_async(track: &mut AsyncTrack, key: &AsyncKey, ts: i64) -> Result<AnswerPair, TrackFault>
-    requires room { HasAsyncRoom track.old key.now }
-    requires in_time { IsTime ts }
-    ensures { TellsAsync track.old (record { key = key.now; step = opens ts }) result track.new }
-{
-    track.begin_async(key, ts)?;
-    Ok(twice!(Answer::AsyncOpened))
-}
-
-fn end_async(track: &mut AsyncTrack, key: &AsyncKey, ts: i64) -> Result<AnswerPair, TrackFault>
-    requires in_time { IsTime ts }
-    ensures { TellsAsync track.old (record { key = key.now; step = closes ts }) result track.new }
-{
-    let length = track.end_async(key, ts)?;
-    Ok(twice!(Answer::AsyncClosed { length }))
-}
-
-fn point(track: &mut AsyncTrack, key: &AsyncKey) -> Result<AnswerPair, TrackFault>
-    requires room { HasAsyncRoom track.old key.now }
-    ensures { TellsAsync track.old (record { key = key.now; step = other tt }) result track.new }
-{
-    track.point(key)?;
-    Ok(twice!(Answer::AsyncPoint))
 }

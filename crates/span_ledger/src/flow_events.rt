@@ -1,8 +1,8 @@
 //! A flow event, told to the track of flow chains.
-ghost use Rattle.std.specs.Prelude.{◌≡◌};
+ghost use Rattle.std.specs.Prelude.{◌≡◌, IsSome};
 ghost use Rattle.span_event.specs.Event.{IsGood, IsTime};
-ghost use Rattle.span_keyed_tracks.specs.Flow.{HasFlowRoom, started, stepped, finished};
-ghost use Rattle.span_ledger.specs.Told.{flow_point, flow_event, IsFlow};
+ghost use Rattle.span_keyed_tracks.specs.Flow.{HasFlowRoom};
+ghost use Rattle.span_ledger.specs.Told.{flow_point, flow_event};
 ghost use Rattle.span_ledger.specs.Tracked.{TellsFlow};
 
 use crate::answer_pair::{AnswerPair, twice};
@@ -19,13 +19,14 @@ pub(crate) fn tell_flow(
     event: &mut Event,
 ) -> Result<AnswerPair, TrackFault>
     requires good { IsGood event.old }
-    requires phase { IsFlow event.old.phase }
+    requires key { IsSome event.old.key }
     requires room { (key : FlowKey) → HasFlowRoom track.old key }
     ensures same { event.new ≡ event.old }
     ensures tells { TellsFlow track.old (flow_event event.old event.old.phase) result track.new }
 {
+    let (phase, ts) = (event.phase, event.ts);
     let key = take_flow_key(alloc, event);
-    let told = tell_point(track, &key, event.phase, event.ts);
+    let told = tell_point(track, &key, phase, ts);
     put_flow_key(event, key);
     told
 }
@@ -39,44 +40,21 @@ fn tell_point(
 ) -> Result<AnswerPair, TrackFault>
     requires room { HasFlowRoom track.old key.now }
     requires in_time { IsTime ts }
-    ensures { TellsFlow track.old (record { key = key.now; step = flow_point phase ts }) result track.new }
+    ensures { TellsFlow track.old
+        (record { key = key.now; step = flow_point phase ts }) result track.new }
 {
     match phase {
-        Phase::FlowStart => start_flow(track, key, ts),
-        Phase::FlowEnd => end_flow(track, key, ts),
-        _ => step_flow(track, key, ts),
-    }
-}
-
-fn start_flow(track: &mut FlowTrack, key: &FlowKey, ts: i64) -> Result<AnswerPair, TrackFault>
-    requires room { HasFlowRoom track.old key.now }
-    requires in_time { IsTime ts }
-    ensures { TellsFlow track.old (record { key = key.now; step = started ts }) result track.new }
-{
-    match track.start_flow(key, ts) {
-        Ok(()) => Ok(twice!(Answer::FlowStarted)),
-        Err(fault) => Err(fault),
-    }
-}
-
-fn step_flow(track: &mut FlowTrack, key: &FlowKey, ts: i64) -> Result<AnswerPair, TrackFault>
-    requires room { HasFlowRoom track.old key.now }
-    requires in_time { IsTime ts }
-    ensures { TellsFlow track.old (record { key = key.now; step = stepped ts }) result track.new }
-{
-    match track.step_flow(key, ts) {
-        Ok(()) => Ok(twice!(Answer::FlowStep)),
-        Err(fault) => Err(fault),
-    }
-}
-
-fn end_flow(track: &mut FlowTrack, key: &FlowKey, ts: i64) -> Result<AnswerPair, TrackFault>
-    requires room { HasFlowRoom track.old key.now }
-    requires in_time { IsTime ts }
-    ensures { TellsFlow track.old (record { key = key.now; step = finished ts }) result track.new }
-{
-    match track.end_flow(key, ts) {
-        Ok(FlowClosed { points, length }) => Ok(twice!(Answer::FlowEnded { points, length })),
-        Err(fault) => Err(fault),
+        Phase::FlowStart => {
+            track.start_flow(key, ts)?;
+            Ok(twice!(Answer::FlowStarted))
+        }
+        Phase::FlowEnd => {
+            let FlowClosed { points, length } = track.end_flow(key, ts)?;
+            Ok(twice!(Answer::FlowEnded { points, length }))
+        }
+        _ => {
+            track.step_flow(key, ts)?;
+            Ok(twice!(Answer::FlowStep))
+        }
     }
 }
