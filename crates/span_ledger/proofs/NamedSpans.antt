@@ -20,9 +20,9 @@ use Rattle.span_track.specs.Nesting.{ThreadEvent, closed_spans}
 use Rattle.span_track.specs.Thread.{ThreadSpans}
 use Rattle.span_ledger.specs.declared.entry.Entry.{Entry}
 use Rattle.span_ledger.specs.Told.{thread_events}
-use Rattle.span_ledger.specs.Tracked.{FollowsJournal, IsTrackOf, SpansKept, TracksKept, number_for, track_at}
+use Rattle.span_ledger.specs.Tracked.{FollowsJournal, SpansKept, TracksKept, number_for, track_at}
 use Rattle.span_ledger.proofs.Renaming.{self_time-renamed}
-use Rattle.span_ledger.proofs.ThreadTelling.{IsTrackOf-journal}
+use Rattle.span_ledger.proofs.ThreadTelling.{IsTrackOf, IsTrackOf-journal}
 use Rattle.span_ledger.proofs.Totals.{is_numbered_span, number_for-is}
 use Rattle.span_ledger.proofs.TrackRows.{closed-is, known}
 

@@ -11,7 +11,9 @@ pub mod Parts
 pub mod Refusal
 pub mod Replies
 pub mod Rows
+pub mod Telling
 pub mod Timed
 pub mod Told
 pub mod Topics
+pub mod TrackRows
 pub mod Tracked

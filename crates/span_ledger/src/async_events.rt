@@ -3,7 +3,7 @@ ghost use Rattle.std.specs.Prelude.{◌≡◌, IsSome};
 ghost use Rattle.span_event.specs.Event.{IsGood, IsTime};
 ghost use Rattle.span_keyed_tracks.specs.Async.{HasAsyncRoom};
 ghost use Rattle.span_ledger.specs.Told.{async_step, async_event};
-ghost use Rattle.span_ledger.specs.Tracked.{TellsAsync};
+ghost use Rattle.span_ledger.specs.Telling.{TellsAsync};
 
 use crate::answer_pair::{AnswerPair, twice};
 use crate::entry::Answer;

@@ -4,7 +4,7 @@ ghost use Rattle.span_event.specs.declared.event.Phase.TheVariants.{Counter};
 ghost use Rattle.span_event.specs.Event.{IsGood};
 ghost use Rattle.span_keyed_tracks.specs.Counters.{CounterStandsFor, HasCounterRoom};
 ghost use Rattle.span_ledger.specs.Answers.{counter_answer};
-ghost use Rattle.span_ledger.specs.Tracked.{Tells};
+ghost use Rattle.span_ledger.specs.Telling.{Tells};
 
 use crate::answer_pair::{AnswerPair, twice};
 use crate::entry::Answer;

@@ -3,7 +3,7 @@ ghost use Rattle.std.specs.Prelude.{◌≡◌, IsSome};
 ghost use Rattle.span_event.specs.Event.{IsGood, IsTime};
 ghost use Rattle.span_keyed_tracks.specs.Flow.{HasFlowRoom};
 ghost use Rattle.span_ledger.specs.Told.{flow_point, flow_event};
-ghost use Rattle.span_ledger.specs.Tracked.{TellsFlow};
+ghost use Rattle.span_ledger.specs.Telling.{TellsFlow};
 
 use crate::answer_pair::{AnswerPair, twice};
 use crate::entry::Answer;

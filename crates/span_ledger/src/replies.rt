@@ -5,7 +5,8 @@ ghost use Rattle.span_keyed_tracks.specs.Meta.{MetaStandsFor, names_in};
 ghost use Rattle.span_keyed_tracks.specs.Numbering.{number_in};
 ghost use Rattle.span_ledger.specs.Replies.{reply_to, process_reply, thread_names_reply};
 ghost use Rattle.span_ledger.specs.Rows.{count_row};
-ghost use Rattle.span_ledger.specs.Tracked.{FollowsJournal, track_at, track_reply, number_reply};
+ghost use Rattle.span_ledger.specs.Tracked.{FollowsJournal, track_at};
+ghost use Rattle.span_ledger.specs.TrackRows.{track_reply, number_reply};
 
 use crate::entry::Entry;
 use crate::keyed_tracks::KeyedTracks;

@@ -5,7 +5,8 @@ ghost use Rattle.std.specs.BTreeSet.{insert_key, IsOrdered as AreOrdered};
 ghost use Rattle.span_keyed_tracks.specs.Keyed.{ascending};
 ghost use Rattle.span_self_time.specs.Spans.{names_of};
 ghost use Rattle.span_ledger.specs.Rows.{process_row, process_rows, thread_row, thread_rows, thread_span_rows};
-ghost use Rattle.span_ledger.specs.Tracked.{FollowsJournal, track_row, track_span_row, span_rows_of_track, track_span_rows, closed_names};
+ghost use Rattle.span_ledger.specs.Tracked.{FollowsJournal};
+ghost use Rattle.span_ledger.specs.TrackRows.{track_row, track_span_row, span_rows_of_track, track_span_rows, closed_names};
 
 use crate::entry::Entry;
 use crate::reply::copy_of;

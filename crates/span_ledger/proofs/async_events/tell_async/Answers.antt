@@ -2,7 +2,7 @@ use Rattle.std.proofs.Common.{◌≡◌, subst, to_z, of_z, w64, rules}
 use Rattle.span_keyed_tracks.specs.declared.keys.AsyncKey.{AsyncKey}
 use Rattle.span_keyed_tracks.specs.Async.{AsyncEvent}
 use Rattle.span_ledger.specs.Told.{async_step}
-use Rattle.span_ledger.specs.Tracked.{TellsAsync}
+use Rattle.span_ledger.specs.Telling.{TellsAsync}
 use Rattle.span_ledger.proofs.async_events.tell_async.Goals as goal
 
 pub returns-clause-tells : goal.returns-clause-tells

@@ -2,7 +2,7 @@ use Rattle.std.proofs.Common.{◌≡◌, subst, to_z, of_z, w64, rules}
 use Rattle.span_keyed_tracks.specs.declared.keys.FlowKey.{FlowKey}
 use Rattle.span_keyed_tracks.specs.Flow.{FlowEvent}
 use Rattle.span_ledger.specs.Told.{flow_point}
-use Rattle.span_ledger.specs.Tracked.{TellsFlow}
+use Rattle.span_ledger.specs.Telling.{TellsFlow}
 use Rattle.span_ledger.proofs.flow_events.tell_flow.Goals as goal
 
 pub returns-clause-tells : goal.returns-clause-tells

@@ -5,7 +5,8 @@ use Rattle.span_keyed_tracks.specs.Numbering.{number_in}
 use Rattle.span_keyed_tracks.proofs.Async.{async_spans_at-StandsFor}
 use Rattle.span_keyed_tracks.proofs.Flow.{flow_chains_at-StandsFor}
 use Rattle.span_ledger.specs.declared.reply.Reply.TheVariants.{Async, Flow, Series}
-use Rattle.span_ledger.specs.Tracked.{FollowsJournal, SpansKept, number_reply, track_at, track_reply}
+use Rattle.span_ledger.specs.Tracked.{FollowsJournal, SpansKept, track_at}
+use Rattle.span_ledger.specs.TrackRows.{number_reply, track_reply}
 use Rattle.span_ledger.proofs.ThreadTelling.{IsTrackOf-journal}
 use Rattle.span_ledger.proofs.TrackReplies.{track_reply-is, number_reply-is}
 use Rattle.span_ledger.proofs.replies.reply_to.Goals as goal

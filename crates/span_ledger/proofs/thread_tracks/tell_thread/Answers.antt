@@ -9,7 +9,7 @@ use Rattle.span_keyed_tracks.proofs.Keyed.{kept_at-found}
 use Rattle.span_track.specs.Thread.{ThreadSpans, HasRoom, IsNext, suits, thread_spans}
 use Rattle.span_ledger.specs.Answers.{thread_step_answer}
 use Rattle.span_ledger.specs.Told.{span_step}
-use Rattle.span_ledger.specs.Tracked.{TellsThreads}
+use Rattle.span_ledger.specs.Telling.{TellsThreads}
 use Rattle.span_ledger.proofs.KeyTelling.{Tells-found, Tells-first, IsToldTo-first}
 use Rattle.span_ledger.proofs.thread_tracks.tell_thread.Goals as goal
 

@@ -1,6 +1,6 @@
 use Rattle.std.proofs.Common.{◌≡◌, ◌++◌}
 use Rattle.std.specs.Prelude.{map}
-use Rattle.span_ledger.specs.Tracked.{track_span_row}
+use Rattle.span_ledger.specs.TrackRows.{track_span_row}
 use Rattle.span_ledger.proofs.track_rows.add_rows_of_track.Given as goal
 
 -- the rows of the names that were passed

@@ -3,7 +3,7 @@ use Rattle.std.proofs.Common.{◌≡◌, drop}
 use Rattle.std.specs.Prelude.{fold, filter_map, nat_eq, slice_get}
 use Rattle.std.specs.BTreeSet.{insert_key, IsOrdered}
 use Rattle.span_self_time.specs.Spans.{names_of}
-use Rattle.span_ledger.specs.Tracked.{closed_names}
+use Rattle.span_ledger.specs.TrackRows.{closed_names}
 use Rattle.span_ledger.proofs.track_rows.names_of.Given as goal
 use Rattle.span_keyed_tracks.specs.Keyed.{ascending}
 

@@ -2,7 +2,8 @@ use Rattle.std.proofs.Common.{◌≡◌, rules, sym, ap, subst, ◌∙◌, Some,
 use Rattle.span_ledger.specs.Journal.{accepted}
 use Rattle.span_ledger.specs.Rows.{names_of}
 use Rattle.span_ledger.specs.Told.{meta_events}
-use Rattle.span_ledger.specs.Tracked.{FollowsJournal, SpansKept, track_row}
+use Rattle.span_ledger.specs.Tracked.{FollowsJournal, SpansKept}
+use Rattle.span_ledger.specs.TrackRows.{track_row}
 use Rattle.span_ledger.proofs.ThreadTelling.{IsTrackOf-journal}
 use Rattle.span_ledger.proofs.TrackRows.{track_row-is}
 use Rattle.span_ledger.proofs.track_rows.thread_row.Goals as goal

@@ -1,6 +1,7 @@
 use Rattle.std.proofs.Common.{sym, ap₂, subst, ◌∙◌, ◌++◌}
 use Rattle.span_ledger.specs.Told.{thread_events}
-use Rattle.span_ledger.specs.Tracked.{FollowsJournal, track_at, track_span_rows}
+use Rattle.span_ledger.specs.Tracked.{FollowsJournal, track_at}
+use Rattle.span_ledger.specs.TrackRows.{track_span_rows}
 use Rattle.span_ledger.proofs.ThreadTelling.{IsTrackOf-journal}
 use Rattle.span_ledger.proofs.TrackRows.{span_rows_of_track-is}
 use Rattle.span_ledger.proofs.track_rows.thread_span_rows.Goals as goal
