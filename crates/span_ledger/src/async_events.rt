@@ -12,7 +12,7 @@ use span_event::{Event, Phase};
 use span_keyed_tracks::{AsyncKey, AsyncTrack, TrackFault};
 use std::alloc::Global;
 
-// An asynchronous event is told to the track. Its key has the event's own texts for so long.
+// An asynchronous event is told to the track. Its key has the event's own texts for so long: a copy of an id takes memory.
 pub(crate) fn tell_async(
     alloc: Global,
     track: &mut AsyncTrack,

@@ -12,7 +12,7 @@ use span_event::{Event, Phase};
 use span_keyed_tracks::{FlowClosed, FlowKey, FlowTrack, TrackFault};
 use std::alloc::Global;
 
-// A flow event is told to the track. Its key has the event's own texts for so long.
+// A flow event is told to the track. Its key has the event's own texts for so long, as that of an asynchronous event.
 pub(crate) fn tell_flow(
     alloc: Global,
     track: &mut FlowTrack,

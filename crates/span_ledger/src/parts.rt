@@ -222,7 +222,8 @@ fn add_threads(
     Ok(())
 }
 
-// Each row is made where it stays: there may be millions.
+// The series of all processes are kept in one map, so that one sort has those of each in order. Each row is made where it stays:
+// there may be millions.
 fn add_series(
     alloc: Global,
     groups: &mut BTreeMap<i64, Group>,

@@ -1,7 +1,6 @@
 //! The rows of processes, of threads and of their names, from the tracks.
 ghost use Rattle.span_event.specs.Text.{text_cmp};
 ghost use Rattle.std.specs.Prelude.{◌≡◌, ◌++◌, IfOk, OnOk, flat_map, nat_eq, option_copied, option_and_then, slice_get};
-ghost use Rattle.std.specs.BTreeSet.{insert_key, IsOrdered as AreOrdered};
 ghost use Rattle.span_keyed_tracks.specs.Keyed.{ascending};
 ghost use Rattle.span_self_time.specs.Spans.{names_of};
 ghost use Rattle.span_ledger.specs.Rows.{process_row, process_rows, thread_row, thread_rows, thread_span_rows};
@@ -158,8 +157,8 @@ fn add_rows_of_track(
     if rows.is_empty() {
         rows.reserve_exact(found.len())?;
     }
-    for name in &found {
-        rows.push(span_row(alloc, names, thread, track, name)?)?;
+    for name in found {
+        rows.push(span_row(names, thread, track, name))?;
     }
     Ok(())
 }
@@ -171,7 +170,8 @@ fn names_of(alloc: Global, names: &Names, track: &ThreadTrack) -> Result<BTreeSe
     let mut found = BTreeSet::new(alloc);
     for i in 0..track.name_count() {
         if let Some(name) = closed_name(names, track, i) {
-            add_name(alloc, &mut found, name)?;
+            let copy = name.try_clone(alloc)?;
+            found.insert(copy)?;
         }
     }
     Ok(found)
@@ -186,35 +186,18 @@ fn closed_name<'a>(names: &'a Names, track: &ThreadTrack, i: u32) -> Option<&'a 
     names.text_of(number)
 }
 
-// Adds a name, which is copied where it is new.
-fn add_name(alloc: Global, found: &mut BTreeSet<Text>, name: &Text) -> Result<(), AllocError>
-    requires { AreOrdered text_cmp found.old }
-    ensures added { OnOk result (found.new.keys ≡ insert_key text_cmp found.old.keys name.now) }
-    ensures ordered { AreOrdered text_cmp found.new }
+// The number of the name is looked up once more, so that sorting moves texts alone.
+fn span_row(names: &Names, thread: &Thread, track: &ThreadTrack, name: Text) -> SpanRow
+    ensures { result ≡ track_span_row names.now thread.now track.now name }
 {
-    if !found.contains(name) {
-        found.insert(name.try_clone(alloc)?)?;
-    }
-    Ok(())
-}
-
-fn span_row(
-    alloc: Global,
-    names: &Names,
-    thread: &Thread,
-    track: &ThreadTrack,
-    name: &Text,
-) -> Result<SpanRow, AllocError>
-    ensures { IfOk result (λ row. row ≡ track_span_row names.now thread.now track.now name.now) }
-{
-    let number = names.find(name).unwrap_or(0);
+    let number = names.find(&name).unwrap_or(0);
     let totals = track.total_of(number);
-    Ok(SpanRow {
+    SpanRow {
         pid: thread.pid,
         tid: thread.tid,
-        name: name.try_clone(alloc)?,
+        name,
         count: totals.count,
         total: totals.total,
         self_time: track.self_of(number),
-    })
+    }
 }

@@ -5,4 +5,4 @@ use Rattle.span_ledger.proofs.track_rows.add_rows_of_track.Given as goal
 
 -- the rows of the names that were passed
 abbrev pub invariant-loop-name : goal.invariant-loop-name
-invariant-loop-name l = l.rows.items ≡ l.initial.rows.items ++ map (track_span_row l.names l.thread l.track) (map (λ name. name.now) l.yielded)
+invariant-loop-name l = l.rows.items ≡ l.initial.rows.items ++ map (track_span_row l.names l.thread l.track) l.yielded

@@ -6,7 +6,7 @@ use Rattle.std.specs.BTreeSet.{insert_key, keys}
 use Rattle.span_self_time.specs.Spans.{names_of}
 use Rattle.std.proofs.lemmas.Option.{slice_get-get_or}
 use Rattle.span_ledger.proofs.track_rows.names_of.Goals as goal
-use Rattle.span_ledger.proofs.track_rows.names_of.Goals.{in-Some+in_ok-add_name, in_default}
+use Rattle.span_ledger.proofs.track_rows.names_of.Goals.{in-Some+in_ok-copy+in_ok-insert, in_default}
 
 fold-cons_option : {A B : Type 0} (f : B → A → B) (b : B) (o : Option A) (xs : List A) (c : B) → ((x : A) → o ≡ Some x → f b x ≡ c) → (o ≡ None → b ≡ c) → fold f b (cons_option o xs) ≡ fold f c xs
 fold-cons_option f b None xs c some none = ap (λ d. fold f d xs) (none refl)
@@ -34,19 +34,15 @@ pub loop-i-preserved : goal.loop-i-preserved
 loop-i-preserved c =
     let within : c.loop-i.i < length (names_of nat_eq c.args.track.now.closed) = omega (arith, c.loop-i-test.true, c.name_count-i-end.ensures) in
     elim c.match-closed_name.branch [
-      | in-Some+in_ok-add_name w ↦ record {
-        ordered = rw w.found-is w.add_name.ensures.ordered;
-        all = more_names c.args.names.now (names_of nat_eq c.args.track.now.closed) c.loop-i.i (Some w.in-Some.name.now) c.loop-i.found.keys c.match-closed_name.found.keys _ within w.in-Some.ensures
-            (λ (x : List ℕ) (e : Some w.in-Some.name.now ≡ Some x). let same : w.in-Some.name.now ≡ x = cc in
-            ap (insert_key text_cmp c.loop-i.found.keys) (sym same) ∙ sym w.in_ok-add_name.ensures.added ∙ ap keys (sym w.found-is))
-            (λ (e : ◌≡◌ {A = Option (List ℕ)} (Some w.in-Some.name.now) None). cc)
-            c.loop-i.invariant.all;
-      }
-      | in_default w ↦ record {
-        ordered = rw w.found-is c.loop-i.invariant.ordered;
-        all = more_names c.args.names.now (names_of nat_eq c.args.track.now.closed) c.loop-i.i None c.loop-i.found.keys c.match-closed_name.found.keys _ within w.in_default.ensures
-            (λ (x : List ℕ) (e : ◌≡◌ {A = Option (List ℕ)} None (Some x)). cc)
-            (λ (e : ◌≡◌ {A = Option (List ℕ)} None None). ap keys (sym w.found-is))
-            c.loop-i.invariant.all;
-      }
+      | in-Some+in_ok-copy+in_ok-insert w ↦
+          more_names c.args.names.now (names_of nat_eq c.args.track.now.closed) c.loop-i.i (Some w.in-Some.name.now) c.loop-i.found.keys c.match-closed_name.found.keys _ within w.in-Some.ensures
+          (λ (x : List ℕ) (e : Some w.in-Some.name.now ≡ Some x). let same : w.in-Some.name.now ≡ x = cc in
+          ap (insert_key text_cmp c.loop-i.found.keys) (sym same ∙ sym w.in_ok-copy.ensures) ∙ sym w.in_ok-insert.ensures.keys ∙ ap keys (sym w.found-is))
+          (λ (e : ◌≡◌ {A = Option (List ℕ)} (Some w.in-Some.name.now) None). cc)
+          c.loop-i.invariant
+      | in_default w ↦
+          more_names c.args.names.now (names_of nat_eq c.args.track.now.closed) c.loop-i.i None c.loop-i.found.keys c.match-closed_name.found.keys _ within w.in_default.ensures
+          (λ (x : List ℕ) (e : ◌≡◌ {A = Option (List ℕ)} None (Some x)). cc)
+          (λ (e : ◌≡◌ {A = Option (List ℕ)} None None). ap keys (sym w.found-is))
+          c.loop-i.invariant
     ]

@@ -1,7 +1,7 @@
 use Rattle.span_event.specs.Text.{text_cmp}
 use Rattle.std.proofs.Common.{◌≡◌, drop}
 use Rattle.std.specs.Prelude.{fold, filter_map, nat_eq, slice_get}
-use Rattle.std.specs.BTreeSet.{insert_key, IsOrdered}
+use Rattle.std.specs.BTreeSet.{insert_key}
 use Rattle.span_self_time.specs.Spans.{names_of}
 use Rattle.span_ledger.specs.TrackRows.{closed_names}
 use Rattle.span_ledger.proofs.track_rows.names_of.Given as goal
@@ -9,7 +9,4 @@ use Rattle.span_keyed_tracks.specs.Keyed.{ascending}
 
 -- the names so far, with those that are left, are all names
 abbrev pub invariant-loop-i : goal.invariant-loop-i
-invariant-loop-i l = record {
-  ordered : IsOrdered text_cmp l.found;
-  all : fold (insert_key text_cmp) l.found.keys (filter_map (slice_get l.names) (drop l.i (names_of nat_eq l.track.closed))) ≡ ascending text_cmp (closed_names l.names l.track);
-}
+invariant-loop-i l = fold (insert_key text_cmp) l.found.keys (filter_map (slice_get l.names) (drop l.i (names_of nat_eq l.track.closed))) ≡ ascending text_cmp (closed_names l.names l.track)
