@@ -82,7 +82,8 @@ pub(crate) fn closed_spans<'a>(
     thread: &Thread,
 ) -> Result<Vec<NamedSpan<'a>>, AllocError>
     requires { FollowsJournal journal.now tracks.now }
-    ensures spans { IfOk result (λ spans. spans.items ≡ closed_spans (thread_events thread.now journal.now)) }
+    ensures spans { IfOk result (λ spans. spans.items
+        ≡ closed_spans (thread_events thread.now journal.now)) }
     ensures are { IfOk result (λ spans. AreThreadSpans spans.items) }
 {
     let spans = tracks.keyed.spans();

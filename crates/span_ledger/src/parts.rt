@@ -35,7 +35,8 @@ impl Model for ThreadPart {
 
     ghost Value = { ThreadRows };
 
-    ghost view = { λ p. record { row = p.row; spans = p.spans.items; instants = p.instants.items } };
+    ghost view = { λ p.
+        record { row = p.row; spans = p.spans.items; instants = p.instants.items } };
 }
 
 /// A process with what it has.
@@ -53,7 +54,8 @@ impl Model for ProcessPart {
 
     ghost Value = { ProcessRows };
 
-    ghost view = { λ p. record { row = p.row; threads = p.threads.items; series = p.series.items } };
+    ghost view = { λ p.
+        record { row = p.row; threads = p.threads.items; series = p.series.items } };
 }
 
 // What is listed under one process.
@@ -241,7 +243,8 @@ fn add_series(
 
 // A thread of a process that isn't there is left out.
 fn add_thread(groups: &mut BTreeMap<i64, Group>, thread: Thread) -> Result<(), AllocError>
-    ensures { OnOk result (GroupsGrow thread.pid (with_thread thread) groups.old.entries groups.new.entries) }
+    ensures { OnOk result
+        (GroupsGrow thread.pid (with_thread thread) groups.old.entries groups.new.entries) }
 {
     match groups.get_mut(&thread.pid) {
         Some(group) => group.add_thread(thread),
@@ -251,7 +254,8 @@ fn add_thread(groups: &mut BTreeMap<i64, Group>, thread: Thread) -> Result<(), A
 
 // So is a series.
 fn add_row(groups: &mut BTreeMap<i64, Group>, row: SeriesRow) -> Result<(), AllocError>
-    ensures { OnOk result (GroupsGrow row.key.pid (with_series row) groups.old.entries groups.new.entries) }
+    ensures { OnOk result
+        (GroupsGrow row.key.pid (with_series row) groups.old.entries groups.new.entries) }
 {
     match groups.get_mut(&row.key.pid) {
         Some(group) => group.add_series(row),

@@ -92,7 +92,8 @@ fn thread_reply(spans: &ThreadTracks, thread: &Thread) -> Reply
 
 // A name without a number is that of no span.
 fn name_reply(spans: &ThreadTracks, thread: &Thread, name: &Text) -> Reply
-    ensures { result ≡ number_reply (track_at spans.now.threads thread.now) (number_in spans.now.names name.now) }
+    ensures { result ≡ number_reply
+        (track_at spans.now.threads thread.now) (number_in spans.now.names name.now) }
 {
     let Some(number) = spans.names.find(name) else {
         return Reply::Name {
@@ -117,8 +118,8 @@ fn name_reply(spans: &ThreadTracks, thread: &Thread, name: &Text) -> Reply
 }
 
 fn process_names(alloc: Global, tracks: &KeyedTracks, pid: i64) -> Result<Reply, AllocError>
-    ensures { IfOk result
-        (λ reply. Gives MetaStandsFor tracks.now.meta (λ es. process_reply (names_in es (pid, None))) reply) }
+    ensures { IfOk result (λ reply. Gives MetaStandsFor tracks.now.meta
+        (λ es. process_reply (names_in es (pid, None))) reply) }
 {
     let names = tracks.process_names(pid);
     let name = copy_of(alloc, names.name)?;
@@ -136,8 +137,8 @@ fn thread_names(
     pid: i64,
     tid: i64,
 ) -> Result<Reply, AllocError>
-    ensures { IfOk result
-        (λ reply. Gives MetaStandsFor tracks.now.meta (λ es. thread_names_reply (names_in es (pid, Some tid))) reply) }
+    ensures { IfOk result (λ reply. Gives MetaStandsFor tracks.now.meta
+        (λ es. thread_names_reply (names_in es (pid, Some tid))) reply) }
 {
     let names = tracks.thread_names(pid, tid);
     let name = copy_of(alloc, names.name)?;

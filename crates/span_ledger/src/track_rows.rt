@@ -91,7 +91,13 @@ fn named_row(spans: &ThreadTracks, thread: &Thread, name: Option<Text>) -> Threa
 }
 
 fn row_of(thread: &Thread, name: Option<Text>, unclosed: u32, busy: u64) -> ThreadRow
-    ensures { result ≡ record { pid = thread.now.pid; tid = thread.now.tid; name = name; unclosed = unclosed; busy = busy } }
+    ensures { result ≡ record {
+      pid = thread.now.pid;
+      tid = thread.now.tid;
+      name = name;
+      unclosed = unclosed;
+      busy = busy;
+    } }
 {
     ThreadRow {
         pid: thread.pid,
@@ -135,7 +141,8 @@ fn add_span_rows(
     thread: &Thread,
     rows: &mut Vec<SpanRow>,
 ) -> Result<(), AllocError>
-    ensures { OnOk result (rows.new.items ≡ rows.old.items ++ track_span_rows spans.now thread.now) }
+    ensures { OnOk result (rows.new.items
+        ≡ rows.old.items ++ track_span_rows spans.now thread.now) }
 {
     match spans.threads.get(thread) {
         Some(track) => add_rows_of_track(alloc, &spans.names, thread, track.as_track(), rows),
@@ -165,7 +172,8 @@ fn add_rows_of_track(
 
 // The names of the closed spans, each once, in byte order.
 fn names_of(alloc: Global, names: &Names, track: &ThreadTrack) -> Result<BTreeSet<Text>, AllocError>
-    ensures { IfOk result (λ found. found.keys ≡ ascending text_cmp (closed_names names.now track.now)) }
+    ensures { IfOk result (λ found. found.keys
+        ≡ ascending text_cmp (closed_names names.now track.now)) }
 {
     let mut found = BTreeSet::new(alloc);
     for i in 0..track.name_count() {
