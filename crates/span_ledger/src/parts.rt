@@ -180,7 +180,7 @@ fn thread_part(
 {
     let row = thread_row(alloc, journal, tracks, thread)?;
     let spans = thread_span_rows(alloc, journal, tracks, thread)?;
-    let instants = tracks.keyed.instant_rows_of(alloc, *thread)?;
+    let instants = tracks.keyed.meta.instant_rows_of(alloc, *thread)?;
     Ok(ThreadPart {
         row,
         spans,
@@ -195,7 +195,7 @@ fn grouped(alloc: Global, tracks: &Tracks) -> Result<BTreeMap<i64, Group>, Alloc
 {
     let mut groups = empty_groups(alloc, &tracks.listed)?;
     add_threads(&mut groups, tracks.listed.ordered_threads(alloc)?)?;
-    add_series(alloc, &mut groups, tracks.keyed.sorted_series(alloc)?)?;
+    add_series(alloc, &mut groups, tracks.keyed.counters.sorted(alloc)?)?;
     Ok(groups)
 }
 

@@ -9,13 +9,13 @@ ghost use Rattle.span_ledger.specs.Tracked.{FollowsJournal, track_at};
 ghost use Rattle.span_ledger.specs.TrackRows.{track_reply, number_reply};
 
 use crate::entry::Entry;
-use crate::keyed_tracks::KeyedTracks;
 use crate::query::Query;
 use crate::reply::{BoxedReply, Reply, copy_of};
 use crate::rows::CountRow;
 use crate::thread_tracks::ThreadTracks;
 use crate::tracks::Tracks;
 use span_event::{Text, Thread};
+use span_keyed_tracks::MetaTrack;
 use std::alloc::{AllocError, Global};
 
 // The reply to a query that comes after the entries of `journal`.
@@ -47,28 +47,28 @@ fn reply_to(
 {
     match query {
         Query::Thread { pid, tid } => Ok(thread_reply(
-            tracks.keyed.spans(),
+            &tracks.keyed.spans,
             &Thread {
                 pid: *pid,
                 tid: *tid,
             },
         )),
         Query::Name { pid, tid, name } => Ok(name_reply(
-            tracks.keyed.spans(),
+            &tracks.keyed.spans,
             &Thread {
                 pid: *pid,
                 tid: *tid,
             },
             name,
         )),
-        Query::AsyncOf(key) => Ok(Reply::Async(tracks.keyed.async_of(key))),
-        Query::FlowOf(key) => Ok(Reply::Flow(tracks.keyed.flow_of(key))),
-        Query::Series(key) => Ok(Reply::Series(tracks.keyed.series_of(key))),
-        Query::NamesOf { pid, tid: None } => process_names(alloc, &tracks.keyed, *pid),
+        Query::AsyncOf(key) => Ok(Reply::Async(tracks.keyed.asynchronous.of(key))),
+        Query::FlowOf(key) => Ok(Reply::Flow(tracks.keyed.flows.of(key))),
+        Query::Series(key) => Ok(Reply::Series(tracks.keyed.counters.of(key))),
+        Query::NamesOf { pid, tid: None } => process_names(alloc, &tracks.keyed.meta, *pid),
         Query::NamesOf {
             pid,
             tid: Some(tid),
-        } => thread_names(alloc, &tracks.keyed, *pid, *tid),
+        } => thread_names(alloc, &tracks.keyed.meta, *pid, *tid),
         Query::Counts => Ok(Reply::Counts(counts)),
     }
 }
@@ -117,11 +117,11 @@ fn name_reply(spans: &ThreadTracks, thread: &Thread, name: &Text) -> Reply
     }
 }
 
-fn process_names(alloc: Global, tracks: &KeyedTracks, pid: i64) -> Result<Reply, AllocError>
-    ensures { IfOk result (λ reply. Gives MetaStandsFor tracks.now.meta
+fn process_names(alloc: Global, track: &MetaTrack, pid: i64) -> Result<Reply, AllocError>
+    ensures { IfOk result (λ reply. Gives MetaStandsFor track.now
         (λ es. process_reply (names_in es (pid, None))) reply) }
 {
-    let names = tracks.process_names(pid);
+    let names = track.process_of(pid);
     let name = copy_of(alloc, names.name)?;
     let labels = copy_of(alloc, names.labels)?;
     Ok(Reply::Names {
@@ -131,16 +131,11 @@ fn process_names(alloc: Global, tracks: &KeyedTracks, pid: i64) -> Result<Reply,
     })
 }
 
-fn thread_names(
-    alloc: Global,
-    tracks: &KeyedTracks,
-    pid: i64,
-    tid: i64,
-) -> Result<Reply, AllocError>
-    ensures { IfOk result (λ reply. Gives MetaStandsFor tracks.now.meta
+fn thread_names(alloc: Global, track: &MetaTrack, pid: i64, tid: i64) -> Result<Reply, AllocError>
+    ensures { IfOk result (λ reply. Gives MetaStandsFor track.now
         (λ es. thread_names_reply (names_in es (pid, Some tid))) reply) }
 {
-    let names = tracks.thread_names(pid, tid);
+    let names = track.thread_of(pid, tid);
     let name = copy_of(alloc, names.name)?;
     Ok(Reply::Names {
         name,

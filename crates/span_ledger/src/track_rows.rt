@@ -43,7 +43,7 @@ pub(crate) fn process_row(
     requires { FollowsJournal journal.now tracks.now }
     ensures { IfOk result (λ row. row ≡ process_row journal.now pid) }
 {
-    let name = copy_of(alloc, tracks.keyed.process_names(pid).name)?;
+    let name = copy_of(alloc, tracks.keyed.meta.process_of(pid).name)?;
     Ok(ProcessRow { pid, name })
 }
 
@@ -72,9 +72,9 @@ pub(crate) fn thread_row(
     requires { FollowsJournal journal.now tracks.now }
     ensures { IfOk result (λ row. row ≡ thread_row journal.now thread.now) }
 {
-    let names = tracks.keyed.thread_names(thread.pid, thread.tid);
+    let names = tracks.keyed.meta.thread_of(thread.pid, thread.tid);
     let name = copy_of(alloc, names.name)?;
-    Ok(named_row(tracks.keyed.spans(), thread, name))
+    Ok(named_row(&tracks.keyed.spans, thread, name))
 }
 
 // The row of a thread that has this name.
@@ -114,7 +114,7 @@ pub(crate) fn span_rows(alloc: Global, tracks: &Tracks) -> Result<Vec<SpanRow>, 
 {
     let mut rows = Vec::new(alloc);
     for thread in &tracks.listed.ordered_threads(alloc)? {
-        add_span_rows(alloc, tracks.keyed.spans(), thread, &mut rows)?;
+        add_span_rows(alloc, &tracks.keyed.spans, thread, &mut rows)?;
     }
     Ok(rows)
 }
@@ -130,7 +130,7 @@ pub(crate) fn thread_span_rows(
     ensures { IfOk result (λ rows. rows.items ≡ thread_span_rows journal.now thread.now) }
 {
     let mut rows = Vec::new(alloc);
-    add_span_rows(alloc, tracks.keyed.spans(), thread, &mut rows)?;
+    add_span_rows(alloc, &tracks.keyed.spans, thread, &mut rows)?;
     Ok(rows)
 }
 

@@ -1,4 +1,4 @@
-use Rattle.std.proofs.Common.{◌≡◌, ℕ, [], sym, ap, subst, ◌∙◌}
+use Rattle.std.proofs.Common.{rules, ◌≡◌, ℕ, [], sym, ap, subst, ◌∙◌}
 use Rattle.std.specs.Prelude.{Option, unwrap_or}
 use Rattle.span_event.specs.Orders.{thread_cmp}
 use Rattle.span_keyed_tracks.proofs.Keyed.{kept_at-found}
@@ -6,7 +6,7 @@ use Rattle.span_keyed_tracks.proofs.Results.{if_ok-map}
 use Rattle.span_track.specs.Thread.{ThreadSpans, thread_spans}
 use Rattle.span_ledger.specs.Named.{AreThreadSpans}
 use Rattle.span_ledger.specs.Told.{thread_events}
-use Rattle.span_ledger.specs.Tracked.{SpansKept, TracksKept}
+use Rattle.span_ledger.specs.Tracked.{SpansKept}
 use Rattle.span_ledger.proofs.NamedSpans.{AreThreadSpans-track, IsTrackOf-kept, named_spans-track}
 use Rattle.span_ledger.proofs.named_spans.closed_spans.Goals as goal
 
@@ -15,7 +15,7 @@ returns-in-Some-clause-spans c =
     let thread = c.args.thread.now in
     let track = c.as_track.result.now in
     let kept : SpansKept = record { names = c.spans.inside.names; threads = c.spans.inside.threads.entries } in
-    let same : kept ≡ c.args.tracks.now.keyed.spans = c.spans.view_is ∙ c.spans-spans.ensures ∙ ap (λ (t : TracksKept). t.keyed.spans) c.tracks.view_is in
+    let same : kept ≡ c.args.tracks.now.keyed.spans = search rules in
     let found = kept_at-found thread_cmp (thread_spans []) kept.threads thread c.in-Some.track.now (sym c.in-Some.ensures.value) ∙ sym c.as_track.ensures in
     let is = IsTrackOf-kept c.args.journal.now c.args.tracks.now c.requires kept same thread track found in
     if_ok-map c.named_spans.result _ _ (λ spans are. are ∙ named_spans-track kept.names (thread_events thread c.args.journal.now) track is) c.named_spans.ensures.spans
@@ -26,7 +26,7 @@ returns-in-Some-clause-are c =
     let track = c.as_track.result.now in
     let events = thread_events thread c.args.journal.now in
     let kept : SpansKept = record { names = c.spans.inside.names; threads = c.spans.inside.threads.entries } in
-    let same : kept ≡ c.args.tracks.now.keyed.spans = c.spans.view_is ∙ c.spans-spans.ensures ∙ ap (λ (t : TracksKept). t.keyed.spans) c.tracks.view_is in
+    let same : kept ≡ c.args.tracks.now.keyed.spans = search rules in
     let found = kept_at-found thread_cmp (thread_spans []) kept.threads thread c.in-Some.track.now (sym c.in-Some.ensures.value) ∙ sym c.as_track.ensures in
     let is = IsTrackOf-kept c.args.journal.now c.args.tracks.now c.requires kept same thread track found in
     let closed = AreThreadSpans-track kept.names events track is c.named_spans.ensures.closed in
@@ -36,7 +36,7 @@ pub returns-in-None-clause-spans : goal.returns-in-None-clause-spans
 returns-in-None-clause-spans c =
     let thread = c.args.thread.now in
     let kept : SpansKept = record { names = c.spans.inside.names; threads = c.spans.inside.threads.entries } in
-    let same : kept ≡ c.args.tracks.now.keyed.spans = c.spans.view_is ∙ c.spans-spans.ensures ∙ ap (λ (t : TracksKept). t.keyed.spans) c.tracks.view_is in
+    let same : kept ≡ c.args.tracks.now.keyed.spans = search rules in
     let none = ap (λ (o : Option (ThreadSpans ℕ)). unwrap_or o (thread_spans [])) (sym c.in-None.ensures.value) in
     let is = IsTrackOf-kept c.args.journal.now c.args.tracks.now c.requires kept same thread (thread_spans []) none in
     c.new.ensures.items ∙ named_spans-track kept.names (thread_events thread c.args.journal.now) (thread_spans []) is

@@ -1,9 +1,8 @@
-use Rattle.std.proofs.Common.{◌≡◌, List, [], ◌∷◌, ◌++◌, map, Bor, sym, ap, ap₂, ◌∙◌, append_assoc, append-nil}
+use Rattle.std.proofs.Common.{rules, ◌≡◌, List, [], ◌∷◌, ◌++◌, map, Bor, sym, ap, ◌∙◌, append_assoc, append-nil}
 use Rattle.std.proofs.lemmas.List.{map_push}
 use Rattle.std.specs.Prelude.{flat_map}
 use Rattle.span_event.specs.declared.thread.Thread.{Thread}
 use Rattle.span_ledger.specs.declared.rows.SpanRow.{SpanRow}
-use Rattle.span_ledger.specs.Tracked.{TracksKept}
 use Rattle.span_ledger.specs.TrackRows.{track_span_rows}
 use Rattle.span_ledger.proofs.track_rows.span_rows.Goals as goal
 
@@ -19,5 +18,5 @@ pub loop-thread-preserved : goal.loop-thread-preserved
 loop-thread-preserved c =
     let kept = c.args.tracks.now.keyed.spans in
     let rows = track_span_rows kept in
-    let same : c.spans.result.now ≡ kept = c.spans.ensures ∙ ap (λ (t : TracksKept). t.keyed.spans) c.tracks.view_is in
-    c.in_ok-add_span_rows.ensures ∙ ap₂ (λ xs k. xs ++ track_span_rows k c.in-Some.thread.now) c.loop-thread.invariant same ∙ sym (flat_map-passed rows c.loop-thread.yielded c.in-Some.thread)
+    let added : c.add_span_rows.new.rows.items ≡ c.loop-thread.rows.items ++ track_span_rows kept c.in-Some.thread.now = search rules in
+    added ∙ ap (λ xs. xs ++ track_span_rows kept c.in-Some.thread.now) c.loop-thread.invariant ∙ sym (flat_map-passed rows c.loop-thread.yielded c.in-Some.thread)

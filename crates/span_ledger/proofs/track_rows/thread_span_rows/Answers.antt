@@ -1,6 +1,6 @@
-use Rattle.std.proofs.Common.{sym, ap₂, subst, ◌∙◌, ◌++◌}
+use Rattle.std.proofs.Common.{rules, ◌≡◌, ◌∙◌}
 use Rattle.span_ledger.specs.Told.{thread_events}
-use Rattle.span_ledger.specs.Tracked.{FollowsJournal, track_at}
+use Rattle.span_ledger.specs.Tracked.{track_at}
 use Rattle.span_ledger.specs.TrackRows.{track_span_rows}
 use Rattle.span_ledger.proofs.ThreadTelling.{IsTrackOf-journal}
 use Rattle.span_ledger.proofs.TrackRows.{span_rows_of_track-is}
@@ -10,8 +10,6 @@ pub returns : goal.returns
 returns c =
     let journal = c.args.journal.now in
     let thread = c.args.thread.now in
-    let ready = subst (FollowsJournal journal) (sym c.tracks.view_is) c.requires in
-    let spans = c.tracks.inside.keyed.spans in
-    c.in_ok-add_span_rows.ensures
-    ∙ ap₂ (λ rows kept. rows ++ track_span_rows kept thread) c.new-rows.ensures.items c.spans.ensures
-    ∙ span_rows_of_track-is spans.names thread (thread_events thread journal) (track_at spans.threads thread) (IsTrackOf-journal journal _ ready thread)
+    let spans = c.args.tracks.now.keyed.spans in
+    let added : c.add_span_rows.new.rows.items ≡ track_span_rows spans thread = search rules in
+    added ∙ span_rows_of_track-is spans.names thread (thread_events thread journal) (track_at spans.threads thread) (IsTrackOf-journal journal _ c.requires thread)
