@@ -137,7 +137,8 @@ fn place_of(pairs: &[Pair], name: &Text) -> Result<usize, usize>
         → insert_entry text_cmp pairs.now name.now value ≡ set pairs.now place (name.now, value)) }
     ensures among { IfErr result (λ place. place ≤ length pairs.now) }
     ensures free { IfErr result (λ place. (value : ArgValue)
-        → insert_entry text_cmp pairs.now name.now value ≡ insert pairs.now place (name.now, value)) }
+        → insert_entry text_cmp pairs.now name.now value
+        ≡ insert pairs.now place (name.now, value)) }
 {
     let mut place = 0;
     let mut rest = pairs;

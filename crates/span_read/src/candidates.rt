@@ -19,7 +19,8 @@ const MAX_DEPTH: usize = 127;
 
 /// What the first candidate that reads is. None is a copy.
 pub(crate) fn read_first(alloc: Global, unit: Unit, text: &str) -> Result<Items, ReadError>
-    ensures { result ≢ Err Memory → result ≡ doc_of_document unit (first_read (candidates text.now)) }
+    ensures { result ≢ Err Memory
+        → result ≡ doc_of_document unit (first_read (candidates text.now)) }
 {
     match read_closed(alloc, unit, text) {
         Err(ReadError::NotJson) if opens_array(text) => read_unfinished(alloc, unit, text),
@@ -28,8 +29,8 @@ pub(crate) fn read_first(alloc: Global, unit: Unit, text: &str) -> Result<Items,
 }
 
 fn read_unfinished(alloc: Global, unit: Unit, text: &str) -> Result<Items, ReadError>
-    ensures { result ≢ Err Memory
-        → result ≡ doc_of_document unit (first_read (cut_text text.now ∷ (cut_text text.now ++ 93 ∷ []) ∷ [])) }
+    ensures { result ≢ Err Memory → result ≡ doc_of_document unit
+        (first_read (cut_text text.now ∷ (cut_text text.now ++ 93 ∷ []) ∷ [])) }
 {
     let cut = cut_text(text);
     match read_closed(alloc, unit, cut) {

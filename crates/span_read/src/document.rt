@@ -35,7 +35,8 @@ pub(crate) fn read_all(
 ) -> Result<Found, Stop>
     ensures found { IfOk result (λ found.
         found ≡ doc_of_document unit (data_of_all depth (ended bracket tokens.old.reader))) }
-    ensures refused { IsNotJson result → data_of_all depth (ended bracket tokens.old.reader) ≡ None }
+    ensures refused { IsNotJson result
+        → data_of_all depth (ended bracket tokens.old.reader) ≡ None }
 {
     if bracket {
         read_unclosed(tokens, unit, depth)
@@ -46,7 +47,8 @@ pub(crate) fn read_all(
 
 /// The document that all the tokens are.
 fn read_whole(tokens: &mut Tokens<'_>, unit: Unit, depth: usize) -> Result<Found, Stop>
-    ensures found { IfOk result (λ found. found ≡ doc_of_document unit (data_of_all depth tokens.old.reader)) }
+    ensures found { IfOk result (λ found.
+        found ≡ doc_of_document unit (data_of_all depth tokens.old.reader)) }
     ensures refused { IsNotJson result → data_of_all depth tokens.old.reader ≡ None }
 {
     let found = read_document(tokens, unit, depth)?;
@@ -58,7 +60,8 @@ fn read_whole(tokens: &mut Tokens<'_>, unit: Unit, depth: usize) -> Result<Found
 
 /// The array that all the tokens are but for its closing bracket.
 fn read_unclosed(tokens: &mut Tokens<'_>, unit: Unit, depth: usize) -> Result<Found, Stop>
-    ensures found { IfOk result (λ found. found ≡ doc_of_document unit (data_of_all depth (with_bracket tokens.old.reader))) }
+    ensures found { IfOk result (λ found.
+        found ≡ doc_of_document unit (data_of_all depth (with_bracket tokens.old.reader))) }
     ensures refused { IsNotJson result → data_of_all depth (with_bracket tokens.old.reader) ≡ None }
 {
     let token = tokens.reader.next().ok_or(Invalid)?;
@@ -88,7 +91,8 @@ fn read_document(tokens: &mut Tokens<'_>, unit: Unit, depth: usize) -> Result<Fo
 fn read_object(tokens: &mut Tokens<'_>, unit: Unit, depth: usize) -> Result<Found, Stop>
     ensures found { IfOk result (λ found. TakesObject depth tokens.old.reader tokens.new.reader
         (λ ms. found ≡ doc_of_elements unit (elements_of (object ms)))) }
-    ensures refused { IsNotJson result → data_at depth (spec.begin_object ∷ tokens.old.reader) ≡ None }
+    ensures refused { IsNotJson result
+        → data_at depth (spec.begin_object ∷ tokens.old.reader) ≡ None }
 {
     if depth == 0 {
         return Err(Stop::NotJson);
@@ -123,7 +127,8 @@ fn read_trace_events(tokens: &mut Tokens<'_>, unit: Unit, depth: usize) -> Resul
 fn read_elements(tokens: &mut Tokens<'_>, unit: Unit, depth: usize) -> Result<Found, Stop>
     ensures found { IfOk result (λ found. TakesArray depth tokens.old.reader tokens.new.reader
         (λ ds. found ≡ doc_of_elements unit (Some ds))) }
-    ensures refused { IsNotJson result → data_at depth (spec.begin_array ∷ tokens.old.reader) ≡ None }
+    ensures refused { IsNotJson result
+        → data_at depth (spec.begin_array ∷ tokens.old.reader) ≡ None }
 {
     match collect_elements(tokens, unit, depth)? {
         (found, End::Bracket) => Ok(found),
@@ -139,10 +144,10 @@ enum End {
 
 /// The rest of an array whose bracket was taken. Past the limit no item is kept, but the text is read on, since it may be no JSON.
 fn collect_elements(tokens: &mut Tokens<'_>, unit: Unit, depth: usize) -> Result<(Found, End), Stop>
-    ensures found { IfOk result (λ end. TakesElements end.1 depth tokens.old.reader tokens.new.reader
-        (λ ds. end.0 ≡ doc_of_elements unit (Some ds))) }
-    ensures refused { IsNotJson result
-        → (bracket : Bool) → data_at depth (spec.begin_array ∷ ended bracket tokens.old.reader) ≡ None }
+    ensures found { IfOk result (λ end. TakesElements end.1 depth tokens.old.reader
+        tokens.new.reader (λ ds. end.0 ≡ doc_of_elements unit (Some ds))) }
+    ensures refused { IsNotJson result → (bracket : Bool)
+        → data_at depth (spec.begin_array ∷ ended bracket tokens.old.reader) ≡ None }
 {
     if depth == 0 {
         return Err(Stop::NotJson);
@@ -185,9 +190,10 @@ fn read_item(
     depth: usize,
     fields: &mut Fields,
 ) -> Result<Item, Stop>
-    ensures item { IfOk result (λ item. TakesValue depth (token_of token.entry ∷ tokens.old.reader) tokens.new.reader
-        (λ d. item_of_data unit d ≡ item)) }
-    ensures refused { IsNotJson result → data_at depth (token_of token.entry ∷ tokens.old.reader) ≡ None }
+    ensures item { IfOk result (λ item. TakesValue depth (token_of token.entry ∷ tokens.old.reader)
+        tokens.new.reader (λ d. item_of_data unit d ≡ item)) }
+    ensures refused { IsNotJson result
+        → data_at depth (token_of token.entry ∷ tokens.old.reader) ≡ None }
 {
     match head_of(token)? {
         Head::Object => {

@@ -16,7 +16,8 @@ const MOST_BYTES: usize = 67_108_864;
 /// The items of a trace file in whole microseconds: `read_items_in` with `Unit::Microseconds`.
 pub fn read_items(alloc: Global, bytes: &[u8]) -> Result<Items, ReadError>
     ensures items { IfOk result (λ items. doc Microseconds bytes.now ≡ Ok items) }
-    ensures refused { IfErr result (λ error. error ≢ Memory → doc Microseconds bytes.now ≡ Err error) }
+    ensures refused { IfErr result (λ error. error ≢ Memory
+        → doc Microseconds bytes.now ≡ Err error) }
     ensures good { IfOk result (All IsGoodItem) }
     ensures too_large { (result ≡ Err TooLarge) ↔ (most_bytes < length bytes.now) }
 {

@@ -20,8 +20,10 @@ pub(crate) fn take_key(
     id: &Option<FieldValue>,
     id2: &Option<FieldValue>,
 ) -> Result<Option<BoxedId>, Refusal>
-    ensures key { IfOk result (λ key. key ≡ (if reads_id phase then key_of pid id.now id2.now else None)) }
-    ensures right { IfOk result (λ key. where_read (reads_id phase) (id_fault id.now id2.now) ≡ None) }
+    ensures key { IfOk result (λ key.
+        key ≡ (if reads_id phase then key_of pid id.now id2.now else None)) }
+    ensures right { IfOk result
+        (λ key. where_read (reads_id phase) (id_fault id.now id2.now) ≡ None) }
     ensures refused { IfErr result
         (IsForFault (where_read (reads_id phase) (id_fault id.now id2.now))) }
 {

@@ -16,7 +16,8 @@ use std::alloc::Global;
 
 pub(crate) fn take_time(unit: Unit, phase: Phase, ts: &Option<FieldValue>) -> Result<i64, ItemFault>
     ensures fault { result_err result ≡ where_read (reads_time phase) (time_fault unit ts.now) }
-    ensures value { IfOk result (λ taken. taken ≡ (if reads_time phase then time_or_zero unit ts.now else pos 0)) }
+    ensures value { IfOk result (λ taken.
+        taken ≡ (if reads_time phase then time_or_zero unit ts.now else pos 0)) }
 {
     if phase == Phase::Meta {
         return Ok(0);
@@ -32,8 +33,10 @@ pub(crate) fn take_duration(
     phase: Phase,
     dur: &Option<FieldValue>,
 ) -> Result<u64, ItemFault>
-    ensures fault { result_err result ≡ where_read (reads_duration phase) (duration_fault unit dur.now) }
-    ensures value { IfOk result (λ taken. taken ≡ (if reads_duration phase then duration_or_zero unit dur.now else 0)) }
+    ensures fault { result_err result
+        ≡ where_read (reads_duration phase) (duration_fault unit dur.now) }
+    ensures value { IfOk result (λ taken.
+        taken ≡ (if reads_duration phase then duration_or_zero unit dur.now else 0)) }
 {
     if phase != Phase::Complete {
         return Ok(0);
@@ -77,7 +80,8 @@ pub(crate) fn take_scope(
     scope: Option<FieldValue>,
 ) -> Result<Text, ItemFault>
     ensures fault { result_err result ≡ where_read (reads_scope phase) (text_fault Scope scope) }
-    ensures value { IfOk result (λ taken. taken ≡ (if reads_scope phase then text_or_empty scope else [])) }
+    ensures value { IfOk result (λ taken.
+        taken ≡ (if reads_scope phase then text_or_empty scope else [])) }
 {
     if reads_scope(phase) {
         take_text(alloc, Field::Scope, scope)
@@ -88,8 +92,10 @@ pub(crate) fn take_scope(
 
 /// An instant without `s` reaches its thread.
 pub(crate) fn take_reach(phase: Phase, s: Option<FieldValue>) -> Result<Option<Reach>, ItemFault>
-    ensures fault { result_err result ≡ where_read (reads_reach phase) (unless (is_some (reach_of s)) BadReach) }
-    ensures value { IfOk result (λ taken. taken ≡ (if reads_reach phase then reach_of s else None)) }
+    ensures fault { result_err result
+        ≡ where_read (reads_reach phase) (unless (is_some (reach_of s)) BadReach) }
+    ensures value { IfOk result (λ taken.
+        taken ≡ (if reads_reach phase then reach_of s else None)) }
 {
     if phase != Phase::Instant {
         return Ok(None);

@@ -66,7 +66,8 @@ fn nanoseconds(microseconds: f64) -> Option<i64>
 // The size without its sign, or nothing where it is above the greatest.
 fn size_in_nanoseconds(microseconds: f64) -> Option<u64>
     requires { float_is_finite microseconds ≡ true }
-    ensures { MatchOption result (greatest_time < closest (1000 * num microseconds) (den microseconds))
+    ensures { MatchOption result
+        (greatest_time < closest (1000 * num microseconds) (den microseconds))
         (λ size. size ≡ closest (1000 * num microseconds) (den microseconds)) }
 {
     // But for 0 and the subnormals, the size is `digits` * 2 ^ (`exponent` - 1075) microseconds.

@@ -32,8 +32,10 @@ pub(crate) fn next_head<'a>(reader: &mut Reader<'a>) -> Result<Head<'a>, Invalid
 /// The beginning of a value whose first token was taken.
 #[inline(always)]
 pub(crate) fn head_of<'a>(token: Token<'a>) -> Result<Head<'a>, Invalid>
-    ensures head { IfOk result (λ head. (ts : List SpecToken) → TakesHead head (token_of token.entry ∷ ts) ts) }
-    ensures refused { OnErr result ((depth : ℕ) (ts : List SpecToken) → data_at depth (token_of token.entry ∷ ts) ≡ None) }
+    ensures head { IfOk result (λ head. (ts : List SpecToken)
+        → TakesHead head (token_of token.entry ∷ ts) ts) }
+    ensures refused { OnErr result ((depth : ℕ) (ts : List SpecToken)
+        → data_at depth (token_of token.entry ∷ ts) ≡ None) }
 {
     match token {
         Token::BeginObject => Ok(Head::Object),

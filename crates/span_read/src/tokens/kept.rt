@@ -38,7 +38,8 @@ pub(crate) fn read_members<K: KeptMembers>(
     requires { kept.old ≡ K.of no_members }
     ensures kept { OnOk result (TakesObject depth tokens.old.reader tokens.new.reader
         (λ ms. kept.new ≡ K.of ms)) }
-    ensures refused { IsNotJson result → data_at depth (Token.begin_object ∷ tokens.old.reader) ≡ None }
+    ensures refused { IsNotJson result
+        → data_at depth (Token.begin_object ∷ tokens.old.reader) ≡ None }
 {
     if depth == 0 {
         return Err(Stop::NotJson);

@@ -39,7 +39,8 @@ fn has_minus(bytes: &[u8]) -> bool
 
 #[inline(always)]
 fn unsigned_value(numeral: &Numeral<'_>) -> Number
-    ensures { kind_of result ≡ option_map (λ n. field_value (number n)) (number_from false numeral.now) }
+    ensures { kind_of result
+        ≡ option_map (λ n. field_value (number n)) (number_from false numeral.now) }
 {
     match numeral.to_u64() {
         Some(n) => if n <= i64::MAX as u64 {
@@ -53,7 +54,8 @@ fn unsigned_value(numeral: &Numeral<'_>) -> Number
 
 #[inline(always)]
 fn negative_value(numeral: &Numeral<'_>) -> Number
-    ensures { kind_of result ≡ option_map (λ n. field_value (number n)) (number_from true numeral.now) }
+    ensures { kind_of result
+        ≡ option_map (λ n. field_value (number n)) (number_from true numeral.now) }
 {
     if let Some(n) = numeral.to_i64(true) {
         if n < 0 {
@@ -64,7 +66,8 @@ fn negative_value(numeral: &Numeral<'_>) -> Number
 }
 
 fn float_value(negative: bool, numeral: &Numeral<'_>) -> Number
-    ensures { kind_of result ≡ option_map (λ n. field_value (number n)) (float_of negative numeral.now) }
+    ensures { kind_of result
+        ≡ option_map (λ n. field_value (number n)) (float_of negative numeral.now) }
 {
     let number = numeral.to_float::<f64>(negative);
     if number.is_finite() {

@@ -25,7 +25,8 @@ pub(crate) fn pass_begun(
     token: Token<'_>,
     depth: usize,
 ) -> Result<(), Invalid>
-    ensures taken { OnOk result (TakesValue depth (token_of token.entry ∷ reader.old) reader.new (λ d. ⊤)) }
+    ensures taken { OnOk result
+        (TakesValue depth (token_of token.entry ∷ reader.old) reader.new (λ d. ⊤)) }
     ensures refused { OnErr result (data_at depth (token_of token.entry ∷ reader.old) ≡ None) }
 {
     match head_of(token)? {
