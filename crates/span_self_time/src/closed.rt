@@ -179,7 +179,8 @@ impl ClosedSpans {
 
     /// A segment of time, in ascending order, counted from 0; None from the number of segments on.
     pub fn segment(&self, i: u64) -> Option<&Segment>
-        ensures segment { Gives AreSegments self.now (λ segments. slice_get segments i) (option_copied result) }
+        ensures segment { Gives AreSegments self.now (λ segments. slice_get segments i)
+            (option_copied result) }
         ensures ends { IfSome (option_copied result) (HasEnds self.now) }
     {
         self.division.segment(i)

@@ -90,8 +90,8 @@ impl Division {
     }
 
     pub(crate) fn segment(&self, i: u64) -> Option<&Segment>
-        ensures { (owners : Owners) → IsDivision owners self.now
-            → HasParts owners (λ parts. option_copied result ≡ slice_get (map (λ part. part.segment) parts) i) }
+        ensures { (owners : Owners) → IsDivision owners self.now → HasParts owners (λ parts.
+            option_copied result ≡ slice_get (map (λ part. part.segment) parts) i) }
     {
         match self {
             Division::Lone(lone) => lone::segment(lone, i),
@@ -104,7 +104,8 @@ impl Division {
     pub(crate) fn lengths(&self, spans: &[ClosedSpan], alloc: Global) -> Result<Lengths, AllocError>
         requires closed { AreClosed (map span_of spans.now) }
         requires division { IsDivision (owners_of (map span_of spans.now)) self.now }
-        ensures { IfOk result (λ times. All (λ s. time_at times s.at ≡ self_time (map span_of spans.now) s) (map span_of spans.now)) }
+        ensures { IfOk result (λ times. All (λ s. time_at times s.at
+            ≡ self_time (map span_of spans.now) s) (map span_of spans.now)) }
     {
         let mut times = Lengths::of(spans, alloc)?;
         self.tell_parts(&mut times)?;

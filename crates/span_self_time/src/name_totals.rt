@@ -81,9 +81,13 @@ impl NameTotals {
         requires room { HasRoom self.old }
         requires count { (total_in (entries_of self.old) name).count + 1 < 2 ^ 32 }
         requires total { (total_in (entries_of self.old) name).total + length < 2 ^ 128 }
-        ensures names { keys_of (entries_of self.new) ≡ insert_key nat_eq (keys_of (entries_of self.old)) name }
+        ensures names { keys_of (entries_of self.new)
+            ≡ insert_key nat_eq (keys_of (entries_of self.old)) name }
         ensures each { (other : ℕ) → total_in (entries_of self.new) other ≡ (if name == other
-            then record { count = (total_in (entries_of self.old) name).count + 1; total = (total_in (entries_of self.old) name).total + length }
+            then record {
+              count = (total_in (entries_of self.old) name).count + 1;
+              total = (total_in (entries_of self.old) name).total + length;
+            }
             else total_in (entries_of self.old) other) }
     {
         match self {
@@ -117,7 +121,8 @@ fn map_of(
     length: u64,
     alloc: Global,
 ) -> Result<Box<IndexMap<u32, NameTotal>>, AllocError>
-    ensures entries { IfOk result (λ totals. totals.value.entries ≡ (name, record { count = 1; total = length }) ∷ []) }
+    ensures entries { IfOk result (λ totals. totals.value.entries
+        ≡ (name, record { count = 1; total = length }) ∷ []) }
     ensures room { IfOk result (λ totals. 0 < spare totals.value) }
 {
     let mut totals = IndexMap::new(alloc);
@@ -136,7 +141,10 @@ fn add_to_total(totals: &mut IndexMap<u32, NameTotal>, name: u32, length: u64)
     requires total { (total_in totals.old.entries name).total + length < 2 ^ 128 }
     ensures names { keys totals.new ≡ insert_key nat_eq (keys totals.old) name }
     ensures each { (other : ℕ) → total_in totals.new.entries other ≡ (if name == other
-        then record { count = (total_in totals.old.entries name).count + 1; total = (total_in totals.old.entries name).total + length }
+        then record {
+          count = (total_in totals.old.entries name).count + 1;
+          total = (total_in totals.old.entries name).total + length;
+        }
         else total_in totals.old.entries other) }
 {
     if let Some(held) = totals.get_mut(&name) {

@@ -91,7 +91,8 @@ fn time_counted(spans: &[ClosedSpan], counted: Counted<'_>, from: i64, until: i6
     requires forward { from ≤ℤ until }
     requires from_in_time { least_time ≤ℤ from }
     requires to_in_time { until ≤ℤ greatest_until }
-    ensures { result ≡ count_from from (distance from until) (counts (map span_of spans.now) counted.entry) }
+    ensures { result
+        ≡ count_from from (distance from until) (counts (map span_of spans.now) counted.entry) }
 {
     let mut time = 0;
     let mut u = from;

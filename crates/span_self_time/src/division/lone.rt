@@ -40,7 +40,8 @@ pub(crate) fn segment_count(lone: &Option<Part>) -> u64
 }
 
 pub(crate) fn segment(lone: &Option<Part>, i: u64) -> Option<&Segment>
-    ensures { option_copied result ≡ slice_get (map (λ part. part.segment) (parts_of_lone lone.now)) i }
+    ensures { option_copied result
+        ≡ slice_get (map (λ part. part.segment) (parts_of_lone lone.now)) i }
 {
     match lone {
         Some(part) if i == 0 => Some(&part.segment),
@@ -66,8 +67,9 @@ pub(crate) fn with_span(
     alloc: Global,
 ) -> Result<Division, AllocError>
     requires { CanAdd IsLone (owner_of span.now) lone }
-    ensures { IfOk result (λ division. (owners : Owners) → IsLone owners lone → IsNew (owner_of span.now) owners
-        → AreSettled owners → IsDivision (taken (owner_of span.now) owners) division) }
+    ensures { IfOk result (λ division. (owners : Owners) → IsLone owners lone
+        → IsNew (owner_of span.now) owners → AreSettled owners
+        → IsDivision (taken (owner_of span.now) owners) division) }
 {
     if span.span_start == span.span_until {
         return Ok(Division::Lone(lone));

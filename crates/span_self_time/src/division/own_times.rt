@@ -33,7 +33,8 @@ pub(crate) fn gain_own(own: &mut IndexMap<u32, u64>, name: u32, length: u64)
     requires small { own_in own.old name + length < 2 ^ 64 }
     ensures sum { (other : ℕ) → own_in own.new other
         ≡ own_in own.old other + (if name == other then length else 0) }
-    ensures kept { (other : ℕ) → IsSome (get nat_eq own.old other) → IsSome (get nat_eq own.new other) }
+    ensures kept { (other : ℕ) → IsSome (get nat_eq own.old other)
+        → IsSome (get nat_eq own.new other) }
 {
     let Some(held) = own.get_mut(&name) else {
         unreachable!();
@@ -46,7 +47,8 @@ pub(crate) fn lose_own(own: &mut IndexMap<u32, u64>, name: u32, length: u64)
     requires held { length ≤ own_in own.old name }
     ensures sum { (other : ℕ) → own_in own.new other + (if name == other then length else 0)
         ≡ own_in own.old other }
-    ensures kept { (other : ℕ) → IsSome (get nat_eq own.old other) → IsSome (get nat_eq own.new other) }
+    ensures kept { (other : ℕ) → IsSome (get nat_eq own.old other)
+        → IsSome (get nat_eq own.new other) }
 {
     let Some(held) = own.get_mut(&name) else {
         unreachable!();

@@ -60,8 +60,8 @@ impl Stacks {
     }
 
     pub(crate) fn segment(&self, i: u64) -> Option<&Segment>
-        ensures { option_copied result
-            ≡ slice_get (map (λ part. part.segment) (parts_of self.now.past.items self.now.future.items)) i }
+        ensures { option_copied result ≡ slice_get
+            (map (λ part. part.segment) (parts_of self.now.past.items self.now.future.items)) i }
     {
         let i = i as usize;
         if let Some(part) = self.past.get(i) {
@@ -78,7 +78,8 @@ impl Stacks {
     /// The span of each part gains the part's length.
     pub(crate) fn tell_parts(&self, times: &mut Lengths) -> Result<(), AllocError>
         requires { CanGain times.old (parts_of self.now.past.items self.now.future.items) }
-        ensures { OnOk result (Gains times.old (parts_of self.now.past.items self.now.future.items) times.new) }
+        ensures { OnOk result
+            (Gains times.old (parts_of self.now.past.items self.now.future.items) times.new) }
     {
         times.gain_parts(&self.past)?;
         times.gain_parts(&self.future)?;
@@ -236,7 +237,8 @@ impl Stacks {
     fn cede(&mut self, span: &Part, part: &Part, from: i64) -> i64
         requires next { ForSome (IsPassing (owner_of span.now) from part.now self.old) }
         requires above { outranks (owner_of span.now) (owner_of part.now) ≡ true }
-        ensures taken { (owners : Owners) → IsPassing (owner_of span.now) from part.now self.old owners
+        ensures taken { (owners : Owners)
+            → IsPassing (owner_of span.now) from part.now self.old owners
             → IsTaking (owner_of span.now) result self.new owners }
         ensures on { from <ℤ result }
     {
@@ -258,9 +260,10 @@ impl Stacks {
         ensures past { (owners : Owners) → IsOnly (owner_of span.now) owners
             → Belong owners from until (Some (owner_of span.now))
             → ArePast owners from (reverse self.old.past.items)
-            → IsGained (owner_of span.now) from until self.old.past.items self.new.past.items owners }
-        ensures own { (other : ℕ) → own_in self.new.own other
-            ≡ own_in self.old.own other + (if span.now.segment.name == other then distance from until else 0) }
+            → IsGained (owner_of span.now) from until self.old.past.items
+            self.new.past.items owners }
+        ensures own { (other : ℕ) → own_in self.new.own other ≡ own_in self.old.own other
+            + (if span.now.segment.name == other then distance from until else 0) }
         ensures kept { (other : ℕ) → IsSome (get nat_eq self.old.own other)
             → IsSome (get nat_eq self.new.own other) }
         ensures room { vec_len self.new.past ≤ vec_len self.old.past + 1 }

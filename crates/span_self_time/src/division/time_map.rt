@@ -67,15 +67,16 @@ impl TimeMap {
     }
 
     pub(crate) fn segment(&self, i: u64) -> Option<&Segment>
-        ensures { (owners : Owners) → IsTimeMap owners self.now
-            → HasParts owners (λ parts. option_copied result ≡ slice_get (map (λ part. part.segment) parts) i) }
+        ensures { (owners : Owners) → IsTimeMap owners self.now → HasParts owners (λ parts.
+            option_copied result ≡ slice_get (map (λ part. part.segment) parts) i) }
     {
         self.stretches.segment(i)
     }
 
     /// The span of each part gains the part's length.
     pub(crate) fn tell_parts(&self, times: &mut Lengths) -> Result<(), AllocError>
-        requires { IsOrdered int_cmp self.now.stretches.map → CanGain times.old (parts_in self.now.stretches) }
+        requires { IsOrdered int_cmp self.now.stretches.map
+            → CanGain times.old (parts_in self.now.stretches) }
         ensures { (owners : Owners) → IsTimeMap owners self.now
             → HasParts owners (λ parts. OnOk result (Gains times.old parts times.new)) }
     {
@@ -159,8 +160,8 @@ impl TimeMap {
     fn over(&self, span: &Part, part: &Part) -> i64
         requires { claims (owner_of span.now) (Some (owner_of part.now)) ≡ false }
         ensures on { part.now.span_until ≤ℤ result }
-        ensures barred { (owners : Owners) (u : ℤ) → AreBarred owners self.now.ties → part.now.span_start ≤ℤ u
-            → part.now.span_until ≤ℤ u → u <ℤ result
+        ensures barred { (owners : Owners) (u : ℤ) → AreBarred owners self.now.ties
+            → part.now.span_start ≤ℤ u → part.now.span_until ≤ℤ u → u <ℤ result
             → claims (owner_of span.now) (owners u) ≡ false }
     {
         let end = if span.span_start < part.span_start {
@@ -201,10 +202,11 @@ impl TimeMap {
             < 2 ^ 64 + (if has_name name (option_map owner_of held.now) then length else 0) }
         requires busy { self.old.busy + length < 2 ^ 64 + (if is_some held.now then length else 0) }
         requires held { IfSome held.now (λ part. length ≤ own_in self.old.own part.segment.name) }
-        ensures own { (other : ℕ)
-            → own_in self.new.own other + (if has_name other (option_map owner_of held.now) then length else 0)
+        ensures own { (other : ℕ) → own_in self.new.own other
+            + (if has_name other (option_map owner_of held.now) then length else 0)
             ≡ own_in self.old.own other + (if name == other then length else 0) }
-        ensures busy { self.new.busy + (if is_some held.now then length else 0) ≡ self.old.busy + length }
+        ensures busy { self.new.busy + (if is_some held.now then length else 0)
+            ≡ self.old.busy + length }
         ensures kept { (other : ℕ) → IsSome (get nat_eq self.old.own other)
             → IsSome (get nat_eq self.new.own other) }
         ensures stretches { self.new.stretches ≡ self.old.stretches }

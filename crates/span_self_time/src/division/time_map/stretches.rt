@@ -48,7 +48,8 @@ impl Stretches {
 
     /// The segment of a part, in ascending order, counted from 0.
     pub(crate) fn segment(&self, i: u64) -> Option<&Segment>
-        ensures segment { option_copied result ≡ slice_get (map (λ part. part.segment) (parts_in self.now)) i }
+        ensures segment { option_copied result
+            ≡ slice_get (map (λ part. part.segment) (parts_in self.now)) i }
         ensures ordered { IsOrdered int_cmp self.now.map }
     {
         let mut left = i;
@@ -134,8 +135,9 @@ impl Stretches {
         ensures starts { OnOk result (IsSome (at self.new time)) }
         ensures keeps { OnOk result ((owners : Owners) (q : ℤ) → IsDivided owners (at self.old)
             → IsSome (at self.old q) → IsSome (at self.new q)) }
-        ensures ends { OnOk result ((owners : Owners) (t : ℤ) (o : Span ℕ) → IsDivided owners (at self.old)
-            → IsEnd (at self.new) t o → (t ≡ time) ⊎ IsEnd (at self.old) t o) }
+        ensures ends { OnOk result ((owners : Owners) (t : ℤ) (o : Span ℕ)
+            → IsDivided owners (at self.old) → IsEnd (at self.new) t o
+            → (t ≡ time) ⊎ IsEnd (at self.old) t o) }
         ensures err { OnErr result ((q : ℤ) → at self.new q ≡ at self.old q) }
     {
         let Some((start, held)) = self.last_at(time) else {
@@ -157,7 +159,8 @@ impl Stretches {
     /// Where a part of one span ends at `time` and another of it starts, they become one.
     pub(crate) fn join(&mut self, time: i64)
         requires from_in_time { least_time ≤ℤ time }
-        ensures divided { (owners : Owners) → IsDivided owners (at self.old) → IsDivided owners (at self.new) }
+        ensures divided { (owners : Owners) → IsDivided owners (at self.old)
+            → IsDivided owners (at self.new) }
         ensures keeps { (q : ℤ) → q ≢ time → IsSome (at self.old q) → IsSome (at self.new q) }
         ensures ends { (owners : Owners) (t : ℤ) (o : Span ℕ) → IsDivided owners (at self.old)
             → IsEnd (at self.new) t o → IsEnd (at self.old) t o }
@@ -184,12 +187,14 @@ impl Stretches {
         requires from_in_time { least_time ≤ℤ from }
         requires forward { from ≤ℤ until }
         requires to_in_time { until ≤ℤ greatest_until }
-        ensures divided { (owners : Owners) → IsDivided owners (at self.old) → IsDivided owners (at self.new) }
+        ensures divided { (owners : Owners) → IsDivided owners (at self.old)
+            → IsDivided owners (at self.new) }
         ensures from { OnOk result ((owners : Owners) → IsDivided owners (at self.old)
             → IsSome (at self.new from)) }
         ensures until { OnOk result (IsSome (at self.new until)) }
-        ensures ends { OnOk result ((owners : Owners) (t : ℤ) (o : Span ℕ) → IsDivided owners (at self.old)
-            → IsEnd (at self.new) t o → (t ≡ until) ⊎ ((t ≡ from) ⊎ IsEnd (at self.old) t o)) }
+        ensures ends { OnOk result ((owners : Owners) (t : ℤ) (o : Span ℕ)
+            → IsDivided owners (at self.old) → IsEnd (at self.new) t o
+            → (t ≡ until) ⊎ ((t ≡ from) ⊎ IsEnd (at self.old) t o)) }
         ensures err { OnErr result ((owners : Owners) → IsDivided owners (at self.old)
             → AreWhole owners (at self.old) → AreWhole owners (at self.new)) }
     {

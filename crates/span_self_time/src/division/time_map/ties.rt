@@ -24,7 +24,8 @@ impl Ties {
 
     /// The last of the ends sooner than `time` at this start.
     pub(crate) fn last_before(&self, start: i64, time: i64) -> Option<i64>
-        ensures barred { (owners : Owners) → AreBarred owners self.now → IfSome result (IsBarred owners start) }
+        ensures barred { (owners : Owners) → AreBarred owners self.now
+            → IfSome result (IsBarred owners start) }
         ensures sooner { IfSome result (λ end. end <ℤ time) }
     {
         match self.ends.range(..(start, time)).next_back() {
