@@ -78,7 +78,8 @@ impl AsyncTrack {
         requires room { HasAsyncRoom self.old key.now }
         requires in_time { IsTime ts }
         ensures refusal { Answers result None }
-        ensures stands { OnOk result (TakesAsync self.old self.new (record { key = key.now; step = opens ts })) }
+        ensures stands { OnOk result
+            (TakesAsync self.old self.new (record { key = key.now; step = opens ts })) }
         ensures err { OnErr result (self.new ≡ self.old) }
     {
         let none = KeySpans::new(self.alloc);
@@ -99,7 +100,8 @@ impl AsyncTrack {
             → Answers result (async_end_refusal (steps_at async_cmp key.now es) ts) }
         ensures length { IfOk result (λ length. (es : List AsyncEvent) → AsyncStandsFor self.old es
             → length_closed_by (steps_at async_cmp key.now es) (closes ts) ≡ length ∷ []) }
-        ensures stands { OnOk result (TakesAsync self.old self.new (record { key = key.now; step = closes ts })) }
+        ensures stands { OnOk result
+            (TakesAsync self.old self.new (record { key = key.now; step = closes ts })) }
         ensures err { OnErr result (self.new ≡ self.old) }
         ensures memory { TakesNoMemory result }
     {
@@ -111,7 +113,8 @@ impl AsyncTrack {
     pub fn point(&mut self, key: &AsyncKey) -> Result<(), TrackFault>
         requires room { HasAsyncRoom self.old key.now }
         ensures refusal { Answers result None }
-        ensures stands { OnOk result (TakesAsync self.old self.new (record { key = key.now; step = other tt })) }
+        ensures stands { OnOk result
+            (TakesAsync self.old self.new (record { key = key.now; step = other tt })) }
         ensures err { OnErr result (self.new ≡ self.old) }
     {
         let none = KeySpans::new(self.alloc);

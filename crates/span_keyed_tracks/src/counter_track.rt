@@ -161,7 +161,8 @@ type Next = (Option<usize>, SharedKey, Running);
 fn next_entries(alloc: Global, entries: &Entries, event: &Event) -> Result<Vec<Next>, AllocError>
     requires whole { AllWhole event.now.args }
     requires room { HasCounterRoom (kept_series entries.now.entries) }
-    ensures next { IfOk result (λ next. map (λ n. (n.1, n.2)) next.items ≡ map (next_entry entries.now.entries event.now) event.now.args) }
+    ensures next { IfOk result (λ next. map (λ n. (n.1, n.2)) next.items
+        ≡ map (next_entry entries.now.entries event.now) event.now.args) }
     ensures places { IfOk result (λ next. ArePlaced entries.now.entries next.items) }
 {
     let counter = Counter::shared(alloc, event.pid, &event.name, &event.key)?;
@@ -181,7 +182,8 @@ fn next_entries(alloc: Global, entries: &Entries, event: &Event) -> Result<Vec<N
 
 // What is kept at a place, where there is one.
 fn at(entries: &Entries, place: Option<usize>) -> Option<&Running>
-    ensures { option_copied result ≡ option_and_then (slice_get (values_of entries.now.entries)) place }
+    ensures { option_copied result
+        ≡ option_and_then (slice_get (values_of entries.now.entries)) place }
 {
     match entries.get_index(place?) {
         Some((_, running)) => Some(running),
@@ -193,7 +195,8 @@ fn at(entries: &Entries, place: Option<usize>) -> Option<&Running>
 fn put_all(entries: &mut Entries, next: Vec<Next>)
     requires fits { vec_len next ≤ spare entries.old }
     requires places { ArePlaced entries.old.entries next.items }
-    ensures { entries.new.entries ≡ insert_all same_series entries.old.entries (map (λ n. (n.1, n.2)) next.items) }
+    ensures { entries.new.entries
+        ≡ insert_all same_series entries.old.entries (map (λ n. (n.1, n.2)) next.items) }
 {
     for (place, key, running) in next {
         put(entries, place, key, running);
@@ -204,7 +207,8 @@ fn put_all(entries: &mut Entries, next: Vec<Next>)
 fn put(entries: &mut Entries, place: Option<usize>, key: SharedKey, running: Running)
     requires fits { 0 < spare entries.old }
     requires placed { IsPlaced entries.old.entries place key }
-    ensures entries { entries.new.entries ≡ insert_entry same_series entries.old.entries key running }
+    ensures entries { entries.new.entries
+        ≡ insert_entry same_series entries.old.entries key running }
     ensures spare { spare entries.old ≤ spare entries.new + 1 }
 {
     match place {

@@ -84,7 +84,8 @@ impl FlowTrack {
         requires room { HasFlowRoom self.old key.now }
         requires in_time { IsTime ts }
         ensures refusal { Answers result (flow_start_refusal (flow_chains_at self.old key.now)) }
-        ensures stands { OnOk result (TakesFlow self.old self.new (record { key = key.now; step = started ts })) }
+        ensures stands { OnOk result
+            (TakesFlow self.old self.new (record { key = key.now; step = started ts })) }
         ensures err { OnErr result (self.new ≡ self.old) }
     {
         let none = KeyChains::new();
@@ -103,7 +104,8 @@ impl FlowTrack {
         requires room { HasFlowRoom self.old key.now }
         requires in_time { IsTime ts }
         ensures refusal { Answers result (flow_point_refusal (flow_chains_at self.old key.now) ts) }
-        ensures stands { OnOk result (TakesFlow self.old self.new (record { key = key.now; step = stepped ts })) }
+        ensures stands { OnOk result
+            (TakesFlow self.old self.new (record { key = key.now; step = stepped ts })) }
         ensures err { OnErr result (self.new ≡ self.old) }
         ensures memory { TakesNoMemory result }
     {
@@ -123,8 +125,10 @@ impl FlowTrack {
         requires room { HasFlowRoom self.old key.now }
         requires in_time { IsTime ts }
         ensures refusal { Answers result (flow_point_refusal (flow_chains_at self.old key.now) ts) }
-        ensures closed { IfOk result (λ closed. flow_closed (flow_chains_at self.old key.now) ts ≡ Some closed) }
-        ensures stands { OnOk result (TakesFlow self.old self.new (record { key = key.now; step = finished ts })) }
+        ensures closed { IfOk result
+            (λ closed. flow_closed (flow_chains_at self.old key.now) ts ≡ Some closed) }
+        ensures stands { OnOk result
+            (TakesFlow self.old self.new (record { key = key.now; step = finished ts })) }
         ensures err { OnErr result (self.new ≡ self.old) }
         ensures memory { TakesNoMemory result }
     {

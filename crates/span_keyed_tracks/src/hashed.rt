@@ -23,7 +23,8 @@ pub(crate) fn find<'a, K: Key + Hash, V>(
 ) -> Option<&'a V>
     requires same { (a b : K) → K.cmp a b ≡ Equal → a ≡ b }
     requires distinct { AreDistinct K.cmp kept.now.entries }
-    ensures { option_copied result ≡ lookup (is_at (K.cmp key.now)) (in_key_order K.cmp kept.now.entries) }
+    ensures { option_copied result
+        ≡ lookup (is_at (K.cmp key.now)) (in_key_order K.cmp kept.now.entries) }
 {
     kept.get(key)
 }
@@ -43,8 +44,11 @@ pub(crate) fn change_at<
 ) -> Result<T, TrackFault>
     requires same { (a b : K) → K.cmp a b ≡ Equal → a ≡ b }
     requires distinct { AreDistinct K.cmp kept.old.entries }
-    requires can { (value : MutBor V) → value.now ≡ kept_at K.cmp none (in_key_order K.cmp kept.old.entries) key.now → F.pre change value }
-    requires stays { (old new : V) (fault : TrackFault) → FnOnceReturnsAtMut F.FnOnce change old (Err fault) new → new ≡ old }
+    requires can { (value : MutBor V)
+        → value.now ≡ kept_at K.cmp none (in_key_order K.cmp kept.old.entries) key.now
+        → F.pre change value }
+    requires stays { (old new : V) (fault : TrackFault)
+        → FnOnceReturnsAtMut F.FnOnce change old (Err fault) new → new ≡ old }
     ensures changes { ChangesAt K.cmp none (FnOnceReturnsAtMut F.FnOnce change)
         (in_key_order K.cmp kept.old.entries) (in_key_order K.cmp kept.new.entries) key.now result }
     ensures distinct { AreDistinct K.cmp kept.new.entries }

@@ -24,9 +24,13 @@ pub(crate) fn change_at<K: Key, V: Drop, T: Copy, F: FnOnce(&mut V) -> Result<T,
     none: V,
     change: F,
 ) -> Result<T, TrackFault>
-    requires can { (value : MutBor V) → value.now ≡ kept_at K.cmp none kept.old.entries key.now → F.pre change value }
-    requires stays { (old new : V) (fault : TrackFault) → FnOnceReturnsAtMut F.FnOnce change old (Err fault) new → new ≡ old }
-    ensures { ChangesAt K.cmp none (FnOnceReturnsAtMut F.FnOnce change) kept.old.entries kept.new.entries key.now result }
+    requires can { (value : MutBor V)
+        → value.now ≡ kept_at K.cmp none kept.old.entries key.now
+        → F.pre change value }
+    requires stays { (old new : V) (fault : TrackFault)
+        → FnOnceReturnsAtMut F.FnOnce change old (Err fault) new → new ≡ old }
+    ensures { ChangesAt K.cmp none (FnOnceReturnsAtMut F.FnOnce change) kept.old.entries
+        kept.new.entries key.now result }
 {
     if let Some(value) = kept.get_mut(key) {
         return change(value);

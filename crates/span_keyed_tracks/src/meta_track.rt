@@ -142,7 +142,8 @@ impl MetaTrack {
 
     /// How many instants there are of the thread, the name and the reach. Takes no memory.
     pub fn instants_of(&self, pid: i64, tid: i64, name: &Text, reach: Reach) -> u32
-        ensures { Gives MetaStandsFor self.now (λ es. instants_of es (record { pid = pid; tid = tid }) name.now reach) result }
+        ensures { Gives MetaStandsFor self.now
+            (λ es. instants_of es (record { pid = pid; tid = tid }) name.now reach) result }
     {
         self.instants.of(Thread { pid, tid }, name, reach)
     }
@@ -160,7 +161,8 @@ impl MetaTrack {
         alloc: Global,
         thread: Thread,
     ) -> Result<Vec<InstantRow>, AllocError>
-        ensures { IfOk result (λ rows. Gives MetaStandsFor self.now (instant_rows_of thread) rows.items) }
+        ensures { IfOk result (λ rows.
+            Gives MetaStandsFor self.now (instant_rows_of thread) rows.items) }
     {
         self.instants.rows_of(alloc, thread)
     }
@@ -168,7 +170,8 @@ impl MetaTrack {
     fn set(&mut self, holder: Holder, setting: Setting) -> Result<(), TrackFault>
         ensures refusal { Answers result None }
         ensures instants { self.new.instants ≡ self.old.instants }
-        ensures takes { OnOk result (TakesSetting self.old.names self.new.names (keyed_setting (holder, setting))) }
+        ensures takes { OnOk result
+            (TakesSetting self.old.names self.new.names (keyed_setting (holder, setting))) }
         ensures err { OnErr result (self.new ≡ self.old) }
     {
         let none = Named::new();

@@ -30,7 +30,8 @@ impl Counter {
         name: &Text,
         id: &Option<BoxedId>,
     ) -> Result<Arc<Counter>, AllocError>
-        ensures { IfOk result (λ counter. counter.value ≡ record { pid = pid; name = name.now; id = id.now }) }
+        ensures { IfOk result (λ counter. counter.value
+            ≡ record { pid = pid; name = name.now; id = id.now }) }
     {
         let name = name.try_clone(alloc)?;
         let id = match id {
@@ -63,7 +64,12 @@ impl SharedKey {
         counter: &Arc<Counter>,
         series: &Text,
     ) -> Result<SharedKey, AllocError>
-        ensures { IfOk result (λ key. key ≡ record { pid = counter.now.value.pid; name = counter.now.value.name; id = counter.now.value.id; series = series.now }) }
+        ensures { IfOk result (λ key. key ≡ record {
+          pid = counter.now.value.pid;
+          name = counter.now.value.name;
+          id = counter.now.value.id;
+          series = series.now;
+        }) }
     {
         let counter = Arc::try_clone(counter)?;
         let series = series.try_clone(alloc)?;

@@ -51,7 +51,8 @@ impl ThreadInstants {
     fn add(&mut self, alloc: Global, name: &Text, reach: Reach) -> Result<(), TrackFault>
         requires { HasNameRoom self.old }
         ensures refusal { Answers result None }
-        ensures takes { OnOk result (TakesName self.old self.new (record { key = name.now; step = reach })) }
+        ensures takes { OnOk result
+            (TakesName self.old self.new (record { key = name.now; step = reach })) }
         ensures err { OnErr result (self.new ≡ self.old) }
     {
         change_at(alloc, &mut self.names, name, Reaches::new(), |reaches| {
@@ -76,7 +77,8 @@ impl ThreadInstants {
         rows: &mut Vec<InstantRow>,
         thread: Thread,
     ) -> Result<(), AllocError>
-        ensures { OnOk result (rows.new.items ≡ rows.old.items ++ rows_of_thread (thread, self.now)) }
+        ensures { OnOk result (rows.new.items
+            ≡ rows.old.items ++ rows_of_thread (thread, self.now)) }
     {
         for (name, reaches) in &self.names {
             reaches.push_rows(alloc, rows, thread, name)?;
@@ -127,8 +129,8 @@ impl Instants {
     }
 
     pub(crate) fn of(&self, thread: Thread, name: &Text, reach: Reach) -> u32
-        ensures { result
-            ≡ count_at reach (kept_at text_cmp (counts_of []) (kept_at thread_cmp [] self.now thread) name.now) }
+        ensures { result ≡ count_at reach
+            (kept_at text_cmp (counts_of []) (kept_at thread_cmp [] self.now thread) name.now) }
     {
         match self.threads.get(&thread) {
             Some(instants) => instants.of(name, reach),

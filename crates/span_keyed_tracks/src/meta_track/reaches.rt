@@ -62,7 +62,8 @@ impl Reaches {
         thread: Thread,
         name: &Text,
     ) -> Result<(), AllocError>
-        ensures { OnOk result (rows.new.items ≡ rows.old.items ++ rows_of_name thread (name.now, self.now)) }
+        ensures { OnOk result (rows.new.items
+            ≡ rows.old.items ++ rows_of_name thread (name.now, self.now)) }
     {
         push_row(alloc, rows, thread, name, Reach::Global, self.global)?;
         push_row(alloc, rows, thread, name, Reach::Process, self.process)?;
@@ -79,7 +80,8 @@ fn push_row(
     reach: Reach,
     count: u32,
 ) -> Result<(), AllocError>
-    ensures { OnOk result (rows.new.items ≡ rows.old.items ++ instant_row thread name.now reach count) }
+    ensures { OnOk result (rows.new.items
+        ≡ rows.old.items ++ instant_row thread name.now reach count) }
 {
     if count == 0 {
         return Ok(());
