@@ -251,8 +251,13 @@ impl ThreadTrack {
         requires in_time { IsTime ts }
         requires lasts { dur ≤ greatest_time }
         ensures refusal { Answers result None }
-        ensures stands { OnOk result (TakesEvent self.old self.new
-            (completed (record { name = name; start = ts; until = ts +ℤ pos dur; at = at; args = args.now }))) }
+        ensures stands { OnOk result (TakesEvent self.old self.new (completed (record {
+          name = name;
+          start = ts;
+          until = ts +ℤ pos dur;
+          at = at;
+          args = args.now;
+        }))) }
         ensures err { OnErr result (self.new ≡ self.old) }
     {
         let args = args
@@ -358,7 +363,8 @@ impl ThreadTrack {
     /// The ticks that belong to each closed span, as no span that ranks above covers them, in the order of the events that
     /// closed them.
     pub fn self_times(&self, alloc: Global) -> Result<Vec<u64>, AllocError>
-        ensures { IfOk result (λ times. times.items ≡ map (self_time self.now.closed) self.now.closed) }
+        ensures { IfOk result (λ times. times.items
+            ≡ map (self_time self.now.closed) self.now.closed) }
     {
         self.closed.self_times(alloc)
     }
@@ -382,7 +388,8 @@ impl ThreadTrack {
 
     /// A segment of time, in ascending order, counted from 0; None from the number of segments on. Takes no memory.
     pub fn segment(&self, i: u64) -> Option<&Segment>
-        ensures segment { Gives AreSegments self.now.closed (λ segments. slice_get segments i) (option_copied result) }
+        ensures segment { Gives AreSegments self.now.closed (λ segments. slice_get segments i)
+            (option_copied result) }
         ensures ends { IfSome (option_copied result) (HasEnds self.now.closed) }
     {
         self.closed.segment(i)
@@ -421,8 +428,13 @@ fn later(latest: Option<i64>, time: i64) -> Option<i64>
 
 // The span that ends at `until`.
 fn closed_at(begin: &OpenSpan, until: i64, args: Args) -> ClosedSpan
-    ensures { result
-        ≡ record { name = begin.now.name; start = begin.now.ts; until = until; at = begin.now.at; args = args } }
+    ensures { result ≡ record {
+      name = begin.now.name;
+      start = begin.now.ts;
+      until = until;
+      at = begin.now.at;
+      args = args;
+    } }
 {
     ClosedSpan {
         name: begin.name,
