@@ -38,9 +38,10 @@ pub fn write_report<O: Sink>(
     ledger: &Ledger,
     out: &mut O,
 ) -> Result<(), WriteFault>
-    ensures ok { OnOk result (TakesBytes (O.state out.old) (O.state out.new) (report_of unit ledger.now.journal)) }
-    ensures fault { IfErr result
-        (λ fault. WriteLeaves fault (report_of unit ledger.now.journal) (O.state out.old) (O.state out.new)) }
+    ensures ok { OnOk result
+        (TakesBytes (O.state out.old) (O.state out.new) (report_of unit ledger.now.journal)) }
+    ensures fault { IfErr result (λ fault.
+        WriteLeaves fault (report_of unit ledger.now.journal) (O.state out.old) (O.state out.new)) }
 {
     write_made(report(alloc, unit, ledger), out)
 }
@@ -64,7 +65,8 @@ pub fn write_made<O: Sink>(made: Result<Vec<u8>, AllocError>, out: &mut O) -> Re
 pub fn write_bytes<O: Sink>(bytes: &[u8], out: &mut O) -> Result<(), u64>
     ensures ok { OnOk result (TakesBytes (O.state out.old) (O.state out.new) bytes.now) }
     ensures within { IfErr result (λ written. written ≤ length bytes.now) }
-    ensures fault { IfErr result (λ written. Fails (O.state out.old) (O.state out.new) (take written bytes.now)) }
+    ensures fault { IfErr result (λ written.
+        Fails (O.state out.old) (O.state out.new) (take written bytes.now)) }
 {
     let mut taken = 0;
     while taken < bytes.len() {

@@ -14,7 +14,8 @@ pub trait Sink {
     fn put(&mut self, bytes: &[u8]) -> Result<usize, SinkFault>
         requires { 0 < length bytes.now }
         ensures progress { IfOk result (λ n. (0 < n) × (n ≤ length bytes.now)) }
-        ensures ok { IfOk result (λ n. TakesBytes (state self.old) (state self.new) (take n bytes.now)) }
+        ensures ok { IfOk result (λ n.
+            TakesBytes (state self.old) (state self.new) (take n bytes.now)) }
         ensures fault { OnErr result (Fails (state self.old) (state self.new) []) };
 
     /// Called once, after the last byte.

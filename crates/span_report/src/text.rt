@@ -66,7 +66,8 @@ impl Printed for ThreadPart {
 
 // Appends the lines of each, in order.
 fn put_each<P: Printed>(alloc: Global, out: &mut String, printed: &[P]) -> Result<(), AllocError>
-    ensures { OnOk result (string_bytes out.new ≡ string_bytes out.old ++ flat_map P.lines printed.now) }
+    ensures { OnOk result (string_bytes out.new
+        ≡ string_bytes out.old ++ flat_map P.lines printed.now) }
 {
     for part in printed {
         part.put(alloc, out)?;

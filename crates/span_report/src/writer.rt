@@ -47,7 +47,8 @@ pub struct Writer<I: Write> {
 impl<I: Write> Writer<I> {
     /// A sink with no failure so far.
     pub fn new(inner: I) -> Writer<I>
-        ensures { ⟦<Writer<I> as Sink>⟧.state result ≡ record { taken = I.contents inner; failures = 0 } }
+        ensures { ⟦<Writer<I> as Sink>⟧.state result
+            ≡ record { taken = I.contents inner; failures = 0 } }
     {
         Writer {
             inner,

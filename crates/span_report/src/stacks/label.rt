@@ -42,7 +42,8 @@ pub(crate) fn labels_of(
 
 // Appends what the span has in the columns, with a space between each two.
 fn put_label(out: &mut String, span: &NamedSpan, columns: &[SpanColumn]) -> Result<(), AllocError>
-    ensures { OnOk result (string_bytes out.new ≡ string_bytes out.old ++ label_of columns.now span.now) }
+    ensures { OnOk result (string_bytes out.new
+        ≡ string_bytes out.old ++ label_of columns.now span.now) }
 {
     let mut separator = "";
     for column in columns {
@@ -60,9 +61,10 @@ fn put_word(
     span: &NamedSpan,
     column: &SpanColumn,
 ) -> Result<bool, AllocError>
-    ensures word { OnOk result (string_bytes out.new
-        ≡ string_bytes out.old ++ then_word separator.now (word_in span.now.name span.now.args column.now)) }
-    ensures found { IfOk result (λ found. found ≡ is_some (word_in span.now.name span.now.args column.now)) }
+    ensures word { OnOk result (string_bytes out.new ≡ string_bytes out.old
+        ++ then_word separator.now (word_in span.now.name span.now.args column.now)) }
+    ensures found { IfOk result (λ found.
+        found ≡ is_some (word_in span.now.name span.now.args column.now)) }
 {
     match column {
         SpanColumn::Name => {

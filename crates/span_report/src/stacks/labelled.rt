@@ -44,7 +44,8 @@ impl<'a> LabelledSpans<'a> {
         thread: Thread,
         columns: &[SpanColumn],
     ) -> Result<LabelledSpans<'a>, AllocError>
-        ensures { IfOk result (λ spans. spans ≡ labelled_spans columns.now ledger.now.journal thread) }
+        ensures { IfOk result (λ spans.
+            spans ≡ labelled_spans columns.now ledger.now.journal thread) }
     {
         let labels = if are_names(columns) {
             Vec::new(alloc)

@@ -45,10 +45,11 @@ pub fn write_folded<O: Sink>(
     columns: &[SpanColumn],
     out: &mut O,
 ) -> Result<(), FoldedFault>
-    ensures ok { OnOk result (TakesBytes (O.state out.old) (O.state out.new) (folded_of columns.now ledger.now.journal)) }
+    ensures ok { OnOk result (TakesBytes (O.state out.old) (O.state out.new)
+        (folded_of columns.now ledger.now.journal)) }
     ensures fits { OnOk result (names_of columns.now ledger.now.journal ≤ most_names) }
-    ensures fault { IfErr result
-        (λ fault. FoldedLeaves fault columns.now ledger.now.journal (O.state out.old) (O.state out.new)) }
+    ensures fault { IfErr result (λ fault.
+        FoldedLeaves fault columns.now ledger.now.journal (O.state out.old) (O.state out.new)) }
 {
     let text = match folded(alloc, ledger, columns) {
         Ok(text) => text,

@@ -37,7 +37,8 @@ pub(crate) fn split<'a>(
     requires forward { whole.now.from ≤ℤ whole.now.until }
     requires until { whole.now.until ≤ℤ greatest_until }
     requires next { whole.now.next ≤ length spans.now }
-    ensures { IfOk result (λ time. IsSplit spans.now below whole.now time found.old.items found.new.items) }
+    ensures { IfOk result (λ time.
+        IsSplit spans.now below whole.now time found.old.items found.new.items) }
 {
     let mut rest = *whole;
     let mut time = 0u64;

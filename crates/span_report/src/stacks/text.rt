@@ -29,7 +29,8 @@ pub fn folded(
 ) -> Result<Vec<u8>, StacksFault>
     ensures text { IfOk result (λ text. text.items ≡ folded_of columns.now ledger.now.journal) }
     ensures fits { OnOk result (names_of columns.now ledger.now.journal ≤ most_names) }
-    ensures full { result ≡ Err StacksFault.TooLarge → most_names < names_of columns.now ledger.now.journal }
+    ensures full { result ≡ Err StacksFault.TooLarge
+        → most_names < names_of columns.now ledger.now.journal }
 {
     let mut out = Vec::new(alloc);
     let mut left = MOST_NAMES;
@@ -48,9 +49,12 @@ fn put_process(
     left: &mut u32,
     process: &ProcessPart,
 ) -> Result<(), StacksFault>
-    ensures text { OnOk result (out.new.items ≡ out.old.items ++ process_lines columns.now ledger.now.journal process.now) }
-    ensures fits { OnOk result (left.new + process_names columns.now ledger.now.journal process.now ≡ left.old) }
-    ensures full { result ≡ Err StacksFault.TooLarge → left.old < process_names columns.now ledger.now.journal process.now }
+    ensures text { OnOk result (out.new.items
+        ≡ out.old.items ++ process_lines columns.now ledger.now.journal process.now) }
+    ensures fits { OnOk result
+        (left.new + process_names columns.now ledger.now.journal process.now ≡ left.old) }
+    ensures full { result ≡ Err StacksFault.TooLarge
+        → left.old < process_names columns.now ledger.now.journal process.now }
 {
     for part in &process.threads {
         put_thread(alloc, ledger, columns, out, left, &process.row, part)?;
@@ -67,9 +71,12 @@ fn put_thread(
     process: &ProcessRow,
     part: &ThreadPart,
 ) -> Result<(), StacksFault>
-    ensures text { OnOk result (out.new.items ≡ out.old.items ++ thread_lines columns.now ledger.now.journal process.now part.now) }
-    ensures fits { OnOk result (left.new + thread_names columns.now ledger.now.journal part.now ≡ left.old) }
-    ensures full { result ≡ Err StacksFault.TooLarge → left.old < thread_names columns.now ledger.now.journal part.now }
+    ensures text { OnOk result (out.new.items
+        ≡ out.old.items ++ thread_lines columns.now ledger.now.journal process.now part.now) }
+    ensures fits { OnOk result
+        (left.new + thread_names columns.now ledger.now.journal part.now ≡ left.old) }
+    ensures full { result ≡ Err StacksFault.TooLarge
+        → left.old < thread_names columns.now ledger.now.journal part.now }
 {
     let row = &part.row;
     let start = thread_frames(alloc, process, row)?;
@@ -90,9 +97,11 @@ fn put_stacks(
     spans: Vec<NamedSpan>,
 ) -> Result<(), StacksFault>
     requires { AreThreadSpans spans.items }
-    ensures text { OnOk result (out.new.items ≡ out.old.items ++ stack_lines start.now (folded_stacks spans.entry.items)) }
+    ensures text { OnOk result (out.new.items
+        ≡ out.old.items ++ stack_lines start.now (folded_stacks spans.entry.items)) }
     ensures fits { OnOk result (left.new + names_in (folded_stacks spans.entry.items) ≡ left.old) }
-    ensures full { result ≡ Err StacksFault.TooLarge → left.old < names_in (folded_stacks spans.entry.items) }
+    ensures full { result ≡ Err StacksFault.TooLarge
+        → left.old < names_in (folded_stacks spans.entry.items) }
 {
     let mut descent = Descent::new(alloc, spans)?;
     while let Some(frame) = descent.next()? {
@@ -112,7 +121,8 @@ fn put_timed(
 ) -> Result<(), StacksFault>
     ensures text { OnOk result (out.new.items ≡ out.old.items
         ++ stack_lines start.now (folded_if (map (λ name. name.now) stack.now) time)) }
-    ensures fits { OnOk result (left.new + names_in (folded_if (map (λ name. name.now) stack.now) time) ≡ left.old) }
+    ensures fits { OnOk result
+        (left.new + names_in (folded_if (map (λ name. name.now) stack.now) time) ≡ left.old) }
     ensures full { result ≡ Err StacksFault.TooLarge
         → left.old < names_in (folded_if (map (λ name. name.now) stack.now) time) }
 {
@@ -149,8 +159,8 @@ fn put_line(
     stack: &[&Text],
     time: u64,
 ) -> Result<(), AllocError>
-    ensures { OnOk result (out.new.items ≡ out.old.items
-        ++ stack_line start.now (record { stack = map (λ name. name.now) stack.now; time = time })) }
+    ensures { OnOk result (out.new.items ≡ out.old.items ++ stack_line start.now
+        (record { stack = map (λ name. name.now) stack.now; time = time })) }
 {
     out.extend_from_slice(start)?;
     put_stack(out, stack)?;
@@ -158,7 +168,8 @@ fn put_line(
 }
 
 fn put_stack(out: &mut Vec<u8>, stack: &[&Text]) -> Result<(), AllocError>
-    ensures { OnOk result (out.new.items ≡ out.old.items ++ stack_frames (map (λ name. name.now) stack.now)) }
+    ensures { OnOk result (out.new.items
+        ≡ out.old.items ++ stack_frames (map (λ name. name.now) stack.now)) }
 {
     for name in stack {
         out.push(b';')?;

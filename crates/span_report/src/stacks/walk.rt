@@ -52,7 +52,8 @@ pub fn framed_stacks<'a>(
     spans: &'a LabelledSpans,
     most: u32,
 ) -> Result<Vec<StackFrame<'a>>, StacksFault>
-    ensures stacks { IfOk result (λ frames. folded_after [] frames.items ≡ folded_stacks spans.now) }
+    ensures stacks { IfOk result (λ frames. folded_after [] frames.items
+        ≡ folded_stacks spans.now) }
     ensures ascending { IfOk result (λ frames. AreAscending [] frames.items) }
     ensures count { IfOk result (λ frames. length frames.items ≡ frame_count spans.now) }
     ensures fits { IfOk result (λ frames. length frames.items ≤ most) }
