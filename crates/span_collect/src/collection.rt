@@ -74,13 +74,12 @@ pub fn collect<G: Gate, R: Threads + Wait + RandomSource + Sync>(
     gate: &G,
     settings: &Settings,
 ) -> Result<Outcome, CollectError>
-    ensures accounts { IfOk result
-        (λ outcome. SealedAccount files.now asks.now settings.now outcome.files.items outcome.asked outcome.sealing
-        outcome.ledger.journal) }
+    ensures accounts { IfOk result (λ outcome. SealedAccount files.now asks.now settings.now
+        outcome.files.items outcome.asked outcome.sealing outcome.ledger.journal) }
     ensures limit { IfOk result (λ outcome. outcome.ledger.limit ≡ settings.now.limit) }
     ensures strict { IfOk result (λ outcome. outcome.ledger.strict ≡ settings.now.strict) }
-    ensures in_turn { IfOk result
-        (λ outcome. AnswersAsInTurn files.now asks.now settings.now outcome.files.items outcome.ledger.journal) }
+    ensures in_turn { IfOk result (λ outcome. AnswersAsInTurn files.now asks.now settings.now
+        outcome.files.items outcome.ledger.journal) }
     ensures count { (result ≡ Err CollectError.FileCount) ↔ AreNoneOrTooMany files.now }
     ensures refused { IfErr result (IsRefused files.now asks.now settings.now) }
 {
@@ -110,8 +109,8 @@ fn collect_unsettled<G: Gate, R: Threads + Wait + RandomSource + Sync>(
     settings: Settings,
 ) -> Result<Outcome, AllocError>
     requires { length files.now ≤ 64 }
-    ensures closed { IfOk result
-        (λ outcome. IsClosed files.now asks.now settings outcome.files.items outcome.asked outcome.ledger) }
+    ensures closed { IfOk result (λ outcome.
+        IsClosed files.now asks.now settings outcome.files.items outcome.asked outcome.ledger) }
     ensures small { settings.limit < 2 ^ 32 }
 {
     let Settings {

@@ -93,17 +93,18 @@ pub fn run<O: Sink, R: Threads + Wait + RandomSource + Sync>(
     settings: &Settings,
     out: &mut O,
 ) -> Result<RunEnd, RunError>
-    ensures run { IfOk result (λ run. IsRunOf (of_journal (report_of settings.now.unit)) files.now asks.now settings.now
-        run (O.state out.old) (O.state out.new)) }
-    ensures one_file { IfOk result (λ run. WritesOneFile (of_journal (report_of settings.now.unit)) files.now asks.now
-        settings.now run.status (O.state out.old) (O.state out.new)) }
-    ensures in_turn { IfOk result (λ run. WritesAsInTurn (of_journal (report_of settings.now.unit)) files.now asks.now
-        settings.now run.status (O.state out.old) (O.state out.new)) }
+    ensures run { IfOk result (λ run. IsRunOf (of_journal (report_of settings.now.unit)) files.now
+        asks.now settings.now run (O.state out.old) (O.state out.new)) }
+    ensures one_file { IfOk result (λ run. WritesOneFile (of_journal (report_of settings.now.unit))
+        files.now asks.now settings.now run.status (O.state out.old) (O.state out.new)) }
+    ensures in_turn { IfOk result (λ run. WritesAsInTurn (of_journal (report_of settings.now.unit))
+        files.now asks.now settings.now run.status (O.state out.old) (O.state out.new)) }
     ensures count { (result ≡ Err RunError.FileCount) ↔ AreNoneOrTooMany files.now }
-    ensures error { IfErr result (λ error. RunLeaves (of_journal (report_of settings.now.unit)) error files.now asks.now
+    ensures error { IfErr result (λ error. RunLeaves (of_journal (report_of settings.now.unit))
+        error files.now asks.now settings.now (O.state out.old) (O.state out.new)) }
+    ensures error_in_turn { IfErr result (λ error.
+        FailsAsInTurn (of_journal (report_of settings.now.unit)) error files.now asks.now
         settings.now (O.state out.old) (O.state out.new)) }
-    ensures error_in_turn { IfErr result (λ error. FailsAsInTurn (of_journal (report_of settings.now.unit)) error files.now
-        asks.now settings.now (O.state out.old) (O.state out.new)) }
 {
     let collected = run_to_ledger(rt, alloc, files, asks, settings, out)?;
     Ok(collected.end)
@@ -118,25 +119,28 @@ pub fn run_to_ledger<O: Sink, R: Threads + Wait + RandomSource + Sync>(
     settings: &Settings,
     out: &mut O,
 ) -> Result<Collected, RunError>
-    ensures run { IfOk result (λ collected. IsRunOf (of_journal (report_of settings.now.unit)) files.now asks.now settings.now
-        collected.end (O.state out.old) (O.state out.new)) }
-    ensures one_file { IfOk result (λ collected. WritesOneFile (of_journal (report_of settings.now.unit)) files.now asks.now
-        settings.now collected.end.status (O.state out.old) (O.state out.new)) }
-    ensures in_turn { IfOk result (λ collected. WritesAsInTurn (of_journal (report_of settings.now.unit)) files.now asks.now
-        settings.now collected.end.status (O.state out.old) (O.state out.new)) }
+    ensures run { IfOk result (λ collected. IsRunOf (of_journal (report_of settings.now.unit))
+        files.now asks.now settings.now collected.end (O.state out.old) (O.state out.new)) }
+    ensures one_file { IfOk result (λ collected.
+        WritesOneFile (of_journal (report_of settings.now.unit)) files.now asks.now settings.now
+        collected.end.status (O.state out.old) (O.state out.new)) }
+    ensures in_turn { IfOk result (λ collected.
+        WritesAsInTurn (of_journal (report_of settings.now.unit)) files.now asks.now settings.now
+        collected.end.status (O.state out.old) (O.state out.new)) }
     ensures count { (result ≡ Err RunError.FileCount) ↔ AreNoneOrTooMany files.now }
-    ensures error { IfErr result (λ error. RunLeaves (of_journal (report_of settings.now.unit)) error files.now asks.now
+    ensures error { IfErr result (λ error. RunLeaves (of_journal (report_of settings.now.unit))
+        error files.now asks.now settings.now (O.state out.old) (O.state out.new)) }
+    ensures error_in_turn { IfErr result (λ error.
+        FailsAsInTurn (of_journal (report_of settings.now.unit)) error files.now asks.now
         settings.now (O.state out.old) (O.state out.new)) }
-    ensures error_in_turn { IfErr result (λ error. FailsAsInTurn (of_journal (report_of settings.now.unit)) error files.now
-        asks.now settings.now (O.state out.old) (O.state out.new)) }
-    ensures account { IfOk result
-        (λ collected. SealedAccount files.now asks.now settings.now collected.end.ends.items collected.end.asked
+    ensures account { IfOk result (λ collected.
+        SealedAccount files.now asks.now settings.now collected.end.ends.items collected.end.asked
         collected.end.sealing collected.ledger.journal) }
     ensures limit { IfOk result (λ collected. collected.ledger.limit ≡ settings.now.limit) }
     ensures strict { IfOk result (λ collected. collected.ledger.strict ≡ settings.now.strict) }
-    ensures report { IfOk result
-        (λ collected. collected.end.status < 2
-        → TakesBytes (O.state out.old) (O.state out.new) (report_of settings.now.unit collected.ledger.journal)) }
+    ensures report { IfOk result (λ collected. collected.end.status < 2
+        → TakesBytes (O.state out.old) (O.state out.new)
+        (report_of settings.now.unit collected.ledger.journal)) }
 {
     let collected = match collect_to_ledger(rt, alloc, files, asks, settings) {
         Ok(collected) => collected,
@@ -160,8 +164,8 @@ pub fn collect_to_ledger<R: Threads + Wait + RandomSource + Sync>(
     asks: &[Query],
     settings: &Settings,
 ) -> Result<Collected, RunError>
-    ensures account { IfOk result
-        (λ collected. SealedAccount files.now asks.now settings.now collected.end.ends.items collected.end.asked
+    ensures account { IfOk result (λ collected.
+        SealedAccount files.now asks.now settings.now collected.end.ends.items collected.end.asked
         collected.end.sealing collected.ledger.journal) }
     ensures status { IfOk result
         (λ collected. collected.end.status

@@ -22,7 +22,8 @@ pub struct Sealing {
 // Where it is wanted, seals each thread that has an open span.
 pub(crate) fn seal_open_spans(alloc: Global, wanted: bool, ledger: &mut Ledger) -> Sealing
     requires { ledger.old.limit < 2 ^ 32 }
-    ensures sealed { SealsAfter wanted ledger.old.strict ledger.old.limit ledger.old.journal ledger.new.journal result }
+    ensures sealed { SealsAfter wanted ledger.old.strict ledger.old.limit ledger.old.journal
+        ledger.new.journal result }
     ensures lawful { IsLawful ledger.old → IsLawful ledger.new }
     ensures limit { ledger.new.limit ≡ ledger.old.limit }
     ensures strict { ledger.new.strict ≡ ledger.old.strict }
@@ -78,7 +79,8 @@ fn seal_for(ledger: &Ledger, row: &ThreadRow) -> Option<Op>
 fn tell_all(ledger: &mut Ledger, seals: Vec<Op>) -> Sealing
     requires small { ledger.old.limit < 2 ^ 32 }
     requires good { All IsGoodOp seals.items }
-    ensures sealed { AddsSeals seals.items ledger.old.strict ledger.old.limit ledger.old.journal ledger.new.journal result }
+    ensures sealed { AddsSeals seals.items ledger.old.strict ledger.old.limit ledger.old.journal
+        ledger.new.journal result }
     ensures lawful { IsLawful ledger.old → IsLawful ledger.new }
     ensures limit { ledger.new.limit ≡ ledger.old.limit }
     ensures strict { ledger.new.strict ≡ ledger.old.strict }

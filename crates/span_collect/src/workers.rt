@@ -55,7 +55,8 @@ pub(crate) fn enrol_all<R: Wait>(
     requires { IsSeatOf share.now main.old }
     ensures same { main.new ≡ main.old }
     ensures count { IfOk result (λ seats. length seats.items ≡ count) }
-    ensures new { IfOk result (λ seats. All (λ seat. IfSome seat (IsNewSeat share.now)) seats.items) }
+    ensures new { IfOk result (λ seats.
+        All (λ seat. IfSome seat (IsNewSeat share.now)) seats.items) }
 {
     let mut seats = Vec::with_capacity(alloc, count)?;
     for _ in 0..count {
@@ -94,7 +95,8 @@ fn start_worker<'s, E, G: Gate, R: Wait + Sync>(
             promise,
             move ||
                 requires { IsNewSeat share.now seat }
-                ensures { IsWorked share.entry.now (doc unit file.entry.now.bytes.items) result.0 result.1 }
+                ensures { IsWorked share.entry.now
+                    (doc unit file.entry.now.bytes.items) result.0 result.1 }
             {
                 let mut seat = seat;
                 let end = work(
@@ -144,7 +146,8 @@ fn finish<G: Gate, R: Threads + Wait>(
     worker: Worker,
 ) -> Option<(FileEnd, Seat)>
     requires { IsWorkerOf workplace.now.unit share.now file.now worker }
-    ensures { IfSome result (λ worked. IsWorked share.now (doc workplace.now.unit file.now.bytes.items) worked.0 worked.1) }
+    ensures { IfSome result (λ worked.
+        IsWorked share.now (doc workplace.now.unit file.now.bytes.items) worked.0 worked.1) }
 {
     match worker {
         Worker::Thread(handle) => Some(handle?.join(rt)),
@@ -172,7 +175,8 @@ fn work_all<'s, E, G: Gate, R: Threads + Wait + Sync>(
     ends: &mut Vec<FileEnd>,
 ) -> Asked
     requires { IsReadyToWork share.now files.now seats.old.items main.old ends.old }
-    ensures met { HasMet workplace.now.unit share.now files.now asks.now ends.new.items result main.new }
+    ensures met { HasMet workplace.now.unit share.now files.now asks.now
+        ends.new.items result main.new }
     ensures room { vec_capacity ends.new ≡ vec_capacity ends.old }
 {
     let Some((file, others)) = files.split_last() else {
@@ -241,7 +245,8 @@ pub(crate) fn run_workers<G: Gate, R: Threads + Wait + Sync>(
         rt,
         move |scope|
             requires { IsReadyToWork share.now files.now seats.items main ends }
-            ensures { HasMet unit share.entry.now files.entry.now asks.entry.now result.2.items result.0 result.1 }
+            ensures { HasMet unit share.entry.now files.entry.now asks.entry.now
+                result.2.items result.0 result.1 }
         {
             let mut seats = seats;
             let mut main = main;

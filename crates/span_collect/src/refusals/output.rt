@@ -21,10 +21,11 @@ pub fn write_refusals<O: Sink>(
     out: &mut O,
 ) -> Result<(), WriteFault>
     requires { length files.now ≡ length ends.now }
-    ensures ok { OnOk result
-        (TakesBytes (O.state out.old) (O.state out.new) (refusals_of unit files.now ends.now ledger.now.journal)) }
+    ensures ok { OnOk result (TakesBytes (O.state out.old) (O.state out.new)
+        (refusals_of unit files.now ends.now ledger.now.journal)) }
     ensures fault { IfErr result (λ fault. WriteLeaves fault
-        (refusals_of unit files.now ends.now ledger.now.journal) (O.state out.old) (O.state out.new)) }
+        (refusals_of unit files.now ends.now ledger.now.journal)
+        (O.state out.old) (O.state out.new)) }
 {
     write_made(refusals(alloc, unit, ledger, files, ends), out)
 }

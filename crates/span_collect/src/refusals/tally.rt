@@ -21,7 +21,8 @@ impl Refused {
     // With one more item.
     fn and(self, place: u32) -> Refused
         requires { self.count < 2 ^ 32 - 1 }
-        ensures { (places : List ℕ) → self ≡ refused_at places → result ≡ refused_at (places ++ place ∷ []) }
+        ensures { (places : List ℕ) → self ≡ refused_at places
+            → result ≡ refused_at (places ++ place ∷ []) }
     {
         let first = if self.count == 0 { place } else { self.first };
         Refused {

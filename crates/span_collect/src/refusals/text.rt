@@ -24,7 +24,8 @@ pub fn refusals(
     ends: &[FileEnd],
 ) -> Result<Vec<u8>, AllocError>
     requires { length files.now ≡ length ends.now }
-    ensures { IfOk result (λ text. text.items ≡ refusals_of unit files.now ends.now ledger.now.journal) }
+    ensures { IfOk result (λ text. text.items
+        ≡ refusals_of unit files.now ends.now ledger.now.journal) }
 {
     let text = refusals_text(alloc, unit, ledger, files, ends)?;
     Ok(text.into_bytes())
@@ -39,7 +40,8 @@ pub fn refusals_text(
     ends: &[FileEnd],
 ) -> Result<String, AllocError>
     requires { length files.now ≡ length ends.now }
-    ensures { IfOk result (λ text. string_bytes text ≡ refusals_of unit files.now ends.now ledger.now.journal) }
+    ensures { IfOk result (λ text. string_bytes text
+        ≡ refusals_of unit files.now ends.now ledger.now.journal) }
 {
     let mut out = head(alloc, unit, ledger.counts())?;
     let tallies = tallies(alloc, ledger)?;
@@ -75,7 +77,8 @@ fn put_refused(
     name: &Text,
     tally: &Tally,
 ) -> Result<(), AllocError>
-    ensures { OnOk result (string_bytes out.new ≡ string_bytes out.old ++ flat_map (refused_line name.now) tally.now.refused) }
+    ensures { OnOk result (string_bytes out.new
+        ≡ string_bytes out.old ++ flat_map (refused_line name.now) tally.now.refused) }
 {
     for (code, refused) in &tally.refused {
         put_line(alloc, out, name, *code, *refused)?;
@@ -91,7 +94,8 @@ fn put_line(
     code: u16,
     refused: Refused,
 ) -> Result<(), AllocError>
-    ensures { OnOk result (string_bytes out.new ≡ string_bytes out.old ++ refused_line name.now (code, refused)) }
+    ensures { OnOk result (string_bytes out.new
+        ≡ string_bytes out.old ++ refused_line name.now (code, refused)) }
 {
     let name = json_text(alloc, name)?;
     let fault = numbered_text(alloc, code)?;
