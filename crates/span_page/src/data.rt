@@ -33,8 +33,8 @@ pub(crate) fn put_data(
     table: String,
 ) -> Result<(), AllocError>
     requires { length files.now ≡ length ends.now }
-    ensures { OnOk result (out.new.items ≡ out.old.items
-        ++ safe (data_of unit labels.now (string_bytes table) files.now ends.now ledger.now.journal)) }
+    ensures { OnOk result (out.new.items ≡ out.old.items ++ safe
+        (data_of unit labels.now (string_bytes table) files.now ends.now ledger.now.journal)) }
 {
     let threads = put_report(alloc, unit, out, ledger)?;
     out.extend_from_slice(b",\"table\":")?;
@@ -62,7 +62,8 @@ pub(crate) fn put_report(
 ) -> Result<Vec<Thread>, AllocError>
     ensures text { OnOk result (out.new.items ≡ out.old.items
         ++ (codes "{\"report\":" ++ safe (json_text_of (report_of unit ledger.now.journal)))) }
-    ensures threads { IfOk result (λ threads. threads.items ≡ threads_of (process_parts ledger.now.journal)) }
+    ensures threads { IfOk result (λ threads. threads.items
+        ≡ threads_of (process_parts ledger.now.journal)) }
 {
     let (report, threads) = report_and_threads(alloc, unit, ledger)?;
     out.extend_from_slice(b"{\"report\":")?;
@@ -86,7 +87,8 @@ pub(crate) fn put_rest(
     requires threads { threads.now ≡ threads_of (process_parts ledger.now.journal) }
     ensures text { OnOk result (out.new.items ≡ out.old.items
         ++ safe (rest_of unit left labels.now files.now ends.now ledger.now.journal)) }
-    ensures left { IfOk result (λ rest. rest ≡ left_behind labels.now ledger.now.journal left threads.now) }
+    ensures left { IfOk result (λ rest.
+        rest ≡ left_behind labels.now ledger.now.journal left threads.now) }
 {
     out.extend_from_slice(b",\"refused\":")?;
     put_safe_string(alloc, out, refusals_text(alloc, unit, ledger, files, ends)?)?;
@@ -135,7 +137,8 @@ fn report_and_threads(
     ledger: &Ledger,
 ) -> Result<(String, Vec<Thread>), AllocError>
     ensures report { IfOk result (λ both. string_bytes both.0 ≡ report_of unit ledger.now.journal) }
-    ensures threads { IfOk result (λ both. both.1.items ≡ threads_of (process_parts ledger.now.journal)) }
+    ensures threads { IfOk result (λ both. both.1.items
+        ≡ threads_of (process_parts ledger.now.journal)) }
 {
     let parts = ledger.parts(alloc)?;
     let report = report_text(alloc, unit, ledger, &parts)?;
@@ -149,7 +152,8 @@ pub(crate) fn put_safe_string(
     out: &mut Vec<u8>,
     text: String,
 ) -> Result<(), AllocError>
-    ensures { OnOk result (out.new.items ≡ out.old.items ++ safe (json_text_of (string_bytes text))) }
+    ensures { OnOk result (out.new.items
+        ≡ out.old.items ++ safe (json_text_of (string_bytes text))) }
 {
     let json = string_json(alloc, text)?;
     put_safe(out, json.as_bytes())
@@ -173,8 +177,10 @@ fn stacks_text(
     left: u32,
 ) -> Result<(String, u32), AllocError>
     requires { threads.now ≡ threads_of (process_parts ledger.now.journal) }
-    ensures text { IfOk result (λ both. string_bytes both.0 ≡ all_stacks_json left labels.now ledger.now.journal) }
-    ensures left { IfOk result (λ both. both.1 ≡ left_behind labels.now ledger.now.journal left threads.now) }
+    ensures text { IfOk result (λ both. string_bytes both.0
+        ≡ all_stacks_json left labels.now ledger.now.journal) }
+    ensures left { IfOk result (λ both. both.1
+        ≡ left_behind labels.now ledger.now.journal left threads.now) }
 {
     let mut out = String::from_str(alloc, "[")?;
     let rest = put_threads(alloc, &mut out, ledger, labels, threads, left)?;
@@ -223,9 +229,10 @@ fn put_threads(
     threads: &[Thread],
     left: u32,
 ) -> Result<u32, AllocError>
-    ensures json { OnOk result (string_bytes out.new
-        ≡ string_bytes out.old ++ join_with_byte 44 (graphs_json labels.now ledger.now.journal left threads.now)) }
-    ensures left { IfOk result (λ rest. rest ≡ left_behind labels.now ledger.now.journal left threads.now) }
+    ensures json { OnOk result (string_bytes out.new ≡ string_bytes out.old
+        ++ join_with_byte 44 (graphs_json labels.now ledger.now.journal left threads.now)) }
+    ensures left { IfOk result (λ rest.
+        rest ≡ left_behind labels.now ledger.now.journal left threads.now) }
 {
     let Some((first, later)) = threads.split_first() else {
         return Ok(left);
@@ -249,7 +256,8 @@ fn put_thread(
 ) -> Result<u32, AllocError>
     ensures json { OnOk result (string_bytes out.new
         ≡ string_bytes out.old ++ graph_json labels.now ledger.now.journal left thread.now) }
-    ensures left { IfOk result (λ rest. rest ≡ left_after labels.now ledger.now.journal left thread.now) }
+    ensures left { IfOk result (λ rest.
+        rest ≡ left_after labels.now ledger.now.journal left thread.now) }
 {
     let spans = LabelledSpans::of_thread(alloc, ledger, *thread, labels)?;
     match framed_stacks(alloc, &spans, left) {

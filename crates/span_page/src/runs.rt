@@ -31,7 +31,8 @@ impl Model for RunsPage {
 impl RunsPage {
     /// The page of no runs.
     pub fn begin(alloc: Global) -> Result<RunsPage, AllocError>
-        ensures { IfOk result (λ page. (unit : Unit) (labels : List SpanColumn) → Holds unit labels [] page) }
+        ensures { IfOk result (λ page. (unit : Unit) (labels : List SpanColumn)
+            → Holds unit labels [] page) }
     {
         let mut text = Vec::new(alloc);
         text.extend_from_slice(head().as_bytes())?;
@@ -79,8 +80,10 @@ impl RunsPage {
 
     /// The whole page, with the text of a table of spans, which is JSON Lines.
     pub fn end(self, alloc: Global, table: String) -> Result<Vec<u8>, AllocError>
-        ensures { IfOk result (λ text. (unit : Unit) (labels : List SpanColumn) (runs : List ShownRun)
-            → Holds unit labels runs self → text.items ≡ page_of_runs unit labels (string_bytes table) runs) }
+        ensures { IfOk result (λ text.
+            (unit : Unit) (labels : List SpanColumn) (runs : List ShownRun)
+            → Holds unit labels runs self
+            → text.items ≡ page_of_runs unit labels (string_bytes table) runs) }
     {
         let RunsPage { mut text, .. } = self;
         text.extend_from_slice(b"],\"table\":")?;

@@ -26,7 +26,8 @@ pub(crate) fn put_safe(out: &mut Vec<u8>, text: &[u8]) -> Result<(), AllocError>
 // Appends what stands for the first of these bytes, and answers those behind them.
 fn put_some<'a>(out: &mut Vec<u8>, text: &'a [u8]) -> Result<&'a [u8], AllocError>
     requires { 0 < length text.now }
-    ensures safe { IfOk result (λ rest. out.new.items ++ safe rest.now ≡ out.old.items ++ safe text.now) }
+    ensures safe { IfOk result (λ rest. out.new.items ++ safe rest.now
+        ≡ out.old.items ++ safe text.now) }
     ensures fewer { IfOk result (λ rest. length rest.now < length text.now) }
 {
     let plain = plain_length(text);
@@ -59,7 +60,8 @@ fn is_plain(byte: u8) -> bool
 // Appends what stands for a separator, or for the first byte, and answers the bytes behind it.
 fn put_first<'a>(out: &mut Vec<u8>, text: &'a [u8]) -> Result<&'a [u8], AllocError>
     requires { 0 < length text.now }
-    ensures safe { IfOk result (λ rest. out.new.items ++ safe rest.now ≡ out.old.items ++ safe text.now) }
+    ensures safe { IfOk result (λ rest. out.new.items ++ safe rest.now
+        ≡ out.old.items ++ safe text.now) }
     ensures fewer { IfOk result (λ rest. length rest.now < length text.now) }
 {
     if text.starts_with(LINE_SEPARATOR) {

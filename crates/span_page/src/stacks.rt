@@ -31,8 +31,8 @@ pub(crate) fn put_stacks(
 // frame since then, so no frame is appended twice, and no stack is compared with another.
 fn put_each(alloc: Global, out: &mut String, frames: &[StackFrame]) -> Result<(), AllocError>
     requires { AreAscending [] frames.now }
-    ensures { OnOk result (string_bytes out.new
-        ≡ string_bytes out.old ++ join_with_byte 44 (map stack_json (coded_after [] (folded_after [] frames.now)))) }
+    ensures { OnOk result (string_bytes out.new ≡ string_bytes out.old
+        ++ join_with_byte 44 (map stack_json (coded_after [] (folded_after [] frames.now)))) }
 {
     let mut stack = Vec::new(alloc);
     let mut shared = 0;
@@ -58,8 +58,8 @@ fn put_coded(
     others: &[&Text],
     time: u64,
 ) -> Result<(), AllocError>
-    ensures { OnOk result (string_bytes out.new ≡ string_bytes out.old
-        ++ stack_json (record { shared = shared; others = map (λ name. name.now) others.now; time = time })) }
+    ensures { OnOk result (string_bytes out.new ≡ string_bytes out.old ++ stack_json
+        (record { shared = shared; others = map (λ name. name.now) others.now; time = time })) }
 {
     write!(out, "[{shared},[")?;
     put_names(alloc, out, others)?;
@@ -68,8 +68,8 @@ fn put_coded(
 
 // Appends the names, parted by commas.
 fn put_names(alloc: Global, out: &mut String, names: &[&Text]) -> Result<(), AllocError>
-    ensures { OnOk result (string_bytes out.new
-        ≡ string_bytes out.old ++ join_with_byte 44 (map json_text_of (map (λ name. name.now) names.now))) }
+    ensures { OnOk result (string_bytes out.new ≡ string_bytes out.old
+        ++ join_with_byte 44 (map json_text_of (map (λ name. name.now) names.now))) }
 {
     let Some((first, later)) = names.split_first() else {
         return Ok(());
