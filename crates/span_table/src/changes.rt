@@ -153,7 +153,8 @@ fn tell_base<'a>(
     requires base { RowsRise base.now }
     requires other { RowsRise other.now }
     requires nothing { Tells shown.now [] found.old.changes.items found.old.same found.old.all }
-    ensures told { OnOk result (Tells shown.now (base_keys base.now other.now) found.new.changes.items found.new.same found.new.all) }
+    ensures told { OnOk result (Tells shown.now (base_keys base.now other.now)
+        found.new.changes.items found.new.same found.new.all) }
     ensures few { OnOk result (found.new.all < 2 ^ 64) }
 {
     let mut place = 0;
@@ -177,9 +178,12 @@ fn tell_new<'a>(
 ) -> Result<(), AllocError>
     requires base { RowsRise base.now }
     requires other { RowsRise other.now }
-    requires told { Tells shown.now (base_keys base.now other.now) found.old.changes.items found.old.same found.old.all }
+    requires told { Tells shown.now (base_keys base.now other.now)
+        found.old.changes.items found.old.same found.old.all }
     requires few { found.old.all < 2 ^ 64 }
-    ensures told { OnOk result (Tells shown.now (base_keys base.now other.now ++ new_keys base.now other.now) found.new.changes.items found.new.same found.new.all) }
+    ensures told { OnOk result (Tells shown.now
+        (base_keys base.now other.now ++ new_keys base.now other.now)
+        found.new.changes.items found.new.same found.new.all) }
     ensures few { OnOk result (found.new.all < 2 ^ 65) }
 {
     let mut place = 0;
@@ -200,8 +204,10 @@ fn tell_if_new<'a>(
     requires same { found.old.same < 2 ^ 128 - 1 }
     requires all { found.old.all < 2 ^ 128 - 1 }
     ensures few { OnOk result (found.new.all ≤ found.old.all + 1) }
-    ensures told { OnOk result ((keys : List Change) → Tells shown.now keys found.old.changes.items found.old.same found.old.all
-        → Tells shown.now (keys ++ new_key base.now row.now) found.new.changes.items found.new.same found.new.all) }
+    ensures told { OnOk result ((keys : List Change)
+        → Tells shown.now keys found.old.changes.items found.old.same found.old.all
+        → Tells shown.now (keys ++ new_key base.now row.now)
+        found.new.changes.items found.new.same found.new.all) }
 {
     if find(base, place, &row.key).is_some() {
         return Ok(());
@@ -218,8 +224,10 @@ fn tell<'a>(found: &mut Told<'a>, changed: Changed<'a>, shown: &Shown) -> Result
     requires same { found.old.same < 2 ^ 128 - 1 }
     requires all { found.old.all < 2 ^ 128 - 1 }
     ensures few { OnOk result (found.new.all ≤ found.old.all + 1) }
-    ensures told { OnOk result ((keys : List Change) → Tells shown.now keys found.old.changes.items found.old.same found.old.all
-        → Tells shown.now (keys ++ changed.entry ∷ []) found.new.changes.items found.new.same found.new.all) }
+    ensures told { OnOk result ((keys : List Change)
+        → Tells shown.now keys found.old.changes.items found.old.same found.old.all
+        → Tells shown.now (keys ++ changed.entry ∷ [])
+        found.new.changes.items found.new.same found.new.all) }
 {
     found.all += 1;
     if !shown.has(changed.key) {

@@ -232,7 +232,8 @@ fn key_of(
     name: &Text,
     args: &Args,
 ) -> Result<Key, AllocError>
-    ensures { IfOk result (λ key. key ≡ map (value_at run.now thread name.now args.now) columns.now) }
+    ensures { IfOk result (λ key.
+        key ≡ map (value_at run.now thread name.now args.now) columns.now) }
 {
     let mut values = Vec::with_capacity(alloc, columns.len())?;
     for column in columns {
@@ -263,8 +264,10 @@ pub(crate) fn add_entries(groups: &mut Groups, entries: Vec<(Key, Sums)>) -> Res
     requires others { RowsRise (map row_of entries.items) }
     requires mine { AllWithin (2 ^ 198) groups.old }
     requires its { AllWithin (2 ^ 198) entries.items }
-    ensures takes { OnOk result (Takes groups.old groups.new (keyed_rows (map row_of entries.items))) }
-    ensures bound { OnOk result ((n : ℕ) → AllWithin n entries.items → GrowsBy n groups.old groups.new) }
+    ensures takes { OnOk result
+        (Takes groups.old groups.new (keyed_rows (map row_of entries.items))) }
+    ensures bound { OnOk result ((n : ℕ) → AllWithin n entries.items
+        → GrowsBy n groups.old groups.new) }
 {
     for (key, sums) in entries {
         groups.add(key, sums)?;

@@ -39,8 +39,10 @@ impl Column {
     /// The column of this name, as `name` gives it: `pid`, `tid`, `process`, `thread`, `name`, `file`, `cat`, `scope`, `id`, or
     /// `args.KEY` with whatever KEY that is not empty. None where no column has the name.
     pub fn named(alloc: Global, name: &str) -> Result<Option<Column>, AllocError>
-        ensures name { IfOk result (λ found. IfSome found (λ column. column_name column ≡ name.now)) }
-        ensures found { IfOk result (λ found. (column : Column) → is_column column ≡ true → column_name column ≡ name.now → found ≡ Some column) }
+        ensures name { IfOk result (λ found.
+            IfSome found (λ column. column_name column ≡ name.now)) }
+        ensures found { IfOk result (λ found. (column : Column) → is_column column ≡ true
+            → column_name column ≡ name.now → found ≡ Some column) }
         ensures key { IfOk result (λ found. found ≢ Some (Argument [])) }
     {
         match name {
@@ -135,7 +137,8 @@ impl Column {
         name: &Text,
         args: &Args,
     ) -> Result<Option<ArgValue>, AllocError>
-        ensures { IfOk result (λ value. value ≡ value_at run.now thread name.now args.now self.now) }
+        ensures { IfOk result (λ value.
+            value ≡ value_at run.now thread name.now args.now self.now) }
     {
         match self {
             Column::Pid => Ok(Some(ArgValue::Whole(thread.pid))),
@@ -184,7 +187,8 @@ fn id_text(alloc: Global, key: &IdKey) -> Result<Text, AllocError>
 
 fn argument_named(alloc: Global, name: &str) -> Result<Option<Column>, AllocError>
     ensures name { IfOk result (λ found. IfSome found (λ column. column_name column ≡ name.now)) }
-    ensures found { IfOk result (λ found. (key : Bytes) → 0 < length key → codes "args." ++ key ≡ name.now → found ≡ Some (Argument key)) }
+    ensures found { IfOk result (λ found. (key : Bytes) → 0 < length key
+        → codes "args." ++ key ≡ name.now → found ≡ Some (Argument key)) }
     ensures key { IfOk result (λ found. found ≢ Some (Argument [])) }
 {
     match name.strip_prefix("args.") {

@@ -31,7 +31,8 @@ pub fn comparison(
     by: By,
     tells_runs: bool,
 ) -> Result<Vec<u8>, AllocError>
-    ensures { IfOk result (λ text. text.items ≡ comparison_of unit by shown.now tells_runs base.now other.now) }
+    ensures { IfOk result (λ text. text.items
+        ≡ comparison_of unit by shown.now tells_runs base.now other.now) }
 {
     let mut out = first_line(alloc)?;
     put_unit(&mut out, unit)?;
@@ -53,7 +54,8 @@ pub(crate) fn put_heads(
     other: &Head,
     tells_runs: bool,
 ) -> Result<(), AllocError>
-    ensures { OnOk result (string_bytes out.new ≡ string_bytes out.old ++ compared_heads tells_runs base.now other.now) }
+    ensures { OnOk result (string_bytes out.new
+        ≡ string_bytes out.old ++ compared_heads tells_runs base.now other.now) }
 {
     put_base(out, &base.counts)?;
     put_base_runs(out, base, tells_runs)?;
@@ -74,7 +76,8 @@ fn put_base(out: &mut String, counts: &HeadCounts) -> Result<(), AllocError>
 }
 
 fn put_base_runs(out: &mut String, head: &Head, tells_runs: bool) -> Result<(), AllocError>
-    ensures { OnOk result (string_bytes out.new ≡ string_bytes out.old ++ base_runs_line tells_runs head.now) }
+    ensures { OnOk result (string_bytes out.new
+        ≡ string_bytes out.old ++ base_runs_line tells_runs head.now) }
 {
     if !tells_runs {
         return Ok(());
@@ -97,7 +100,8 @@ fn put_columns(
     of: Of,
     columns: &[Column],
 ) -> Result<(), AllocError>
-    ensures { OnOk result (string_bytes out.new ≡ string_bytes out.old ++ change_columns of columns.now) }
+    ensures { OnOk result (string_bytes out.new
+        ≡ string_bytes out.old ++ change_columns of columns.now) }
 {
     put_names(out, of)?;
     put_titles(alloc, out, columns)?;
@@ -124,7 +128,8 @@ fn put_changes(
     of: Of,
     changes: &[Changed],
 ) -> Result<(), AllocError>
-    ensures { OnOk result (string_bytes out.new ≡ string_bytes out.old ++ flat_map (change_line of) changes.now) }
+    ensures { OnOk result (string_bytes out.new
+        ≡ string_bytes out.old ++ flat_map (change_line of) changes.now) }
 {
     for change in changes {
         put_change(alloc, out, of, change)?;
@@ -134,7 +139,8 @@ fn put_changes(
 
 #[tactic(auto, using(crate::proofs::Pieces::change_line_pieces, std::proofs::Common::append_assoc))]
 fn put_change(alloc: Global, out: &mut String, of: Of, change: &Changed) -> Result<(), AllocError>
-    ensures { OnOk result (string_bytes out.new ≡ string_bytes out.old ++ change_line of change.now) }
+    ensures { OnOk result (string_bytes out.new
+        ≡ string_bytes out.old ++ change_line of change.now) }
 {
     put_both(alloc, out, of, &change.both)?;
     put_values(alloc, out, change.key.values())?;
@@ -152,7 +158,8 @@ fn put_both(alloc: Global, out: &mut String, of: Of, both: &Both) -> Result<(), 
 
 #[tactic(auto, using(std::proofs::Common::append_assoc))]
 fn put_both_async(alloc: Global, out: &mut String, both: &Both) -> Result<(), AllocError>
-    ensures { OnOk result (string_bytes out.new ≡ string_bytes out.old ++ both_text Async both.now) }
+    ensures { OnOk result (string_bytes out.new
+        ≡ string_bytes out.old ++ both_text Async both.now) }
 {
     let (base, other) = (&both.base, &both.other);
     put_times(alloc, out, &base.total, &other.total)?;
@@ -164,7 +171,8 @@ fn put_both_async(alloc: Global, out: &mut String, both: &Both) -> Result<(), Al
 
 #[tactic(auto, using(std::proofs::Common::append_assoc))]
 fn put_both_spans(alloc: Global, out: &mut String, both: &Both) -> Result<(), AllocError>
-    ensures { OnOk result (string_bytes out.new ≡ string_bytes out.old ++ both_text Spans both.now) }
+    ensures { OnOk result (string_bytes out.new
+        ≡ string_bytes out.old ++ both_text Spans both.now) }
 {
     let (base, other) = (&both.base, &both.other);
     put_times(alloc, out, &base.self_time, &other.self_time)?;
@@ -182,7 +190,8 @@ pub(crate) fn put_times(
     base: &Sum,
     other: &Sum,
 ) -> Result<(), AllocError>
-    ensures { OnOk result (string_bytes out.new ≡ string_bytes out.old ++ times_text base.now other.now) }
+    ensures { OnOk result (string_bytes out.new
+        ≡ string_bytes out.old ++ times_text base.now other.now) }
 {
     put_right(out, 16, &difference(alloc, base, other)?)?;
     out.push(' ')?;

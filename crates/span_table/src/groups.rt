@@ -57,7 +57,8 @@ impl Groups {
     pub(crate) fn add(&mut self, key: Key, more: Sums) -> Result<(), AllocError>
         requires all { AllWithin (2 ^ 200) self.old }
         requires more { IsWithin (2 ^ 200) more }
-        ensures takes { OnOk result (Takes self.old self.new (record { key = key; step = more } ∷ [])) }
+        ensures takes { OnOk result
+            (Takes self.old self.new (record { key = key; step = more } ∷ [])) }
         ensures bound { OnOk result ((n : ℕ) → IsWithin n more → GrowsBy n self.old self.new) }
         ensures err { OnErr result (self.new ≡ self.old) }
     {
@@ -71,7 +72,8 @@ impl Groups {
     pub(crate) fn add_copy(&mut self, key: &Key, more: &Sums) -> Result<(), AllocError>
         requires all { AllWithin (2 ^ 200) self.old }
         requires more { IsWithin (2 ^ 200) more.now }
-        ensures takes { OnOk result (Takes self.old self.new (record { key = key.now; step = more.now } ∷ [])) }
+        ensures takes { OnOk result
+            (Takes self.old self.new (record { key = key.now; step = more.now } ∷ [])) }
         ensures bound { OnOk result ((n : ℕ) → IsWithin n more.now → GrowsBy n self.old self.new) }
         ensures err { OnErr result (self.new ≡ self.old) }
     {
@@ -86,8 +88,10 @@ impl Groups {
     fn add_known(&mut self, key: &Key, more: &Sums) -> bool
         requires all { AllWithin (2 ^ 200) self.old }
         requires more { IsWithin (2 ^ 200) more.now }
-        ensures takes { IsTrue result → Takes self.old self.new (record { key = key.now; step = more.now } ∷ []) }
-        ensures bound { IsTrue result → (n : ℕ) → IsWithin n more.now → GrowsBy n self.old self.new }
+        ensures takes { IsTrue result
+            → Takes self.old self.new (record { key = key.now; step = more.now } ∷ []) }
+        ensures bound { IsTrue result → (n : ℕ) → IsWithin n more.now
+            → GrowsBy n self.old self.new }
         ensures same { result ≡ false → self.new ≡ self.old }
         ensures new { result ≡ false → lookup (is_at (key_cmp key.now)) self.new ≡ None }
     {
@@ -105,7 +109,8 @@ impl Groups {
     fn insert(&mut self, key: Key, more: Sums) -> Result<(), AllocError>
         requires new { lookup (is_at (key_cmp key)) self.old ≡ None }
         requires all { AllWithin (2 ^ 200) self.old }
-        ensures takes { OnOk result (Takes self.old self.new (record { key = key; step = more } ∷ [])) }
+        ensures takes { OnOk result
+            (Takes self.old self.new (record { key = key; step = more } ∷ [])) }
         ensures bound { OnOk result ((n : ℕ) → IsWithin n more → GrowsBy n self.old self.new) }
         ensures err { OnErr result (self.new ≡ self.old) }
     {

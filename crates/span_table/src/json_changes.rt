@@ -27,9 +27,11 @@ pub fn json_comparison(
     other: &Table,
     shown: &Shown,
 ) -> Result<Vec<u8>, JsonFault>
-    ensures text { IfOk result (λ text. text.items ≡ json_comparison_of unit shown.now base.now other.now) }
+    ensures text { IfOk result (λ text. text.items
+        ≡ json_comparison_of unit shown.now base.now other.now) }
     ensures fits { OnOk result (json_changes_fit shown.now base.now other.now ≡ true) }
-    ensures too_great { IfErr result (λ fault. fault ≡ TooGreat → json_changes_fit shown.now base.now other.now ≡ false) }
+    ensures too_great { IfErr result (λ fault. fault ≡ TooGreat
+        → json_changes_fit shown.now base.now other.now ≡ false) }
 {
     let of = other.kind();
     let Ok(found) = differences(alloc, of, base.rows(), other.rows(), shown, of.by()) else {
@@ -63,8 +65,8 @@ fn text_of(
     other: &Table,
     found: &ComparedTables,
 ) -> Result<Vec<u8>, AllocError>
-    ensures { IfOk result (λ text. text.items
-        ≡ json_heads other.now.of unit other.now.columns (length found.now.changes.items) found.now.same base.now.head other.now.head
+    ensures { IfOk result (λ text. text.items ≡ json_heads other.now.of unit other.now.columns
+        (length found.now.changes.items) found.now.same base.now.head other.now.head
         ++ flat_map (json_change other.now.of other.now.columns) found.now.changes.items) }
 {
     let mut out = String::new(alloc);
@@ -101,8 +103,9 @@ pub(crate) struct FirstLine<'a> {
 /// Appends the first line of a comparison.
 #[tactic(auto, using(crate::proofs::JsonPieces::json_heads_pieces, std::proofs::Common::append_assoc))]
 pub(crate) fn put_first(alloc: Global, out: &mut String, line: &FirstLine) -> Result<(), AllocError>
-    ensures { OnOk result (string_bytes out.new ≡ string_bytes out.old
-        ++ json_heads line.now.of line.now.unit line.now.columns.now line.now.rows line.now.same line.now.base line.now.other) }
+    ensures { OnOk result (string_bytes out.new
+        ≡ string_bytes out.old ++ json_heads line.now.of line.now.unit line.now.columns.now
+        line.now.rows line.now.same line.now.base line.now.other) }
 {
     put_start(out, line.of, line.unit)?;
     put_columns(alloc, out, line.columns)?;
@@ -149,7 +152,8 @@ fn put_change(
     columns: &[Column],
     change: &Changed,
 ) -> Result<(), AllocError>
-    ensures { OnOk result (string_bytes out.new ≡ string_bytes out.old ++ json_change of columns.now change.now) }
+    ensures { OnOk result (string_bytes out.new
+        ≡ string_bytes out.old ++ json_change of columns.now change.now) }
 {
     out.push('{')?;
     put_members(alloc, out, columns, change.key.values())?;
@@ -168,7 +172,8 @@ fn put_both(alloc: Global, out: &mut String, of: Of, both: &Both) -> Result<(), 
 
 #[tactic(auto, using(std::proofs::Common::append_assoc))]
 fn put_both_spans(alloc: Global, out: &mut String, both: &Both) -> Result<(), AllocError>
-    ensures { OnOk result (string_bytes out.new ≡ string_bytes out.old ++ both_text Spans both.now) }
+    ensures { OnOk result (string_bytes out.new
+        ≡ string_bytes out.old ++ both_text Spans both.now) }
 {
     put_spans(alloc, out, both)?;
     put_totals(alloc, out, both)?;
@@ -177,7 +182,8 @@ fn put_both_spans(alloc: Global, out: &mut String, both: &Both) -> Result<(), Al
 
 #[tactic(auto, using(std::proofs::Common::append_assoc))]
 fn put_both_async(alloc: Global, out: &mut String, both: &Both) -> Result<(), AllocError>
-    ensures { OnOk result (string_bytes out.new ≡ string_bytes out.old ++ both_text Async both.now) }
+    ensures { OnOk result (string_bytes out.new
+        ≡ string_bytes out.old ++ both_text Async both.now) }
 {
     put_closed(alloc, out, both)?;
     put_totals(alloc, out, both)?;

@@ -46,7 +46,8 @@ pub fn json_table(
 ) -> Result<Vec<u8>, JsonFault>
     ensures text { IfOk result (λ text. text.items ≡ json_of unit shown.now table.now) }
     ensures fits { OnOk result (AllFit (shown_table shown.now table.now)) }
-    ensures too_great { IfErr result (λ fault. fault ≡ TooGreat → json_fits shown.now table.now ≡ false) }
+    ensures too_great { IfErr result (λ fault. fault ≡ TooGreat
+        → json_fits shown.now table.now ≡ false) }
 {
     let Ok(rows) = shown.rows(alloc, table.rows()) else {
         return Err(JsonFault::Memory);
@@ -112,7 +113,8 @@ fn text_of(
 ) -> Result<Vec<u8>, AllocError>
     requires { list_all (λ row. fit row.sums) rows.now ≡ true }
     ensures text { IfOk result (λ text. text.items
-        ≡ json_head table.now.of unit table.now.columns (length rows.now) table.now.head ++ flat_map (json_line table.now.of table.now.columns) rows.now) }
+        ≡ json_head table.now.of unit table.now.columns (length rows.now) table.now.head
+        ++ flat_map (json_line table.now.of table.now.columns) rows.now) }
     ensures few { OnOk result (length rows.now < 2 ^ 64) }
     ensures keys { OnOk result (All (λ row. KeyFits table.now.columns row.key) rows.now) }
 {
@@ -151,7 +153,8 @@ pub fn put_json_head(
     rows: usize,
     head: Head,
 ) -> Result<(), AllocError>
-    ensures { OnOk result (string_bytes out.new ≡ string_bytes out.old ++ json_head of unit columns.now rows head) }
+    ensures { OnOk result (string_bytes out.new
+        ≡ string_bytes out.old ++ json_head of unit columns.now rows head) }
 {
     put_start(out, of, unit)?;
     put_columns(alloc, out, columns)?;
@@ -210,7 +213,8 @@ pub(crate) fn put_columns(
     out: &mut String,
     columns: &[Column],
 ) -> Result<(), AllocError>
-    ensures { OnOk result (string_bytes out.new ≡ string_bytes out.old ++ columns_json columns.now) }
+    ensures { OnOk result (string_bytes out.new
+        ≡ string_bytes out.old ++ columns_json columns.now) }
 {
     out.push('[')?;
     put_names(alloc, out, columns)?;
@@ -218,7 +222,8 @@ pub(crate) fn put_columns(
 }
 
 fn put_names(alloc: Global, out: &mut String, columns: &[Column]) -> Result<(), AllocError>
-    ensures { OnOk result (string_bytes out.new ≡ string_bytes out.old ++ join_with_byte 44 (map column_json columns.now)) }
+    ensures { OnOk result (string_bytes out.new
+        ≡ string_bytes out.old ++ join_with_byte 44 (map column_json columns.now)) }
 {
     let Some((first, later)) = columns.split_first() else {
         return Ok(());
@@ -285,7 +290,8 @@ pub(crate) fn put_members(
     columns: &[Column],
     values: &[Option<ArgValue>],
 ) -> Result<(), AllocError>
-    ensures { OnOk result (string_bytes out.new ≡ string_bytes out.old ++ members_text columns.now values.now) }
+    ensures { OnOk result (string_bytes out.new
+        ≡ string_bytes out.old ++ members_text columns.now values.now) }
 {
     let Some((column, columns)) = columns.split_first() else {
         return Ok(());
@@ -304,7 +310,8 @@ fn put_member(
     column: &Column,
     value: &Option<ArgValue>,
 ) -> Result<(), AllocError>
-    ensures { OnOk result (string_bytes out.new ≡ string_bytes out.old ++ member_text column.now value.now) }
+    ensures { OnOk result (string_bytes out.new
+        ≡ string_bytes out.old ++ member_text column.now value.now) }
 {
     let Some(value) = value else {
         return Ok(());

@@ -33,9 +33,11 @@ pub fn json_repeats(
 ) -> Result<Vec<u8>, JsonFault>
     requires base { length base.now ≤ 64 }
     requires other { length other.now ≤ 64 }
-    ensures text { IfOk result (λ text. text.items ≡ json_repeats_of unit of by shown.now columns.now base.now other.now) }
+    ensures text { IfOk result (λ text. text.items
+        ≡ json_repeats_of unit of by shown.now columns.now base.now other.now) }
     ensures fits { OnOk result (json_repeats_fit by shown.now base.now other.now ≡ true) }
-    ensures too_great { IfErr result (λ fault. fault ≡ TooGreat → json_repeats_fit by shown.now base.now other.now ≡ false) }
+    ensures too_great { IfErr result (λ fault. fault ≡ TooGreat
+        → json_repeats_fit by shown.now base.now other.now ≡ false) }
 {
     let found = repeated(alloc, base, other, shown, by)?;
     let line = FirstLine {
@@ -66,9 +68,12 @@ fn put_rows(
     by: By,
 ) -> Result<(), JsonFault>
     ensures text { OnOk result (string_bytes out.new ≡ string_bytes out.old
-        ++ flat_map (json_values_at by columns.now base.now other.now) (map (λ key. key.now) keys.now)) }
-    ensures fits { OnOk result (list_all (key_fits by base.now other.now) (map (λ key. key.now) keys.now) ≡ true) }
-    ensures too_great { IfErr result (λ fault. fault ≡ TooGreat → list_all (key_fits by base.now other.now) (map (λ key. key.now) keys.now) ≡ false) }
+        ++ flat_map (json_values_at by columns.now base.now other.now)
+        (map (λ key. key.now) keys.now)) }
+    ensures fits { OnOk result
+        (list_all (key_fits by base.now other.now) (map (λ key. key.now) keys.now) ≡ true) }
+    ensures too_great { IfErr result (λ fault. fault ≡ TooGreat
+        → list_all (key_fits by base.now other.now) (map (λ key. key.now) keys.now) ≡ false) }
 {
     let mut base = Side::of(alloc, base)?;
     let mut other = Side::of(alloc, other)?;
@@ -92,7 +97,8 @@ fn put_row(
     ensures text { OnOk result (string_bytes out.new ≡ string_bytes out.old
         ++ json_values_at by columns.now base.old.tables other.old.tables key.now) }
     ensures fits { OnOk result (key_fits by base.old.tables other.old.tables key.now ≡ true) }
-    ensures too_great { IfErr result (λ fault. fault ≡ TooGreat → key_fits by base.old.tables other.old.tables key.now ≡ false) }
+    ensures too_great { IfErr result (λ fault. fault ≡ TooGreat
+        → key_fits by base.old.tables other.old.tables key.now ≡ false) }
 {
     base.look_up(key, by)?;
     other.look_up(key, by)?;
@@ -118,7 +124,8 @@ fn put_values(
     base: &[Sum],
     other: &[Sum],
 ) -> Result<(), AllocError>
-    ensures { OnOk result (string_bytes out.new ≡ string_bytes out.old ++ json_values columns.now key.now base.now other.now) }
+    ensures { OnOk result (string_bytes out.new
+        ≡ string_bytes out.old ++ json_values columns.now key.now base.now other.now) }
 {
     out.push('{')?;
     put_members(alloc, out, columns, key.values())?;
@@ -130,7 +137,8 @@ fn put_values(
 
 #[tactic(auto, unfolding(crate::specs::JsonPieces::base_values_text))]
 fn put_base(alloc: Global, out: &mut String, values: &[Sum]) -> Result<(), AllocError>
-    ensures { OnOk result (string_bytes out.new ≡ string_bytes out.old ++ base_values_text values.now) }
+    ensures { OnOk result (string_bytes out.new
+        ≡ string_bytes out.old ++ base_values_text values.now) }
 {
     out.push_str("\"values0\":")?;
     put_list(alloc, out, values)
@@ -138,7 +146,8 @@ fn put_base(alloc: Global, out: &mut String, values: &[Sum]) -> Result<(), Alloc
 
 #[tactic(auto, unfolding(crate::specs::JsonPieces::other_values_text))]
 fn put_other(alloc: Global, out: &mut String, values: &[Sum]) -> Result<(), AllocError>
-    ensures { OnOk result (string_bytes out.new ≡ string_bytes out.old ++ other_values_text values.now) }
+    ensures { OnOk result (string_bytes out.new
+        ≡ string_bytes out.old ++ other_values_text values.now) }
 {
     out.push_str("\"values1\":")?;
     put_list(alloc, out, values)
@@ -154,7 +163,8 @@ fn put_list(alloc: Global, out: &mut String, values: &[Sum]) -> Result<(), Alloc
 }
 
 fn put_numbers(alloc: Global, out: &mut String, numbers: &[Sum]) -> Result<(), AllocError>
-    ensures { OnOk result (string_bytes out.new ≡ string_bytes out.old ++ join_with_byte 44 (map decimal numbers.now)) }
+    ensures { OnOk result (string_bytes out.new
+        ≡ string_bytes out.old ++ join_with_byte 44 (map decimal numbers.now)) }
 {
     let Some((first, later)) = numbers.split_first() else {
         return Ok(());

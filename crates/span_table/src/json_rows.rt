@@ -70,7 +70,8 @@ fn put_row(
     requires names { names.now ≡ map column_name columns.now }
     requires fits { fit row.now.sums ≡ true }
     ensures before { OnOk result (writer.new.before ≡ writer.old.before) }
-    ensures tokens { OnOk result (writer.new.tokens ≡ writer.old.tokens ++ row_tokens of columns.now row.now) }
+    ensures tokens { OnOk result (writer.new.tokens
+        ≡ writer.old.tokens ++ row_tokens of columns.now row.now) }
     ensures key_fits { OnOk result (KeyFits columns.now row.now.key) }
 {
     writer.begin_object()?;
@@ -88,7 +89,8 @@ fn put_members(
 ) -> Result<(), AllocError>
     requires names { names.now ≡ map column_name columns.now }
     ensures before { OnOk result (writer.new.before ≡ writer.old.before) }
-    ensures tokens { OnOk result (writer.new.tokens ≡ writer.old.tokens ++ key_tokens columns.now values.now) }
+    ensures tokens { OnOk result (writer.new.tokens
+        ≡ writer.old.tokens ++ key_tokens columns.now values.now) }
     ensures key_fits { OnOk result (KeyFits columns.now values.now) }
 {
     let Some((_, columns)) = columns.split_first() else {
@@ -108,7 +110,8 @@ fn put_members(
 
 fn put_member(writer: &mut Writer, name: &Text, value: &ArgValue) -> Result<(), AllocError>
     ensures before { OnOk result (writer.new.before ≡ writer.old.before) }
-    ensures tokens { OnOk result (writer.new.tokens ≡ writer.old.tokens ++ key name.now ∷ value_tokens value.now) }
+    ensures tokens { OnOk result (writer.new.tokens
+        ≡ writer.old.tokens ++ key name.now ∷ value_tokens value.now) }
     ensures fits { OnOk result (IsOfArgument (Some value.now)) }
 {
     writer.key(name.as_str())?;
@@ -135,7 +138,8 @@ fn put_value(writer: &mut Writer, value: &ArgValue) -> Result<(), AllocError>
 fn put_sums(writer: &mut Writer, of: Of, sums: &Sums) -> Result<(), AllocError>
     requires { fit sums.now ≡ true }
     ensures before { OnOk result (writer.new.before ≡ writer.old.before) }
-    ensures tokens { OnOk result (writer.new.tokens ≡ writer.old.tokens ++ sums_tokens of sums.now) }
+    ensures tokens { OnOk result (writer.new.tokens
+        ≡ writer.old.tokens ++ sums_tokens of sums.now) }
 {
     match of {
         Of::Spans => put_span_sums(writer, sums),
@@ -146,7 +150,8 @@ fn put_sums(writer: &mut Writer, of: Of, sums: &Sums) -> Result<(), AllocError>
 fn put_span_sums(writer: &mut Writer, sums: &Sums) -> Result<(), AllocError>
     requires { fit sums.now ≡ true }
     ensures before { OnOk result (writer.new.before ≡ writer.old.before) }
-    ensures tokens { OnOk result (writer.new.tokens ≡ writer.old.tokens ++ sums_tokens Spans sums.now) }
+    ensures tokens { OnOk result (writer.new.tokens
+        ≡ writer.old.tokens ++ sums_tokens Spans sums.now) }
 {
     put_sum(writer, "count", &sums.count)?;
     put_sum(writer, "total", &sums.total)?;
@@ -156,7 +161,8 @@ fn put_span_sums(writer: &mut Writer, sums: &Sums) -> Result<(), AllocError>
 fn put_async_sums(writer: &mut Writer, sums: &Sums) -> Result<(), AllocError>
     requires { fit sums.now ≡ true }
     ensures before { OnOk result (writer.new.before ≡ writer.old.before) }
-    ensures tokens { OnOk result (writer.new.tokens ≡ writer.old.tokens ++ sums_tokens Async sums.now) }
+    ensures tokens { OnOk result (writer.new.tokens
+        ≡ writer.old.tokens ++ sums_tokens Async sums.now) }
 {
     put_sum(writer, "closed", &sums.count)?;
     put_sum(writer, "total", &sums.total)?;
@@ -167,7 +173,8 @@ fn put_async_sums(writer: &mut Writer, sums: &Sums) -> Result<(), AllocError>
 fn put_sum(writer: &mut Writer, name: &str, sum: &Sum) -> Result<(), AllocError>
     requires { sum.now < 2 ^ 64 }
     ensures before { OnOk result (writer.new.before ≡ writer.old.before) }
-    ensures tokens { OnOk result (writer.new.tokens ≡ writer.old.tokens ++ number_tokens name.now sum.now) }
+    ensures tokens { OnOk result (writer.new.tokens
+        ≡ writer.old.tokens ++ number_tokens name.now sum.now) }
 {
     let Some(number) = sum.as_u64() else {
         return Ok(());

@@ -41,7 +41,8 @@ pub(crate) fn put_seals(out: &mut String, seals: u128) -> Result<(), AllocError>
 /// Appends the line of runs, where it is told.
 #[tactic(auto, unfolding(crate::specs::Lines::runs_line))]
 pub(crate) fn put_runs(out: &mut String, head: &Head, tells_runs: bool) -> Result<(), AllocError>
-    ensures { OnOk result (string_bytes out.new ≡ string_bytes out.old ++ runs_line tells_runs head.now) }
+    ensures { OnOk result (string_bytes out.new
+        ≡ string_bytes out.old ++ runs_line tells_runs head.now) }
 {
     if !tells_runs {
         return Ok(());
@@ -63,7 +64,8 @@ pub(crate) fn put_right(out: &mut String, width: usize, text: &str) -> Result<()
 /// Appends a count, with a blank before it.
 #[tactic(auto, using(std::proofs::Common::append_assoc))]
 pub(crate) fn put_count(alloc: Global, out: &mut String, count: &Sum) -> Result<(), AllocError>
-    ensures { OnOk result (string_bytes out.new ≡ string_bytes out.old ++ then_right 8 (decimal count.now)) }
+    ensures { OnOk result (string_bytes out.new
+        ≡ string_bytes out.old ++ then_right 8 (decimal count.now)) }
 {
     out.push(' ')?;
     put_right(out, 8, &count.shown(alloc)?)
@@ -75,7 +77,8 @@ pub(crate) fn put_values(
     out: &mut String,
     values: &[Option<ArgValue>],
 ) -> Result<(), AllocError>
-    ensures { OnOk result (string_bytes out.new ≡ string_bytes out.old ++ flat_map then_value values.now) }
+    ensures { OnOk result (string_bytes out.new
+        ≡ string_bytes out.old ++ flat_map then_value values.now) }
 {
     for value in values {
         put_value(alloc, out, value)?;
@@ -116,7 +119,8 @@ pub(crate) fn put_titles(
     out: &mut String,
     columns: &[Column],
 ) -> Result<(), AllocError>
-    ensures { OnOk result (string_bytes out.new ≡ string_bytes out.old ++ flat_map then_title columns.now) }
+    ensures { OnOk result (string_bytes out.new
+        ≡ string_bytes out.old ++ flat_map then_title columns.now) }
 {
     for column in columns {
         put_title(alloc, out, column)?;
@@ -154,7 +158,8 @@ pub(crate) fn put_shown(
     shown: u128,
     all: u128,
 ) -> Result<(), AllocError>
-    ensures { OnOk result (string_bytes out.new ≡ string_bytes out.old ++ shown_line wanted.now shown all) }
+    ensures { OnOk result (string_bytes out.new
+        ≡ string_bytes out.old ++ shown_line wanted.now shown all) }
 {
     if wanted.is_all() {
         return Ok(());

@@ -32,7 +32,8 @@ pub fn ranking(
     by: By,
     tells_runs: bool,
 ) -> Result<Vec<u8>, AllocError>
-    ensures { IfOk result (λ text. text.items ≡ ranking_of unit most by shown.now tells_runs table.now) }
+    ensures { IfOk result (λ text. text.items
+        ≡ ranking_of unit most by shown.now tells_runs table.now) }
 {
     let mut out = head(alloc, unit, &table.head().counts)?;
     put_runs(&mut out, &table.head(), tells_runs)?;
@@ -85,7 +86,8 @@ fn put_columns(
     of: Of,
     columns: &[Column],
 ) -> Result<(), AllocError>
-    ensures { OnOk result (string_bytes out.new ≡ string_bytes out.old ++ column_line of columns.now) }
+    ensures { OnOk result (string_bytes out.new
+        ≡ string_bytes out.old ++ column_line of columns.now) }
 {
     put_names(out, of)?;
     put_titles(alloc, out, columns)?;
@@ -109,7 +111,8 @@ fn put_first(
     rows: &[ShownRow],
     most: u32,
 ) -> Result<(), AllocError>
-    ensures { OnOk result (string_bytes out.new ≡ string_bytes out.old ++ flat_map (ranked_line of) (take most rows.now)) }
+    ensures { OnOk result (string_bytes out.new
+        ≡ string_bytes out.old ++ flat_map (ranked_line of) (take most rows.now)) }
 {
     let shown = rows.len().min(most as usize);
     for ranked in &rows[..shown] {
@@ -138,7 +141,8 @@ fn put_sums(alloc: Global, out: &mut String, of: Of, sums: &Sums) -> Result<(), 
 
 #[tactic(auto, using(std::proofs::Common::append_assoc))]
 fn put_span_sums(alloc: Global, out: &mut String, sums: &Sums) -> Result<(), AllocError>
-    ensures { OnOk result (string_bytes out.new ≡ string_bytes out.old ++ sums_text Spans sums.now) }
+    ensures { OnOk result (string_bytes out.new
+        ≡ string_bytes out.old ++ sums_text Spans sums.now) }
 {
     put_right(out, 16, &sums.self_time.shown(alloc)?)?;
     out.push(' ')?;
@@ -149,7 +153,8 @@ fn put_span_sums(alloc: Global, out: &mut String, sums: &Sums) -> Result<(), All
 
 #[tactic(auto, using(std::proofs::Common::append_assoc))]
 fn put_async_sums(alloc: Global, out: &mut String, sums: &Sums) -> Result<(), AllocError>
-    ensures { OnOk result (string_bytes out.new ≡ string_bytes out.old ++ sums_text Async sums.now) }
+    ensures { OnOk result (string_bytes out.new
+        ≡ string_bytes out.old ++ sums_text Async sums.now) }
 {
     put_right(out, 16, &sums.total.shown(alloc)?)?;
     put_count(alloc, out, &sums.count)?;

@@ -39,10 +39,14 @@ pub(crate) fn repeated<'a>(
     shown: &Shown,
     by: By,
 ) -> Result<RepeatedRuns<'a>, AllocError>
-    ensures keys { IfOk result (λ found. map (λ key. key.now) found.keys.items ≡ shown_keys shown.now (base.now ++ other.now)) }
-    ensures apart { IfOk result (λ found. found.apart.items ≡ apart_spreads (shown_spreads by shown.now base.now other.now)) }
-    ensures overlap { IfOk result (λ found. found.overlap ≡ overlap_count (shown_spreads by shown.now base.now other.now)) }
-    ensures same { IfOk result (λ found. found.same ≡ same_spread_count (shown_spreads by shown.now base.now other.now)) }
+    ensures keys { IfOk result (λ found. map (λ key. key.now) found.keys.items
+        ≡ shown_keys shown.now (base.now ++ other.now)) }
+    ensures apart { IfOk result (λ found. found.apart.items
+        ≡ apart_spreads (shown_spreads by shown.now base.now other.now)) }
+    ensures overlap { IfOk result (λ found. found.overlap
+        ≡ overlap_count (shown_spreads by shown.now base.now other.now)) }
+    ensures same { IfOk result (λ found. found.same
+        ≡ same_spread_count (shown_spreads by shown.now base.now other.now)) }
     ensures all { IfOk result (λ found. found.all ≡ length (all_keys (base.now ++ other.now))) }
 {
     let mut keys = all_keys(alloc, base, other)?;
@@ -69,7 +73,8 @@ fn all_keys<'a>(
     base: &'a [Table],
     other: &'a [Table],
 ) -> Result<Vec<&'a Key>, AllocError>
-    ensures { IfOk result (λ keys. map (λ key. key.now) keys.items ≡ all_keys (base.now ++ other.now)) }
+    ensures { IfOk result (λ keys. map (λ key. key.now) keys.items
+        ≡ all_keys (base.now ++ other.now)) }
 {
     let mut keys = Vec::new(alloc);
     push_keys(&mut keys, base)?;
@@ -80,7 +85,8 @@ fn all_keys<'a>(
 }
 
 fn push_keys<'a>(keys: &mut Vec<&'a Key>, tables: &'a [Table]) -> Result<(), AllocError>
-    ensures { OnOk result (map (λ key. key.now) keys.new.items ≡ map (λ key. key.now) keys.old.items ++ keys_of tables.now) }
+    ensures { OnOk result (map (λ key. key.now) keys.new.items
+        ≡ map (λ key. key.now) keys.old.items ++ keys_of tables.now) }
 {
     for table in tables {
         push_row_keys(keys, table.rows())?;
@@ -89,7 +95,8 @@ fn push_keys<'a>(keys: &mut Vec<&'a Key>, tables: &'a [Table]) -> Result<(), All
 }
 
 fn push_row_keys<'a>(keys: &mut Vec<&'a Key>, rows: &'a [Row]) -> Result<(), AllocError>
-    ensures { OnOk result (map (λ key. key.now) keys.new.items ≡ map (λ key. key.now) keys.old.items ++ map (λ row. row.key) rows.now) }
+    ensures { OnOk result (map (λ key. key.now) keys.new.items
+        ≡ map (λ key. key.now) keys.old.items ++ map (λ row. row.key) rows.now) }
 {
     for row in rows {
         keys.push(&row.key)?;
@@ -104,7 +111,9 @@ fn told_of<'a>(
     keys: &[&'a Key],
     by: By,
 ) -> Result<Told<'a>, AllocError>
-    ensures { IfOk result (λ told. TellsSpreads (map (λ key. spreads_at by base.now other.now key.now) keys.now) told.apart.items told.overlap told.same) }
+    ensures { IfOk result (λ told. TellsSpreads
+        (map (λ key. spreads_at by base.now other.now key.now) keys.now)
+        told.apart.items told.overlap told.same) }
 {
     let mut told = Told {
         apart: Vec::new(alloc),
@@ -128,7 +137,8 @@ fn spreads_at<'a>(
 ) -> Result<Spreads<'a>, AllocError>
     ensures base { base.new.tables ≡ base.old.tables }
     ensures other { other.new.tables ≡ other.old.tables }
-    ensures spreads { IfOk result (λ spreads. spreads ≡ spreads_at by base.old.tables other.old.tables key.now) }
+    ensures spreads { IfOk result (λ spreads.
+        spreads ≡ spreads_at by base.old.tables other.old.tables key.now) }
     ensures base_order { IfOk result (λ spreads. spreads.base.least ≤ spreads.base.greatest) }
 {
     base.look_up(key, by)?;
@@ -146,8 +156,10 @@ fn tell<'a>(told: &mut Told<'a>, spreads: Spreads<'a>) -> Result<(), AllocError>
     requires same { told.old.same < 2 ^ 128 - 1 }
     ensures overlap { OnOk result (told.new.overlap ≤ told.old.overlap + 1) }
     ensures same { OnOk result (told.new.same ≤ told.old.same + 1) }
-    ensures told { OnOk result ((all : List Spreads) → TellsSpreads all told.old.apart.items told.old.overlap told.old.same
-        → TellsSpreads (all ++ spreads.entry ∷ []) told.new.apart.items told.new.overlap told.new.same) }
+    ensures told { OnOk result ((all : List Spreads)
+        → TellsSpreads all told.old.apart.items told.old.overlap told.old.same
+        → TellsSpreads (all ++ spreads.entry ∷ [])
+        told.new.apart.items told.new.overlap told.new.same) }
 {
     if spreads.is_same() {
         told.same += 1;

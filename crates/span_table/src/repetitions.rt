@@ -29,7 +29,8 @@ pub fn repeats(
 ) -> Result<Vec<u8>, AllocError>
     requires base { length base.now ≤ 64 }
     requires other { length other.now ≤ 64 }
-    ensures { IfOk result (λ text. text.items ≡ repeats_of unit by shown.now columns.now base.now other.now) }
+    ensures { IfOk result (λ text. text.items
+        ≡ repeats_of unit by shown.now columns.now base.now other.now) }
 {
     let mut out = first_line(alloc)?;
     put_unit(&mut out, unit)?;
@@ -44,7 +45,8 @@ pub fn repeats(
 
 #[tactic(auto, using(crate::proofs::Pieces::spread_columns_pieces, std::proofs::Common::append_assoc))]
 fn put_columns(alloc: Global, out: &mut String, columns: &[Column]) -> Result<(), AllocError>
-    ensures { OnOk result (string_bytes out.new ≡ string_bytes out.old ++ spread_columns columns.now) }
+    ensures { OnOk result (string_bytes out.new
+        ≡ string_bytes out.old ++ spread_columns columns.now) }
 {
     put_names(out)?;
     put_titles(alloc, out, columns)?;
@@ -61,7 +63,8 @@ fn put_names(out: &mut String) -> Result<(), AllocError>
 }
 
 fn put_lines(alloc: Global, out: &mut String, apart: &[Spreads]) -> Result<(), AllocError>
-    ensures { OnOk result (string_bytes out.new ≡ string_bytes out.old ++ flat_map spread_line apart.now) }
+    ensures { OnOk result (string_bytes out.new
+        ≡ string_bytes out.old ++ flat_map spread_line apart.now) }
 {
     for spreads in apart {
         put_line(alloc, out, spreads)?;
@@ -93,7 +96,8 @@ fn put_extent(alloc: Global, out: &mut String, spread: &Spread) -> Result<(), Al
 
 #[tactic(auto, unfolding(crate::specs::Repeats::overlap_line))]
 fn put_overlap(out: &mut String, overlap: u128, same: u128) -> Result<(), AllocError>
-    ensures { OnOk result (string_bytes out.new ≡ string_bytes out.old ++ overlap_line overlap same) }
+    ensures { OnOk result (string_bytes out.new
+        ≡ string_bytes out.old ++ overlap_line overlap same) }
 {
     writeln!(out, "overlap {overlap} same {same}")
 }

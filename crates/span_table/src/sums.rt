@@ -75,7 +75,13 @@ impl Sums {
 
     /// Of one span of this length and self time.
     pub(crate) fn of_span(length: u64, self_time: u64) -> Sums
-        ensures value { result ≡ record { count = 1; total = length; self_time = self_time; unclosed = 0; points = 0 } }
+        ensures value { result ≡ record {
+          count = 1;
+          total = length;
+          self_time = self_time;
+          unclosed = 0;
+          points = 0;
+        } }
         ensures bound { IsWithin (2 ^ 64) result }
     {
         Sums {
@@ -91,7 +97,8 @@ impl Sums {
         requires mine { IsWithin (2 ^ 200) self.old }
         requires its { IsWithin (2 ^ 200) more.now }
         ensures value { self.new ≡ with_sums self.old more.now }
-        ensures bound { (m n : ℕ) → IsWithin m self.old → IsWithin n more.now → IsWithin (m + n) self.new }
+        ensures bound { (m n : ℕ) → IsWithin m self.old → IsWithin n more.now
+            → IsWithin (m + n) self.new }
     {
         self.count.add(&more.count);
         self.total.add(&more.total);

@@ -59,8 +59,8 @@ impl Table {
         unread: u64,
         file: Option<&Text>,
     ) -> Result<Table, AllocError>
-        ensures { IfOk result (λ table. table
-            ≡ table_of of columns.now (run_of ledger.now.journal files unread (option_copied file.entry) ∷ [])) }
+        ensures { IfOk result (λ table. table ≡ table_of of columns.now
+            (run_of ledger.now.journal files unread (option_copied file.entry) ∷ [])) }
     {
         let run = LedgerRun {
             ledger,
@@ -74,7 +74,8 @@ impl Table {
 
     pub(crate) fn from_rows(of: Of, columns: Vec<Column>, head: Head, rows: Vec<Row>) -> Table
         requires { IsTabled head rows.items }
-        ensures { result ≡ record { of = of; columns = columns.items; head = head; rows = rows.items } }
+        ensures { result
+            ≡ record { of = of; columns = columns.items; head = head; rows = rows.items } }
     {
         Table {
             of,
@@ -121,7 +122,8 @@ pub(crate) fn table_of_groups(
     groups: Groups,
 ) -> Result<Table, AllocError>
     requires { IsTabled head (map row_of groups) }
-    ensures { IfOk result (λ table. table ≡ record { of = of; columns = columns.items; head = head; rows = map row_of groups }) }
+    ensures { IfOk result (λ table. table
+        ≡ record { of = of; columns = columns.items; head = head; rows = map row_of groups }) }
 {
     let alloc = groups.allocator();
     let rows = rows_of(alloc, groups.into_entries()?)?;

@@ -80,8 +80,8 @@ impl TableSum {
     ) -> Result<TableSum, SumFault>
         ensures added { IfOk result (λ sum. sum
             ≡ with_run self (run_of ledger.now.journal files unread (option_copied file.entry))) }
-        ensures runs { IfOk result (λ sum.
-            TakesRuns self (run_of ledger.now.journal files unread (option_copied file.entry) ∷ []) sum) }
+        ensures runs { IfOk result (λ sum. TakesRuns self
+            (run_of ledger.now.journal files unread (option_copied file.entry) ∷ []) sum) }
         ensures few { OnOk result (self.head.runs + 1 < 2 ^ 32) }
         ensures too_many { IfErr result (λ fault. fault ≡ TooMany → 2 ^ 32 ≤ self.head.runs + 1) }
     {
@@ -124,10 +124,12 @@ impl TableSum {
 
     /// With the runs of another sum of the same by the same columns. It costs a look-up for each row of the other.
     pub fn add(self, other: TableSum) -> Result<TableSum, SumFault>
-        ensures added { IfOk result (λ sum. sum ≡ add_tables self.of self.columns (self ∷ other ∷ [])) }
+        ensures added { IfOk result (λ sum.
+            sum ≡ add_tables self.of self.columns (self ∷ other ∷ [])) }
         ensures runs { IfOk result (λ sum. JoinsRuns self other sum) }
         ensures few { OnOk result (self.head.runs + other.head.runs < 2 ^ 32) }
-        ensures too_many { IfErr result (λ fault. fault ≡ TooMany → 2 ^ 32 ≤ self.head.runs + other.head.runs) }
+        ensures too_many { IfErr result (λ fault. fault ≡ TooMany
+            → 2 ^ 32 ≤ self.head.runs + other.head.runs) }
     {
         if self.head.runs + other.head.runs >= RUNS {
             return Err(SumFault::TooMany);
