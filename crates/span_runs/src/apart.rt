@@ -60,7 +60,8 @@ pub fn gather_apart<T: Gathering, S: Source + Sync, R: Threads + Wait + RandomSo
     columns: &[Column],
     jobs: u32,
 ) -> Result<Gathered<T>, Stop>
-    ensures { GathersOrStops (S.bytes source.now).file names.now settings.now (T.come_to of columns.now) result }
+    ensures { GathersOrStops (S.bytes source.now).file names.now settings.now
+        (T.come_to of columns.now) result }
 {
     let Ok(sizes) = sizes_of(alloc, source, names) else {
         return Err(Stop::of_memory(alloc));
@@ -108,7 +109,8 @@ fn gather_in_jobs<T: Gathering, S: Source + Sync, R: Threads + Wait + RandomSour
     part: Part,
 ) -> Result<Gathered<T>, Halt>
     requires { length part.sizes.now ≡ length part.names.now }
-    ensures { GathersOrHalts (S.bytes work.now.source.now).file part.entry.names.now work.now.settings (T.come_to work.now.of work.now.columns.now) result }
+    ensures { GathersOrHalts (S.bytes work.now.source.now).file part.entry.names.now
+        work.now.settings (T.come_to work.now.of work.now.columns.now) result }
 {
     if part.jobs < 2 || part.names.len() < 2 {
         return gather_in_job(rt, alloc, work, part.names, part.place);
@@ -145,20 +147,26 @@ fn gather_both<T: Gathering, S: Source + Sync, R: Threads + Wait + RandomSource 
     requires front { length front.sizes.now ≡ length front.names.now }
     requires back { length back.sizes.now ≡ length back.names.now }
     requires jobs { (0 < front.jobs) × (0 < back.jobs) }
-    ensures front { GathersOrHalts (S.bytes work.now.source.now).file front.entry.names.now work.now.settings (T.come_to work.now.of work.now.columns.now) result.0 }
-    ensures back { GathersOrHalts (S.bytes work.now.source.now).file back.entry.names.now work.now.settings (T.come_to work.now.of work.now.columns.now) result.1 }
+    ensures front { GathersOrHalts (S.bytes work.now.source.now).file front.entry.names.now
+        work.now.settings (T.come_to work.now.of work.now.columns.now) result.0 }
+    ensures back { GathersOrHalts (S.bytes work.now.source.now).file back.entry.names.now
+        work.now.settings (T.come_to work.now.of work.now.columns.now) result.1 }
 {
     join_mut(
         rt,
         &mut || -> Result<Gathered<T>, Halt>
             requires sync { IsSync R.row }
             requires sizes { length front.sizes.now ≡ length front.names.now }
-            ensures { GathersOrHalts (S.bytes work.entry.now.source.now).file front.entry.names.now work.entry.now.settings (T.come_to work.entry.now.of work.entry.now.columns.now) result }
+            ensures { GathersOrHalts (S.bytes work.entry.now.source.now).file
+                front.entry.names.now work.entry.now.settings
+                (T.come_to work.entry.now.of work.entry.now.columns.now) result }
         { gather_in_jobs(rt, alloc, work, front) },
         &mut || -> Result<Gathered<T>, Halt>
             requires sync { IsSync R.row }
             requires sizes { length back.sizes.now ≡ length back.names.now }
-            ensures { GathersOrHalts (S.bytes work.entry.now.source.now).file back.entry.names.now work.entry.now.settings (T.come_to work.entry.now.of work.entry.now.columns.now) result }
+            ensures { GathersOrHalts (S.bytes work.entry.now.source.now).file
+                back.entry.names.now work.entry.now.settings
+                (T.come_to work.entry.now.of work.entry.now.columns.now) result }
         { gather_in_jobs(rt, alloc, work, back) },
     )
 }
@@ -171,7 +179,8 @@ fn gather_in_job<T: Gathering, S: Source, R: Threads + Wait + RandomSource + Syn
     names: &[Text],
     place: u64,
 ) -> Result<Gathered<T>, Halt>
-    ensures { GathersOrHalts (S.bytes work.now.source.now).file names.now work.now.settings (T.come_to work.now.of work.now.columns.now) result }
+    ensures { GathersOrHalts (S.bytes work.now.source.now).file names.now work.now.settings
+        (T.come_to work.now.of work.now.columns.now) result }
 {
     let mut gathered = match Gathered::of_none(alloc, work.keys, work.of, work.columns) {
         Ok(none) => none,
@@ -201,7 +210,8 @@ fn gather_in_turn<T: Gathering, S: Source, R: Threads + Wait + RandomSource + Sy
     work: &Work<S>,
     names: &[Text],
 ) -> Result<Gathered<T>, Stop>
-    ensures { GathersOrStops (S.bytes work.now.source.now).file names.now work.now.settings (T.come_to work.now.of work.now.columns.now) result }
+    ensures { GathersOrStops (S.bytes work.now.source.now).file names.now work.now.settings
+        (T.come_to work.now.of work.now.columns.now) result }
 {
     let mut gathered = match Gathered::of_none(alloc, work.keys, work.of, work.columns) {
         Ok(none) => none,

@@ -70,8 +70,9 @@ fn collect_alone<R: Threads + Wait + RandomSource + Sync>(
     file: &Input,
     settings: &Settings,
 ) -> Result<Collected, RunError>
-    ensures account { IfOk result (λ collected. SealedAccount (file.now ∷ []) [] settings.now
-        collected.end.ends.items collected.end.asked collected.end.sealing collected.ledger.journal) }
+    ensures account { IfOk result (λ collected.
+        SealedAccount (file.now ∷ []) [] settings.now collected.end.ends.items collected.end.asked
+        collected.end.sealing collected.ledger.journal) }
     ensures status { IfOk result (λ collected. collected.end.status
         ≡ status_of collected.end.ends.items collected.end.asked collected.end.sealing) }
     ensures one { IfOk result (λ collected. length collected.end.ends.items ≡ 1) }
@@ -86,7 +87,8 @@ fn collect_alone<R: Threads + Wait + RandomSource + Sync>(
 // Why a run ended with 2: the line of its file, and that of a seal that was not taken.
 fn cut_of(alloc: Global, file: &Input, collected: &Collected) -> StopCause
     requires { length collected.now.end.ends.items ≡ 1 }
-    ensures { SaysCut (cut_lines file.now collected.now.end.ends.items collected.now.end.sealing) result }
+    ensures { SaysCut
+        (cut_lines file.now collected.now.end.ends.items collected.now.end.sealing) result }
 {
     match cut_lines(alloc, file, collected) {
         Ok(lines) => StopCause::Cut(lines),
@@ -96,7 +98,8 @@ fn cut_of(alloc: Global, file: &Input, collected: &Collected) -> StopCause
 
 fn cut_lines(alloc: Global, file: &Input, collected: &Collected) -> Result<Vec<u8>, AllocError>
     requires { length collected.now.end.ends.items ≡ 1 }
-    ensures { IfOk result (λ lines. lines.items ≡ cut_lines file.now collected.now.end.ends.items collected.now.end.sealing) }
+    ensures { IfOk result (λ lines. lines.items
+        ≡ cut_lines file.now collected.now.end.ends.items collected.now.end.sealing) }
 {
     let mut lines = fault_lines(alloc, from_ref(file), &collected.end.ends)?;
     if let Some(cause) = collected.end.sealing.cause {

@@ -16,7 +16,8 @@ pub const MOST_READ: u64 = 67_108_865;
 /// Standard input, as the file `-`.
 pub fn read_standard<S: Source>(alloc: Global, source: &S) -> Result<Input, StopCause>
     ensures name { IfOk result (λ input. input.name ≡ codes "-") }
-    ensures bytes { IfOk result (λ input. AreFirst most_read (S.bytes source.now).standard input.bytes.items) }
+    ensures bytes { IfOk result (λ input.
+        AreFirst most_read (S.bytes source.now).standard input.bytes.items) }
     ensures unread { IfErr result (λ cause. IsUnread (codes "-") cause) }
 {
     let Ok(name) = Text::of(alloc, "-") else {

@@ -63,7 +63,8 @@ impl<T: Gathering> Gathered<T> {
         run: &FileRun,
     ) -> Result<Gathered<T>, Stop>
         requires { length run.now.collected.end.ends.items ≡ 1 }
-        ensures runs { IfOk result (λ more. TakesAlike (T.come_to of columns.now) self.runs (run_of run.now) more.runs) }
+        ensures runs { IfOk result (λ more.
+            TakesAlike (T.come_to of columns.now) self.runs (run_of run.now) more.runs) }
         ensures lines { IfOk result (λ more. more.lines.items
             ≡ self.lines.items ++ end_lines (run.now.file ∷ []) run.now.collected.end.ends.items) }
         ensures stop { IfErr result (IsStopOfSum self.lines.items) }
@@ -83,10 +84,12 @@ impl<T: Gathering> Gathered<T> {
 
     // With the files after them.
     pub(crate) fn joined(self, other: Gathered<T>) -> Result<Gathered<T>, Stop>
-        ensures runs { IfOk result (λ both. (of : TheOf) (columns : List TheColumn) (runs others : List Run)
+        ensures runs { IfOk result (λ both.
+            (of : TheOf) (columns : List TheColumn) (runs others : List Run)
             → T.come_to of columns runs self.runs → T.come_to of columns others other.runs
             → T.come_to of columns (runs ++ others) both.runs) }
-        ensures lines { IfOk result (λ both. both.lines.items ≡ self.lines.items ++ other.lines.items) }
+        ensures lines { IfOk result (λ both. both.lines.items
+            ≡ self.lines.items ++ other.lines.items) }
         ensures stop { IfErr result (IsStopOfSum self.lines.items) }
     {
         let Gathered { runs, lines } = self;

@@ -33,12 +33,15 @@ pub trait Gathering: Sized + Drop + Send {
         columns: &[Column],
         run: &FileRun,
     ) -> Result<Self, SumFault>
-        ensures { IfOk result (λ more. TakesAlike (come_to of columns.now) self (run_of run.now) more) };
+        ensures { IfOk result (λ more.
+            TakesAlike (come_to of columns.now) self (run_of run.now) more) };
 
     /// With the runs of another, which come after these.
     fn joined(self, other: Self) -> Result<Self, SumFault>
-        ensures { IfOk result (λ both. (of : TheOf) (columns : List TheColumn) (runs others : List Run)
-            → come_to of columns runs self → come_to of columns others other → come_to of columns (runs ++ others) both) };
+        ensures { IfOk result (λ both.
+            (of : TheOf) (columns : List TheColumn) (runs others : List Run)
+            → come_to of columns runs self → come_to of columns others other
+            → come_to of columns (runs ++ others) both) };
 }
 
 /// One table of all.

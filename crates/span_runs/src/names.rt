@@ -67,7 +67,8 @@ fn with_listed<S: Source>(
 }
 
 fn read_list<S: Source>(list: &Text, source: &S) -> Result<Vec<u8>, SourceFault>
-    ensures { IfOk result (λ read. AreFirst most_listed (bytes_of_list (S.bytes source.now) list.now) read.items) }
+    ensures { IfOk result (λ read.
+        AreFirst most_listed (bytes_of_list (S.bytes source.now) list.now) read.items) }
 {
     if list.as_str() == "-" {
         return source.standard(MOST_LISTED);
@@ -108,7 +109,8 @@ fn take_byte(
     byte: u8,
     separator: u8,
 ) -> Result<(), ListFault>
-    ensures { OnOk result ((rest : List ℕ) → names.new.items ++ names_from separator part.new.items rest
+    ensures { OnOk result ((rest : List ℕ)
+        → names.new.items ++ names_from separator part.new.items rest
         ≡ names.old.items ++ names_from separator part.old.items (byte ∷ rest)) }
 {
     if byte == separator {

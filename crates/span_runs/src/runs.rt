@@ -18,8 +18,8 @@ pub fn table_of_run<R: RandomSource>(
     files: &[Input],
     collected: &Collected,
 ) -> Result<Table, AllocError>
-    ensures { IfOk result (λ table. table
-        ≡ table_of_run of columns.now (run_of_files files.now collected.now.end.ends.items collected.now.ledger.journal)) }
+    ensures { IfOk result (λ table. table ≡ table_of_run of columns.now
+        (run_of_files files.now collected.now.end.ends.items collected.now.ledger.journal)) }
 {
     Table::of(
         alloc,

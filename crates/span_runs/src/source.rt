@@ -49,7 +49,8 @@ pub trait Source {
 
     /// The bytes of the file, or the first `most` of them.
     fn file(&self, name: &Text, most: u64) -> Result<Vec<u8>, SourceFault>
-        ensures first { IfOk result (λ read. AreFirst most ((bytes self.now).file name.now) read.items) }
+        ensures first { IfOk result (λ read.
+            AreFirst most ((bytes self.now).file name.now) read.items) }
         ensures within { IfOk result (λ read. vec_len read ≤ most) };
 
     /// How many bytes the file is thought to have; 0, where that is not known. Nothing but time depends on it.
