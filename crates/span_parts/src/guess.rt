@@ -44,8 +44,10 @@ pub(crate) fn first_line_of(
     alloc: Global,
     tokens: &[Token],
 ) -> Result<Option<FirstLine>, AllocError>
-    ensures { IfOk result (λ found. (of : TheOf) (unit : TheUnit) (columns : List TheColumn) (rows : ℕ) (head : TheHead)
-        → MayBegin of columns rows head → map token_of tokens.now ≡ head_tokens of unit columns rows head
+    ensures { IfOk result (λ found.
+        (of : TheOf) (unit : TheUnit) (columns : List TheColumn) (rows : ℕ) (head : TheHead)
+        → MayBegin of columns rows head
+        → map token_of tokens.now ≡ head_tokens of unit columns rows head
         → Says of unit columns rows head found) }
 {
     let mut columns = Vec::new(alloc);
@@ -76,7 +78,8 @@ pub(crate) fn first_line_of(
 // What is summed, as is said behind `{"tracebook":1`, and what is behind that.
 fn of_after<'t, 'a>(tokens: &'t [Token<'a>]) -> Option<(Of, &'t [Token<'a>])>
     ensures { (of : TheOf) (unit : TheUnit) (a b c : Told) (rest : List Told)
-        → map token_of tokens.now ≡ a ∷ b ∷ c ∷ (of_tokens of ++ (unit_tokens unit ++ key (codes "columns") ∷ rest))
+        → map token_of tokens.now
+        ≡ a ∷ b ∷ c ∷ (of_tokens of ++ (unit_tokens unit ++ key (codes "columns") ∷ rest))
         → Finds of (unit_tokens unit ++ key (codes "columns") ∷ rest) result }
 {
     let version = after_one(after_one(after_one(tokens)?)?)?;
@@ -89,7 +92,8 @@ fn of_after<'t, 'a>(tokens: &'t [Token<'a>]) -> Option<(Of, &'t [Token<'a>])>
 // The unit that is said next, and what is behind `"columns":[`.
 fn unit_after<'t, 'a>(tokens: &'t [Token<'a>]) -> Option<(Unit, &'t [Token<'a>])>
     ensures { (unit : TheUnit) (array : Told) (rest : List Told)
-        → map token_of tokens.now ≡ unit_tokens unit ++ key (codes "columns") ∷ array ∷ rest → Finds unit rest result }
+        → map token_of tokens.now ≡ unit_tokens unit ++ key (codes "columns") ∷ array ∷ rest
+        → Finds unit rest result }
 {
     let (unit, rest) = match key_after(tokens, "unit") {
         Some(rest) => (Unit::Nanoseconds, after_one(rest)?),
@@ -104,7 +108,8 @@ fn put_columns<'t, 'a>(
     tokens: &'t [Token<'a>],
     columns: &mut Vec<Column>,
 ) -> Result<Option<&'t [Token<'a>]>, AllocError>
-    ensures { IfOk result (λ left. (later : List TheColumn) (rest : List Told) → MayFollow columns.old.items later
+    ensures { IfOk result (λ left. (later : List TheColumn) (rest : List Told)
+        → MayFollow columns.old.items later
         → map token_of tokens.now ≡ name_tokens later ++ end_array ∷ rest
         → Leaves (end_array ∷ rest) left × (columns.new.items ≡ columns.old.items ++ later)) }
 {
@@ -166,8 +171,9 @@ pub(crate) fn row_of(
     names: &[Text],
     tokens: &[Token],
 ) -> Result<Option<Row>, AllocError>
-    ensures { IfOk result (λ found. (columns : List TheColumn) (row : TheRow) → AreColumns of columns → IsRowOf of columns row
-        → names.now ≡ map column_name columns → map token_of tokens.now ≡ row_tokens of columns row → found ≡ Some row) }
+    ensures { IfOk result (λ found. (columns : List TheColumn) (row : TheRow)
+        → AreColumns of columns → IsRowOf of columns row → names.now ≡ map column_name columns
+        → map token_of tokens.now ≡ row_tokens of columns row → found ≡ Some row) }
 {
     let Some(members) = after_one(tokens) else {
         return Ok(None);
@@ -185,7 +191,8 @@ fn key_of<'t, 'a>(
     names: &[Text],
     tokens: &'t [Token<'a>],
 ) -> Result<(Key, &'t [Token<'a>]), AllocError>
-    ensures { IfOk result (λ found. (of : TheOf) (columns : List TheColumn) (values : TableKey) (sums : TheSums) (rest : List Told)
+    ensures { IfOk result (λ found. (of : TheOf) (columns : List TheColumn)
+        (values : TableKey) (sums : TheSums) (rest : List Told)
         → AreDistinct names.now → IsKeyOf columns values → names.now ≡ map column_name columns
         → map token_of tokens.now ≡ key_tokens columns values ++ (sums_tokens of sums ++ rest)
         → Found values (sums_tokens of sums ++ rest) found) }
@@ -201,7 +208,8 @@ fn put_values<'t, 'a>(
     tokens: &'t [Token<'a>],
     values: &mut Vec<Option<ArgValue>>,
 ) -> Result<&'t [Token<'a>], AllocError>
-    ensures { IfOk result (λ left. (of : TheOf) (columns : List TheColumn) (more : TableKey) (sums : TheSums) (rest : List Told)
+    ensures { IfOk result (λ left. (of : TheOf) (columns : List TheColumn)
+        (more : TableKey) (sums : TheSums) (rest : List Told)
         → AreDistinct names.now → IsKeyOf columns more → names.now ≡ map column_name columns
         → map token_of tokens.now ≡ key_tokens columns more ++ (sums_tokens of sums ++ rest)
         → Found (values.old.items ++ more) (sums_tokens of sums ++ rest) (values.new.items, left)) }
@@ -266,8 +274,10 @@ fn value_after<'t, 'a>(
     tokens: &'t [Token<'a>],
     name: &str,
 ) -> Result<(Option<ArgValue>, &'t [Token<'a>]), AllocError>
-    ensures there { IfOk result (λ found. (value : TheValue) (rest : List Told) → IsOfArgument (Some value)
-        → map token_of tokens.now ≡ key name.now ∷ (value_tokens value ++ rest) → Found (Some value) rest found) }
+    ensures there { IfOk result (λ found. (value : TheValue) (rest : List Told)
+        → IsOfArgument (Some value)
+        → map token_of tokens.now ≡ key name.now ∷ (value_tokens value ++ rest)
+        → Found (Some value) rest found) }
     ensures missing { IfOk result (λ found. (other : Bytes) (rest : List Told) → other ≢ name.now
         → map token_of tokens.now ≡ key other ∷ rest → Found None (key other ∷ rest) found) }
 {
@@ -281,7 +291,8 @@ fn value_of<'t, 'a>(
     alloc: Global,
     tokens: &'t [Token<'a>],
 ) -> Result<(Option<ArgValue>, &'t [Token<'a>]), AllocError>
-    ensures { IfOk result (λ found. (value : TheValue) (rest : List Told) → IsOfArgument (Some value)
+    ensures { IfOk result (λ found. (value : TheValue) (rest : List Told)
+        → IsOfArgument (Some value)
         → map token_of tokens.now ≡ value_tokens value ++ rest → Found (Some value) rest found) }
 {
     let Some((first, rest)) = tokens.split_first() else {
@@ -301,7 +312,8 @@ fn value_of<'t, 'a>(
 }
 
 fn whole_of(text: &str) -> Option<ArgValue>
-    ensures { (number : ℤ) → FitsSigned w64 number → text.now ≡ signed_decimal number → result ≡ Some (Whole number) }
+    ensures { (number : ℤ) → FitsSigned w64 number → text.now ≡ signed_decimal number
+        → result ≡ Some (Whole number) }
 {
     match text.parse::<i64>() {
         Ok(number) => Some(ArgValue::Whole(number)),

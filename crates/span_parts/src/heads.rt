@@ -52,8 +52,10 @@ fn head_of_line(
     room: &mut LineRoom,
 ) -> Result<Option<FirstLine>, AllocError>
     ensures is { IfOk result (λ found. IfSome found (IsFirstLine line.now)) }
-    ensures found { IfOk result (λ found. (of : TheOf) (unit : TheUnit) (columns : List TheColumn) (rows : ℕ) (head : TheHead)
-        → MayBegin of columns rows head → line.now ++ 10 ∷ [] ≡ json_head of unit columns rows head
+    ensures found { IfOk result (λ found.
+        (of : TheOf) (unit : TheUnit) (columns : List TheColumn) (rows : ℕ) (head : TheHead)
+        → MayBegin of columns rows head
+        → line.now ++ 10 ∷ [] ≡ json_head of unit columns rows head
         → Says of unit columns rows head found) }
 {
     let tokens = tokens_of(alloc, line, &mut room.scratch)?;
@@ -76,7 +78,8 @@ fn head_of_line(
 // Whether this is printed as the line.
 fn is_head(alloc: Global, first: &FirstLine, line: &str) -> Result<bool, AllocError>
     ensures { IfOk result (λ same. IsTrue same ↔ line.now ++ 10 ∷ []
-        ≡ json_head first.now.of first.now.unit first.now.columns.items first.now.rows first.now.head) }
+        ≡ json_head first.now.of first.now.unit first.now.columns.items
+        first.now.rows first.now.head) }
 {
     let mut printed = String::new(alloc);
     put_json_head(

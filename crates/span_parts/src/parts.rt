@@ -155,7 +155,8 @@ impl Parts {
 
 // Whether a part that begins so sums this, in this unit and by these columns.
 fn is_alike(first: &FirstLine, of: Of, unit: Unit, columns: &[Column]) -> bool
-    ensures { IsTrue result ↔ (first.now.of ≡ of) × (first.now.unit ≡ unit) × (first.now.columns.items ≡ columns.now) }
+    ensures { IsTrue result
+        ↔ (first.now.of ≡ of) × (first.now.unit ≡ unit) × (first.now.columns.items ≡ columns.now) }
 {
     first.of == of && first.unit == unit && are_same(&first.columns, columns)
 }
@@ -163,7 +164,8 @@ fn is_alike(first: &FirstLine, of: Of, unit: Unit, columns: &[Column]) -> bool
 // Why a text that begins so is refused: for what it sums, its unit or its columns, if it is a part.
 fn fault_of_others(alloc: Global, first: &FirstLine, rest: &str, room: &mut LineRoom) -> PartFault
     requires { MayBegin first.now.of first.now.columns.items first.now.rows first.now.head }
-    ensures { (text : Bytes) → Begins text first.now rest.now → RefusesOthers first.now.of first.now.unit first.now.columns.items text result }
+    ensures { (text : Bytes) → Begins text first.now rest.now
+        → RefusesOthers first.now.of first.now.unit first.now.columns.items text result }
 {
     match look_through(alloc, first, rest, room) {
         Ok(()) => PartFault::OtherColumns,

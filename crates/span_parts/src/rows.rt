@@ -27,7 +27,8 @@ pub(crate) fn row_of_line(
     requires columns { AreColumns of columns.now }
     requires names { names.now ≡ map column_name columns.now }
     ensures is { IfOk result (λ found. IfSome found (IsRowLine of columns.now line.now)) }
-    ensures found { IfOk result (λ found. (row : TheRow) → IsRowLine of columns.now line.now row → found ≡ Some row) }
+    ensures found { IfOk result (λ found. (row : TheRow) → IsRowLine of columns.now line.now row
+        → found ≡ Some row) }
 {
     let tokens = tokens_of(alloc, line, &mut room.scratch)?;
     let Some(row) = guess::row_of(alloc, of, names, &tokens)? else {
@@ -54,7 +55,8 @@ fn is_row(
 ) -> Result<bool, AllocError>
     requires names { names.now ≡ map column_name columns.now }
     requires fits { fit row.now.sums ≡ true }
-    ensures { IfOk result (λ same. IsTrue same ↔ line.now ++ 10 ∷ [] ≡ json_line of columns.now row.now) }
+    ensures { IfOk result (λ same. IsTrue same
+        ↔ line.now ++ 10 ∷ [] ≡ json_line of columns.now row.now) }
 {
     let mut out = replace(printed, Vec::new(alloc));
     out.clear();

@@ -31,7 +31,8 @@ pub(crate) fn add_part(
     requires { MayBegin first.now.of first.now.columns.items first.now.rows first.now.head }
     ensures added { IfOk result (λ new. (text : Bytes) → Begins text first.now rest.now
         → IsAdded first.now.of first.now.unit first.now.columns.items places.now text sum new) }
-    ensures fault { IfErr result (λ fault. (text : Bytes) → Begins text first.now rest.now → SumFails text fault) }
+    ensures fault { IfErr result (λ fault. (text : Bytes) → Begins text first.now rest.now
+        → SumFails text fault) }
 {
     let mut sum = match sum.add_head(&first.head) {
         Ok(sum) => sum,
@@ -58,8 +59,10 @@ pub(crate) fn look_through(
     room: &mut LineRoom,
 ) -> Result<(), PartFault>
     requires { MayBegin first.now.of first.now.columns.items first.now.rows first.now.head }
-    ensures is { OnOk result ((text : Bytes) → Begins text first.now rest.now → HasColumns first.now.of first.now.unit first.now.columns.items text) }
-    ensures fault { IfErr result (λ fault. (text : Bytes) → Begins text first.now rest.now → SumFails text fault) }
+    ensures is { OnOk result ((text : Bytes) → Begins text first.now rest.now
+        → HasColumns first.now.of first.now.unit first.now.columns.items text) }
+    ensures fault { IfErr result (λ fault. (text : Bytes) → Begins text first.now rest.now
+        → SumFails text fault) }
 {
     // All rows have one key, of no values, so there is nothing to keep.
     let sum = Addition::new(alloc, HashKeys::fixed(), first.of, &[])?;
@@ -85,7 +88,8 @@ fn add_rows(
     room: &mut LineRoom,
 ) -> Result<(), PartFault>
     requires { AreColumns of columns.now }
-    ensures added { OnOk result (AllAdded of columns.now places.now text.now count sum.old sum.new) }
+    ensures added { OnOk result
+        (AllAdded of columns.now places.now text.now count sum.old sum.new) }
     ensures fault { IfErr result (RowsFail of columns.now text.now count) }
 {
     let names = column_names(alloc, columns)?;
@@ -124,7 +128,8 @@ fn next_row(
     requires columns { AreColumns of columns.now }
     requires names { names.now ≡ map column_name columns.now }
     ensures row { IfOk result (IsNextRow of columns.now line.now last.now) }
-    ensures only { IfOk result (λ row. (other : TheRow) → IsNextRow of columns.now line.now last.now other → row ≡ other) }
+    ensures only { IfOk result (λ row. (other : TheRow)
+        → IsNextRow of columns.now line.now last.now other → row ≡ other) }
     ensures fault { IfErr result (RowFails of columns.now line.now last.now) }
 {
     match row_of_line(alloc, of, columns, names, line, room) {

@@ -31,9 +31,10 @@ pub(crate) fn tokens_of<'a>(
 
 /// What is behind this key, if it is next.
 pub(crate) fn key_after<'t, 'a>(tokens: &'t [Token<'a>], name: &str) -> Option<&'t [Token<'a>]>
-    ensures there { (rest : List Told) → map token_of tokens.now ≡ key name.now ∷ rest → Leaves rest result }
-    ensures missing { (other : Bytes) (rest : List Told) → other ≢ name.now → map token_of tokens.now ≡ key other ∷ rest
-        → IsNone result }
+    ensures there { (rest : List Told) → map token_of tokens.now ≡ key name.now ∷ rest
+        → Leaves rest result }
+    ensures missing { (other : Bytes) (rest : List Told) → other ≢ name.now
+        → map token_of tokens.now ≡ key other ∷ rest → IsNone result }
 {
     let (first, rest) = tokens.split_first()?;
     match first {
@@ -44,8 +45,10 @@ pub(crate) fn key_after<'t, 'a>(tokens: &'t [Token<'a>], name: &str) -> Option<&
 
 /// The text that is next, if one is, and what is behind it.
 pub(crate) fn text_after<'t, 'a>(tokens: &'t [Token<'a>]) -> Option<(&'t str, &'t [Token<'a>])>
-    ensures text { IfSome result (λ found. map token_of tokens.now ≡ string found.0.now ∷ map token_of found.1.now) }
-    ensures none { IfNone result ((text : Bytes) (rest : List Told) → map token_of tokens.now ≢ string text ∷ rest) }
+    ensures text { IfSome result (λ found. map token_of tokens.now
+        ≡ string found.0.now ∷ map token_of found.1.now) }
+    ensures none { IfNone result ((text : Bytes) (rest : List Told)
+        → map token_of tokens.now ≢ string text ∷ rest) }
 {
     let (first, rest) = tokens.split_first()?;
     match first {
@@ -60,7 +63,8 @@ pub(crate) fn number_after<'t, 'a>(
     name: &str,
 ) -> Option<(u64, &'t [Token<'a>])>
     ensures { (number : ℕ) (rest : List Told) → number < 2 ^ 64
-        → map token_of tokens.now ≡ number_tokens name.now number ++ rest → Finds number rest result }
+        → map token_of tokens.now ≡ number_tokens name.now number ++ rest
+        → Finds number rest result }
 {
     let (first, rest) = key_after(tokens, name)?.split_first()?;
     match first {
@@ -80,7 +84,8 @@ fn number_of(text: &str) -> Option<u64>
 
 /// What is behind one token, whatever it is.
 pub(crate) fn after_one<'t, 'a>(tokens: &'t [Token<'a>]) -> Option<&'t [Token<'a>]>
-    ensures { (token : Told) (rest : List Told) → map token_of tokens.now ≡ token ∷ rest → Leaves rest result }
+    ensures { (token : Told) (rest : List Told) → map token_of tokens.now ≡ token ∷ rest
+        → Leaves rest result }
 {
     let (_, rest) = tokens.split_first()?;
     Some(rest)
