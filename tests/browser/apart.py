@@ -1,20 +1,13 @@
 """Views of pages whose files are runs of their own, and of the files in the head of any page."""
 import json
-import os
 
 from page_texts import data_of, page_text
 from pages import Graph, Keys, MadePage, Page, expect
-from views import LONG, RIGHT, TURNED, check_narrow, check_odd_elements, named, order_of, ready_of, span, time_of
+from views import BRIEF, LONG, RIGHT, TURNED, TURNED_SHOWN
+from views import check_narrow, check_odd_elements, named, order_of, others, put_traces, ready_of, span, time_of
 
 # Marks that keep the direction of a name in a choice to itself.
 ISOLATING = str.maketrans("", "", "\u2068\u2069")
-
-
-def put_traces(folder, traces):
-    """Writes traces, each under its name; what isn't a list of elements stands as it is."""
-    for name, trace in traces.items():
-        with open(os.path.join(folder, name), "w", encoding="utf-8") as file:
-            file.write(trace if isinstance(trace, str) else json.dumps(trace))
 
 
 def options(page, choice):
@@ -47,15 +40,6 @@ def lines_of_graphs(page):
     """What the lines of the graphs say behind the busy time."""
     lines = page.run("return [...document.querySelectorAll('#graphs > details > summary')].map(line => line.innerText)")
     return [" ".join(line.split()).partition("thread ")[2] for line in lines]
-
-
-def others(page):
-    """The rows of the other tables, by their summaries."""
-    page.run("document.querySelectorAll('#others details').forEach(one => { one.open = true; })")
-    return page.run("""
-        return Object.fromEntries([...document.querySelectorAll("#others > details")].map(one => [one.querySelector("summary").innerText.trim(),
-          [...one.querySelectorAll("tbody tr")].map(row => [...row.cells].map(cell => cell.innerText.trim()))]));
-    """)
 
 
 def names_of_files(page):
@@ -312,8 +296,7 @@ def try_same(driver, program, folder):
     page.expect_silence()
 
     page = Page(driver, program, ["--apart", "--group-by", "file,name", *SAME], folder=folder)
-    titles = page.run("return [...document.querySelectorAll('#names th')].map(head => head.innerText.trim())")
-    expect("titles with files", titles, ["name", "self, \u00b5s", "of busy", "total, \u00b5s", "count", "file"])
+    expect("titles with files", page.titles("#names"), ["name", "self, \u00b5s", "of busy", "total, \u00b5s", "count", "file"])
     expect("whether rows are said to be sums", "Rows are sums" in page.text("#names-title + .hint"), False)
     expect("rows with files", page.rows("#names"), [ALPHA_B, ALPHA_A, BETA_B, BETA_A])
     page.click("#names th:nth-child(6) button")
@@ -357,10 +340,9 @@ ODD = {
     "<img src=x onerror=alert(1)>&amp;.json": "<img src=x onerror=alert(1)>&amp;.json",
     '"quoted" \'name\' ; $(x) `y`': '"quoted" \'name\' ; $(x) `y`',
     RIGHT: RIGHT,
-    TURNED: "a\\u202eb\\u2028c\\u000a",
+    TURNED: TURNED_SHOWN,
     "-": "-",
 }
-BRIEF = LONG[:80] + "\u2026" + LONG[-79:]
 
 
 def renamed(text, names):

@@ -1,9 +1,7 @@
 """Views of pages whose times are nanoseconds, and of times beside which a longer unit is told."""
-import os
-
-from apart import choose, lines_of_graphs, others, put_traces
+from apart import choose, lines_of_graphs
 from pages import Graph, Keys, Page, expect
-from views import check_narrow, check_odd_elements, named, order_of, span
+from views import check_narrow, check_odd_elements, named, order_of, others, put_traces, refusals, span
 
 US = "\u00b5s"
 HINT = " A click on a column sorts; a click on a row marks its frames in a flame graph. The address shows the view again."
@@ -38,10 +36,6 @@ NEAR = ["near", "1", "< 0.1 %", "1", "1", "8", "1"]
 BY_SELF = [FAR_ROW, ALPHA, BETA, GAMMA, TICK, ASIDE, NEAR]
 
 
-def titles(page, table):
-    return page.run("return [...document.querySelectorAll(arguments[0] + ' th')].map(head => head.innerText.trim())", table)
-
-
 def hint(page):
     return page.text("#names-title + .hint")
 
@@ -53,8 +47,7 @@ def busy_times(page):
 
 def reasons(page):
     """What is said of refused elements, without the file."""
-    items = page.run("return [...document.querySelectorAll('#warnings li')].map(item => item.innerText)")
-    return [item.rpartition(" of ")[0] for item in items]
+    return [item.rpartition(" of ")[0] for item in refusals(page)]
 
 
 def check_texts(page):
@@ -71,7 +64,7 @@ def check_texts(page):
 
 def check_rows(page):
     """Rows, their sums, and their order, which the address has without a unit."""
-    expect("titles", titles(page, "#names"), ["name", "self, ns", "of busy", "total, ns", "count", "process", "thread"])
+    expect("titles", page.titles("#names"), ["name", "self, ns", "of busy", "total, ns", "count", "process", "thread"])
     expect("rows", page.rows("#names"), BY_SELF)
     for words, rows, told in [("", BY_SELF, "7 of 7 rows shown; sum of self 18,014,398,509,587,501 ns (208 d); sum of count 8"),
                               ("alp", [ALPHA], f"1 of 1 rows shown, narrowed from 7; sum of self 70,370 ns (70.4 {US}); sum of count 1"),
@@ -96,8 +89,8 @@ def check_other_tables(page):
         "Counters (1)": [["heap", "used", "1", "12", "12", "12", "app (7)", "-"]],
         "Instants (1)": [["paint", "1", "app (7)", "main (1)", "process"]],
     })
-    expect("titles of async spans", titles(page, "#others > details:nth-child(1)")[:3], ["name", "total, ns", "closed"])
-    expect("titles of flows", titles(page, "#others > details:nth-child(2)")[:3], ["name", "total, ns", "ended"])
+    expect("titles of async spans", page.titles("#others > details:nth-child(1)")[:3], ["name", "total, ns", "closed"])
+    expect("titles of flows", page.titles("#others > details:nth-child(2)")[:3], ["name", "total, ns", "ended"])
 
 
 def check_graph(page):
@@ -125,7 +118,7 @@ def check_graph(page):
     item = page.run("return arguments[0].textContent", page.element(f"{graph.section} [role=treeitem]"))
     expect("what is heard of a frame", item, f"alpha: {alpha}, 2 under it")
     graph.click(".under > summary")
-    expect("titles under alpha", titles(page, f"{graph.section} .under"), ["name", "total, ns", "self, ns"])
+    expect("titles under alpha", page.titles(f"{graph.section} .under"), ["name", "total, ns", "self, ns"])
     expect("rows under alpha", page.rows(f"{graph.section} .under"), [["beta", "30,125", "30,125"], ["tick", "5", "5"]])
 
 
@@ -179,7 +172,7 @@ def try_files(driver, program, folder):
     page = Page(driver, program, ["--nanoseconds", "--apart", "one.json", "two.json"], folder=folder)
     expect("the hint of files apart", hint(page), f"Times are whole nanoseconds.{HINT} "
            "Rows are sums over all files; with the column file (--group-by) each file has its own.")
-    expect("titles of files apart", titles(page, "#names"), ["name", "self, ns", "of busy", "total, ns", "count", "process", "thread"])
+    expect("titles of files apart", page.titles("#names"), ["name", "self, ns", "of busy", "total, ns", "count", "process", "thread"])
     expect("rows of files apart", page.rows("#names"), [["alpha", "101,250", "100.0 %", "101,250", "2", "7", "1"]])
     expect("busy times of files apart", busy_times(page), [f"busy 100,500 ns (101 {US})", "busy 750 ns"])
     expect("why an event of a file was refused", reasons(page),
@@ -196,7 +189,7 @@ def try_files(driver, program, folder):
     put_traces(folder, many)
     page = Page(driver, program, ["--nanoseconds", "--apart", *many], folder=folder)
     expect("the hint without runs", hint(page), "Times are whole nanoseconds. A click on a column sorts. The address shows the view again.")
-    expect("titles without runs", titles(page, "#names"), ["name", "self, ns", "total, ns", "count", "process", "thread"])
+    expect("titles without runs", page.titles("#names"), ["name", "self, ns", "total, ns", "count", "process", "thread"])
     expect("rows without runs", page.rows("#names"), [["alpha", "32,500", "32,500", "65", "7", "1"]])
     expect("sums without runs", page.text("#names .status"), f"1 of 1 rows shown; sum of self 32,500 ns (32.5 {US}); sum of count 65")
     page.expect_silence()

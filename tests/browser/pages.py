@@ -107,6 +107,9 @@ class Page:
         script = "return [...document.querySelectorAll(arguments[0] + ' tbody tr')].map(r => [...r.cells].map(c => c.innerText.trim()))"
         return self.run(script, table)
 
+    def titles(self, table):
+        return self.run("return [...document.querySelectorAll(arguments[0] + ' th')].map(head => head.innerText.trim())", table)
+
     def write(self, words):
         self.element("#words").send_keys(Keys.CONTROL, "a")
         self.element("#words").send_keys(words or Keys.DELETE)

@@ -1,11 +1,16 @@
 """What the traces of several views have in common, odd names among it, and what is checked of every page that shows them."""
+import json
+import os
+
 from pages import DRAWN, Keys, expect, fail
 
 READY = 5_000  # milliseconds in which the page of the largest trace must be ready
 QUICK = 3_000  # milliseconds in which it must have done what a person asks
 MARKUP = "</script><img src=x onerror=alert(1)>"
 TURNED = "a\u202eb\u2028c\n"
+TURNED_SHOWN = "a\\u202eb\\u2028c\\u000a"
 LONG = "<b>" + "long" * 2_498 + "'end\""  # 10,000 letters
+BRIEF = LONG[:80] + "\u2026" + LONG[-79:]  # what is shown of it
 RIGHT = '"\u05e9\u05dc\u05d5\u05dd" & \'<\' 7'
 
 
@@ -15,6 +20,27 @@ def span(process, thread, name, start, length):
 
 def named(what, process, thread, name):
     return {"ph": "M", "name": what, "pid": process, "tid": thread, "args": {"name": name}}
+
+
+def put_traces(folder, traces):
+    """Writes traces, each under its name; what isn't a list of elements stands as it is."""
+    for name, trace in traces.items():
+        with open(os.path.join(folder, name), "w", encoding="utf-8") as file:
+            file.write(trace if isinstance(trace, str) else json.dumps(trace))
+
+
+def others(page):
+    """The rows of the other tables, by their summaries."""
+    page.run("document.querySelectorAll('#others details').forEach(one => { one.open = true; })")
+    return page.run("""
+        return Object.fromEntries([...document.querySelectorAll("#others > details")].map(one => [one.querySelector("summary").innerText.trim(),
+          [...one.querySelectorAll("tbody tr")].map(row => [...row.cells].map(cell => cell.innerText.trim()))]));
+    """)
+
+
+def refusals(page):
+    """What is said of each kind of refused elements, and of the first of them."""
+    return page.run("return [...document.querySelectorAll('#warnings li')].map(item => item.innerText)")
 
 
 def check_odd_elements(page):
