@@ -279,8 +279,8 @@ ALPHA_A, BETA_A = [["alpha", "90", "90.0 %", "100", "1", "a.json"], ["beta", "10
 ALPHA_B, BETA_B = [["alpha", "270", "90.0 %", "300", "1", "b.json"], ["beta", "30", "10.0 %", "30", "1", "b.json"]]
 
 
-def try_same(driver, program, folder):
-    """Rows are sums over files that look alike; with the column file each is of its own, and marks the frames of its graph."""
+def try_summed(driver, program, folder):
+    """Rows are sums over files that look alike."""
     put_traces(folder, SAME)
     page = Page(driver, program, ["--apart", *SAME], folder=folder)
     expect("summed rows", page.rows("#names"), SUMMED)
@@ -295,7 +295,9 @@ def try_same(driver, program, folder):
     expect("what a summed row marks in a file", marked, "1 frame marked, 10 \u00b5s, 10.0 % of the thread's busy time")
     page.expect_silence()
 
-    page = Page(driver, program, ["--apart", "--group-by", "file,name", *SAME], folder=folder)
+
+def check_rows_by_file(page):
+    """Rows with the column file, sorted by it, from a click to the address and back."""
     expect("titles with files", page.titles("#names"), ["name", "self, \u00b5s", "of busy", "total, \u00b5s", "count", "file"])
     expect("whether rows are said to be sums", "Rows are sums" in page.text("#names-title + .hint"), False)
     expect("rows with files", page.rows("#names"), [ALPHA_B, ALPHA_A, BETA_B, BETA_A])
@@ -307,6 +309,10 @@ def try_same(driver, program, folder):
     page.open(page.fragment())
     expect("the order of an address by file", (order_of(page), page.fragment()), (["file", "descending"], "#sort=-file"))
     page.open()
+
+
+def check_narrowing_to_files(page):
+    """Words find a file's rows, and the frames of its graph alone; so does the choice of a file."""
     all_of_b, beta_of_b = "2 frames marked, together 300 \u00b5s, 100.0 %", "1 frame marked, 30 \u00b5s, 10.0 %"
     for words, rows, marked in [("b.json", [ALPHA_B, BETA_B], all_of_b), ("BETA b.", [BETA_B], beta_of_b), ("beta -A.J", [BETA_B], beta_of_b)]:
         page.write(words)
@@ -317,14 +323,30 @@ def try_same(driver, program, folder):
     choose(page, "file", "a.json")
     expect("rows with the file", page.rows("#names"), [ALPHA_A, BETA_A])
     choose(page, "file", "all files")
+
+
+def check_marks_of_files(page):
+    """A click on a row marks the frames of its file's graph."""
     for row, place, marked in [(2, 0, "100 \u00b5s, 100.0 %"), (1, 1, "300 \u00b5s, 100.0 %"), (4, 0, "10 \u00b5s, 10.0 %")]:
         page.run("scrollTo(0, 0)")
         page.click(f"#names tbody tr:nth-child({row}) button")
         told = Graph(page, place).text(".graph > .status")
         expect(f"what row {row} marks", told, f"1 frame marked, {marked} of the thread's busy time")
         expect(f"the focus after row {row}", page.run("return document.activeElement.closest('details').id"), f"thread-{place}")
+
+
+def try_with_files(driver, program, folder):
+    """With the column file each file has rows of its own."""
+    put_traces(folder, SAME)
+    page = Page(driver, program, ["--apart", "--group-by", "file,name", *SAME], folder=folder)
+    for check in [check_rows_by_file, check_narrowing_to_files, check_marks_of_files]:
+        check(page)
     page.expect_silence()
 
+
+def try_named_twice(driver, program, folder):
+    """A file that is named twice is two runs, whose rows are one, since they have one name."""
+    put_traces(folder, SAME)
     page = Page(driver, program, ["--apart", "--group-by", "file,name", "a.json", "a.json"], folder=folder)
     twice = [["alpha", "180", "90.0 %", "200", "2", "a.json"], ["beta", "20", "10.0 %", "20", "2", "a.json"]]
     graphs = "return [...document.querySelectorAll('#graphs > details')].map(graph => graph.id)"
@@ -457,6 +479,6 @@ def check_without_runs(page, spans):
 
 def try_apart(driver, program, folder):
     """All views of files; gives the time in which the page of the most files is ready, and in which it does what it is asked."""
-    for view in [try_threads, try_one_apart, try_together, try_same, try_odd_names]:
+    for view in [try_threads, try_one_apart, try_together, try_summed, try_with_files, try_named_twice, try_odd_names]:
         view(driver, program, folder)
     return try_many(driver, program, folder)
