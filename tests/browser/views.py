@@ -1,4 +1,4 @@
-"""What the traces of several views have in common, odd names among it, and what is checked of every page that shows them."""
+"""What several views have in common: traces and odd names, what is read of a page, and what is checked of each."""
 import json
 import os
 
