@@ -78,8 +78,8 @@ pub(crate) fn add_files<R: RandomSource, S: Source, O: Sink, F: Faults>(
     faults: &mut F,
 ) -> u8
     ensures status { result ≤ 2 }
-    ensures done { result < 2
-        → Adds (S.bytes source.now) names.items view.now result (O.state out.old) (O.state out.new) }
+    ensures done { result < 2 → Adds (S.bytes source.now) names.items view.now result
+        (O.state out.old) (O.state out.new) }
     ensures failed { result ≡ 2
         → AddsPart (S.bytes source.now) names.items view.now (O.state out.old) (O.state out.new) }
 {
@@ -112,8 +112,8 @@ pub(crate) fn compare_added<R: RandomSource, S: Source, O: Sink, F: Faults>(
     ensures status { result ≤ 2 }
     ensures done { result < 2 → ComparesAdded (S.bytes source.now) base.items names.items view.now
         result (O.state out.old) (O.state out.new) }
-    ensures failed { result ≡ 2 → ComparesAddedPart (S.bytes source.now) base.items names.items view.now
-        (O.state out.old) (O.state out.new) }
+    ensures failed { result ≡ 2 → ComparesAddedPart (S.bytes source.now) base.items names.items
+        view.now (O.state out.old) (O.state out.new) }
 {
     let files = (base.len() as u64).saturating_add(names.len() as u64);
     source.begin_apart(files);
@@ -147,9 +147,11 @@ fn sum_inputs<S: Source>(
     names: &[Text],
     source: &S,
 ) -> Result<Parts, AddStop>
-    ensures sum { IfOk result (λ sum. OfInputs (S.bytes source.now) names.now (AddsChosen wanted.now sum)) }
+    ensures sum { IfOk result (λ sum.
+        OfInputs (S.bytes source.now) names.now (AddsChosen wanted.now sum)) }
     ensures number { IfOk result (λ sum. goes_by sum.of by ≡ true) }
-    ensures stop { IfErr result (λ stop. OfInputs (S.bytes source.now) names.now (Stops wanted.now by stop)) }
+    ensures stop { IfErr result (λ stop.
+        OfInputs (S.bytes source.now) names.now (Stops wanted.now by stop)) }
 {
     if !names.is_empty() {
         return sum_names(alloc, keys, wanted, by, names, source);
@@ -175,8 +177,10 @@ fn sum_inputs_beside<S: Source>(
     names: &[Text],
     source: &S,
 ) -> Result<Parts, AddStop>
-    ensures sum { IfOk result (λ sum. OfInputs (S.bytes source.now) names.now (AddsBeside base.now sum)) }
-    ensures stop { IfErr result (λ stop. OfInputs (S.bytes source.now) names.now (StopsBeside base.now stop)) }
+    ensures sum { IfOk result (λ sum.
+        OfInputs (S.bytes source.now) names.now (AddsBeside base.now sum)) }
+    ensures stop { IfErr result (λ stop.
+        OfInputs (S.bytes source.now) names.now (StopsBeside base.now stop)) }
 {
     if !names.is_empty() {
         return sum_beside(alloc, keys, base, names, source);
@@ -196,7 +200,8 @@ pub(crate) fn sum_beside<S: Source>(
     source: &S,
 ) -> Result<Parts, AddStop>
     ensures sum { IfOk result (λ sum. AddsBeside base.now sum (S.bytes source.now).file names.now) }
-    ensures stop { IfErr result (λ stop. StopsBeside base.now stop (S.bytes source.now).file names.now) }
+    ensures stop { IfErr result (λ stop.
+        StopsBeside base.now stop (S.bytes source.now).file names.now) }
 {
     let none = match base.of_none_beside(alloc, keys) {
         Ok(none) => none,
@@ -218,9 +223,11 @@ pub(crate) fn sum_names<S: Source>(
     names: &[Text],
     source: &S,
 ) -> Result<Parts, AddStop>
-    ensures sum { IfOk result (λ sum. AddsChosen wanted.now sum (S.bytes source.now).file names.now) }
+    ensures sum { IfOk result (λ sum.
+        AddsChosen wanted.now sum (S.bytes source.now).file names.now) }
     ensures number { IfOk result (λ sum. goes_by sum.of by ≡ true) }
-    ensures stop { IfErr result (λ stop. Stops wanted.now by stop (S.bytes source.now).file names.now) }
+    ensures stop { IfErr result (λ stop.
+        Stops wanted.now by stop (S.bytes source.now).file names.now) }
 {
     let Some((first, later)) = names.split_first() else {
         return Err(AddStop::FileCount);
@@ -266,7 +273,8 @@ fn sum_first<S: Source>(
 ) -> Result<Parts, AddStop>
     ensures sum { IfOk result (BeginsWith (S.bytes source.now).file wanted.now name.now) }
     ensures number { IfOk result (λ sum. goes_by sum.of by ≡ true) }
-    ensures stop { IfErr result (StopsAt (S.bytes source.now).file (LacksAsked wanted.now by) name.now) }
+    ensures stop { IfErr result
+        (StopsAt (S.bytes source.now).file (LacksAsked wanted.now by) name.now) }
 {
     let text = match text_of_file(alloc, name, source) {
         Ok(text) => text,
@@ -285,7 +293,8 @@ fn sum_first<S: Source>(
 // The sum with the table of this name.
 fn add_file<S: Source>(alloc: Global, sum: Parts, name: &Text, source: &S) -> Result<Parts, AddStop>
     ensures sum { IfOk result (AddsFile (S.bytes source.now).file name.now sum) }
-    ensures stop { IfErr result (StopsAt (S.bytes source.now).file (HasOtherColumns sum.of sum.unit sum.columns) name.now) }
+    ensures stop { IfErr result
+        (StopsAt (S.bytes source.now).file (HasOtherColumns sum.of sum.unit sum.columns) name.now) }
 {
     let text = match text_of_file(alloc, name, source) {
         Ok(text) => text,

@@ -49,10 +49,10 @@ pub(crate) fn sum_files<
     faults: &mut F,
 ) -> u8
     ensures status { result ≤ 2 }
-    ensures done { result < 2
-        → Sums (S.bytes source.now) names.items apart.now.settings view.now result (O.state out.old) (O.state out.new) }
-    ensures failed { result ≡ 2
-        → SumsPart (S.bytes source.now) names.items apart.now.settings view.now (O.state out.old) (O.state out.new) }
+    ensures done { result < 2 → Sums (S.bytes source.now) names.items apart.now.settings view.now
+        result (O.state out.old) (O.state out.new) }
+    ensures failed { result ≡ 2 → SumsPart (S.bytes source.now) names.items apart.now.settings
+        view.now (O.state out.old) (O.state out.new) }
 {
     source.begin_apart(names.len() as u64);
     match gather_inputs(
@@ -90,10 +90,10 @@ pub(crate) fn compare_sums<
     faults: &mut F,
 ) -> u8
     ensures status { result ≤ 2 }
-    ensures done { result < 2 → ComparesSums (S.bytes source.now) base.items names.items apart.now.settings view.now
-        result (O.state out.old) (O.state out.new) }
-    ensures failed { result ≡ 2 → ComparesSumsPart (S.bytes source.now) base.items names.items apart.now.settings
-        view.now (O.state out.old) (O.state out.new) }
+    ensures done { result < 2 → ComparesSums (S.bytes source.now) base.items names.items
+        apart.now.settings view.now result (O.state out.old) (O.state out.new) }
+    ensures failed { result ≡ 2 → ComparesSumsPart (S.bytes source.now) base.items names.items
+        apart.now.settings view.now (O.state out.old) (O.state out.new) }
 {
     let options = &view.options;
     match gather_sides(rt, alloc, apart, options, &base, &names, source, faults) {
@@ -119,7 +119,8 @@ pub(crate) fn gather_inputs<
     names: &[Text],
     source: &S,
 ) -> Result<Gathered<T>, Stop>
-    ensures { IfOk result (GathersInputs (S.bytes source.now) names.now apart.now.settings (T.come_to of columns.now)) }
+    ensures { IfOk result (GathersInputs (S.bytes source.now) names.now apart.now.settings
+        (T.come_to of columns.now)) }
 {
     if !names.is_empty() {
         return gather_apart(
@@ -144,7 +145,8 @@ fn gather_standard<T: Gathering, R: Threads + Wait + RandomSource + Sync, S: Sou
     columns: &[Column],
     source: &S,
 ) -> Result<Gathered<T>, Stop>
-    ensures { IfOk result (GathersInputs (S.bytes source.now) [] settings.now (T.come_to of columns.now)) }
+    ensures { IfOk result
+        (GathersInputs (S.bytes source.now) [] settings.now (T.come_to of columns.now)) }
 {
     let Ok(name) = Text::of(alloc, "-") else {
         return Err(Stop::of_memory(alloc));
@@ -184,9 +186,10 @@ fn write_sum<O: Sink, F: Faults>(
 ) -> u8
     ensures status { result ≤ 2 }
     ensures fits { result < 2 → TableFits view.now summed.runs }
-    ensures done { result < 2
-        → WritesAll (table_text unit view.now true summed.runs) summed.lines.items result (O.state out.old) (O.state out.new) }
-    ensures failed { result ≡ 2 → WritesPart (table_text unit view.now true summed.runs) (O.state out.old) (O.state out.new) }
+    ensures done { result < 2 → WritesAll (table_text unit view.now true summed.runs)
+        summed.lines.items result (O.state out.old) (O.state out.new) }
+    ensures failed { result ≡ 2 → WritesPart (table_text unit view.now true summed.runs)
+        (O.state out.old) (O.state out.new) }
     ensures said { result < 2 → Says summed.lines.items (F.state faults.old) (F.state faults.new) }
 {
     let Gathered { runs: sum, lines } = summed;
@@ -205,11 +208,15 @@ fn write_comparison<O: Sink, F: Faults>(
     faults: &mut F,
 ) -> u8
     ensures status { result ≤ 2 }
-    ensures done { result < 2 → WritesAll (changes_text unit view.now true sides.base.runs sides.other.runs)
-        (sides.base.lines.items ++ sides.other.lines.items) result (O.state out.old) (O.state out.new) }
-    ensures failed { result ≡ 2
-        → WritesPart (changes_text unit view.now true sides.base.runs sides.other.runs) (O.state out.old) (O.state out.new) }
-    ensures said { result < 2 → Says (sides.base.lines.items ++ sides.other.lines.items) (F.state faults.old) (F.state faults.new) }
+    ensures done { result < 2 → WritesAll
+        (changes_text unit view.now true sides.base.runs sides.other.runs)
+        (sides.base.lines.items ++ sides.other.lines.items)
+        result (O.state out.old) (O.state out.new) }
+    ensures failed { result ≡ 2 → WritesPart
+        (changes_text unit view.now true sides.base.runs sides.other.runs)
+        (O.state out.old) (O.state out.new) }
+    ensures said { result < 2 → Says (sides.base.lines.items ++ sides.other.lines.items)
+        (F.state faults.old) (F.state faults.new) }
 {
     let Sides { base, other } = sides;
     let Gathered {

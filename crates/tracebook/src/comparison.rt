@@ -91,8 +91,8 @@ pub(crate) fn run_comparison<O: Sink, R: Threads + Wait + RandomSource + Sync>(
 ) -> Result<Compared, ComparisonFault>
     ensures run { IfOk result (λ compared. IsComparisonOf view.now base.now files.now settings.now
         compared.base.end compared.other.end (O.state out.old) (O.state out.new)) }
-    ensures fault { IfErr result
-        (λ fault. ComparisonLeaves view.now fault base.now files.now settings.now (O.state out.old) (O.state out.new)) }
+    ensures fault { IfErr result (λ fault. ComparisonLeaves view.now fault base.now files.now
+        settings.now (O.state out.old) (O.state out.new)) }
 {
     let earlier = match collect_to_ledger(rt, alloc, base, &[], settings) {
         Ok(earlier) => earlier,
@@ -126,9 +126,11 @@ fn write_changes<O: Sink, R: RandomSource>(
     view: &ComparisonView,
     out: &mut O,
 ) -> Result<(), ComparisonFault>
-    ensures ok { OnOk result (TakesBytes (O.state out.old) (O.state out.new) (changes_of_runs unit view.now
+    ensures ok { OnOk result (TakesBytes (O.state out.old) (O.state out.new)
+        (changes_of_runs unit view.now
         (run_of_files base.now compared.now.base.end.ends.items compared.now.base.ledger.journal)
-        (run_of_files files.now compared.now.other.end.ends.items compared.now.other.ledger.journal))) }
+        (run_of_files files.now compared.now.other.end.ends.items
+        compared.now.other.ledger.journal))) }
     ensures fault { IfErr result (λ fault. ChangesLeave unit view.now fault
         (run_of_files base.now compared.now.base.end.ends.items compared.now.base.ledger.journal)
         (run_of_files files.now compared.now.other.end.ends.items compared.now.other.ledger.journal)
@@ -154,10 +156,12 @@ fn changes_of<R: RandomSource>(
 ) -> Result<Vec<u8>, JsonFault>
     ensures text { IfOk result (λ text. text.items ≡ changes_of_runs unit view.now
         (run_of_files base.now compared.now.base.end.ends.items compared.now.base.ledger.journal)
-        (run_of_files files.now compared.now.other.end.ends.items compared.now.other.ledger.journal)) }
+        (run_of_files files.now compared.now.other.end.ends.items
+        compared.now.other.ledger.journal)) }
     ensures too_great { IfErr result (λ fault. fault ≡ TooGreat → AreTooGreat view.now
         (run_of_files base.now compared.now.base.end.ends.items compared.now.base.ledger.journal)
-        (run_of_files files.now compared.now.other.end.ends.items compared.now.other.ledger.journal)) }
+        (run_of_files files.now compared.now.other.end.ends.items
+        compared.now.other.ledger.journal)) }
 {
     let of = view.options.of;
     let columns = &view.options.columns;
@@ -184,8 +188,10 @@ pub(crate) fn changes_text(
     view: &ComparisonView,
     tells_runs: bool,
 ) -> Result<Vec<u8>, JsonFault>
-    ensures text { IfOk result (λ text. text.items ≡ changes_text unit view.now tells_runs base.now other.now) }
-    ensures too_great { IfErr result (λ fault. fault ≡ TooGreat → HasTooGreat view.now base.now other.now) }
+    ensures text { IfOk result (λ text. text.items
+        ≡ changes_text unit view.now tells_runs base.now other.now) }
+    ensures too_great { IfErr result (λ fault. fault ≡ TooGreat
+        → HasTooGreat view.now base.now other.now) }
 {
     let shown = &view.options.shown;
     match view.form {

@@ -143,7 +143,8 @@ pub(crate) fn fail_cause<F: Faults>(alloc: Global, cause: StopCause, faults: &mu
 /// Says what is wrong with a file, without which there is no text.
 pub(crate) fn fail_at<F: Faults>(alloc: Global, name: &Text, code: u16, faults: &mut F) -> u8
     ensures status { result ≡ 2 }
-    ensures said { SaysOrMemory (fault_line name.now code) (F.state faults.old) (F.state faults.new) }
+    ensures said { SaysOrMemory (fault_line name.now code) (F.state faults.old)
+        (F.state faults.new) }
 {
     say_line(fault_line_of(alloc, name, code), faults);
     FAILED

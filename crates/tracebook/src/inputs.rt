@@ -52,8 +52,10 @@ pub(crate) fn pair_of<S: Source>(
     names: Vec<Text>,
     source: &S,
 ) -> Result<Pair, StopCause>
-    ensures base { IfOk result (λ pair. AreFiles (S.bytes source.now).file base.items pair.base.items) }
-    ensures other { IfOk result (λ pair. AreInputs (S.bytes source.now) names.items pair.other.items) }
+    ensures base { IfOk result (λ pair.
+        AreFiles (S.bytes source.now).file base.items pair.base.items) }
+    ensures other { IfOk result (λ pair.
+        AreInputs (S.bytes source.now) names.items pair.other.items) }
 {
     let base = files_of(alloc, base, source)?;
     let other = inputs_of(alloc, names, source)?;

@@ -55,10 +55,10 @@ pub(crate) fn page_files<
     faults: &mut F,
 ) -> u8
     ensures status { result ≤ 2 }
-    ensures done { result < 2
-        → Pages (S.bytes source.now) names.items apart.now.settings view.now result (O.state out.old) (O.state out.new) }
-    ensures failed { result ≡ 2
-        → PagesPart (S.bytes source.now) names.items apart.now.settings view.now (O.state out.old) (O.state out.new) }
+    ensures done { result < 2 → Pages (S.bytes source.now) names.items apart.now.settings view.now
+        result (O.state out.old) (O.state out.new) }
+    ensures failed { result ≡ 2 → PagesPart (S.bytes source.now) names.items apart.now.settings
+        view.now (O.state out.old) (O.state out.new) }
 {
     source.begin_apart(names.len() as u64);
     match show_inputs(rt, alloc, apart, view, &names, source) {
@@ -111,8 +111,8 @@ fn show_files<R: Threads + Wait + RandomSource + Sync, S: Source + Sync>(
     names: &[Text],
     source: &S,
 ) -> Result<ShownFiles, Stop>
-    ensures { IfOk result
-        (AreHeld (shown_runs apart.now.settings) (S.bytes source.now).file names.now apart.now.settings view.now) }
+    ensures { IfOk result (AreHeld (shown_runs apart.now.settings) (S.bytes source.now).file
+        names.now apart.now.settings view.now) }
 {
     if names.len() <= MOST_SHOWN {
         return show_in_turn(rt, alloc, &apart.settings, view, names, source);
@@ -153,8 +153,8 @@ fn show_in_turn<R: Threads + Wait + RandomSource + Sync, S: Source>(
     names: &[Text],
     source: &S,
 ) -> Result<ShownFiles, Stop>
-    ensures { IfOk result
-        (AreHeld (map (shown_alone settings.now)) (S.bytes source.now).file names.now settings.now view.now) }
+    ensures { IfOk result (AreHeld (map (shown_alone settings.now)) (S.bytes source.now).file
+        names.now settings.now view.now) }
 {
     let keys = HashKeys::random(rt);
     let mut shown = match show_none(alloc, keys, view) {
@@ -171,10 +171,11 @@ fn show_in_turn<R: Threads + Wait + RandomSource + Sync, S: Source>(
 }
 
 fn show_none(alloc: Global, keys: HashKeys, view: &PageView) -> Result<ShownFiles, Stop>
-    ensures sum { IfOk result
-        (λ none. none.summed.runs ≡ table_of view.now.table.options.of view.now.table.options.columns.items []) }
+    ensures sum { IfOk result (λ none. none.summed.runs
+        ≡ table_of view.now.table.options.of view.now.table.options.columns.items []) }
     ensures lines { IfOk result (λ none. none.summed.lines.items ≡ []) }
-    ensures runs { IfOk result (λ none. (unit : Unit) → Holds unit view.now.labels.items [] none.page) }
+    ensures runs { IfOk result (λ none. (unit : Unit)
+        → Holds unit view.now.labels.items [] none.page) }
 {
     let options = &view.table.options;
     let summed = match Gathered::of_none(alloc, keys, options.of, &options.columns) {
@@ -198,7 +199,8 @@ fn show_file<R: Threads + Wait + RandomSource + Sync, S: Source>(
     source: &S,
     shown: ShownFiles,
 ) -> Result<ShownFiles, Stop>
-    ensures { IfOk result (ShowsFile (S.bytes source.now).file name.now settings.now view.now shown) }
+    ensures { IfOk result
+        (ShowsFile (S.bytes source.now).file name.now settings.now view.now shown) }
 {
     let ShownFiles { summed, page } = shown;
     let taken = match collect_file(rt, alloc, source, name, settings) {
@@ -247,9 +249,12 @@ fn write_shown<O: Sink, F: Faults>(
 ) -> u8
     ensures status { result ≤ 2 }
     ensures fits { result < 2 → TableFits view.now.table shown.summed.runs }
-    ensures done { result < 2 → WritesPage unit view.now shown result (O.state out.old) (O.state out.new) }
-    ensures failed { result ≡ 2 → WritesPagePart unit view.now shown (O.state out.old) (O.state out.new) }
-    ensures said { result < 2 → Says shown.summed.lines.items (F.state faults.old) (F.state faults.new) }
+    ensures done { result < 2
+        → WritesPage unit view.now shown result (O.state out.old) (O.state out.new) }
+    ensures failed { result ≡ 2
+        → WritesPagePart unit view.now shown (O.state out.old) (O.state out.new) }
+    ensures said { result < 2
+        → Says shown.summed.lines.items (F.state faults.old) (F.state faults.new) }
 {
     let ShownFiles { summed, page } = shown;
     let Gathered { runs: sum, lines } = summed;
@@ -269,7 +274,8 @@ fn page_text(
 ) -> Result<Vec<u8>, JsonFault>
     ensures text { IfOk result (λ text. (runs : List ShownRun)
         → Holds unit view.now.labels.items runs page
-        → text.items ≡ page_of_runs unit view.now.labels.items (table_text unit view.now.table true table) runs) }
+        → text.items ≡ page_of_runs unit view.now.labels.items
+        (table_text unit view.now.table true table) runs) }
     ensures fits { OnOk result (TableFits view.now.table table) }
 {
     let lines = match table_text(alloc, unit, &table, &view.table, true) {

@@ -34,10 +34,10 @@ pub fn perform<R: Threads + Wait + RandomSource + Sync, S: Source + Sync, O: Sin
     faults: &mut F,
 ) -> u8
     ensures status { result ≤ 2 }
-    ensures done { result < 2
-        → Asked words.items (λ request. Performs (S.bytes source.now) request result (O.state out.old) (O.state out.new)) }
-    ensures failed { result ≡ 2 → (O.state out.new ≡ O.state out.old)
-        ⊎ Asked words.items (λ request. GivesUp (S.bytes source.now) request (O.state out.old) (O.state out.new)) }
+    ensures done { result < 2 → Asked words.items (λ request.
+        Performs (S.bytes source.now) request result (O.state out.old) (O.state out.new)) }
+    ensures failed { result ≡ 2 → (O.state out.new ≡ O.state out.old) ⊎ Asked words.items
+        (λ request. GivesUp (S.bytes source.now) request (O.state out.old) (O.state out.new)) }
 {
     match request_of(alloc, words) {
         Ok(request) => perform_request(rt, alloc, request, source, out, faults),
@@ -56,7 +56,8 @@ fn perform_request<R: Threads + Wait + RandomSource + Sync, S: Source + Sync, O:
     ensures status { result ≤ 2 }
     ensures done { result < 2
         → Performs (S.bytes source.now) request result (O.state out.old) (O.state out.new) }
-    ensures failed { result ≡ 2 → GivesUp (S.bytes source.now) request (O.state out.old) (O.state out.new) }
+    ensures failed { result ≡ 2
+        → GivesUp (S.bytes source.now) request (O.state out.old) (O.state out.new) }
 {
     match request {
         Request::Run { task, files } => match names_of(alloc, files, source) {
@@ -88,7 +89,8 @@ fn perform_task<R: Threads + Wait + RandomSource + Sync, S: Source + Sync, O: Si
     ensures status { result ≤ 2 }
     ensures done { result < 2
         → Does (S.bytes source.now) task names.items result (O.state out.old) (O.state out.new) }
-    ensures failed { result ≡ 2 → DoesPart (S.bytes source.now) task names.items (O.state out.old) (O.state out.new) }
+    ensures failed { result ≡ 2
+        → DoesPart (S.bytes source.now) task names.items (O.state out.old) (O.state out.new) }
 {
     match task {
         Task::Collect { settings, view } => {
@@ -134,10 +136,10 @@ fn collect_files<R: Threads + Wait + RandomSource + Sync, S: Source + Sync, O: S
     faults: &mut F,
 ) -> u8
     ensures status { result ≤ 2 }
-    ensures done { result < 2
-        → Collects (S.bytes source.now) names.items settings.now view.now result (O.state out.old) (O.state out.new) }
-    ensures failed { result ≡ 2
-        → CollectsPart (S.bytes source.now) names.items settings.now view.now (O.state out.old) (O.state out.new) }
+    ensures done { result < 2 → Collects (S.bytes source.now) names.items settings.now view.now
+        result (O.state out.old) (O.state out.new) }
+    ensures failed { result ≡ 2 → CollectsPart (S.bytes source.now) names.items settings.now
+        view.now (O.state out.old) (O.state out.new) }
 {
     match inputs_of(alloc, names, source) {
         Ok(inputs) => {
@@ -162,10 +164,10 @@ fn compare_files<R: Threads + Wait + RandomSource + Sync, S: Source + Sync, O: S
     faults: &mut F,
 ) -> u8
     ensures status { result ≤ 2 }
-    ensures done { result < 2
-        → Compares (S.bytes source.now) base.items names.items settings.now view.now result (O.state out.old) (O.state out.new) }
-    ensures failed { result ≡ 2
-        → ComparesPart (S.bytes source.now) base.items names.items settings.now view.now (O.state out.old) (O.state out.new) }
+    ensures done { result < 2 → Compares (S.bytes source.now) base.items names.items settings.now
+        view.now result (O.state out.old) (O.state out.new) }
+    ensures failed { result ≡ 2 → ComparesPart (S.bytes source.now) base.items names.items
+        settings.now view.now (O.state out.old) (O.state out.new) }
 {
     match pair_of(alloc, base, names, source) {
         Ok(pair) => {
@@ -198,10 +200,10 @@ fn compare<R: Threads + Wait + RandomSource + Sync, O: Sink, F: Faults>(
     faults: &mut F,
 ) -> u8
     ensures status { result ≤ 2 }
-    ensures done { result < 2
-        → ComparesWith view.now base.now files.now settings.now result (O.state out.old) (O.state out.new) }
-    ensures failed { result ≡ 2
-        → ComparisonPart view.now base.now files.now settings.now (O.state out.old) (O.state out.new) }
+    ensures done { result < 2 → ComparesWith view.now base.now files.now settings.now result
+        (O.state out.old) (O.state out.new) }
+    ensures failed { result ≡ 2 → ComparisonPart view.now base.now files.now settings.now
+        (O.state out.old) (O.state out.new) }
 {
     match run_comparison(rt, alloc, base, files, settings, view, out) {
         Ok(compared) => {
@@ -227,8 +229,10 @@ fn collect<R: Threads + Wait + RandomSource + Sync, O: Sink, F: Faults>(
     faults: &mut F,
 ) -> u8
     ensures status { result ≤ 2 }
-    ensures done { result < 2 → EndsWith files.now settings.now view.now result (O.state out.old) (O.state out.new) }
-    ensures failed { result ≡ 2 → LeavesPart files.now settings.now view.now (O.state out.old) (O.state out.new) }
+    ensures done { result < 2
+        → EndsWith files.now settings.now view.now result (O.state out.old) (O.state out.new) }
+    ensures failed { result ≡ 2
+        → LeavesPart files.now settings.now view.now (O.state out.old) (O.state out.new) }
 {
     match run_view(rt, alloc, files, settings, view, out) {
         Ok(collected) => {

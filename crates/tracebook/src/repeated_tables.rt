@@ -42,8 +42,8 @@ pub(crate) fn repeat_added<R: RandomSource, S: Source, O: Sink, F: Faults>(
     ensures status { result ≤ 2 }
     ensures done { result < 2 → RepeatsAdded (S.bytes source.now) base.items names.items view.now
         result (O.state out.old) (O.state out.new) }
-    ensures failed { result ≡ 2 → RepeatsAddedPart (S.bytes source.now) base.items names.items view.now
-        (O.state out.old) (O.state out.new) }
+    ensures failed { result ≡ 2 → RepeatsAddedPart (S.bytes source.now) base.items names.items
+        view.now (O.state out.old) (O.state out.new) }
 {
     if !are_few(&base, &names) {
         return fail(alloc, Fault::FileCount.code(), faults);
@@ -116,7 +116,8 @@ fn tables_with(
     earlier: Vec<Table>,
     later: Vec<Table>,
 ) -> Result<Tables, AllocError>
-    ensures said { IfOk result (λ tables. (tables.of ≡ first.of) × (tables.unit ≡ first.unit) × (tables.columns.items ≡ first.sum.columns)) }
+    ensures said { IfOk result (λ tables. (tables.of ≡ first.of) × (tables.unit ≡ first.unit)
+        × (tables.columns.items ≡ first.sum.columns)) }
     ensures base { IfOk result (λ tables. tables.base.items ≡ first.sum ∷ earlier.items) }
     ensures other { IfOk result (λ tables. tables.other.items ≡ later.items) }
 {
@@ -141,7 +142,8 @@ fn tables_of_inputs<S: Source>(
     names: &[Text],
     source: &S,
 ) -> Result<Vec<Table>, AddStop>
-    ensures { IfOk result (λ tables. OfInputs (S.bytes source.now) names.now (AreTablesBeside first.now tables.items)) }
+    ensures { IfOk result (λ tables.
+        OfInputs (S.bytes source.now) names.now (AreTablesBeside first.now tables.items)) }
 {
     if !names.is_empty() {
         return tables_beside(alloc, keys, first, names, source);
@@ -160,7 +162,8 @@ fn tables_beside<S: Source>(
     names: &[Text],
     source: &S,
 ) -> Result<Vec<Table>, AddStop>
-    ensures { IfOk result (λ tables. AreTablesBeside first.now tables.items (S.bytes source.now).file names.now) }
+    ensures { IfOk result (λ tables.
+        AreTablesBeside first.now tables.items (S.bytes source.now).file names.now) }
 {
     let Ok(mut tables) = Vec::with_capacity(alloc, names.len()) else {
         return Err(AddStop::Memory);

@@ -56,10 +56,10 @@ pub(crate) fn repeat_runs<
     faults: &mut F,
 ) -> u8
     ensures status { result ≤ 2 }
-    ensures done { result < 2 → Repeats (S.bytes source.now) base.items names.items apart.now.settings view.now
-        result (O.state out.old) (O.state out.new) }
-    ensures failed { result ≡ 2 → RepeatsPart (S.bytes source.now) base.items names.items apart.now.settings
-        view.now (O.state out.old) (O.state out.new) }
+    ensures done { result < 2 → Repeats (S.bytes source.now) base.items names.items
+        apart.now.settings view.now result (O.state out.old) (O.state out.new) }
+    ensures failed { result ≡ 2 → RepeatsPart (S.bytes source.now) base.items names.items
+        apart.now.settings view.now (O.state out.old) (O.state out.new) }
 {
     if !are_few(&base, &names) {
         return fail(alloc, Fault::FileCount.code(), faults);
@@ -90,11 +90,13 @@ fn write_gathered<O: Sink, F: Faults>(
     requires base { length sides.base.runs.items ≤ 64 }
     requires other { length sides.other.runs.items ≤ 64 }
     ensures status { result ≤ 2 }
-    ensures fits { result < 2 → RepeatsFit view.now.options.of view.now sides.base.runs.items sides.other.runs.items }
+    ensures fits { result < 2
+        → RepeatsFit view.now.options.of view.now sides.base.runs.items sides.other.runs.items }
     ensures done { result < 2 → WritesAll (gathered_text unit view.now sides.base sides.other)
-        (sides.base.lines.items ++ sides.other.lines.items) result (O.state out.old) (O.state out.new) }
-    ensures failed { result ≡ 2
-        → WritesPart (gathered_text unit view.now sides.base sides.other) (O.state out.old) (O.state out.new) }
+        (sides.base.lines.items ++ sides.other.lines.items)
+        result (O.state out.old) (O.state out.new) }
+    ensures failed { result ≡ 2 → WritesPart (gathered_text unit view.now sides.base sides.other)
+        (O.state out.old) (O.state out.new) }
 {
     let Sides { base, other } = sides;
     let Gathered {
@@ -132,10 +134,12 @@ pub(crate) fn write_tables<O: Sink, F: Faults>(
     requires other { length other.items ≤ 64 }
     ensures status { result ≤ 2 }
     ensures fits { result < 2 → RepeatsFit of view.now base.items other.items }
-    ensures done { result < 2 → WritesAll (repeats_text unit of columns.now view.now base.items other.items)
+    ensures done { result < 2
+        → WritesAll (repeats_text unit of columns.now view.now base.items other.items)
         lines.now result (O.state out.old) (O.state out.new) }
     ensures failed { result ≡ 2
-        → WritesPart (repeats_text unit of columns.now view.now base.items other.items) (O.state out.old) (O.state out.new) }
+        → WritesPart (repeats_text unit of columns.now view.now base.items other.items)
+        (O.state out.old) (O.state out.new) }
 {
     let text = repeats_text(alloc, unit, of, columns, &base, &other, view);
     // The program ends soon, and then the system frees all at once, where freeing one by one takes long.
@@ -155,7 +159,8 @@ fn repeats_text(
 ) -> Result<Vec<u8>, JsonFault>
     requires base { length base.now ≤ 64 }
     requires other { length other.now ≤ 64 }
-    ensures text { IfOk result (λ text. text.items ≡ repeats_text unit of columns.now view.now base.now other.now) }
+    ensures text { IfOk result (λ text. text.items
+        ≡ repeats_text unit of columns.now view.now base.now other.now) }
     ensures fits { OnOk result (RepeatsFit of view.now base.now other.now) }
 {
     let by = asked_by(of, view.by);

@@ -35,8 +35,8 @@ pub(crate) fn gather_sides<
     source: &S,
     faults: &mut F,
 ) -> Result<Sides<T>, u8>
-    ensures sides { IfOk result (GathersSides (S.bytes source.now) base.now names.now apart.now.settings
-        (T.come_to options.now.of options.now.columns.items)) }
+    ensures sides { IfOk result (GathersSides (S.bytes source.now) base.now names.now
+        apart.now.settings (T.come_to options.now.of options.now.columns.items)) }
     ensures status { IfErr result (λ status. status ≡ 2) }
     ensures said { OnOk result (F.state faults.new ≡ F.state faults.old) }
 {

@@ -26,9 +26,10 @@ pub(crate) fn write_runs_table<O: Sink, F: Faults>(
 ) -> u8
     ensures status { result ≤ 2 }
     ensures fits { result < 2 → TableFits view.now table }
-    ensures done { result < 2
-        → WritesAll (table_text unit view.now true table) lines.now result (O.state out.old) (O.state out.new) }
-    ensures failed { result ≡ 2 → WritesPart (table_text unit view.now true table) (O.state out.old) (O.state out.new) }
+    ensures done { result < 2 → WritesAll (table_text unit view.now true table)
+        lines.now result (O.state out.old) (O.state out.new) }
+    ensures failed { result ≡ 2
+        → WritesPart (table_text unit view.now true table) (O.state out.old) (O.state out.new) }
     ensures said { result < 2 → Says lines.now (F.state faults.old) (F.state faults.new) }
 {
     let text = table_text(alloc, unit, &table, view, true);
@@ -49,9 +50,10 @@ pub(crate) fn write_runs_changes<O: Sink, F: Faults>(
     faults: &mut F,
 ) -> u8
     ensures status { result ≤ 2 }
-    ensures done { result < 2
-        → WritesAll (changes_text unit view.now true base other) lines.now result (O.state out.old) (O.state out.new) }
-    ensures failed { result ≡ 2 → WritesPart (changes_text unit view.now true base other) (O.state out.old) (O.state out.new) }
+    ensures done { result < 2 → WritesAll (changes_text unit view.now true base other)
+        lines.now result (O.state out.old) (O.state out.new) }
+    ensures failed { result ≡ 2 → WritesPart (changes_text unit view.now true base other)
+        (O.state out.old) (O.state out.new) }
     ensures said { result < 2 → Says lines.now (F.state faults.old) (F.state faults.new) }
 {
     let text = changes_text(alloc, unit, &base, &other, view, true);
@@ -71,8 +73,10 @@ pub(crate) fn write_told<O: Sink, F: Faults>(
 ) -> u8
     ensures status { result ≤ 2 }
     ensures made { result < 2 → is_ok text ≡ true }
-    ensures done { IfOk text (λ made. result < 2 → WritesAll made.items lines.now result (O.state out.old) (O.state out.new)) }
-    ensures failed { IfOk text (λ made. result ≡ 2 → WritesPart made.items (O.state out.old) (O.state out.new)) }
+    ensures done { IfOk text (λ made. result < 2
+        → WritesAll made.items lines.now result (O.state out.old) (O.state out.new)) }
+    ensures failed { IfOk text (λ made. result ≡ 2
+        → WritesPart made.items (O.state out.old) (O.state out.new)) }
     ensures silent { IfErr text (λ fault. (result ≡ 2) × (O.state out.new ≡ O.state out.old)) }
     ensures said { result < 2 → Says lines.now (F.state faults.old) (F.state faults.new) }
 {

@@ -40,7 +40,8 @@ pub(crate) fn table_text(
     view: &TableView,
     tells_runs: bool,
 ) -> Result<Vec<u8>, JsonFault>
-    ensures text { IfOk result (λ text. text.items ≡ table_text unit view.now tells_runs table.now) }
+    ensures text { IfOk result (λ text. text.items
+        ≡ table_text unit view.now tells_runs table.now) }
     ensures fits { OnOk result (TableFits view.now table.now) }
     ensures too_great { IfErr result (λ fault. fault ≡ TooGreat → TableExceeds view.now table.now) }
 {

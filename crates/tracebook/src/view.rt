@@ -75,10 +75,10 @@ pub(crate) fn run_view<O: Sink, R: Threads + Wait + RandomSource + Sync>(
     view: &View,
     out: &mut O,
 ) -> Result<Collected, ViewFault>
-    ensures run { IfOk result
-        (λ collected. Prints view.now files.now settings.now collected.end (O.state out.old) (O.state out.new)) }
-    ensures fault { IfErr result
-        (λ fault. ViewLeaves view.now fault files.now settings.now (O.state out.old) (O.state out.new)) }
+    ensures run { IfOk result (λ collected.
+        Prints view.now files.now settings.now collected.end (O.state out.old) (O.state out.new)) }
+    ensures fault { IfErr result (λ fault.
+        ViewLeaves view.now fault files.now settings.now (O.state out.old) (O.state out.new)) }
 {
     if let View::Report = view {
         return match run_to_ledger(rt, alloc, files, &[], settings, out) {
@@ -111,10 +111,13 @@ fn write_view<O: Sink, R: RandomSource>(
 ) -> Result<(), ViewFault>
     requires { length files.now ≡ length collected.now.end.ends.items }
     ensures ok { OnOk result (TakesBytes (O.state out.old) (O.state out.new)
-        (text_of unit view.now files.now collected.now.end.ends.items collected.now.ledger.journal)) }
-    ensures fits { OnOk result (Fits view.now files.now collected.now.end.ends.items collected.now.ledger.journal) }
-    ensures fault { IfErr result (λ fault. TextLeaves unit view.now files.now fault
-        collected.now.end.ends.items collected.now.ledger.journal (O.state out.old) (O.state out.new)) }
+        (text_of unit view.now files.now collected.now.end.ends.items
+        collected.now.ledger.journal)) }
+    ensures fits { OnOk result
+        (Fits view.now files.now collected.now.end.ends.items collected.now.ledger.journal) }
+    ensures fault { IfErr result (λ fault.
+        TextLeaves unit view.now files.now fault collected.now.end.ends.items
+        collected.now.ledger.journal (O.state out.old) (O.state out.new)) }
 {
     let ledger = &collected.ledger;
     let ends = &collected.end.ends;
@@ -158,10 +161,13 @@ fn write_table<O: Sink, R: RandomSource>(
     out: &mut O,
 ) -> Result<(), ViewFault>
     ensures ok { OnOk result (TakesBytes (O.state out.old) (O.state out.new)
-        (text_of unit (OfTable view.now) files.now collected.now.end.ends.items collected.now.ledger.journal)) }
-    ensures fits { OnOk result (Fits (OfTable view.now) files.now collected.now.end.ends.items collected.now.ledger.journal) }
-    ensures fault { IfErr result (λ fault. TextLeaves unit (OfTable view.now) files.now fault
-        collected.now.end.ends.items collected.now.ledger.journal (O.state out.old) (O.state out.new)) }
+        (text_of unit (OfTable view.now) files.now collected.now.end.ends.items
+        collected.now.ledger.journal)) }
+    ensures fits { OnOk result (Fits (OfTable view.now) files.now collected.now.end.ends.items
+        collected.now.ledger.journal) }
+    ensures fault { IfErr result (λ fault.
+        TextLeaves unit (OfTable view.now) files.now fault collected.now.end.ends.items
+        collected.now.ledger.journal (O.state out.old) (O.state out.new)) }
 {
     let text = match text_of_run(rt, alloc, unit, files, collected, view, true) {
         Ok(text) => text,
@@ -183,10 +189,13 @@ fn write_page_view<O: Sink, R: RandomSource>(
 ) -> Result<(), ViewFault>
     requires { length files.now ≡ length collected.now.end.ends.items }
     ensures ok { OnOk result (TakesBytes (O.state out.old) (O.state out.new)
-        (text_of unit (OfPage view.now) files.now collected.now.end.ends.items collected.now.ledger.journal)) }
-    ensures fits { OnOk result (Fits (OfPage view.now) files.now collected.now.end.ends.items collected.now.ledger.journal) }
-    ensures fault { IfErr result (λ fault. TextLeaves unit (OfPage view.now) files.now fault
-        collected.now.end.ends.items collected.now.ledger.journal (O.state out.old) (O.state out.new)) }
+        (text_of unit (OfPage view.now) files.now collected.now.end.ends.items
+        collected.now.ledger.journal)) }
+    ensures fits { OnOk result (Fits (OfPage view.now) files.now collected.now.end.ends.items
+        collected.now.ledger.journal) }
+    ensures fault { IfErr result (λ fault.
+        TextLeaves unit (OfPage view.now) files.now fault collected.now.end.ends.items
+        collected.now.ledger.journal (O.state out.old) (O.state out.new)) }
 {
     let text = match text_of_run(rt, alloc, unit, files, collected, &view.table, false) {
         Ok(text) => text,
@@ -220,12 +229,14 @@ fn text_of_run<R: RandomSource>(
     view: &TableView,
     is_last: bool,
 ) -> Result<Vec<u8>, JsonFault>
-    ensures text { IfOk result (λ text. text.items ≡ table_text unit view.now false
-        (asked_table view.now (run_of_files files.now collected.now.end.ends.items collected.now.ledger.journal))) }
-    ensures fits { OnOk result (TableFits view.now
-        (asked_table view.now (run_of_files files.now collected.now.end.ends.items collected.now.ledger.journal))) }
-    ensures too_great { IfErr result (λ fault. fault ≡ TooGreat → TableExceeds view.now
-        (asked_table view.now (run_of_files files.now collected.now.end.ends.items collected.now.ledger.journal))) }
+    ensures text { IfOk result (λ text. text.items
+        ≡ table_text unit view.now false (asked_table view.now
+        (run_of_files files.now collected.now.end.ends.items collected.now.ledger.journal))) }
+    ensures fits { OnOk result (TableFits view.now (asked_table view.now
+        (run_of_files files.now collected.now.end.ends.items collected.now.ledger.journal))) }
+    ensures too_great { IfErr result (λ fault. fault ≡ TooGreat
+        → TableExceeds view.now (asked_table view.now
+        (run_of_files files.now collected.now.end.ends.items collected.now.ledger.journal))) }
 {
     let of = view.options.of;
     let columns = &view.options.columns;
