@@ -7,7 +7,7 @@ ghost use Rattle.tracebook.specs.Tables.{TableFits, table_text};
 
 use crate::comparison::ComparisonView;
 use crate::faults::{Faults, fail, fail_stop};
-use crate::sides::{Sides, gather_sides};
+use crate::sides::{Sides, ToldSides, gather_sides};
 use crate::standard::Standard;
 use crate::sums::{write_runs_changes, write_runs_table};
 use crate::tables::TableView;
@@ -218,21 +218,12 @@ fn write_comparison<O: Sink, F: Faults>(
     ensures said { result < 2 → Says (sides.base.lines.items ++ sides.other.lines.items)
         (F.state faults.old) (F.state faults.new) }
 {
-    let Sides { base, other } = sides;
-    let Gathered {
-        runs: earlier,
-        mut lines,
-    } = base;
-    let Gathered {
-        runs: later,
-        lines: more,
-    } = other;
-    if lines.extend_from_slice(&more).is_err() {
+    let Ok(ToldSides { base, other, lines }) = sides.told() else {
         return fail(alloc, Fault::Memory.code(), faults);
-    }
-    match (earlier.into_table(), later.into_table()) {
-        (Ok(earlier), Ok(later)) => {
-            write_runs_changes(alloc, unit, earlier, later, view, &lines, out, faults)
+    };
+    match (base.into_table(), other.into_table()) {
+        (Ok(base), Ok(other)) => {
+            write_runs_changes(alloc, unit, base, other, view, &lines, out, faults)
         }
         _ => fail(alloc, Fault::Memory.code(), faults),
     }

@@ -4,12 +4,10 @@ ghost use Rattle.std.specs.List.{list_any, starts_with};
 ghost use Rattle.tracebook.specs.Request.{AsksFor, is_option};
 
 use crate::apart::Apart;
-use crate::columns::{
-    LABEL_RULE, are_of_spans, columns_of, file_rule_of, go_with, labels_of, name_alone, named,
-    of_async, others_rule_of, paged, ranked, rule_of,
-};
+use crate::columns::{columns_of, labels_of, name_alone, named, of_async, paged, ranked, rule_of};
+use crate::combinations::{broken_rule, idle_rule, is_any_given};
 use crate::comparison::{ComparisonForm, ComparisonView};
-use crate::numbers::{NUMBER_RULE, goes_by, number_named};
+use crate::numbers::by_of;
 use crate::options::command_of;
 use crate::repeats::{RepeatsForm, RepeatsView};
 use crate::tables::{TableForm, TableOptions, TableView};
@@ -19,7 +17,7 @@ use clap::{ArgMatches, Command};
 use span_collect::Settings;
 use span_event::{Text, Unit};
 use span_runs::Named;
-use span_table::{By, Column, Of, Shown};
+use span_table::{Column, Of, Shown};
 use std::alloc::{AllocError, Global};
 
 /// The most entries of the journal, where the command line does not say.
@@ -135,8 +133,8 @@ fn parsed_request(alloc: Global, words: &[Text]) -> Result<Request, AllocError> 
         Ok(matches) => matches,
         Err(error) => return request_without_matches(alloc, &error),
     };
-    if let Some(idle) = idle_option(&matches) {
-        return refuse(alloc, &mut command, idle.rule);
+    if let Some(rule) = idle_rule(&matches) {
+        return refuse(alloc, &mut command, rule);
     }
     let of = of_of(&matches);
     let Some(columns) = asked_columns(alloc, &matches, of)? else {
@@ -153,123 +151,6 @@ fn of_of(matches: &ArgMatches<'_>) -> Of {
         Some("async") => Of::Async,
         _ => Of::Spans,
     }
-}
-
-// What the columns or the number that is named go against: what is summed, or the text that is asked for.
-fn broken_rule(matches: &ArgMatches<'_>, of: Of, columns: &[Column]) -> Option<&'static str> {
-    // Tables that are added say themselves what they sum.
-    let is_known = !matches.get_flag("add");
-    if is_known && !go_with(of, columns) {
-        return Some(others_rule_of(of));
-    }
-    if columns.contains(&Column::File) && !is_any_given(matches, &["apart", "add"]) {
-        return Some(file_rule_of(of));
-    }
-    if matches.get_flag("folded") && !are_of_spans(columns) {
-        return Some(LABEL_RULE);
-    }
-    if is_known && !goes_by(of, by_of(matches)) {
-        return Some(NUMBER_RULE);
-    }
-    if matches.get_flag("json") && matches.contains_id("by") && !matches.get_flag("repeats") {
-        return Some(JSON_RULE);
-    }
-    None
-}
-
-// Rows for other programs have all numbers, but for those of repeated runs.
-const JSON_RULE: &str = "the argument '--json' cannot be used with '--by <SUM>'";
-
-// An option that has an effect with some texts alone.
-#[derive(Clone, Copy)]
-struct Bound {
-    option: &'static str,
-    texts: &'static [&'static str],
-    // Says both.
-    rule: &'static str,
-}
-
-const TABLES: &[&str] = &["top", "json", "base"];
-
-const SUMMED: &[&str] = &["top", "json", "base", "page"];
-
-const GROUPED: &[&str] = &["top", "json", "base", "folded", "page"];
-
-const BOUND: &[Bound] = &[
-    Bound {
-        option: "by",
-        texts: &["top", "base"],
-        rule: "the argument '--by <SUM>' goes with '--top <N>' and '--base <FILE>' alone",
-    },
-    Bound {
-        option: "of",
-        texts: TABLES,
-        rule: "the argument '--of <spans|async>' goes with '--top <N>', '--json' and '--base <FILE>' alone",
-    },
-    Bound {
-        option: "group-by",
-        texts: GROUPED,
-        rule: "the argument '--group-by <COLUMNS>' goes with '--top <N>', '--json', '--base <FILE>', '--folded' and '--page' alone",
-    },
-    Bound {
-        option: "only",
-        texts: TABLES,
-        rule: "the argument '--only <TEXT>' goes with '--top <N>', '--json' and '--base <FILE>' alone",
-    },
-    Bound {
-        option: "add",
-        texts: TABLES,
-        rule: "the argument '--add' goes with '--top <N>', '--json' and '--base <FILE>' alone",
-    },
-    Bound {
-        option: "apart",
-        texts: SUMMED,
-        rule: "the argument '--apart' goes with '--top <N>', '--json', '--base <FILE>' and '--page' alone",
-    },
-    Bound {
-        option: "jobs",
-        texts: &["apart", "repeats"],
-        rule: "the argument '--jobs <N>' goes with '--apart' and '--repeats' alone",
-    },
-    Bound {
-        option: "repeats",
-        texts: &["base"],
-        rule: "the argument '--repeats' goes with '--base <FILE>' alone",
-    },
-    Bound {
-        option: "skip",
-        texts: TABLES,
-        rule: "the argument '--skip <TEXT>' goes with '--top <N>', '--json' and '--base <FILE>' alone",
-    },
-];
-
-// An option that is given, and has no effect with the text that is asked for.
-fn idle_option(matches: &ArgMatches<'_>) -> Option<Bound> {
-    for bound in BOUND {
-        if is_given(matches, bound.option) && !is_any_given(matches, bound.texts) {
-            return Some(*bound);
-        }
-    }
-    None
-}
-
-fn is_any_given(matches: &ArgMatches<'_>, texts: &[&str]) -> bool {
-    for text in texts {
-        if is_given(matches, text) {
-            return true;
-        }
-    }
-    false
-}
-
-const SWITCHES: &[&str] = &["json", "apart", "repeats", "add", "folded", "page"];
-
-// A switch has a value even where it is not given.
-fn is_given(matches: &ArgMatches<'_>, option: &str) -> bool {
-    if SWITCHES.contains(&option) {
-        return matches.get_flag(option);
-    }
-    matches.contains_id(option)
 }
 
 fn refuse(alloc: Global, command: &mut Command<'_>, rule: &str) -> Result<Request, AllocError> {
@@ -505,11 +386,6 @@ fn comparison_form(matches: &ArgMatches<'_>) -> ComparisonForm {
     }
     let by = by_of(matches);
     ComparisonForm::Text { by }
-}
-
-// The number that is named.
-fn by_of(matches: &ArgMatches<'_>) -> Option<By> {
-    number_named(matches.get_str("by")?)
 }
 
 // The values of an argument that may be given several times.

@@ -4,6 +4,7 @@
 mod added;
 mod apart;
 mod columns;
+mod combinations;
 mod command;
 mod comparison;
 mod faults;

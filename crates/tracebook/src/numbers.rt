@@ -2,14 +2,19 @@
 ghost use Rattle.std.specs.Prelude.{◌≡◌};
 ghost use Rattle.tracebook.specs.Tables.{goes_by};
 
+use clap::ArgMatches;
 use span_table::{By, Of};
 
 /// Said of a number that what is summed doesn't have.
 pub(crate) const NUMBER_RULE: &str =
     "the sums of '--by' are self, total, count, and with '--of async' total, closed, open, points";
 
-/// The number of this name.
-pub(crate) fn number_named(name: &str) -> Option<By> {
+/// The number that the words name.
+pub(crate) fn by_of(matches: &ArgMatches<'_>) -> Option<By> {
+    number_named(matches.get_str("by")?)
+}
+
+fn number_named(name: &str) -> Option<By> {
     match name {
         "self" => Some(By::SelfTime),
         "total" => Some(By::Total),

@@ -5,12 +5,12 @@ ghost use Rattle.tracebook.specs.Sums.{WritesAll, WritesPart};
 
 use crate::apart::Apart;
 use crate::faults::{Faults, fail};
-use crate::sides::{Sides, gather_sides};
+use crate::sides::{Sides, ToldSides, gather_sides};
 use crate::sums::write_told;
 use crate::tables::{TableOptions, asked_by};
 use span_event::{Fault, Text, Unit};
 use span_report::Sink;
-use span_runs::{Gathered, Source};
+use span_runs::Source;
 use span_table::{By, Column, JsonFault, Of, Table, json_repeats, repeats};
 use std::alloc::Global;
 use std::mem::forget;
@@ -98,22 +98,13 @@ fn write_gathered<O: Sink, F: Faults>(
     ensures failed { result ≡ 2 → WritesPart (gathered_text unit view.now sides.base sides.other)
         (O.state out.old) (O.state out.new) }
 {
-    let Sides { base, other } = sides;
-    let Gathered {
-        runs: earlier,
-        mut lines,
-    } = base;
-    let Gathered {
-        runs: later,
-        lines: more,
-    } = other;
-    if lines.extend_from_slice(&more).is_err() {
+    let Ok(ToldSides { base, other, lines }) = sides.told() else {
         return fail(alloc, Fault::Memory.code(), faults);
-    }
+    };
     let of = view.options.of;
     let columns = &view.options.columns;
     write_tables(
-        alloc, unit, of, columns, earlier, later, view, &lines, out, faults,
+        alloc, unit, of, columns, base, other, view, &lines, out, faults,
     )
 }
 

@@ -1,5 +1,5 @@
 //! Two sides that are compared, of files each of which is a run of its own.
-ghost use Rattle.std.specs.Prelude.{◌≡◌, IfErr, IfOk, OnOk};
+ghost use Rattle.std.specs.Prelude.{◌≡◌, ◌++◌, IfErr, IfOk, OnOk};
 ghost use Rattle.tracebook.specs.Sides.{GathersSides};
 
 use crate::apart::{Apart, gather_inputs, jobs_of};
@@ -7,7 +7,7 @@ use crate::faults::{Faults, fail_stop, say};
 use crate::tables::TableOptions;
 use span_event::Text;
 use span_runs::{Gathered, Gathering, Source, gather_apart};
-use std::alloc::Global;
+use std::alloc::{AllocError, Global};
 use std::random::RandomSource;
 use std::sync::Wait;
 use std::thread::Threads;
@@ -17,6 +17,32 @@ use std::thread::Threads;
 pub(crate) struct Sides<T> {
     pub(crate) base: Gathered<T>,
     pub(crate) other: Gathered<T>,
+}
+
+/// What both sides come to, and the fault lines of both.
+#[derive(Drop)]
+pub(crate) struct ToldSides<T> {
+    pub(crate) base: T,
+    pub(crate) other: T,
+    pub(crate) lines: Vec<u8>,
+}
+
+impl<T: Drop> Sides<T> {
+    /// With the lines of the base's files before those of the others.
+    pub(crate) fn told(self) -> Result<ToldSides<T>, AllocError>
+        ensures base { IfOk result (λ told. told.base ≡ self.base.runs) }
+        ensures other { IfOk result (λ told. told.other ≡ self.other.runs) }
+        ensures lines { IfOk result (λ told. told.lines.items ≡ self.base.lines.items ++ self.other.lines.items) }
+    {
+        let Sides { base, other } = self;
+        let mut lines = base.lines;
+        lines.extend_from_slice(&other.lines)?;
+        Ok(ToldSides {
+            base: base.runs,
+            other: other.runs,
+            lines,
+        })
+    }
 }
 
 /// Gathers the base's files, and then the others. Where something stops, it says so, and gives the status.
