@@ -34,12 +34,20 @@ abbrev pub FormFits : RepeatsForm → By → Wanted → List SpanTable → List 
 FormFits Text by shown base other = ⊤
 FormFits Json by shown base other = json_repeats_fit by shown base other ≡ true
 
+-- a number for other programs has more
+abbrev pub FormExceeds : RepeatsForm → By → Wanted → List SpanTable → List SpanTable → Type 0
+FormExceeds Text by shown base other = ⊥
+FormExceeds Json by shown base other = json_repeats_fit by shown base other ≡ false
+
 -- what is printed of the tables of each repetition
 abbrev pub repeats_text : Unit → Of → List Column → RepeatsView → List SpanTable → List SpanTable → Bytes
 repeats_text unit of columns view base other = repeats_formed unit of columns view.form (asked_by of view.by) view.options.shown base other
 
 abbrev pub RepeatsFit : Of → RepeatsView → List SpanTable → List SpanTable → Type 0
 RepeatsFit of view base other = FormFits view.form (asked_by of view.by) view.options.shown base other
+
+abbrev pub RepeatsExceed : Of → RepeatsView → List SpanTable → List SpanTable → Type 0
+RepeatsExceed of view base other = FormExceeds view.form (asked_by of view.by) view.options.shown base other
 
 -- each side has a repetition, and at most 64; where no other is named, standard input is one
 pub record AreFew (base_names names : List Bytes) : Type 0 where

@@ -1,6 +1,7 @@
 //! Repeated runs, on each of two sides: how their numbers are spread, of traces or of tables that were printed.
-ghost use Rattle.std.specs.Prelude.{◌≡◌, ◌<◌, ◌≤◌, ◌++◌, true, ◌↔◌, IfOk, IsTrue, OnOk, length};
-ghost use Rattle.tracebook.specs.Repeats.{AreFew, RepeatsFit, Repeats, RepeatsPart, gathered_text, repeats_text};
+ghost use Rattle.std.specs.Prelude.{◌≡◌, ◌<◌, ◌≤◌, ◌++◌, true, ◌↔◌, IfErr, IfOk, IsTrue, OnOk, length};
+ghost use Rattle.span_table.specs.declared.json_lines.JsonFault.TheVariants.{TooGreat};
+ghost use Rattle.tracebook.specs.Repeats.{AreFew, RepeatsExceed, RepeatsFit, Repeats, RepeatsPart, gathered_text, repeats_text};
 ghost use Rattle.tracebook.specs.Sums.{WritesAll, WritesPart};
 
 use crate::apart::Apart;
@@ -153,6 +154,8 @@ fn repeats_text(
     ensures text { IfOk result (λ text. text.items
         ≡ repeats_text unit of columns.now view.now base.now other.now) }
     ensures fits { OnOk result (RepeatsFit of view.now base.now other.now) }
+    ensures too_great { IfErr result (λ fault.
+        fault ≡ TooGreat → RepeatsExceed of view.now base.now other.now) }
 {
     let by = asked_by(of, view.by);
     let shown = &view.options.shown;
