@@ -5,7 +5,7 @@ ghost use Rattle.span_event.specs.declared.event.Phase.TheVariants.{Complete};
 ghost use Rattle.span_event.specs.Item.{IsGoodItem};
 
 use span_event::{Event, Item, Items, Phase};
-use span_keyed_tracks::Names;
+use span_names::Names;
 use std::alloc::{AllocError, Global};
 
 /// An event with the number of its name.

@@ -11,7 +11,7 @@ use crate::sealing::{Sealing, seal_open_spans};
 use crate::settings::Settings;
 use crate::workers::{enrol_all, run_workers};
 use span_event::Fault;
-use span_keyed_tracks::HashKeys;
+use span_names::HashKeys;
 use span_ledger::{Ledger, Query};
 use span_share::Share;
 use std::alloc::{AllocError, Global};

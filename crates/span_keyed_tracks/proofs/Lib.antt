@@ -13,7 +13,6 @@ pub mod Lists
 pub mod Maps
 pub mod Matching
 pub mod Meta
-pub mod Numbers
 pub mod Orders
 pub mod Results
 pub mod SameKeys

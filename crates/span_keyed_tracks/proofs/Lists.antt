@@ -1,3 +1,2 @@
 pub mod Filters
 pub mod Last
-pub mod Places

@@ -24,7 +24,7 @@ use Rattle.span_keyed_tracks.specs.Counters.{Sample, Series, CounterStandsFor, T
 use Rattle.span_keyed_tracks.specs.CountersKept.{ArePlaced, IsPlaced, found_at, kept_row, kept_series, next_entry, same_series, samples_before, with_sample}
 use Rattle.span_keyed_tracks.proofs.Counters.{with_args, kept_at-CounterStandsFor, samples-before, samples_before-series_of, length-samples_of, uses_in-member, uses_in-no_member, value_of-in_order}
 use Rattle.span_keyed_tracks.proofs.Keyed.{keys_of-made}
-use Rattle.span_keyed_tracks.proofs.Lists.Places.{position-front}
+use Rattle.span_names.proofs.Places.{position-front}
 use Rattle.span_keyed_tracks.proofs.Orders.{series_cmp-total, series_cmp-same}
 use Rattle.span_keyed_tracks.proofs.Uses.{AreApart, AreApart-fold, first_uses-ascending}
 

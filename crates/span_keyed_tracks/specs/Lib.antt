@@ -5,7 +5,6 @@ pub mod CountersKept
 pub mod Fault
 pub mod Flow
 pub mod FlowKept
-pub mod HashKeys
 pub mod Instants
 pub mod InstantsKept
 pub mod Keyed
@@ -15,5 +14,4 @@ pub mod Maps
 pub mod Matching
 pub mod Meta
 pub mod MetaKept
-pub mod Numbering
 pub mod Uses

@@ -9,7 +9,7 @@ ghost use Rattle.span_keyed_tracks.specs.Async.{AsyncEvent, AsyncStandsFor, HasA
 mod key_spans;
 
 use crate::fault::TrackFault;
-use crate::hash_keys::HashKeys;
+use span_names::HashKeys;
 use crate::hashed;
 use crate::keys::AsyncKey;
 use indexmap::IndexMap;

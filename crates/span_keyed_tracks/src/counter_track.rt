@@ -15,7 +15,7 @@ mod running;
 mod shared_key;
 
 use crate::fault::TrackFault;
-use crate::hash_keys::HashKeys;
+use span_names::HashKeys;
 use crate::keys::SeriesKey;
 use indexmap::IndexMap;
 use running::Running;

@@ -8,7 +8,7 @@ ghost use Rattle.span_keyed_tracks.specs.Flow.{flow_closed, flow_cmp, flow_point
 mod key_chains;
 
 use crate::fault::TrackFault;
-use crate::hash_keys::HashKeys;
+use span_names::HashKeys;
 use crate::hashed;
 use crate::keys::FlowKey;
 use indexmap::IndexMap;

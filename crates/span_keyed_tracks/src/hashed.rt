@@ -10,7 +10,7 @@ ghost use Rattle.span_keyed_tracks.specs.Keyed.{AreDistinct, in_key_order, kept_
 ghost use Rattle.span_keyed_tracks.specs.KeyedKept.{ChangesAt};
 
 use crate::fault::TrackFault;
-use crate::hash_keys::HashKeys;
+use span_names::HashKeys;
 use crate::key_change::Key;
 use indexmap::IndexMap;
 use std::alloc::Global;

@@ -1,5 +1,5 @@
 //! What the events of a key stand for: asynchronous spans, and flow chains; of counters series of samples; the names of
-//! processes and threads; and instants. And the numbers of names.
+//! processes and threads; and instants.
 //! A tick is a microsecond or a nanosecond, as the run counts.
 #![tactic(auto)]
 
@@ -7,19 +7,15 @@ mod async_track;
 mod counter_track;
 mod fault;
 mod flow_track;
-mod hash_keys;
 mod hashed;
 mod key_change;
 mod keys;
 mod meta_track;
-mod names;
 
 pub use async_track::{AsyncRow, AsyncTotals, AsyncTrack};
 pub use counter_track::{CounterTrack, SeriesRef, SeriesRow, SeriesTotals};
 pub use fault::TrackFault;
 pub use flow_track::{FlowClosed, FlowRow, FlowTotals, FlowTrack};
-pub use hash_keys::HashKeys;
 pub use keys::{AsyncKey, FlowKey, SeriesKey};
 pub use meta_track::{InstantRow, MetaTrack, ProcessNames, ThreadNames, names_thread};
-pub use names::Names;
 pub use span_event::{BoxedId, Event, IdKey, Reach, Text, Thread};

@@ -12,7 +12,7 @@ use Rattle.span_self_time.specs.Closed.{AreClosed, IsInTime, span_of}
 use Rattle.span_self_time.specs.Laws.{IsApart, AreSpans}
 use Rattle.span_self_time.specs.Spans.{Span, self_time}
 use Rattle.span_keyed_tracks.proofs.Matching.Closed.{both_true}
-use Rattle.span_keyed_tracks.proofs.Numbers.{slice_get-number_in}
+use Rattle.span_names.proofs.Numbers.{slice_get-number_in}
 use Rattle.span_ledger.specs.Named.{AreThreadSpans, IsTimely, named_span, named_spans}
 use Rattle.span_ledger.specs.Numbered.{renamed_span}
 use Rattle.span_ledger.specs.Timed.{self_times}

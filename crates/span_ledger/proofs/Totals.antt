@@ -10,8 +10,8 @@ use Rattle.std.proofs.lemmas.List.Sums.{sum_by-cons}
 use Rattle.span_self_time.specs.Spans.{Span, length_of, self_time, named, total_of, self_of}
 use Rattle.span_track.specs.Nesting.{Begin, Ending, ThreadEvent, span_between, span_sealed, whole_span, closed_spans}
 use Rattle.span_keyed_tracks.proofs.Matching.Closed.{both_true, and_true, closed_of-passes}
-use Rattle.span_keyed_tracks.specs.Numbering.{number_in}
-use Rattle.span_keyed_tracks.proofs.Numbers.{slice_get-number_in}
+use Rattle.span_names.specs.Numbering.{number_in}
+use Rattle.span_names.proofs.Numbers.{slice_get-number_in}
 use Rattle.span_ledger.specs.Numbered.{renamed_span}
 use Rattle.span_ledger.specs.Tracked.{number_for, is_numbered}
 use Rattle.span_ledger.proofs.Renaming.{self_time-renamed}

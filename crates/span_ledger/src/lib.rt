@@ -37,8 +37,6 @@ pub use rows::{CountRow, ProcessRow, SpanRow, ThreadRow};
 pub use span_event::{
     ArgValue, Args, BoxedId, Event, Field, IdKey, Item, ItemFault, Items, Phase, Reach, Text,
 };
-pub use span_keyed_tracks::{
-    AsyncKey, AsyncRow, AsyncTotals, FlowKey, FlowRow, FlowTotals, HashKeys, InstantRow, SeriesKey,
-    SeriesRow, SeriesTotals,
-};
+pub use span_keyed_tracks::{AsyncKey, AsyncRow, AsyncTotals, FlowKey, FlowRow, FlowTotals, InstantRow, SeriesKey, SeriesRow, SeriesTotals};
+pub use span_names::HashKeys;
 pub use span_track::ClosedSpan;

@@ -7,7 +7,7 @@ ghost use Rattle.span_keyed_tracks.specs.Keyed.{ascending};
 
 use indexmap::IndexSet;
 use span_event::Thread;
-use span_keyed_tracks::HashKeys;
+use span_names::HashKeys;
 use std::alloc::{AllocError, Global};
 use std::collections::BTreeSet;
 use std::marker::Model;

@@ -10,7 +10,7 @@ ghost use Rattle.span_ledger.specs.Tracked.{FollowsJournal};
 use crate::entry::Entry;
 use crate::tracks::Tracks;
 use span_event::{Text, Thread};
-use span_keyed_tracks::Names;
+use span_names::Names;
 use span_track::{ClosedSpan, ThreadTrack};
 use std::alloc::{AllocError, Global};
 use std::marker::Model;

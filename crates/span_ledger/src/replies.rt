@@ -2,7 +2,7 @@
 ghost use Rattle.std.specs.Prelude.{◌≡◌, Some, None, IfOk};
 ghost use Rattle.span_event.specs.Given.{Gives};
 ghost use Rattle.span_keyed_tracks.specs.Meta.{MetaStandsFor, names_in};
-ghost use Rattle.span_keyed_tracks.specs.Numbering.{number_in};
+ghost use Rattle.span_names.specs.Numbering.{number_in};
 ghost use Rattle.span_ledger.specs.Replies.{reply_to, process_reply, thread_names_reply};
 ghost use Rattle.span_ledger.specs.Rows.{count_row};
 ghost use Rattle.span_ledger.specs.Tracked.{FollowsJournal, track_at};

@@ -13,7 +13,7 @@ use crate::rows::{ProcessRow, SpanRow, ThreadRow};
 use crate::thread_tracks::ThreadTracks;
 use crate::tracks::Tracks;
 use span_event::{Text, Thread};
-use span_keyed_tracks::Names;
+use span_names::Names;
 use span_track::ThreadTrack;
 use std::alloc::{AllocError, Global};
 use std::collections::BTreeSet;

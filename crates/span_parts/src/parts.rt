@@ -11,7 +11,7 @@ use crate::heads::begin;
 use crate::room::LineRoom;
 use crate::sums::{add_part, look_through};
 use span_event::Unit;
-use span_keyed_tracks::HashKeys;
+use span_names::HashKeys;
 use span_table::{Addition, Column, Of, Table, copies_of};
 use std::alloc::{AllocError, Global};
 use std::marker::Model;

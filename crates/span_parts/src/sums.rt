@@ -15,7 +15,7 @@ use crate::guess::FirstLine;
 use crate::room::LineRoom;
 use crate::rows::row_of_line;
 use span_event::{ArgValue, Text};
-use span_keyed_tracks::HashKeys;
+use span_names::HashKeys;
 use span_table::{Addition, Column, Key, Of, Row, SumFault, column_names};
 use std::alloc::{AllocError, Global};
 

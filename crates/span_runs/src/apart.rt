@@ -11,7 +11,7 @@ use crate::source::Source;
 use crate::stop::{Halt, Stop};
 use span_collect::Settings;
 use span_event::Text;
-use span_keyed_tracks::HashKeys;
+use span_names::HashKeys;
 use span_table::{Column, Of};
 use std::alloc::{AllocError, Global};
 use std::random::RandomSource;

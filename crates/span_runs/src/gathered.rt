@@ -12,7 +12,7 @@ use crate::file_run::FileRun;
 use crate::gathering::Gathering;
 use crate::stop::{Stop, StopCause};
 use span_collect::fault_lines;
-use span_keyed_tracks::HashKeys;
+use span_names::HashKeys;
 use span_table::{Column, Of};
 use std::alloc::Global;
 use std::slice::from_ref;

@@ -7,7 +7,7 @@ ghost use Rattle.span_runs.specs.Apart.{run_of};
 ghost use Rattle.span_runs.specs.Gathering.{TakesAlike};
 
 use crate::file_run::FileRun;
-use span_keyed_tracks::HashKeys;
+use span_names::HashKeys;
 use span_table::{Column, Of, SumFault, Table, TableSum};
 use std::alloc::{AllocError, Global};
 

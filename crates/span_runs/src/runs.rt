@@ -4,7 +4,7 @@ ghost use Rattle.span_runs.specs.Runs.{only_name, run_of_files, table_of_run};
 
 use span_collect::{Collected, Input};
 use span_event::Text;
-use span_keyed_tracks::HashKeys;
+use span_names::HashKeys;
 use span_table::{Column, Of, Table};
 use std::alloc::{AllocError, Global};
 use std::random::RandomSource;

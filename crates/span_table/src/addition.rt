@@ -10,7 +10,7 @@ use crate::heads::Head;
 use crate::of::Of;
 use crate::table::{Row, Table, table_of_groups};
 use crate::table_sum::SumFault;
-use span_keyed_tracks::HashKeys;
+use span_names::HashKeys;
 use std::alloc::{AllocError, Global};
 use std::marker::Model;
 

@@ -8,7 +8,7 @@ ghost use Rattle.span_table.specs.Keys.{key_cmp};
 use crate::key::Key;
 use crate::sums::Sums;
 use indexmap::IndexMap;
-use span_keyed_tracks::HashKeys;
+use span_names::HashKeys;
 use std::alloc::{AllocError, Global};
 use std::marker::Model;
 

@@ -14,7 +14,7 @@ use crate::run::LedgerRun;
 use crate::sums::Sums;
 use crate::table_sum::TableSum;
 use span_event::Text;
-use span_keyed_tracks::HashKeys;
+use span_names::HashKeys;
 use span_ledger::Ledger;
 use std::alloc::{AllocError, Global};
 use std::marker::Model;

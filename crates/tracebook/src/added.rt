@@ -13,7 +13,7 @@ use crate::standard::Standard;
 use crate::sums::{write_runs_changes, write_runs_table};
 use crate::tables::TableView;
 use span_event::{Fault, Text};
-use span_keyed_tracks::HashKeys;
+use span_names::HashKeys;
 use span_parts::{PartFault, Parts};
 use span_report::Sink;
 use span_runs::{Reason, Source, SourceFault, StopCause};

@@ -14,7 +14,7 @@ use crate::tables::{string_of, table_text};
 use crate::view::PageView;
 use span_collect::Settings;
 use span_event::{Fault, Text, Unit};
-use span_keyed_tracks::HashKeys;
+use span_names::HashKeys;
 use span_page::RunsPage;
 use span_report::Sink;
 use span_report::stacks::SpanColumn;

@@ -9,7 +9,7 @@ use crate::faults::{Faults, fail};
 use crate::repeats::{RepeatsView, are_few, write_tables};
 use crate::standard::Standard;
 use span_event::{Fault, Text, Unit};
-use span_keyed_tracks::HashKeys;
+use span_names::HashKeys;
 use span_parts::Parts;
 use span_report::Sink;
 use span_runs::Source;

@@ -1,4 +1,4 @@
-use span_keyed_tracks::Names;
+use span_names::Names;
 use span_read::Text;
 use std::alloc::{AllocError, Global};
 use std::process::Abort;

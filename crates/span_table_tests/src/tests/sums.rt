@@ -2,7 +2,7 @@
 
 use super::tabled::{columns_of, shown};
 use span_event::Unit;
-use span_keyed_tracks::HashKeys;
+use span_names::HashKeys;
 use span_ledger::Ledger;
 use span_table::{By, Of, TableSum, json_table, ranking};
 use span_test_support::{told, told_at_last};

@@ -1,7 +1,7 @@
 //! Tables of texts, and what is shown of them.
 
 use span_event::Text;
-use span_keyed_tracks::HashKeys;
+use span_names::HashKeys;
 use span_ledger::Ledger;
 use span_table::{Column, Of, Shown, Table};
 use span_test_support::told_at_last;

@@ -4,7 +4,7 @@ use Rattle.span_event.specs.declared.thread.Thread.{Thread}
 use Rattle.span_keyed_tracks.specs.Async.{async_spans_at, async_totals}
 use Rattle.span_keyed_tracks.specs.Counters.{CounterStandsFor, series_totals}
 use Rattle.span_keyed_tracks.specs.Flow.{flow_chains_at, flow_totals}
-use Rattle.span_keyed_tracks.specs.Numbering.{number_in}
+use Rattle.span_names.specs.Numbering.{number_in}
 use Rattle.span_keyed_tracks.proofs.Async.{async_spans_at-StandsFor}
 use Rattle.span_keyed_tracks.proofs.Flow.{flow_chains_at-StandsFor}
 use Rattle.span_ledger.specs.declared.reply.Reply.TheVariants.{Async, Flow, Series}

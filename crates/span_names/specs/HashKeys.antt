@@ -4,7 +4,7 @@ use Rattle.std.specs.Hash.DefaultHasher.{initial}
 use Rattle.std.specs.RandomState.{initial_hasher}
 use Rattle.std.specs.declared.hash.DefaultHasher.{DefaultHasher}
 use Rattle.std.specs.declared.hash.RandomState.{RandomState}
-use Rattle.span_keyed_tracks.specs.declared.hash_keys.HashKeys.{HashKeys}
+use Rattle.span_names.specs.declared.hash_keys.HashKeys.{HashKeys}
 
 -- the hasher of random keys, where there are any; else that of the fixed ones
 abbrev pub hasher_of : Option RandomState → DefaultHasher

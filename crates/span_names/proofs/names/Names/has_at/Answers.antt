@@ -1,8 +1,8 @@
 use Rattle.std.proofs.Common.{◌<◌, length, rules, sym, ap, ◌∙◌, ltb-true}
 use Rattle.std.specs.Cmp.Lexicographic.{nat_list_eq_equiv}
 use Rattle.span_event.specs.Text.{same_text}
-use Rattle.span_keyed_tracks.proofs.Lists.Places.{position-IsDistinct}
-use Rattle.span_keyed_tracks.proofs.names.Names.has_at.Goals as goal
+use Rattle.span_names.proofs.Places.{position-IsDistinct}
+use Rattle.span_names.proofs.names.Names.has_at.Goals as goal
 
 pub returns-in-Some : goal.returns-in-Some
 returns-in-Some c = λ is.

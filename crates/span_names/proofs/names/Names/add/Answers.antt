@@ -2,10 +2,10 @@ use Rattle.std.proofs.Common.{rules, ◌≡◌, ℕ, List, [], ◌∷◌, ◌++�
 use Rattle.std.specs.List.{position_or_len, list_any}
 use Rattle.std.specs.Cmp.Lexicographic.{nat_list_eq_equiv}
 use Rattle.indexmap.specs.IndexSet.{insert_key}
-use Rattle.span_keyed_tracks.specs.Numbering.{number_in}
-use Rattle.span_keyed_tracks.proofs.Lists.Places.{position_or_len-None, list_any-None, position-append}
+use Rattle.span_names.specs.Numbering.{number_in}
+use Rattle.span_names.proofs.Places.{position_or_len-None, list_any-None, position-append}
 use Rattle.span_event.specs.Text.{same_text}
-use Rattle.span_keyed_tracks.proofs.names.Names.add.Goals as goal
+use Rattle.span_names.proofs.names.Names.add.Goals as goal
 
 -- a text that is new goes last, under the number of its place
 number_in-insert_key : (names after : List (List ℕ)) (text copy : List ℕ) (n : ℕ) → number_in names text ≡ None → copy ≡ text → after ≡ insert_key same_text names copy → n ≡ position_or_len (same_text copy) names → number_in after text ≡ Some n

@@ -3,8 +3,8 @@ use Rattle.std.proofs.Common.{◌≡◌, ℕ, Bool, true, false, cond, List, [],
 use Rattle.std.specs.Cmp.Lexicographic.{bytes_decides}
 use Rattle.std.proofs.lemmas.List.Quantifiers.{position-Some}
 use Rattle.std.proofs.lemmas.Option.{slice_get-get_or}
-use Rattle.span_keyed_tracks.specs.Numbering.{number_in, with_name}
-use Rattle.span_keyed_tracks.proofs.Lists.Places.{position-front}
+use Rattle.span_names.specs.Numbering.{number_in, with_name}
+use Rattle.span_names.proofs.Places.{position-front}
 use Rattle.span_event.specs.Text.{same_text}
 
 -- the text at its number

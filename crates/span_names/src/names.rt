@@ -1,6 +1,6 @@
 //! The numbers of names.
 ghost use Rattle.std.specs.Prelude.{◌≡◌, ◌-◌, ◌<◌, ◌^◌, List, ℕ, [], Some, length, slice_get, take, option_copied, IfOk, IsTrue, OnOk, OnErr};
-ghost use Rattle.span_keyed_tracks.specs.Numbering.{number_in, with_name};
+ghost use Rattle.span_names.specs.Numbering.{number_in, with_name};
 
 use crate::hash_keys::HashKeys;
 use indexmap::IndexSet;

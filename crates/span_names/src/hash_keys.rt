@@ -1,5 +1,5 @@
 //! How the maps that files fill are hashed.
-ghost use Rattle.span_keyed_tracks.specs.HashKeys.{hasher_by};
+ghost use Rattle.span_names.specs.HashKeys.{hasher_by};
 
 use std::hash::{BuildHasher, DefaultHasher, RandomState};
 use std::random::RandomSource;
