@@ -1,8 +1,8 @@
 -- A run whose output failed.
 use Rattle.std.proofs.Common.{◌≡◌, ℕ, List, ◌∙◌}
 use Rattle.std.specs.Prelude.{◌≢◌}
-use Rattle.span_ledger.specs.declared.entry.Entry.{Entry}
-use Rattle.span_ledger.specs.declared.query.Query.{Query}
+use Rattle.span_journal.specs.declared.entry.Entry.{Entry}
+use Rattle.span_journal.specs.declared.query.Query.{Query}
 use Rattle.span_report.specs.declared.output.WriteFault.TheVariants.{Output}
 use Rattle.span_report.specs.Output.{WriteLeaves}
 use Rattle.span_report.specs.Sink.{SinkState}

@@ -4,10 +4,10 @@ use Rattle.std.proofs.Common.{◌≡◌, ℕ, ◌≤◌, List, [], ◌∷◌, �
 use Rattle.std.proofs.lemmas.List.Elements.{filter_map-append}
 use Rattle.span_event.specs.declared.unit.Unit.{Unit}
 use Rattle.span_read.specs.Document.{doc}
-use Rattle.span_ledger.specs.declared.entry.Entry.{Entry}
-use Rattle.span_ledger.specs.declared.query.Query.{Query}
-use Rattle.span_ledger.specs.declared.refusal.Cause.{Cause}
-use Rattle.span_ledger.specs.declared.refusal.Cause.TheVariants.{Memory, Full, Busy}
+use Rattle.span_journal.specs.declared.entry.Entry.{Entry}
+use Rattle.span_journal.specs.declared.query.Query.{Query}
+use Rattle.span_journal.specs.declared.refusal.Cause.{Cause}
+use Rattle.span_journal.specs.declared.refusal.Cause.TheVariants.{Memory, Full, Busy}
 use Rattle.span_share.specs.Callers.{BeginsWith}
 use Rattle.span_share.specs.Seats.{ShareId, Seated, IsSeatOf, Gathers}
 use Rattle.span_share.proofs.CallersLists.{Contains-here, Contains-later}

@@ -1,6 +1,6 @@
 -- Files that were not collected leave the output as it was.
 use Rattle.std.proofs.Common.{List, refl}
-use Rattle.span_ledger.specs.declared.query.Query.{Query}
+use Rattle.span_journal.specs.declared.query.Query.{Query}
 use Rattle.span_report.specs.Sink.{SinkState}
 use Rattle.span_collect.specs.declared.files.Input.{Input}
 use Rattle.span_collect.specs.declared.runs.RunError.{RunError}

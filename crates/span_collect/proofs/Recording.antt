@@ -6,12 +6,12 @@ use Rattle.std.proofs.Math.Seq.{take-append_seam}
 use Rattle.std.proofs.lemmas.List.{map-append, length-map, take_more, length-take-le}
 use Rattle.std.proofs.lemmas.List.Sums.{length-filter, count_by-le-length}
 use Rattle.span_event.specs.declared.item.Item.{Item}
-use Rattle.span_ledger.specs.declared.entry.Entry.{Entry}
-use Rattle.span_ledger.specs.declared.entry.Op.{Op}
-use Rattle.span_ledger.specs.declared.entry.Op.TheVariants.{One, Ask}
-use Rattle.span_ledger.specs.declared.query.Query.{Query}
-use Rattle.span_ledger.specs.declared.refusal.Cause.{Cause}
-use Rattle.span_ledger.specs.declared.refusal.Cause.TheVariants.{Memory, Full, Busy}
+use Rattle.span_journal.specs.declared.entry.Entry.{Entry}
+use Rattle.span_journal.specs.declared.entry.Op.{Op}
+use Rattle.span_journal.specs.declared.entry.Op.TheVariants.{One, Ask}
+use Rattle.span_journal.specs.declared.query.Query.{Query}
+use Rattle.span_journal.specs.declared.refusal.Cause.{Cause}
+use Rattle.span_journal.specs.declared.refusal.Cause.TheVariants.{Memory, Full, Busy}
 use Rattle.span_share.specs.declared.book.Receipt.{Receipt}
 use Rattle.span_share.specs.declared.share.ShareError.{ShareError}
 use Rattle.span_share.specs.Entries.{entry}

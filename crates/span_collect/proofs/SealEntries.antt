@@ -1,9 +1,9 @@
 -- The seals that are told, from one to the next.
 use Rattle.std.proofs.Common.{◌≡◌, Bool, ℕ, List, [], ◌∷◌, ◌++◌, map, refl, ap, ◌∙◌}
 use Rattle.std.proofs.lemmas.List.{map-append}
-use Rattle.span_ledger.specs.declared.entry.Entry.{Entry}
-use Rattle.span_ledger.specs.declared.entry.Op.{Op}
-use Rattle.span_ledger.specs.Legal.{journal_after, next_entry}
+use Rattle.span_journal.specs.declared.entry.Entry.{Entry}
+use Rattle.span_journal.specs.declared.entry.Op.{Op}
+use Rattle.span_journal.specs.Legal.{journal_after, next_entry}
 use Rattle.span_collect.specs.Seals.{with_seals}
 
 -- one more call is the last entry

@@ -6,11 +6,11 @@ use Rattle.std.proofs.lemmas.List.Sums.{sum_by-cons}
 use Rattle.span_event.specs.declared.item.Item.{Item}
 use Rattle.span_event.specs.declared.unit.Unit.{Unit}
 use Rattle.span_read.specs.Document.{doc}
-use Rattle.span_ledger.specs.declared.entry.Entry.{Entry}
-use Rattle.span_ledger.specs.declared.entry.Op.{Op}
-use Rattle.span_ledger.specs.declared.entry.Op.TheVariants.{One, Ask}
-use Rattle.span_ledger.specs.declared.query.Query.{Query}
-use Rattle.span_ledger.specs.Legal.{IsLegal, Kept}
+use Rattle.span_journal.specs.declared.entry.Entry.{Entry}
+use Rattle.span_journal.specs.declared.entry.Op.{Op}
+use Rattle.span_journal.specs.declared.entry.Op.TheVariants.{One, Ask}
+use Rattle.span_journal.specs.declared.query.Query.{Query}
+use Rattle.span_journal.specs.Legal.{IsLegal, Kept}
 use Rattle.span_share.specs.declared.turn.Terms.{Terms}
 use Rattle.span_share.specs.Callers.{calls, AreDistinct}
 use Rattle.span_share.specs.Entries.{caller_of}

@@ -6,13 +6,13 @@ use Rattle.span_event.specs.declared.unit.Unit.{Unit}
 use Rattle.span_read.specs.declared.error.ReadError.{ReadError}
 use Rattle.span_read.specs.Document.{doc}
 use Rattle.span_read.specs.ReadError.{code_of}
-use Rattle.span_ledger.specs.declared.entry.Entry.{Entry}
-use Rattle.span_ledger.specs.declared.entry.Op.{Op}
-use Rattle.span_ledger.specs.declared.entry.Op.TheVariants.{One, Ask}
-use Rattle.span_ledger.specs.declared.query.Query.{Query}
-use Rattle.span_ledger.specs.declared.refusal.Cause.{Cause}
-use Rattle.span_ledger.specs.declared.refusal.Cause.TheVariants.{Memory, Full, Busy}
-use Rattle.span_ledger.specs.Legal.{IsLegal}
+use Rattle.span_journal.specs.declared.entry.Entry.{Entry}
+use Rattle.span_journal.specs.declared.entry.Op.{Op}
+use Rattle.span_journal.specs.declared.entry.Op.TheVariants.{One, Ask}
+use Rattle.span_journal.specs.declared.query.Query.{Query}
+use Rattle.span_journal.specs.declared.refusal.Cause.{Cause}
+use Rattle.span_journal.specs.declared.refusal.Cause.TheVariants.{Memory, Full, Busy}
+use Rattle.span_journal.specs.Legal.{IsLegal}
 use Rattle.span_share.specs.Callers.{calls, AreDistinct}
 use Rattle.span_share.specs.Entries.{caller_of}
 use Rattle.span_collect.specs.declared.files.FileEnd.{FileEnd}

@@ -2,9 +2,9 @@
 use Rattle.std.specs.Prelude.{◌≡◌, ℕ, ◌+◌, ◌<◌, ◌≤◌, ◌⊎◌, ⊤, List, ◌∷◌, length, sum_by}
 use Rattle.span_event.specs.declared.fault.Fault.TheVariants.{FileCount as FileCountFault, Memory as MemoryFault, Unaccounted as UnaccountedFault}
 use Rattle.span_event.specs.Fault.{number_of}
-use Rattle.span_ledger.specs.declared.query.Query.{Query}
-use Rattle.span_ledger.specs.declared.entry.Entry.{Entry}
-use Rattle.span_ledger.specs.Legal.{IsLegal, Kept}
+use Rattle.span_journal.specs.declared.query.Query.{Query}
+use Rattle.span_journal.specs.declared.entry.Entry.{Entry}
+use Rattle.span_journal.specs.Legal.{IsLegal, Kept}
 use Rattle.span_share.specs.Callers.{AreDistinct}
 use Rattle.span_share.specs.Seats.{ShareId, Seated, Closes}
 use Rattle.span_collect.specs.declared.collection.CollectError.{CollectError}

@@ -2,7 +2,7 @@
 use Rattle.std.specs.Prelude.{ℕ, List, [], ◌∷◌, ◌++◌, codes, decimal}
 use Rattle.span_event.specs.declared.fault.Fault.TheVariants.{NotStarted as NotStartedFault}
 use Rattle.span_event.specs.Fault.{number_of}
-use Rattle.span_ledger.specs.Refusal.{code_of}
+use Rattle.span_journal.specs.Refusal.{code_of}
 use Rattle.span_collect.specs.declared.files.FileEnd.{FileEnd}
 use Rattle.span_collect.specs.declared.files.FileEnd.TheVariants.{Read, Refused, Stopped, NotStarted}
 use Rattle.span_collect.specs.declared.files.Input.{Input}

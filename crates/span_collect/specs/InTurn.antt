@@ -6,13 +6,13 @@ use Rattle.span_event.specs.declared.item.Item.{Item}
 use Rattle.span_event.specs.declared.item.Item.TheVariants.{Good}
 use Rattle.span_event.specs.declared.unit.Unit.{Unit}
 use Rattle.span_read.specs.Document.{doc}
-use Rattle.span_ledger.specs.declared.entry.Answer.{Answer}
-use Rattle.span_ledger.specs.declared.entry.Entry.{Entry}
-use Rattle.span_ledger.specs.declared.entry.Op.{Op}
-use Rattle.span_ledger.specs.declared.query.Query.{Query}
-use Rattle.span_ledger.specs.Journal.{an_event}
-use Rattle.span_ledger.specs.Legal.{sequential}
-use Rattle.span_ledger.specs.Topics.{AreAlike, Topic, concerns}
+use Rattle.span_journal.specs.declared.entry.Answer.{Answer}
+use Rattle.span_journal.specs.declared.entry.Entry.{Entry}
+use Rattle.span_journal.specs.declared.entry.Op.{Op}
+use Rattle.span_journal.specs.declared.query.Query.{Query}
+use Rattle.span_journal.specs.Journal.{an_event}
+use Rattle.span_journal.specs.Legal.{sequential}
+use Rattle.span_journal.specs.Topics.{AreAlike, Topic, concerns}
 use Rattle.span_report.specs.Sink.{SinkState, TakesBytes, Fails}
 use Rattle.span_share.specs.Callers.{calls}
 use Rattle.span_share.specs.Entries.{caller_of}

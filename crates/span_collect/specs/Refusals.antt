@@ -4,8 +4,8 @@ pub mod Text
 use Rattle.std.specs.Prelude.{ℕ, ◌+◌, List, [], ◌∷◌, ◌++◌, length, Option, Some, None}
 use Rattle.std.specs.Ordering.{nat_cmp}
 use Rattle.span_keyed_tracks.specs.Keyed.{Keyed, entries_in}
-use Rattle.span_ledger.specs.declared.entry.Answer.{Answer}
-use Rattle.span_ledger.specs.declared.entry.Answer.TheVariants.{Refused}
+use Rattle.span_journal.specs.declared.entry.Answer.{Answer}
+use Rattle.span_journal.specs.declared.entry.Answer.TheVariants.{Refused}
 use Rattle.span_collect.specs.declared.refusals.tally.Refused.{Refused as RefusedRow}
 
 -- a number that refused an item, with the item's place among those of its caller

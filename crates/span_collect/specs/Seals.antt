@@ -2,16 +2,16 @@
 use Rattle.std.specs.Prelude.{◌≡◌, ◌⊎◌, ℕ, ◌<◌, ◌≤◌, ◌==◌, Bool, true, false, if◌then◌else◌, List, length, map, take, filter_map, Option, Some, None, MatchOption}
 use Rattle.std.specs.Option.{option_map}
 use Rattle.span_track.specs.Nesting.{latest_time}
-use Rattle.span_ledger.specs.declared.entry.Entry.{Entry}
-use Rattle.span_ledger.specs.declared.entry.Op.{Op}
-use Rattle.span_ledger.specs.declared.entry.Op.TheVariants.{Seal}
-use Rattle.span_ledger.specs.declared.refusal.Cause.TheVariants.{Memory}
-use Rattle.span_ledger.specs.declared.rows.ThreadRow.{ThreadRow}
-use Rattle.span_ledger.specs.declared.query.Query.{Query}
-use Rattle.span_ledger.specs.Legal.{IsLegal, journal_after}
-use Rattle.span_ledger.specs.Order.{thread_of_row}
-use Rattle.span_ledger.specs.Rows.{thread_rows}
-use Rattle.span_ledger.specs.Told.{thread_events}
+use Rattle.span_journal.specs.declared.entry.Entry.{Entry}
+use Rattle.span_journal.specs.declared.entry.Op.{Op}
+use Rattle.span_journal.specs.declared.entry.Op.TheVariants.{Seal}
+use Rattle.span_journal.specs.declared.refusal.Cause.TheVariants.{Memory}
+use Rattle.span_journal.specs.declared.rows.ThreadRow.{ThreadRow}
+use Rattle.span_journal.specs.declared.query.Query.{Query}
+use Rattle.span_journal.specs.Legal.{IsLegal, journal_after}
+use Rattle.span_journal.specs.Order.{thread_of_row}
+use Rattle.span_journal.specs.Rows.{thread_rows}
+use Rattle.span_journal.specs.Told.{thread_events}
 use Rattle.span_collect.specs.declared.sealing.Sealing.{Sealing}
 use Rattle.span_collect.specs.declared.files.FileEnd.{FileEnd}
 use Rattle.span_collect.specs.declared.files.Input.{Input}

@@ -2,8 +2,8 @@
 use Rattle.std.specs.Prelude.{◌≡◌, ◌^◌, ◌<◌, ◌≤◌, List, [], ◌∷◌, length, All, Option, Some, IfSome, vec_capacity}
 use Rattle.std.specs.Global.{Vec}
 use Rattle.span_event.specs.declared.unit.Unit.{Unit}
-use Rattle.span_ledger.specs.declared.entry.Op.{Op}
-use Rattle.span_ledger.specs.declared.query.Query.{Query}
+use Rattle.span_journal.specs.declared.entry.Op.{Op}
+use Rattle.span_journal.specs.declared.query.Query.{Query}
 use Rattle.span_share.specs.Seats.{ShareId, Seated, IsSeatOf}
 use Rattle.span_collect.specs.declared.files.FileEnd.{FileEnd}
 use Rattle.span_collect.specs.declared.files.Input.{Input}

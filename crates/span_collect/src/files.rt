@@ -4,7 +4,7 @@ ghost use Rattle.span_collect.specs.Account.{caller_named};
 ghost use Rattle.span_collect.specs.Run.{is_refused};
 
 use span_event::Text;
-use span_ledger::Cause;
+use span_journal::Cause;
 
 /// A file: its name, and the bytes that were read of it.
 #[derive(Debug, Drop)]

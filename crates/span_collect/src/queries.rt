@@ -4,7 +4,7 @@ ghost use Rattle.span_event.specs.declared.unit.Unit.{Unit};
 ghost use Rattle.span_collect.specs.Work.{IsNewSeat, HasMet};
 
 use crate::gate::Gate;
-use span_ledger::{Cause, Query};
+use span_journal::{Cause, Query};
 use span_share::{Seat, Share};
 use std::alloc::Global;
 use std::sync::Wait;

@@ -1,9 +1,10 @@
 //! The seals that close what is open once all files are told.
 ghost use Rattle.std.specs.Prelude.{◌≡◌, ◌<◌, ◌^◌, All, IfOk, IfSome};
-ghost use Rattle.span_ledger.specs.Legal.{IsGoodOp, IsLawful};
+ghost use Rattle.span_journal.specs.Legal.{IsGoodOp, IsLawful};
 ghost use Rattle.span_collect.specs.Seals.{AddsSeals, SealsAfter, seal_for, seals_of};
 
-use span_ledger::{Cause, Ledger, Op, ThreadRow};
+use span_journal::{Cause, Op, ThreadRow};
+use span_ledger::Ledger;
 use std::alloc::{AllocError, Global};
 
 /// The number under which seals stand in the journal, which is that of the queries.

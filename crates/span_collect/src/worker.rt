@@ -9,7 +9,7 @@ use crate::gate::Gate;
 use crate::reading_places::ReadingPlaces;
 use crate::remaining::Remaining;
 use span_event::{Item, Items, Unit};
-use span_ledger::Cause;
+use span_journal::Cause;
 use span_read::{ReadError, read_items_in};
 use span_share::{Seat, Share};
 use std::alloc::Global;

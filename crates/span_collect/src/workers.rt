@@ -10,7 +10,7 @@ use crate::queries::{Asked, ask_all};
 use crate::reading_places::{PLACES, ReadingPlaces};
 use crate::worker::work;
 use span_event::Unit;
-use span_ledger::Query;
+use span_journal::Query;
 use span_share::{Seat, Share};
 use std::alloc::{AllocError, Global};
 use std::snapshot::Snapshot;

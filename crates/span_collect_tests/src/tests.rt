@@ -4,7 +4,8 @@ use span_collect::{
     collect, fault_line_of, fault_lines, fault_word, numbered_text, run,
 };
 use span_event::Text;
-use span_ledger::{Cause, Ledger, Query};
+use span_journal::{Cause, Query};
+use span_ledger::Ledger;
 use span_report::{Writer, report};
 use std::alloc::{AllocError, AllocGlobal, Global};
 use std::process::Abort;

@@ -15,11 +15,11 @@ use Rattle.span_keyed_tracks.proofs.Matching.Closed.{both_true}
 use Rattle.span_names.proofs.Numbers.{slice_get-number_in}
 use Rattle.span_ledger.specs.Named.{AreThreadSpans, IsTimely, named_span, named_spans}
 use Rattle.span_ledger.specs.Numbered.{renamed_span}
-use Rattle.span_ledger.specs.Timed.{self_times}
+use Rattle.span_journal.specs.Timed.{self_times}
 use Rattle.span_track.specs.Nesting.{ThreadEvent, closed_spans}
 use Rattle.span_track.specs.Thread.{ThreadSpans}
-use Rattle.span_ledger.specs.declared.entry.Entry.{Entry}
-use Rattle.span_ledger.specs.Told.{thread_events}
+use Rattle.span_journal.specs.declared.entry.Entry.{Entry}
+use Rattle.span_journal.specs.Told.{thread_events}
 use Rattle.span_ledger.specs.Tracked.{FollowsJournal, SpansKept, TracksKept, number_for, track_at}
 use Rattle.span_ledger.proofs.Renaming.{self_time-renamed}
 use Rattle.span_ledger.proofs.ThreadTelling.{IsTrackOf, IsTrackOf-journal}

@@ -7,16 +7,16 @@ use Rattle.std.specs.Ordering.{int_eq}
 use Rattle.span_keyed_tracks.specs.declared.counter_track.SeriesRow.{SeriesRow}
 use Rattle.span_keyed_tracks.specs.Counters.{series_rows, series_rows_of}
 use Rattle.span_keyed_tracks.specs.Keyed.{entry_of}
-use Rattle.span_ledger.specs.declared.entry.Entry.{Entry}
+use Rattle.span_journal.specs.declared.entry.Entry.{Entry}
 use Rattle.span_event.specs.declared.thread.Thread.{Thread}
 use Rattle.span_ledger.specs.Grouped.{Grouped, group_of, grouped_part, groups_of}
-use Rattle.span_ledger.specs.Journal.{accepted}
-use Rattle.span_ledger.specs.Parts.{process_part, process_parts, threads_in}
-use Rattle.span_ledger.specs.Rows.{process_keys, thread_keys}
-use Rattle.span_ledger.specs.Told.{counter_events, listed_by}
-use Rattle.span_ledger.proofs.Selected.{filter-ascending}
-use Rattle.span_ledger.proofs.SeriesParts.{filter-series_rows}
-use Rattle.span_ledger.proofs.Sorted.{map-map}
+use Rattle.span_journal.specs.Journal.{accepted}
+use Rattle.span_journal.specs.Parts.{process_part, process_parts, threads_in}
+use Rattle.span_journal.specs.Rows.{process_keys, thread_keys}
+use Rattle.span_journal.specs.Told.{counter_events, listed_by}
+use Rattle.span_journal.proofs.Selected.{filter-ascending}
+use Rattle.span_journal.proofs.SeriesParts.{filter-series_rows}
+use Rattle.span_journal.proofs.Sorted.{map-map}
 use Rattle.span_event.proofs.Orders.{thread_cmp-same, thread_cmp-total}
 use Rattle.span_ledger.proofs.TrackRows.{map-same}
 

@@ -4,10 +4,10 @@ use Rattle.std.specs.List.Sorted.{IsStrictlySortedBy}
 use Rattle.std.specs.Ordering.{int_cmp, int_eq}
 use Rattle.span_keyed_tracks.specs.declared.counter_track.SeriesRow.{SeriesRow}
 use Rattle.span_keyed_tracks.specs.Keyed.{entry_of}
-use Rattle.span_ledger.specs.declared.entry.Entry.{Entry}
+use Rattle.span_journal.specs.declared.entry.Entry.{Entry}
 use Rattle.span_event.specs.declared.thread.Thread.{Thread}
-use Rattle.span_ledger.specs.Parts.{ProcessRows, thread_part}
-use Rattle.span_ledger.specs.Rows.{process_row}
+use Rattle.span_journal.specs.Parts.{ProcessRows, thread_part}
+use Rattle.span_journal.specs.Rows.{process_row}
 
 -- threads and series of one process
 pub record Grouped : Type 0 where

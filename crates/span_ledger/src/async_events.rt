@@ -2,13 +2,13 @@
 ghost use Rattle.std.specs.Prelude.{◌≡◌, IsSome};
 ghost use Rattle.span_event.specs.Event.{IsGood, IsTime};
 ghost use Rattle.span_keyed_tracks.specs.Async.{HasAsyncRoom};
-ghost use Rattle.span_ledger.specs.Told.{async_step, async_event};
+ghost use Rattle.span_journal.specs.Told.{async_step, async_event};
 ghost use Rattle.span_ledger.specs.Telling.{TellsAsync};
 
 use crate::answer_pair::{AnswerPair, twice};
-use crate::entry::Answer;
 use crate::event_key::{put_async_key, take_async_key};
 use span_event::{Event, Phase};
+use span_journal::Answer;
 use span_keyed_tracks::{AsyncKey, AsyncTrack, TrackFault};
 use std::alloc::Global;
 

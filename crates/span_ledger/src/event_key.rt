@@ -1,6 +1,6 @@
 //! The key of an event, made of the event's own texts, so that none is copied.
 ghost use Rattle.std.specs.Prelude.{◌≡◌, Some, IsSome};
-ghost use Rattle.span_ledger.specs.Told.{async_key, flow_key};
+ghost use Rattle.span_journal.specs.Told.{async_key, flow_key};
 ghost use Rattle.span_ledger.specs.Keys.{without_async_key, with_async_key, without_flow_key, with_flow_key};
 
 use span_event::{Event, Text};

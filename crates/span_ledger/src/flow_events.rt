@@ -2,13 +2,13 @@
 ghost use Rattle.std.specs.Prelude.{◌≡◌, IsSome};
 ghost use Rattle.span_event.specs.Event.{IsGood, IsTime};
 ghost use Rattle.span_keyed_tracks.specs.Flow.{HasFlowRoom};
-ghost use Rattle.span_ledger.specs.Told.{flow_point, flow_event};
+ghost use Rattle.span_journal.specs.Told.{flow_point, flow_event};
 ghost use Rattle.span_ledger.specs.Telling.{TellsFlow};
 
 use crate::answer_pair::{AnswerPair, twice};
-use crate::entry::Answer;
 use crate::event_key::{put_flow_key, take_flow_key};
 use span_event::{Event, Phase};
+use span_journal::Answer;
 use span_keyed_tracks::{FlowClosed, FlowKey, FlowTrack, TrackFault};
 use std::alloc::Global;
 

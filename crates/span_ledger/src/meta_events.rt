@@ -3,12 +3,12 @@ ghost use Rattle.std.specs.Prelude.{◌≡◌};
 ghost use Rattle.span_event.specs.declared.event.Phase.TheVariants.{Meta, Instant};
 ghost use Rattle.span_event.specs.Event.{IsGood};
 ghost use Rattle.span_keyed_tracks.specs.Meta.{MetaStandsFor, HasMetaRoom};
-ghost use Rattle.span_ledger.specs.Answers.{meta_answer};
+ghost use Rattle.span_journal.specs.Answers.{meta_answer};
 ghost use Rattle.span_ledger.specs.Telling.{Tells};
 
 use crate::answer_pair::{AnswerPair, twice};
-use crate::entry::Answer;
 use span_event::Event;
+use span_journal::Answer;
 use span_keyed_tracks::{MetaTrack, TrackFault};
 
 pub(crate) fn tell_meta(track: &mut MetaTrack, event: &Event) -> Result<AnswerPair, TrackFault>

@@ -3,13 +3,13 @@ ghost use Rattle.std.specs.Prelude.{◌≡◌, map, IfOk};
 ghost use Rattle.span_self_time.specs.Closed.{AreClosed, span_of};
 ghost use Rattle.span_track.specs.Nesting.{closed_spans};
 ghost use Rattle.span_ledger.specs.Named.{AreThreadSpans, named_span, named_spans};
-ghost use Rattle.span_ledger.specs.Timed.{self_times, timed_spans, with_self_times};
-ghost use Rattle.span_ledger.specs.Told.{thread_events};
+ghost use Rattle.span_journal.specs.Timed.{self_times, timed_spans, with_self_times};
+ghost use Rattle.span_journal.specs.Told.{thread_events};
 ghost use Rattle.span_ledger.specs.Tracked.{FollowsJournal};
 
-use crate::entry::Entry;
 use crate::tracks::Tracks;
 use span_event::{Text, Thread};
+use span_journal::Entry;
 use span_names::Names;
 use span_track::{ClosedSpan, ThreadTrack};
 use std::alloc::{AllocError, Global};
@@ -58,7 +58,7 @@ pub struct TimedSpan<'a> {
 }
 
 impl<'a> Model for TimedSpan<'a> {
-    ghost use Rattle.span_ledger.specs.Timed.{Timed};
+    ghost use Rattle.span_journal.specs.Timed.{Timed};
 
     ghost Value = { Timed };
 

@@ -6,15 +6,14 @@ ghost use Rattle.span_event.specs.Given.{Gives};
 ghost use Rattle.span_keyed_tracks.specs.Counters.{CounterStandsFor, series_rows};
 ghost use Rattle.span_keyed_tracks.specs.Keyed.{ascending};
 ghost use Rattle.span_ledger.specs.Grouped.{GroupsGrow, group_of, grouped_part, groups_of, with_series, with_thread};
-ghost use Rattle.span_ledger.specs.Parts.{process_parts, thread_part};
+ghost use Rattle.span_journal.specs.Parts.{process_parts, thread_part};
 ghost use Rattle.span_ledger.specs.Tracked.{FollowsJournal};
 
-use crate::entry::Entry;
 use crate::listed::Listed;
-use crate::rows::{ProcessRow, SpanRow, ThreadRow};
 use crate::track_rows::{process_row, thread_row, thread_span_rows};
 use crate::tracks::Tracks;
 use span_event::Thread;
+use span_journal::{Entry, ProcessRow, SpanRow, ThreadRow};
 use span_keyed_tracks::{InstantRow, SeriesRef, SeriesRow};
 use std::alloc::{AllocError, Global};
 use std::collections::{BTreeMap, BTreeSet};
@@ -31,7 +30,7 @@ pub struct ThreadPart {
 }
 
 impl Model for ThreadPart {
-    ghost use Rattle.span_ledger.specs.Parts.{ThreadRows};
+    ghost use Rattle.span_journal.specs.Parts.{ThreadRows};
 
     ghost Value = { ThreadRows };
 
@@ -50,7 +49,7 @@ pub struct ProcessPart {
 }
 
 impl Model for ProcessPart {
-    ghost use Rattle.span_ledger.specs.Parts.{ProcessRows};
+    ghost use Rattle.span_journal.specs.Parts.{ProcessRows};
 
     ghost Value = { ProcessRows };
 

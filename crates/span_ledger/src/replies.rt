@@ -3,18 +3,15 @@ ghost use Rattle.std.specs.Prelude.{◌≡◌, Some, None, IfOk};
 ghost use Rattle.span_event.specs.Given.{Gives};
 ghost use Rattle.span_keyed_tracks.specs.Meta.{MetaStandsFor, names_in};
 ghost use Rattle.span_names.specs.Numbering.{number_in};
-ghost use Rattle.span_ledger.specs.Replies.{reply_to, process_reply, thread_names_reply};
-ghost use Rattle.span_ledger.specs.Rows.{count_row};
+ghost use Rattle.span_journal.specs.Replies.{reply_to, process_reply, thread_names_reply};
+ghost use Rattle.span_journal.specs.Rows.{count_row};
 ghost use Rattle.span_ledger.specs.Tracked.{FollowsJournal, track_at};
 ghost use Rattle.span_ledger.specs.TrackRows.{track_reply, number_reply};
 
-use crate::entry::Entry;
-use crate::query::Query;
-use crate::reply::{BoxedReply, Reply, copy_of};
-use crate::rows::CountRow;
 use crate::thread_tracks::ThreadTracks;
 use crate::tracks::Tracks;
 use span_event::{Text, Thread};
+use span_journal::{BoxedReply, CountRow, Entry, Query, Reply, copy_of};
 use span_keyed_tracks::MetaTrack;
 use std::alloc::{AllocError, Global};
 

@@ -3,16 +3,14 @@ ghost use Rattle.span_event.specs.Text.{text_cmp};
 ghost use Rattle.std.specs.Prelude.{◌≡◌, ◌++◌, IfOk, OnOk, flat_map, nat_eq, option_copied, option_and_then, slice_get};
 ghost use Rattle.span_keyed_tracks.specs.Keyed.{ascending};
 ghost use Rattle.span_self_time.specs.Spans.{names_of};
-ghost use Rattle.span_ledger.specs.Rows.{process_row, process_rows, thread_row, thread_rows, thread_span_rows};
+ghost use Rattle.span_journal.specs.Rows.{process_row, process_rows, thread_row, thread_rows, thread_span_rows};
 ghost use Rattle.span_ledger.specs.Tracked.{FollowsJournal};
 ghost use Rattle.span_ledger.specs.TrackRows.{track_row, track_span_row, span_rows_of_track, track_span_rows, closed_names};
 
-use crate::entry::Entry;
-use crate::reply::copy_of;
-use crate::rows::{ProcessRow, SpanRow, ThreadRow};
 use crate::thread_tracks::ThreadTracks;
 use crate::tracks::Tracks;
 use span_event::{Text, Thread};
+use span_journal::{Entry, ProcessRow, SpanRow, ThreadRow, copy_of};
 use span_names::Names;
 use span_track::ThreadTrack;
 use std::alloc::{AllocError, Global};

@@ -1,6 +1,6 @@
 //! A ledger that is told worked examples, and what it then tells.
 ghost use Rattle.span_event.specs.Item.{IsGoodItem};
-ghost use Rattle.span_ledger.specs.Legal.{IsGoodOp};
+ghost use Rattle.span_journal.specs.Legal.{IsGoodOp};
 
 mod closed_spans;
 mod examples;
@@ -11,7 +11,8 @@ mod strict_names;
 mod timed_spans;
 
 use examples::{EXAMPLES, Example};
-use span_ledger::{Answer, Cause, Entry, Item, Ledger, Op, ProcessPart, ThreadPart};
+use span_journal::{Answer, Cause, Entry, Op};
+use span_ledger::{Item, Ledger, ProcessPart, ThreadPart};
 use span_read::read_items;
 use std::alloc::{AllocError, Global};
 use std::fmt::Debug;

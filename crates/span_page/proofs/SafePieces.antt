@@ -5,9 +5,9 @@ use Rattle.std.proofs.Math.Facts.{no_eqb}
 use Rattle.std.specs.List.{join_with_byte, starts_with}
 use Rattle.json.specs.Print.{escape}
 use Rattle.span_event.specs.declared.unit.Unit.{Unit}
-use Rattle.span_ledger.specs.declared.entry.Entry.{Entry}
+use Rattle.span_journal.specs.declared.entry.Entry.{Entry}
 use Rattle.span_report.specs.declared.stacks.label.SpanColumn.{SpanColumn}
-use Rattle.span_ledger.specs.Parts.{process_parts}
+use Rattle.span_journal.specs.Parts.{process_parts}
 use Rattle.span_report.specs.Lines.{json_text_of}
 use Rattle.span_collect.specs.declared.files.FileEnd.{FileEnd}
 use Rattle.span_collect.specs.declared.files.Input.{Input}

@@ -2,10 +2,10 @@
 use Rattle.std.proofs.Common.{◌≡◌, ℕ, ◌-◌, cond, nat_lt, List, [], ◌∷◌, ◌++◌, codes, refl, ap, ap₂, ◌∙◌}
 use Rattle.span_event.specs.declared.thread.Thread.{Thread}
 use Rattle.span_event.specs.declared.unit.Unit.{Unit}
-use Rattle.span_ledger.specs.declared.entry.Entry.{Entry}
-use Rattle.span_ledger.specs.Parts.{process_parts}
-use Rattle.span_ledger.specs.Topics.{AreAlike}
-use Rattle.span_ledger.proofs.Topics.Rows.{rows-follow}
+use Rattle.span_journal.specs.declared.entry.Entry.{Entry}
+use Rattle.span_journal.specs.Parts.{process_parts}
+use Rattle.span_journal.specs.Topics.{AreAlike}
+use Rattle.span_journal.proofs.Topics.Rows.{rows-follow}
 use Rattle.span_report.specs.Lines.{json_text_of}
 use Rattle.span_report.specs.declared.stacks.label.SpanColumn.{SpanColumn}
 use Rattle.span_report.specs.Stacks.Laws.{HaveSameStacks}

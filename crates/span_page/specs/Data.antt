@@ -3,8 +3,8 @@ use Rattle.std.specs.Prelude.{ℕ, ◌-◌, nat_lt, if◌then◌else◌, List, [
 use Rattle.std.specs.List.{join_with_byte}
 use Rattle.span_event.specs.declared.thread.Thread.{Thread}
 use Rattle.span_event.specs.declared.unit.Unit.{Unit}
-use Rattle.span_ledger.specs.declared.entry.Entry.{Entry}
-use Rattle.span_ledger.specs.Parts.{ProcessRows, ThreadRows, process_parts}
+use Rattle.span_journal.specs.declared.entry.Entry.{Entry}
+use Rattle.span_journal.specs.Parts.{ProcessRows, ThreadRows, process_parts}
 use Rattle.span_report.specs.Lines.{json_text_of}
 use Rattle.span_report.specs.Report.{report_of}
 use Rattle.span_report.specs.Stacks.Folded.{thread_frame_count, thread_stacks}

@@ -1,8 +1,8 @@
 -- The facts that hold of every page.
 use Rattle.std.specs.Prelude.{◌≡◌, ℕ, nat_eq, false, List, [], All}
 use Rattle.span_event.specs.declared.unit.Unit.{Unit}
-use Rattle.span_ledger.specs.declared.entry.Entry.{Entry}
-use Rattle.span_ledger.specs.Topics.{AreAlike}
+use Rattle.span_journal.specs.declared.entry.Entry.{Entry}
+use Rattle.span_journal.specs.Topics.{AreAlike}
 use Rattle.span_collect.specs.declared.files.FileEnd.{FileEnd}
 use Rattle.span_collect.specs.declared.files.Input.{Input}
 use Rattle.span_collect.specs.FaultLines.{end_lines}

@@ -1,7 +1,7 @@
 -- A page for a browser.
 use Rattle.std.specs.Prelude.{ℕ, List, ◌++◌}
 use Rattle.span_event.specs.declared.unit.Unit.{Unit}
-use Rattle.span_ledger.specs.declared.entry.Entry.{Entry}
+use Rattle.span_journal.specs.declared.entry.Entry.{Entry}
 use Rattle.span_collect.specs.declared.files.FileEnd.{FileEnd}
 use Rattle.span_collect.specs.declared.files.Input.{Input}
 use Rattle.span_report.specs.declared.stacks.label.SpanColumn.{SpanColumn}

@@ -1,7 +1,7 @@
 //! The data of a page.
 ghost use Rattle.std.specs.Prelude.{◌≡◌, ◌++◌, codes, length, map, string_bytes, IfOk, OnOk};
 ghost use Rattle.std.specs.List.{join_with_byte};
-ghost use Rattle.span_ledger.specs.Parts.{process_parts};
+ghost use Rattle.span_journal.specs.Parts.{process_parts};
 ghost use Rattle.span_report.specs.Lines.{json_text_of};
 ghost use Rattle.span_report.specs.Report.{report_of};
 ghost use Rattle.span_page.specs.Data.{all_stacks_json, data_of, graph_json, graphs_json, left_after, left_behind, names_json, rest_of, threads_in, threads_of};

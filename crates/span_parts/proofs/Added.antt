@@ -12,7 +12,7 @@ use Rattle.std.proofs.lemmas.List.{length-append}
 use Rattle.std.proofs.lemmas.List.Elements.{All-nil, All-push}
 use Rattle.json.specs.Print.{print}
 use Rattle.span_event.specs.Text.{Bytes}
-use Rattle.span_ledger.proofs.Sorted.{AllByRecursion-append}
+use Rattle.span_journal.proofs.Sorted.{AllByRecursion-append}
 use Rattle.span_table.specs.declared.column.Column.{Column}
 use Rattle.span_table.specs.declared.of.Of.{Of}
 use Rattle.span_table.specs.declared.table.Row.{Row}

@@ -8,10 +8,10 @@ use Rattle.span_keyed_tracks.specs.declared.keys.AsyncKey.{AsyncKey}
 use Rattle.span_keyed_tracks.specs.declared.keys.FlowKey.{FlowKey}
 use Rattle.span_keyed_tracks.specs.Async.{async_cmp}
 use Rattle.span_keyed_tracks.specs.Flow.{flow_cmp}
-use Rattle.span_ledger.specs.declared.entry.Entry.{Entry}
-use Rattle.span_ledger.specs.Parts.{process_part}
-use Rattle.span_ledger.specs.Rows.{async_rows, flow_rows}
-use Rattle.span_ledger.specs.Topics.{AreAlike, acts_on, of_async, of_flow, of_process}
+use Rattle.span_journal.specs.declared.entry.Entry.{Entry}
+use Rattle.span_journal.specs.Parts.{process_part}
+use Rattle.span_journal.specs.Rows.{async_rows, flow_rows}
+use Rattle.span_journal.specs.Topics.{AreAlike, acts_on, of_async, of_flow, of_process}
 use Rattle.span_report.specs.Lines.{async_line, flow_line}
 use Rattle.span_report.specs.Report.{process_lines, report_of}
 

@@ -12,10 +12,10 @@ use Rattle.span_keyed_tracks.specs.declared.async_track.AsyncRow.{AsyncRow}
 use Rattle.span_keyed_tracks.specs.declared.counter_track.SeriesRow.{SeriesRow}
 use Rattle.span_keyed_tracks.specs.declared.counter_track.SeriesTotals.{SeriesTotals}
 use Rattle.span_keyed_tracks.specs.declared.flow_track.FlowRow.{FlowRow}
-use Rattle.span_ledger.specs.declared.rows.CountRow.{CountRow}
-use Rattle.span_ledger.specs.declared.rows.ProcessRow.{ProcessRow}
-use Rattle.span_ledger.specs.declared.rows.ThreadRow.{ThreadRow}
-use Rattle.span_ledger.specs.declared.rows.SpanRow.{SpanRow}
+use Rattle.span_journal.specs.declared.rows.CountRow.{CountRow}
+use Rattle.span_journal.specs.declared.rows.ProcessRow.{ProcessRow}
+use Rattle.span_journal.specs.declared.rows.ThreadRow.{ThreadRow}
+use Rattle.span_journal.specs.declared.rows.SpanRow.{SpanRow}
 use Rattle.span_keyed_tracks.specs.declared.meta_track.instants.InstantRow.{InstantRow}
 
 -- the words with one blank between them, ended by a line feed

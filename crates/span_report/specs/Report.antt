@@ -1,10 +1,10 @@
 -- The report of a journal.
 use Rattle.std.specs.Prelude.{ℕ, List, ◌++◌, flat_map}
 use Rattle.span_event.specs.declared.unit.Unit.{Unit}
-use Rattle.span_ledger.specs.declared.entry.Entry.{Entry}
-use Rattle.span_ledger.specs.declared.rows.CountRow.{CountRow}
-use Rattle.span_ledger.specs.Parts.{ProcessRows, ThreadRows, process_parts}
-use Rattle.span_ledger.specs.Rows.{async_rows, count_row, flow_rows}
+use Rattle.span_journal.specs.declared.entry.Entry.{Entry}
+use Rattle.span_journal.specs.declared.rows.CountRow.{CountRow}
+use Rattle.span_journal.specs.Parts.{ProcessRows, ThreadRows, process_parts}
+use Rattle.span_journal.specs.Rows.{async_rows, count_row, flow_rows}
 use Rattle.span_report.specs.Lines.{async_line, count_line, counter_line, first_line, flow_line, instant_line, process_line, seals_line, span_line, thread_line, unit_line}
 
 -- the line of a thread, after it one for each of its names, and then one for each name and reach of its instants

@@ -13,6 +13,7 @@ pub use lines::{first_line, json_text, put_counts, put_seals, put_unit, shown_na
 pub use output::{WriteFault, write_bytes, write_made, write_report};
 pub use sink::{Sink, SinkFault};
 pub use span_event::Unit;
-pub use span_ledger::{CountRow, Ledger, Text};
+pub use span_journal::CountRow;
+pub use span_ledger::{Ledger, Text};
 pub use text::{head, report, report_text};
 pub use writer::Writer;

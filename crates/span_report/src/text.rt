@@ -1,11 +1,12 @@
 //! The text of a report: one walk over the processes of a ledger, their threads, and what each has.
 ghost use Rattle.std.specs.Prelude.{◌≡◌, ◌++◌, string_bytes, flat_map, OnOk, IfOk};
-ghost use Rattle.span_ledger.specs.Parts.{process_parts};
+ghost use Rattle.span_journal.specs.Parts.{process_parts};
 ghost use Rattle.span_report.specs.Report.{head_lines, process_lines, report_of, thread_lines};
 
 use crate::lines::{Printed, first_line, put_counts, put_seals, put_unit};
 use span_event::Unit;
-use span_ledger::{CountRow, Ledger, ProcessPart, ThreadPart};
+use span_journal::CountRow;
+use span_ledger::{Ledger, ProcessPart, ThreadPart};
 use std::alloc::{AllocError, Global};
 
 /// The text of the report of the ledger's journal, whose times are in this unit.

@@ -1,6 +1,6 @@
 -- The run of separate files is alike the one that they give where they are read in turn.
 use Rattle.std.proofs.Common.{◌≡◌, ◌<◌, List, [], ◌∷◌, refl}
-use Rattle.span_ledger.specs.declared.entry.Entry.{Entry}
+use Rattle.span_journal.specs.declared.entry.Entry.{Entry}
 use Rattle.span_collect.specs.declared.files.FileEnd.{FileEnd}
 use Rattle.span_collect.specs.declared.files.Input.{Input}
 use Rattle.span_collect.specs.declared.queries.Asked.{Asked}

@@ -1,7 +1,7 @@
 -- Files each of which is a run of its own, gathered.
 use Rattle.std.specs.Prelude.{◌≡◌, ℕ, ◌<◌, List, [], ◌∷◌, ◌++◌, length, map, flat_map, All, Option}
 use Rattle.span_event.specs.Text.{Bytes}
-use Rattle.span_ledger.specs.declared.entry.Entry.{Entry}
+use Rattle.span_journal.specs.declared.entry.Entry.{Entry}
 use Rattle.span_event.specs.declared.unit.Unit.{Unit}
 use Rattle.span_read.specs.Document.{doc}
 use Rattle.span_collect.specs.declared.files.FileEnd.{FileEnd}

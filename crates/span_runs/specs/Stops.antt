@@ -1,9 +1,9 @@
 -- Why files were not all gathered: what stopped, and what is said of the files before it.
 use Rattle.std.specs.Prelude.{◌≡◌, ◌⊎◌, List, [], ◌∷◌, ◌++◌, flat_map, All, Option, Some, None, Result, MatchResult}
 use Rattle.span_event.specs.Text.{Bytes}
-use Rattle.span_ledger.specs.Refusal.{code_of}
-use Rattle.span_ledger.specs.declared.entry.Entry.{Entry}
-use Rattle.span_ledger.specs.declared.refusal.Cause.{Cause}
+use Rattle.span_journal.specs.Refusal.{code_of}
+use Rattle.span_journal.specs.declared.entry.Entry.{Entry}
+use Rattle.span_journal.specs.declared.refusal.Cause.{Cause}
 use Rattle.span_collect.specs.declared.files.FileEnd.{FileEnd}
 use Rattle.span_collect.specs.declared.files.Input.{Input}
 use Rattle.span_collect.specs.declared.queries.Asked.{Asked}

@@ -15,10 +15,10 @@ use Rattle.span_keyed_tracks.specs.declared.async_track.AsyncRow.{AsyncRow}
 use Rattle.span_keyed_tracks.specs.Keyed.{Keyed, keys_in, steps_at}
 use Rattle.span_keyed_tracks.proofs.Keyed.{has_key}
 use Rattle.span_keyed_tracks.proofs.SameKeys.{step_keys}
-use Rattle.span_ledger.specs.declared.rows.CountRow.{CountRow}
-use Rattle.span_ledger.specs.Journal.{accepted}
-use Rattle.span_ledger.specs.Rows.{async_rows, thread_keys}
-use Rattle.span_ledger.specs.Timed.{Timed, timed_spans}
+use Rattle.span_journal.specs.declared.rows.CountRow.{CountRow}
+use Rattle.span_journal.specs.Journal.{accepted}
+use Rattle.span_journal.specs.Rows.{async_rows, thread_keys}
+use Rattle.span_journal.specs.Timed.{Timed, timed_spans}
 use Rattle.span_self_time.proofs.Mapped.{sum_by-map}
 use Rattle.span_table.specs.declared.column.Column.{Column}
 use Rattle.span_table.specs.declared.of.Of.{Of}

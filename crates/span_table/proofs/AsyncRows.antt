@@ -15,8 +15,8 @@ use Rattle.span_keyed_tracks.proofs.Keyed.{has_key, neither}
 use Rattle.span_keyed_tracks.proofs.SameKeys.{step_keys}
 use Rattle.span_keyed_tracks.proofs.Sorting.{ascending-permutation}
 use Rattle.span_keyed_tracks.proofs.Uses.{AreApart, is_eq-turned}
-use Rattle.span_ledger.specs.Rows.{async_rows}
-use Rattle.span_ledger.proofs.Sorted.{map-map}
+use Rattle.span_journal.specs.Rows.{async_rows}
+use Rattle.span_journal.proofs.Sorted.{map-map}
 use Rattle.span_self_time.proofs.Mapped.{sum_by-map}
 use Rattle.span_table.specs.declared.of.Of.TheVariants.{Async}
 use Rattle.span_table.specs.declared.sums.Sums.{Sums}

@@ -16,11 +16,11 @@ use Rattle.span_keyed_tracks.specs.Keyed.{steps_at}
 use Rattle.span_keyed_tracks.proofs.Keyed.{has_key, neither, same_from_is_eq}
 use Rattle.span_keyed_tracks.proofs.Sorted.{ascending-sorted}
 use Rattle.span_keyed_tracks.proofs.Uses.{is_eq-turned}
-use Rattle.span_ledger.specs.declared.rows.SpanRow.{SpanRow}
-use Rattle.span_ledger.specs.Journal.{accepted}
-use Rattle.span_ledger.specs.Rows.{span_row, span_rows, thread_keys, thread_span_rows}
-use Rattle.span_ledger.specs.Timed.{Timed, timed_in, timed_spans}
-use Rattle.span_ledger.specs.Told.{listed_by, thread_events}
+use Rattle.span_journal.specs.declared.rows.SpanRow.{SpanRow}
+use Rattle.span_journal.specs.Journal.{accepted}
+use Rattle.span_journal.specs.Rows.{span_row, span_rows, thread_keys, thread_span_rows}
+use Rattle.span_journal.specs.Timed.{Timed, timed_in, timed_spans}
+use Rattle.span_journal.specs.Told.{listed_by, thread_events}
 use Rattle.span_self_time.specs.Laws.{AreSpans}
 use Rattle.span_self_time.specs.Spans.{Span, busy_time}
 use Rattle.span_self_time.proofs.Mapped.{filter-map, sum_by-map}

@@ -11,11 +11,11 @@ use Rattle.span_event.specs.Args.{Arguments}
 use Rattle.span_event.specs.Text.{Bytes, same_text, text_cmp}
 use Rattle.span_event.proofs.Orders.{text_same}
 use Rattle.span_keyed_tracks.specs.Keyed.{Keyed, ascending, keys_in, steps_at}
-use Rattle.span_ledger.specs.Journal.{accepted}
-use Rattle.span_ledger.specs.Rows.{span_row, thread_keys, thread_span_rows}
-use Rattle.span_ledger.specs.Timed.{timed_in}
-use Rattle.span_ledger.specs.Told.{thread_events}
-use Rattle.span_ledger.proofs.Sorted.{map-map}
+use Rattle.span_journal.specs.Journal.{accepted}
+use Rattle.span_journal.specs.Rows.{span_row, thread_keys, thread_span_rows}
+use Rattle.span_journal.specs.Timed.{timed_in}
+use Rattle.span_journal.specs.Told.{thread_events}
+use Rattle.span_journal.proofs.Sorted.{map-map}
 use Rattle.span_self_time.specs.Spans.{Span, named}
 use Rattle.span_track.specs.Nesting.{closed_spans}
 use Rattle.span_table.specs.declared.column.Column.{Column}

@@ -22,10 +22,10 @@ use Rattle.span_keyed_tracks.proofs.Keyed.{same_from_is_eq}
 use Rattle.span_keyed_tracks.proofs.Matching.Closed.{closed_of-append, length-closed_with}
 use Rattle.span_keyed_tracks.proofs.Matching.Open.{opener-open_of, open_of-closes, open_of-closes_all, open_of-opens, open_of-other}
 use Rattle.span_keyed_tracks.proofs.Sorted.{ascending-sorted}
-use Rattle.span_ledger.specs.declared.entry.Entry.{Entry}
-use Rattle.span_ledger.specs.Journal.{Accepted, Act, accepted, accepted_by, accepted_from, placed}
-use Rattle.span_ledger.specs.Rows.{async_rows, span_row, span_rows, thread_keys, thread_span_rows}
-use Rattle.span_ledger.specs.Told.{async_events, listed_by, span_events, thread_events, to_async_at, to_thread_at, told}
+use Rattle.span_journal.specs.declared.entry.Entry.{Entry}
+use Rattle.span_journal.specs.Journal.{Accepted, Act, accepted, accepted_by, accepted_from, placed}
+use Rattle.span_journal.specs.Rows.{async_rows, span_row, span_rows, thread_keys, thread_span_rows}
+use Rattle.span_journal.specs.Told.{async_events, listed_by, span_events, thread_events, to_async_at, to_thread_at, told}
 use Rattle.span_ledger.proofs.Later.{filter_map-length}
 use Rattle.span_track.specs.Nesting.{ThreadEvent, closed_spans, open_spans, span_between, span_sealed, whole_span}
 use Rattle.span_track.proofs.Threads.Sealing.{length-sealed_spans}

@@ -6,7 +6,7 @@ use Rattle.span_keyed_tracks.specs.Keyed.{ascending}
 use Rattle.span_keyed_tracks.proofs.Keyed.{has_key}
 use Rattle.span_keyed_tracks.proofs.Sorted.{ascending-sorted}
 use Rattle.span_keyed_tracks.proofs.Sorting.{ascending-permutation}
-use Rattle.span_ledger.proofs.Sorted.{map-map}
+use Rattle.span_journal.proofs.Sorted.{map-map}
 use Rattle.span_report.specs.Lines.{first_line, unit_line}
 use Rattle.span_self_time.proofs.Mapped.{filter-map}
 use Rattle.span_table.specs.declared.sums.Sums.{Sums}

@@ -12,11 +12,11 @@ use Rattle.std.proofs.lemmas.List.{append-nil, get_or_default}
 use Rattle.std.proofs.lemmas.List.Elements.{recursion_from_All}
 use Rattle.span_event.specs.Text.{text_cmp}
 use Rattle.span_keyed_tracks.specs.Keyed.{ascending, entry_of}
-use Rattle.span_ledger.specs.declared.rows.SpanRow.{SpanRow}
-use Rattle.span_ledger.specs.Order.{span_order}
-use Rattle.span_ledger.specs.Rows.{span_rows}
+use Rattle.span_journal.specs.declared.rows.SpanRow.{SpanRow}
+use Rattle.span_journal.specs.Order.{span_order}
+use Rattle.span_journal.specs.Rows.{span_rows}
 use Rattle.span_ledger.proofs.RowOrder.{span_rows-sorted}
-use Rattle.span_ledger.proofs.Sorted.{map-map}
+use Rattle.span_journal.proofs.Sorted.{map-map}
 use Rattle.span_table.specs.declared.table.Row.{Row}
 use Rattle.span_table.specs.Adding.{keyed_row, keyed_rows}
 use Rattle.span_table.specs.Changes.{sums_at}

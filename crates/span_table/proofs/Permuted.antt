@@ -12,8 +12,8 @@ use Rattle.std.proofs.lemmas.List.Sorted.{IsPermutation-map, IsPermutation-sym, 
 use Rattle.span_keyed_tracks.specs.Keyed.{ascending}
 use Rattle.span_keyed_tracks.proofs.Keyed.{has_key, neither, same_from_is_eq}
 use Rattle.span_keyed_tracks.proofs.Uses.{is_eq-turned}
-use Rattle.span_ledger.proofs.Selected.{filter-ascending}
-use Rattle.span_ledger.proofs.Sorted.{AllByRecursion-append, AllByRecursion-map, ascending-sorted, map-map, map-sorted}
+use Rattle.span_journal.proofs.Selected.{filter-ascending}
+use Rattle.span_journal.proofs.Sorted.{AllByRecursion-append, AllByRecursion-map, ascending-sorted, map-map, map-sorted}
 use Rattle.span_ledger.proofs.Sorting.{ascending-permutation}
 use Rattle.span_table.specs.declared.of.Of.{Of}
 use Rattle.span_table.specs.declared.of.Of.TheVariants.{Spans, Async}

@@ -9,7 +9,7 @@ use Rattle.std.specs.declared.cmp.Ordering.{Ordering}
 use Rattle.std.specs.declared.cmp.Ordering.TheVariants.{Less, Equal, Greater}
 use Rattle.std.proofs.lemmas.Cmp.{back_total, nat_cmp_total, on_total, then_total}
 use Rattle.span_keyed_tracks.specs.Keyed.{Keyed, keys_in, steps_at}
-use Rattle.span_ledger.proofs.Sorted.{AllByRecursion-map, ascending-sorted, entries-sorted}
+use Rattle.span_journal.proofs.Sorted.{AllByRecursion-map, ascending-sorted, entries-sorted}
 use Rattle.span_table.specs.declared.sums.By.{By}
 use Rattle.span_table.specs.declared.sums.Sums.{Sums}
 use Rattle.span_table.specs.declared.table.Row.{Row}

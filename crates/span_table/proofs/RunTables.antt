@@ -19,9 +19,9 @@ use Rattle.span_keyed_tracks.specs.Keyed.{Keyed, entry_of, keys_in, steps_at}
 use Rattle.span_keyed_tracks.proofs.Keyed.{has_key}
 use Rattle.span_keyed_tracks.proofs.SameKeys.{All-ascending, step_keys}
 use Rattle.span_keyed_tracks.proofs.Uses.{is_eq-turned}
-use Rattle.span_ledger.specs.Journal.{accepted}
-use Rattle.span_ledger.specs.Rows.{async_rows, names_of, thread_keys}
-use Rattle.span_ledger.specs.Timed.{Timed, timed_spans}
+use Rattle.span_journal.specs.Journal.{accepted}
+use Rattle.span_journal.specs.Rows.{async_rows, names_of, thread_keys}
+use Rattle.span_journal.specs.Timed.{Timed, timed_spans}
 use Rattle.span_table.specs.declared.column.Column.{Column}
 use Rattle.span_table.specs.declared.column.Column.TheVariants.{Pid, Tid, Process, Thread as OfThread, Name, File, Cat, Scope, Id, Argument}
 use Rattle.span_table.specs.declared.of.Of.{Of}

@@ -9,18 +9,18 @@ use Rattle.span_event.specs.declared.args.ArgValue.TheVariants.{Words}
 use Rattle.span_event.specs.declared.thread.Thread.{Thread}
 use Rattle.span_event.specs.Args.{Arguments}
 use Rattle.span_event.specs.Text.{Bytes}
-use Rattle.span_ledger.specs.declared.entry.Entry.{Entry}
-use Rattle.span_ledger.specs.declared.rows.ThreadRow.{ThreadRow}
-use Rattle.span_ledger.specs.Journal.{accepted}
+use Rattle.span_journal.specs.declared.entry.Entry.{Entry}
+use Rattle.span_journal.specs.declared.rows.ThreadRow.{ThreadRow}
+use Rattle.span_journal.specs.Journal.{accepted}
 use Rattle.span_keyed_tracks.specs.declared.async_track.AsyncRow.{AsyncRow}
 use Rattle.span_keyed_tracks.specs.declared.keys.AsyncKey.{AsyncKey}
 use Rattle.span_keyed_tracks.specs.Meta.{Names}
-use Rattle.span_ledger.specs.Rows.{thread_keys, thread_row}
-use Rattle.span_ledger.specs.Timed.{Timed, timed_in, with_self_times}
-use Rattle.span_ledger.specs.Told.{thread_events}
-use Rattle.span_ledger.specs.Topics.{of_process}
-use Rattle.span_ledger.proofs.Topics.Rows.{rows-follow, values-follow}
-use Rattle.span_ledger.proofs.Topics.Threads.{thread_events-alike}
+use Rattle.span_journal.specs.Rows.{thread_keys, thread_row}
+use Rattle.span_journal.specs.Timed.{Timed, timed_in, with_self_times}
+use Rattle.span_journal.specs.Told.{thread_events}
+use Rattle.span_journal.specs.Topics.{of_process}
+use Rattle.span_journal.proofs.Topics.Rows.{rows-follow, values-follow}
+use Rattle.span_journal.proofs.Topics.Threads.{thread_events-alike}
 use Rattle.span_self_time.specs.Positions.{Rises, renumbered_span}
 use Rattle.span_self_time.specs.Spans.{Span, length_of, outranks}
 use Rattle.span_self_time.proofs.Mapped.{self_time-map}

@@ -7,7 +7,7 @@ use Rattle.std.specs.List.Sorted.{IsStrictlySortedBy}
 use Rattle.std.specs.Ordering.{eq_by_cmp, is_eq, nat_cmp}
 use Rattle.std.specs.declared.cmp.Ordering.TheVariants.{Less}
 use Rattle.std.proofs.lemmas.Cmp.{back_total, nat_cmp_total, on_total, then_total}
-use Rattle.span_ledger.proofs.Sorted.{AllByRecursion-map, ascending-sorted, map-map, map-sorted}
+use Rattle.span_journal.proofs.Sorted.{AllByRecursion-map, ascending-sorted, map-map, map-sorted}
 use Rattle.span_table.specs.declared.sums.By.{By}
 use Rattle.span_table.specs.KeyLaws.{key_cmp_total}
 use Rattle.span_table.specs.Keys.{TableKey, key_cmp}

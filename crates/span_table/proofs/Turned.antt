@@ -12,7 +12,7 @@ use Rattle.std.proofs.lemmas.List.{length-map}
 use Rattle.std.proofs.lemmas.List.Sorted.{Contains-permutation, IsPermutation-append_comm, IsPermutation-map}
 use Rattle.span_keyed_tracks.specs.Keyed.{ascending}
 use Rattle.span_keyed_tracks.proofs.SameKeys.{ascending-members}
-use Rattle.span_ledger.proofs.Sorted.{map-map}
+use Rattle.span_journal.proofs.Sorted.{map-map}
 use Rattle.span_self_time.proofs.Mapped.{filter-map}
 use Rattle.span_table.specs.declared.of.Of.{Of}
 use Rattle.span_table.specs.declared.of.Of.TheVariants.{Spans, Async}

@@ -16,11 +16,11 @@ use Rattle.span_keyed_tracks.specs.Matching.{opens, closes, closes_all, other, c
 use Rattle.span_keyed_tracks.specs.Meta.{names_thread}
 use Rattle.span_keyed_tracks.proofs.Keyed.{has_key, neither}
 use Rattle.span_keyed_tracks.proofs.Uses.{is_eq-turned}
-use Rattle.span_ledger.specs.declared.entry.Entry.{Entry}
-use Rattle.span_ledger.specs.Journal.{Accepted, Act, a_seal, accepted, an_event}
-use Rattle.span_ledger.specs.Rows.{thread_keys}
-use Rattle.span_ledger.specs.Told.{SpanEvent, is_of_span, listed_by, lists_thread, span_event, span_events, thread_events, to_thread_at, told_at, told_by}
-use Rattle.span_ledger.proofs.Sorted.{AllByRecursion-append}
+use Rattle.span_journal.specs.declared.entry.Entry.{Entry}
+use Rattle.span_journal.specs.Journal.{Accepted, Act, a_seal, accepted, an_event}
+use Rattle.span_journal.specs.Rows.{thread_keys}
+use Rattle.span_journal.specs.Told.{SpanEvent, is_of_span, listed_by, lists_thread, span_event, span_events, thread_events, to_thread_at, told_at, told_by}
+use Rattle.span_journal.proofs.Sorted.{AllByRecursion-append}
 use Rattle.span_track.specs.Nesting.{ThreadEvent, closed_spans, span_between, span_sealed, whole_span}
 use Rattle.span_table.specs.Laws.{thread_key}
 use Rattle.span_table.proofs.Alike.{has_key-ascending}

@@ -2,9 +2,9 @@
 use Rattle.std.specs.Prelude.{◌≡◌, ℕ, ◌+◌, ◌≤◌, List, [], ◌++◌, All, map, slice_get, Option, Some, None}
 use Rattle.std.specs.Ordering.{eq_by_cmp}
 use Rattle.span_keyed_tracks.specs.Keyed.{Keyed}
-use Rattle.span_ledger.specs.declared.rows.SpanRow.{SpanRow}
-use Rattle.span_ledger.specs.Order.{thread_of_span}
-use Rattle.span_ledger.specs.Rows.{span_rows}
+use Rattle.span_journal.specs.declared.rows.SpanRow.{SpanRow}
+use Rattle.span_journal.specs.Order.{thread_of_span}
+use Rattle.span_journal.specs.Rows.{span_rows}
 use Rattle.std.specs.Map.{lookup, values_of}
 use Rattle.span_table.specs.declared.column.Column.{Column}
 use Rattle.span_table.specs.declared.sums.Sums.{Sums}

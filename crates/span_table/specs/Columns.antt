@@ -8,8 +8,8 @@ use Rattle.span_event.specs.Args.{Arguments, value_of}
 use Rattle.span_event.specs.Text.{Bytes}
 use Rattle.span_keyed_tracks.specs.declared.keys.AsyncKey.{AsyncKey}
 use Rattle.span_keyed_tracks.specs.Meta.{Holder}
-use Rattle.span_ledger.specs.declared.entry.Entry.{Entry}
-use Rattle.span_ledger.specs.Rows.{names_of}
+use Rattle.span_journal.specs.declared.entry.Entry.{Entry}
+use Rattle.span_journal.specs.Rows.{names_of}
 use Rattle.span_report.specs.Lines.{with_home}
 use Rattle.span_table.specs.declared.column.Column.{Column}
 use Rattle.span_table.specs.declared.column.Column.TheVariants.{Pid, Tid, Process, Thread as OfThread, Name, File, Cat, Scope, Id, Argument}

@@ -3,7 +3,7 @@ use Rattle.std.specs.Prelude.{ℕ, ◌-◌, ◌==◌, if◌then◌else◌, Bool,
 use Rattle.std.specs.Ordering.{match_ordering, nat_cmp}
 use Rattle.span_event.specs.Text.{Bytes}
 use Rattle.span_event.specs.declared.unit.Unit.{Unit}
-use Rattle.span_ledger.specs.declared.rows.CountRow.{CountRow}
+use Rattle.span_journal.specs.declared.rows.CountRow.{CountRow}
 use Rattle.span_report.specs.Lines.{count_line, first_line, line_of, right_in, seals_line, unit_line}
 use Rattle.span_table.specs.declared.column.Column.{Column}
 use Rattle.span_table.specs.declared.heads.Head.{Head}

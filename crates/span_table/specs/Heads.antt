@@ -1,6 +1,6 @@
 -- How great the numbers of a head are.
 use Rattle.std.specs.Prelude.{ℕ, ◌≤◌}
-use Rattle.span_ledger.specs.declared.rows.CountRow.{CountRow}
+use Rattle.span_journal.specs.declared.rows.CountRow.{CountRow}
 use Rattle.span_table.specs.declared.heads.Head.{Head}
 
 -- no count is greater than this

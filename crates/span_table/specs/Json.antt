@@ -7,7 +7,7 @@ use Rattle.span_event.specs.declared.args.ArgValue.TheVariants.{Nil, Flag, Whole
 use Rattle.span_event.specs.Text.{Bytes}
 use Rattle.span_event.specs.declared.unit.Unit.{Unit}
 use Rattle.span_event.specs.declared.unit.Unit.TheVariants.{Microseconds, Nanoseconds}
-use Rattle.span_ledger.specs.declared.rows.CountRow.{CountRow}
+use Rattle.span_journal.specs.declared.rows.CountRow.{CountRow}
 use Rattle.span_report.specs.Lines.{json_text_of}
 use Rattle.span_table.specs.declared.changes.Both.{Both}
 use Rattle.span_table.specs.declared.column.Column.{Column}

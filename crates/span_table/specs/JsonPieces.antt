@@ -7,7 +7,7 @@ use Rattle.span_table.specs.declared.column.Column.{Column}
 use Rattle.span_table.specs.declared.of.Of.{Of}
 use Rattle.span_table.specs.declared.of.Of.TheVariants.{Spans, Async}
 use Rattle.span_table.specs.Columns.{Value}
-use Rattle.span_ledger.specs.declared.rows.CountRow.{CountRow}
+use Rattle.span_journal.specs.declared.rows.CountRow.{CountRow}
 use Rattle.span_table.specs.declared.sums.Sums.{Sums}
 use Rattle.span_table.specs.declared.heads.Head.{Head}
 use Rattle.span_table.specs.Json.{of_member, sums_members, unit_member, value_member, with_commas}

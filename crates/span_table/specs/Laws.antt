@@ -8,10 +8,10 @@ use Rattle.span_event.specs.declared.thread.Thread.{Thread}
 use Rattle.span_keyed_tracks.specs.declared.async_track.AsyncRow.{AsyncRow}
 use Rattle.span_self_time.specs.Laws.{AreSpans}
 use Rattle.span_track.specs.Nesting.{closed_spans}
-use Rattle.span_ledger.specs.declared.rows.SpanRow.{SpanRow}
-use Rattle.span_ledger.specs.Rows.{async_rows, span_rows, thread_row}
-use Rattle.span_ledger.specs.Told.{thread_events}
-use Rattle.span_ledger.specs.Topics.{AreAlike}
+use Rattle.span_journal.specs.declared.rows.SpanRow.{SpanRow}
+use Rattle.span_journal.specs.Rows.{async_rows, span_rows, thread_row}
+use Rattle.span_journal.specs.Told.{thread_events}
+use Rattle.span_journal.specs.Topics.{AreAlike}
 use Rattle.span_report.specs.Lines.{with_home}
 use Rattle.span_table.specs.declared.column.Column.{Column}
 use Rattle.span_table.specs.declared.column.Column.TheVariants.{Pid, Tid, Name, Cat, Scope, Id}

@@ -4,10 +4,10 @@ use Rattle.std.specs.List.Sorted.{IsStrictlySortedBy}
 use Rattle.span_event.specs.declared.thread.Thread.{Thread}
 use Rattle.span_keyed_tracks.specs.declared.async_track.AsyncRow.{AsyncRow}
 use Rattle.span_keyed_tracks.specs.Keyed.{Keyed, entries_in}
-use Rattle.span_ledger.specs.declared.rows.CountRow.{CountRow}
-use Rattle.span_ledger.specs.Journal.{accepted}
-use Rattle.span_ledger.specs.Rows.{async_rows, count_row, thread_keys}
-use Rattle.span_ledger.specs.Timed.{Timed, timed_spans}
+use Rattle.span_journal.specs.declared.rows.CountRow.{CountRow}
+use Rattle.span_journal.specs.Journal.{accepted}
+use Rattle.span_journal.specs.Rows.{async_rows, count_row, thread_keys}
+use Rattle.span_journal.specs.Timed.{Timed, timed_spans}
 use Rattle.span_self_time.specs.Spans.{length_of}
 use Rattle.span_table.specs.declared.column.Column.{Column}
 use Rattle.span_table.specs.declared.of.Of.{Of}

@@ -6,7 +6,7 @@ use Rattle.span_event.specs.declared.args.ArgValue.{ArgValue}
 use Rattle.span_event.specs.declared.args.ArgValue.TheVariants.{Nil, Flag, Whole, Words, Other}
 use Rattle.span_event.specs.declared.unit.Unit.{Unit}
 use Rattle.span_event.specs.declared.unit.Unit.TheVariants.{Microseconds, Nanoseconds}
-use Rattle.span_ledger.specs.declared.rows.CountRow.{CountRow}
+use Rattle.span_journal.specs.declared.rows.CountRow.{CountRow}
 use Rattle.span_table.specs.declared.column.Column.{Column}
 use Rattle.span_table.specs.declared.heads.Head.{Head}
 use Rattle.span_table.specs.declared.of.Of.{Of}

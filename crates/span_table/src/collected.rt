@@ -6,8 +6,8 @@ ghost use Rattle.span_table.specs.Collected.{AllWithin, GrowsBy, Takes, keyed_sp
 ghost use Rattle.std.specs.List.{list_any};
 ghost use Rattle.span_table.specs.Columns.{async_value_at, is_argument, value_at};
 ghost use Rattle.span_event.specs.Time.{distance};
-ghost use Rattle.span_ledger.specs.Order.{thread_of_row};
-ghost use Rattle.span_ledger.specs.Timed.{timed_spans};
+ghost use Rattle.span_journal.specs.Order.{thread_of_row};
+ghost use Rattle.span_journal.specs.Timed.{timed_spans};
 ghost use Rattle.span_table.specs.Tables.{RowsRise, async_sums, keyed_async, keyed_span, row_of, run_sums, span_sums, thread_sums};
 
 use crate::column::Column;
@@ -18,7 +18,8 @@ use crate::run::LedgerRun;
 use crate::sums::Sums;
 use span_event::{Args, Text, Thread};
 use span_keyed_tracks::{AsyncKey, AsyncRow};
-use span_ledger::{SpanRow, ThreadRow, TimedSpan};
+use span_journal::{SpanRow, ThreadRow};
+use span_ledger::TimedSpan;
 use std::alloc::{AllocError, Global};
 
 /// Adds the sums of a run by columns.

@@ -4,7 +4,7 @@ ghost use Rattle.span_table.specs.Heads.{AreCountsWithin, IsHeadWithin};
 ghost use Rattle.span_table.specs.Tables.{counts_together, head_of, heads_together};
 
 use crate::run::LedgerRun;
-use span_ledger::CountRow;
+use span_journal::CountRow;
 use std::marker::Model;
 
 /// How many entries of each kind the journals of runs hold.
@@ -23,7 +23,7 @@ pub struct HeadCounts {
 }
 
 impl Model for HeadCounts {
-    ghost use Rattle.span_ledger.specs.declared.rows.CountRow.{CountRow};
+    ghost use Rattle.span_journal.specs.declared.rows.CountRow.{CountRow};
 
     ghost Value = { CountRow };
 

@@ -7,7 +7,7 @@ ghost use Rattle.span_table.specs.Tables.{sums_of_async, sums_together};
 
 use crate::sum::Sum;
 use span_keyed_tracks::AsyncRow;
-use span_ledger::SpanRow;
+use span_journal::SpanRow;
 
 /// How many closed spans, their lengths, and their self times together; and of asynchronous spans how many are open, and how many
 /// points there are. These have no self time. Times are ticks: microseconds or nanoseconds, as the runs count.

@@ -1,8 +1,9 @@
 //! Ledgers that are told the elements of a text.
-ghost use Rattle.span_ledger.specs.Legal.{IsGoodOp};
+ghost use Rattle.span_journal.specs.Legal.{IsGoodOp};
 ghost use Rattle.span_track.specs.Thread.{IsSealTime};
 
-use span_ledger::{Ledger, Op};
+use span_journal::Op;
+use span_ledger::Ledger;
 use span_read::read_items;
 use std::alloc::Global;
 

@@ -1,6 +1,6 @@
 -- What is left of a comparison that was not written whole.
 use Rattle.std.proofs.Common.{◌<◌, ◌≤◌, List, length, take, subst}
-use Rattle.span_ledger.specs.declared.entry.Entry.{Entry}
+use Rattle.span_journal.specs.declared.entry.Entry.{Entry}
 use Rattle.span_event.specs.Text.{Bytes}
 use Rattle.span_report.specs.Sink.{SinkState, Fails}
 use Rattle.span_collect.specs.declared.files.Input.{Input}

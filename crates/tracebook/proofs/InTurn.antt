@@ -1,7 +1,7 @@
 -- What is printed of separate files is what they give where they are read in turn.
 use Rattle.std.proofs.Common.{◌≡◌, ◌<◌, false, List, [], sym, ap, subst, ◌∙◌, arith}
-use Rattle.span_ledger.specs.declared.entry.Entry.{Entry}
-use Rattle.span_ledger.specs.Topics.{AreAlike}
+use Rattle.span_journal.specs.declared.entry.Entry.{Entry}
+use Rattle.span_journal.specs.Topics.{AreAlike}
 use Rattle.span_report.proofs.SameReports.{report_of-alike}
 use Rattle.span_report.proofs.StackLemmas.SameStacks.{stacks-alike}
 use Rattle.span_collect.specs.declared.files.FileEnd.{FileEnd}

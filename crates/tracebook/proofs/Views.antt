@@ -2,7 +2,7 @@
 use Rattle.std.proofs.Common.{◌≡◌, ◌<◌, List, [], ◌∙◌}
 use Rattle.std.specs.Global.{Vec}
 use Rattle.span_event.specs.declared.unit.Unit.{Unit}
-use Rattle.span_ledger.specs.declared.entry.Entry.{Entry}
+use Rattle.span_journal.specs.declared.entry.Entry.{Entry}
 use Rattle.span_report.specs.declared.output.WriteFault.{WriteFault}
 use Rattle.span_report.specs.declared.output.WriteFault.TheVariants.{Memory, Output}
 use Rattle.span_report.specs.declared.stacks.label.SpanColumn.{SpanColumn}

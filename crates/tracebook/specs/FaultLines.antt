@@ -2,8 +2,8 @@
 use Rattle.std.specs.Prelude.{◌≡◌, ◌≢◌, ℕ, ◌≤◌, ◌⊎◌, List, [], ◌∷◌, ◌++◌, length, take, codes, Option, Some, None}
 use Rattle.span_event.specs.declared.fault.Fault.TheVariants.{FileCount, Memory, NotOpened, NotTable, OtherColumns}
 use Rattle.span_event.specs.Fault.{number_of}
-use Rattle.span_ledger.specs.Refusal.{code_of}
-use Rattle.span_ledger.specs.declared.refusal.Cause.{Cause}
+use Rattle.span_journal.specs.Refusal.{code_of}
+use Rattle.span_journal.specs.declared.refusal.Cause.{Cause}
 use Rattle.span_report.specs.Sink.{SinkState, TakesBytes, Fails}
 use Rattle.span_collect.specs.declared.files.Input.{Input}
 use Rattle.span_collect.specs.declared.runs.RunEnd.{RunEnd}

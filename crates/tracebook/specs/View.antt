@@ -3,7 +3,7 @@ use Rattle.std.specs.Prelude.{◌≡◌, ℕ, ◌<◌, ◌≤◌, ⊤, false, Li
 use Rattle.span_event.specs.declared.fault.Fault.TheVariants.{TooGreat as TooGreatFault, StacksTooLarge as StacksFault}
 use Rattle.span_event.specs.Fault.{number_of}
 use Rattle.span_event.specs.declared.unit.Unit.{Unit}
-use Rattle.span_ledger.specs.declared.entry.Entry.{Entry}
+use Rattle.span_journal.specs.declared.entry.Entry.{Entry}
 use Rattle.span_report.specs.Report.{report_of}
 use Rattle.span_collect.specs.Refusals.Text.{refusals_of}
 use Rattle.span_report.specs.declared.output.WriteFault.{WriteFault}

@@ -2,7 +2,8 @@
 
 use span_collect::fault_word;
 use span_event::{Fault, Unit};
-use span_ledger::{Answer, Ledger};
+use span_journal::Answer;
+use span_ledger::Ledger;
 use span_runs::Reason;
 use std::alloc::{AllocError, Global};
 use std::collections::BTreeMap;

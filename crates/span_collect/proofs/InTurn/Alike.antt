@@ -6,11 +6,11 @@ use Rattle.span_event.specs.declared.event.Event.{Event}
 use Rattle.span_event.specs.declared.item.Item.{Item}
 use Rattle.span_event.specs.declared.unit.Unit.{Unit}
 use Rattle.span_read.specs.Document.{doc}
-use Rattle.span_ledger.specs.declared.entry.Entry.{Entry}
-use Rattle.span_ledger.specs.declared.entry.Op.TheVariants.{One}
-use Rattle.span_ledger.specs.declared.query.Query.{Query}
-use Rattle.span_ledger.specs.Journal.{an_event}
-use Rattle.span_ledger.specs.Topics.{Topic, AnswersFollowFromActs, acts_on, concerns}
+use Rattle.span_journal.specs.declared.entry.Entry.{Entry}
+use Rattle.span_journal.specs.declared.entry.Op.TheVariants.{One}
+use Rattle.span_journal.specs.declared.query.Query.{Query}
+use Rattle.span_journal.specs.Journal.{an_event}
+use Rattle.span_journal.specs.Topics.{Topic, AnswersFollowFromActs, acts_on, concerns}
 use Rattle.span_share.specs.Callers.{calls}
 use Rattle.span_share.specs.Entries.{caller_of}
 use Rattle.span_collect.specs.declared.files.Input.{Input}

@@ -4,15 +4,15 @@ use Rattle.std.specs.List.{AllByRecursion}
 use Rattle.std.proofs.lemmas.List.{map_push}
 use Rattle.span_event.specs.declared.item.Item.{Item}
 use Rattle.span_event.specs.declared.item.Item.TheVariants.{Good, Bad, Other}
-use Rattle.span_ledger.specs.declared.entry.Answer.{Answer}
-use Rattle.span_ledger.specs.declared.entry.Entry.{Entry}
-use Rattle.span_ledger.specs.declared.entry.Op.{Op}
-use Rattle.span_ledger.specs.declared.entry.Op.TheVariants.{One}
-use Rattle.span_ledger.specs.Answers.{answer_to}
-use Rattle.span_ledger.specs.Journal.{Act, an_event, act_in}
-use Rattle.span_ledger.specs.Legal.{IsLegal, next_entry, sequential}
-use Rattle.span_ledger.specs.Topics.{Topic, AnswersFollowFromActs, acts_on, concerns}
-use Rattle.span_ledger.proofs.LegalJournals.{IsLegalAfter, first_later}
+use Rattle.span_journal.specs.declared.entry.Answer.{Answer}
+use Rattle.span_journal.specs.declared.entry.Entry.{Entry}
+use Rattle.span_journal.specs.declared.entry.Op.{Op}
+use Rattle.span_journal.specs.declared.entry.Op.TheVariants.{One}
+use Rattle.span_journal.specs.Answers.{answer_to}
+use Rattle.span_journal.specs.Journal.{Act, an_event, act_in}
+use Rattle.span_journal.specs.Legal.{IsLegal, next_entry, sequential}
+use Rattle.span_journal.specs.Topics.{Topic, AnswersFollowFromActs, acts_on, concerns}
+use Rattle.span_journal.proofs.LegalJournals.{IsLegalAfter, first_later}
 use Rattle.span_ledger.proofs.Taking.{answer_to-bad, answer_to-other}
 use Rattle.span_share.specs.Callers.{calls}
 use Rattle.span_share.specs.Entries.{caller_of}

@@ -5,19 +5,19 @@ use Rattle.std.specs.List.{AllByRecursion, AllZip, count_by}
 use Rattle.std.proofs.lemmas.List.Elements.{All-filter}
 use Rattle.std.proofs.lemmas.List.Sums.{length-filter, sum_by-cons}
 use Rattle.span_event.specs.declared.unit.Unit.{Unit}
-use Rattle.span_ledger.specs.declared.entry.Answer.{Answer}
-use Rattle.span_ledger.specs.declared.entry.Answer.TheVariants.{Reply}
-use Rattle.span_ledger.specs.declared.entry.Entry.{Entry}
-use Rattle.span_ledger.specs.declared.entry.Op.{Op}
-use Rattle.span_ledger.specs.declared.kind.Kind.{Kind}
-use Rattle.span_ledger.specs.declared.kind.Kind.TheVariants.{Accepted as accepted_kind, Refused as refused_kind, Skipped as skipped_kind, Replied as replied_kind, Sealed as sealed_kind}
-use Rattle.span_ledger.specs.declared.query.Query.{Query}
-use Rattle.span_ledger.specs.declared.reply.Reply.{Reply as ReplyTo}
-use Rattle.span_ledger.specs.Answers.{answer_to}
-use Rattle.span_ledger.specs.Kind.{is_of, same_kind}
-use Rattle.span_ledger.specs.Replies.{reply_to}
-use Rattle.span_ledger.specs.Rows.{count_of, count_row}
-use Rattle.span_ledger.specs.Topics.{AnswersFollowFromActs}
+use Rattle.span_journal.specs.declared.entry.Answer.{Answer}
+use Rattle.span_journal.specs.declared.entry.Answer.TheVariants.{Reply}
+use Rattle.span_journal.specs.declared.entry.Entry.{Entry}
+use Rattle.span_journal.specs.declared.entry.Op.{Op}
+use Rattle.span_journal.specs.declared.kind.Kind.{Kind}
+use Rattle.span_journal.specs.declared.kind.Kind.TheVariants.{Accepted as accepted_kind, Refused as refused_kind, Skipped as skipped_kind, Replied as replied_kind, Sealed as sealed_kind}
+use Rattle.span_journal.specs.declared.query.Query.{Query}
+use Rattle.span_journal.specs.declared.reply.Reply.{Reply as ReplyTo}
+use Rattle.span_journal.specs.Answers.{answer_to}
+use Rattle.span_journal.specs.Kind.{is_of, same_kind}
+use Rattle.span_journal.specs.Replies.{reply_to}
+use Rattle.span_journal.specs.Rows.{count_of, count_row}
+use Rattle.span_journal.specs.Topics.{AnswersFollowFromActs}
 use Rattle.span_ledger.proofs.Taking.{answer_to-query}
 use Rattle.span_share.specs.Callers.{AreDistinct, calls}
 use Rattle.span_share.specs.Entries.{caller_of}

@@ -3,11 +3,11 @@
 use Rattle.std.proofs.Common.{◌≡◌, ◌≢◌, ℕ, ◌+◌, List, [], ◌∷◌, ◌++◌, Bool, true, false, cond, eqb, eq-eqb, map, refl, ap, ◌∙◌}
 use Rattle.std.specs.Prelude.{Option, Some, None, filter, filter_map}
 use Rattle.std.specs.List.{AllByRecursion, cons_option}
-use Rattle.span_ledger.specs.declared.entry.Answer.{Answer}
-use Rattle.span_ledger.specs.declared.entry.Entry.{Entry}
-use Rattle.span_ledger.specs.declared.entry.Op.{Op}
-use Rattle.span_ledger.specs.Journal.{Act, accepted_by, accepted_from, placed}
-use Rattle.span_ledger.specs.Topics.{Topic, acts_on, concerns}
+use Rattle.span_journal.specs.declared.entry.Answer.{Answer}
+use Rattle.span_journal.specs.declared.entry.Entry.{Entry}
+use Rattle.span_journal.specs.declared.entry.Op.{Op}
+use Rattle.span_journal.specs.Journal.{Act, accepted_by, accepted_from, placed}
+use Rattle.span_journal.specs.Topics.{Topic, acts_on, concerns}
 use Rattle.span_share.specs.Callers.{calls}
 use Rattle.span_share.specs.Entries.{caller_of}
 

@@ -4,8 +4,8 @@ use Rattle.std.specs.Prelude.{flat_map}
 use Rattle.std.specs.List.{list_any, range_with_len}
 use Rattle.span_event.specs.declared.unit.Unit.{Unit}
 use Rattle.span_read.specs.Document.{doc}
-use Rattle.span_ledger.specs.declared.entry.Answer.{Answer}
-use Rattle.span_ledger.specs.declared.entry.Entry.{Entry}
+use Rattle.span_journal.specs.declared.entry.Answer.{Answer}
+use Rattle.span_journal.specs.declared.entry.Entry.{Entry}
 use Rattle.span_collect.specs.declared.files.FileEnd.{FileEnd}
 use Rattle.span_collect.specs.declared.files.FileEnd.TheVariants.{Read, Refused, Stopped, NotStarted}
 use Rattle.span_collect.specs.declared.files.Input.{Input}

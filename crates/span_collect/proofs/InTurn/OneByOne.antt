@@ -6,11 +6,11 @@ use Rattle.std.proofs.lemmas.List.{map-append}
 use Rattle.std.proofs.lemmas.List.Elements.{All-cons, All-nil, filter-append}
 use Rattle.span_event.specs.declared.unit.Unit.{Unit}
 use Rattle.span_read.specs.Document.{doc}
-use Rattle.span_ledger.specs.declared.entry.Entry.{Entry}
-use Rattle.span_ledger.specs.declared.entry.Op.{Op}
-use Rattle.span_ledger.specs.declared.query.Query.{Query}
-use Rattle.span_ledger.specs.Legal.{calls_of}
-use Rattle.span_ledger.proofs.LegalJournals.{sequential-legal}
+use Rattle.span_journal.specs.declared.entry.Entry.{Entry}
+use Rattle.span_journal.specs.declared.entry.Op.{Op}
+use Rattle.span_journal.specs.declared.query.Query.{Query}
+use Rattle.span_journal.specs.Legal.{calls_of}
+use Rattle.span_journal.proofs.LegalJournals.{sequential-legal}
 use Rattle.span_share.specs.Callers.{AreDistinct, calls}
 use Rattle.span_share.specs.Entries.{caller_of}
 use Rattle.span_share.proofs.CallersLists.{Contains-here, Contains-later}

@@ -6,19 +6,18 @@ use Rattle.std.specs.List.{AllByRecursion, cons_option}
 use Rattle.std.proofs.lemmas.List.{map_push}
 use Rattle.std.proofs.lemmas.List.Elements.{filter-append, filter_map-append}
 use Rattle.span_track.specs.Nesting.{latest_time}
-use Rattle.span_ledger.specs.declared.entry.Answer.{Answer}
-use Rattle.span_ledger.specs.declared.entry.Entry.{Entry}
-use Rattle.span_ledger.specs.declared.entry.Op.{Op}
-use Rattle.span_ledger.specs.declared.entry.Op.TheVariants.{Seal}
-use Rattle.span_ledger.specs.declared.rows.ThreadRow.{ThreadRow}
-use Rattle.span_ledger.specs.Answers.{answer_to}
-use Rattle.span_ledger.specs.Journal.{Act, a_seal, act_in}
-use Rattle.span_ledger.specs.Legal.{next_entry}
-use Rattle.span_ledger.specs.Order.{thread_of_row}
-use Rattle.span_ledger.specs.Rows.{thread_rows}
-use Rattle.span_ledger.specs.Told.{thread_events}
-use Rattle.span_ledger.specs.Topics.{AnswersFollowFromActs, AreAlike, RowsFollowFromActs, Topic, acts_on, concerns}
-use Rattle.span_ledger.specs.Tracked.{counted}
+use Rattle.span_journal.specs.declared.entry.Answer.{Answer}
+use Rattle.span_journal.specs.declared.entry.Entry.{Entry}
+use Rattle.span_journal.specs.declared.entry.Op.{Op}
+use Rattle.span_journal.specs.declared.entry.Op.TheVariants.{Seal}
+use Rattle.span_journal.specs.declared.rows.ThreadRow.{ThreadRow}
+use Rattle.span_journal.specs.Answers.{answer_to}
+use Rattle.span_journal.specs.Journal.{Act, a_seal, act_in}
+use Rattle.span_journal.specs.Legal.{next_entry}
+use Rattle.span_journal.specs.Order.{thread_of_row}
+use Rattle.span_journal.specs.Rows.{counted, thread_rows}
+use Rattle.span_journal.specs.Told.{thread_events}
+use Rattle.span_journal.specs.Topics.{AnswersFollowFromActs, AreAlike, RowsFollowFromActs, Topic, acts_on, concerns}
 use Rattle.span_ledger.proofs.Counting.{count_row-push}
 use Rattle.span_collect.specs.Seals.{seal_for, seals_of, with_seals}
 use Rattle.span_collect.proofs.InTurn.Exchanges.{act_of, acts_among, acts_on-exchanges, exchange_of, exchanges}

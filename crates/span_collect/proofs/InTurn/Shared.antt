@@ -9,14 +9,14 @@ use Rattle.span_event.specs.declared.item.Item.{Item}
 use Rattle.span_event.specs.declared.item.Item.TheVariants.{Good, Bad, Other}
 use Rattle.span_event.specs.declared.unit.Unit.{Unit}
 use Rattle.span_read.specs.Document.{doc}
-use Rattle.span_ledger.specs.declared.entry.Entry.{Entry}
-use Rattle.span_ledger.specs.declared.entry.Op.{Op}
-use Rattle.span_ledger.specs.declared.entry.Op.TheVariants.{One, Ask}
-use Rattle.span_ledger.specs.declared.query.Query.{Query}
-use Rattle.span_ledger.specs.Journal.{Act, an_event, act_in}
-use Rattle.span_ledger.specs.Kind.{is_accepting}
-use Rattle.span_ledger.specs.Legal.{IsLegal}
-use Rattle.span_ledger.specs.Topics.{Topic, concerns}
+use Rattle.span_journal.specs.declared.entry.Entry.{Entry}
+use Rattle.span_journal.specs.declared.entry.Op.{Op}
+use Rattle.span_journal.specs.declared.entry.Op.TheVariants.{One, Ask}
+use Rattle.span_journal.specs.declared.query.Query.{Query}
+use Rattle.span_journal.specs.Journal.{Act, an_event, act_in}
+use Rattle.span_journal.specs.Kind.{is_accepting}
+use Rattle.span_journal.specs.Legal.{IsLegal}
+use Rattle.span_journal.specs.Topics.{Topic, concerns}
 use Rattle.span_share.specs.Callers.{AreDistinct, calls}
 use Rattle.span_share.specs.Entries.{caller_of}
 use Rattle.span_collect.specs.declared.files.Input.{Input}

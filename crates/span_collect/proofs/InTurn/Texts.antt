@@ -1,7 +1,7 @@
 -- A text of what was collected of separate files, which is the one that they give in turn.
 use Rattle.std.proofs.Common.{◌≡◌, ℕ, ◌<◌, ◌≤◌, List, length, take, subst}
-use Rattle.span_ledger.specs.declared.entry.Entry.{Entry}
-use Rattle.span_ledger.specs.declared.query.Query.{Query}
+use Rattle.span_journal.specs.declared.entry.Entry.{Entry}
+use Rattle.span_journal.specs.declared.query.Query.{Query}
 use Rattle.span_report.specs.declared.output.WriteFault.TheVariants.{Output as OutputFails}
 use Rattle.span_report.specs.Output.{WriteLeaves}
 use Rattle.span_report.specs.Sink.{SinkState, TakesBytes, Fails}

@@ -3,7 +3,7 @@ use Rattle.std.proofs.Common.{◌≡◌, ℕ, ◌+◌, ◌≤◌, List, [], ◌�
 use Rattle.std.proofs.lemmas.Bool.Decides.{nat_tests}
 use Rattle.std.specs.Prelude.{if◌then◌else◌}
 use Rattle.std.proofs.lemmas.List.{length_push}
-use Rattle.span_ledger.specs.declared.entry.Answer.{Answer}
+use Rattle.span_journal.specs.declared.entry.Answer.{Answer}
 use Rattle.span_collect.specs.Refusals.{first_of, number_in, refusal_at, refused_at, refusals_from}
 
 -- the refusal of one more answer comes last

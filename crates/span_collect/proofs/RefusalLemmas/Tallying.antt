@@ -14,8 +14,8 @@ use Rattle.span_collect.specs.InTurn.{answers_of}
 use Rattle.span_keyed_tracks.specs.Keyed.{Keyed, entries_in, kept_at, steps_at}
 use Rattle.span_keyed_tracks.proofs.Keyed.{entries_in-insert_entry, kept_at-entries_in, length-steps_at, lookup-entries_in, steps_at-absent}
 use Rattle.span_keyed_tracks.proofs.KeyChange.{insert_entry-found}
-use Rattle.span_ledger.specs.declared.entry.Answer.{Answer}
-use Rattle.span_ledger.specs.declared.entry.Entry.{Entry}
+use Rattle.span_journal.specs.declared.entry.Answer.{Answer}
+use Rattle.span_journal.specs.declared.entry.Entry.{Entry}
 use Rattle.span_collect.specs.declared.refusals.tally.Refused.{Refused}
 use Rattle.span_collect.specs.Refusals.{number_in, refusal_at, refused_at, refused_by, refusals_from}
 use Rattle.span_collect.specs.Refusals.Tallies.{HasRoom, HasRoomFor, Tallied, Takes, answer_in, tallies_of, tally_of}

@@ -1,8 +1,8 @@
 -- The text that says which items were refused.
 use Rattle.std.specs.Prelude.{ℕ, List, [], ◌∷◌, ◌++◌, flat_map, Option, Some, None, codes, decimal}
 use Rattle.span_event.specs.declared.unit.Unit.{Unit}
-use Rattle.span_ledger.specs.declared.entry.Entry.{Entry}
-use Rattle.span_ledger.specs.Rows.{count_row}
+use Rattle.span_journal.specs.declared.entry.Entry.{Entry}
+use Rattle.span_journal.specs.Rows.{count_row}
 use Rattle.span_report.specs.Lines.{json_text_of, line_of, right_in}
 use Rattle.span_report.specs.Report.{head_lines}
 use Rattle.span_collect.specs.declared.files.FileEnd.{FileEnd}

@@ -1,10 +1,11 @@
 //! The tallies of all callers of a journal.
 ghost use Rattle.std.specs.Prelude.{◌≡◌, ◌∷◌, [], ◌++◌, IfOk, OnOk, List};
-ghost use Rattle.span_ledger.specs.declared.entry.Entry.{Entry};
+ghost use Rattle.span_journal.specs.declared.entry.Entry.{Entry};
 ghost use Rattle.span_collect.specs.Refusals.Tallies.{HasRoomFor, tallies_of};
 
 use super::tally::Tally;
-use span_ledger::{Entry, Ledger};
+use span_journal::Entry;
+use span_ledger::Ledger;
 use std::alloc::{AllocError, Global};
 use std::collections::BTreeMap;
 

@@ -5,7 +5,7 @@ ghost use Rattle.span_keyed_tracks.specs.Keyed.{kept_at};
 ghost use Rattle.span_collect.specs.Refusals.{number_in, refused_at};
 ghost use Rattle.span_collect.specs.Refusals.Tallies.{HasRoom, Takes, tally_of};
 
-use span_ledger::Answer;
+use span_journal::Answer;
 use std::alloc::{AllocError, Global};
 use std::collections::BTreeMap;
 use std::marker::Model;

@@ -1,7 +1,7 @@
 //! What a collection tells where it was cut: by the limit, or where a worker wasn't started.
 use super::{file_of, files_of, up_to};
 use span_collect::{FileEnd, FreeGate, Input, Outcome, collect, fault_lines, run};
-use span_ledger::{Cause, Query};
+use span_journal::{Cause, Query};
 use span_report::Writer;
 use std::alloc::AllocGlobal;
 use std::process::Abort;

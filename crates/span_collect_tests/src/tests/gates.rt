@@ -1,7 +1,7 @@
 //! When a collection calls its gate: each caller in its own order, before its steps.
 use super::{file_of, span_of, up_to, wait_until};
 use span_collect::{Gate, Input, Outcome, collect};
-use span_ledger::Query;
+use span_journal::Query;
 use std::alloc::{AllocError, AllocGlobal, Global};
 use std::process::Abort;
 use std::random::RandomSource;

@@ -2,7 +2,7 @@
 //! tests/refused_allocations.
 use super::{TWO_REPORT, files_of, up_to};
 use span_collect::{CollectError, FileEnd, Gate, Input, Outcome, RunEnd, RunError, collect, run};
-use span_ledger::{Cause, Query};
+use span_journal::{Cause, Query};
 use span_report::Writer;
 use span_test_support::room_at_last;
 use std::alloc::{AllocError, AllocGlobal, Global};

@@ -2,9 +2,10 @@
 //! tests/refused_allocations.
 ghost use Rattle.std.specs.Prelude.{All, IfErr, IfOk};
 ghost use Rattle.span_event.specs.Item.{IsGoodItem};
-ghost use Rattle.span_ledger.specs.Legal.{IsGoodOp};
+ghost use Rattle.span_journal.specs.Legal.{IsGoodOp};
 
-use span_ledger::{Back, Cause, Items, Ledger, Op};
+use span_journal::{Back, Cause, Op};
+use span_ledger::{Items, Ledger};
 use span_read::read_items;
 use span_report::{Unit, report};
 use std::alloc::{AllocError, AllocGlobal, Global};

@@ -1,7 +1,7 @@
 //! What a collection and a run tell where the open spans are sealed.
 use super::file_of;
 use span_collect::{FreeGate, Input, Outcome, RunEnd, Settings, Unit, collect, run};
-use span_ledger::{Cause, Query};
+use span_journal::{Cause, Query};
 use span_report::Writer;
 use std::alloc::{AllocError, AllocGlobal, Global};
 use std::process::Abort;

@@ -1,13 +1,14 @@
 //! What readers tell where a growth of the ledger is refused.
 ghost use Rattle.std.specs.Prelude.{All, IfErr, IfOk};
 ghost use Rattle.span_event.specs.Item.{IsGoodItem};
-ghost use Rattle.span_ledger.specs.Legal.{IsGoodOp};
+ghost use Rattle.span_journal.specs.Legal.{IsGoodOp};
 
 use super::examples::{EXAMPLES, Example};
 use super::queries::{EVENTS, replies};
 use super::rows;
 use super::seals::{CUT, SEALED_ROWS};
-use span_ledger::{Back, Cause, Items, Ledger, Op, Query};
+use span_journal::{Back, Cause, Op, Query};
+use span_ledger::{Items, Ledger};
 use span_read::read_items;
 use std::alloc::{AllocError, Global};
 use std::process::Abort;

@@ -1,6 +1,7 @@
 //! What the ledger replies to queries.
 use super::{answers, shown};
-use span_ledger::{AsyncKey, BoxedId, FlowKey, IdKey, Ledger, Query, SeriesKey, Text};
+use span_journal::Query;
+use span_ledger::{AsyncKey, BoxedId, FlowKey, IdKey, Ledger, SeriesKey, Text};
 use std::alloc::{AllocError, Global};
 use std::process::Abort;
 use std::test::Fail;

@@ -2,7 +2,8 @@
 ghost use Rattle.span_track.specs.Thread.{IsSealTime};
 
 use super::{answer_to, answers, rows};
-use span_ledger::{Ledger, Op};
+use span_journal::Op;
+use span_ledger::Ledger;
 use std::alloc::{AllocError, AllocGlobal, Global};
 use std::process::Abort;
 use std::test::Fail;

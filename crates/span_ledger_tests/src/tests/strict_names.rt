@@ -1,6 +1,7 @@
 //! Ledgers that are strict about the names of ends, and one that isn't.
 use super::{answers, rows};
-use span_ledger::{Ledger, Op};
+use span_journal::Op;
+use span_ledger::Ledger;
 use std::process::Abort;
 use std::test::Fail;
 

@@ -10,7 +10,7 @@ use Rattle.std.proofs.lemmas.Cmp.{tied_itself}
 use Rattle.std.proofs.lemmas.List.Sums.{fold_push}
 use Rattle.span_event.specs.Text.{Bytes}
 use Rattle.span_event.specs.Time.{distance}
-use Rattle.span_ledger.proofs.Sorted.{AllByRecursion-map, ascending-sorted}
+use Rattle.span_journal.proofs.Sorted.{AllByRecursion-map, ascending-sorted}
 use Rattle.span_self_time.specs.Spans.{Span, earliest, latest}
 use Rattle.span_self_time.proofs.Counts.{count_from-none}
 use Rattle.span_self_time.proofs.Mapped.{sum_by-map}

@@ -9,7 +9,7 @@ use Rattle.std.proofs.lemmas.List.Sorted.{All-permutation, sum_by-IsPermutation}
 use Rattle.std.proofs.lemmas.List.Sums.{sum_by-append, sum_by_push}
 use Rattle.span_event.specs.Text.{Bytes}
 use Rattle.span_event.specs.Time.{distance}
-use Rattle.span_ledger.proofs.Sorted.{AllByRecursion-append, AllByRecursion-map}
+use Rattle.span_journal.proofs.Sorted.{AllByRecursion-append, AllByRecursion-map}
 use Rattle.span_self_time.specs.Spans.{Span, earliest, latest}
 use Rattle.span_self_time.proofs.Counts.{count_from-le, count_from-same}
 use Rattle.span_report.specs.declared.stacks.descent.Descent.{Descent}

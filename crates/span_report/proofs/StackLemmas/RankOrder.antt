@@ -12,7 +12,7 @@ use Rattle.std.specs.declared.cmp.Ordering.TheVariants.{Less, Equal, Greater}
 use Rattle.span_self_time.specs.Laws.{AreSpans, IsApart}
 use Rattle.span_self_time.specs.Spans.{Span, outranks}
 use Rattle.span_self_time.proofs.Ranks.{outranks-itself, outranks-trans}
-use Rattle.span_ledger.proofs.Sorted.{ascending-sorted}
+use Rattle.span_journal.proofs.Sorted.{ascending-sorted}
 use Rattle.span_ledger.proofs.Sorting.{ascending-permutation}
 use Rattle.span_report.specs.Stacks.Ticks.{rank_order, ranked}
 

@@ -15,11 +15,11 @@ use Rattle.span_self_time.specs.Positions.{Rises, renumbered_span}
 use Rattle.span_keyed_tracks.specs.Keyed.{ascending}
 use Rattle.span_track.specs.Nesting.{closed_spans}
 use Rattle.span_track.proofs.Threads.Renumbering.{closed_spans-renumbered}
-use Rattle.span_ledger.specs.declared.entry.Entry.{Entry}
-use Rattle.span_ledger.specs.Parts.{ProcessRows, ThreadRows}
-use Rattle.span_ledger.specs.Topics.{AreAlike, of_process}
-use Rattle.span_ledger.proofs.Topics.Rows.{rows-follow}
-use Rattle.span_ledger.proofs.Topics.Threads.{thread_events-alike}
+use Rattle.span_journal.specs.declared.entry.Entry.{Entry}
+use Rattle.span_journal.specs.Parts.{ProcessRows, ThreadRows}
+use Rattle.span_journal.specs.Topics.{AreAlike, of_process}
+use Rattle.span_journal.proofs.Topics.Rows.{rows-follow}
+use Rattle.span_journal.proofs.Topics.Threads.{thread_events-alike}
 use Rattle.span_report.specs.declared.stacks.label.SpanColumn.{SpanColumn}
 use Rattle.span_report.specs.Stacks.Bounds.{beginnings}
 use Rattle.span_report.specs.Stacks.Folded.{stack_lines, thread_frame_count, thread_frames, thread_stacks}

@@ -9,7 +9,7 @@ use Rattle.std.proofs.lemmas.Bool.Decides.{nat_tests}
 use Rattle.std.proofs.lemmas.List.{map-append}
 use Rattle.std.proofs.lemmas.List.Sums.{sum_by-append, sum_by-cons}
 use Rattle.span_event.specs.Text.{Bytes}
-use Rattle.span_ledger.proofs.Sorted.{AllByRecursion-map}
+use Rattle.span_journal.proofs.Sorted.{AllByRecursion-map}
 use Rattle.span_report.specs.Stacks.Bounds.{beginnings}
 use Rattle.span_report.specs.Stacks.Ticks.{Folded, Stack, folded, same_stack, stack_order}
 use Rattle.span_report.specs.Stacks.Walk.{AreAscending, Framed, folded_after, folded_if, last_stack, stack_after}

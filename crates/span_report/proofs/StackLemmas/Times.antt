@@ -15,7 +15,7 @@ use Rattle.span_self_time.specs.Laws.{AreSpans}
 use Rattle.span_self_time.specs.Spans.{Span, busy_time, count_from, covers, earliest, is_covered, latest}
 use Rattle.span_self_time.proofs.Counts.{count_from-same}
 use Rattle.span_keyed_tracks.specs.Keyed.{ascending}
-use Rattle.span_ledger.proofs.Sorted.{ascending-sorted}
+use Rattle.span_journal.proofs.Sorted.{ascending-sorted}
 use Rattle.span_report.specs.Stacks.Ticks.{Folded, Stack, folded, folded_stacks, has_frames, ticks, names_at, ranked, same_stack, stack_at, stack_order, stacks_of}
 use Rattle.span_report.proofs.StackLemmas.RankOrder.{ranked-permutation}
 use Rattle.span_report.proofs.StackLemmas.Tallies.{sum_by-ascending}

@@ -2,7 +2,7 @@
 use Rattle.std.specs.Prelude.{◌≡◌, ℕ, ◌<◌, ◌≤◌, List, length, take}
 use Rattle.span_event.specs.declared.fault.Fault.TheVariants.{Memory as MemoryFault, Output as OutputFault, StacksTooLarge as StacksFault}
 use Rattle.span_event.specs.Fault.{number_of}
-use Rattle.span_ledger.specs.declared.entry.Entry.{Entry}
+use Rattle.span_journal.specs.declared.entry.Entry.{Entry}
 use Rattle.span_report.specs.declared.stacks.label.SpanColumn.{SpanColumn}
 use Rattle.span_report.specs.declared.stacks.output.FoldedFault.{FoldedFault}
 use Rattle.span_report.specs.declared.stacks.output.FoldedFault.TheVariants.{Memory, TooLarge, Output}

@@ -1,10 +1,10 @@
 -- The folded stacks of a journal as a text.
 use Rattle.std.specs.Prelude.{ℕ, List, [], ◌∷◌, ◌++◌, flat_map, sum_by, decimal}
 use Rattle.span_event.specs.declared.thread.Thread.{Thread}
-use Rattle.span_ledger.specs.declared.entry.Entry.{Entry}
-use Rattle.span_ledger.specs.declared.rows.ProcessRow.{ProcessRow}
-use Rattle.span_ledger.specs.declared.rows.ThreadRow.{ThreadRow}
-use Rattle.span_ledger.specs.Parts.{ProcessRows, ThreadRows, process_parts}
+use Rattle.span_journal.specs.declared.entry.Entry.{Entry}
+use Rattle.span_journal.specs.declared.rows.ProcessRow.{ProcessRow}
+use Rattle.span_journal.specs.declared.rows.ThreadRow.{ThreadRow}
+use Rattle.span_journal.specs.Parts.{ProcessRows, ThreadRows, process_parts}
 use Rattle.span_report.specs.declared.stacks.label.SpanColumn.{SpanColumn}
 use Rattle.span_report.specs.Stacks.Bounds.{frame_count, names_in}
 use Rattle.span_report.specs.Stacks.Frames.{frame, owner_frame}

@@ -10,8 +10,8 @@ use Rattle.span_event.specs.Args.{Arguments, value_of}
 use Rattle.span_event.specs.Text.{Bytes}
 use Rattle.span_self_time.specs.Spans.{Span}
 use Rattle.span_track.specs.Nesting.{closed_spans}
-use Rattle.span_ledger.specs.declared.entry.Entry.{Entry}
-use Rattle.span_ledger.specs.Told.{thread_events}
+use Rattle.span_journal.specs.declared.entry.Entry.{Entry}
+use Rattle.span_journal.specs.Told.{thread_events}
 use Rattle.span_report.specs.declared.stacks.label.SpanColumn.{SpanColumn}
 use Rattle.span_report.specs.declared.stacks.label.SpanColumn.TheVariants.{Name, Argument}
 

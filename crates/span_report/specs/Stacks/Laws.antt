@@ -4,8 +4,8 @@ use Rattle.span_event.specs.declared.thread.Thread.{Thread}
 use Rattle.span_event.specs.Text.{Bytes, same_text}
 use Rattle.span_self_time.specs.Laws.{AreSpans}
 use Rattle.span_self_time.specs.Spans.{Span, busy_time, self_of}
-use Rattle.span_ledger.specs.declared.entry.Entry.{Entry}
-use Rattle.span_ledger.specs.Topics.{AreAlike}
+use Rattle.span_journal.specs.declared.entry.Entry.{Entry}
+use Rattle.span_journal.specs.Topics.{AreAlike}
 use Rattle.span_report.specs.declared.stacks.label.SpanColumn.{SpanColumn}
 use Rattle.span_report.specs.Stacks.Folded.{folded_of, names_of, thread_frame_count, thread_stacks}
 use Rattle.span_report.specs.Stacks.Labels.{labelled}

@@ -25,7 +25,7 @@ impl<'a> Model for LabelledSpans<'a> {
     ghost use Rattle.span_event.specs.Text.{Bytes};
     ghost use Rattle.span_self_time.specs.Spans.{Span};
     ghost use Rattle.span_track.specs.Nesting.{closed_spans};
-    ghost use Rattle.span_ledger.specs.Told.{thread_events};
+    ghost use Rattle.span_journal.specs.Told.{thread_events};
     ghost use Rattle.span_report.specs.Stacks.Labelled.{relabelled};
 
     ghost Value = { List (Span Bytes) };

@@ -12,7 +12,8 @@ use super::frames::{put_frame, put_owner};
 use super::label::SpanColumn;
 use super::labelled::LabelledSpans;
 use span_event::{Text, Thread};
-use span_ledger::{Ledger, NamedSpan, ProcessPart, ProcessRow, ThreadPart, ThreadRow};
+use span_journal::{ProcessRow, ThreadRow};
+use span_ledger::{Ledger, NamedSpan, ProcessPart, ThreadPart};
 use std::alloc::{AllocError, Global};
 
 // How many names the folded stacks of a ledger may have, each stack as many as it is deep.

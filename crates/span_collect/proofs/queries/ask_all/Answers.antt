@@ -1,6 +1,6 @@
 use Rattle.std.proofs.Common.{◌+◌, take, Some, None, refl, ap, sym, subst, ◌∙◌, arith}
-use Rattle.span_ledger.specs.declared.entry.Op.TheVariants.{Ask}
-use Rattle.span_ledger.specs.declared.refusal.Cause.TheVariants.{Memory}
+use Rattle.span_journal.specs.declared.entry.Op.TheVariants.{Ask}
+use Rattle.span_journal.specs.declared.refusal.Cause.TheVariants.{Memory}
 use Rattle.span_collect.specs.Account.{asking}
 use Rattle.span_collect.specs.Work.{HasRecorded}
 use Rattle.span_collect.proofs.Meeting.{BeginsWith-length, HasMet-asked}

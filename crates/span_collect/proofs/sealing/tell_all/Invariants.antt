@@ -1,6 +1,6 @@
 use Rattle.std.proofs.Common.{◌≡◌, ◌≤◌, ◌++◌, length}
 use Rattle.std.specs.Vec.Iter.{into_iter_items, into_iter_len}
-use Rattle.span_ledger.specs.Legal.{IsLawful}
+use Rattle.span_journal.specs.Legal.{IsLawful}
 use Rattle.span_collect.specs.Seals.{with_seals}
 use Rattle.span_collect.proofs.sealing.tell_all.Given as goal
 

@@ -1,7 +1,7 @@
 use Rattle.std.proofs.Common.{◌≡◌, subst, to_z, of_z, w64, rules}
 use Rattle.span_keyed_tracks.specs.declared.keys.AsyncKey.{AsyncKey}
 use Rattle.span_keyed_tracks.specs.Async.{AsyncEvent}
-use Rattle.span_ledger.specs.Told.{async_step}
+use Rattle.span_journal.specs.Told.{async_step}
 use Rattle.span_ledger.specs.Telling.{TellsAsync}
 use Rattle.span_ledger.proofs.async_events.tell_async.Goals as goal
 

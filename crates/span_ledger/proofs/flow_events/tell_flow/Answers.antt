@@ -1,7 +1,7 @@
 use Rattle.std.proofs.Common.{◌≡◌, subst, to_z, of_z, w64, rules}
 use Rattle.span_keyed_tracks.specs.declared.keys.FlowKey.{FlowKey}
 use Rattle.span_keyed_tracks.specs.Flow.{FlowEvent}
-use Rattle.span_ledger.specs.Told.{flow_point}
+use Rattle.span_journal.specs.Told.{flow_point}
 use Rattle.span_ledger.specs.Telling.{TellsFlow}
 use Rattle.span_ledger.proofs.flow_events.tell_flow.Goals as goal
 

@@ -1,6 +1,6 @@
 use Rattle.std.proofs.Common.{◌≡◌, Err, refl, rules, to_z, of_z, to_z-of_z, w64}
 use Rattle.span_keyed_tracks.specs.Flow.{started, stepped, finished, flow_chains_at}
-use Rattle.span_ledger.specs.Told.{flow_point}
+use Rattle.span_journal.specs.Told.{flow_point}
 use Rattle.span_ledger.proofs.FlowAnswers.{FlowEnded-closed, TellsFlow-taken, TellsFlow-untaken}
 use Rattle.span_ledger.proofs.flow_events.tell_point.Goals as goal
 

@@ -6,7 +6,7 @@ use Rattle.span_keyed_tracks.specs.Keyed.{ascending}
 use Rattle.span_ledger.specs.Grouped.{groups_of}
 use Rattle.span_ledger.proofs.Ascending.{ascending-passed}
 use Rattle.span_ledger.proofs.Grouping.{groups_of-inserted}
-use Rattle.span_ledger.proofs.Sorted.{ascending-sorted}
+use Rattle.span_journal.proofs.Sorted.{ascending-sorted}
 use Rattle.span_ledger.proofs.parts.empty_groups.Goals as goal
 
 pub loop-pid-preserved-in_ok-insert : goal.loop-pid-preserved-in_ok-insert

@@ -2,8 +2,8 @@ use Rattle.std.proofs.Common.{map, ap, ap₂, ◌∙◌}
 use Rattle.span_keyed_tracks.specs.Counters.{series_rows}
 use Rattle.span_keyed_tracks.proofs.Results.{if_ok-map}
 use Rattle.span_ledger.specs.Grouped.{grouped_part, groups_of}
-use Rattle.span_ledger.specs.Journal.{accepted}
-use Rattle.span_ledger.specs.Told.{counter_events}
+use Rattle.span_journal.specs.Journal.{accepted}
+use Rattle.span_journal.specs.Told.{counter_events}
 use Rattle.span_ledger.proofs.PartRows.{process_parts-grouped}
 use Rattle.span_ledger.proofs.parts.process_parts.Goals as goal
 

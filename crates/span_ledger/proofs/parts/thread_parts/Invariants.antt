@@ -1,6 +1,6 @@
 use Rattle.std.proofs.Common.{◌≡◌, take}
 use Rattle.std.specs.Prelude.{map}
-use Rattle.span_ledger.specs.Parts.{thread_part}
+use Rattle.span_journal.specs.Parts.{thread_part}
 use Rattle.span_ledger.proofs.parts.thread_parts.Given as goal
 
 -- the parts of the threads so far

@@ -7,7 +7,7 @@ use Rattle.span_keyed_tracks.specs.Flow.{flow_chains_at, flow_totals}
 use Rattle.span_names.specs.Numbering.{number_in}
 use Rattle.span_keyed_tracks.proofs.Async.{async_spans_at-StandsFor}
 use Rattle.span_keyed_tracks.proofs.Flow.{flow_chains_at-StandsFor}
-use Rattle.span_ledger.specs.declared.reply.Reply.TheVariants.{Async, Flow, Series}
+use Rattle.span_journal.specs.declared.reply.Reply.TheVariants.{Async, Flow, Series}
 use Rattle.span_ledger.specs.Tracked.{track_at}
 use Rattle.span_ledger.specs.TrackRows.{number_reply, track_reply}
 use Rattle.span_ledger.proofs.ThreadTelling.{IsTrackOf-journal}

@@ -5,7 +5,7 @@ use Rattle.span_event.proofs.Orders.{thread_cmp-same, thread_cmp-total}
 use Rattle.span_keyed_tracks.specs.declared.fault.TrackFault.TheVariants.{Refused}
 use Rattle.span_track.specs.Nesting.{sealed}
 use Rattle.span_track.specs.Thread.{ThreadSpans, any_name, thread_spans}
-use Rattle.span_ledger.specs.Answers.{thread_step_answer}
+use Rattle.span_journal.specs.Answers.{thread_step_answer}
 use Rattle.span_ledger.proofs.KeyTelling.{Tells-found, Tells-first}
 use Rattle.span_ledger.proofs.ThreadAnswers.{TellsThread-seal}
 use Rattle.span_ledger.proofs.thread_tracks.seal_thread.Goals as goal

@@ -7,8 +7,8 @@ use Rattle.span_event.specs.declared.thread.Thread.{Thread}
 use Rattle.span_event.proofs.Orders.{thread_cmp-same, thread_cmp-total}
 use Rattle.span_keyed_tracks.proofs.Keyed.{kept_at-found}
 use Rattle.span_track.specs.Thread.{ThreadSpans, HasRoom, IsNext, suits, thread_spans}
-use Rattle.span_ledger.specs.Answers.{thread_step_answer}
-use Rattle.span_ledger.specs.Told.{span_step}
+use Rattle.span_journal.specs.Answers.{thread_step_answer}
+use Rattle.span_journal.specs.Told.{span_step}
 use Rattle.span_ledger.specs.Telling.{TellsThreads}
 use Rattle.span_ledger.proofs.KeyTelling.{Tells-found, Tells-first, IsToldTo-first}
 use Rattle.span_ledger.proofs.thread_tracks.tell_thread.Goals as goal

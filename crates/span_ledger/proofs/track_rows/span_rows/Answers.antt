@@ -2,7 +2,7 @@ use Rattle.std.proofs.Common.{rules, ◌≡◌, List, [], ◌∷◌, ◌++◌, m
 use Rattle.std.proofs.lemmas.List.{map_push}
 use Rattle.std.specs.Prelude.{flat_map}
 use Rattle.span_event.specs.declared.thread.Thread.{Thread}
-use Rattle.span_ledger.specs.declared.rows.SpanRow.{SpanRow}
+use Rattle.span_journal.specs.declared.rows.SpanRow.{SpanRow}
 use Rattle.span_ledger.specs.TrackRows.{track_span_rows}
 use Rattle.span_ledger.proofs.track_rows.span_rows.Goals as goal
 

@@ -1,5 +1,5 @@
 use Rattle.std.proofs.Common.{◌≡◌, rules, ap, ◌∙◌, Some}
-use Rattle.span_ledger.specs.Rows.{names_of}
+use Rattle.span_journal.specs.Rows.{names_of}
 use Rattle.span_ledger.specs.TrackRows.{track_row}
 use Rattle.span_ledger.proofs.ThreadTelling.{IsTrackOf-journal}
 use Rattle.span_ledger.proofs.TrackRows.{track_row-is}

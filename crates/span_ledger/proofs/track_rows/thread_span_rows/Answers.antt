@@ -1,5 +1,5 @@
 use Rattle.std.proofs.Common.{rules, ◌≡◌, ◌∙◌}
-use Rattle.span_ledger.specs.Told.{thread_events}
+use Rattle.span_journal.specs.Told.{thread_events}
 use Rattle.span_ledger.specs.Tracked.{track_at}
 use Rattle.span_ledger.specs.TrackRows.{track_span_rows}
 use Rattle.span_ledger.proofs.ThreadTelling.{IsTrackOf-journal}

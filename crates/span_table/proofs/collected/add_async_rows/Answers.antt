@@ -1,6 +1,6 @@
 use Rattle.std.proofs.Common.{◌≡◌, ◌+◌, ◌*◌, ◌^◌, ◌∷◌, [], ◌++◌, length, map, take, sym, ap, subst, ◌∙◌, append_assoc, arith}
 use Rattle.std.proofs.lemmas.List.{map_more, take_all}
-use Rattle.span_ledger.specs.Rows.{async_rows}
+use Rattle.span_journal.specs.Rows.{async_rows}
 use Rattle.span_table.specs.Collected.{AllWithin}
 use Rattle.span_table.specs.Columns.{Run}
 use Rattle.span_table.specs.Tables.{keyed_async, summed}

@@ -2,10 +2,10 @@ use Rattle.std.proofs.Common.{◌≡◌, ◌+◌, ◌*◌, ◌^◌, List, ◌∷
 use Rattle.std.specs.Prelude.{flat_map}
 use Rattle.std.proofs.lemmas.List.{flat_map_more, length-map, take_all, take_more}
 use Rattle.span_event.specs.declared.thread.Thread.{Thread}
-use Rattle.span_ledger.specs.declared.rows.ThreadRow.{ThreadRow}
-use Rattle.span_ledger.specs.Journal.{accepted}
-use Rattle.span_ledger.specs.Order.{thread_of_row}
-use Rattle.span_ledger.specs.Rows.{thread_keys, thread_row, thread_rows}
+use Rattle.span_journal.specs.declared.rows.ThreadRow.{ThreadRow}
+use Rattle.span_journal.specs.Journal.{accepted}
+use Rattle.span_journal.specs.Order.{thread_of_row}
+use Rattle.span_journal.specs.Rows.{thread_keys, thread_row, thread_rows}
 use Rattle.span_table.specs.Collected.{AllWithin}
 use Rattle.span_table.specs.Columns.{Run}
 use Rattle.span_table.specs.Tables.{KeyedSums, summed, thread_sums}

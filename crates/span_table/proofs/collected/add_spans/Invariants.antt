@@ -1,7 +1,7 @@
 use Rattle.std.proofs.Common.{◌*◌, ◌^◌, take}
 use Rattle.std.specs.Prelude.{flat_map}
-use Rattle.span_ledger.specs.declared.rows.ThreadRow.{ThreadRow}
-use Rattle.span_ledger.specs.Order.{thread_of_row}
+use Rattle.span_journal.specs.declared.rows.ThreadRow.{ThreadRow}
+use Rattle.span_journal.specs.Order.{thread_of_row}
 use Rattle.span_table.specs.Collected.{GrowsBy, Takes}
 use Rattle.span_table.specs.Tables.{thread_sums}
 use Rattle.span_table.proofs.collected.add_spans.Given as goal

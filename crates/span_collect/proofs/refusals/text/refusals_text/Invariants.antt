@@ -1,6 +1,6 @@
 use Rattle.std.proofs.Common.{◌≡◌, ◌++◌, string_bytes, take}
 use Rattle.span_collect.specs.FaultLines.{lines_of_ends}
-use Rattle.span_ledger.specs.Rows.{count_row}
+use Rattle.span_journal.specs.Rows.{count_row}
 use Rattle.span_report.specs.Report.{head_lines}
 use Rattle.span_collect.specs.Refusals.Text.{file_lines}
 use Rattle.span_collect.proofs.refusals.text.refusals_text.Given as goal

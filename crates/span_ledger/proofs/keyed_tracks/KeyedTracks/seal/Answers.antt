@@ -1,7 +1,7 @@
 use Rattle.std.proofs.Common.{◌≡◌, refl, subst, to_z, of_z, w64, to_z-of_z}
-use Rattle.span_ledger.specs.Journal.{Accepted, a_seal}
+use Rattle.span_journal.specs.Journal.{Accepted, a_seal}
 use Rattle.span_track.specs.Thread.{any_name}
-use Rattle.span_ledger.specs.Told.{thread_seal}
+use Rattle.span_journal.specs.Told.{thread_seal}
 use Rattle.span_ledger.specs.Tracked.{KeyedKept}
 use Rattle.span_ledger.specs.Telling.{accepted_at, TellsKeyed}
 use Rattle.span_ledger.proofs.KeyedEvents.{TellsKeyed-spans}

@@ -3,7 +3,7 @@ use Rattle.std.specs.List.{AllByRecursion}
 use Rattle.std.proofs.lemmas.Int.{ints}
 use Rattle.span_event.specs.Time.{distance}
 use Rattle.span_self_time.proofs.Counts.{add-distance, distance-add}
-use Rattle.span_ledger.proofs.Sorted.{AllByRecursion-append}
+use Rattle.span_journal.proofs.Sorted.{AllByRecursion-append}
 use Rattle.span_report.specs.declared.stacks.parts.Part.{Part}
 use Rattle.span_report.specs.Stacks.Ticks.{same_stack}
 use Rattle.span_report.specs.Stacks.Parts.{IsSound, left, times_on}

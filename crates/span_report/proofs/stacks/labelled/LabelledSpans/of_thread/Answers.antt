@@ -4,7 +4,7 @@ use Rattle.span_event.specs.declared.thread.Thread.{Thread}
 use Rattle.span_event.specs.Text.{Bytes}
 use Rattle.span_self_time.specs.Spans.{Span}
 use Rattle.span_track.specs.Nesting.{closed_spans}
-use Rattle.span_ledger.specs.Told.{thread_events}
+use Rattle.span_journal.specs.Told.{thread_events}
 use Rattle.span_report.specs.declared.stacks.label.SpanColumn.{SpanColumn}
 use Rattle.span_report.specs.Stacks.Labelled.{relabelled}
 use Rattle.span_report.specs.Stacks.Labels.{by_name, label_of, labelled}

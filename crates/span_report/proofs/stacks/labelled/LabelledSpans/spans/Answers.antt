@@ -5,7 +5,7 @@ use Rattle.span_event.specs.Text.{Bytes}
 use Rattle.span_self_time.specs.Spans.{Span}
 use Rattle.span_track.specs.Nesting.{closed_spans}
 use Rattle.span_ledger.specs.Named.{AreThreadSpans}
-use Rattle.span_ledger.specs.Told.{thread_events}
+use Rattle.span_journal.specs.Told.{thread_events}
 use Rattle.span_report.specs.Stacks.Labelled.{relabelled}
 use Rattle.span_report.proofs.StackLemmas.Labelling.{AreThreadSpans-relabelled}
 use Rattle.span_report.proofs.stacks.labelled.LabelledSpans.spans.Goals as goal

@@ -1,0 +1,12 @@
+pub mod Answers
+pub mod Journal
+pub mod Kind
+pub mod Legal
+pub mod Order
+pub mod Parts
+pub mod Refusal
+pub mod Replies
+pub mod Rows
+pub mod Timed
+pub mod Told
+pub mod Topics

@@ -1,0 +1,51 @@
+-- What a journal has of each process, and of each of its threads: a report says this, part by part.
+use Rattle.span_event.specs.Orders.{thread_cmp}
+use Rattle.std.specs.Prelude.{ℤ, List, map, filter, filter_map}
+use Rattle.std.specs.Ordering.{int_eq}
+use Rattle.span_keyed_tracks.specs.declared.counter_track.SeriesRow.{SeriesRow}
+use Rattle.span_keyed_tracks.specs.declared.meta_track.instants.InstantRow.{InstantRow}
+use Rattle.span_keyed_tracks.specs.Counters.{series_rows_of}
+use Rattle.span_keyed_tracks.specs.Instants.{instant_rows_of}
+use Rattle.span_keyed_tracks.specs.Keyed.{ascending}
+use Rattle.span_journal.specs.declared.entry.Entry.{Entry}
+use Rattle.span_journal.specs.declared.rows.ProcessRow.{ProcessRow}
+use Rattle.span_journal.specs.declared.rows.SpanRow.{SpanRow}
+use Rattle.span_journal.specs.declared.rows.ThreadRow.{ThreadRow}
+use Rattle.span_event.specs.declared.thread.Thread.{Thread}
+use Rattle.span_journal.specs.Journal.{Accepted, accepted}
+use Rattle.span_journal.specs.Rows.{process_keys, process_row, thread_row, thread_span_rows}
+use Rattle.span_journal.specs.Told.{listed_by, counter_events, meta_events}
+
+-- the rows of a thread: its own, one for each name of its closed spans, and one for each name and reach of its instants
+pub record ThreadRows : Type 0 where
+  pub row : ThreadRow
+  pub spans : List SpanRow
+  pub instants : List InstantRow
+
+-- the rows of a process: its own, those of each of its threads, and one for each of its series
+pub record ProcessRows : Type 0 where
+  pub row : ProcessRow
+  pub threads : List ThreadRows
+  pub series : List SeriesRow
+
+-- the threads of a process that are listed for accepted events, in ascending order
+abbrev pub threads_in : ℤ → List Accepted → List Thread
+threads_in pid events = ascending thread_cmp (filter (λ thread. int_eq thread.pid pid) (filter_map (λ a. listed_by a.act) events))
+
+abbrev pub thread_part : List Entry → Thread → ThreadRows
+thread_part journal thread = record {
+  row = thread_row journal thread;
+  spans = thread_span_rows journal thread;
+  instants = instant_rows_of thread (meta_events (accepted journal));
+}
+
+abbrev pub process_part : List Entry → ℤ → ProcessRows
+process_part journal pid = record {
+  row = process_row journal pid;
+  threads = map (thread_part journal) (threads_in pid (accepted journal));
+  series = series_rows_of pid (counter_events (accepted journal));
+}
+
+-- the parts of the processes that have an accepted event, in ascending order
+abbrev pub process_parts : List Entry → List ProcessRows
+process_parts journal = map (process_part journal) (process_keys (accepted journal))
