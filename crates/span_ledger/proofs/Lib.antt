@@ -5,11 +5,11 @@ pub mod FlowAnswers
 pub mod Following
 pub mod Grouping
 pub mod KeyTelling
-pub mod KeyedEvents
 pub mod Later
 pub mod Listing
 pub mod NamedSpans
 pub mod PartRows
+pub mod PhaseTelling
 pub mod Renaming
 pub mod RowOrder
 pub mod Sorting

@@ -81,7 +81,7 @@ module _ (names : List Bytes) (events : List (ThreadEvent Bytes)) (track : Threa
   AreThreadSpans-track closed = AreThreadSpans-renamed (number_for names) (closed_spans events) (subst (λ (spans : List (Span ℕ)). AreClosed spans) (closed-is names events track is) closed)
 
 -- what is kept for a thread of a journal
-pub IsTrackOf-kept : (journal : List Entry) (tracks : TracksKept) → FollowsJournal journal tracks → (kept : SpansKept) → kept ≡ tracks.keyed.spans → (thread : Thread) (track : ThreadSpans ℕ) → track_at kept.threads thread ≡ track →
+pub IsTrackOf-kept : (journal : List Entry) (tracks : TracksKept) → FollowsJournal journal tracks → (kept : SpansKept) → kept ≡ tracks.phases.spans → (thread : Thread) (track : ThreadSpans ℕ) → track_at kept.threads thread ≡ track →
     IsTrackOf kept.names (thread_events thread journal) track
 IsTrackOf-kept journal tracks follows kept same thread track is =
     subst (IsTrackOf kept.names (thread_events thread journal)) is

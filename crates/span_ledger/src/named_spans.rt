@@ -86,7 +86,7 @@ pub(crate) fn closed_spans<'a>(
         ≡ closed_spans (thread_events thread.now journal.now)) }
     ensures are { IfOk result (λ spans. AreThreadSpans spans.items) }
 {
-    let spans = &tracks.keyed.spans;
+    let spans = &tracks.phases.spans;
     match spans.threads.get(thread) {
         Some(track) => named_spans(alloc, &spans.names, track.as_track()),
         None => Ok(Vec::new(alloc)),
@@ -147,7 +147,7 @@ fn self_times(
     ensures { IfOk result (λ times. times.items
         ≡ self_times (closed_spans (thread_events thread.now journal.now))) }
 {
-    let spans = &tracks.keyed.spans;
+    let spans = &tracks.phases.spans;
     match spans.threads.get(thread) {
         Some(track) => track.as_track().self_times(alloc),
         None => Ok(Vec::new(alloc)),

@@ -179,7 +179,7 @@ fn thread_part(
 {
     let row = thread_row(alloc, journal, tracks, thread)?;
     let spans = thread_span_rows(alloc, journal, tracks, thread)?;
-    let instants = tracks.keyed.meta.instant_rows_of(alloc, *thread)?;
+    let instants = tracks.phases.meta.instant_rows_of(alloc, *thread)?;
     Ok(ThreadPart {
         row,
         spans,
@@ -189,12 +189,12 @@ fn thread_part(
 
 // Each listed process with its listed threads and its series.
 fn grouped(alloc: Global, tracks: &Tracks) -> Result<BTreeMap<i64, Group>, AllocError>
-    ensures { IfOk result (λ groups. Gives CounterStandsFor tracks.now.keyed.counters
+    ensures { IfOk result (λ groups. Gives CounterStandsFor tracks.now.phases.counters
         (λ es. groups_of tracks.now.processes tracks.now.listed (series_rows es)) groups.entries) }
 {
     let mut groups = empty_groups(alloc, &tracks.listed)?;
     add_threads(&mut groups, tracks.listed.ordered_threads(alloc)?)?;
-    add_series(alloc, &mut groups, tracks.keyed.counters.sorted(alloc)?)?;
+    add_series(alloc, &mut groups, tracks.phases.counters.sorted(alloc)?)?;
     Ok(groups)
 }
 

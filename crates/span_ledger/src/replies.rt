@@ -44,28 +44,28 @@ fn reply_to(
 {
     match query {
         Query::Thread { pid, tid } => Ok(thread_reply(
-            &tracks.keyed.spans,
+            &tracks.phases.spans,
             &Thread {
                 pid: *pid,
                 tid: *tid,
             },
         )),
         Query::Name { pid, tid, name } => Ok(name_reply(
-            &tracks.keyed.spans,
+            &tracks.phases.spans,
             &Thread {
                 pid: *pid,
                 tid: *tid,
             },
             name,
         )),
-        Query::AsyncOf(key) => Ok(Reply::Async(tracks.keyed.asynchronous.of(key))),
-        Query::FlowOf(key) => Ok(Reply::Flow(tracks.keyed.flows.of(key))),
-        Query::Series(key) => Ok(Reply::Series(tracks.keyed.counters.of(key))),
-        Query::NamesOf { pid, tid: None } => process_names(alloc, &tracks.keyed.meta, *pid),
+        Query::AsyncOf(key) => Ok(Reply::Async(tracks.phases.asynchronous.of(key))),
+        Query::FlowOf(key) => Ok(Reply::Flow(tracks.phases.flows.of(key))),
+        Query::Series(key) => Ok(Reply::Series(tracks.phases.counters.of(key))),
+        Query::NamesOf { pid, tid: None } => process_names(alloc, &tracks.phases.meta, *pid),
         Query::NamesOf {
             pid,
             tid: Some(tid),
-        } => thread_names(alloc, &tracks.keyed.meta, *pid, *tid),
+        } => thread_names(alloc, &tracks.phases.meta, *pid, *tid),
         Query::Counts => Ok(Reply::Counts(counts)),
     }
 }

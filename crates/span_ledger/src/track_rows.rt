@@ -41,7 +41,7 @@ pub(crate) fn process_row(
     requires { FollowsJournal journal.now tracks.now }
     ensures { IfOk result (λ row. row ≡ process_row journal.now pid) }
 {
-    let name = copy_of(alloc, tracks.keyed.meta.process_of(pid).name)?;
+    let name = copy_of(alloc, tracks.phases.meta.process_of(pid).name)?;
     Ok(ProcessRow { pid, name })
 }
 
@@ -70,9 +70,9 @@ pub(crate) fn thread_row(
     requires { FollowsJournal journal.now tracks.now }
     ensures { IfOk result (λ row. row ≡ thread_row journal.now thread.now) }
 {
-    let names = tracks.keyed.meta.thread_of(thread.pid, thread.tid);
+    let names = tracks.phases.meta.thread_of(thread.pid, thread.tid);
     let name = copy_of(alloc, names.name)?;
-    Ok(named_row(&tracks.keyed.spans, thread, name))
+    Ok(named_row(&tracks.phases.spans, thread, name))
 }
 
 // The row of a thread that has this name.
@@ -108,11 +108,11 @@ fn row_of(thread: &Thread, name: Option<Text>, unclosed: u32, busy: u64) -> Thre
 
 pub(crate) fn span_rows(alloc: Global, tracks: &Tracks) -> Result<Vec<SpanRow>, AllocError>
     ensures { IfOk result (λ rows. rows.items
-        ≡ flat_map (track_span_rows tracks.now.keyed.spans) tracks.now.listed) }
+        ≡ flat_map (track_span_rows tracks.now.phases.spans) tracks.now.listed) }
 {
     let mut rows = Vec::new(alloc);
     for thread in &tracks.listed.ordered_threads(alloc)? {
-        add_span_rows(alloc, &tracks.keyed.spans, thread, &mut rows)?;
+        add_span_rows(alloc, &tracks.phases.spans, thread, &mut rows)?;
     }
     Ok(rows)
 }
@@ -128,7 +128,7 @@ pub(crate) fn thread_span_rows(
     ensures { IfOk result (λ rows. rows.items ≡ thread_span_rows journal.now thread.now) }
 {
     let mut rows = Vec::new(alloc);
-    add_span_rows(alloc, &tracks.keyed.spans, thread, &mut rows)?;
+    add_span_rows(alloc, &tracks.phases.spans, thread, &mut rows)?;
     Ok(rows)
 }
 

@@ -16,6 +16,6 @@ returns c = λ list stands.
     let sorted = subst (IsStrictlySortedBy int_cmp) (ap (λ (t : TracksKept). t.processes) c.tracks.view_is) (ascending-sorted int_cmp_total c.tracks.inside.listed.processes) in
     let groups : c.in_ok-groups.groups.entries ≡ groups_of tracks.processes [] [] = search rules in
     let listed : threads ≡ tracks.listed = search rules in
-    let series : Gives CounterStandsFor tracks.keyed.counters series_rows c.in_ok-sorted.field-0.items = search rules in
+    let series : Gives CounterStandsFor tracks.phases.counters series_rows c.in_ok-sorted.field-0.items = search rules in
     c.in_ok-add_series.ensures tracks.processes threads sorted (c.in_ok-add_threads.ensures tracks.processes sorted groups)
     ∙ ap₂ (groups_of tracks.processes) listed (series list stands)

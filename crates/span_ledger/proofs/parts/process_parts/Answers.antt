@@ -14,7 +14,7 @@ returns c =
     if_ok-map c.parts_of.result _ _
     (λ parts are.
     are
-    ∙ ap (map (grouped_part journal)) (c.in_ok-groups.ensures counters c.requires.keyed.counters)
+    ∙ ap (map (grouped_part journal)) (c.in_ok-groups.ensures counters c.requires.phases.counters)
     ∙ ap₂ (λ ps ts. map (grouped_part journal) (groups_of ps ts (series_rows counters))) c.requires.processes c.requires.listed
     ∙ process_parts-grouped journal)
     c.parts_of.ensures

@@ -16,7 +16,7 @@ flat_map-passed f passed thread = ap (flat_map f) (map_push (λ x. x.now) passed
 
 pub loop-thread-preserved : goal.loop-thread-preserved
 loop-thread-preserved c =
-    let kept = c.args.tracks.now.keyed.spans in
+    let kept = c.args.tracks.now.phases.spans in
     let rows = track_span_rows kept in
     let added : c.add_span_rows.new.rows.items ≡ c.loop-thread.rows.items ++ track_span_rows kept c.in-Some.thread.now = search rules in
     added ∙ ap (λ xs. xs ++ track_span_rows kept c.in-Some.thread.now) c.loop-thread.invariant ∙ sym (flat_map-passed rows c.loop-thread.yielded c.in-Some.thread)

@@ -4,8 +4,8 @@ ghost use Rattle.std.specs.Prelude.{◌≡◌, []};
 ghost use Rattle.span_event.specs.Event.{IsGood};
 ghost use Rattle.span_journal.specs.Journal.{an_event, a_seal};
 ghost use Rattle.span_journal.specs.Told.{suits_end};
-ghost use Rattle.span_ledger.specs.Tracked.{KeyedKept, FollowKeyed, HasKeyedRoom};
-ghost use Rattle.span_ledger.specs.Telling.{accepted_at, TellsKeyed};
+ghost use Rattle.span_ledger.specs.Tracked.{PhasesKept, FollowPhases, HasPhaseRoom};
+ghost use Rattle.span_ledger.specs.Telling.{accepted_at, TellsPhase};
 ghost use Rattle.span_track.specs.Thread.{IsSealTime, any_name};
 
 use crate::answer_pair::AnswerPair;
@@ -21,7 +21,7 @@ use std::alloc::Global;
 use std::marker::Model;
 
 #[derive(Drop)]
-pub(crate) struct KeyedTracks {
+pub(crate) struct PhaseTracks {
     pub(crate) spans: ThreadTracks,
     pub(crate) asynchronous: AsyncTrack,
     pub(crate) flows: FlowTrack,
@@ -29,8 +29,8 @@ pub(crate) struct KeyedTracks {
     pub(crate) meta: MetaTrack,
 }
 
-impl Model for KeyedTracks {
-    ghost Value = { KeyedKept };
+impl Model for PhaseTracks {
+    ghost Value = { PhasesKept };
 
     ghost view = { λ t. record {
       spans = t.spans;
@@ -41,11 +41,11 @@ impl Model for KeyedTracks {
     } };
 }
 
-impl KeyedTracks {
-    pub(crate) fn new(alloc: Global, keys: HashKeys) -> KeyedTracks
-        ensures { FollowKeyed result [] }
+impl PhaseTracks {
+    pub(crate) fn new(alloc: Global, keys: HashKeys) -> PhaseTracks
+        ensures { FollowPhases result [] }
     {
-        KeyedTracks {
+        PhaseTracks {
             spans: ThreadTracks::new(alloc, keys),
             asynchronous: AsyncTrack::with_keys(alloc, keys),
             flows: FlowTrack::with_keys(alloc, keys),
@@ -63,9 +63,9 @@ impl KeyedTracks {
         event: &mut Event,
     ) -> Result<AnswerPair, TrackFault>
         requires good { IsGood event.old }
-        requires room { HasKeyedRoom self.old at }
+        requires room { HasPhaseRoom self.old at }
         ensures same { event.new ≡ event.old }
-        ensures tells { TellsKeyed (suits_end strict event.old)
+        ensures tells { TellsPhase (suits_end strict event.old)
             self.old (accepted_at at (an_event event.old)) result self.new }
     {
         match event.phase {
@@ -92,7 +92,7 @@ impl KeyedTracks {
         ts: i64,
     ) -> Result<AnswerPair, TrackFault>
         requires { IsSealTime ts }
-        ensures { TellsKeyed any_name
+        ensures { TellsPhase any_name
             self.old (accepted_at at (a_seal thread.now ts)) result self.new }
     {
         self.spans.seal(thread, ts)
