@@ -16,11 +16,11 @@ use Rattle.span_table.specs.declared.of.Of.{Of}
 use Rattle.span_table.specs.declared.sums.By.{By}
 use Rattle.span_table.specs.Adding.{add_tables, picked}
 use Rattle.span_table.specs.Tables.{SpanTable}
+use Rattle.span_request.specs.Numbers.{goes_by}
 use Rattle.tracebook.specs.declared.added.AddStop.{AddStop}
 use Rattle.tracebook.specs.declared.added.AddStop.TheVariants.{FileCount, Memory, NotOpened, NotTable, OtherColumns}
 use Rattle.tracebook.specs.AddStops.{AddsFile, AddsMore, BeginsWith, IsOfPart, LacksAsked, LacksNumber, Stops, StopsAt, StopsBeside, StopsMore, StopsNext}
 use Rattle.tracebook.specs.Added.{AddsBeside, AddsChosen, IsText, Known, OfInputs}
-use Rattle.tracebook.specs.Tables.{goes_by}
 
 pub AllZip-append : {A B : Type 0} (R : A → B → Type 0) (xs more : List A) (ys others : List B) → AllZip R xs ys → AllZip R more others → AllZip R (xs ++ more) (ys ++ others)
 AllZip-append R [] more [] others one other = other

@@ -11,7 +11,7 @@ use Rattle.span_collect.specs.InTurn.{AreSeparate}
 use Rattle.span_table.specs.Columns.{Run as TableRun}
 use Rattle.tracebook.specs.declared.comparison.ComparisonFault.{ComparisonFault}
 use Rattle.tracebook.specs.declared.comparison.ComparisonFault.TheVariants.{Run, TooGreat}
-use Rattle.tracebook.specs.declared.comparison.ComparisonView.{ComparisonView}
+use Rattle.span_request.specs.declared.views.ComparisonView.{ComparisonView}
 use Rattle.tracebook.specs.Comparison.{AreTooGreat, ChangesLeave, ComparisonLeaves, HasEnded, HoldsOfBoth, TakesFirst, greater}
 use Rattle.span_runs.specs.Runs.{run_in_turn, run_of_files}
 use Rattle.tracebook.proofs.InTurn.{AreTooGreat-in_turn, changes_of_runs-in_turn}

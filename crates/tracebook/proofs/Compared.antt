@@ -14,7 +14,7 @@ use Rattle.span_collect.specs.declared.runs.RunError.TheVariants.{FileCount, Mem
 use Rattle.span_collect.specs.Run.{IsNotCollected}
 use Rattle.span_collect.proofs.Statuses.{status_of-lt}
 use Rattle.tracebook.specs.declared.comparison.ComparisonFault.TheVariants.{Run}
-use Rattle.tracebook.specs.declared.comparison.ComparisonView.{ComparisonView}
+use Rattle.span_request.specs.declared.views.ComparisonView.{ComparisonView}
 use Rattle.tracebook.specs.Comparison.{ComparisonLeaves, HasEnded, IsComparisonOf, greater}
 use Rattle.tracebook.specs.Request.{ComparisonPart}
 

@@ -11,8 +11,8 @@ use Rattle.span_table.specs.declared.of.Of.{Of}
 use Rattle.span_table.specs.Printed.{IsPrint}
 use Rattle.span_table.specs.Tables.{Run, SpanTable}
 use Rattle.span_table.proofs.RunTables.{json_of-print}
-use Rattle.tracebook.specs.declared.tables.TableForm.{TableForm}
-use Rattle.tracebook.specs.declared.tables.TableView.{TableView}
+use Rattle.span_request.specs.declared.views.TableForm.{TableForm}
+use Rattle.span_request.specs.declared.views.TableView.{TableView}
 use Rattle.tracebook.specs.Fleet.{AddsAreTrees, AreRunsOf, IsWhole, SumsAreLeaves}
 use Rattle.tracebook.specs.Sums.{Summed, SumsInputs}
 use Rattle.tracebook.specs.Tables.{FormFits, TableFits, formed, table_text}

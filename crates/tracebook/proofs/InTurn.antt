@@ -19,10 +19,10 @@ use Rattle.span_page.proofs.SamePages.{page_of-alike}
 use Rattle.span_runs.specs.Runs.{run_in_turn, run_of_files}
 use Rattle.span_runs.proofs.InTurn.{table_of_run-in_turn}
 use Rattle.span_table.specs.Tables.{SpanTable}
-use Rattle.tracebook.specs.declared.comparison.ComparisonView.{ComparisonView}
-use Rattle.tracebook.specs.declared.tables.TableView.{TableView}
-use Rattle.tracebook.specs.declared.view.View.{View}
-use Rattle.tracebook.specs.declared.view.View.TheVariants.{Report, Table, Refusals, Folded, Page}
+use Rattle.span_request.specs.declared.views.ComparisonView.{ComparisonView}
+use Rattle.span_request.specs.declared.views.TableView.{TableView}
+use Rattle.span_request.specs.declared.views.View.{View}
+use Rattle.span_request.specs.declared.views.View.TheVariants.{Report, Table, Refusals, Folded, Page}
 use Rattle.tracebook.specs.Comparison.{AreTooGreat, HasEnded, HasTooGreat, changes_of_runs, changes_text, compared_table, comparison_in_turn, greater}
 use Rattle.tracebook.specs.Tables.{TableExceeds, asked_table, table_text}
 use Rattle.tracebook.specs.View.{ExceedsBits, ExceedsNames, text_of}

@@ -1,7 +1,6 @@
 mod Adding
 mod Changes
 mod Compared
-mod FaultLines
 mod FleetTrees
 mod InTurn
 mod Parts

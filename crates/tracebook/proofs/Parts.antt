@@ -8,7 +8,7 @@ use Rattle.span_collect.specs.declared.files.Input.{Input}
 use Rattle.span_collect.specs.declared.settings.Settings.{Settings}
 use Rattle.span_collect.specs.declared.runs.RunEnd.{RunEnd}
 use Rattle.span_collect.proofs.Statuses.{status_of-lt}
-use Rattle.tracebook.specs.declared.view.View.{View}
+use Rattle.span_request.specs.declared.views.View.{View}
 use Rattle.tracebook.specs.Request.{LeavesPart}
 use Rattle.tracebook.specs.View.{Prints}
 

@@ -21,7 +21,7 @@ use Rattle.span_runs.specs.Inputs.{AreFiles}
 use Rattle.span_runs.specs.Source.{SourceBytes}
 use Rattle.span_runs.proofs.GatheredFiles.{AreGathered-none, AreGathered-push}
 use Rattle.tracebook.specs.declared.pages.ShownFiles.{ShownFiles}
-use Rattle.tracebook.specs.declared.view.PageView.{PageView}
+use Rattle.span_request.specs.declared.views.PageView.{PageView}
 use Rattle.tracebook.specs.Tables.{TableFits}
 use Rattle.tracebook.specs.Pages.{AreHeld, AreShown, HoldsInputs, IsPageOf, Pages, PagesPart, ShowsFile, ShowsInputs, WritesPage, WritesPagePart, asked_for, shown_alone, shown_run, shown_runs}
 

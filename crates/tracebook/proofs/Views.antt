@@ -22,8 +22,8 @@ use Rattle.span_collect.specs.Seals.{SealedAccount}
 use Rattle.span_collect.proofs.CutShort.{IsCutShort-failed}
 use Rattle.span_collect.proofs.InTurn.Texts.{FailsAsInTurn-same}
 use Rattle.span_collect.proofs.Statuses.{status_of-lt}
-use Rattle.tracebook.specs.declared.view.View.{View}
-use Rattle.tracebook.specs.declared.view.View.TheVariants.{Folded}
+use Rattle.span_request.specs.declared.views.View.{View}
+use Rattle.span_request.specs.declared.views.View.TheVariants.{Folded}
 use Rattle.tracebook.specs.declared.view.ViewFault.{ViewFault}
 use Rattle.tracebook.specs.declared.view.ViewFault.TheVariants.{Run, TooGreat, StacksTooLarge}
 use Rattle.tracebook.specs.View.{ExceedsBits, ExceedsNames, IsUnwritten, OfEnds, TextLeaves, ViewLeaves, of_folded, of_written, text_of}

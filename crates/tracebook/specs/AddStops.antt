@@ -1,7 +1,10 @@
 -- Tables are added one after another, and the first file that stops decides.
 use Rattle.std.specs.Prelude.{◌≡◌, ◌⊎◌, false, List, [], ◌∷◌, ◌++◌, Option}
 use Rattle.std.specs.List.{AllZip}
+use Rattle.span_event.specs.declared.fault.Fault.TheVariants as fault
+use Rattle.span_event.specs.Fault.{number_of}
 use Rattle.span_event.specs.Text.{Bytes}
+use Rattle.span_collect.specs.FaultLines.{fault_line}
 use Rattle.span_parts.specs.declared.fault.PartFault.{PartFault}
 use Rattle.span_parts.specs.declared.fault.PartFault.TheVariants as part
 use Rattle.span_parts.specs.Sum.{HasOtherColumns, IsNoPart, LacksColumn, PartSum, SumsParts, TakesFirst, TakesPart}
@@ -11,10 +14,11 @@ use Rattle.span_table.specs.declared.of.Of.{Of}
 use Rattle.span_table.specs.declared.sums.By.{By}
 use Rattle.span_table.specs.Printed.{IsPart}
 use Rattle.span_table.specs.Tables.{SpanTable}
+use Rattle.span_faults.specs.FaultLines.{run_line, unread_line}
+use Rattle.span_request.specs.Numbers.{goes_by}
 use Rattle.tracebook.specs.declared.added.AddStop.{AddStop}
 use Rattle.tracebook.specs.declared.added.AddStop.TheVariants.{NotOpened, NotTable, OtherColumns, Memory, FileCount}
 use Rattle.tracebook.specs.Added.{AddsBeside, AddsChosen, IsText, Known}
-use Rattle.tracebook.specs.Tables.{goes_by}
 
 -- the sum of one file, by the columns that are asked for
 pub record BeginsWith (known : Known) (wanted : List Column) (name : Bytes) (sum : PartSum) : Type 0 where
@@ -115,3 +119,11 @@ pub record StopsBeside (base : PartSum) (stop : AddStop) (known : Known) (names 
   pub sum : PartSum
   pub added : AddsBeside base sum known done
   pub cause : StopsNext base.of base.unit base.columns stop known later
+
+-- what is said where tables were not all added
+abbrev pub stop_text : AddStop → Bytes
+stop_text (NotOpened name reason) = unread_line name
+stop_text (NotTable name) = fault_line name (number_of fault.NotTable)
+stop_text (OtherColumns name) = fault_line name (number_of fault.OtherColumns)
+stop_text Memory = run_line (number_of fault.Memory)
+stop_text FileCount = run_line (number_of fault.FileCount)

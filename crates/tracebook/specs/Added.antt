@@ -6,11 +6,12 @@ use Rattle.span_report.specs.Sink.{SinkState}
 use Rattle.span_parts.specs.Sum.{Chooses, PartSum, SumsParts}
 use Rattle.span_runs.specs.Source.{AreFirst, SourceBytes}
 use Rattle.span_table.specs.declared.column.Column.{Column}
-use Rattle.tracebook.specs.declared.comparison.ComparisonView.{ComparisonView}
-use Rattle.tracebook.specs.declared.tables.TableView.{TableView}
-use Rattle.tracebook.specs.Comparison.{changes_text, compared_by}
+use Rattle.span_request.specs.declared.views.ComparisonView.{ComparisonView}
+use Rattle.span_request.specs.declared.views.TableView.{TableView}
+use Rattle.span_request.specs.Numbers.{compared_by, goes_by, named_by}
+use Rattle.tracebook.specs.Comparison.{changes_text}
 use Rattle.tracebook.specs.Sums.{WritesAll, WritesPart}
-use Rattle.tracebook.specs.Tables.{TableFits, goes_by, named_by, table_text}
+use Rattle.tracebook.specs.Tables.{TableFits, table_text}
 
 -- what is known of the bytes under each name
 abbrev pub Known : Type 0

@@ -1,5 +1,5 @@
 -- What comparing two runs does.
-use Rattle.std.specs.Prelude.{◌≡◌, ℕ, ◌<◌, ◌≤◌, ◌⊎◌, if◌then◌else◌, Bool, false, List, [], length, nat_lt, take, Option, None}
+use Rattle.std.specs.Prelude.{◌≡◌, ℕ, ◌<◌, ◌≤◌, ◌⊎◌, if◌then◌else◌, Bool, false, List, [], length, nat_lt, take}
 use Rattle.span_event.specs.declared.fault.Fault.TheVariants.{TooGreat as TooGreatFault}
 use Rattle.span_event.specs.Fault.{number_of}
 use Rattle.span_event.specs.Text.{Bytes}
@@ -14,7 +14,6 @@ use Rattle.span_collect.specs.InTurn.{AreSeparate}
 use Rattle.span_collect.specs.Run.{run_code, status_of}
 use Rattle.span_collect.specs.Seals.{SealedAccount}
 use Rattle.span_event.specs.declared.unit.Unit.{Unit}
-use Rattle.span_table.specs.declared.sums.By.{By}
 use Rattle.span_table.specs.Comparison.{comparison_of}
 use Rattle.span_table.specs.Json.{json_changes_fit, json_comparison_of}
 use Rattle.span_table.specs.Shown.{Wanted}
@@ -23,15 +22,10 @@ use Rattle.span_table.specs.Tables.{SpanTable}
 use Rattle.span_runs.specs.Runs.{run_in_turn, run_of_files, table_of_run}
 use Rattle.tracebook.specs.declared.comparison.ComparisonFault.{ComparisonFault}
 use Rattle.tracebook.specs.declared.comparison.ComparisonFault.TheVariants.{Run as OfRun, TooGreat}
-use Rattle.tracebook.specs.declared.comparison.ComparisonForm.{ComparisonForm}
-use Rattle.tracebook.specs.declared.comparison.ComparisonForm.TheVariants.{Text, Json}
-use Rattle.tracebook.specs.declared.comparison.ComparisonView.{ComparisonView}
+use Rattle.span_request.specs.declared.views.ComparisonForm.{ComparisonForm}
+use Rattle.span_request.specs.declared.views.ComparisonForm.TheVariants.{Text, Json}
+use Rattle.span_request.specs.declared.views.ComparisonView.{ComparisonView}
 use Rattle.tracebook.specs.Tables.{asked_by}
-
--- the number that a form names
-abbrev pub compared_by : ComparisonForm → Option By
-compared_by (Text by) = by
-compared_by Json = None
 
 -- what changed between two tables whose times are in this unit, in a form
 abbrev pub changes_formed : Unit → ComparisonForm → Wanted → Bool → SpanTable → SpanTable → Bytes

@@ -13,8 +13,8 @@ use Rattle.span_runs.specs.Inputs.{AreInputs}
 use Rattle.span_runs.specs.Source.{SourceBytes}
 use Rattle.span_table.specs.Shown.{wants_all}
 use Rattle.span_table.specs.Tables.{Run}
-use Rattle.tracebook.specs.declared.tables.TableForm.TheVariants.{Json}
-use Rattle.tracebook.specs.declared.tables.TableView.{TableView}
+use Rattle.span_request.specs.declared.views.TableForm.TheVariants.{Json}
+use Rattle.span_request.specs.declared.views.TableView.{TableView}
 use Rattle.tracebook.specs.Added.{Adds, IsText, OfInputs}
 use Rattle.tracebook.specs.Sums.{Sums}
 use Rattle.tracebook.specs.Tables.{table_text}

@@ -1,7 +1,6 @@
 pub mod AddStops
 pub mod Added
 pub mod Comparison
-pub mod FaultLines
 pub mod Fleet
 pub mod Pages
 pub mod Reading

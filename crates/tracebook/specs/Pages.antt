@@ -12,7 +12,7 @@ use Rattle.span_runs.specs.Apart.{AddsFile, GathersFiles}
 use Rattle.span_runs.specs.Gathering.{IsTableOf}
 use Rattle.span_runs.specs.Source.{SourceBytes}
 use Rattle.tracebook.specs.declared.pages.ShownFiles.{ShownFiles}
-use Rattle.tracebook.specs.declared.view.PageView.{PageView}
+use Rattle.span_request.specs.declared.views.PageView.{PageView}
 use Rattle.span_table.specs.Columns.{Run}
 use Rattle.span_table.specs.Tables.{SpanTable}
 use Rattle.tracebook.specs.Sums.{Summed, WritesAll, WritesPart}

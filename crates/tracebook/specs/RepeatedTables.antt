@@ -3,10 +3,10 @@ use Rattle.std.specs.Prelude.{◌≡◌, true, List}
 use Rattle.span_event.specs.Text.{Bytes}
 use Rattle.span_parts.specs.Sum.{PartSum}
 use Rattle.span_runs.specs.Source.{SourceBytes}
+use Rattle.span_request.specs.Numbers.{goes_by}
 use Rattle.tracebook.specs.declared.repeated_tables.Tables.{Tables}
-use Rattle.tracebook.specs.declared.repeats.RepeatsView.{RepeatsView}
+use Rattle.span_request.specs.declared.views.RepeatsView.{RepeatsView}
 use Rattle.tracebook.specs.Repeats.{AreTablesOfSides}
-use Rattle.tracebook.specs.Tables.{goes_by}
 
 -- what the tables say is what the first says, and they are those of the files of both sides
 pub record AreOfSides (source : SourceBytes) (base_names names : List Bytes) (view : RepeatsView) (tables : Tables) : Type 0 where

@@ -17,12 +17,13 @@ use Rattle.span_table.specs.Columns.{Run}
 use Rattle.span_table.specs.Repeats.{json_repeats_fit, json_repeats_of, repeats_of}
 use Rattle.span_table.specs.Shown.{Wanted}
 use Rattle.span_table.specs.Tables.{SpanTable}
-use Rattle.tracebook.specs.declared.repeats.RepeatsForm.{RepeatsForm}
-use Rattle.tracebook.specs.declared.repeats.RepeatsForm.TheVariants.{Text, Json}
-use Rattle.tracebook.specs.declared.repeats.RepeatsView.{RepeatsView}
+use Rattle.span_request.specs.declared.views.RepeatsForm.{RepeatsForm}
+use Rattle.span_request.specs.declared.views.RepeatsForm.TheVariants.{Text, Json}
+use Rattle.span_request.specs.declared.views.RepeatsView.{RepeatsView}
+use Rattle.span_request.specs.Numbers.{goes_by}
 use Rattle.tracebook.specs.Added.{AddsBeside, Known, OfInputs}
 use Rattle.tracebook.specs.Sums.{GathersBoth, WritesAll, WritesPart}
-use Rattle.tracebook.specs.Tables.{asked_by, goes_by}
+use Rattle.tracebook.specs.Tables.{asked_by}
 
 -- the text in a form, of tables that sum this by these columns, and whose times are in this unit
 abbrev pub repeats_formed : Unit → Of → List Column → RepeatsForm → By → Wanted → List SpanTable → List SpanTable → Bytes

@@ -1,23 +1,21 @@
--- What the words of a command line ask for, and what a request does.
-use Rattle.std.specs.Prelude.{◌≡◌, ℕ, ◌⊎◌, Bool, false, List, take, codes, nat_eq, string_bytes, None}
-use Rattle.std.specs.List.{list_any, starts_with}
-use Rattle.span_event.specs.declared.unit.Unit.TheVariants.{Microseconds}
+-- What a request does.
+use Rattle.std.specs.Prelude.{◌≡◌, ℕ, ◌⊎◌, List, take, string_bytes}
 use Rattle.span_report.specs.Sink.{SinkState, TakesBytes, Fails}
 use Rattle.span_collect.specs.declared.files.Input.{Input}
 use Rattle.span_collect.specs.declared.settings.Settings.{Settings}
 use Rattle.span_collect.specs.declared.runs.RunEnd.{RunEnd}
-use Rattle.tracebook.specs.declared.command.Request.{Request}
-use Rattle.tracebook.specs.declared.command.Request.TheVariants.{Run, Show, Refuse}
-use Rattle.tracebook.specs.declared.command.Task.{Task}
-use Rattle.tracebook.specs.declared.command.Task.TheVariants.{Collect, Compare, Sum, Pages as PagesTask, CompareSums, Repeat, Add, CompareAdded, RepeatAdded}
+use Rattle.span_request.specs.declared.tasks.Request.{Request}
+use Rattle.span_request.specs.declared.tasks.Request.TheVariants.{Run, Show, Refuse}
+use Rattle.span_request.specs.declared.tasks.Task.{Task}
+use Rattle.span_request.specs.declared.tasks.Task.TheVariants.{Collect, Compare, Sum, Pages as PagesTask, CompareSums, Repeat, Add, CompareAdded, RepeatAdded}
 use Rattle.tracebook.specs.declared.comparison.ComparisonFault.{ComparisonFault}
-use Rattle.tracebook.specs.declared.comparison.ComparisonView.{ComparisonView}
-use Rattle.tracebook.specs.declared.view.View.{View}
-use Rattle.tracebook.specs.declared.view.View.TheVariants.{Report}
+use Rattle.span_request.specs.declared.views.ComparisonView.{ComparisonView}
+use Rattle.span_request.specs.declared.views.View.{View}
 use Rattle.tracebook.specs.declared.view.ViewFault.{ViewFault}
 use Rattle.span_runs.specs.declared.names.Named.{Named}
 use Rattle.span_runs.specs.Names.{AreNamed}
 use Rattle.span_runs.specs.Source.{SourceBytes}
+use Rattle.span_request.specs.Request.{AsksFor}
 use Rattle.tracebook.specs.Added.{Adds, AddsPart, ComparesAdded, ComparesAddedPart}
 use Rattle.tracebook.specs.Comparison.{ComparisonLeaves, IsComparisonOf, greater}
 use Rattle.span_runs.specs.Inputs.{AreFiles, AreInputs}
@@ -25,29 +23,6 @@ use Rattle.tracebook.specs.Pages.{Pages, PagesPart}
 use Rattle.tracebook.specs.Repeats.{Repeats, RepeatsAdded, RepeatsAddedPart, RepeatsPart}
 use Rattle.tracebook.specs.Sums.{ComparesSums, ComparesSumsPart, Sums, SumsPart}
 use Rattle.tracebook.specs.View.{Prints, ViewLeaves}
-
--- the word begins with a hyphen
-abbrev pub is_option : List ℕ → Bool
-is_option word = starts_with nat_eq word (codes "-")
-
--- the limit where the command line doesn't say
-abbrev pub default_limit : ℕ
-default_limit = 16777216
-
--- the settings where it doesn't say
-abbrev pub default_settings : Settings
-default_settings = record { unit = Microseconds; limit = default_limit; seal = false; strict = false }
-
--- the files of these names are to be collected, with the default settings, and reported
-abbrev pub NamesFiles : List (List ℕ) → Request → Type 0
-NamesFiles words (Run (Collect settings view) files) = (settings ≡ default_settings) × (view ≡ Report) × (files.given.items ≡ words) × (files.list ≡ None)
-NamesFiles words (Run task files) = ⊥
-NamesFiles words (Show text) = ⊥
-NamesFiles words (Refuse text) = ⊥
-
--- words without options ask for the files that they name
-abbrev pub AsksFor : List (List ℕ) → Request → Type 0
-AsksFor words request = list_any is_option words ≡ false → NamesFiles words request
 
 -- this holds of a request that the words ask for
 abbrev pub Asked : List (List ℕ) → (Request → Type 0) → Type 0

@@ -11,8 +11,8 @@ use Rattle.span_table.specs.declared.column.Column.{Column}
 use Rattle.span_table.specs.declared.of.Of.{Of}
 use Rattle.span_table.specs.Columns.{Run}
 use Rattle.span_table.specs.Tables.{SpanTable}
-use Rattle.tracebook.specs.declared.comparison.ComparisonView.{ComparisonView}
-use Rattle.tracebook.specs.declared.tables.TableView.{TableView}
+use Rattle.span_request.specs.declared.views.ComparisonView.{ComparisonView}
+use Rattle.span_request.specs.declared.views.TableView.{TableView}
 use Rattle.tracebook.specs.Comparison.{changes_text}
 use Rattle.tracebook.specs.Tables.{TableFits, table_text}
 

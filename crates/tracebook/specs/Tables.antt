@@ -1,11 +1,9 @@
 -- The texts of tables.
-use Rattle.std.specs.Prelude.{◌≡◌, Bool, true, false, Option, Some, None, ⊤}
+use Rattle.std.specs.Prelude.{◌≡◌, Bool, false, Option, Some, None, ⊤}
 use Rattle.span_event.specs.Text.{Bytes}
 use Rattle.span_event.specs.declared.unit.Unit.{Unit}
 use Rattle.span_table.specs.declared.of.Of.{Of}
-use Rattle.span_table.specs.declared.of.Of.TheVariants.{Async, Spans}
 use Rattle.span_table.specs.declared.sums.By.{By}
-use Rattle.span_table.specs.declared.sums.By.TheVariants.{Closed, Count, Open, Points, SelfTime, Total}
 use Rattle.span_table.specs.Columns.{Run}
 use Rattle.span_table.specs.Json.{json_fits, json_of, shown_table}
 use Rattle.span_table.specs.Printed.{AllFit}
@@ -14,31 +12,14 @@ use Rattle.span_table.specs.Ranks.{usual_by}
 use Rattle.span_table.specs.Shown.{Wanted}
 use Rattle.span_table.specs.Tables.{SpanTable}
 use Rattle.span_runs.specs.Runs.{table_of_run}
-use Rattle.tracebook.specs.declared.tables.TableForm.{TableForm}
-use Rattle.tracebook.specs.declared.tables.TableForm.TheVariants.{Ranking, Json}
-use Rattle.tracebook.specs.declared.tables.TableView.{TableView}
+use Rattle.span_request.specs.declared.views.TableForm.{TableForm}
+use Rattle.span_request.specs.declared.views.TableForm.TheVariants.{Ranking, Json}
+use Rattle.span_request.specs.declared.views.TableView.{TableView}
 
 -- the number that rows go by: the named one, or the usual one of what a table sums
 abbrev pub asked_by : Of → Option By → By
 asked_by of None = usual_by of
 asked_by of (Some by) = by
-
--- what is summed has the number, or none is named
-abbrev pub goes_by : Of → Option By → Bool
-goes_by of None = true
-goes_by Spans (Some SelfTime) = true
-goes_by Spans (Some Total) = true
-goes_by Spans (Some Count) = true
-goes_by Async (Some Total) = true
-goes_by Async (Some Closed) = true
-goes_by Async (Some Open) = true
-goes_by Async (Some Points) = true
-goes_by of by = false
-
--- the number that a form names
-abbrev pub named_by : TableForm → Option By
-named_by (Ranking most by) = by
-named_by Json = None
 
 -- a table in this form, whose times are in this unit
 abbrev pub formed : Unit → TableForm → Wanted → Bool → SpanTable → Bytes

@@ -22,8 +22,8 @@ use Rattle.span_collect.specs.declared.settings.Settings.{Settings}
 use Rattle.span_collect.specs.InTurn.{AreSeparate, FailsAsInTurn, WritesAsInTurn, ends_from, journal_in_turn}
 use Rattle.span_collect.specs.Run.{IsRunOf, RunLeaves, TextOf, WritesOneFile, run_code, status_of}
 use Rattle.span_collect.specs.Seals.{SealedAccount}
-use Rattle.tracebook.specs.declared.view.View.{View}
-use Rattle.tracebook.specs.declared.view.View.TheVariants.{Report, Table, Refusals, Folded, Page}
+use Rattle.span_request.specs.declared.views.View.{View}
+use Rattle.span_request.specs.declared.views.View.TheVariants.{Report, Table, Refusals, Folded, Page}
 use Rattle.tracebook.specs.declared.view.ViewFault.{ViewFault}
 use Rattle.tracebook.specs.declared.view.ViewFault.TheVariants.{Run, TooGreat, StacksTooLarge}
 use Rattle.span_runs.specs.Runs.{run_of_files}

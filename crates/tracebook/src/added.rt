@@ -1,21 +1,19 @@
 //! Files each of which is a table that was printed: they are read back, added and printed.
 ghost use Rattle.std.specs.Prelude.{◌≡◌, ◌<◌, ◌≤◌, true, IfErr, IfOk};
 ghost use Rattle.span_parts.specs.Sum.{HasOtherColumns};
-ghost use Rattle.tracebook.specs.AddStops.{AddsFile, AddsMore, BeginsWith, IsOfPart, IsUnread, LacksAsked, Stops, StopsAt, StopsBeside, StopsMore};
+ghost use Rattle.span_faults.specs.FaultLines.{SaysAndHints};
+ghost use Rattle.span_request.specs.Numbers.{goes_by};
+ghost use Rattle.tracebook.specs.AddStops.{AddsFile, AddsMore, BeginsWith, IsOfPart, IsUnread, LacksAsked, Stops, StopsAt, StopsBeside, StopsMore, stop_text};
 ghost use Rattle.tracebook.specs.Added.{Adds, AddsBeside, AddsChosen, AddsPart, ComparesAdded, ComparesAddedPart, IsText, OfInputs};
-ghost use Rattle.tracebook.specs.FaultLines.{SaysAndHints, stop_text};
-ghost use Rattle.tracebook.specs.Tables.{goes_by};
 
-use crate::comparison::ComparisonView;
-use crate::faults::{Faults, fail, fail_at, fail_cause};
-use crate::numbers::goes_by;
 use crate::standard::Standard;
 use crate::sums::{write_runs_changes, write_runs_table};
-use crate::tables::TableView;
 use span_event::{Fault, Text};
+use span_faults::{Faults, fail, fail_at, fail_cause};
 use span_names::HashKeys;
 use span_parts::{PartFault, Parts};
 use span_report::Sink;
+use span_request::{ComparisonView, TableView, goes_by};
 use span_runs::{Reason, Source, SourceFault, StopCause};
 use span_table::{By, Column};
 use std::alloc::Global;

@@ -1,19 +1,18 @@
 //! Files each of which is a run of its own: their tables, summed and printed.
 ghost use Rattle.std.specs.Prelude.{◌≡◌, ◌<◌, ◌≤◌, ◌++◌, [], true, IfOk};
+ghost use Rattle.span_faults.specs.FaultLines.{Says};
 ghost use Rattle.tracebook.specs.Comparison.{changes_text};
-ghost use Rattle.tracebook.specs.FaultLines.{Says};
 ghost use Rattle.tracebook.specs.Sums.{ComparesSums, ComparesSumsPart, GathersInputs, Sums, SumsPart, WritesAll, WritesPart};
 ghost use Rattle.tracebook.specs.Tables.{TableFits, table_text};
 
-use crate::comparison::ComparisonView;
-use crate::faults::{Faults, fail, fail_stop};
 use crate::sides::{Sides, ToldSides, gather_sides};
 use crate::standard::Standard;
 use crate::sums::{write_runs_changes, write_runs_table};
-use crate::tables::TableView;
 use span_collect::Settings;
 use span_event::{Fault, Text, Unit};
+use span_faults::{Faults, fail, fail_stop};
 use span_report::Sink;
+use span_request::{Apart, ComparisonView, TableView};
 use span_runs::{Gathered, Gathering, Source, Stop, gather_apart};
 use span_table::{Column, Of, TableSum};
 use std::alloc::Global;
@@ -24,13 +23,6 @@ use std::thread;
 use std::thread::Threads;
 
 const MOST_JOBS: usize = 64;
-
-/// How files are collected that are runs of their own: in so many jobs at once, or one for each processor that the system grants.
-#[derive(Clone, Copy)]
-pub struct Apart {
-    pub settings: Settings,
-    pub jobs: Option<u32>,
-}
 
 /// Sums the files of these names, or standard input where there are none, and prints this of them.
 pub(crate) fn sum_files<

@@ -3,47 +3,20 @@ ghost use Rattle.std.specs.Prelude.{◌≡◌, IfOk, IfErr, OnOk};
 ghost use Rattle.span_report.specs.Sink.{TakesBytes};
 ghost use Rattle.span_runs.specs.Runs.{run_of_files};
 ghost use Rattle.span_table.specs.declared.json_lines.JsonFault.TheVariants.{TooGreat};
-ghost use Rattle.tracebook.specs.Comparison.{AreTooGreat, ChangesLeave, ComparisonLeaves, HasTooGreat, IsComparisonOf, changes_of_runs, changes_text, compared_by, comparison_code, greater};
+ghost use Rattle.tracebook.specs.Comparison.{AreTooGreat, ChangesLeave, ComparisonLeaves, HasTooGreat, IsComparisonOf, changes_of_runs, changes_text, comparison_code, greater};
 
-use crate::tables::{TableOptions, asked_by};
+use crate::tables::asked_by;
 use span_collect::{Collected, Input, RunError, Settings, collect_to_ledger};
 use span_event::{Fault, Unit};
 use span_report::{Sink, write_bytes};
+use span_request::{ComparisonForm, ComparisonView};
 use span_runs::table_of_run;
-use span_table::{By, JsonFault, Table, comparison, json_comparison};
+use span_table::{JsonFault, Table, comparison, json_comparison};
 use std::alloc::Global;
 use std::mem::forget;
 use std::random::RandomSource;
 use std::sync::Wait;
 use std::thread::Threads;
-
-/// How a comparison is printed.
-#[derive(Clone, Copy)]
-pub enum ComparisonForm {
-    /// For people, with the greatest change of this number first.
-    Text { by: Option<By> },
-    /// For other programs.
-    Json,
-}
-
-impl ComparisonForm {
-    /// The number that is named.
-    pub(crate) fn by(self) -> Option<By>
-        ensures { result ≡ compared_by self }
-    {
-        match self {
-            ComparisonForm::Text { by } => by,
-            ComparisonForm::Json => None,
-        }
-    }
-}
-
-/// What is printed of what changed between two runs, or sums of runs: which rows of their tables, and how.
-#[derive(Drop)]
-pub struct ComparisonView {
-    pub options: TableOptions,
-    pub form: ComparisonForm,
-}
 
 /// Why a comparison was not written whole.
 #[derive(Drop)]

@@ -3,16 +3,9 @@
 
 mod added;
 mod apart;
-mod columns;
-mod combinations;
-mod command;
 mod comparison;
-mod faults;
-mod hints;
 mod inputs;
 mod laws;
-mod numbers;
-mod options;
 mod pages;
 mod program;
 mod progress;
@@ -27,11 +20,11 @@ mod view;
 
 ghost use Rattle.std.specs.Prelude.{None};
 
-use faults::Faults;
 use program::perform;
 use progress::{Cleared, Progress, Watched};
 use reading::{read_up_to, reason_of};
 use span_event::Text;
+use span_faults::Faults;
 use span_report::{Sink, SinkFault, Writer};
 use span_runs::{Source, SourceFault};
 use std::fs::{File, metadata};

@@ -2,22 +2,22 @@
 ghost use Rattle.std.specs.Prelude.{◌≡◌, ◌<◌, ◌≤◌, [], List, true, length, map, IfOk, OnOk};
 ghost use Rattle.span_page.specs.Runs.{Holds, ShownRun, TakesRun, page_of_runs};
 ghost use Rattle.span_table.specs.Tables.{table_of};
-ghost use Rattle.tracebook.specs.FaultLines.{Says};
+ghost use Rattle.span_faults.specs.FaultLines.{Says};
 ghost use Rattle.tracebook.specs.Pages.{AreHeld, HoldsInputs, Pages, PagesPart, ShowsFile, WritesPage, WritesPagePart, shown_alone, shown_run, shown_runs};
 ghost use Rattle.tracebook.specs.Tables.{TableFits, table_text};
 
-use crate::apart::{Apart, jobs_of};
-use crate::faults::{Faults, fail, fail_stop};
+use crate::apart::jobs_of;
 use crate::standard::Standard;
 use crate::sums::write_told;
 use crate::tables::{string_of, table_text};
-use crate::view::PageView;
 use span_collect::Settings;
 use span_event::{Fault, Text, Unit};
+use span_faults::{Faults, fail, fail_stop};
 use span_names::HashKeys;
 use span_page::RunsPage;
 use span_report::Sink;
 use span_report::stacks::SpanColumn;
+use span_request::{Apart, PageView};
 use span_runs::{FileRun, Gathered, Source, Stop, StopCause, collect_file, gather_apart};
 use span_table::{JsonFault, Table, TableSum};
 use std::alloc::{AllocError, Global};

@@ -4,17 +4,17 @@ ghost use Rattle.tracebook.specs.Request.{Asked, Does, DoesPart, EndsWith, Leave
 
 use crate::added::{add_files, compare_added};
 use crate::apart::{compare_sums, sum_files};
-use crate::command::{Request, Task, request_of};
-use crate::comparison::{ComparisonView, greater, run_comparison};
-use crate::faults::{FAILED, Faults, fail, fail_cause, fail_run, put_hints, report_faults, say};
+use crate::comparison::{greater, run_comparison};
 use crate::inputs::{inputs_of, pair_of};
 use crate::pages::page_files;
 use crate::repeated_tables::repeat_added;
 use crate::repeats::repeat_runs;
-use crate::view::{View, run_view};
+use crate::view::run_view;
 use span_collect::{Input, Settings};
 use span_event::{Fault, Text};
+use span_faults::{FAILED, Faults, fail, fail_cause, fail_run, put_hints, report_faults, say};
 use span_report::{Sink, write_bytes};
+use span_request::{ComparisonView, Request, Task, View, request_of};
 use span_runs::{Source, names_of};
 use std::alloc::Global;
 use std::mem::forget;

@@ -5,13 +5,14 @@ ghost use Rattle.tracebook.specs.RepeatedTables.{AreOfSides};
 ghost use Rattle.tracebook.specs.Added.{OfInputs};
 
 use crate::added::{AddStop, fail_add, sum_beside, sum_names};
-use crate::faults::{Faults, fail};
-use crate::repeats::{RepeatsView, are_few, write_tables};
+use crate::repeats::{are_few, write_tables};
 use crate::standard::Standard;
 use span_event::{Fault, Text, Unit};
+use span_faults::{Faults, fail};
 use span_names::HashKeys;
 use span_parts::Parts;
 use span_report::Sink;
+use span_request::RepeatsView;
 use span_runs::Source;
 use span_table::{Column, Of, Table, copies_of};
 use std::alloc::{AllocError, Global};

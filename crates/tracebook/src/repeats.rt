@@ -4,15 +4,15 @@ ghost use Rattle.span_table.specs.declared.json_lines.JsonFault.TheVariants.{Too
 ghost use Rattle.tracebook.specs.Repeats.{AreFew, RepeatsExceed, RepeatsFit, Repeats, RepeatsPart, gathered_text, repeats_text};
 ghost use Rattle.tracebook.specs.Sums.{WritesAll, WritesPart};
 
-use crate::apart::Apart;
-use crate::faults::{Faults, fail};
 use crate::sides::{Sides, ToldSides, gather_sides};
 use crate::sums::write_told;
-use crate::tables::{TableOptions, asked_by};
+use crate::tables::asked_by;
 use span_event::{Fault, Text, Unit};
+use span_faults::{Faults, fail};
 use span_report::Sink;
+use span_request::{Apart, RepeatsForm, RepeatsView};
 use span_runs::Source;
-use span_table::{By, Column, JsonFault, Of, Table, json_repeats, repeats};
+use span_table::{Column, JsonFault, Of, Table, json_repeats, repeats};
 use std::alloc::Global;
 use std::mem::forget;
 use std::random::RandomSource;
@@ -21,23 +21,6 @@ use std::thread::Threads;
 
 // The most repetitions of a side.
 const MOST_REPETITIONS: usize = 64;
-
-/// How it is printed.
-#[derive(Clone, Copy)]
-pub enum RepeatsForm {
-    /// For people: the keys whose sides are apart.
-    Text,
-    /// For other programs: the values of each key.
-    Json,
-}
-
-/// What is printed of repeated runs: which rows of their tables, by which number, or the usual one of what is summed, and how.
-#[derive(Drop)]
-pub struct RepeatsView {
-    pub options: TableOptions,
-    pub by: Option<By>,
-    pub form: RepeatsForm,
-}
 
 /// Collects the files of the base, each a run of its own, and then the others, and prints how their numbers are spread.
 pub(crate) fn repeat_runs<

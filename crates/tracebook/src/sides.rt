@@ -2,10 +2,10 @@
 ghost use Rattle.std.specs.Prelude.{◌≡◌, ◌++◌, IfErr, IfOk, OnOk};
 ghost use Rattle.tracebook.specs.Sides.{GathersSides};
 
-use crate::apart::{Apart, gather_inputs, jobs_of};
-use crate::faults::{Faults, fail_stop, say};
-use crate::tables::TableOptions;
+use crate::apart::{gather_inputs, jobs_of};
 use span_event::Text;
+use span_faults::{Faults, fail_stop, say};
+use span_request::{Apart, TableOptions};
 use span_runs::{Gathered, Gathering, Source, gather_apart};
 use std::alloc::{AllocError, Global};
 use std::random::RandomSource;

@@ -1,15 +1,16 @@
 //! Tables of several runs, as they are printed: their heads tell of the runs, and fault lines follow.
 ghost use Rattle.std.specs.Prelude.{◌≡◌, ◌<◌, ◌≤◌, true, is_ok, IfOk, IfErr};
+ghost use Rattle.span_faults.specs.FaultLines.{Says};
 ghost use Rattle.tracebook.specs.Comparison.{changes_text};
-ghost use Rattle.tracebook.specs.FaultLines.{Says};
 ghost use Rattle.tracebook.specs.Sums.{WritesAll, WritesPart};
 ghost use Rattle.tracebook.specs.Tables.{TableFits, table_text};
 
-use crate::comparison::{ComparisonView, changes_text};
-use crate::faults::{FAILED, Faults, fail, say};
-use crate::tables::{TableView, table_text};
+use crate::comparison::changes_text;
+use crate::tables::table_text;
 use span_event::{Fault, Unit};
+use span_faults::{Faults, fail, say};
 use span_report::{Sink, write_bytes};
+use span_request::{ComparisonView, TableView};
 use span_table::{JsonFault, Table};
 use std::alloc::Global;
 use std::mem::forget;

@@ -1,36 +1,12 @@
 //! The tables that the command line asks for, and their texts.
 ghost use Rattle.std.specs.Prelude.{◌≡◌, true, false, string_bytes, IfOk, IfErr, OnOk};
 ghost use Rattle.span_table.specs.declared.json_lines.JsonFault.TheVariants.{Memory, TooGreat};
-ghost use Rattle.tracebook.specs.Tables.{TableExceeds, TableFits, asked_by, named_by, table_text};
+ghost use Rattle.tracebook.specs.Tables.{TableExceeds, TableFits, asked_by, table_text};
 
 use span_event::Unit;
-use span_table::{By, Column, JsonFault, Of, Shown, Table, json_table, ranking};
+use span_request::{TableForm, TableView};
+use span_table::{By, JsonFault, Of, Table, json_table, ranking};
 use std::alloc::Global;
-
-/// Which table is printed: what is summed, by which columns, and which rows are shown. Tables that are added say themselves what they
-/// sum, and no columns are all of theirs.
-#[derive(Drop)]
-pub struct TableOptions {
-    pub of: Of,
-    pub columns: Vec<Column>,
-    pub shown: Shown,
-}
-
-/// How a table is printed.
-#[derive(Clone, Copy)]
-pub enum TableForm {
-    /// The first rows by this number, or by the usual one of what is summed, at most so many.
-    Ranking { most: u32, by: Option<By> },
-    /// The rows for other programs.
-    Json,
-}
-
-/// What is printed of a table.
-#[derive(Drop)]
-pub struct TableView {
-    pub options: TableOptions,
-    pub form: TableForm,
-}
 
 /// The text of a table in a unit, whose head tells of runs or doesn't.
 pub(crate) fn table_text(
@@ -65,18 +41,6 @@ pub(crate) fn asked_by(of: Of, by: Option<By>) -> By
     match by {
         Some(by) => by,
         None => of.by(),
-    }
-}
-
-impl TableForm {
-    /// The number that is named.
-    pub(crate) fn by(self) -> Option<By>
-        ensures { result ≡ named_by self }
-    {
-        match self {
-            TableForm::Ranking { most: _, by } => by,
-            TableForm::Json => None,
-        }
     }
 }
 

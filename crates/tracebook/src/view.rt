@@ -2,18 +2,19 @@
 ghost use Rattle.std.specs.Prelude.{◌≡◌, true, false, length, IfOk, IfErr, OnOk};
 ghost use Rattle.span_report.specs.Sink.{TakesBytes};
 ghost use Rattle.span_runs.specs.Runs.{run_of_files};
+ghost use Rattle.span_request.specs.declared.views.View.TheVariants.{Page as OfPage, Table as OfTable};
 ghost use Rattle.span_table.specs.declared.json_lines.JsonFault.TheVariants.{TooGreat};
-ghost use Rattle.tracebook.specs.declared.view.View.TheVariants.{Page as OfPage, Table as OfTable};
 ghost use Rattle.tracebook.specs.Tables.{TableExceeds, TableFits, asked_table, table_text};
 ghost use Rattle.tracebook.specs.View.{Fits, Prints, TextLeaves, ViewLeaves, of_folded, of_written, text_of, view_code};
 
-use crate::tables::{TableView, string_of, table_text};
+use crate::tables::{string_of, table_text};
 use span_collect::refusals::write_refusals;
 use span_collect::{Collected, Input, RunError, Settings, collect_to_ledger, run_to_ledger};
 use span_event::{Fault, Unit};
 use span_page::write_page;
-use span_report::stacks::{FoldedFault, SpanColumn, write_folded};
+use span_report::stacks::{FoldedFault, write_folded};
 use span_report::{Sink, WriteFault, write_bytes, write_report};
+use span_request::{PageView, TableView, View};
 use span_runs::table_of_run;
 use span_table::{JsonFault, Table};
 use std::alloc::Global;
@@ -21,27 +22,6 @@ use std::mem::forget;
 use std::random::RandomSource;
 use std::sync::Wait;
 use std::thread::Threads;
-
-/// What is printed of what was collected.
-#[derive(Drop)]
-pub enum View {
-    Report,
-    /// A table of the run.
-    Table(TableView),
-    /// Which items of each file were refused.
-    Refusals,
-    /// The folded stacks of each thread, whose frames are labels by these columns.
-    Folded(Vec<SpanColumn>),
-    /// A page for a browser.
-    Page(PageView),
-}
-
-/// What a page shows of spans: a table of the run, and frames that are labels by these columns.
-#[derive(Drop)]
-pub struct PageView {
-    pub table: TableView,
-    pub labels: Vec<SpanColumn>,
-}
 
 /// Why a view of a run was not written whole.
 #[derive(Drop)]

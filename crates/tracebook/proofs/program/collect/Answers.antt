@@ -1,6 +1,6 @@
 use Rattle.std.proofs.Common.{sym, arith, inl, inr}
 use Rattle.std.proofs.lemmas.Slice.Zip.{AllZip-long}
-use Rattle.tracebook.proofs.FaultLines.{Reports-status}
+use Rattle.span_faults.proofs.FaultLines.{Reports-status}
 use Rattle.tracebook.proofs.Parts.{LeavesPart-ended}
 use Rattle.tracebook.proofs.program.collect.Goals as goal
 

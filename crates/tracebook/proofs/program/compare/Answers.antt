@@ -1,7 +1,7 @@
 use Rattle.std.proofs.Common.{sym, ◌∙◌}
 use Rattle.std.proofs.lemmas.Slice.Zip.{AllZip-long}
 use Rattle.tracebook.proofs.Compared.{ComparisonPart-ended, HasEnded-le, greater-le, greater-none, greater-told}
-use Rattle.tracebook.proofs.FaultLines.{Reports-le, Reports-status}
+use Rattle.span_faults.proofs.FaultLines.{Reports-le, Reports-status}
 use Rattle.tracebook.proofs.program.compare.Goals as goal
 
 -- there is one end for each file

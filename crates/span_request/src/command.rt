@@ -1,17 +1,17 @@
 //! The command line: its words, and what they ask for.
 ghost use Rattle.std.specs.Prelude.{◌≡◌, codes, nat_eq, IfOk};
 ghost use Rattle.std.specs.List.{list_any, starts_with};
-ghost use Rattle.tracebook.specs.Request.{AsksFor, is_option};
+ghost use Rattle.span_request.specs.Request.{AsksFor, is_option};
 
-use crate::apart::Apart;
 use crate::columns::{columns_of, labels_of, name_alone, named, of_async, paged, ranked, rule_of};
 use crate::combinations::{broken_rule, idle_rule, is_any_given};
-use crate::comparison::{ComparisonForm, ComparisonView};
 use crate::numbers::by_of;
 use crate::options::command_of;
-use crate::repeats::{RepeatsForm, RepeatsView};
-use crate::tables::{TableForm, TableOptions, TableView};
-use crate::view::{PageView, View};
+use crate::tasks::{Apart, Request, Task};
+use crate::views::{
+    ComparisonForm, ComparisonView, PageView, RepeatsForm, RepeatsView, TableForm, TableOptions,
+    TableView, View,
+};
 use clap::error::{Error, ErrorKind};
 use clap::{ArgMatches, Command};
 use span_collect::Settings;
@@ -22,69 +22,6 @@ use std::alloc::{AllocError, Global};
 
 /// The most entries of the journal, where the command line does not say.
 pub(crate) const DEFAULT_LIMIT: u32 = 16_777_216;
-
-/// What a command line asks for.
-#[derive(Drop)]
-pub enum Request {
-    /// Do this with these files, or with standard input where none are named.
-    Run { task: Task, files: Named },
-    /// Print this help, or the version.
-    Show(String),
-    /// The words are refused, by this text.
-    Refuse(String),
-}
-
-/// What is done with files.
-#[derive(Drop)]
-pub enum Task {
-    /// Collect them, and print this of them.
-    Collect {
-        settings: Settings,
-        view: View,
-    },
-    /// Collect the base files as one run and the others as another, and print this of what changed.
-    Compare {
-        settings: Settings,
-        view: ComparisonView,
-        base: Vec<Text>,
-    },
-    /// Collect each of them as a run of its own, and print this of their sum.
-    Sum {
-        apart: Apart,
-        view: TableView,
-    },
-    /// Collect each of them as a run of its own, and print a page of them.
-    Pages {
-        apart: Apart,
-        view: PageView,
-    },
-    /// Sum the base files so, and the others, and print this of what changed.
-    CompareSums {
-        apart: Apart,
-        view: ComparisonView,
-        base: Vec<Text>,
-    },
-    /// Collect each base file as a run of its own, and each of the others, and print how the numbers of both sides are spread.
-    Repeat {
-        apart: Apart,
-        view: RepeatsView,
-        base: Vec<Text>,
-    },
-    /// Add them, each of which is a table that was printed, and print this of their sum.
-    Add {
-        view: TableView,
-    },
-    /// Add the base files so, and the others, and print this of what changed.
-    CompareAdded {
-        view: ComparisonView,
-        base: Vec<Text>,
-    },
-    /// Take each base file as the table of one run, and each of the others, and print how the numbers of both sides are spread.
-    RepeatAdded {
-        view: RepeatsView,
-        base: Vec<Text>,
-    },
-}
 
 /// What the words ask for; they leave out the program's own name. Words of which none begins with a hyphen name files.
 pub fn request_of(alloc: Global, words: Vec<Text>) -> Result<Request, AllocError>

@@ -1,6 +1,6 @@
 //! The numbers that rows go by, as the command line names them.
 ghost use Rattle.std.specs.Prelude.{◌≡◌};
-ghost use Rattle.tracebook.specs.Tables.{goes_by};
+ghost use Rattle.span_request.specs.Numbers.{goes_by};
 
 use clap::ArgMatches;
 use span_table::{By, Of};
@@ -27,7 +27,7 @@ fn number_named(name: &str) -> Option<By> {
 }
 
 /// Whether rows of what is summed have this number. Where none is named, they go by the usual one.
-pub(crate) fn goes_by(of: Of, by: Option<By>) -> bool
+pub fn goes_by(of: Of, by: Option<By>) -> bool
     ensures { result ≡ goes_by of by }
 {
     match (of, by) {

@@ -4,7 +4,7 @@ ghost use Rattle.span_event.specs.declared.fault.Fault.TheVariants.{Memory};
 ghost use Rattle.span_event.specs.Fault.{number_of};
 ghost use Rattle.span_report.specs.Sink.{SinkState};
 ghost use Rattle.span_collect.specs.FaultLines.{fault_line};
-ghost use Rattle.tracebook.specs.FaultLines.{IsHint, MayHint, Reports, Says, SaysCause, SaysOrMemory, SaysStop, fault_text, run_line};
+ghost use Rattle.span_faults.specs.FaultLines.{IsHint, MayHint, Reports, Says, SaysCause, SaysOrMemory, SaysStop, fault_text, run_line};
 
 use crate::hints::{Hint, MANY_FILES, RefusalCounts, hint_of_bytes};
 use span_collect::{Collected, FileEnd, Input, RunEnd, fault_line_of, fault_lines, numbered_text};
@@ -14,7 +14,7 @@ use span_runs::{Stop, StopCause};
 use std::alloc::{AllocError, Global};
 
 /// The status of a program that failed.
-pub(crate) const FAILED: u8 = 2;
+pub const FAILED: u8 = 2;
 
 // Said where there is no memory for the line that is meant.
 const NO_MEMORY: &[u8] = b"tracebook: 31 Memory\n";
@@ -27,12 +27,7 @@ pub trait Faults: Sink {
 
 /// Says which files were not read whole, and that a seal was not taken, and gives the status of the run; or 2, where memory for the
 /// lines is refused. Of a run whose status is 0 nothing is said.
-pub(crate) fn report_faults<F: Faults>(
-    alloc: Global,
-    files: &[Input],
-    end: &RunEnd,
-    faults: &mut F,
-) -> u8
+pub fn report_faults<F: Faults>(alloc: Global, files: &[Input], end: &RunEnd, faults: &mut F) -> u8
     requires lines { length files.now ≡ length end.now.ends.items }
     requires status { end.now.status ≤ 2 }
     ensures { Reports files.now end.now result (F.state faults.old) (F.state faults.new) }
@@ -74,7 +69,7 @@ fn run_line(alloc: Global, code: u16) -> Result<String, AllocError>
 }
 
 /// Writes this to where faults go. If that fails, nothing is tried again.
-pub(crate) fn say<F: Sink>(text: &[u8], faults: &mut F)
+pub fn say<F: Sink>(text: &[u8], faults: &mut F)
     ensures { Says text.now (F.state faults.old) (F.state faults.new) }
 {
     let _ = write_bytes(text, faults);
@@ -98,7 +93,7 @@ fn say_line<F: Sink>(line: Result<String, AllocError>, faults: &mut F)
 }
 
 /// Says that the run as a whole failed.
-pub(crate) fn fail<F: Faults>(alloc: Global, code: u16, faults: &mut F) -> u8
+pub fn fail<F: Faults>(alloc: Global, code: u16, faults: &mut F) -> u8
     ensures status { result ≡ 2 }
     ensures said { SaysOrMemory (run_line code) (F.state faults.old) (F.state faults.new) }
 {
@@ -107,7 +102,7 @@ pub(crate) fn fail<F: Faults>(alloc: Global, code: u16, faults: &mut F) -> u8
 }
 
 /// Says why files were not all summed: the lines of those before the one that stopped, and why that did.
-pub(crate) fn fail_stop<F: Faults>(alloc: Global, stop: Stop, faults: &mut F) -> u8
+pub fn fail_stop<F: Faults>(alloc: Global, stop: Stop, faults: &mut F) -> u8
     ensures status { result ≡ 2 }
     ensures said { SaysStop stop (F.state faults.old) (F.state faults.new) }
 {
@@ -118,7 +113,7 @@ pub(crate) fn fail_stop<F: Faults>(alloc: Global, stop: Stop, faults: &mut F) ->
 }
 
 /// Says why files were not all read.
-pub(crate) fn fail_cause<F: Faults>(alloc: Global, cause: StopCause, faults: &mut F) -> u8
+pub fn fail_cause<F: Faults>(alloc: Global, cause: StopCause, faults: &mut F) -> u8
     ensures status { result ≡ 2 }
     ensures said { SaysCause cause (F.state faults.old) (F.state faults.new) }
 {
@@ -141,7 +136,7 @@ pub(crate) fn fail_cause<F: Faults>(alloc: Global, cause: StopCause, faults: &mu
 }
 
 /// Says what is wrong with a file, without which there is no text.
-pub(crate) fn fail_at<F: Faults>(alloc: Global, name: &Text, code: u16, faults: &mut F) -> u8
+pub fn fail_at<F: Faults>(alloc: Global, name: &Text, code: u16, faults: &mut F) -> u8
     ensures status { result ≡ 2 }
     ensures said { SaysOrMemory (fault_line name.now code) (F.state faults.old)
         (F.state faults.new) }
@@ -151,7 +146,7 @@ pub(crate) fn fail_at<F: Faults>(alloc: Global, name: &Text, code: u16, faults: 
 }
 
 /// Says that a run was refused, with what may help.
-pub(crate) fn fail_run<F: Faults>(alloc: Global, code: u16, faults: &mut F) -> u8
+pub fn fail_run<F: Faults>(alloc: Global, code: u16, faults: &mut F) -> u8
     ensures status { result ≡ 2 }
     ensures said { (middle : SinkState) × SaysOrMemory (run_line code) (F.state faults.old) middle
         × MayHint middle (F.state faults.new) }
@@ -164,7 +159,7 @@ pub(crate) fn fail_run<F: Faults>(alloc: Global, code: u16, faults: &mut F) -> u
 }
 
 /// Says what may help with the files of a run, where a person reads along. What finds no memory is left out.
-pub(crate) fn put_hints<F: Faults>(
+pub fn put_hints<F: Faults>(
     alloc: Global,
     files: &[Input],
     collected: &Collected,

@@ -6,7 +6,7 @@ use Rattle.span_report.specs.Sink.{SinkState}
 use Rattle.span_collect.specs.declared.files.Input.{Input}
 use Rattle.span_collect.specs.declared.runs.RunEnd.{RunEnd}
 use Rattle.std.specs.Io.KnownBytes.{Appends}
-use Rattle.tracebook.specs.FaultLines.{MayHint, Reports, SaysAndHints, SaysOrMemory}
+use Rattle.span_faults.specs.FaultLines.{MayHint, Reports, SaysAndHints, SaysOrMemory}
 
 -- the status that is given is the run's, or 2
 pub Reports-status : {files : List Input} {run : RunEnd} {status : ℕ} {old new : SinkState} → Reports files run status old new → (status ≡ run.status) ⊎ (status ≡ 2)

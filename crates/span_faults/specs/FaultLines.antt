@@ -1,6 +1,6 @@
 -- What is said where files or runs failed.
 use Rattle.std.specs.Prelude.{◌≡◌, ◌≢◌, ℕ, ◌≤◌, ◌⊎◌, List, [], ◌∷◌, ◌++◌, length, take, codes, Option, Some, None}
-use Rattle.span_event.specs.declared.fault.Fault.TheVariants.{FileCount, Memory, NotOpened, NotTable, OtherColumns}
+use Rattle.span_event.specs.declared.fault.Fault.TheVariants.{FileCount, Memory, NotOpened}
 use Rattle.span_event.specs.Fault.{number_of}
 use Rattle.span_journal.specs.Refusal.{code_of}
 use Rattle.span_journal.specs.declared.refusal.Cause.{Cause}
@@ -13,8 +13,6 @@ use Rattle.span_collect.specs.Words.{numbered}
 use Rattle.span_runs.specs.declared.stop.Stop.{Stop}
 use Rattle.span_runs.specs.declared.stop.StopCause.{StopCause}
 use Rattle.span_runs.specs.declared.stop.StopCause.TheVariants as cause
-use Rattle.tracebook.specs.declared.added.AddStop.{AddStop}
-use Rattle.tracebook.specs.declared.added.AddStop.TheVariants as add
 
 -- the line of a run as a whole
 abbrev pub run_line : ℕ → List ℕ
@@ -74,11 +72,3 @@ SaysCause cause old new = SaysAndHints (cause_text cause) old new
 -- the lines of the files before were said, and then what stopped
 abbrev pub SaysStop : Stop → SinkState → SinkState → Type 0
 SaysStop stop old new = (middle : SinkState) × Says stop.lines.items old middle × SaysCause stop.cause middle new
-
--- what is said where tables were not all added
-abbrev pub stop_text : AddStop → List ℕ
-stop_text (add.NotOpened name reason) = unread_line name
-stop_text (add.NotTable name) = fault_line name (number_of NotTable)
-stop_text (add.OtherColumns name) = fault_line name (number_of OtherColumns)
-stop_text add.Memory = run_line (number_of Memory)
-stop_text add.FileCount = run_line (number_of FileCount)

@@ -1,0 +1,32 @@
+-- The numbers that rows go by, as a request names them.
+use Rattle.std.specs.Prelude.{Bool, true, false, Option, Some, None}
+use Rattle.span_table.specs.declared.of.Of.{Of}
+use Rattle.span_table.specs.declared.of.Of.TheVariants.{Async, Spans}
+use Rattle.span_table.specs.declared.sums.By.{By}
+use Rattle.span_table.specs.declared.sums.By.TheVariants.{Closed, Count, Open, Points, SelfTime, Total}
+use Rattle.span_request.specs.declared.views.ComparisonForm.{ComparisonForm}
+use Rattle.span_request.specs.declared.views.ComparisonForm.TheVariants as changes
+use Rattle.span_request.specs.declared.views.TableForm.{TableForm}
+use Rattle.span_request.specs.declared.views.TableForm.TheVariants.{Ranking, Json}
+
+-- what is summed has the number, or none is named
+abbrev pub goes_by : Of → Option By → Bool
+goes_by of None = true
+goes_by Spans (Some SelfTime) = true
+goes_by Spans (Some Total) = true
+goes_by Spans (Some Count) = true
+goes_by Async (Some Total) = true
+goes_by Async (Some Closed) = true
+goes_by Async (Some Open) = true
+goes_by Async (Some Points) = true
+goes_by of by = false
+
+-- the number that a form names
+abbrev pub named_by : TableForm → Option By
+named_by (Ranking most by) = by
+named_by Json = None
+
+-- the same of a form of what changed
+abbrev pub compared_by : ComparisonForm → Option By
+compared_by (changes.Text by) = by
+compared_by changes.Json = None

@@ -1,0 +1,18 @@
+//! Requests: what the words of a command line ask for.
+#![tactic(auto)]
+
+mod columns;
+mod combinations;
+mod command;
+mod numbers;
+mod options;
+mod tasks;
+mod views;
+
+pub use command::request_of;
+pub use numbers::goes_by;
+pub use tasks::{Apart, Request, Task};
+pub use views::{
+    ComparisonForm, ComparisonView, PageView, RepeatsForm, RepeatsView, TableForm, TableOptions,
+    TableView, View,
+};

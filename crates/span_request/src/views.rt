@@ -1,0 +1,109 @@
+//! What is printed of what was collected, or added.
+ghost use Rattle.std.specs.Prelude.{◌≡◌};
+ghost use Rattle.span_request.specs.Numbers.{compared_by, named_by};
+
+use span_report::stacks::SpanColumn;
+use span_table::{By, Column, Of, Shown};
+
+/// What is printed of what was collected.
+#[derive(Drop)]
+pub enum View {
+    Report,
+    /// A table of the run.
+    Table(TableView),
+    /// Which items of each file were refused.
+    Refusals,
+    /// The folded stacks of each thread, whose frames are labels by these columns.
+    Folded(Vec<SpanColumn>),
+    /// A page for a browser.
+    Page(PageView),
+}
+
+/// What a page shows of spans: a table of the run, and frames that are labels by these columns.
+#[derive(Drop)]
+pub struct PageView {
+    pub table: TableView,
+    pub labels: Vec<SpanColumn>,
+}
+
+/// Which table is printed: what is summed, by which columns, and which rows are shown. Tables that are added say themselves what they
+/// sum, and no columns are all of theirs.
+#[derive(Drop)]
+pub struct TableOptions {
+    pub of: Of,
+    pub columns: Vec<Column>,
+    pub shown: Shown,
+}
+
+/// How a table is printed.
+#[derive(Clone, Copy)]
+pub enum TableForm {
+    /// The first rows by this number, or by the usual one of what is summed, at most so many.
+    Ranking { most: u32, by: Option<By> },
+    /// The rows for other programs.
+    Json,
+}
+
+impl TableForm {
+    /// The number that is named.
+    pub fn by(self) -> Option<By>
+        ensures { result ≡ named_by self }
+    {
+        match self {
+            TableForm::Ranking { most: _, by } => by,
+            TableForm::Json => None,
+        }
+    }
+}
+
+/// What is printed of a table.
+#[derive(Drop)]
+pub struct TableView {
+    pub options: TableOptions,
+    pub form: TableForm,
+}
+
+/// How a comparison is printed.
+#[derive(Clone, Copy)]
+pub enum ComparisonForm {
+    /// For people, with the greatest change of this number first.
+    Text { by: Option<By> },
+    /// For other programs.
+    Json,
+}
+
+impl ComparisonForm {
+    /// The number that is named.
+    pub fn by(self) -> Option<By>
+        ensures { result ≡ compared_by self }
+    {
+        match self {
+            ComparisonForm::Text { by } => by,
+            ComparisonForm::Json => None,
+        }
+    }
+}
+
+/// What is printed of what changed between two runs, or sums of runs: which rows of their tables, and how.
+#[derive(Drop)]
+pub struct ComparisonView {
+    pub options: TableOptions,
+    pub form: ComparisonForm,
+}
+
+/// How repeated runs are printed.
+#[derive(Clone, Copy)]
+pub enum RepeatsForm {
+    /// For people: the keys whose sides are apart.
+    Text,
+    /// For other programs: the values of each key.
+    Json,
+}
+
+/// What is printed of repeated runs: which rows of their tables, by which number, or the usual one of what is summed, and how.
+#[derive(Drop)]
+pub struct RepeatsView {
+    pub options: TableOptions,
+    pub by: Option<By>,
+    pub form: RepeatsForm,
+}
