@@ -67,40 +67,28 @@ pub(crate) fn columns_of(alloc: Global, names: &str) -> Result<Option<Vec<Column
 
 /// Those of a ranking, where the command line names none.
 pub(crate) fn ranked(alloc: Global) -> Result<Vec<Column>, AllocError> {
-    let mut columns = Vec::new(alloc);
-    columns.push(Column::Pid)?;
-    columns.push(Column::Tid)?;
-    columns.push(Column::Thread)?;
-    columns.push(Column::Name)?;
-    Ok(columns)
+    Ok(vec![in alloc; Column::Pid, Column::Tid, Column::Thread, Column::Name]?)
 }
 
 /// Those of a page: what its report has of a span.
 pub(crate) fn paged(alloc: Global) -> Result<Vec<Column>, AllocError> {
-    let mut columns = Vec::new(alloc);
-    columns.push(Column::Pid)?;
-    columns.push(Column::Process)?;
-    columns.push(Column::Tid)?;
-    columns.push(Column::Thread)?;
-    columns.push(Column::Name)?;
-    Ok(columns)
+    Ok(vec![in alloc;
+        Column::Pid,
+        Column::Process,
+        Column::Tid,
+        Column::Thread,
+        Column::Name,
+    ]?)
 }
 
 /// Those of a comparison and of JSON Lines: numbers differ from run to run.
 pub(crate) fn named(alloc: Global) -> Result<Vec<Column>, AllocError> {
-    let mut columns = Vec::new(alloc);
-    columns.push(Column::Process)?;
-    columns.push(Column::Thread)?;
-    columns.push(Column::Name)?;
-    Ok(columns)
+    Ok(vec![in alloc; Column::Process, Column::Thread, Column::Name]?)
 }
 
 /// Those of a table of asynchronous spans: ids differ from run to run.
 pub(crate) fn of_async(alloc: Global) -> Result<Vec<Column>, AllocError> {
-    let mut columns = Vec::new(alloc);
-    columns.push(Column::Cat)?;
-    columns.push(Column::Name)?;
-    Ok(columns)
+    Ok(vec![in alloc; Column::Cat, Column::Name]?)
 }
 
 /// Whether what is summed has all of the columns.
@@ -110,9 +98,7 @@ pub(crate) fn go_with(of: Of, columns: &[Column]) -> bool {
 
 /// That of folded stacks.
 pub(crate) fn name_alone(alloc: Global) -> Result<Vec<Column>, AllocError> {
-    let mut columns = Vec::new(alloc);
-    columns.push(Column::Name)?;
-    Ok(columns)
+    Ok(vec![in alloc; Column::Name]?)
 }
 
 /// Whether a span has values of its own in each of the columns, and not those of its process, thread or file.

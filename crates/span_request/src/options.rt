@@ -20,6 +20,19 @@ const OF_WORDS: &[&str] = &["spans", "async"];
 // Those of spans, and then what asynchronous spans alone have.
 const BY_WORDS: &[&str] = &["self", "total", "count", "closed", "open", "points"];
 
+// What rows for other programs don't go with, and what tables that are added have no use for.
+const NOT_JSON: &[&str] = &["top", "refused", "folded", "page"];
+
+const NOT_ADDED: &[&str] = &[
+    "limit",
+    "nanoseconds",
+    "seal",
+    "strict",
+    "of",
+    "apart",
+    "jobs",
+];
+
 const TOP_HELP: &str = r#"Print the first N rows of a table of all spans instead of the report;
 without --group-by a row is a process, a thread and a name"#;
 
@@ -141,22 +154,24 @@ fn arguments_of<'a>(alloc: Global, limit_help: &'a str) -> Result<Vec<Arg<'a>>, 
     arguments.push(switch(alloc, "refused", REFUSED_HELP))?;
     arguments.push(switch(alloc, "folded", FOLDED_HELP))?;
     arguments.push(switch(alloc, "page", PAGE_HELP))?;
-    arguments.push(files_from_option(alloc))?;
+    arguments.push(option(alloc, "files-from", "FILE", FILES_FROM_HELP))?;
     arguments.push(files_argument(alloc))?;
     Ok(arguments)
 }
 
 fn add_table_options(alloc: Global, arguments: &mut Vec<Arg<'_>>) -> Result<(), AllocError> {
     arguments.push(number_option(alloc, "top", TOP_HELP))?;
-    arguments.push(by_option(alloc))?;
-    arguments.push(of_option(alloc))?;
+    let by = choice(alloc, "by", "SUM", BY_WORDS, BY_HELP);
+    arguments.push(by.hide_possible_values(true))?;
+    arguments.push(choice(alloc, "of", "spans|async", OF_WORDS, OF_HELP))?;
     arguments.push(list_option(alloc, "base", "FILE", BASE_HELP))?;
-    arguments.push(json_option(alloc)?)?;
+    arguments.push(switch_without(alloc, "json", NOT_JSON, JSON_HELP)?)?;
     arguments.push(switch(alloc, "apart", APART_HELP))?;
-    arguments.push(repeats_option(alloc)?)?;
-    arguments.push(jobs_option(alloc))?;
-    arguments.push(add_option(alloc)?)?;
-    arguments.push(group_by_option(alloc))?;
+    arguments.push(switch_without(alloc, "repeats", &["apart"], REPEATS_HELP)?)?;
+    let jobs = number_option(alloc, "jobs", JOBS_HELP);
+    arguments.push(jobs.value_parser(clap::value_parser!(u32).range(1..=64)))?;
+    arguments.push(switch_without(alloc, "add", NOT_ADDED, ADD_HELP)?)?;
+    arguments.push(option(alloc, "group-by", "COLUMNS", GROUP_BY_HELP))?;
     let only = list_option(alloc, "only", "TEXT", ONLY_HELP);
     arguments.push(only.value_parser(ValueParser::NonEmptyString))?;
     let skip = list_option(alloc, "skip", "TEXT", SKIP_HELP);
@@ -172,89 +187,45 @@ fn switch<'a>(alloc: Global, name: &'a str, help: &'a str) -> Arg<'a> {
         .help(help)
 }
 
-fn number_option<'a>(alloc: Global, name: &'a str, help: &'a str) -> Arg<'a> {
+// One that doesn't go with these.
+fn switch_without(
+    alloc: Global,
+    name: &'static str,
+    others: &[&'static str],
+    help: &'static str,
+) -> Result<Arg<'static>, AllocError> {
+    switch(alloc, name, help).conflicts_with_all(others)
+}
+
+// An option with a value.
+fn option<'a>(alloc: Global, name: &'a str, value: &'a str, help: &'a str) -> Arg<'a> {
     Arg::new(alloc, name)
         .long(name)
-        .value_name("N")
-        .value_parser(clap::value_parser!(u32).range(1..))
-        .allow_negative_numbers(true)
+        .value_name(value)
         .action(ArgAction::Set)
         .help(help)
 }
 
-fn jobs_option(alloc: Global) -> Arg<'static> {
-    Arg::new(alloc, "jobs")
-        .long("jobs")
-        .value_name("N")
-        .value_parser(clap::value_parser!(u32).range(1..=64))
-        .allow_negative_numbers(true)
-        .action(ArgAction::Set)
-        .help(JOBS_HELP)
-}
-
-fn repeats_option(alloc: Global) -> Result<Arg<'static>, AllocError> {
-    switch(alloc, "repeats", REPEATS_HELP).conflicts_with_all(&["apart"])
-}
-
-fn add_option(alloc: Global) -> Result<Arg<'static>, AllocError> {
-    let add = switch(alloc, "add", ADD_HELP);
-    add.conflicts_with_all(&[
-        "limit",
-        "nanoseconds",
-        "seal",
-        "strict",
-        "of",
-        "apart",
-        "jobs",
-    ])
-}
-
-fn by_option(alloc: Global) -> Arg<'static> {
-    Arg::new(alloc, "by")
-        .long("by")
-        .value_name("SUM")
-        .value_parser(BY_WORDS)
-        .hide_possible_values(true)
-        .action(ArgAction::Set)
-        .help(BY_HELP)
-}
-
-fn of_option(alloc: Global) -> Arg<'static> {
-    Arg::new(alloc, "of")
-        .long("of")
-        .value_name("spans|async")
-        .value_parser(OF_WORDS)
-        .action(ArgAction::Set)
-        .help(OF_HELP)
-}
-
-fn group_by_option(alloc: Global) -> Arg<'static> {
-    Arg::new(alloc, "group-by")
-        .long("group-by")
-        .value_name("COLUMNS")
-        .action(ArgAction::Set)
-        .help(GROUP_BY_HELP)
-}
-
-fn json_option(alloc: Global) -> Result<Arg<'static>, AllocError> {
-    switch(alloc, "json", JSON_HELP).conflicts_with_all(&["top", "refused", "folded", "page"])
+// An option whose value is one of these words.
+fn choice(
+    alloc: Global,
+    name: &'static str,
+    value: &'static str,
+    words: &'static [&'static str],
+    help: &'static str,
+) -> Arg<'static> {
+    option(alloc, name, value, help).value_parser(words)
 }
 
 // An option that may be given several times.
 fn list_option<'a>(alloc: Global, name: &'a str, value: &'a str, help: &'a str) -> Arg<'a> {
-    Arg::new(alloc, name)
-        .long(name)
-        .value_name(value)
-        .action(ArgAction::Append)
-        .help(help)
+    option(alloc, name, value, help).action(ArgAction::Append)
 }
 
-fn files_from_option(alloc: Global) -> Arg<'static> {
-    Arg::new(alloc, "files-from")
-        .long("files-from")
-        .value_name("FILE")
-        .action(ArgAction::Set)
-        .help(FILES_FROM_HELP)
+fn number_option<'a>(alloc: Global, name: &'a str, help: &'a str) -> Arg<'a> {
+    option(alloc, name, "N", help)
+        .value_parser(clap::value_parser!(u32).range(1..))
+        .allow_negative_numbers(true)
 }
 
 fn files_argument(alloc: Global) -> Arg<'static> {
