@@ -50,7 +50,7 @@ impl Model for Args {
     ghost invariant = { λ a. IsInNameOrder (option_map_or arc_slice_items a.pairs []) };
 }
 
-// Written out, so that who lets go of arguments makes one call, whether there are some or none.
+// Written out, so that dropping arguments is one call, whether there are some or none.
 impl Drop for Args {
     fn drop(self) {
         let Args { pairs } = self;

@@ -11,6 +11,7 @@ mod items;
 mod short;
 mod text;
 mod thread;
+mod time;
 mod unit;
 
 pub use args::{ArgValue, Args, merge_args};
@@ -21,4 +22,5 @@ pub use item::{Field, Item, ItemFault};
 pub use items::Items;
 pub use text::Text;
 pub use thread::Thread;
+pub use time::distance;
 pub use unit::Unit;

@@ -33,7 +33,7 @@ impl Model for Text {
     ghost view = { λ t. held_bytes t.held };
 }
 
-// Written out, so that who lets go of a text makes one call, however it is held.
+// Written out, so that dropping a text is one call, however it is held.
 impl Drop for Text {
     fn drop(self) {
         let Text { held } = self;

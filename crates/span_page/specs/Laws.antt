@@ -19,7 +19,7 @@ abbrev pub DataEndNoElement : Type 0
 DataEndNoElement = (unit : Unit) (labels : List SpanColumn) (table : List ℕ) (files : List Input) (ends : List FileEnd) (journal : List Entry) →
     All (λ byte. nat_eq byte 60 ≡ false) (safe (data_of unit labels table files ends journal))
 
--- the stacks that were coded are had back
+-- decoding gives back the stacks that were coded
 abbrev pub StacksAreHadBack : Type 0
 StacksAreHadBack = (stacks : List Folded) → decoded_after [] (coded_after [] stacks) ≡ stacks
 

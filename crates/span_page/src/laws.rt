@@ -7,7 +7,7 @@ pub fn data_law()
     ensures { DataEndNoElement }
 {}
 
-/// The stacks that were coded are had back. The function does nothing: its contract is the law.
+/// Decoding gives back the stacks that were coded. The function does nothing: its contract is the law.
 pub fn coding_law()
     ensures { StacksAreHadBack }
 {}

@@ -7,7 +7,7 @@ use std::alloc::{AllocError, Global};
 /// A file has few long names, each many times. The last ones are searched at one place each, whatever a file holds.
 const PLACES: usize = 4096;
 
-/// Long texts that were read before, each at a place of its own bytes' choice. Equal texts share their bytes by it.
+/// Long texts that were read before, each at a place that its bytes give. Equal texts share their bytes by it.
 #[derive(Drop)]
 pub(crate) struct RecentTexts {
     places: Vec<Text>,

@@ -114,7 +114,7 @@ pub(crate) fn take_reach(phase: Phase, s: Option<FieldValue>) -> Result<Option<R
     }
 }
 
-/// Arguments that are no object are none.
+/// Arguments that are not an object are left out.
 pub(crate) fn take_args(
     alloc: Global,
     phase: Phase,

@@ -1,12 +1,11 @@
 //! Parts of a thread's time, with the stack that stands through each.
 ghost use Rattle.std.specs.Prelude.{◌≡◌, ◌^◌, ◌≤◌, ◌≤ℤ◌, length, IfOk};
 ghost use Rattle.span_event.specs.Event.{least_time};
-ghost use Rattle.span_event.specs.Time.{distance};
 ghost use Rattle.span_self_time.specs.Closed.{greatest_until};
 ghost use Rattle.span_report.specs.Stacks.Parts.{IsSplit, nearness};
 
 use super::ends::RankedSpans;
-use span_event::Text;
+use span_event::{Text, distance};
 use std::alloc::AllocError;
 use std::cmp::Ordering;
 
@@ -49,15 +48,6 @@ pub(crate) fn split<'a>(
         found.push(part)?;
     }
     Ok(time + distance(rest.from, rest.until))
-}
-
-fn distance(from: i64, until: i64) -> u64
-    requires from_in_time { least_time ≤ℤ from }
-    requires forward { from ≤ℤ until }
-    requires until_in_time { until ≤ℤ greatest_until }
-    ensures value { result ≡ distance from until }
-{
-    until.abs_diff(from)
 }
 
 // Which of two parts comes nearer: that with more frames, and of as many that with the lesser name.

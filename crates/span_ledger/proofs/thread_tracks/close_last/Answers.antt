@@ -19,6 +19,6 @@ returns-clause-told c =
     let merged : c.in_ok-merged.merged ≡ merged_args track event.args = search rules in
     let kept : c.in_ok-kept.kept ≡ merged_args track event.args = search rules in
     let given : c.in_ok-given.given ≡ c.in_ok-kept.kept = search rules in
-    let lasts : c.length_between-length.result ≡ distance c.in_ok-start.start event.ts = search rules in
-    rw start (IsToldTo-ended track c.close_span.new.self (suits c.args.wanted) event.ts event.args c.in_ok-kept.kept c.in_ok-start.start c.length_between-length.result
+    let lasts : c.distance-length.result ≡ distance c.in_ok-start.start event.ts = search rules in
+    rw start (IsToldTo-ended track c.close_span.new.self (suits c.args.wanted) event.ts event.args c.in_ok-kept.kept c.in_ok-start.start c.distance-length.result
     c.requires.taken c.in_ok-start.ensures.start lasts kept ((rw ts at c.in_ok-start.ensures.stands) event.args merged))

@@ -18,7 +18,7 @@ overflow_add-time c =
     let first = c.in-Some.ensures.first in
     let from : to_z w64 (of_z w64 part.over.from) ≡ part.over.from = search rules in
     let start : to_z w64 (of_z w64 rest.from) ≡ rest.from = search rules in
-    let time : c.distance-time.result ≡ distance rest.from part.over.from = rw (from, start) at c.distance-time.ensures.value in
+    let time : c.distance-time.result ≡ distance rest.from part.over.from = rw (from, start) at c.distance-time.ensures in
     let all = distance-add rest.from part.over.from rest.until first.from (omega (arith, ints, first.lasts, first.until)) in
     omega (arith, ints, c.loop-part.invariant.small, time, all, add-distance whole.from whole.until c.requires.forward, c.requires.from, c.requires.until)
 
@@ -34,7 +34,7 @@ loop-part-preserved c =
     let from : to_z w64 (of_z w64 part.over.from) ≡ part.over.from = search rules in
     let until : to_z w64 (of_z w64 part.over.until) ≡ part.over.until = search rules in
     let start : to_z w64 (of_z w64 rest.from) ≡ rest.from = search rules in
-    let time : c.distance-time.result ≡ distance rest.from part.over.from = rw (from, start) at c.distance-time.ensures.value in
+    let time : c.distance-time.result ≡ distance rest.from part.over.from = rw (from, start) at c.distance-time.ensures in
     let pushed = c.in_ok-push.ensures.items in
     let all = distance-add rest.from part.over.from rest.until first.from (omega (arith, ints, first.lasts, first.until)) in
     let behind = distance-add part.over.from part.over.until rest.until (omega (arith, ints, first.lasts)) first.until in
@@ -70,7 +70,7 @@ returns c =
     let before = c.loop-part.invariant in
     let from : to_z w64 (of_z w64 rest.from) ≡ rest.from = search rules in
     let until : to_z w64 (of_z w64 rest.until) ≡ rest.until = search rules in
-    let time : c.distance.result ≡ distance rest.from rest.until = rw (from, until) at c.distance.ensures.value in
+    let time : c.distance.result ≡ distance rest.from rest.until = rw (from, until) at c.distance.ensures in
     let bare = c.in_default.ensures.bare refl in
     record {
       counts = λ base deep stack. subst (λ n. left spans base c.loop-part.found.items stack + cond (same_stack stack base) (c.loop-part.time + n) 0 ≡ left spans base c.args.found.now.items stack + times_on spans base whole stack) (sym time)
