@@ -12,7 +12,7 @@ abbrev pub joined_after : List ℕ → List (List ℕ) → List ℕ
 joined_after before [] = []
 joined_after before (text ∷ texts) = before ++ (text ++ flat_map (λ t. 44 ∷ t) texts)
 
--- with nothing before the first they are just parted by commas
+-- with nothing before the first they are just separated by commas
 pub joined_after-nothing : (texts : List (List ℕ)) → joined_after [] texts ≡ join_with_byte 44 texts
 joined_after-nothing [] = refl
 joined_after-nothing (text ∷ texts) = sym (join_with_byte_cons text texts)

@@ -114,7 +114,7 @@ fn names_text(alloc: Global, files: &[Input]) -> Result<String, AllocError>
     Ok(out)
 }
 
-// Appends the names of files, parted by commas.
+// Appends the names of files, separated by commas.
 fn put_file_names(alloc: Global, out: &mut String, files: &[Input]) -> Result<(), AllocError>
     ensures { OnOk result (string_bytes out.new ≡ string_bytes out.old
         ++ join_with_byte 44 (map (λ (file : Input). json_text_of file.name) files.now)) }
@@ -220,7 +220,7 @@ fn put_threads_in(threads: &mut Vec<Thread>, process: &ProcessPart) -> Result<()
     Ok(())
 }
 
-// Appends the graph of each thread, parted by commas, as long as there are frames left for it. Answers how many are left behind them.
+// Appends the graph of each thread, separated by commas, as long as there are frames left for it. Answers how many are left behind them.
 fn put_threads(
     alloc: Global,
     out: &mut String,

@@ -27,7 +27,7 @@ pub(crate) fn put_stacks(
     out.push(']')
 }
 
-// Appends the stacks, parted by commas. A stack begins like the last one that was appended with as many frames as are below each
+// Appends the stacks, separated by commas. A stack begins like the last one that was appended with as many frames as are below each
 // frame since then, so no frame is appended twice, and no stack is compared with another.
 fn put_each(alloc: Global, out: &mut String, frames: &[StackFrame]) -> Result<(), AllocError>
     requires { AreAscending [] frames.now }
@@ -66,7 +66,7 @@ fn put_coded(
     write!(out, "],\"{time}\"]")
 }
 
-// Appends the names, parted by commas.
+// Appends the names, separated by commas.
 fn put_names(alloc: Global, out: &mut String, names: &[&Text]) -> Result<(), AllocError>
     ensures { OnOk result (string_bytes out.new ≡ string_bytes out.old
         ++ join_with_byte 44 (map json_text_of (map (λ name. name.now) names.now))) }

@@ -21,7 +21,7 @@ const MOST_NAMES: u32 = 67_108_864;
 
 /// The folded stacks of the ledger's journal: for each thread, in the order of a report, a line for each stack that it has for a
 /// tick or more. It says the process and the thread, the labels of the spans that cover the tick, in ascending rank
-/// and parted by `;`, and then for how many ticks. A label is what a span has in the columns. Labels count as names, the
+/// and separated by `;`, and then for how many ticks. A label is what a span has in the columns. Labels count as names, the
 /// process and the thread don't.
 pub fn folded(
     alloc: Global,
