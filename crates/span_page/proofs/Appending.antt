@@ -2,7 +2,7 @@
 use Rattle.std.proofs.Common.{◌≡◌, ℕ, zero, suc, ◌<◌, List, [], ◌∷◌, ◌++◌, length, map, drop, refl, ap, ◌∙◌, arith}
 use Rattle.std.specs.Ordering.{nat_cmp, ord_min}
 use Rattle.span_report.specs.Stacks.Ticks.{Stack}
-use Rattle.span_report.specs.Stacks.Walk.{Framed, stack_after}
+use Rattle.span_report.specs.Stacks.Framed.{Framed, stack_after}
 use Rattle.span_page.specs.Coded.{Coded}
 use Rattle.span_page.specs.Data.{stack_json}
 use Rattle.span_page.proofs.Coding.{coded_frames, coded_if, shared_if}

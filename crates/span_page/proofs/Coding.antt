@@ -9,7 +9,7 @@ use Rattle.std.proofs.lemmas.Cmp.{nat_list_cmp_total, tied_itself}
 use Rattle.span_event.specs.Text.{Bytes, same_text, text_cmp}
 use Rattle.span_event.proofs.Orders.{text_same}
 use Rattle.span_report.specs.Stacks.Ticks.{Folded, Stack, stack_order}
-use Rattle.span_report.specs.Stacks.Walk.{AreAscending, Framed, folded_after, folded_if, stack_after}
+use Rattle.span_report.specs.Stacks.Framed.{AreAscending, Framed, folded_after, folded_if, stack_after}
 use Rattle.span_report.proofs.StackLemmas.StackOrders.{irreflexive, none-below-empty, turned-greater}
 use Rattle.span_report.proofs.StackLemmas.Times.{stack_order-total}
 use Rattle.span_page.specs.Coded.{Coded, coded_after, decoded_after, shared}

@@ -2,7 +2,7 @@
 ghost use Rattle.std.specs.Prelude.{◌≡◌, ◌++◌, [], map, string_bytes, OnOk};
 ghost use Rattle.std.specs.List.{join_with_byte};
 ghost use Rattle.span_report.specs.Lines.{json_text_of};
-ghost use Rattle.span_report.specs.Stacks.Walk.{AreAscending, folded_after};
+ghost use Rattle.span_report.specs.Stacks.Framed.{AreAscending, folded_after};
 ghost use Rattle.span_page.specs.Coded.{coded_after};
 ghost use Rattle.span_page.specs.Data.{stack_json, stacks_json};
 

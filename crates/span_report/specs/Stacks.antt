@@ -3,10 +3,10 @@ pub mod Bounds
 pub mod Descent
 pub mod Faults
 pub mod Folded
+pub mod Framed
 pub mod Frames
 pub mod Labelled
 pub mod Labels
 pub mod Laws
 pub mod Ticks
 pub mod Parts
-pub mod Walk

@@ -7,6 +7,7 @@
 mod descent;
 mod ends;
 mod fault;
+mod framed;
 mod frames;
 mod label;
 mod labelled;
@@ -15,11 +16,10 @@ mod output;
 mod parts;
 mod ranks;
 mod text;
-mod walk;
 
 pub use fault::StacksFault;
+pub use framed::{StackFrame, framed_stacks};
 pub use label::SpanColumn;
 pub use labelled::LabelledSpans;
 pub use output::{FoldedFault, write_folded};
 pub use text::folded;
-pub use walk::{StackFrame, framed_stacks};

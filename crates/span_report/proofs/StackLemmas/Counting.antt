@@ -19,7 +19,7 @@ use Rattle.span_report.specs.declared.stacks.descent.Descent.{Descent}
 use Rattle.span_report.specs.Stacks.Bounds.{beginnings, frame_count, frames_of, names_in}
 use Rattle.span_report.specs.Stacks.Descent.{IsReady, StartsWith, TellsFrame, left_of, told_last}
 use Rattle.span_report.specs.Stacks.Ticks.{Folded, Stack, folded, folded_stacks, has_frames, same_stack, stack_at, stack_order, stacks_of}
-use Rattle.span_report.specs.Stacks.Walk.{AreAscending, Framed, folded_after, last_stack, stack_after}
+use Rattle.span_report.specs.Stacks.Framed.{AreAscending, Framed, folded_after, last_stack, stack_after}
 use Rattle.span_report.proofs.StackLemmas.Beginnings.{any-has, has-beginning, list_any-flat_map}
 use Rattle.span_report.proofs.StackLemmas.Members.{Has, HasEach, HasEach-append, HasEach-cons, HasEach-none, StandOnce-sorted, any-index, has-at, length-le-each, or-either, same-true, sum_by-le-each}
 use Rattle.span_report.proofs.StackLemmas.Tallies.{list_any-ascending, sorted-same}

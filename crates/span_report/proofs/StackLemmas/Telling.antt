@@ -12,7 +12,7 @@ use Rattle.span_event.specs.Text.{Bytes}
 use Rattle.span_journal.proofs.Sorted.{AllByRecursion-map}
 use Rattle.span_report.specs.Stacks.Bounds.{beginnings}
 use Rattle.span_report.specs.Stacks.Ticks.{Folded, Stack, folded, same_stack, stack_order}
-use Rattle.span_report.specs.Stacks.Walk.{AreAscending, Framed, folded_after, folded_if, last_stack, stack_after}
+use Rattle.span_report.specs.Stacks.Framed.{AreAscending, Framed, folded_after, folded_if, last_stack, stack_after}
 use Rattle.span_report.proofs.StackLemmas.Beginnings.{has-under}
 use Rattle.span_report.proofs.StackLemmas.Members.{Has, HasEach, HasEach-append, HasEach-cons, HasEach-none, has-first, has-later, has-left, has-none, has-right, or-either, or-left, or-right, same-itself, same-true}
 use Rattle.span_report.proofs.StackLemmas.StackOrders.{turned-less}

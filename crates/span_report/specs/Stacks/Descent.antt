@@ -9,7 +9,7 @@ use Rattle.span_report.specs.declared.stacks.descent.Descent.{Descent}
 use Rattle.span_report.specs.declared.stacks.parts.Part.{Part}
 use Rattle.span_report.specs.Stacks.Ticks.{Stack, same_stack, stack_order, stacks_of}
 use Rattle.span_report.specs.Stacks.Parts.{IsAhead, IsSound, Near, left, nearness, part_stack}
-use Rattle.span_report.specs.Stacks.Walk.{Framed, stack_after}
+use Rattle.span_report.specs.Stacks.Framed.{Framed, stack_after}
 
 -- the stack that was told last
 abbrev pub told_last : Descent → Stack

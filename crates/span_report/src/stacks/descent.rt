@@ -5,7 +5,7 @@ ghost use Rattle.span_report.specs.Stacks.Descent.{IsNextSplit, IsPopped, IsRead
 
 use super::ends::{RankedSpans, bounds};
 use super::parts::{Part, Stretch, compare_nearness, split};
-use super::walk::StackFrame;
+use super::framed::StackFrame;
 use span_event::Text;
 use span_ledger::NamedSpan;
 use std::alloc::{AllocError, Global};

@@ -4,7 +4,7 @@ ghost use Rattle.span_ledger.specs.Named.{AreThreadSpans};
 ghost use Rattle.span_report.specs.Stacks.Bounds.{most_names, names_in};
 ghost use Rattle.span_report.specs.Stacks.Folded.{folded_of, names_of, process_lines, process_names, stack_frames, stack_line, stack_lines, thread_frames, thread_lines, thread_names};
 ghost use Rattle.span_report.specs.Stacks.Ticks.{folded_stacks};
-ghost use Rattle.span_report.specs.Stacks.Walk.{folded_if};
+ghost use Rattle.span_report.specs.Stacks.Framed.{folded_if};
 
 use super::descent::Descent;
 use super::fault::StacksFault;

@@ -4,7 +4,7 @@ use Rattle.span_report.specs.declared.stacks.fault.StacksFault.TheVariants.{TooL
 use Rattle.span_report.specs.Stacks.Bounds.{frame_count}
 use Rattle.span_report.specs.Stacks.Folded.{thread_frame_count}
 use Rattle.span_report.specs.Stacks.Ticks.{Folded, folded_stacks}
-use Rattle.span_report.specs.Stacks.Walk.{Framed, folded_after}
+use Rattle.span_report.specs.Stacks.Framed.{Framed, folded_after}
 use Rattle.span_page.specs.Data.{stacks_json}
 use Rattle.span_page.proofs.Graphs.{graph-none, graph-stands, left-none, left-stands}
 use Rattle.span_page.proofs.data.put_thread.Goals as goal

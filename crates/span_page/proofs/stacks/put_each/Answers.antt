@@ -5,7 +5,7 @@ use Rattle.std.specs.List.{join_with_byte}
 use Rattle.std.specs.Ordering.{nat_cmp, ord_min}
 use Rattle.span_event.specs.Text.{Bytes}
 use Rattle.span_report.specs.Stacks.Ticks.{Stack}
-use Rattle.span_report.specs.Stacks.Walk.{AreAscending, Framed, stack_after}
+use Rattle.span_report.specs.Stacks.Framed.{AreAscending, Framed, stack_after}
 use Rattle.span_page.specs.Coded.{Coded}
 use Rattle.span_page.specs.Data.{stack_json}
 use Rattle.span_page.proofs.Appending.{coded_frame, with_frames, with_frames-none, with_frames-some}

@@ -8,7 +8,7 @@ use Rattle.span_report.specs.Stacks.Bounds.{names_in}
 use Rattle.span_report.specs.Stacks.Descent.{Tells, told_last}
 use Rattle.span_report.specs.Stacks.Folded.{stack_line, stack_lines}
 use Rattle.span_report.specs.Stacks.Ticks.{Folded, Stack}
-use Rattle.span_report.specs.Stacks.Walk.{Framed, folded_after, folded_if, last_stack, stack_after}
+use Rattle.span_report.specs.Stacks.Framed.{Framed, folded_after, folded_if, last_stack, stack_after}
 use Rattle.span_report.proofs.StackLemmas.Counting.{IsTold-next, IsTold-none, above-next, folded-all, told-names}
 use Rattle.span_report.proofs.StackLemmas.Telling.{folded_after-push}
 use Rattle.span_report.proofs.stacks.text.put_stacks.Goals as goal

@@ -2,7 +2,7 @@ use Rattle.std.proofs.Common.{◌≡◌, ◌+◌, ◌++◌, [], List}
 use Rattle.span_report.specs.Stacks.Bounds.{frames_of, names_in}
 use Rattle.span_report.specs.Stacks.Descent.{told_last}
 use Rattle.span_report.specs.Stacks.Folded.{stack_lines}
-use Rattle.span_report.specs.Stacks.Walk.{Framed, folded_after}
+use Rattle.span_report.specs.Stacks.Framed.{Framed, folded_after}
 use Rattle.span_report.proofs.StackLemmas.Counting.{IsTold, above}
 use Rattle.span_report.proofs.stacks.text.put_stacks.Given as goal
 

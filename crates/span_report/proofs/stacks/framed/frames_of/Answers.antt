@@ -1,9 +1,9 @@
 use Rattle.std.proofs.Common.{◌≡◌, ◌∷◌, [], ◌++◌, List, length, arith, sym, ap, subst, rules}
 use Rattle.std.proofs.lemmas.List.{length_push}
 use Rattle.span_report.specs.Stacks.Descent.{Tells}
-use Rattle.span_report.specs.Stacks.Walk.{Framed}
+use Rattle.span_report.specs.Stacks.Framed.{Framed}
 use Rattle.span_report.proofs.StackLemmas.Counting.{IsTold, IsTold-next, IsTold-none, count-all, folded-all, told-fewer}
-use Rattle.span_report.proofs.stacks.walk.frames_of.Goals as goal
+use Rattle.span_report.proofs.stacks.framed.frames_of.Goals as goal
 
 pub loop-frames-init : goal.loop-frames-init
 loop-frames-init c =

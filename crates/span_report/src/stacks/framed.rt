@@ -3,7 +3,7 @@ ghost use Rattle.std.specs.Prelude.{◌≡◌, ◌<◌, ◌≤◌, [], length, m
 ghost use Rattle.span_ledger.specs.Named.{AreThreadSpans};
 ghost use Rattle.span_report.specs.Stacks.Bounds.{frame_count};
 ghost use Rattle.span_report.specs.Stacks.Ticks.{folded_stacks};
-ghost use Rattle.span_report.specs.Stacks.Walk.{AreAscending, folded_after, stack_after};
+ghost use Rattle.span_report.specs.Stacks.Framed.{AreAscending, folded_after, stack_after};
 
 use super::descent::Descent;
 use super::fault::StacksFault;
@@ -23,7 +23,7 @@ pub struct StackFrame<'a> {
 }
 
 impl<'a> Model for StackFrame<'a> {
-    ghost use Rattle.span_report.specs.Stacks.Walk.{Framed};
+    ghost use Rattle.span_report.specs.Stacks.Framed.{Framed};
 
     ghost Value = { Framed };
 

@@ -1,8 +1,8 @@
 use Rattle.std.proofs.Common.{◌++◌, ◌∷◌, [], Bor, List, map, take, sym, ap, ◌∙◌}
 use Rattle.std.proofs.lemmas.List.{map_push, take-map}
 use Rattle.span_event.specs.Text.{Bytes}
-use Rattle.span_report.specs.Stacks.Walk.{Framed, stack_after}
-use Rattle.span_report.proofs.stacks.walk.StackFrame.follow.Goals as goal
+use Rattle.span_report.specs.Stacks.Framed.{Framed, stack_after}
+use Rattle.span_report.proofs.stacks.framed.StackFrame.follow.Goals as goal
 
 -- so many frames of the stack before stay, and the frame's own is on them
 pub returns-clause-ok : goal.returns-clause-ok

@@ -1,6 +1,6 @@
 use Rattle.std.proofs.Common.{◌-◌, ◌≤◌, length}
 use Rattle.span_report.proofs.StackLemmas.Counting.{IsTold}
-use Rattle.span_report.proofs.stacks.walk.frames_of.Given as goal
+use Rattle.span_report.proofs.stacks.framed.frames_of.Given as goal
 
 -- the frames so far were told, and are no more than may be
 abbrev pub invariant-loop-frames : goal.invariant-loop-frames
