@@ -10,7 +10,6 @@ pub mod KeyChange
 pub mod Keyed
 pub mod KeyOrder
 pub mod Lists
-pub mod Maps
 pub mod Matching
 pub mod Meta
 pub mod Orders

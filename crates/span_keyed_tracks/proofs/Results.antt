@@ -8,25 +8,10 @@ pub on_ok-map : {T E : Type 0} (r : Result T E) (P Q : Type 0) → (P → Q) →
 on_ok-map (Ok x) P Q f p = f p
 on_ok-map (Err e) P Q f p = tt
 
--- what follows from a fact that holds on an Err holds on an Err
-pub on_err-map : {T E : Type 0} (r : Result T E) (P Q : Type 0) → (P → Q) → OnErr r P → OnErr r Q
-on_err-map (Ok x) P Q f p = tt
-on_err-map (Err e) P Q f p = f p
-
 -- what follows from a fact of the content holds of it
 pub if_ok-map : {T E : Type 0} (r : Result T E) (P Q : T → Type 0) → ((x : T) → P x → Q x) → IfOk r P → IfOk r Q
 if_ok-map (Ok x) P Q f p = f x p
 if_ok-map (Err e) P Q f p = tt
-
--- what follows from a fact of the content holds on Ok
-pub on_ok-if_ok : {T E : Type 0} (r : Result T E) (P : T → Type 0) (Q : Type 0) → ((x : T) → P x → Q) → IfOk r P → OnOk r Q
-on_ok-if_ok (Ok x) P Q f p = f x p
-on_ok-if_ok (Err e) P Q f p = tt
-
--- what follows from a fact of the content and one that holds on Ok holds on Ok
-pub on_ok-both : {T E : Type 0} (r : Result T E) (P : T → Type 0) (Q R : Type 0) → ((x : T) → P x → Q → R) → IfOk r P → OnOk r Q → OnOk r R
-on_ok-both (Ok x) P Q R f p q = f x p q
-on_ok-both (Err e) P Q R f p q = tt
 
 -- what is said of a success holds, where there was one
 pub if_ok-there : {T E : Type 0} (r : Result T E) (P : Type 0) → false ≡ is_err r → IfOk r (λ x. P) → P

@@ -19,10 +19,6 @@ use Rattle.span_keyed_tracks.specs.Meta.{Holder, Setting, holder_cmp, is_meta, n
 use Rattle.span_keyed_tracks.proofs.Lists.Filters.{filter-filter, filter-filter_map}
 
 module _ {K A : Type 0} (cmp : K → K → Ordering) (key : K) where
-  -- the steps of a key are those among selected ones, where each of its own is selected
-  pub steps_at-filter : (keep : Keyed K A → Bool) → ((e : Keyed K A) → is_eq (cmp e.key key) ≡ true → keep e ≡ true) → (es : List (Keyed K A)) → steps_at cmp key (filter keep es) ≡ steps_at cmp key es
-  steps_at-filter keep own es = ap (map (λ (e : Keyed K A). e.step)) (filter-filter (λ e. is_eq (cmp e.key key)) keep own es)
-
   -- the same of steps that selected elements give
   pub steps_at-filter_map : {E : Type 0} (h : E → Option (Keyed K A)) (p : E → Bool) → ((x : E) (e : Keyed K A) → h x ≡ Some e → is_eq (cmp e.key key) ≡ true → p x ≡ true) → (xs : List E) → steps_at cmp key (filter_map h (filter p xs)) ≡ steps_at cmp key (filter_map h xs)
   steps_at-filter_map h p own xs = ap (map (λ (e : Keyed K A). e.step)) (filter-filter_map h p (λ e. is_eq (cmp e.key key)) own xs)

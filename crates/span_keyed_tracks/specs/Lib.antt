@@ -10,7 +10,6 @@ pub mod InstantsKept
 pub mod Keyed
 pub mod KeyedKept
 pub mod Last
-pub mod Maps
 pub mod Matching
 pub mod Meta
 pub mod MetaKept

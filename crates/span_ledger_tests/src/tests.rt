@@ -173,14 +173,6 @@ fn parts_nest(rt: HostRuntime) -> Result<(), Fail> {
     told
 }
 
-// What a copy of an answer shows.
-fn copy_of(alloc: Global, answer: &Answer) -> Result<String, AllocError> {
-    let copy = answer.try_clone(alloc)?;
-    let line = shown(alloc, &copy);
-    drop(copy);
-    line
-}
-
 fn the_journal_can_be_read_in(
     rt: &(impl Abort + AllocGlobal),
     ledger: &mut Ledger,
@@ -206,9 +198,9 @@ fn the_journal_can_be_read_in(
     );
     assert_eq!(rt; ledger.entry(0).ok_or("no entry")?.caller, 7);
     assert_eq!(rt; ledger.entry(1).ok_or("no entry")?.caller, 65_535);
-    let copy = copy_of(alloc, &ledger.entry(3).ok_or("no entry")?.answer)?;
+    let answer = shown(alloc, &ledger.entry(3).ok_or("no entry")?.answer)?;
     assert_eq!(rt;
-        copy.as_str(),
+        answer.as_str(),
         r#"Closed { start: 0, length: 1, args: Args { pairs: [("x", Whole(1)), ("z", Flag(true))] } }"#
     );
     assert!(rt; ledger.entry(4).is_none());

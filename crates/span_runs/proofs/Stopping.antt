@@ -29,15 +29,7 @@ module _ (known : Bytes → Option Bytes) (settings : Settings) where
   StopsBefore-of_sum (name ∷ later) (Cut lines) of_sum = absurd of_sum
   StopsBefore-of_sum (name ∷ later) TooMany of_sum = tt
 
-  -- a file that was not read stops at itself
-  pub StopsAt-unread : (name : Bytes) (cause : StopCause) → IsUnread name cause → StopsAt known settings name cause
-  StopsAt-unread name (NotOpened named reason) unread = unread
-  StopsAt-unread name Memory unread = tt
-  StopsAt-unread name (Run error) unread = absurd unread
-  StopsAt-unread name (Cut lines) unread = absurd unread
-  StopsAt-unread name TooMany unread = absurd unread
-
-  -- so does one whose run ended with 2
+  -- a file whose run ended with 2 stops at itself
   pub StopsAt-cut : (name lines : Bytes) (cause : StopCause) → IsCut known settings name lines → SaysCut lines cause → StopsAt known settings name cause
   StopsAt-cut name lines (NotOpened named reason) cut says = absurd says
   StopsAt-cut name lines Memory cut says = tt

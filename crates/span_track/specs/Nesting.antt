@@ -71,10 +71,6 @@ module _ {N : Type 0} where
   abbrev pub opener : List (ThreadEvent N) → Option (Begin N)
   opener es = Matching.opener es
 
-  -- its arguments
-  abbrev pub opener_args : List (ThreadEvent N) → Option Arguments
-  opener_args es = option_map (λ begin. begin.args) (opener es)
-
   -- the begins that no end matches and no seal ends
   abbrev pub open_spans : List (ThreadEvent N) → List (Begin N)
   open_spans es = Matching.open_of es

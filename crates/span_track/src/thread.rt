@@ -5,7 +5,7 @@ ghost use Rattle.std.specs.Option.{option_map};
 ghost use Rattle.span_event.specs.Event.{IsTime, greatest_time};
 ghost use Rattle.span_event.specs.Given.{Gives};
 ghost use Rattle.span_keyed_tracks.specs.Fault.{Answers};
-ghost use Rattle.span_track.specs.Nesting.{ThreadEvent, began, ended, sealed, completed, closed_by, span_sealed, opener, opener_args, later};
+ghost use Rattle.span_track.specs.Nesting.{ThreadEvent, began, ended, sealed, completed, closed_by, span_sealed, opener, later};
 ghost use Rattle.span_self_time.specs.Segments.{lasts, AreSegments, HasSegments, HasEnds};
 ghost use Rattle.span_self_time.specs.Spans.{Arguments, names_of, self_of, self_time, busy_time};
 ghost use Rattle.span_track.specs.Thread.{AreMerged, StandsFor, TakesEvent, HasRoom, IsNext, IsSealTime, any_name, suits, goes_back, begin_refusal, end_refusal, merged_args};
@@ -275,16 +275,6 @@ impl ThreadTrack {
             .map_err(|_| TrackFault::Memory)?;
         self.latest = later(self.latest, until);
         Ok(())
-    }
-
-    /// The arguments of the begin that the next end matches. Takes no memory.
-    pub fn open_args(&self) -> Option<&Args>
-        ensures { Gives StandsFor self.now opener_args (option_copied result) }
-    {
-        match self.opened.last() {
-            Some(begin) => Some(&begin.args),
-            None => None,
-        }
     }
 
     fn goes_back(&self, ts: i64) -> bool

@@ -25,10 +25,3 @@ length-refusals_from place (answer ∷ answers) = by (number_in answer) (length-
     by : (o : Option ℕ) → length (refusals_from (place + 1) answers) ≤ length answers → length (refusal_at place o ++ refusals_from (place + 1) answers) ≤ length (answer ∷ answers)
     by None rest = omega (arith, rest)
     by (Some code) rest = omega (arith, rest)
-
--- what refused an item, with one more
-pub refused_at-push : (places : List ℕ) (place : ℕ) → refused_at (places ++ place ∷ []) ≡ record { count = length places + 1; first = if length places == 0 then place else first_of places }
-refused_at-push [] place = refl
-refused_at-push (p ∷ places) place =
-    let some : (length (p ∷ places) == 0) ≡ false = grind (arith, nat_tests) in
-    ap₂ (λ n b. record { count = n; first = cond b place p }) (length_push (p ∷ places) place) (sym some)

@@ -72,10 +72,6 @@ module _ (answers : List Answer) (answer : Answer) where
       ∙ ap (entries_in nat_cmp refused_at) (sym (refusals (Some code) some)) in
       ap₂ (λ i r. record { items = i; refused = r }) more same
 
--- an empty tally has room
-pub HasRoom-first : HasRoom (tally_of [])
-HasRoom-first = ([], refl, omega arith)
-
 module _ (journal : List Entry) (old : List (ℕ × Tallied)) (stands : old ≡ tallies_of journal) where
   -- a tally that is found is what the answers to its caller give
   tally_of-found : (key : ℕ) (was : Tallied) → lookup (is_at (nat_cmp key)) old ≡ Some was → was ≡ tally_of (steps_at nat_cmp key (map answer_in journal))

@@ -59,7 +59,3 @@ All-last_of {A = A} P (y ∷ ys) all x found = by_rest (last_of ys) (λ z. All-l
     by_rest : (o : Option A) → ((z : A) → o ≡ Some z → P z) → option_or o (Some y) ≡ Some x → P x
     by_rest None rest found = let same : y ≡ x = cc in subst P same (All-head P y ys all)
     by_rest (Some z) rest found = rest x found
-
--- a list with an element has a last one
-pub is_some-last_of : {A : Type 0} (x : A) (xs : List A) → is_some (last_of (x ∷ xs)) ≡ true
-is_some-last_of x xs = elim (last_of xs) as (λ o. is_some (option_or o (Some x)) ≡ true) [ None ↦ refl | Some y ↦ refl ]

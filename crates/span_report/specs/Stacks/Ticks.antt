@@ -56,10 +56,6 @@ pub record Folded : Type 0 where
   pub stack : Stack
   pub time : ℕ
 
--- by stack
-abbrev pub folded_order : Folded → Folded → Ordering
-folded_order a b = stack_order a.stack b.stack
-
 -- how many of these are the stack
 abbrev pub folded : List Stack → Stack → Folded
 folded stacks stack = record { stack = stack; time = count_by (same_stack stack) stacks }
