@@ -1,5 +1,5 @@
 -- Counters: the samples of each series, and what they give.
-use Rattle.std.specs.Prelude.{◌≡◌, ℕ, ◌≤◌, ◌^◌, ◌-◌, ℤ, pos, List, [], ◌∷◌, ◌++◌, length, map, filter, filter_map, fold, Option, Some, None, option_and_then, unwrap_or, if◌then◌else◌}
+use Rattle.std.specs.Prelude.{◌≡◌, ℕ, ◌≤◌, ◌^◌, ◌-◌, ℤ, pos, List, [], ◌∷◌, ◌++◌, length, map, filter, filter_map, flat_map, fold, Option, Some, None, option_and_then, unwrap_or, if◌then◌else◌}
 use Rattle.std.specs.Option.{option_map, option_cmp}
 use Rattle.std.specs.Int.{int_min, int_max}
 use Rattle.std.specs.declared.cmp.Ordering.{Ordering}
@@ -13,7 +13,8 @@ use Rattle.span_keyed_tracks.specs.declared.keys.SeriesKey.{SeriesKey}
 use Rattle.span_keyed_tracks.specs.declared.counter_track.SeriesRow.{SeriesRow}
 use Rattle.span_keyed_tracks.specs.declared.counter_track.SeriesTotals.{SeriesTotals}
 use Rattle.span_keyed_tracks.specs.Last.{last_of}
-use Rattle.span_keyed_tracks.specs.Uses.{uses_in, ascending_uses}
+use Rattle.span_keyed_tracks.specs.Keyed.{ascending, entry_of}
+use Rattle.span_keyed_tracks.specs.Uses.{uses_in}
 
 -- by process, name, id, no id before any, and series; texts by their bytes
 abbrev pub series_cmp : SeriesKey → SeriesKey → Ordering
@@ -107,7 +108,7 @@ series_row (key, Some s) = Some (record { key = key; totals = s.totals })
 
 -- the row of each series that has a sample, in ascending order of keys
 abbrev pub series_rows : List Event → List SeriesRow
-series_rows es = filter_map series_row (ascending_uses series_cmp series_keys series_from es)
+series_rows es = filter_map series_row (map (entry_of (series_from es)) (ascending series_cmp (flat_map series_keys es)))
 
 -- the same of one process
 abbrev pub series_rows_of : ℤ → List Event → List SeriesRow

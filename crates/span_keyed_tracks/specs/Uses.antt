@@ -1,9 +1,9 @@
--- What is kept for each key that events use, in the order of its first use or in the order of keys.
+-- What is kept for each key that events use, in the order of its first use.
 use Rattle.std.specs.Prelude.{List, [], map, fold, flat_map}
 use Rattle.std.specs.declared.cmp.Ordering.{Ordering}
 use Rattle.std.specs.Ordering.{eq_by_cmp}
 use Rattle.indexmap.specs.IndexSet.{insert_key}
-use Rattle.span_keyed_tracks.specs.Keyed.{ascending, entry_of}
+use Rattle.span_keyed_tracks.specs.Keyed.{entry_of}
 
 -- the distinct keys, in the order of their first use
 abbrev pub first_uses : {K : Type 0} → (K → K → Ordering) → List K → List K
@@ -13,7 +13,3 @@ module _ {E K X : Type 0} (cmp : K → K → Ordering) (keys : E → List K) (gi
   -- each key that an event uses, with what the events give for it, in the order of its first use
   abbrev pub uses_in : List E → List (K × X)
   uses_in es = map (entry_of (give es)) (first_uses cmp (flat_map keys es))
-
-  -- the same in ascending order of keys
-  abbrev pub ascending_uses : List E → List (K × X)
-  ascending_uses es = map (entry_of (give es)) (ascending cmp (flat_map keys es))
