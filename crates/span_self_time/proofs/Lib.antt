@@ -4,13 +4,10 @@ pub mod Counts
 pub mod Lengths
 pub mod Lone
 pub mod Mapped
-pub mod Names
 pub mod OwnTimes
 pub mod Owners
 pub mod Ranks
 pub mod Renumbering
-pub mod SameSegments
-pub mod SegmentEnds
 pub mod Segments
 pub mod SelfSums
 pub mod SelfTimes
@@ -18,5 +15,3 @@ pub mod SpanTimes
 pub mod Stacks
 pub mod TimeMap
 pub mod Tops
-pub mod Totals
-pub mod Unbroken

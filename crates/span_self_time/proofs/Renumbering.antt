@@ -1,5 +1,5 @@
 -- Of the positions of spans in the journal only the order counts.
-use Rattle.std.proofs.Common.{◌≡◌, ℕ, ◌<◌, Bool, nat_lt, List, length, map, refl, ap, ◌∙◌, ◌&&◌, ◌||◌, int_lt, arith}
+use Rattle.std.proofs.Common.{◌≡◌, ℕ, ◌<◌, Bool, List, length, map, refl, ap, ◌∙◌, ◌&&◌, ◌||◌, int_lt, arith}
 use Rattle.std.specs.List.{sum_by}
 use Rattle.std.specs.Ordering.{int_eq}
 use Rattle.std.proofs.lemmas.List.{length-map}

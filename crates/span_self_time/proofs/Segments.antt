@@ -6,7 +6,7 @@ use Rattle.std.proofs.lemmas.List.Elements.{All-nil, All-cons}
 use Rattle.span_self_time.specs.declared.segment.Segment.{Segment}
 use Rattle.span_self_time.specs.declared.segment.Part.{Part}
 use Rattle.span_self_time.specs.Spans.{Span}
-use Rattle.span_self_time.specs.Segments.{lies_in, is_in_segment, IsRightBefore, AreInOrder, AreSegments}
+use Rattle.span_self_time.specs.Segments.{lies_in, is_in_segment, IsRightBefore, AreInOrder, AreSegments, HasSegmentsWith}
 use Rattle.span_self_time.specs.Division.{Owners, bare, owners_of, owner_of, AreFuture, AreParts}
 use Rattle.span_self_time.specs.Laws.{AreSpans}
 use Rattle.span_event.specs.Event.{least_time}
@@ -160,3 +160,6 @@ AreSegments-parts spans parts closed are =
       exact = λ at u. is_in_segment-AreParts (owners_of spans) single parts are at u ∙ sym (is_on_top-owners_of spans at u);
       named = names-parts spans closed.are least_time parts are.each;
     }
+
+pub HasSegmentsWith-parts : (P : List Segment → Type 0) (spans : List (Span ℕ)) (parts : List Part) → AreClosed spans → AreParts (owners_of spans) parts → P (segments_of parts) → HasSegmentsWith spans P
+HasSegmentsWith-parts P spans parts closed are holds = record { segments = segments_of parts; are = AreSegments-parts spans parts closed are; holds = holds }

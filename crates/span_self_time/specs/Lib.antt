@@ -4,5 +4,3 @@ pub mod Laws
 pub mod Positions
 pub mod Segments
 pub mod Spans
-pub mod TotalsKept
-pub mod Walk

@@ -52,3 +52,9 @@ pub record AreSegments (spans : List (Span ℕ)) (segments : List Segment) : Typ
 pub record HasSegments (spans : List (Span ℕ)) : Type 0 where
   pub segments : List Segment
   pub are : AreSegments spans segments
+
+-- there are segments of these spans of which P holds
+pub record HasSegmentsWith (spans : List (Span ℕ)) (P : List Segment → Type 0) : Type 0 where
+  pub segments : List Segment
+  pub are : AreSegments spans segments
+  pub holds : P segments

@@ -1,11 +1,12 @@
 //! The division of a thread's time, kept in the way that suits the order in which its spans come.
-ghost use Rattle.std.specs.Prelude.{◌≡◌, ◌≤◌, ℕ, ◌≤ℤ◌, nat_eq, List, [], length, map, slice_get, option_copied, All, OnOk, OnErr, IfOk};
+ghost use Rattle.std.specs.Prelude.{◌≡◌, ◌≢◌, ◌≤◌, ℕ, ◌≤ℤ◌, nat_eq, List, [], ◌∷◌, ◌++◌, length, map, take, slice_get, option_copied, All, OnOk, OnErr, IfOk};
 ghost use Rattle.span_self_time.specs.Spans.{Span, self_of, self_time, busy_time};
-ghost use Rattle.span_self_time.specs.Closed.{span_of, AreClosed};
+ghost use Rattle.span_self_time.specs.Closed.{span_of, IsInTime, AreClosed};
+ghost use Rattle.span_self_time.specs.Segments.{HasSegmentsWith};
 ghost use Rattle.span_self_time.specs.Division.{Owners, owner_of, owners_of, ForSome, HasParts, CanAdd, Adds, KeepsOwners};
 ghost use Rattle.span_self_time.specs.Division.Lengths.{time_at, Gains};
 ghost use Rattle.span_self_time.specs.Division.TimeMap.{IsTimeMap};
-ghost use Rattle.span_self_time.specs.Division.Ways.{IsDivision};
+ghost use Rattle.span_self_time.specs.Division.Ways.{IsWay, Divides};
 
 mod lengths;
 mod lone;
@@ -23,151 +24,221 @@ use time_map::TimeMap;
 // Where stacks have to move more parts than these for each span, a search is the quicker.
 const MOVES_FOR_A_SPAN: u64 = 128;
 
-/// A single span takes no memory of its own. Of more, stacks are the quicker where each comes near the last one, and slow down with the
-/// parts in between; a map, in which each span's place is searched for, doesn't.
+/// The time of some closed spans, which it doesn't keep itself: of each, it has the stretches in which no other ranks above.
 #[derive(Drop)]
-pub(crate) enum Division {
+pub struct Division {
+    way: Way,
+    // How many parts stacks had to move, about.
+    moves: u64,
+}
+
+// A single span takes no memory of its own. Of more, stacks are the quicker where each comes near the last one, and slow down with the
+// parts in between; a map, in which each span's place is searched for, doesn't.
+#[derive(Drop)]
+pub(crate) enum Way {
     Lone(Option<Part>),
     Stacked(Box<Stacks>),
     Searched(Box<TimeMap>),
 }
 
 impl Division {
-    pub(crate) fn new() -> Division
-        ensures { IsDivision (owners_of []) result }
+    /// The time of no spans. Takes no memory.
+    pub fn new() -> Division
+        ensures { Divides [] result }
     {
-        Division::Lone(None)
+        Division {
+            way: Way::Lone(None),
+            moves: 0,
+        }
+    }
+
+    /// The time of no spans, among which each that is added is searched for from the first on. It tells the same as others.
+    pub fn searching() -> Division
+        ensures { Divides [] result }
+    {
+        Division {
+            way: Way::Lone(None),
+            moves: u64::MAX,
+        }
     }
 
     /// A copy, which tells the same times and segments.
-    pub(crate) fn try_clone(&self, alloc: Global) -> Result<Division, AllocError>
-        ensures { IfOk result (λ copy. KeepsOwners IsDivision self.now copy) }
+    pub fn try_clone(&self, alloc: Global) -> Result<Division, AllocError>
+        ensures { IfOk result (λ copy. (spans : List (Span ℕ)) → Divides spans self.now
+            → Divides spans copy) }
     {
-        match self {
-            Division::Lone(lone) => Ok(Division::Lone(*lone)),
-            Division::Stacked(stacks) => {
-                let copy = Stacks::clone(stacks)?;
-                Ok(Division::Stacked(Box::new(alloc, copy)?))
-            }
-            Division::Searched(time_map) => {
-                let copy = TimeMap::clone(time_map)?;
-                Ok(Division::Searched(Box::new(alloc, copy)?))
-            }
-        }
+        Ok(Division {
+            way: self.way.try_clone(alloc)?,
+            moves: self.moves,
+        })
     }
 
-    pub(crate) fn self_of(&self, name: u32) -> u64
-        ensures { (spans : List (Span ℕ)) → AreClosed spans → IsDivision (owners_of spans) self.now
+    /// The ticks that belong to the spans of one name.
+    pub fn self_of(&self, name: u32) -> u64
+        ensures { (spans : List (Span ℕ)) → AreClosed spans → Divides spans self.now
             → result ≡ self_of nat_eq name spans }
     {
-        match self {
-            Division::Lone(lone) => lone::self_of(lone, name),
-            Division::Stacked(stacks) => stacks.self_of(name),
-            Division::Searched(time_map) => time_map.self_of(name),
+        match &self.way {
+            Way::Lone(lone) => lone::self_of(lone, name),
+            Way::Stacked(stacks) => stacks.self_of(name),
+            Way::Searched(time_map) => time_map.self_of(name),
         }
     }
 
-    pub(crate) fn busy(&self) -> u64
-        ensures { (spans : List (Span ℕ)) → AreClosed spans → IsDivision (owners_of spans) self.now
+    /// The ticks that at least one span covers.
+    pub fn busy(&self) -> u64
+        ensures { (spans : List (Span ℕ)) → AreClosed spans → Divides spans self.now
             → result ≡ busy_time spans }
     {
-        match self {
-            Division::Lone(lone) => lone::busy(lone),
-            Division::Stacked(stacks) => stacks.busy(),
-            Division::Searched(time_map) => time_map.busy(),
+        match &self.way {
+            Way::Lone(lone) => lone::busy(lone),
+            Way::Stacked(stacks) => stacks.busy(),
+            Way::Searched(time_map) => time_map.busy(),
         }
     }
 
-    pub(crate) fn segment_count(&self) -> u64
-        ensures { (owners : Owners) → IsDivision owners self.now
-            → HasParts owners (λ parts. result ≡ length parts) }
+    /// How many segments of time the spans make.
+    pub fn segment_count(&self) -> u64
+        ensures { (spans : List (Span ℕ)) → AreClosed spans → Divides spans self.now
+            → HasSegmentsWith spans (λ segments. result ≡ length segments) }
     {
-        match self {
-            Division::Lone(lone) => lone::segment_count(lone),
-            Division::Stacked(stacks) => stacks.segment_count(),
-            Division::Searched(time_map) => time_map.segment_count(),
+        match &self.way {
+            Way::Lone(lone) => lone::segment_count(lone),
+            Way::Stacked(stacks) => stacks.segment_count(),
+            Way::Searched(time_map) => time_map.segment_count(),
         }
     }
 
-    pub(crate) fn segment(&self, i: u64) -> Option<&Segment>
-        ensures { (owners : Owners) → IsDivision owners self.now → HasParts owners (λ parts.
-            option_copied result ≡ slice_get (map (λ part. part.segment) parts) i) }
+    /// A segment of time, in ascending order, counted from 0; None from the number of segments on.
+    pub fn segment(&self, i: u64) -> Option<&Segment>
+        ensures { (spans : List (Span ℕ)) → AreClosed spans → Divides spans self.now
+            → HasSegmentsWith spans (λ segments. option_copied result ≡ slice_get segments i) }
     {
-        match self {
-            Division::Lone(lone) => lone::segment(lone, i),
-            Division::Stacked(stacks) => stacks.segment(i),
-            Division::Searched(time_map) => time_map.segment(i),
+        match &self.way {
+            Way::Lone(lone) => lone::segment(lone, i),
+            Way::Stacked(stacks) => stacks.segment(i),
+            Way::Searched(time_map) => time_map.segment(i),
         }
     }
 
-    /// How long the parts of each of the spans are together, which are all that were added.
-    pub(crate) fn lengths(&self, spans: &[ClosedSpan], alloc: Global) -> Result<Lengths, AllocError>
+    /// The ticks that belong to each of the spans, which are all that were added, in their order.
+    pub fn self_times(&self, spans: &[ClosedSpan], alloc: Global) -> Result<Vec<u64>, AllocError>
         requires closed { AreClosed (map span_of spans.now) }
-        requires division { IsDivision (owners_of (map span_of spans.now)) self.now }
+        requires division { Divides (map span_of spans.now) self.now }
+        ensures { IfOk result (λ times. times.items
+            ≡ map (self_time (map span_of spans.now)) (map span_of spans.now)) }
+    {
+        let lengths = self.lengths(spans, alloc)?;
+        let mut times = Vec::with_capacity(alloc, spans.len())?;
+        for span in spans {
+            times.push(lengths.at(span.at))?;
+        }
+        Ok(times)
+    }
+
+    // How long the parts of each of the spans are together, which are all that were added.
+    fn lengths(&self, spans: &[ClosedSpan], alloc: Global) -> Result<Lengths, AllocError>
+        requires closed { AreClosed (map span_of spans.now) }
+        requires division { Divides (map span_of spans.now) self.now }
         ensures { IfOk result (λ times. All (λ s. time_at times s.at
             ≡ self_time (map span_of spans.now) s) (map span_of spans.now)) }
     {
         let mut times = Lengths::of(spans, alloc)?;
-        self.tell_parts(&mut times)?;
+        self.way.tell_parts(&mut times)?;
         Ok(times)
+    }
+
+    /// One more span takes the ticks that it covers from no one and from the spans that it outranks; the others are all that
+    /// were added. Where memory is refused, no reader sees a change.
+    pub fn add(
+        &mut self,
+        span: &ClosedSpan,
+        others: &[ClosedSpan],
+        alloc: Global,
+    ) -> Result<(), AllocError>
+        requires closed { AreClosed (map span_of others.now) }
+        requires forward { span.now.start ≤ℤ span.now.until }
+        requires in_time { IsInTime (span_of span.now) }
+        requires apart { All (λ s. s.at ≢ span.now.at) (map span_of others.now) }
+        requires division { Divides (map span_of others.now) self.old }
+        ensures ok { OnOk result (Divides (map span_of others.now ++ span_of span.now ∷ []) self.new) }
+        ensures err { OnErr result (Divides (map span_of others.now) self.new) }
+    {
+        let part = Part::whole(span);
+        self.suit(&part, others, alloc)?;
+        self.way.add(&part, alloc)?;
+        Ok(())
+    }
+
+    // Turns to a search where stacks had to move too many parts for the spans so far, with those for this span. Where memory is
+    // refused, nothing changes.
+    fn suit(&mut self, span: &Part, spans: &[ClosedSpan], alloc: Global) -> Result<(), AllocError>
+        requires { AreClosed (map span_of spans.now) }
+        ensures { Divides (map span_of spans.now) self.old
+            → Divides (map span_of spans.now) self.new }
+    {
+        let moves = self.moves.saturating_add(self.way.moves_for(span));
+        if moves / MOVES_FOR_A_SPAN > spans.len() as u64 {
+            self.way.search(spans, alloc)?;
+        }
+        self.moves = moves;
+        Ok(())
+    }
+}
+
+impl Way {
+    fn try_clone(&self, alloc: Global) -> Result<Way, AllocError>
+        ensures { IfOk result (λ copy. KeepsOwners IsWay self.now copy) }
+    {
+        match self {
+            Way::Lone(lone) => Ok(Way::Lone(*lone)),
+            Way::Stacked(stacks) => {
+                let copy = Stacks::clone(stacks)?;
+                Ok(Way::Stacked(Box::new(alloc, copy)?))
+            }
+            Way::Searched(time_map) => {
+                let copy = TimeMap::clone(time_map)?;
+                Ok(Way::Searched(Box::new(alloc, copy)?))
+            }
+        }
     }
 
     // The span of each part gains the part's length.
     fn tell_parts(&self, times: &mut Lengths) -> Result<(), AllocError>
-        requires division { ForSome (λ owners. IsDivision owners self.now) }
+        requires division { ForSome (λ owners. IsWay owners self.now) }
         requires none { (at : ℕ) → time_at times.old at ≡ 0 }
-        ensures { (owners : Owners) → IsDivision owners self.now
+        ensures { (owners : Owners) → IsWay owners self.now
             → HasParts owners (λ parts. OnOk result (Gains times.old parts times.new)) }
     {
         match self {
-            Division::Lone(lone) => lone::tell_parts(lone, times),
-            Division::Stacked(stacks) => stacks.tell_parts(times),
-            Division::Searched(time_map) => time_map.tell_parts(times),
+            Way::Lone(lone) => lone::tell_parts(lone, times),
+            Way::Stacked(stacks) => stacks.tell_parts(times),
+            Way::Searched(time_map) => time_map.tell_parts(times),
         }
     }
 
-    /// The span takes the ticks that it covers from no one and from the spans that it outranks. Where memory is refused,
-    /// no reader sees a change.
-    pub(crate) fn add(&mut self, span: &Part, alloc: Global) -> Result<(), AllocError>
-        requires { CanAdd IsDivision (owner_of span.now) self.old }
-        ensures ok { OnOk result (Adds IsDivision (owner_of span.now) self.old self.new) }
-        ensures err { OnErr result (KeepsOwners IsDivision self.old self.new) }
+    // The span takes the ticks that it covers from no one and from the spans that it outranks. Where memory is refused,
+    // no reader sees a change.
+    fn add(&mut self, span: &Part, alloc: Global) -> Result<(), AllocError>
+        requires { CanAdd IsWay (owner_of span.now) self.old }
+        ensures ok { OnOk result (Adds IsWay (owner_of span.now) self.old self.new) }
+        ensures err { OnErr result (KeepsOwners IsWay self.old self.new) }
     {
         match self {
-            Division::Lone(lone) => {
+            Way::Lone(lone) => {
                 *self = lone::with_span(*lone, span, alloc)?;
                 Ok(())
             }
-            Division::Stacked(stacks) => stacks.add(span),
-            Division::Searched(time_map) => time_map.add(span),
+            Way::Stacked(stacks) => stacks.add(span),
+            Way::Searched(time_map) => time_map.add(span),
         }
-    }
-
-    /// Turns to a search where stacks had to move too many parts for the spans so far. Returns how many they had to move, with
-    /// those for this span. Where memory is refused, nothing changes.
-    pub(crate) fn suit(
-        &mut self,
-        span: &Part,
-        moves: u64,
-        spans: &[ClosedSpan],
-        alloc: Global,
-    ) -> Result<u64, AllocError>
-        requires { AreClosed (map span_of spans.now) }
-        ensures { IsDivision (owners_of (map span_of spans.now)) self.old
-            → IsDivision (owners_of (map span_of spans.now)) self.new }
-    {
-        let moves = moves.saturating_add(self.moves_for(span));
-        if moves / MOVES_FOR_A_SPAN > spans.len() as u64 {
-            self.search(spans, alloc)?;
-        }
-        Ok(moves)
     }
 
     // About how many parts stacks would have to move for this span, where these are many.
     fn moves_for(&self, span: &Part) -> u64 {
         match self {
-            Division::Stacked(stacks) => stacks.moves_for(span),
-            Division::Lone(_) | Division::Searched(_) => 0,
+            Way::Stacked(stacks) => stacks.moves_for(span),
+            Way::Lone(_) | Way::Searched(_) => 0,
         }
     }
 
@@ -175,12 +246,12 @@ impl Division {
     // nothing changes.
     fn search(&mut self, spans: &[ClosedSpan], alloc: Global) -> Result<(), AllocError>
         requires { AreClosed (map span_of spans.now) }
-        ensures { IsDivision (owners_of (map span_of spans.now)) self.old
-            → IsDivision (owners_of (map span_of spans.now)) self.new }
+        ensures { IsWay (owners_of (map span_of spans.now)) self.old
+            → IsWay (owners_of (map span_of spans.now)) self.new }
     {
-        if !matches!(self, Division::Searched(_)) {
+        if !matches!(self, Way::Searched(_)) {
             let time_map = time_map_of(spans, alloc)?;
-            *self = Division::Searched(Box::new(alloc, time_map)?);
+            *self = Way::Searched(Box::new(alloc, time_map)?);
         }
         Ok(())
     }

@@ -9,12 +9,14 @@ ghost use Rattle.span_track.specs.Nesting.{ThreadEvent, began, ended, sealed, co
 ghost use Rattle.span_self_time.specs.Segments.{lasts, AreSegments, HasSegments, HasEnds};
 ghost use Rattle.span_self_time.specs.Spans.{Arguments, names_of, self_of, self_time, busy_time};
 ghost use Rattle.span_track.specs.Thread.{AreMerged, StandsFor, TakesEvent, HasRoom, IsNext, IsSealTime, any_name, suits, goes_back, begin_refusal, end_refusal, merged_args};
-ghost use Rattle.span_self_time.specs.Closed.{span_of, total_for, AreClosed};
+ghost use Rattle.span_self_time.specs.Closed.{span_of, AreClosed};
+ghost use Rattle.span_closed_spans.specs.Totals.{total_for};
 
 use crate::wanted::Wanted;
 use span_event::{Args, Fault, merge_args};
 use span_keyed_tracks::TrackFault;
-use span_self_time::{ClosedSpan, ClosedSpans, NameTotal, Segment};
+use span_closed_spans::{ClosedSpans, NameTotal};
+use span_self_time::{ClosedSpan, Segment};
 use std::alloc::{AllocError, Global};
 use std::marker::Model;
 

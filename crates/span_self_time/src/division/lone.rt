@@ -4,9 +4,9 @@ ghost use Rattle.span_self_time.specs.Division.{Owners, IsNew, AreSettled, CanAd
 ghost use Rattle.span_self_time.specs.Division.Lengths.{CanGain, Gains};
 ghost use Rattle.span_self_time.specs.Division.Lone.{IsLone, parts_of_lone};
 ghost use Rattle.span_self_time.specs.Division.Stacks.{named_length, whole_length};
-ghost use Rattle.span_self_time.specs.Division.Ways.{IsDivision};
+ghost use Rattle.span_self_time.specs.Division.Ways.{IsWay};
 
-use super::Division;
+use super::Way;
 use super::lengths::Lengths;
 use super::stacks::Stacks;
 use crate::segment::{Part, Segment};
@@ -60,27 +60,23 @@ pub(crate) fn tell_parts(lone: &Option<Part>, times: &mut Lengths) -> Result<(),
     }
 }
 
-/// The division once another span has taken its own: stacks, where both last.
-pub(crate) fn with_span(
-    lone: Option<Part>,
-    span: &Part,
-    alloc: Global,
-) -> Result<Division, AllocError>
+/// The time once another span has taken its own: stacks, where both last.
+pub(crate) fn with_span(lone: Option<Part>, span: &Part, alloc: Global) -> Result<Way, AllocError>
     requires { CanAdd IsLone (owner_of span.now) lone }
-    ensures { IfOk result (λ division. (owners : Owners) → IsLone owners lone
+    ensures { IfOk result (λ way. (owners : Owners) → IsLone owners lone
         → IsNew (owner_of span.now) owners → AreSettled owners
-        → IsDivision (taken (owner_of span.now) owners) division) }
+        → IsWay (taken (owner_of span.now) owners) way) }
 {
     if span.span_start == span.span_until {
-        return Ok(Division::Lone(lone));
+        return Ok(Way::Lone(lone));
     }
     let Some(part) = lone else {
         let whole = span.between(span.span_start, span.span_until);
-        return Ok(Division::Lone(Some(whole)));
+        return Ok(Way::Lone(Some(whole)));
     };
     let mut stacks = Stacks::new(alloc);
     stacks.add(&part)?;
     stacks.add(span)?;
     let stacks = Box::new(alloc, stacks)?;
-    Ok(Division::Stacked(stacks))
+    Ok(Way::Stacked(stacks))
 }

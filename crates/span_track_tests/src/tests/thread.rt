@@ -6,7 +6,8 @@ mod growths;
 mod placed;
 
 use placed::Placed;
-use span_self_time::{NameTotal, Segment};
+use span_closed_spans::NameTotal;
+use span_self_time::Segment;
 use span_track::laws::{busy_plain, self_law, self_plain};
 use span_track::{ThreadTrack, TrackFault, Wanted};
 use std::alloc::{AllocGlobal, Global};

@@ -3,7 +3,7 @@ use Rattle.std.proofs.lemmas.Int.{ints, clamps}
 use Rattle.std.proofs.lemmas.List.{drop_more}
 use Rattle.span_event.specs.Text.{Bytes}
 use Rattle.span_self_time.specs.Spans.{Span, earliest, latest}
-use Rattle.span_self_time.proofs.Unbroken.{earliest-le, le-latest}
+use Rattle.span_closed_spans.proofs.Unbroken.{earliest-le, le-latest}
 use Rattle.span_report.proofs.stacks.ends.bounds.Goals as goal
 
 pub loop-named-init : goal.loop-named-init

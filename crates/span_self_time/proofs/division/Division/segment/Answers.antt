@@ -1,16 +1,25 @@
-use Rattle.std.proofs.Common.{sym, subst}
-use Rattle.span_self_time.specs.Division.Stacks.{AreStacks, parts_of}
-use Rattle.span_self_time.specs.Division.Ways.{IsDivision}
-use Rattle.span_self_time.specs.Division.Lone.{parts_of_lone}
+use Rattle.std.proofs.Common.{◌≡◌, slice_get, option_copied, List, sym, subst}
+use Rattle.span_self_time.specs.declared.segment.Segment.{Segment}
+use Rattle.span_self_time.specs.Division.{owners_of}
+use Rattle.span_self_time.specs.Division.Stacks.{AreStacks}
+use Rattle.span_self_time.specs.Division.TimeMap.{IsTimeMap}
+use Rattle.span_self_time.specs.Division.Ways.{IsWay}
 use Rattle.span_self_time.proofs.Lone.{AreParts-lone}
+use Rattle.span_self_time.proofs.Segments.{HasSegmentsWith-parts}
 use Rattle.span_self_time.proofs.division.Division.segment.Goals as goal
 
 pub returns-in-Stacked : goal.returns-in-Stacked
-returns-in-Stacked c = λ owners is.
-    let kept = subst (AreStacks owners) (sym c.deref.ensures) (subst (IsDivision owners) c.in-Stacked.is is) in
-    record { parts = parts_of c.deref.result.now.past.items c.deref.result.now.future.items; are = kept.parts; holds = c.segment-in-Stacked.ensures }
+returns-in-Stacked c = λ spans closed is.
+    let kept = subst (AreStacks (owners_of spans)) (sym c.deref.ensures) (subst (IsWay (owners_of spans)) c.in-Stacked.is is) in
+    HasSegmentsWith-parts (λ (segments : List Segment). option_copied c.segment-in-Stacked.result ≡ slice_get segments c.args.i) spans _ closed kept.parts c.segment-in-Stacked.ensures
+
+pub returns-in-Searched : goal.returns-in-Searched
+returns-in-Searched c = λ spans closed is.
+    let kept = subst (IsTimeMap (owners_of spans)) (sym c.deref-in-Searched.ensures) (subst (IsWay (owners_of spans)) c.in-Searched.is is) in
+    let has = c.segment-in-Searched.ensures (owners_of spans) kept in
+    HasSegmentsWith-parts (λ (segments : List Segment). option_copied c.segment-in-Searched.result ≡ slice_get segments c.args.i) spans has.parts closed has.are has.holds
 
 pub returns-in-Lone : goal.returns-in-Lone
-returns-in-Lone c = λ owners is.
-    let lone = subst (IsDivision owners) c.in-Lone.is is in
-    record { parts = parts_of_lone c.in-Lone.lone; are = AreParts-lone _ _ lone; holds = c.segment.ensures }
+returns-in-Lone c = λ spans closed is.
+    let lone = subst (IsWay (owners_of spans)) c.in-Lone.is is in
+    HasSegmentsWith-parts (λ (segments : List Segment). option_copied c.segment.result ≡ slice_get segments c.args.i) spans _ closed (AreParts-lone _ _ lone) c.segment.ensures

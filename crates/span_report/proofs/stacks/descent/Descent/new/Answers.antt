@@ -11,7 +11,7 @@ use Rattle.span_report.specs.Stacks.Parts.{IsSplit}
 use Rattle.span_report.proofs.StackLemmas.Descending.{IsReady-new, StartsWith-new}
 use Rattle.span_report.proofs.StackLemmas.Nearing.{nearness-total}
 use Rattle.span_report.proofs.StackLemmas.Starts.{latest-le-greatest, least-le-earliest}
-use Rattle.span_self_time.proofs.Unbroken.{earliest-le, le-latest}
+use Rattle.span_closed_spans.proofs.Unbroken.{earliest-le, le-latest}
 use Rattle.span_report.proofs.stacks.descent.Descent.new.Goals as goal
 
 pub split-requires-clause-from : goal.split-requires-clause-from

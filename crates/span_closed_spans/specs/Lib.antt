@@ -1,0 +1,3 @@
+pub mod Totals
+pub mod TotalsKept
+pub mod Walk

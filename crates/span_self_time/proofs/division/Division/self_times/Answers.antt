@@ -1,0 +1,21 @@
+use Rattle.std.proofs.Common.{◌≡◌, ℕ, List, [], ◌∷◌, map, take, refl, sym, ap, ap₂, ◌∙◌, take_all, All}
+use Rattle.std.proofs.lemmas.List.Elements.{All-head, All-tail}
+use Rattle.std.proofs.lemmas.Simd.{map-map}
+use Rattle.span_self_time.specs.declared.span.ClosedSpan.{ClosedSpan}
+use Rattle.span_self_time.specs.Closed.{span_of}
+use Rattle.span_self_time.specs.Division.Lengths.{time_at}
+use Rattle.span_self_time.specs.Spans.{Span, self_time}
+use Rattle.span_self_time.proofs.division.Division.self_times.Goals as goal
+
+map-same : {X Y : Type 0} (f g : X → Y) (xs : List X) → All (λ x. f x ≡ g x) xs → map f xs ≡ map g xs
+map-same f g [] same = refl
+map-same f g (x ∷ xs) same = ap₂ (λ y ys. y ∷ ys) (All-head (λ y. f y ≡ g y) x xs same) (map-same f g xs (All-tail (λ y. f y ≡ g y) x xs same))
+
+pub returns : goal.returns
+returns c =
+    let list = c.args.spans.now in
+    let spans = map span_of list in
+    let time : Span ℕ → ℕ = λ s. time_at c.in_ok-lengths.lengths s.at in
+    let all : take c.loop-span.span-index list ≡ list = take_all c.loop-span.span-index list c.loop-span-test.false in
+    c.loop-span.invariant ∙ ap (map (λ (s : ClosedSpan). time (span_of s))) all ∙ sym (map-map time span_of list)
+    ∙ map-same time (self_time spans) spans c.in_ok-lengths.ensures

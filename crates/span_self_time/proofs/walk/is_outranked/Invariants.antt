@@ -1,7 +1,0 @@
-use Rattle.std.proofs.Common.{◌≡◌, drop, map}
-use Rattle.span_self_time.specs.Spans.{is_outranked}
-use Rattle.span_self_time.specs.Closed.{span_of}
-use Rattle.span_self_time.proofs.walk.is_outranked.Given as goal
-
-abbrev pub invariant-loop-other : goal.invariant-loop-other
-invariant-loop-other l = is_outranked (map span_of (drop l.other-index l.spans)) (span_of l.span) l.u ≡ is_outranked (map span_of l.spans) (span_of l.span) l.u
