@@ -17,17 +17,17 @@ use Rattle.span_table.specs.declared.column.Column.{Column}
 use Rattle.span_table.specs.declared.of.Of.{Of}
 use Rattle.span_table.specs.declared.table.Row.{Row}
 use Rattle.span_table.specs.Adding.{with_row}
-use Rattle.span_table.specs.Json.{json_line}
+use Rattle.span_table_text.specs.Json.{json_line}
 use Rattle.span_table.specs.KeyLaws.{key_cmp_total}
 use Rattle.span_table.specs.Keys.{key_cmp}
-use Rattle.span_table.specs.Printed.{IsRowOf}
+use Rattle.span_table_text.specs.Printed.{IsRowOf}
 use Rattle.span_table.specs.Tables.{RowsRise, SpanTable}
 use Rattle.span_parts.specs.declared.fault.PartFault.{PartFault}
 use Rattle.span_parts.specs.declared.fault.PartFault.TheVariants.{NotTable, OtherColumns, Memory, TooMany}
 use Rattle.span_parts.specs.Rows.{AllAdded, AreAdded, AreNoRows, AreRows, IsNextRow, IsOfSum, RowFails, RowsFail, comes_after, last_row, row_at}
-use Rattle.span_table.specs.Tokens.{row_tokens}
-use Rattle.span_table.proofs.Printed.{json_line-print}
-use Rattle.span_table.proofs.PrintedLines.{IsRowOf-told, print_row-line}
+use Rattle.span_table_text.specs.Tokens.{row_tokens}
+use Rattle.span_table_text.proofs.Printed.{json_line-print}
+use Rattle.span_table_text.proofs.PrintedLines.{IsRowOf-told, print_row-line}
 use Rattle.span_parts.proofs.Lists.{All-at}
 use Rattle.span_parts.proofs.Summing.{with_rows-push}
 
@@ -164,10 +164,3 @@ module _ (of : Of) (columns : List Column) (places : List ℕ) (text rest : Byte
   RowsFail-row line after count OtherColumns ends split fails = fails
   RowsFail-row line after count Memory ends split fails = tt
   RowsFail-row line after count TooMany ends split fails = tt
-
--- what is the sum's doing says nothing of rows
-pub RowsFail-sum : (of : Of) (columns : List Column) (text : Bytes) (count : ℕ) (fault : PartFault) → IsOfSum fault → RowsFail of columns text count fault
-RowsFail-sum of columns text count NotTable fails = absurd fails
-RowsFail-sum of columns text count OtherColumns fails = fails
-RowsFail-sum of columns text count Memory fails = tt
-RowsFail-sum of columns text count TooMany fails = tt

@@ -13,10 +13,11 @@ use Rattle.span_table.specs.declared.sums.Sums.{Sums}
 use Rattle.span_event.specs.declared.args.ArgValue.{ArgValue}
 use Rattle.span_table.specs.Columns.{Value, column_name}
 use Rattle.span_table.specs.Keys.{TableKey}
-use Rattle.span_table.specs.Printed.{AreDistinct, IsKeyOf, IsOfArgument, is_column}
-use Rattle.span_table.specs.Tokens.{key_tokens, name_tokens, sums_tokens, value_tokens}
-use Rattle.span_table.proofs.PartsTold.{column_name-not_first_number, first_number}
-use Rattle.span_table.proofs.PrintedLines.{IsOfArgument-any}
+use Rattle.span_table.specs.Columns.{is_column}
+use Rattle.span_table_text.specs.Printed.{AreDistinct, IsKeyOf, IsOfArgument}
+use Rattle.span_table_text.specs.Tokens.{key_tokens, name_tokens, sums_tokens, value_tokens}
+use Rattle.span_table_text.proofs.PartsTold.{column_name-not_first_number, first_number}
+use Rattle.span_table_text.proofs.PrintedLines.{IsOfArgument-any}
 use Rattle.span_parts.specs.Guess.{Found, MayFollow}
 use Rattle.std.proofs.lemmas.List.{length-append}
 use Rattle.span_parts.proofs.Lists.{All-at, All-tail}
@@ -42,11 +43,6 @@ next_column columns (column ∷ others) name more rest may next = record {
   follow = record { each = All-tail (λ c. is_column c ≡ true) column others may.each; few = omega (arith, length-append columns (column ∷ []), may.few) };
   next = cc;
 }
-
--- where no name comes next there are no columns
-pub no_column : (later : List Column) (tokens rest : List Token) → ((name : Bytes) (more : List Token) → tokens ≢ string name ∷ more) → tokens ≡ name_tokens later ++ end_array ∷ rest → (later ≡ []) × (tokens ≡ end_array ∷ rest)
-no_column [] tokens rest none next = (refl, next)
-no_column (column ∷ later) tokens rest none next = absurd (none (column_name column) (name_tokens later ++ end_array ∷ rest) next)
 
 -- a key that is next, and not of this name
 record NextKey (name : Bytes) (tokens : List Token) : Type 0 where

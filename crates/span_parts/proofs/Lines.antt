@@ -9,10 +9,10 @@ use Rattle.span_table.specs.declared.column.Column.{Column}
 use Rattle.span_table.specs.declared.heads.Head.{Head}
 use Rattle.span_table.specs.declared.of.Of.{Of}
 use Rattle.span_table.specs.declared.table.Row.{Row}
-use Rattle.span_table.specs.Json.{json_head}
-use Rattle.span_table.specs.Tokens.{head_tokens, row_tokens}
-use Rattle.span_table.proofs.Printed.{json_head-print, json_line-print}
-use Rattle.span_table.proofs.PrintedLines.{IsRowOf-told, tokens-head, tokens-row}
+use Rattle.span_table_text.specs.Json.{json_head}
+use Rattle.span_table_text.specs.Tokens.{head_tokens, row_tokens}
+use Rattle.span_table_text.proofs.Printed.{json_head-print, json_line-print}
+use Rattle.span_table_text.proofs.PrintedLines.{IsRowOf-told, tokens-head, tokens-row}
 use Rattle.span_parts.specs.First.{MayBegin}
 use Rattle.span_parts.specs.Rows.{IsRowLine}
 

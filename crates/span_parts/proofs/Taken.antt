@@ -9,7 +9,7 @@ use Rattle.span_table.specs.declared.column.Column.{Column}
 use Rattle.span_table.specs.declared.of.Of.{Of}
 use Rattle.span_table.specs.declared.table.Row.{Row}
 use Rattle.span_table.specs.Adding.{add_tables, keyed_rows, picked, with_columns, with_head, with_row}
-use Rattle.span_table.specs.Printed.{IsPart}
+use Rattle.span_table_text.specs.Printed.{IsPart}
 use Rattle.span_table.specs.Tables.{RowsRise, SpanTable}
 use Rattle.span_table.proofs.Rows.{RowsRise-rows_of}
 use Rattle.span_parts.specs.declared.fault.PartFault.{PartFault}
@@ -108,10 +108,3 @@ FirstFails-sum wanted text NotTable fails = fails
 FirstFails-sum wanted text OtherColumns fails = absurd fails
 FirstFails-sum wanted text Memory fails = tt
 FirstFails-sum wanted text TooMany fails = tt
-
--- and what refuses its first line
-pub SumFails-begin : (text : Bytes) (fault : PartFault) → FailsToBegin text fault → SumFails text fault
-SumFails-begin text NotTable fails = fails
-SumFails-begin text OtherColumns fails = fails
-SumFails-begin text Memory fails = tt
-SumFails-begin text TooMany fails = tt

@@ -6,11 +6,11 @@ use Rattle.span_event.specs.declared.unit.Unit.{Unit as TimeUnit}
 use Rattle.span_table.specs.declared.column.Column.{Column}
 use Rattle.span_table.specs.declared.of.Of.{Of}
 use Rattle.span_table.specs.Adding.{add_tables, picked, with_columns}
-use Rattle.span_table.specs.Json.{text_of}
-use Rattle.span_table.specs.Printed.{IsPrint}
+use Rattle.span_table_text.specs.Json.{text_of}
+use Rattle.span_table_text.specs.Printed.{IsPrint}
 use Rattle.span_table.specs.Tables.{Run, SpanTable, table_of}
 use Rattle.span_table.proofs.AddedTables.{add_tables-parts, table_of-moved, table_of-picked}
-use Rattle.span_table.proofs.RunTables.{part-table_of}
+use Rattle.span_table_text.proofs.RunTables.{part-table_of}
 use Rattle.span_parts.proofs.Places.{picked-at}
 use Rattle.span_parts.specs.Sum.{AreAt, AreParts}
 use Rattle.span_parts.specs.Trees.{Trees, of_runs, of_parts, no_trees, tree, runs_in, runs_in_all, ArePrinted, TreesLoseNothing, TreesPrintAlike}

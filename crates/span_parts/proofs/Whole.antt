@@ -8,12 +8,12 @@ use Rattle.span_table.specs.declared.column.Column.{Column}
 use Rattle.span_table.specs.declared.of.Of.{Of}
 use Rattle.span_table.specs.declared.table.Row.{Row}
 use Rattle.span_table.specs.Adding.{with_head}
-use Rattle.span_table.specs.Json.{json_head, json_line}
-use Rattle.span_table.specs.Printed.{IsPart, IsRowOf}
+use Rattle.span_table_text.specs.Json.{json_head, json_line}
+use Rattle.span_table_text.specs.Printed.{IsPart, IsRowOf}
 use Rattle.span_table.specs.Tables.{SpanTable}
-use Rattle.span_table.specs.Tokens.{head_tokens}
-use Rattle.span_table.proofs.Printed.{json_head-print}
-use Rattle.span_table.proofs.PrintedLines.{print_head-line}
+use Rattle.span_table_text.specs.Tokens.{head_tokens}
+use Rattle.span_table_text.proofs.Printed.{json_head-print}
+use Rattle.span_table_text.proofs.PrintedLines.{print_head-line}
 use Rattle.span_parts.specs.declared.fault.PartFault.{PartFault}
 use Rattle.span_parts.specs.declared.fault.PartFault.TheVariants.{NotTable, OtherColumns, Memory, TooMany}
 use Rattle.span_parts.specs.declared.guess.FirstLine.{FirstLine}
@@ -91,10 +91,3 @@ module _ (text rest : Bytes) (first : FirstLine) (begins : Begins text first res
   SumFails-rows OtherColumns fails = fails
   SumFails-rows Memory fails = tt
   SumFails-rows TooMany fails = tt
-
--- a sum that is refused refuses what has other columns
-pub RefusesOthers-sum : (of : Of) (unit : TimeUnit) (columns : List Column) (text : Bytes) (fault : PartFault) → SumFails text fault → RefusesOthers of unit columns text fault
-RefusesOthers-sum of unit columns text NotTable fails = fails
-RefusesOthers-sum of unit columns text OtherColumns fails = absurd fails
-RefusesOthers-sum of unit columns text Memory fails = tt
-RefusesOthers-sum of unit columns text TooMany fails = tt

@@ -6,8 +6,9 @@ use Rattle.span_event.specs.declared.unit.Unit.{Unit as TimeUnit}
 use Rattle.span_table.specs.declared.column.Column.{Column}
 use Rattle.span_table.specs.declared.heads.Head.{Head}
 use Rattle.span_table.specs.declared.of.Of.{Of}
-use Rattle.span_table.specs.Json.{head_fits, json_head, json_line}
-use Rattle.span_table.specs.Printed.{AreColumns, IsPart}
+use Rattle.span_table.specs.Heads.{head_fits}
+use Rattle.span_table_text.specs.Json.{json_head, json_line}
+use Rattle.span_table_text.specs.Printed.{AreColumns, IsPart}
 use Rattle.span_table.specs.Tables.{SpanTable}
 use Rattle.span_parts.specs.declared.guess.FirstLine.{FirstLine}
 

@@ -5,7 +5,7 @@ use Rattle.json.specs.Reads.{token_of}
 use Rattle.json.specs.Token as spec
 use Rattle.json.specs.declared.token.Token.{Token}
 use Rattle.span_table.specs.declared.column.Column.{Column}
-use Rattle.span_table.specs.Printed.{is_column}
+use Rattle.span_table.specs.Columns.{is_column}
 
 -- this was found, and these tokens are behind it
 abbrev pub Found : {A : Type 0} → A → List spec.Token → A × Bor (List Token) → Type 0

@@ -8,9 +8,9 @@ use Rattle.span_table.specs.declared.column.Column.{Column}
 use Rattle.span_table.specs.declared.of.Of.{Of}
 use Rattle.span_table.specs.declared.table.Row.{Row}
 use Rattle.span_table.specs.Adding.{picked, with_row}
-use Rattle.span_table.specs.Json.{json_line}
+use Rattle.span_table_text.specs.Json.{json_line}
 use Rattle.span_table.specs.Keys.{key_cmp}
-use Rattle.span_table.specs.Printed.{IsRowOf}
+use Rattle.span_table_text.specs.Printed.{IsRowOf}
 use Rattle.span_table.specs.Tables.{RowsRise, SpanTable}
 
 -- the line, without its end, is that of this row

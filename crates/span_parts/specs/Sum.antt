@@ -8,7 +8,7 @@ use Rattle.span_parts.specs.declared.fault.PartFault.TheVariants.{NotTable, Othe
 use Rattle.span_table.specs.declared.column.Column.{Column}
 use Rattle.span_table.specs.declared.of.Of.{Of}
 use Rattle.span_table.specs.Adding.{add_tables, picked, with_columns, with_head}
-use Rattle.span_table.specs.Printed.{AreColumns, IsPart}
+use Rattle.span_table_text.specs.Printed.{AreColumns, IsPart}
 use Rattle.span_table.specs.Tables.{SpanTable}
 use Rattle.span_parts.specs.Rows.{with_rows}
 

@@ -5,7 +5,7 @@ use Rattle.span_event.specs.Text.{Bytes}
 use Rattle.span_event.specs.declared.unit.Unit.{Unit as TimeUnit}
 use Rattle.span_table.specs.declared.column.Column.{Column}
 use Rattle.span_table.specs.declared.of.Of.{Of}
-use Rattle.span_table.specs.Printed.{IsPrint}
+use Rattle.span_table_text.specs.Printed.{IsPrint}
 use Rattle.span_table.specs.Tables.{Run, table_of}
 use Rattle.span_parts.specs.Sum.{AreAt, PartSum, SumsParts}
 

@@ -16,10 +16,11 @@ ghost use Rattle.span_table.specs.declared.of.Of.TheVariants.{Async, Spans};
 ghost use Rattle.span_table.specs.declared.sums.Sums.{Sums as TheSums};
 ghost use Rattle.span_table.specs.declared.table.Row.{Row as TheRow};
 ghost use Rattle.span_table.specs.Columns.{column_name};
-ghost use Rattle.span_table.specs.Json.{fit, head_fits};
+ghost use Rattle.span_table.specs.Heads.{head_fits};
+ghost use Rattle.span_table.specs.Sums.{fit};
 ghost use Rattle.span_table.specs.Keys.{TableKey};
-ghost use Rattle.span_table.specs.Printed.{AreColumns, AreDistinct, HasOwn, IsKeyOf, IsOfArgument, IsRowOf};
-ghost use Rattle.span_table.specs.Tokens.{counts_tokens, head_tokens, key_tokens, name_tokens, number_tokens, numbers_tokens, of_tokens, row_tokens, sums_tokens, unit_tokens, value_tokens};
+ghost use Rattle.span_table_text.specs.Printed.{AreColumns, AreDistinct, HasOwn, IsKeyOf, IsOfArgument, IsRowOf};
+ghost use Rattle.span_table_text.specs.Tokens.{counts_tokens, head_tokens, key_tokens, name_tokens, number_tokens, numbers_tokens, of_tokens, row_tokens, sums_tokens, unit_tokens, value_tokens};
 ghost use Rattle.span_parts.specs.First.{MayBegin, Says};
 ghost use Rattle.span_parts.specs.Guess.{Finds, Found, Leaves, MayFollow};
 

@@ -7,8 +7,9 @@ ghost use Rattle.span_table.specs.declared.column.Column.{Column as TheColumn};
 ghost use Rattle.span_table.specs.declared.heads.Head.{Head as TheHead};
 ghost use Rattle.span_table.specs.declared.of.Of.{Of as TheOf};
 ghost use Rattle.span_table.specs.Columns.{column_name};
-ghost use Rattle.span_table.specs.Json.{json_head};
-ghost use Rattle.span_table.specs.Printed.{AreColumns, AreDistinct, is_column};
+ghost use Rattle.span_table_text.specs.Json.{json_head};
+ghost use Rattle.span_table.specs.Columns.{is_column};
+ghost use Rattle.span_table_text.specs.Printed.{AreColumns, AreDistinct};
 ghost use Rattle.span_parts.specs.First.{Begins, IsFirstLine, MayBegin, Says};
 ghost use Rattle.span_parts.specs.Sum.{FailsToBegin};
 
@@ -17,7 +18,8 @@ use crate::guess::{FirstLine, first_line_of};
 use crate::room::{LineRoom, is_line};
 use crate::tokens::tokens_of;
 use span_event::Text;
-use span_table::{Column, Of, column_names, head_fits, put_json_head};
+use span_table::{Column, Of, head_fits};
+use span_table_text::{column_names, put_json_head};
 use std::alloc::{AllocError, Global};
 
 /// A table has at most so many.

@@ -3,15 +3,17 @@ ghost use Rattle.std.specs.Prelude.{◌≡◌, ◌↔◌, ◌++◌, ◌∷◌, [
 ghost use Rattle.std.specs.Int.{w64};
 ghost use Rattle.span_table.specs.declared.table.Row.{Row as TheRow};
 ghost use Rattle.span_table.specs.Columns.{column_name};
-ghost use Rattle.span_table.specs.Json.{fit, json_line};
-ghost use Rattle.span_table.specs.Printed.{AreColumns, HasOwn, HasSome, IsKeyOf, IsRowOf, IsWhole, MayHave};
+ghost use Rattle.span_table.specs.Sums.{fit};
+ghost use Rattle.span_table_text.specs.Json.{json_line};
+ghost use Rattle.span_table_text.specs.Printed.{AreColumns, HasOwn, HasSome, IsKeyOf, IsRowOf, IsWhole, MayHave};
 ghost use Rattle.span_parts.specs.Rows.{IsRowLine};
 
 use crate::guess;
 use crate::room::{LineRoom, is_line};
 use crate::tokens::tokens_of;
 use span_event::{ArgValue, Text};
-use span_table::{Column, Of, Row, Sum, Sums, fits, with_json_row};
+use span_table::{Column, Of, Row, Sum, Sums, fits};
+use span_table_text::with_json_row;
 use std::alloc::{AllocError, Global};
 use std::mem::replace;
 

@@ -3,8 +3,8 @@ ghost use Rattle.std.specs.Prelude.{◌≡◌, ◌++◌, ◌∷◌, [], true, Li
 ghost use Rattle.span_table.specs.declared.table.Row.{Row as TheRow};
 ghost use Rattle.span_table.specs.Adding.{picked, with_row};
 ghost use Rattle.span_table.specs.Columns.{column_name};
-ghost use Rattle.span_table.specs.Json.{fit};
-ghost use Rattle.span_table.specs.Printed.{AreColumns};
+ghost use Rattle.span_table.specs.Sums.{fit};
+ghost use Rattle.span_table_text.specs.Printed.{AreColumns};
 ghost use Rattle.span_event.specs.Text.{Bytes};
 ghost use Rattle.span_parts.specs.First.{Begins, MayBegin};
 ghost use Rattle.span_parts.specs.Sum.{HasColumns, IsAdded, SumFails};
@@ -16,7 +16,8 @@ use crate::room::LineRoom;
 use crate::rows::row_of_line;
 use span_event::{ArgValue, Text};
 use span_names::HashKeys;
-use span_table::{Addition, Column, Key, Of, Row, SumFault, column_names};
+use span_table::{Addition, Column, Key, Of, Row, SumFault};
+use span_table_text::column_names;
 use std::alloc::{AllocError, Global};
 
 /// Adds a part that begins so, and whose rows are this rest.

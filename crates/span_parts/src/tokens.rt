@@ -4,7 +4,7 @@ ghost use Rattle.json.specs.Lex.{tokens};
 ghost use Rattle.json.specs.Reads.{token_of};
 ghost use Rattle.json.specs.Token.{Token as Told, key, string};
 ghost use Rattle.span_event.specs.Text.{Bytes};
-ghost use Rattle.span_table.specs.Tokens.{number_tokens};
+ghost use Rattle.span_table_text.specs.Tokens.{number_tokens};
 ghost use Rattle.span_parts.specs.Guess.{Finds, Leaves};
 
 use json::{Reader, Scratch, Token};

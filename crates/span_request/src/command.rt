@@ -17,7 +17,8 @@ use clap::{ArgMatches, Command};
 use span_collect::Settings;
 use span_event::{Text, Unit};
 use span_runs::Named;
-use span_table::{Column, Of, Shown};
+use span_table::{Column, Of};
+use span_table_text::Shown;
 use std::alloc::{AllocError, Global};
 
 /// The most entries of the journal, where the command line does not say.

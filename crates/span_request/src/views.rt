@@ -3,7 +3,8 @@ ghost use Rattle.std.specs.Prelude.{◌≡◌};
 ghost use Rattle.span_request.specs.Numbers.{compared_by, named_by};
 
 use span_report::stacks::SpanColumn;
-use span_table::{By, Column, Of, Shown};
+use span_table::{By, Column, Of};
+use span_table_text::Shown;
 
 /// What is printed of what was collected.
 #[derive(Drop)]

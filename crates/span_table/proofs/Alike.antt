@@ -56,13 +56,6 @@ AddUpAlike-refl es = record { there = λ k h. h; back = λ k h. h; sums = λ k. 
 pub AddUpAlike-sym : (es fs : KeyedSums) → AddUpAlike es fs → AddUpAlike fs es
 AddUpAlike-sym es fs alike = record { there = alike.back; back = alike.there; sums = λ k. sym (alike.sums k) }
 
-pub AddUpAlike-trans : (es fs gs : KeyedSums) → AddUpAlike es fs → AddUpAlike fs gs → AddUpAlike es gs
-AddUpAlike-trans es fs gs first second = record {
-  there = λ k h. second.there k (first.there k h);
-  back = λ k h. first.back k (second.back k h);
-  sums = λ k. first.sums k ∙ second.sums k;
-}
-
 -- a key is among two lists where it is among one of them
 pub has_key-append : {K : Type 0} (cmp : K → K → Ordering) (k : K) (xs ys : List K) → has_key cmp k (xs ++ ys) ≡ (has_key cmp k xs || has_key cmp k ys)
 has_key-append cmp k [] ys = refl

@@ -27,7 +27,7 @@ use Rattle.span_table.specs.Laws.{RowsAddUpToAsync, RowsAreAsyncRows, async_colu
 use Rattle.span_table.specs.Tables.{KeyedSums, async_sums, keyed_async, row_of, rows_of, sums_of_async, sums_together, table_of}
 use Rattle.span_table.proofs.AddedTables.{regrouped, rows-regrouped}
 use Rattle.span_table.proofs.Alike.{AddUpAlike-grouped}
-use Rattle.span_table.proofs.Comparing.{sums_together-one}
+use Rattle.span_table.proofs.Searched.{sums_together-one}
 use Rattle.span_table.proofs.Tallies.{under}
 
 abbrev Entry : Type 0

@@ -17,16 +17,15 @@ use Rattle.span_table.specs.Collected.{AllWithin, GrowsBy, IsWithin, Takes, with
 use Rattle.span_table.specs.Columns.{Run}
 use Rattle.span_table.specs.Heads.{IsHeadWithin}
 use Rattle.span_table.specs.KeyLaws.{key_cmp_total, key_cmp-same}
-use Rattle.span_table.specs.Json.{fit}
+use Rattle.span_table.specs.Sums.{fit}
 use Rattle.span_table.specs.Kept.{IsAdded, IsKept}
 use Rattle.span_table.specs.Keys.{TableKey, key_cmp}
 use Rattle.span_table.specs.Tables.{KeyedSums, RowsRise, SpanTable, SumsByKey, head_of, heads_together, row_of, rows_of, run_sums, summed, sums_together, table_of}
 use Rattle.span_table.proofs.AddedTables.{add_tables-parts, rows-back, rows_of-alike}
 use Rattle.span_table.proofs.Alike.{AddUpAlike, AddUpAlike-append, AddUpAlike-refl, AddUpAlike-sym, sums_at-append, summed-alike}
 use Rattle.span_table.proofs.OwnRows.{rows_of-own}
-use Rattle.span_table.proofs.PrintedLines.{sums_small}
+use Rattle.span_table.proofs.Summing.{found-within, sums_small, with_sums-within}
 use Rattle.span_table.proofs.Rows.{RowsRise-rows_of}
-use Rattle.span_table.proofs.Summing.{found-within, with_sums-within}
 
 -- what is kept is what its own rows come to
 summed-own : (kept : SumsByKey) → RowsRise (map row_of kept) → kept ≡ summed (keyed_rows (map row_of kept))

@@ -19,13 +19,13 @@ use Rattle.span_ledger.proofs.RowOrder.{span_rows-sorted}
 use Rattle.span_journal.proofs.Sorted.{map-map}
 use Rattle.span_table.specs.declared.table.Row.{Row}
 use Rattle.span_table.specs.Adding.{keyed_row, keyed_rows}
-use Rattle.span_table.specs.Changes.{sums_at}
+use Rattle.span_table.specs.RowSearch.{sums_at}
 use Rattle.span_table.specs.KeyLaws.{key_cmp_total}
 use Rattle.span_table.specs.Keys.{key_cmp}
 use Rattle.span_table.specs.Laws.{RowsAreSpanRows, of_span_row, row_columns}
 use Rattle.span_table.specs.Tables.{RowsRise, row_of, rows_of, span_sums}
 use Rattle.span_table.proofs.ByName.{summed-rows}
-use Rattle.span_table.proofs.Comparing.{sums_at-own}
+use Rattle.span_table.proofs.Searched.{sums_at-own}
 
 module _ {K : Type 0} {R : K → K → Ordering} (o : IsTotalOrder R) where
   insert_key-last : (done : List K) (k : K) (ks : List K) → IsStrictlySortedBy R (done ++ k ∷ ks) → insert_key R done k ≡ done ++ k ∷ []

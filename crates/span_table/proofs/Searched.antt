@@ -1,16 +1,114 @@
--- Rows that are looked for at a place first.
-use Rattle.std.proofs.Common.{◌≡◌, ℕ, ◌-◌, ◌<◌, ◌≤◌, ◌==◌, ◌||◌, Bool, true, false, List, Option, Some, None, length, get_or, slice_get, refl, sym, ap, ◌∙◌, arith, inl, inr, ◌⊎◌}
-use Rattle.std.specs.Option.{option_map_or}
-use Rattle.std.specs.Ordering.{is_eq, is_lt, ordering_index}
+-- Rows that rise are found by their keys, at a place that is looked at first or by a search.
+use Rattle.std.proofs.Common.{◌≡◌, ℕ, ◌-◌, ◌<◌, ◌≤◌, ◌==◌, ◌||◌, Bool, true, false, List, Option, Some, None, length, get_or, slice_get, refl, sym, ap, ◌∙◌, arith, inl, inr, ◌⊎◌, ◌+◌, zero, suc, cond, [], ◌∷◌, map, Bor, subst, add-one}
+use Rattle.std.specs.Option.{option_map_or, option_map}
+use Rattle.std.specs.Ordering.{is_eq, is_lt, ordering_index, ordering_reverse}
 use Rattle.std.specs.declared.cmp.Ordering.{Ordering}
 use Rattle.std.specs.declared.cmp.Ordering.TheVariants.{Less, Equal, Greater}
 use Rattle.std.proofs.lemmas.Option.{slice_get-get_or, slice_get_within}
 use Rattle.span_table.specs.declared.table.Row.{Row}
-use Rattle.span_table.specs.Changed.{found_at, is_behind, order_at}
-use Rattle.span_table.specs.KeyLaws.{key_cmp-same}
+use Rattle.span_table.specs.RowSearch.{found_at, is_behind, order_at, sums_at}
+use Rattle.span_table.specs.KeyLaws.{key_cmp-same, key_cmp_total}
 use Rattle.span_table.specs.Keys.{TableKey, key_cmp}
-use Rattle.span_table.specs.Tables.{RowsRise}
-use Rattle.span_table.proofs.Comparing.{found_at-none, found_at-own, searchable}
+use Rattle.span_table.specs.Tables.{RowsRise, sums_together}
+use Rattle.std.specs.Prelude.{filter, unwrap_or}
+use Rattle.std.specs.List.{AllByRecursion, find}
+use Rattle.std.specs.List.Sorted.{IsNonDecreasingBy, IsStrictlySortedBy}
+use denote.Param.Members.{Mut}
+use Rattle.std.specs.Fn.{Called, ComputesKey}
+use Rattle.std.proofs.lemmas.Fn.{always_returns_same}
+use Rattle.std.specs.Cmp.{tied_itself}
+use Rattle.std.proofs.lemmas.List.Sorted.{searchable_from_sorted}
+use Rattle.span_keyed_tracks.specs.Keyed.{Keyed, steps_at}
+use Rattle.span_keyed_tracks.proofs.Keyed.{same_from_is_eq}
+use Rattle.span_keyed_tracks.proofs.Uses.{is_eq-turned}
+use Rattle.span_table.specs.declared.sums.Sums.{Sums}
+use Rattle.span_table.specs.Adding.{keyed_row, keyed_rows}
+
+-- in rows that rise no later one has the key of the first
+none_later : (row : Row) (rows : List Row) → AllByRecursion (λ (r : Row). key_cmp row.key r.key ≡ Less) rows → find (λ (r : Row). is_eq (key_cmp r.key row.key)) rows ≡ None
+none_later row [] below = refl
+none_later row (r ∷ rows) below =
+    ap (λ b. cond b (Some r) (find (λ (r : Row). is_eq (key_cmp r.key row.key)) rows)) (is_eq-turned key_cmp_total r.key row.key ∙ ap is_eq below.0) ∙ none_later row rows below.1
+
+-- rows without the key come to nothing under it
+steps-none : (key : TableKey) (rows : List Row) → found_at rows key ≡ None → steps_at key_cmp key (keyed_rows rows) ≡ []
+steps-none key [] none = refl
+steps-none key (r ∷ rows) none = by (is_eq (key_cmp r.key key)) (steps-none key rows) none
+  where
+    by : (b : Bool) → (found_at rows key ≡ None → steps_at key_cmp key (keyed_rows rows) ≡ []) → cond b (Some r) (found_at rows key) ≡ None →
+        map (λ (e : Keyed TableKey Sums). e.step) (cond b (keyed_row r ∷ filter (λ e. is_eq (key_cmp e.key key)) (keyed_rows rows)) (filter (λ e. is_eq (key_cmp e.key key)) (keyed_rows rows))) ≡ []
+    by true rest none = cc
+    by false rest none = rest none
+
+-- one alone stays as it is
+pub sums_together-one : (s : Sums) → sums_together (s ∷ []) ≡ s
+sums_together-one s =
+    let count : 0 + s.count ≡ s.count = omega arith in
+    let total : 0 + s.total ≡ s.total = omega arith in
+    let self_time : 0 + s.self_time ≡ s.self_time = omega arith in
+    let unclosed : 0 + s.unclosed ≡ s.unclosed = omega arith in
+    let points : 0 + s.points ≡ s.points = omega arith in
+    λ i. record { count = count i; total = total i; self_time = self_time i; unclosed = unclosed i; points = points i }
+
+-- what rows that rise have under a key is what the row with the key has
+pub sums_at-found : (key : TableKey) (rows : List Row) → RowsRise rows → sums_at rows key ≡ unwrap_or (option_map (λ (row : Row). row.sums) (found_at rows key)) (sums_together [])
+unfolding IsStrictlySortedBy
+sums_at-found key [] rise = refl
+sums_at-found key (r ∷ rows) rise = by (is_eq (key_cmp r.key key)) refl (sums_at-found key rows rise.1)
+  where
+    by : (b : Bool) → is_eq (key_cmp r.key key) ≡ b → sums_at rows key ≡ unwrap_or (option_map (λ (row : Row). row.sums) (found_at rows key)) (sums_together []) →
+        sums_together (map (λ (e : Keyed TableKey Sums). e.step) (cond b (keyed_row r ∷ filter (λ e. is_eq (key_cmp e.key key)) (keyed_rows rows)) (filter (λ e. is_eq (key_cmp e.key key)) (keyed_rows rows))))
+        ≡ unwrap_or (option_map (λ (row : Row). row.sums) (cond b (Some r) (found_at rows key))) (sums_together [])
+    by true e rest =
+        let none : found_at rows key ≡ None = subst (λ k. found_at rows k ≡ None) (same_from_is_eq key_cmp_total key_cmp-same r.key key e) (none_later r rows rise.0) in
+        ap (λ l. sums_together (r.sums ∷ l)) (steps-none key rows none) ∙ sums_together-one r.sums
+    by false e rest = rest
+
+-- what holds of each holds at each place
+all_at : {A : Type 0} (P : A → Type 0) (xs : List A) → AllByRecursion P xs → (k : ℕ) (d : A) → k < length xs → P (get_or xs k d)
+all_at P [] all k d low = absurd (omega (arith, low))
+all_at P (x ∷ xs) all zero d low = all.0
+all_at P (x ∷ xs) all (suc k) d low = all_at P xs all.1 k d (omega (arith, low))
+
+-- a row among rows that rise is found by its key
+pub found_at-own : (rows : List Row) → RowsRise rows → (row : Row) (k : ℕ) → k < length rows → get_or rows k row ≡ row → found_at rows row.key ≡ Some row
+unfolding IsStrictlySortedBy
+found_at-own [] rise row k low is = absurd (omega (arith, low))
+found_at-own (r ∷ rows) rise row zero low is =
+    ap (λ o. cond (is_eq o) (Some r) (found_at rows row.key)) (ap (λ (x : Row). key_cmp x.key row.key) is ∙ tied_itself key_cmp_total row.key) ∙ ap Some is
+found_at-own (r ∷ rows) rise row (suc k) low is =
+    let below : key_cmp r.key row.key ≡ Less = ap (λ (x : Row). key_cmp r.key x.key) (sym is) ∙ all_at (λ (x : Row). key_cmp r.key x.key ≡ Less) rows rise.0 k row (omega (arith, low)) in
+    ap (λ o. cond (is_eq o) (Some r) (found_at rows row.key)) below ∙ found_at-own rows rise.1 row k (omega (arith, low)) is
+
+-- where no row has the key none is found
+pub found_at-none : (key : TableKey) (rows : List Row) → ((k : ℕ) (d : Row) → k < length rows → is_eq (key_cmp (get_or rows k d).key key) ≡ false) → found_at rows key ≡ None
+found_at-none key [] none = refl
+found_at-none key (r ∷ rows) none =
+    ap (λ b. cond b (Some r) (found_at rows key)) (none 0 r (omega arith)) ∙ found_at-none key rows (λ k d low. none (suc k) d (omega (arith, low)))
+
+-- each row has a lower key than the next
+adjacent : (rows : List Row) → RowsRise rows → (k : ℕ) (d : Row) → suc k < length rows → key_cmp (get_or rows k d).key (get_or rows (suc k) d).key ≡ Less
+unfolding IsStrictlySortedBy
+adjacent [] rise k d low = absurd (omega (arith, low))
+adjacent (r ∷ rows) rise zero d low = all_at (λ (x : Row). key_cmp r.key x.key ≡ Less) rows rise.0 0 d (omega (arith, low))
+adjacent (r ∷ rows) rise (suc k) d low = adjacent rows rise.1 k d (omega (arith, low))
+
+-- rows that rise can be searched by their keys
+pub searchable : (key : TableKey) (rows : List Row) → RowsRise rows → IsNonDecreasingBy (λ (row : Row). ordering_index (key_cmp row.key key)) rows
+searchable key rows rise =
+    searchable_from_sorted key_cmp_total (λ (row : Row). row.key) rows key
+    (λ k d at low. let up : key_cmp (get_or rows k d).key (get_or rows (k + 1) d).key ≡ Less = ap (λ n. key_cmp (get_or rows k d).key (get_or rows n d).key) (add-one k) ∙ adjacent rows rise k d (omega (arith, low)) in
+    ap is_lt (key_cmp_total.antisymm (get_or rows (k + 1) d).key (get_or rows k d).key ∙ ap ordering_reverse up))
+
+-- a closure that answers by an order computes it
+pub answers_by : {F : Type 0} {g : Mut F (Bor Row × Unit {0}) Ordering} {f : F} (ord : Row → Ordering) →
+    ((a : Bor Row × Unit {0}) (r : Ordering) (f' : F) → Called g f a r f' → (r ≡ ord a.0.now) × (f' ≡ f)) → ComputesKey g ord f
+answers_by {g = g} {f = f} ord answers = always_returns_same g (λ a r. r ≡ ord a.0.now) f answers
+
+-- a row among rows that rise has what these have under its key
+pub sums_at-own : (rows : List Row) → RowsRise rows → (row : Row) (k : ℕ) → k < length rows → get_or rows k row ≡ row → sums_at rows row.key ≡ row.sums
+sums_at-own rows rise row k low is =
+    sums_at-found row.key rows rise ∙ ap (λ o. unwrap_or (option_map (λ (r : Row). r.sums) o) (sums_together [])) (found_at-own rows rise row k low is)
 
 module _ (rows : List Row) (key : TableKey) where
   order_at-row : (place : ℕ) (d : Row) → place < length rows → order_at rows place key ≡ key_cmp (get_or rows place d).key key

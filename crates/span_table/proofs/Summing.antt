@@ -1,5 +1,5 @@
 -- What is kept of sums by key, once more are added.
-use Rattle.std.proofs.Common.{◌≡◌, ℕ, ◌+◌, ◌≤◌, List, [], ◌∷◌, ◌++◌, map, Option, Some, None, sym, ap, subst, ◌∙◌, arith}
+use Rattle.std.proofs.Common.{◌≡◌, ℕ, ◌+◌, ◌≤◌, List, [], ◌∷◌, ◌++◌, map, Option, Some, None, sym, ap, subst, ◌∙◌, arith, ◌^◌, ◌<◌, true, nat_lt}
 use Rattle.std.specs.Prelude.{All, IfSome, OnOk, Result, Ok, Err, unwrap_or}
 use Rattle.std.specs.declared.alloc.AllocError.{AllocError}
 use Rattle.std.specs.List.Sorted.{IsStrictlySortedBy}
@@ -15,6 +15,8 @@ use Rattle.span_table.specs.Collected.{AllWithin, GrowsBy, IsWithin, Takes, with
 use Rattle.span_table.specs.KeyLaws.{key_cmp_total, key_cmp-same}
 use Rattle.span_table.specs.Keys.{TableKey, key_cmp}
 use Rattle.span_table.specs.Tables.{KeyedSums, SumsByKey, summed, sums_together}
+use Rattle.std.proofs.lemmas.Bool.{and_parts, ltb-true}
+use Rattle.span_table.specs.Sums.{fit}
 
 -- one more is added to the others
 pub sums_together-push : (sums : List Sums) (more : Sums) → sums_together (sums ++ more ∷ []) ≡ with_sums (sums_together sums) more
@@ -86,3 +88,12 @@ bounded n (Err error) more old new within grows = tt
 -- what is within some number is within a greater one
 pub AllWithin-le : (m n : ℕ) (kept : SumsByKey) → m ≤ n → AllWithin m kept → AllWithin n kept
 AllWithin-le m n kept low within = λ k d at. IsWithin-le m n _ low (within k d at)
+
+-- the numbers of sums
+pub sums_small : (sums : Sums) → fit sums ≡ true → (sums.count < 2 ^ 64) × (sums.total < 2 ^ 64) × (sums.self_time < 2 ^ 64) × (sums.unclosed < 2 ^ 64) × (sums.points < 2 ^ 64)
+sums_small sums h =
+    let one = and_parts (nat_lt sums.count (2 ^ 64)) _ h in
+    let two = and_parts (nat_lt sums.total (2 ^ 64)) _ one.1 in
+    let three = and_parts (nat_lt sums.self_time (2 ^ 64)) _ two.1 in
+    let four = and_parts (nat_lt sums.unclosed (2 ^ 64)) _ three.1 in
+    (ltb-true _ _ one.0, ltb-true _ _ two.0, ltb-true _ _ three.0, ltb-true _ _ four.0, ltb-true _ _ four.1)

@@ -1,5 +1,6 @@
 -- The columns by which spans are summed, and the value that a span has in each.
-use Rattle.std.specs.Prelude.{ℕ, Bool, true, false, not, ◌||◌, List, ◌++◌, Option, Some, None, codes}
+use Rattle.std.specs.Prelude.{ℕ, ◌==◌, nat_lt, Bool, true, false, not, ◌&&◌, ◌||◌, List, ◌++◌, length, Option, Some, None, codes}
+use Rattle.std.specs.List.{list_any}
 use Rattle.std.specs.Option.{option_map}
 use Rattle.span_event.specs.declared.args.ArgValue.{ArgValue}
 use Rattle.span_event.specs.declared.args.ArgValue.TheVariants.{Whole, Words}
@@ -72,6 +73,11 @@ column_name (Argument key) = codes "args." ++ key
 abbrev pub is_argument : Column → Bool
 is_argument (Argument key) = true
 is_argument column = false
+
+-- an argument's key has a byte, and no comma
+abbrev pub is_column : Column → Bool
+is_column (Argument key) = nat_lt 0 (length key) && not (list_any (λ byte. byte == 44) key)
+is_column column = true
 
 -- only asynchronous spans have the column
 abbrev pub is_of_async : Column → Bool

@@ -1,5 +1,5 @@
 -- How great the numbers of a head are.
-use Rattle.std.specs.Prelude.{ℕ, ◌≤◌}
+use Rattle.std.specs.Prelude.{ℕ, ◌≤◌, ◌^◌, nat_lt, Bool, ◌&&◌}
 use Rattle.span_journal.specs.declared.rows.CountRow.{CountRow}
 use Rattle.span_table.specs.declared.heads.Head.{Head}
 
@@ -17,3 +17,12 @@ pub record IsHeadWithin (most : ℕ) (head : Head) : Type 0 where
   pub files : head.files ≤ most
   pub unread : head.unread ≤ most
   pub counts : AreCountsWithin most head.counts
+
+-- the counts have 64 bits
+abbrev pub counts_fit : CountRow → Bool
+counts_fit counts =
+    nat_lt counts.accepted (2 ^ 64) && (nat_lt counts.refused (2 ^ 64) && (nat_lt counts.skipped (2 ^ 64) && (nat_lt counts.queries (2 ^ 64) && nat_lt counts.seals (2 ^ 64))))
+
+-- the numbers of the head have 64 bits
+abbrev pub head_fits : Head → Bool
+head_fits head = nat_lt head.runs (2 ^ 64) && (nat_lt head.files (2 ^ 64) && (nat_lt head.unread (2 ^ 64) && counts_fit head.counts))

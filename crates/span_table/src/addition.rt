@@ -2,7 +2,8 @@
 ghost use Rattle.std.specs.Prelude.{◌≡◌, ◌+◌, ◌^◌, ◌≤◌, [], true, IfErr, IfOk, OnErr, OnOk};
 ghost use Rattle.span_table.specs.declared.table_sum.SumFault.TheVariants.{TooMany};
 ghost use Rattle.span_table.specs.Adding.{add_tables, with_head, with_row};
-ghost use Rattle.span_table.specs.Json.{fit, head_fits};
+ghost use Rattle.span_table.specs.Heads.{head_fits};
+ghost use Rattle.span_table.specs.Sums.{fit};
 
 use crate::column::{Column, copies_of};
 use crate::groups::Groups;

@@ -17,8 +17,8 @@ use crate::of::Of;
 use crate::run::LedgerRun;
 use crate::sums::Sums;
 use span_event::{Args, Text, Thread};
-use span_keyed_tracks::{AsyncKey, AsyncRow};
 use span_journal::{SpanRow, ThreadRow};
+use span_keyed_tracks::{AsyncKey, AsyncRow};
 use span_ledger::TimedSpan;
 use std::alloc::{AllocError, Global};
 

@@ -1,6 +1,6 @@
 //! What a table counts beside its spans. A head has no bound of its own: its numbers are those of fewer than 2^32 runs.
-ghost use Rattle.std.specs.Prelude.{◌≡◌, ◌^◌, ◌∷◌, []};
-ghost use Rattle.span_table.specs.Heads.{AreCountsWithin, IsHeadWithin};
+ghost use Rattle.std.specs.Prelude.{◌≡◌, ◌^◌, ◌∷◌, [], nat_lt};
+ghost use Rattle.span_table.specs.Heads.{AreCountsWithin, IsHeadWithin, counts_fit, head_fits};
 ghost use Rattle.span_table.specs.Tables.{counts_together, head_of, heads_together};
 
 use crate::run::LedgerRun;
@@ -71,7 +71,7 @@ pub struct Head {
 
 impl Head {
     /// The head of no runs.
-    pub(crate) fn of_none() -> Head
+    pub fn of_none() -> Head
         ensures { result ≡ heads_together [] }
     {
         Head {
@@ -100,7 +100,8 @@ impl Head {
         }
     }
 
-    pub(crate) fn add(&mut self, more: &Head)
+    /// Adds what another head counts.
+    pub fn add(&mut self, more: &Head)
         requires mine { IsHeadWithin (2 ^ 120) self.old }
         requires its { IsHeadWithin (2 ^ 120) more.now }
         ensures { self.new ≡ heads_together (self.old ∷ more.now ∷ []) }
@@ -110,4 +111,31 @@ impl Head {
         self.unread += more.unread;
         self.counts.add(&more.counts);
     }
+}
+
+/// Whether the numbers of the head have 64 bits.
+pub fn head_fits(head: &Head) -> bool
+    ensures { result ≡ head_fits head.now }
+{
+    is_narrow(head.runs)
+        && is_narrow(head.files)
+        && is_narrow(head.unread)
+        && counts_fit(&head.counts)
+}
+
+fn counts_fit(counts: &HeadCounts) -> bool
+    ensures { result ≡ counts_fit counts.now }
+{
+    is_narrow(counts.accepted)
+        && is_narrow(counts.refused)
+        && is_narrow(counts.skipped)
+        && is_narrow(counts.queries)
+        && is_narrow(counts.seals)
+}
+
+// Whether the number has 64 bits.
+fn is_narrow(number: u128) -> bool
+    ensures { result ≡ nat_lt number (2 ^ 64) }
+{
+    number < 1 << 64
 }

@@ -1,8 +1,6 @@
 //! The facts that hold of every table.
 ghost use Rattle.span_table.specs.Adding.{AddingLosesNothing, DroppingAdds, OrderIsNothing};
 ghost use Rattle.span_table.specs.Laws.{KeysStandOnce, RowsAddUpToAsync, RowsAddUpToBusy, RowsAreAsyncRows, RowsAreSpanRows, TablesFollowFromActs};
-ghost use Rattle.span_table.specs.Printed.{AllIsPrinted, PartsAreTold, PrintsAreParts};
-ghost use Rattle.span_table.specs.TextLaws.{ComparisonsTurn, DifferencesTurn, EachKeyIsCounted, RankingsHaveEachRow, RepetitionsHaveNoOrder, TablesCompareWithThemselves, ValuesAreSorted};
 
 /// The table of runs follows from how many entries their journals have of each kind, and from their accepted acts on each topic, in
 /// their order. The function does nothing: its contract is the law.
@@ -41,42 +39,4 @@ pub fn adding_law()
     ensures together { AddingLosesNothing }
     ensures order { OrderIsNothing }
     ensures fewer { DroppingAdds }
-{}
-
-/// A ranking has each row that is shown, once, and no two rows rank alike. The function does nothing: its contract is the law.
-pub fn ranking_law()
-    ensures { RankingsHaveEachRow }
-{}
-
-/// Between a table and itself nothing changed. The function does nothing: its contract is the law.
-pub fn same_law()
-    ensures { TablesCompareWithThemselves }
-{}
-
-/// Compared the other way round, two tables have the same changes in the same order, each difference with the other sign, and as
-/// many keys that did not change. The function does nothing: its contract is the law.
-pub fn turn_law()
-    ensures changes { ComparisonsTurn }
-    ensures differences { DifferencesTurn }
-{}
-
-/// In whatever order the repetitions of a side come, the text of repeated runs is the same; each key that is shown has a line there, or
-/// is counted, once; and the values that medians are taken from are those of the repetitions, sorted. The function does nothing: its
-/// contract is the law.
-pub fn repeats_law()
-    ensures order { RepetitionsHaveNoOrder }
-    ensures keys { EachKeyIsCounted }
-    ensures values { ValuesAreSorted }
-{}
-
-/// Two tables that are printed alike are the same. The function does nothing: its contract is the law.
-pub fn part_law()
-    ensures { PartsAreTold }
-{}
-
-/// Where all rows are wanted, what is written of a table is its print; and what is printed of runs is a part, so it may be read back:
-/// if the text is UTF-8, and each run has a file where that is a column. The function does nothing: its contract is the law.
-pub fn print_law()
-    ensures whole { AllIsPrinted }
-    ensures parts { PrintsAreParts }
 {}

@@ -1,6 +1,6 @@
 //! What a table sums.
 ghost use Rattle.std.specs.Prelude.{◌≡◌};
-ghost use Rattle.span_table.specs.Ranks.{usual_by};
+ghost use Rattle.span_table.specs.Sums.{usual_by};
 
 use crate::sums::By;
 

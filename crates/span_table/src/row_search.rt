@@ -1,8 +1,7 @@
 //! The rows of a table, by their keys. Keys that rise are found without a search: each is looked for at a place first, which then is the
 //! place behind it.
 ghost use Rattle.std.specs.Prelude.{◌≡◌, option_copied};
-ghost use Rattle.span_table.specs.Changed.{found_at, is_behind, order_at};
-ghost use Rattle.span_table.specs.Changes.{sums_at};
+ghost use Rattle.span_table.specs.RowSearch.{found_at, is_behind, order_at, sums_at};
 ghost use Rattle.span_table.specs.Tables.{RowsRise};
 
 use crate::key::Key;
@@ -11,18 +10,18 @@ use crate::table::Row;
 use std::cmp::Ordering;
 
 /// What rows have under a key; zeros where none has it.
-pub(crate) fn sums_at(rows: &[Row], place: &mut usize, key: &Key) -> Sums
+pub fn sums_at(rows: &[Row], place: &mut usize, key: &Key) -> Sums
     requires { RowsRise rows.now }
     ensures { result ≡ sums_at rows.now key.now }
 {
-    match find(rows, place, key) {
+    match row_at(rows, place, key) {
         Some(row) => row.sums,
         None => Sums::of_none(),
     }
 }
 
 /// The row with this key.
-pub(crate) fn find<'a>(rows: &'a [Row], place: &mut usize, key: &Key) -> Option<&'a Row>
+pub fn row_at<'a>(rows: &'a [Row], place: &mut usize, key: &Key) -> Option<&'a Row>
     requires { RowsRise rows.now }
     ensures { option_copied result ≡ found_at rows.now key.now }
 {

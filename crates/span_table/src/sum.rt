@@ -1,7 +1,7 @@
 //! Sums that may need more than 128 bits: of one name the lengths together have up to 128, and no contract says that they have less.
 ghost use Rattle.std.specs.Prelude.{◌≡◌, ◌==◌, ◌+◌, ◌-◌, ◌<◌, ◌≤◌, ◌^◌, nat_lt, if◌then◌else◌, Some, None, string_bytes, decimal, IfOk};
 ghost use Rattle.std.specs.Ordering.{nat_cmp};
-ghost use Rattle.span_table.specs.Changes.{gap};
+ghost use Rattle.span_table.specs.Sums.{gap};
 
 use std::alloc::{AllocError, Global};
 use std::cmp::Ordering;
@@ -33,7 +33,7 @@ impl Model for Sum {
 }
 
 impl Sum {
-    pub(crate) fn zero() -> Sum
+    pub fn zero() -> Sum
         ensures { result ≡ 0 }
     {
         Sum { high: 0, low: 0 }
@@ -71,7 +71,7 @@ impl Sum {
         }
     }
 
-    pub(crate) fn compare(&self, other: &Sum) -> Ordering
+    pub fn compare(&self, other: &Sum) -> Ordering
         ensures { result ≡ nat_cmp self.now other.now }
     {
         match self.high.cmp(&other.high) {
@@ -80,13 +80,13 @@ impl Sum {
         }
     }
 
-    pub(crate) fn is_less(&self, other: &Sum) -> bool
+    pub fn is_less(&self, other: &Sum) -> bool
         ensures { result ≡ nat_lt self.now other.now }
     {
         self.compare(other).is_lt()
     }
 
-    pub(crate) fn equals(&self, other: &Sum) -> bool
+    pub fn equals(&self, other: &Sum) -> bool
         ensures { result ≡ (self.now == other.now) }
     {
         self.high == other.high && self.low == other.low
@@ -108,8 +108,8 @@ impl Sum {
         }
     }
 
-    // How far the two lie apart.
-    pub(crate) fn gap(&self, other: &Sum) -> Sum
+    /// How far the two lie apart.
+    pub fn gap(&self, other: &Sum) -> Sum
         ensures { result ≡ gap self.now other.now }
     {
         match self.compare(other) {
@@ -118,7 +118,8 @@ impl Sum {
         }
     }
 
-    pub(crate) fn shown(&self, alloc: Global) -> Result<String, AllocError>
+    /// In decimal digits.
+    pub fn shown(&self, alloc: Global) -> Result<String, AllocError>
         ensures { IfOk result (λ text. string_bytes text ≡ decimal self.now) }
     {
         let (high, low) = (self.high, self.low);

@@ -1,13 +1,12 @@
 //! What spans come to together.
 ghost use Rattle.std.specs.Prelude.{◌≡◌, ◌+◌, ◌≤◌, ◌^◌, ℕ, []};
 ghost use Rattle.span_table.specs.Collected.{IsWithin, sums_of_row, with_sums};
-ghost use Rattle.span_table.specs.Changes.{same_sums};
-ghost use Rattle.span_table.specs.Ranks.{number_by};
+ghost use Rattle.span_table.specs.Sums.{fit, number_by, same_sums};
 ghost use Rattle.span_table.specs.Tables.{sums_of_async, sums_together};
 
 use crate::sum::Sum;
-use span_keyed_tracks::AsyncRow;
 use span_journal::SpanRow;
+use span_keyed_tracks::AsyncRow;
 
 /// How many closed spans, their lengths, and their self times together; and of asynchronous spans how many are open, and how many
 /// points there are. These have no self time. Times are ticks: microseconds or nanoseconds, as the runs count.
@@ -34,7 +33,7 @@ pub enum By {
 }
 
 impl Sums {
-    pub(crate) fn of_none() -> Sums
+    pub fn of_none() -> Sums
         ensures { result ≡ sums_together [] }
     {
         Sums {
@@ -108,7 +107,7 @@ impl Sums {
     }
 
     /// The number that rows go by.
-    pub(crate) fn by(&self, by: By) -> Sum
+    pub fn by(&self, by: By) -> Sum
         ensures { result ≡ number_by by self.now }
     {
         match by {
@@ -120,7 +119,8 @@ impl Sums {
         }
     }
 
-    pub(crate) fn equals(&self, other: &Sums) -> bool
+    /// Whether all numbers are equal.
+    pub fn equals(&self, other: &Sums) -> bool
         ensures { result ≡ same_sums self.now other.now }
     {
         self.self_time.equals(&other.self_time)
@@ -129,4 +129,15 @@ impl Sums {
             && self.unclosed.equals(&other.unclosed)
             && self.points.equals(&other.points)
     }
+}
+
+/// Whether the sums have 64 bits.
+pub fn fits(sums: &Sums) -> bool
+    ensures { result ≡ fit sums.now }
+{
+    sums.count.as_u64().is_some()
+        && sums.total.as_u64().is_some()
+        && sums.self_time.as_u64().is_some()
+        && sums.unclosed.as_u64().is_some()
+        && sums.points.as_u64().is_some()
 }

@@ -14,8 +14,8 @@ use crate::run::LedgerRun;
 use crate::sums::Sums;
 use crate::table_sum::TableSum;
 use span_event::Text;
-use span_names::HashKeys;
 use span_ledger::Ledger;
+use span_names::HashKeys;
 use std::alloc::{AllocError, Global};
 use std::marker::Model;
 

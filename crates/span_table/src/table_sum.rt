@@ -13,8 +13,8 @@ use crate::of::Of;
 use crate::run::LedgerRun;
 use crate::table::{Table, table_of_groups};
 use span_event::Text;
-use span_names::HashKeys;
 use span_ledger::Ledger;
+use span_names::HashKeys;
 use std::alloc::{AllocError, Global};
 use std::marker::Model;
 

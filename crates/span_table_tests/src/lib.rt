@@ -1,4 +1,4 @@
-//! What `span_table` promises, tried through its public calls.
+//! What `span_table`, `span_table_text` and `span_comparisons` promise, tried through their public calls.
 #![tactic(auto)]
 
 #[cfg(test)]

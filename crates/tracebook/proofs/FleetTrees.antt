@@ -8,9 +8,9 @@ use Rattle.span_runs.specs.Source.{SourceBytes}
 use Rattle.span_event.specs.declared.unit.Unit.{Unit}
 use Rattle.span_table.specs.declared.column.Column.{Column}
 use Rattle.span_table.specs.declared.of.Of.{Of}
-use Rattle.span_table.specs.Printed.{IsPrint}
+use Rattle.span_table_text.specs.Printed.{IsPrint}
 use Rattle.span_table.specs.Tables.{Run, SpanTable}
-use Rattle.span_table.proofs.RunTables.{json_of-print}
+use Rattle.span_table_text.proofs.RunTables.{json_of-print}
 use Rattle.span_request.specs.declared.views.TableForm.{TableForm}
 use Rattle.span_request.specs.declared.views.TableView.{TableView}
 use Rattle.tracebook.specs.Fleet.{AddsAreTrees, AreRunsOf, IsWhole, SumsAreLeaves}

@@ -12,7 +12,7 @@ use Rattle.span_event.specs.declared.unit.Unit.{Unit as TimeUnit}
 use Rattle.span_table.specs.declared.column.Column.{Column}
 use Rattle.span_table.specs.declared.of.Of.{Of}
 use Rattle.span_table.specs.declared.sums.By.{By}
-use Rattle.span_table.specs.Printed.{IsPart}
+use Rattle.span_table_text.specs.Printed.{IsPart}
 use Rattle.span_table.specs.Tables.{SpanTable}
 use Rattle.span_faults.specs.FaultLines.{run_line, unread_line}
 use Rattle.span_request.specs.Numbers.{goes_by}

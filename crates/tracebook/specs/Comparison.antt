@@ -14,9 +14,9 @@ use Rattle.span_collect.specs.InTurn.{AreSeparate}
 use Rattle.span_collect.specs.Run.{run_code, status_of}
 use Rattle.span_collect.specs.Seals.{SealedAccount}
 use Rattle.span_event.specs.declared.unit.Unit.{Unit}
-use Rattle.span_table.specs.Comparison.{comparison_of}
-use Rattle.span_table.specs.Json.{json_changes_fit, json_comparison_of}
-use Rattle.span_table.specs.Shown.{Wanted}
+use Rattle.span_comparisons.specs.Comparison.{comparison_of}
+use Rattle.span_comparisons.specs.JsonChanges.{json_changes_fit, json_comparison_of}
+use Rattle.span_table_text.specs.Shown.{Wanted}
 use Rattle.span_table.specs.Columns.{Run}
 use Rattle.span_table.specs.Tables.{SpanTable}
 use Rattle.span_runs.specs.Runs.{run_in_turn, run_of_files, table_of_run}

@@ -11,7 +11,7 @@ use Rattle.span_parts.specs.Trees.{ArePrinted, IsPrinted, Trees, of_parts, of_ru
 use Rattle.span_runs.specs.Apart.{IsAccounted, run_alone}
 use Rattle.span_runs.specs.Inputs.{AreInputs}
 use Rattle.span_runs.specs.Source.{SourceBytes}
-use Rattle.span_table.specs.Shown.{wants_all}
+use Rattle.span_table_text.specs.Shown.{wants_all}
 use Rattle.span_table.specs.Tables.{Run}
 use Rattle.span_request.specs.declared.views.TableForm.TheVariants.{Json}
 use Rattle.span_request.specs.declared.views.TableView.{TableView}

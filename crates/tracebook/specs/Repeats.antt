@@ -14,8 +14,8 @@ use Rattle.span_table.specs.declared.column.Column.{Column}
 use Rattle.span_table.specs.declared.of.Of.{Of}
 use Rattle.span_table.specs.declared.sums.By.{By}
 use Rattle.span_table.specs.Columns.{Run}
-use Rattle.span_table.specs.Repeats.{json_repeats_fit, json_repeats_of, repeats_of}
-use Rattle.span_table.specs.Shown.{Wanted}
+use Rattle.span_comparisons.specs.Repeats.{json_repeats_fit, json_repeats_of, repeats_of}
+use Rattle.span_table_text.specs.Shown.{Wanted}
 use Rattle.span_table.specs.Tables.{SpanTable}
 use Rattle.span_request.specs.declared.views.RepeatsForm.{RepeatsForm}
 use Rattle.span_request.specs.declared.views.RepeatsForm.TheVariants.{Text, Json}

@@ -5,11 +5,11 @@ use Rattle.span_event.specs.declared.unit.Unit.{Unit}
 use Rattle.span_table.specs.declared.of.Of.{Of}
 use Rattle.span_table.specs.declared.sums.By.{By}
 use Rattle.span_table.specs.Columns.{Run}
-use Rattle.span_table.specs.Json.{json_fits, json_of, shown_table}
-use Rattle.span_table.specs.Printed.{AllFit}
-use Rattle.span_table.specs.Ranking.{ranking_of}
-use Rattle.span_table.specs.Ranks.{usual_by}
-use Rattle.span_table.specs.Shown.{Wanted}
+use Rattle.span_table_text.specs.Json.{json_fits, json_of, shown_table}
+use Rattle.span_table_text.specs.Printed.{AllFit}
+use Rattle.span_table_text.specs.Ranking.{ranking_of}
+use Rattle.span_table.specs.Sums.{usual_by}
+use Rattle.span_table_text.specs.Shown.{Wanted}
 use Rattle.span_table.specs.Tables.{SpanTable}
 use Rattle.span_runs.specs.Runs.{table_of_run}
 use Rattle.span_request.specs.declared.views.TableForm.{TableForm}

@@ -2,7 +2,7 @@
 ghost use Rattle.std.specs.Prelude.{◌≡◌, IfOk, IfErr, OnOk};
 ghost use Rattle.span_report.specs.Sink.{TakesBytes};
 ghost use Rattle.span_runs.specs.Runs.{run_of_files};
-ghost use Rattle.span_table.specs.declared.json_lines.JsonFault.TheVariants.{TooGreat};
+ghost use Rattle.span_table_text.specs.declared.json_lines.JsonFault.TheVariants.{TooGreat};
 ghost use Rattle.tracebook.specs.Comparison.{AreTooGreat, ChangesLeave, ComparisonLeaves, HasTooGreat, IsComparisonOf, changes_of_runs, changes_text, comparison_code, greater};
 
 use crate::tables::asked_by;
@@ -11,7 +11,9 @@ use span_event::{Fault, Unit};
 use span_report::{Sink, write_bytes};
 use span_request::{ComparisonForm, ComparisonView};
 use span_runs::table_of_run;
-use span_table::{JsonFault, Table, comparison, json_comparison};
+use span_comparisons::{comparison, json_comparison};
+use span_table::Table;
+use span_table_text::JsonFault;
 use std::alloc::Global;
 use std::mem::forget;
 use std::random::RandomSource;

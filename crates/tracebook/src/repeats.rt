@@ -1,6 +1,6 @@
 //! Repeated runs, on each of two sides: how their numbers are spread, of traces or of tables that were printed.
 ghost use Rattle.std.specs.Prelude.{◌≡◌, ◌<◌, ◌≤◌, ◌++◌, true, ◌↔◌, IfErr, IfOk, IsTrue, OnOk, length};
-ghost use Rattle.span_table.specs.declared.json_lines.JsonFault.TheVariants.{TooGreat};
+ghost use Rattle.span_table_text.specs.declared.json_lines.JsonFault.TheVariants.{TooGreat};
 ghost use Rattle.tracebook.specs.Repeats.{AreFew, RepeatsExceed, RepeatsFit, Repeats, RepeatsPart, gathered_text, repeats_text};
 ghost use Rattle.tracebook.specs.Sums.{WritesAll, WritesPart};
 
@@ -12,7 +12,9 @@ use span_faults::{Faults, fail};
 use span_report::Sink;
 use span_request::{Apart, RepeatsForm, RepeatsView};
 use span_runs::Source;
-use span_table::{Column, JsonFault, Of, Table, json_repeats, repeats};
+use span_comparisons::{json_repeats, repeats};
+use span_table::{Column, Of, Table};
+use span_table_text::JsonFault;
 use std::alloc::Global;
 use std::mem::forget;
 use std::random::RandomSource;

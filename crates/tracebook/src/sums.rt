@@ -11,7 +11,8 @@ use span_event::{Fault, Unit};
 use span_faults::{Faults, fail, say};
 use span_report::{Sink, write_bytes};
 use span_request::{ComparisonView, TableView};
-use span_table::{JsonFault, Table};
+use span_table::Table;
+use span_table_text::JsonFault;
 use std::alloc::Global;
 use std::mem::forget;
 

@@ -1,11 +1,12 @@
 //! The tables that the command line asks for, and their texts.
 ghost use Rattle.std.specs.Prelude.{◌≡◌, true, false, string_bytes, IfOk, IfErr, OnOk};
-ghost use Rattle.span_table.specs.declared.json_lines.JsonFault.TheVariants.{Memory, TooGreat};
+ghost use Rattle.span_table_text.specs.declared.json_lines.JsonFault.TheVariants.{Memory, TooGreat};
 ghost use Rattle.tracebook.specs.Tables.{TableExceeds, TableFits, asked_by, table_text};
 
 use span_event::Unit;
 use span_request::{TableForm, TableView};
-use span_table::{By, JsonFault, Of, Table, json_table, ranking};
+use span_table::{By, Of, Table};
+use span_table_text::{JsonFault, json_table, ranking};
 use std::alloc::Global;
 
 /// The text of a table in a unit, whose head tells of runs or doesn't.

@@ -3,7 +3,7 @@ ghost use Rattle.std.specs.Prelude.{◌≡◌, true, false, length, IfOk, IfErr,
 ghost use Rattle.span_report.specs.Sink.{TakesBytes};
 ghost use Rattle.span_runs.specs.Runs.{run_of_files};
 ghost use Rattle.span_request.specs.declared.views.View.TheVariants.{Page as OfPage, Table as OfTable};
-ghost use Rattle.span_table.specs.declared.json_lines.JsonFault.TheVariants.{TooGreat};
+ghost use Rattle.span_table_text.specs.declared.json_lines.JsonFault.TheVariants.{TooGreat};
 ghost use Rattle.tracebook.specs.Tables.{TableExceeds, TableFits, asked_table, table_text};
 ghost use Rattle.tracebook.specs.View.{Fits, Prints, TextLeaves, ViewLeaves, of_folded, of_written, text_of, view_code};
 
@@ -16,7 +16,8 @@ use span_report::stacks::{FoldedFault, write_folded};
 use span_report::{Sink, WriteFault, write_bytes, write_report};
 use span_request::{PageView, TableView, View};
 use span_runs::table_of_run;
-use span_table::{JsonFault, Table};
+use span_table::Table;
+use span_table_text::JsonFault;
 use std::alloc::Global;
 use std::mem::forget;
 use std::random::RandomSource;

@@ -1,8 +1,10 @@
 //! Tables of asynchronous spans, and their texts.
 
 use super::tabled::{shown, tabled_of};
+use span_comparisons::{comparison, json_comparison};
 use span_event::Unit;
-use span_table::{By, Of, Table, comparison, json_comparison, json_table, ranking};
+use span_table::{By, Of, Table};
+use span_table_text::{json_table, ranking};
 use std::alloc::{AllocGlobal, Global};
 use std::process::Abort;
 use std::test::Fail;

@@ -2,8 +2,8 @@
 
 use super::tabled::{columns_of, tabled};
 use span_event::Text;
-use span_names::HashKeys;
 use span_ledger::Ledger;
+use span_names::HashKeys;
 use span_table::{Head, HeadCounts, Key, Of, Row, Sum, Table};
 use span_test_support::told;
 use std::alloc::{AllocError, AllocGlobal, Global};

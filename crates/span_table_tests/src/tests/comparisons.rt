@@ -1,8 +1,9 @@
 //! The text of a comparison.
 
 use super::tabled::{shown, tabled};
+use span_comparisons::{comparison, json_comparison};
 use span_event::Unit;
-use span_table::{By, comparison, json_comparison};
+use span_table::By;
 use std::test::Fail;
 
 // "a" takes longer than before, "gone" is gone, "new" is new, and "same" is as it was.

@@ -2,7 +2,8 @@
 
 use super::tabled::{shown, tabled};
 use span_event::Unit;
-use span_table::{By, JsonFault, Shown, Table, json_table, ranking};
+use span_table::{By, Table};
+use span_table_text::{JsonFault, Shown, json_table, ranking};
 use std::alloc::{AllocError, AllocGlobal, Global};
 use std::process::Abort;
 use std::test::Fail;

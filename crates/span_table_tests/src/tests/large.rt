@@ -1,9 +1,10 @@
 //! A table of more keys than any worked example has.
 
 use super::tabled::{columns_of, shown, table_of};
+use span_comparisons::repeats;
 use span_event::Unit;
 use span_ledger::Ledger;
-use span_table::{By, Row, Table, repeats};
+use span_table::{By, Row, Table};
 use span_test_support::told;
 use std::alloc::{AllocError, AllocGlobal, Global};
 use std::process::Abort;

@@ -2,7 +2,8 @@
 
 use super::tabled::{shown, tabled};
 use span_event::Unit;
-use span_table::{By, ranking};
+use span_table::By;
+use span_table_text::ranking;
 use std::test::Fail;
 
 // Of `a`'s 10 microseconds `b` has 6, and `c` 4 of these in 3 spans.

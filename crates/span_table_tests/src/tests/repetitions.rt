@@ -3,8 +3,10 @@ ghost use Rattle.std.specs.Prelude.{◌≤◌, length};
 
 use super::json_lines::long_spans;
 use super::tabled::{columns_of, shown, tabled, tabled_of};
+use span_comparisons::{json_repeats, repeats};
 use span_event::Unit;
-use span_table::{By, Column, JsonFault, Of, Table, json_repeats, repeats};
+use span_table::{By, Column, Of, Table};
+use span_table_text::JsonFault;
 use std::alloc::{AllocGlobal, Global};
 use std::process::Abort;
 use std::test::Fail;

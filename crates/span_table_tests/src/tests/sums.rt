@@ -2,9 +2,10 @@
 
 use super::tabled::{columns_of, shown};
 use span_event::Unit;
-use span_names::HashKeys;
 use span_ledger::Ledger;
-use span_table::{By, Of, TableSum, json_table, ranking};
+use span_names::HashKeys;
+use span_table::{By, Of, TableSum};
+use span_table_text::{json_table, ranking};
 use span_test_support::{told, told_at_last};
 use std::alloc::{AllocGlobal, Global};
 use std::process::Abort;

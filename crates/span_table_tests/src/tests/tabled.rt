@@ -1,9 +1,10 @@
 //! Tables of texts, and what is shown of them.
 
 use span_event::Text;
-use span_names::HashKeys;
 use span_ledger::Ledger;
-use span_table::{Column, Of, Shown, Table};
+use span_names::HashKeys;
+use span_table::{Column, Of, Table};
+use span_table_text::Shown;
 use span_test_support::told_at_last;
 use std::alloc::{AllocError, Global};
 

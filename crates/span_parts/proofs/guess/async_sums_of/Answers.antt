@@ -1,5 +1,5 @@
 use Rattle.std.proofs.Common.{Some, sym, ◌∙◌}
-use Rattle.span_table.proofs.PrintedLines.{sums_small}
+use Rattle.span_table.proofs.Summing.{sums_small}
 use Rattle.span_parts.proofs.guess.async_sums_of.Goals as goal
 
 pub returns-in_err-points : goal.returns-in_err-points

@@ -1,5 +1,5 @@
 use Rattle.std.proofs.Common.{Some, ◌∙◌}
-use Rattle.span_table.proofs.PrintedLines.{head_small}
+use Rattle.span_table_text.proofs.PrintedLines.{head_small}
 use Rattle.span_parts.proofs.guess.counts_of.Goals as goal
 
 pub returns-in_err-skipped : goal.returns-in_err-skipped

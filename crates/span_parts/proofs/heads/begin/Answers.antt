@@ -1,9 +1,9 @@
 use Rattle.std.proofs.Common.{◌≡◌, Some, None, [], ◌∷◌, ◌++◌, sym, ap, subst, ◌∙◌, append_assoc, length, arith}
 use Rattle.std.specs.Prelude.{flat_map, IfSome}
 use Rattle.span_event.specs.declared.unit.Unit.{Unit as TimeUnit}
-use Rattle.span_table.specs.Json.{json_line}
+use Rattle.span_table_text.specs.Json.{json_line}
 use Rattle.std.proofs.lemmas.Str.Pattern.{split_after, split_parts}
-use Rattle.span_table.specs.Printed.{IsPart}
+use Rattle.span_table_text.specs.Printed.{IsPart}
 use Rattle.span_table.specs.Tables.{SpanTable}
 use Rattle.span_parts.specs.First.{IsFirstLine, Says}
 use Rattle.span_parts.proofs.Added.{EndsLine}

@@ -1,7 +1,8 @@
 use Rattle.std.proofs.Common.{map, sym, ap, subst, ◌∙◌}
 use Rattle.json.specs.Reads.{token_of}
-use Rattle.span_table.specs.Json.{head_fits, json_head}
-use Rattle.span_table.specs.Printed.{AreColumns}
+use Rattle.span_table.specs.Heads.{head_fits}
+use Rattle.span_table_text.specs.Json.{json_head}
+use Rattle.span_table_text.specs.Printed.{AreColumns}
 use Rattle.span_parts.specs.First.{Says}
 use Rattle.span_parts.proofs.Lines.{tokens-first}
 use Rattle.span_parts.proofs.Lists.{no-both}

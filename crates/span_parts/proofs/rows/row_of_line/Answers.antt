@@ -1,8 +1,8 @@
 use Rattle.std.proofs.Common.{map, sym, ap, subst, ◌∙◌}
 use Rattle.json.specs.Reads.{token_of}
 use Rattle.span_parts.proofs.Lines.{tokens-line}
-use Rattle.span_table.specs.Json.{json_line}
-use Rattle.span_table.specs.Printed.{IsRowOf}
+use Rattle.span_table_text.specs.Json.{json_line}
+use Rattle.span_table_text.specs.Printed.{IsRowOf}
 use Rattle.span_parts.proofs.Lists.{Some-same, no-both}
 use Rattle.span_parts.proofs.rows.row_of_line.Goals as goal
 

@@ -3,7 +3,7 @@ use Rattle.std.specs.Prelude.{unwrap_or}
 use Rattle.std.specs.Option.{option_map}
 use Rattle.span_table.specs.declared.table.Row.{Row}
 use Rattle.span_table.specs.Tables.{sums_together}
-use Rattle.span_table.proofs.Comparing.{sums_at-found}
+use Rattle.span_table.proofs.Searched.{sums_at-found}
 use Rattle.span_table.proofs.row_search.sums_at.Goals as goal
 
 pub returns-in-Some : goal.returns-in-Some

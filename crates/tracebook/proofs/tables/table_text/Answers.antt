@@ -1,7 +1,7 @@
 use Rattle.std.proofs.Common.{ap, ◌∙◌}
 use Rattle.span_table.specs.declared.of.Of.{Of}
 use Rattle.span_table.specs.declared.sums.By.{By}
-use Rattle.span_table.specs.Ranking.{ranking_of}
+use Rattle.span_table_text.specs.Ranking.{ranking_of}
 use Rattle.tracebook.specs.Tables.{asked_by}
 use Rattle.tracebook.proofs.tables.table_text.Goals as goal
 

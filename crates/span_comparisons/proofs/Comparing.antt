@@ -1,0 +1,59 @@
+-- What is told of the keys of two tables is what is compared.
+use Rattle.std.proofs.Common.{[], ◌≡◌, ◌≤◌, ◌<◌, ℕ, ◌+◌, true, List, Option, Some, None, get_or, length, refl, sym, ap, ◌∙◌, arith}
+use Rattle.std.specs.Prelude.{filter, is_none, unwrap_or}
+use Rattle.std.specs.Option.{option_map}
+use Rattle.std.specs.Cmp.{IsTotalOrder}
+use Rattle.std.proofs.lemmas.Cmp.{back_total, nat_cmp_total, on_total, then_total}
+use Rattle.std.proofs.lemmas.List.Filters.{length-filter_both}
+use Rattle.std.proofs.lemmas.List.Sums.{count_by-le-length, length-filter}
+use Rattle.span_table.specs.declared.of.Of.{Of}
+use Rattle.span_table.specs.declared.of.Of.TheVariants.{Spans, Async}
+use Rattle.span_table.specs.declared.sums.By.{By}
+use Rattle.span_table.specs.declared.sums.By.TheVariants.{SelfTime, Total, Closed, Open}
+use Rattle.span_table.specs.declared.table.Row.{Row}
+use Rattle.span_comparisons.specs.Changed.{Tells, from_other, is_new}
+use Rattle.span_table.specs.RowSearch.{found_at, sums_at}
+use Rattle.span_comparisons.specs.Changes.{Change, by_gap, change_order, compared_at, gap_by, is_changed, is_same, same_count, shown_changes, usual_order}
+use Rattle.span_table.specs.KeyLaws.{key_cmp_total}
+use Rattle.span_table_text.specs.Shown.{Wanted, is_wanted}
+use Rattle.span_table.specs.Tables.{RowsRise, sums_together}
+use Rattle.span_table.proofs.Searched.{sums_at-found, sums_at-own}
+
+by_gap-total : (by : By) → IsTotalOrder (by_gap by)
+by_gap-total by = on_total (gap_by by) (back_total nat_cmp_total)
+
+usual_order-total : (of : Of) → IsTotalOrder (usual_order of)
+usual_order-total Spans = then_total (by_gap-total SelfTime) (then_total (by_gap-total Total) (on_total (λ (c : Change). c.key) key_cmp_total))
+usual_order-total Async =
+    then_total (by_gap-total Total) (then_total (by_gap-total Open) (then_total (by_gap-total Closed) (on_total (λ (c : Change). c.key) key_cmp_total)))
+
+-- the order of changes is total
+pub change_order-total : (of : Of) (by : By) → IsTotalOrder (change_order of by)
+change_order-total of by = then_total (by_gap-total by) (usual_order-total of)
+
+-- no more keys are the same than there are
+pub Tells-few : (wanted : Wanted) (keys told : List Change) (unchanged count : ℕ) → Tells wanted keys told unchanged count → unchanged ≤ count
+Tells-few wanted keys told unchanged count tells =
+    let few = count_by-le-length (λ (c : Change). is_same c.both) (shown_changes wanted keys) in
+    let shown = length-filter (λ (c : Change). is_wanted wanted c.key) keys in
+    let all = count_by-le-length (λ (c : Change). is_wanted wanted c.key) keys in
+    omega (arith, tells.same, tells.all, few, shown, all)
+
+-- a key that only the other has is compared so
+pub from_other-is : (base other : List Row) → RowsRise base → RowsRise other → (row : Row) (k : ℕ) → k < length other → get_or other k row ≡ row → is_new base row ≡ true → from_other row ≡ compared_at base other row.key
+from_other-is base other base_rises other_rises row k low is new =
+    let none : sums_together [] ≡ sums_at base row.key =
+    sym (sums_at-found row.key base base_rises ∙ ap (λ o. unwrap_or (option_map (λ (r : Row). r.sums) o) (sums_together [])) (nothing (found_at base row.key) new)) in
+    let own = sym (sums_at-own other other_rises row k low is) in
+    λ i. record { key = row.key; both = record { base = none i; other = own i } }
+  where
+    nothing : (o : Option Row) → is_none o ≡ true → o ≡ None
+    nothing None h = refl
+    nothing (Some r) h = cc
+
+-- each change is one or the other
+pub length-changes : (changes : List Change) → length (filter is_changed changes) + same_count changes ≡ length changes
+length-changes changes =
+    let both : length (filter (λ (c : Change). is_same c.both) changes) + length (filter is_changed changes) ≡ length changes =
+    length-filter_both (λ (c : Change). is_same c.both) is_changed (λ c. refl) changes in
+    omega (arith, both, length-filter (λ (c : Change). is_same c.both) changes)

@@ -1,0 +1,74 @@
+-- A table compared with itself.
+use Rattle.std.proofs.Common.{◌≡◌, Bool, true, false, cond, ◌&&◌, ◌||◌, ◌==◌, List, [], ◌∷◌, ◌++◌, length, map, refl, sym, ap, ap₂, ◌∙◌, arith, eq-eqb}
+use Rattle.std.specs.Prelude.{filter, flat_map, not}
+use Rattle.std.proofs.lemmas.List.{length-map, map-append}
+use Rattle.span_keyed_tracks.specs.Keyed.{ascending}
+use Rattle.span_keyed_tracks.proofs.Keyed.{has_key}
+use Rattle.span_journal.proofs.Sorted.{map-map}
+use Rattle.span_report.specs.Lines.{first_line, unit_line}
+use Rattle.span_self_time.proofs.Mapped.{filter-map}
+use Rattle.span_table.specs.declared.sums.Sums.{Sums}
+use Rattle.span_table.specs.declared.table.Row.{Row}
+use Rattle.span_comparisons.specs.Changes.{Change, change_order, compared, compared_at, is_changed, is_same, same_count, shown_changes}
+use Rattle.span_table.specs.RowSearch.{sums_at}
+use Rattle.span_comparisons.specs.Comparison.{change_columns, change_line, compared_heads, same_line}
+use Rattle.span_table.specs.KeyLaws.{key_cmp_total}
+use Rattle.span_table.specs.Keys.{TableKey, key_cmp}
+use Rattle.span_table_text.specs.Lines.{shown_line}
+use Rattle.span_table_text.specs.Shown.{Wanted, is_wanted, shown_rows}
+use Rattle.span_table.specs.Tables.{RowsRise}
+use Rattle.span_comparisons.specs.Laws.{TablesCompareWithThemselves}
+use Rattle.span_table.proofs.Alike.{has_key-append, same_keys}
+use Rattle.span_comparisons.proofs.Comparing.{length-changes}
+use Rattle.span_table.proofs.OwnRows.{ascending-own, keys-sorted}
+use Rattle.span_comparisons.proofs.Permuted.{key_of}
+
+module _ (rows : List Row) where
+  -- the keys of two lists of the same rows are those of one
+  keys-itself : RowsRise rows → ascending key_cmp (map key_of (rows ++ rows)) ≡ map key_of rows
+  keys-itself rise =
+      same_keys (map key_of (rows ++ rows)) (map key_of rows) (λ k h. sym (twice k) ∙ h) (λ k h. twice k ∙ h) ∙ ascending-own key_cmp_total (map key_of rows) (keys-sorted rows rise)
+    where
+      one_of : (a : Bool) → (a || a) ≡ a
+      one_of true = refl
+      one_of false = refl
+
+      twice : (k : TableKey) → has_key key_cmp k (map key_of (rows ++ rows)) ≡ has_key key_cmp k (map key_of rows)
+      twice k = ap (has_key key_cmp k) (map-append key_of rows rows) ∙ has_key-append key_cmp k (map key_of rows) (map key_of rows) ∙ one_of (has_key key_cmp k (map key_of rows))
+
+  abbrev made : Row → Change
+  made row = compared_at rows rows row.key
+
+  compared-itself : RowsRise rows → compared rows rows ≡ map made rows
+  compared-itself rise = ap (map (compared_at rows rows)) (keys-itself rise) ∙ map-map (compared_at rows rows) key_of rows
+
+  -- the keys that are shown are those of the rows that are
+  shown-itself : (wanted : Wanted) → RowsRise rows → shown_changes wanted (compared rows rows) ≡ map made (shown_rows wanted rows)
+  shown-itself wanted rise = ap (shown_changes wanted) (compared-itself rise) ∙ filter-map (λ (c : Change). is_wanted wanted c.key) made rows
+
+  same_as_itself : (sums : Sums) → is_same (record { base = sums; other = sums }) ≡ true
+  same_as_itself sums =
+      let self_time : (sums.self_time == sums.self_time) ≡ true = eq-eqb sums.self_time sums.self_time refl in
+      let total : (sums.total == sums.total) ≡ true = eq-eqb sums.total sums.total refl in
+      let count : (sums.count == sums.count) ≡ true = eq-eqb sums.count sums.count refl in
+      let unclosed : (sums.unclosed == sums.unclosed) ≡ true = eq-eqb sums.unclosed sums.unclosed refl in
+      let points : (sums.points == sums.points) ≡ true = eq-eqb sums.points sums.points refl in
+      λ i. self_time i && (total i && (count i && (unclosed i && points i)))
+
+  none_changed : (xs : List Row) → filter is_changed (map made xs) ≡ []
+  none_changed [] = refl
+  none_changed (x ∷ xs) = ap₂ (λ (b : Bool) (rest : List Change). cond (not b) (made x ∷ rest) rest) (same_as_itself (sums_at rows x.key)) (none_changed xs)
+
+-- nothing changed between a table and itself
+pub comparison_of-itself : TablesCompareWithThemselves
+comparison_of-itself unit by wanted tells_runs table rise =
+    let rows = table.rows in
+    let all = compared rows rows in
+    let shown = shown_changes wanted all in
+    let are = shown-itself rows wanted rise in
+    let none : filter is_changed shown ≡ [] = ap (filter is_changed) are ∙ none_changed rows (shown_rows wanted rows) in
+    let many : length shown ≡ length (shown_rows wanted rows) = ap length are ∙ length-map (shown_rows wanted rows) (made rows) in
+    let every : length all ≡ length rows = ap length (compared-itself rows rise) ∙ length-map rows (made rows) in
+    let same : same_count shown ≡ length (shown_rows wanted rows) = omega (arith, length-changes shown, ap length none, many) in
+    λ i. first_line ++ (unit_line unit ++ (compared_heads tells_runs table.head table.head ++ (shown_line wanted (many i) (every i) ++ (change_columns table.of table.columns ++
+    (flat_map (change_line table.of) (ascending (change_order table.of by) (none i)) ++ same_line (same i))))))

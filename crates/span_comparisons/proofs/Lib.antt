@@ -1,0 +1,10 @@
+pub mod AnyOrder
+pub mod Comparing
+pub mod Itself
+pub mod JsonPieces
+pub mod Permuted
+pub mod Pieces
+pub mod RepeatedKeys
+pub mod Sorts
+pub mod SpreadOrder
+pub mod Turned

@@ -1,0 +1,49 @@
+-- The keys of repeated runs in the order of their text.
+use Rattle.std.proofs.Common.{◌≡◌, ℕ, false, List, [], ◌∷◌, ◌++◌, map, refl, sym, ap, subst, ◌∙◌}
+use Rattle.std.specs.Prelude.{filter}
+use Rattle.std.specs.Cmp.{IsTotalOrder}
+use Rattle.std.specs.List.{IsDistinct}
+use Rattle.std.specs.List.Sorted.{IsStrictlySortedBy}
+use Rattle.std.specs.Ordering.{eq_by_cmp, is_eq, nat_cmp}
+use Rattle.std.specs.declared.cmp.Ordering.TheVariants.{Less}
+use Rattle.std.proofs.lemmas.Cmp.{back_total, nat_cmp_total, on_total, then_total}
+use Rattle.span_journal.proofs.Sorted.{AllByRecursion-map, ascending-sorted, map-map, map-sorted}
+use Rattle.span_table.specs.declared.sums.By.{By}
+use Rattle.span_table.specs.KeyLaws.{key_cmp_total}
+use Rattle.span_table.specs.Keys.{TableKey, key_cmp}
+use Rattle.span_table_text.specs.Shown.{Wanted, is_wanted}
+use Rattle.span_comparisons.specs.Sides.{TellsSpreads}
+use Rattle.span_comparisons.specs.Spreads.{Spreads, all_keys, is_apart, keys_of, median_gap, shown_keys, shown_spreads, spread_order, spreads_at}
+use Rattle.span_table.specs.Tables.{SpanTable}
+use Rattle.span_comparisons.proofs.Permuted.{apart}
+use Rattle.span_table_text.proofs.Ranked.{filter-sorted}
+
+-- the order of spreads is total
+pub spread_order-total : IsTotalOrder spread_order
+spread_order-total = then_total (on_total median_gap (back_total nat_cmp_total)) (on_total (λ (s : Spreads). s.key) key_cmp_total)
+
+IsDistinct-rising : (spreads : List Spreads) → IsStrictlySortedBy (λ (a b : Spreads). key_cmp a.key b.key) spreads → IsDistinct (eq_by_cmp spread_order) spreads
+unfolding IsStrictlySortedBy IsDistinct
+IsDistinct-rising [] rise = tt
+IsDistinct-rising (x ∷ xs) rise = (
+  AllByRecursion-map (λ (y : Spreads). key_cmp x.key y.key ≡ Less) (λ (y : Spreads). eq_by_cmp spread_order x y ≡ false)
+      (λ (y : Spreads) (below : key_cmp x.key y.key ≡ Less). apart (nat_cmp (median_gap y) (median_gap x)) (key_cmp x.key y.key) (ap is_eq below)) xs rise.0,
+  IsDistinct-rising xs rise.1,
+)
+
+-- no two keys stand at one place
+pub spreads-distinct : (by : By) (wanted : Wanted) (base other : List SpanTable) → IsDistinct (eq_by_cmp spread_order) (filter is_apart (shown_spreads by wanted base other))
+spreads-distinct by wanted base other =
+    let by_key = λ (a b : Spreads). key_cmp a.key b.key in
+    let tables = base ++ other in
+    IsDistinct-rising (filter is_apart (shown_spreads by wanted base other))
+    (filter-sorted by_key is_apart (shown_spreads by wanted base other)
+    (map-sorted key_cmp (λ (s : Spreads). s.key) (spreads_at by base other) (λ key. refl) (shown_keys wanted tables)
+    (filter-sorted key_cmp (is_wanted wanted) (all_keys tables) (ascending-sorted key_cmp_total (keys_of tables)))))
+
+-- what is told of the keys that are shown, whatever stands for them, is told of these with their spreads
+pub told-shown : {A : Type 0} (at : A → TableKey) (by : By) (wanted : Wanted) (base other : List SpanTable) (keys : List A) (told : List Spreads) (overlap same : ℕ) →
+    map at keys ≡ shown_keys wanted (base ++ other) → TellsSpreads (map (λ key. spreads_at by base other (at key)) keys) told overlap same →
+    TellsSpreads (shown_spreads by wanted base other) told overlap same
+told-shown at by wanted base other keys told overlap same shown tells =
+    subst (λ spreads. TellsSpreads spreads told overlap same) (sym (map-map (spreads_at by base other) at keys) ∙ ap (map (spreads_at by base other)) shown) tells

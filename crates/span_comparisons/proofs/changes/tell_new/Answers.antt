@@ -1,0 +1,50 @@
+use Rattle.std.proofs.Common.{◌≡◌, ◌+◌, Bool, true, false, cond, List, ◌∷◌, [], ◌++◌, map, take, refl, sym, ap, subst, ◌∙◌, append_assoc, arith}
+use Rattle.std.specs.Prelude.{filter}
+use Rattle.std.proofs.lemmas.List.{map-append, take_all, take_more}
+use Rattle.std.proofs.lemmas.List.Elements.{filter-append}
+use Rattle.span_table.specs.declared.table.Row.{Row}
+use Rattle.span_comparisons.specs.Changed.{Tells, base_keys, from_other, is_new, new_key}
+use Rattle.span_comparisons.specs.Changes.{Change, compared_at}
+use Rattle.span_comparisons.proofs.Comparing.{Tells-few, from_other-is}
+use Rattle.span_comparisons.proofs.changes.tell_new.Goals as goal
+
+pub tell_if_new-requires-clause-same : goal.tell_if_new-requires-clause-same
+tell_if_new-requires-clause-same c =
+    let keys = base_keys c.args.base.now c.args.other.now ++ map (λ (row : Row). compared_at c.args.base.now c.args.other.now row.key) (filter (is_new c.args.base.now) (take c.loop-row.row-index c.args.other.now)) in
+    let few = Tells-few c.args.shown.now keys c.loop-row.found.changes.items c.loop-row.found.same c.loop-row.found.all c.loop-row.invariant.told in
+    omega (arith, few, c.loop-row.invariant.few)
+
+pub tell_if_new-requires-clause-all : goal.tell_if_new-requires-clause-all
+tell_if_new-requires-clause-all c = omega (arith, c.loop-row.invariant.few)
+
+pub loop-row-preserved : goal.loop-row-preserved
+loop-row-preserved c =
+    let base = c.args.base.now in
+    let other = c.args.other.now in
+    let at = c.loop-row.row-index in
+    let row = c.row-item.result in
+    let make = λ (r : Row). compared_at base other r.key in
+    let news = λ (rows : List Row). map make (filter (is_new base) rows) in
+    let is = from_other-is base other c.requires.base c.requires.other row at c.loop-row-test.true (sym c.row-item.is) in
+    let one : new_key base row ≡ news (row ∷ []) = by make row (is_new base row) is in
+    let more : take (at + 1) other ≡ take at other ++ row ∷ [] = take_more other at row c.loop-row-test.true ∙ ap (λ r. take at other ++ r ∷ []) (sym c.row-item.is) in
+    let passed : news (take (at + 1) other) ≡ news (take at other) ++ news (row ∷ []) =
+    ap news more ∙ ap (map make) (filter-append (is_new base) (take at other) (row ∷ [])) ∙ map-append make (filter (is_new base) (take at other)) (filter (is_new base) (row ∷ [])) in
+    record {
+      few = omega (arith, c.in_ok-tell_if_new.ensures.few, c.loop-row.invariant.few);
+      told = subst (λ keys. Tells c.args.shown.now keys c.tell_if_new.new.found.changes.items c.tell_if_new.new.found.same c.tell_if_new.new.found.all)
+          (append_assoc (base_keys base other) (news (take at other)) (new_key base row) ∙ ap (λ l. base_keys base other ++ (news (take at other) ++ l)) one ∙ ap (λ l. base_keys base other ++ l) (sym passed))
+          (c.in_ok-tell_if_new.ensures.told (base_keys base other ++ news (take at other)) c.loop-row.invariant.told);
+    }
+  where
+    by : (make : Row → Change) (row : Row) (b : Bool) → (b ≡ true → from_other row ≡ make row) → cond b (from_other row ∷ []) [] ≡ map make (cond b (row ∷ []) [])
+    by make row true is = ap (λ c. c ∷ []) (is refl)
+    by make row false is = refl
+
+pub returns-clause-told : goal.returns-clause-told
+returns-clause-told c =
+    let base = c.args.base.now in
+    let other = c.args.other.now in
+    let keys = λ (rows : List Row). base_keys base other ++ map (λ (row : Row). compared_at base other row.key) (filter (is_new base) rows) in
+    let passed = take_all c.loop-row.row-index other c.loop-row-test.false in
+    subst (λ (rows : List Row). Tells c.args.shown.now (keys rows) c.loop-row.found.changes.items c.loop-row.found.same c.loop-row.found.all) passed c.loop-row.invariant.told

@@ -1,0 +1,39 @@
+use Rattle.std.proofs.Common.{◌≡◌, List, ◌++◌, length, refl, ap, ap₂, ◌∙◌, append_assoc}
+use Rattle.std.specs.Prelude.{flat_map}
+use Rattle.span_event.specs.Text.{Bytes}
+use Rattle.span_report.specs.Lines.{first_line, unit_line}
+use Rattle.span_table.specs.declared.table.Row.{Row}
+use Rattle.span_comparisons.specs.Changes.{changes_of, compared, same_count, shown_changes}
+use Rattle.span_comparisons.specs.Comparison.{change_columns, change_line, compared_heads, same_line}
+use Rattle.span_table_text.specs.Lines.{shown_line}
+use Rattle.span_comparisons.proofs.comparisons.comparison.Goals as goal
+
+-- a text to which six more were appended
+appended : (s t u v w x y a b c d e f g : Bytes) → s ≡ a → t ≡ s ++ b → u ≡ t ++ c → v ≡ u ++ d → w ≡ v ++ e → x ≡ w ++ f → y ≡ x ++ g
+    → y ≡ a ++ (b ++ (c ++ (d ++ (e ++ (f ++ g)))))
+appended s t u v w x y a b c d e f g first second third fourth fifth sixth last =
+    last
+    ∙ ap (λ l. l ++ g) (sixth ∙ ap (λ l. l ++ f) (fifth ∙ ap (λ l. l ++ e) (fourth ∙ ap (λ l. l ++ d) (third ∙ ap (λ l. l ++ c) (second ∙ ap (λ l. l ++ b) first)))))
+    ∙ joined
+  where
+    joined : (((((a ++ b) ++ c) ++ d) ++ e) ++ f) ++ g ≡ a ++ (b ++ (c ++ (d ++ (e ++ (f ++ g)))))
+    joined = simp append_assoc refl
+
+pub returns : goal.returns
+returns c =
+    let wanted = c.args.shown.now in
+    let of = c.kind-of.ensures in
+    let rows = c.rows.ensures.rows in
+    let others = c.rows-2.ensures.rows in
+    let found = c.in_ok-found.ensures in
+    let columns = c.columns.ensures in
+    let head = c.head.ensures.value in
+    let other_head = c.head-2.ensures.value in
+    let shown = found.shown ∙ ap₂ (λ (b o : List Row). length (shown_changes wanted (compared b o))) rows others in
+    let all = found.all ∙ ap₂ (λ (b o : List Row). length (compared b o)) rows others in
+    let same = found.same ∙ ap₂ (λ (b o : List Row). same_count (shown_changes wanted (compared b o))) rows others in
+    let changes = c.deref.ensures.value ∙ found.changes ∙ (λ i. changes_of (of i) c.args.by (shown_changes wanted (compared (rows i) (others i)))) in
+    (λ i. (c.into_bytes.ensures.value i).items)
+    ∙ appended _ _ _ _ _ _ _ _ _ _ _ _ _ _ c.in_ok-out.ensures c.in_ok-put_unit.ensures c.in_ok-put_heads.ensures c.in_ok-put_shown.ensures c.in_ok-put_columns.ensures c.in_ok-put_changes.ensures c.in_ok-put_same.ensures
+    ∙ (λ i. first_line ++ (unit_line c.args.unit ++ (compared_heads c.args.tells_runs (head i) (other_head i) ++ (shown_line wanted (shown i) (all i) ++
+    (change_columns (of i) (columns i) ++ (flat_map (change_line (of i)) (changes i) ++ same_line (same i)))))))

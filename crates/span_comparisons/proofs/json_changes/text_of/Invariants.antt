@@ -1,0 +1,7 @@
+use Rattle.std.proofs.Common.{◌≡◌, ◌++◌, length, take, flat_map, string_bytes}
+use Rattle.span_comparisons.specs.JsonChanges.{json_change, json_heads}
+use Rattle.span_comparisons.proofs.json_changes.text_of.Given as goal
+
+-- the first line, and the lines of those so far
+abbrev pub invariant-loop-change : goal.invariant-loop-change
+invariant-loop-change l = string_bytes l.out ≡ json_heads l.other.of l.fn.unit l.other.columns (length l.found.changes.items) l.found.same l.base.head l.other.head ++ flat_map (json_change l.other.of l.other.columns) (take l.change-index l.found.changes.items)

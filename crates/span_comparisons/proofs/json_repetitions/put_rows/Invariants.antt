@@ -1,0 +1,13 @@
+use Rattle.std.proofs.Common.{◌≡◌, ◌++◌, true, map, flat_map, take, string_bytes}
+use Rattle.std.specs.List.{list_all}
+use Rattle.span_comparisons.specs.Repeats.{json_values_at, key_fits}
+use Rattle.span_comparisons.proofs.json_repetitions.put_rows.Given as goal
+
+-- the lines of the keys so far
+abbrev pub invariant-loop-key : goal.invariant-loop-key
+invariant-loop-key l = record {
+  base : l.base.tables ≡ l.fn.base;
+  other : l.other.tables ≡ l.fn.other;
+  text : string_bytes l.out ≡ string_bytes l.fn.out ++ flat_map (json_values_at l.fn.by l.columns l.fn.base l.fn.other) (map (λ key. key.now) (take l.key-index l.keys));
+  fits : list_all (key_fits l.fn.by l.fn.base l.fn.other) (map (λ key. key.now) (take l.key-index l.keys)) ≡ true;
+}

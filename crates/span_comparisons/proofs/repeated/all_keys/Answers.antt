@@ -1,0 +1,24 @@
+use Rattle.std.proofs.Common.{◌≡◌, List, ◌++◌, map, sym, ap, ◌∙◌}
+use Rattle.std.proofs.lemmas.List.Filters.{dedup_is}
+use Rattle.std.proofs.lemmas.List.Concat.{flat_map-append}
+use Rattle.span_keyed_tracks.specs.Keyed.{ascending}
+use Rattle.span_table.specs.declared.table.Row.{Row}
+use Rattle.span_table.specs.Keys.{TableKey, key_cmp}
+use Rattle.span_comparisons.specs.Spreads.{keys_of}
+use Rattle.span_table.specs.Tables.{SpanTable}
+use Rattle.span_comparisons.proofs.RepeatedKeys.{dedup-ascending}
+use Rattle.span_comparisons.proofs.repeated.all_keys.Goals as goal
+
+pub returns : goal.returns
+returns c =
+    let base = c.args.base.now in
+    let other = c.args.other.now in
+    let pushed = c.push_keys-2.new.keys.items in
+    let ordered = c.sort.new.self.items in
+    let both : map (λ key. key.now) pushed ≡ keys_of (base ++ other) =
+    c.in_ok-push_keys-2.ensures
+    ∙ ap (λ (keys : List TableKey). keys ++ keys_of other) (c.in_ok-push_keys.ensures ∙ ap (λ l. map (λ key. key.now) l ++ keys_of base) c.new-keys.ensures.items)
+    ∙ sym (flat_map-append (λ (table : SpanTable). map (λ (row : Row). row.key) table.rows) base other) in
+    ap (map (λ key. key.now)) (dedup_is _ _ _ c.dedup.ensures.filtered)
+    ∙ dedup-ascending (λ key. key.now) pushed ordered c.in_ok-sort.ensures.permutation c.in_ok-sort.ensures.sorted
+    ∙ ap (ascending key_cmp) both

@@ -1,0 +1,64 @@
+-- What changed between two tables of the same columns.
+use Rattle.std.specs.Prelude.{ℕ, ◌+◌, ◌++◌, Bool, not, List, map, filter, count_by}
+use Rattle.std.specs.declared.cmp.Ordering.{Ordering}
+use Rattle.std.specs.Ordering.{nat_cmp, ordering_then}
+use Rattle.span_keyed_tracks.specs.Keyed.{ascending}
+use Rattle.span_comparisons.specs.declared.changes.Both.{Both}
+use Rattle.span_table.specs.declared.of.Of.{Of}
+use Rattle.span_table.specs.declared.of.Of.TheVariants.{Spans, Async}
+use Rattle.span_table.specs.declared.sums.By.{By}
+use Rattle.span_table.specs.declared.sums.By.TheVariants.{SelfTime, Total, Closed, Open}
+use Rattle.span_table.specs.declared.table.Row.{Row}
+use Rattle.span_table.specs.Keys.{TableKey, key_cmp}
+use Rattle.span_table.specs.Sums.{gap, number_by, same_sums}
+use Rattle.span_table_text.specs.Shown.{Wanted, is_wanted}
+use Rattle.span_table.specs.RowSearch.{sums_at}
+
+-- a key with its sums in both
+pub record Change : Type 0 where
+  pub key : TableKey
+  pub both : Both
+
+abbrev pub compared_at : List Row → List Row → TableKey → Change
+compared_at base other key = record { key = key; both = record { base = sums_at base key; other = sums_at other key } }
+
+-- each key that a row of either has, once, in ascending order, with its sums in both
+abbrev pub compared : List Row → List Row → List Change
+compared base other = map (compared_at base other) (ascending key_cmp (map (λ (row : Row). row.key) (base ++ other)))
+
+-- those that are shown
+abbrev pub shown_changes : Wanted → List Change → List Change
+shown_changes wanted changes = filter (λ (change : Change). is_wanted wanted change.key) changes
+
+abbrev pub is_same : Both → Bool
+is_same both = same_sums both.base both.other
+
+-- some number differs
+abbrev pub is_changed : Change → Bool
+is_changed change = not (is_same change.both)
+
+-- how far a number lies apart in both
+abbrev pub gap_by : By → Change → ℕ
+gap_by by change = gap (number_by by change.both.base) (number_by by change.both.other)
+
+-- the greater gap first
+abbrev pub by_gap : By → Change → Change → Ordering
+by_gap by a b = nat_cmp (gap_by by b) (gap_by by a)
+
+-- of spans by the gap of the self times, and then of the totals; of asynchronous spans by that of the totals, then of how many are
+-- open, and then of how many are closed; and then by key
+abbrev pub usual_order : Of → Change → Change → Ordering
+usual_order Spans a b = ordering_then (by_gap SelfTime a b) (ordering_then (by_gap Total a b) (key_cmp a.key b.key))
+usual_order Async a b = ordering_then (by_gap Total a b) (ordering_then (by_gap Open a b) (ordering_then (by_gap Closed a b) (key_cmp a.key b.key)))
+
+-- by the gap of this number, and then as usual
+abbrev pub change_order : Of → By → Change → Change → Ordering
+change_order of by a b = ordering_then (by_gap by a b) (usual_order of a b)
+
+-- those of which some number differs, in this order
+abbrev pub changes_of : Of → By → List Change → List Change
+changes_of of by changes = ascending (change_order of by) (filter is_changed changes)
+
+-- how many have the same numbers in both
+abbrev pub same_count : List Change → ℕ
+same_count changes = count_by (λ (change : Change). is_same change.both) changes

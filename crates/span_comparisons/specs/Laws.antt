@@ -1,0 +1,67 @@
+-- The facts that hold of every comparison and every text of repeated runs.
+use Rattle.std.specs.Prelude.{◌≡◌, ℕ, Bool, ◌+◌, ◌-◌, ◌<◌, List, ◌++◌, codes, decimal, length, map}
+use Rattle.std.specs.List.Sorted.{IsNonDecreasing, IsPermutation}
+use Rattle.span_event.specs.declared.unit.Unit.{Unit}
+use Rattle.span_report.specs.Lines.{first_line, unit_line}
+use Rattle.span_table.specs.declared.column.Column.{Column}
+use Rattle.span_table.specs.declared.of.Of.{Of}
+use Rattle.span_table.specs.declared.sums.By.{By}
+use Rattle.span_table.specs.declared.table.Row.{Row}
+use Rattle.span_comparisons.specs.Changes.{Change, changes_of, compared, same_count, shown_changes}
+use Rattle.span_comparisons.specs.Comparison.{change_columns, compared_heads, comparison_of, difference_text, same_line}
+use Rattle.span_table_text.specs.Lines.{shown_line}
+use Rattle.span_comparisons.specs.Repeats.{repeats_of}
+use Rattle.span_table_text.specs.Shown.{Wanted, shown_rows}
+use Rattle.span_comparisons.specs.Spreads.{apart_spreads, overlap_count, same_spread_count, shown_spreads, sorted}
+use Rattle.span_table.specs.Tables.{RowsRise, SpanTable}
+
+-- between a table and itself nothing changed: below the names of the columns is how many keys are shown
+abbrev pub ComparesWithItself : Unit → By → Wanted → Bool → SpanTable → Type 0
+ComparesWithItself unit by wanted tells_runs table = let shown = length (shown_rows wanted table.rows) in
+    comparison_of unit by wanted tells_runs table table
+    ≡ first_line ++ (unit_line unit ++ (compared_heads tells_runs table.head table.head ++
+    (shown_line wanted shown (length table.rows) ++ (change_columns table.of table.columns ++ same_line shown))))
+
+-- this holds of each table, in whatever unit and order
+abbrev pub TablesCompareWithThemselves : Type 0
+TablesCompareWithThemselves = (unit : Unit) (by : By) (wanted : Wanted) (tells_runs : Bool) (table : SpanTable) → RowsRise table.rows → ComparesWithItself unit by wanted tells_runs table
+
+-- a change the other way round
+abbrev pub turned : Change → Change
+turned change = record { key = change.key; both = record { base = change.both.other; other = change.both.base } }
+
+-- the keys that are shown, with their sums in both
+abbrev pub shown_between : Wanted → List Row → List Row → List Change
+shown_between wanted base other = shown_changes wanted (compared base other)
+
+-- the other way round the same keys changed, told in the same order, and as many did not
+pub record TurnsEachChange (of : Of) (by : By) (wanted : Wanted) (base other : List Row) : Type 0 where
+  pub changes : changes_of of by (shown_between wanted other base) ≡ map turned (changes_of of by (shown_between wanted base other))
+  pub same : same_count (shown_between wanted other base) ≡ same_count (shown_between wanted base other)
+
+-- this holds of any two lists of rows, by whatever number
+abbrev pub ComparisonsTurn : Type 0
+ComparisonsTurn = (of : Of) (by : By) (wanted : Wanted) (base other : List Row) → TurnsEachChange of by wanted base other
+
+-- where one number is less than another, the difference is told with `+` to the greater and with `-` back, and is as great
+abbrev pub DifferencesTurn : Type 0
+DifferencesTurn = (m n : ℕ) → m < n → (difference_text m n ≡ codes "+" ++ decimal (n - m)) × (difference_text n m ≡ codes "-" ++ decimal (n - m))
+
+-- sorted values are these values, and none is less than the one before it
+pub record SortsValues (values : List ℕ) : Type 0 where
+  pub all : IsPermutation values (sorted values)
+  pub order : IsNonDecreasing (sorted values)
+
+-- this holds of any values
+abbrev pub ValuesAreSorted : Type 0
+ValuesAreSorted = (values : List ℕ) → SortsValues values
+
+-- each key that is shown has its line, overlaps, or is the same
+abbrev pub EachKeyIsCounted : Type 0
+EachKeyIsCounted = (by : By) (wanted : Wanted) (base other : List SpanTable) → let shown = shown_spreads by wanted base other in
+    length (apart_spreads shown) + (overlap_count shown + same_spread_count shown) ≡ length shown
+
+-- the text of repeated runs is the same for the repetitions of a side in whatever order
+abbrev pub RepetitionsHaveNoOrder : Type 0
+RepetitionsHaveNoOrder = (unit : Unit) (by : By) (wanted : Wanted) (columns : List Column) (base other moved_base moved_other : List SpanTable) →
+    IsPermutation base moved_base → IsPermutation other moved_other → repeats_of unit by wanted columns base other ≡ repeats_of unit by wanted columns moved_base moved_other

@@ -1,0 +1,10 @@
+pub mod Changed
+pub mod Changes
+pub mod Comparison
+pub mod JsonChanges
+pub mod JsonPieces
+pub mod Laws
+pub mod Pieces
+pub mod Repeats
+pub mod Sides
+pub mod Spreads

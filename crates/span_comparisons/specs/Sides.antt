@@ -1,0 +1,15 @@
+-- What is known of a side of repeated runs while its keys are looked up.
+use Rattle.std.specs.Prelude.{◌≡◌, ℕ, List, filter}
+use Rattle.span_comparisons.specs.Spreads.{Spreads, is_apart, overlap_count, same_spread_count}
+use Rattle.span_table.specs.Tables.{SpanTable}
+
+-- the tables of a side, and the values that were found last
+pub record SideValues : Type 0 where
+  pub tables : List SpanTable
+  pub values : List ℕ
+
+-- what is told of so many keys: those whose sides are apart, how many overlap, and how many are spread the same
+pub record TellsSpreads (spreads told : List Spreads) (overlap same : ℕ) : Type 0 where
+  pub apart : told ≡ filter is_apart spreads
+  pub overlaps : overlap ≡ overlap_count spreads
+  pub sames : same ≡ same_spread_count spreads

@@ -1,0 +1,237 @@
+//! What changed between two tables of the same columns.
+ghost use Rattle.std.specs.Prelude.{◌≡◌, ◌++◌, ◌∷◌, [], ◌<◌, ◌≤◌, ◌+◌, ◌-◌, ◌^◌, List, length, IfOk, OnOk};
+ghost use Rattle.span_comparisons.specs.Changed.{Tells, base_keys, new_key, new_keys};
+ghost use Rattle.span_comparisons.specs.Changes.{Change, by_gap, change_order, changes_of, compared, gap_by, is_changed, same_count, shown_changes, usual_order};
+ghost use Rattle.span_table.specs.Tables.{RowsRise};
+
+use span_table::{By, Key, Of, Row, Sum, Sums, row_at, sums_at};
+use span_table_text::Shown;
+use std::alloc::{AllocError, Global};
+use std::cmp::Ordering;
+use std::marker::Model;
+
+/// The sums of a key in both of two runs.
+#[derive(Clone, Copy)]
+pub struct Both {
+    pub base: Sums,
+    pub other: Sums,
+}
+
+/// A key with its sums in both.
+#[derive(Drop)]
+pub(crate) struct Changed<'a> {
+    pub(crate) key: &'a Key,
+    pub(crate) both: Both,
+}
+
+impl<'a> Model for Changed<'a> {
+    ghost use Rattle.span_comparisons.specs.Changes.{Change};
+
+    ghost Value = { Change };
+
+    ghost view = { λ c. record { key = c.key.now; both = c.both } };
+}
+
+impl<'a> Changed<'a> {
+    fn is_changed(&self) -> bool
+        ensures { result ≡ is_changed self.now }
+    {
+        !self.both.base.equals(&self.both.other)
+    }
+
+    fn gap(&self, by: By) -> Sum
+        ensures { result ≡ gap_by by self.now }
+    {
+        self.both.base.by(by).gap(&self.both.other.by(by))
+    }
+
+    // Which of two comes first.
+    fn compare(&self, other: &Changed<'a>, of: Of, by: By) -> Ordering
+        ensures { result ≡ change_order of by self.now other.now }
+    {
+        let usual = self.usual_order(other, of);
+        self.by_gap(other, by).then(usual)
+    }
+
+    // Which of two comes first where no number is named.
+    fn usual_order(&self, other: &Changed<'a>, of: Of) -> Ordering
+        ensures { result ≡ usual_order of self.now other.now }
+    {
+        let by_key = self.key.cmp(other.key);
+        match of {
+            Of::Spans => {
+                let by_total = self.by_gap(other, By::Total).then(by_key);
+                self.by_gap(other, By::SelfTime).then(by_total)
+            }
+            Of::Async => {
+                let by_closed = self.by_gap(other, By::Closed).then(by_key);
+                let by_open = self.by_gap(other, By::Open).then(by_closed);
+                self.by_gap(other, By::Total).then(by_open)
+            }
+        }
+    }
+
+    // Which of two comes first by how far a number lies apart.
+    fn by_gap(&self, other: &Changed<'a>, by: By) -> Ordering
+        ensures { result ≡ by_gap by self.now other.now }
+    {
+        other.gap(by).compare(&self.gap(by))
+    }
+}
+
+/// Two tables, compared: the keys that are shown and of which a number differs, how many others of these there are, and how many
+/// keys are shown and how many there are.
+#[derive(Drop)]
+pub(crate) struct ComparedTables<'a> {
+    pub(crate) changes: Vec<Changed<'a>>,
+    pub(crate) same: u128,
+    pub(crate) shown: u128,
+    pub(crate) all: u128,
+}
+
+// What is told of the keys so far.
+#[derive(Drop)]
+struct Told<'a> {
+    changes: Vec<Changed<'a>>,
+    same: u128,
+    all: u128,
+}
+
+/// What changed from the base to the other, the greatest change of a number first.
+pub(crate) fn differences<'a>(
+    alloc: Global,
+    of: Of,
+    base: &'a [Row],
+    other: &'a [Row],
+    shown: &Shown,
+    by: By,
+) -> Result<ComparedTables<'a>, AllocError>
+    requires base { RowsRise base.now }
+    requires other { RowsRise other.now }
+    ensures changes { IfOk result (λ found. found.changes.items
+        ≡ changes_of of by (shown_changes shown.now (compared base.now other.now))) }
+    ensures same { IfOk result (λ found. found.same
+        ≡ same_count (shown_changes shown.now (compared base.now other.now))) }
+    ensures shown { IfOk result (λ found. found.shown
+        ≡ length (shown_changes shown.now (compared base.now other.now))) }
+    ensures all { IfOk result (λ found. found.all ≡ length (compared base.now other.now)) }
+{
+    let mut found = Told {
+        changes: Vec::new(alloc),
+        same: 0,
+        all: 0,
+    };
+    tell_base(&mut found, base, other, shown)?;
+    tell_new(&mut found, base, other, shown)?;
+    let Told {
+        mut changes,
+        same,
+        all,
+    } = found;
+    let shown = changes.len() as u128 + same;
+    changes.sort_unstable_by(|a, b| a.compare(b, of, by));
+    Ok(ComparedTables {
+        changes,
+        same,
+        shown,
+        all,
+    })
+}
+
+// Tells of each key of the base.
+fn tell_base<'a>(
+    found: &mut Told<'a>,
+    base: &'a [Row],
+    other: &[Row],
+    shown: &Shown,
+) -> Result<(), AllocError>
+    requires base { RowsRise base.now }
+    requires other { RowsRise other.now }
+    requires nothing { Tells shown.now [] found.old.changes.items found.old.same found.old.all }
+    ensures told { OnOk result (Tells shown.now (base_keys base.now other.now)
+        found.new.changes.items found.new.same found.new.all) }
+    ensures few { OnOk result (found.new.all < 2 ^ 64) }
+{
+    let mut place = 0;
+    for row in base {
+        let both = Both {
+            base: row.sums,
+            other: sums_at(other, &mut place, &row.key),
+        };
+        let key = &row.key;
+        tell(found, Changed { key, both }, shown)?;
+    }
+    Ok(())
+}
+
+// Tells of each key of the other that the base lacks.
+fn tell_new<'a>(
+    found: &mut Told<'a>,
+    base: &[Row],
+    other: &'a [Row],
+    shown: &Shown,
+) -> Result<(), AllocError>
+    requires base { RowsRise base.now }
+    requires other { RowsRise other.now }
+    requires told { Tells shown.now (base_keys base.now other.now)
+        found.old.changes.items found.old.same found.old.all }
+    requires few { found.old.all < 2 ^ 64 }
+    ensures told { OnOk result (Tells shown.now
+        (base_keys base.now other.now ++ new_keys base.now other.now)
+        found.new.changes.items found.new.same found.new.all) }
+    ensures few { OnOk result (found.new.all < 2 ^ 65) }
+{
+    let mut place = 0;
+    for row in other {
+        tell_if_new(found, base, &mut place, row, shown)?;
+    }
+    Ok(())
+}
+
+fn tell_if_new<'a>(
+    found: &mut Told<'a>,
+    base: &[Row],
+    place: &mut usize,
+    row: &'a Row,
+    shown: &Shown,
+) -> Result<(), AllocError>
+    requires base { RowsRise base.now }
+    requires same { found.old.same < 2 ^ 128 - 1 }
+    requires all { found.old.all < 2 ^ 128 - 1 }
+    ensures few { OnOk result (found.new.all ≤ found.old.all + 1) }
+    ensures told { OnOk result ((keys : List Change)
+        → Tells shown.now keys found.old.changes.items found.old.same found.old.all
+        → Tells shown.now (keys ++ new_key base.now row.now)
+        found.new.changes.items found.new.same found.new.all) }
+{
+    if row_at(base, place, &row.key).is_some() {
+        return Ok(());
+    }
+    let both = Both {
+        base: Sums::of_none(),
+        other: row.sums,
+    };
+    let key = &row.key;
+    tell(found, Changed { key, both }, shown)
+}
+
+fn tell<'a>(found: &mut Told<'a>, changed: Changed<'a>, shown: &Shown) -> Result<(), AllocError>
+    requires same { found.old.same < 2 ^ 128 - 1 }
+    requires all { found.old.all < 2 ^ 128 - 1 }
+    ensures few { OnOk result (found.new.all ≤ found.old.all + 1) }
+    ensures told { OnOk result ((keys : List Change)
+        → Tells shown.now keys found.old.changes.items found.old.same found.old.all
+        → Tells shown.now (keys ++ changed.entry ∷ [])
+        found.new.changes.items found.new.same found.new.all) }
+{
+    found.all += 1;
+    if !shown.has(changed.key) {
+        return Ok(());
+    }
+    if changed.is_changed() {
+        found.changes.push(changed)?;
+    } else {
+        found.same += 1;
+    }
+    Ok(())
+}

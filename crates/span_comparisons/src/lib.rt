@@ -1,0 +1,18 @@
+//! What differs between two tables, or between repeated runs of two sides, and the texts that tell it.
+#![tactic(auto)]
+
+mod changes;
+mod comparisons;
+mod json_changes;
+mod json_repetitions;
+pub mod laws;
+mod repeated;
+mod repetitions;
+mod sides;
+mod spreads;
+
+pub use changes::Both;
+pub use comparisons::comparison;
+pub use json_changes::json_comparison;
+pub use json_repetitions::json_repeats;
+pub use repetitions::repeats;

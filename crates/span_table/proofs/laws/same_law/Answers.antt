@@ -1,5 +1,0 @@
-use Rattle.span_table.proofs.Itself.{comparison_of-itself}
-use Rattle.span_table.proofs.laws.same_law.Goals as goal
-
-pub returns : goal.returns
-returns c = comparison_of-itself

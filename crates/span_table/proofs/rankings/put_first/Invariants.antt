@@ -1,7 +1,0 @@
-use Rattle.std.proofs.Common.{◌≡◌, ◌++◌, string_bytes, take, flat_map}
-use Rattle.span_table.specs.Ranking.{ranked_line}
-use Rattle.span_table.proofs.rankings.put_first.Given as goal
-
--- the lines of those so far
-abbrev pub invariant-loop-ranked : goal.invariant-loop-ranked
-invariant-loop-ranked l = string_bytes l.out ≡ string_bytes l.fn.out ++ flat_map (ranked_line l.of) (take l.ranked-index l.ranked-items)

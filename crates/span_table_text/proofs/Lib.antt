@@ -1,0 +1,8 @@
+pub mod JsonPieces
+pub mod PartsTold
+pub mod Pieces
+pub mod Printed
+pub mod PrintedLines
+pub mod Ranked
+pub mod RunTables
+pub mod Substrings

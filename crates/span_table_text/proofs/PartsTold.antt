@@ -1,0 +1,302 @@
+-- Two tables that are printed alike are the same.
+use Rattle.std.proofs.Common.{◌≡◌, ◌≢◌, ℕ, ◌^◌, ◌<◌, ◌==◌, cond, true, List, [], ◌∷◌, ◌++◌, All, drop, flat_map, get_or, length, map, refl, sym, ap, subst, ◌∙◌, Some, None, append_assoc, arith, codes}
+use Rattle.std.proofs.lemmas.Fmt.{decimal_injective, signed_decimal_injective}
+use Rattle.std.proofs.lemmas.List.Elements.{All-head, All-tail, All-weaker}
+use Rattle.json.specs.Lex.{tokens}
+use Rattle.json.specs.Print.{print}
+use Rattle.json.specs.Token.{Token, end_array, end_object, key}
+use Rattle.span_event.specs.declared.args.ArgValue.{ArgValue}
+use Rattle.span_event.specs.declared.args.ArgValue.TheVariants.{Nil, Flag, Whole, Words, Other}
+use Rattle.span_event.specs.Text.{Bytes}
+use Rattle.span_event.specs.declared.unit.Unit.{Unit}
+use Rattle.span_event.specs.declared.unit.Unit.TheVariants.{Microseconds, Nanoseconds}
+use Rattle.span_table.specs.declared.column.Column.{Column}
+use Rattle.span_table.specs.declared.column.Column.TheVariants.{Pid, Tid, Process, Thread, Name, File, Cat, Scope, Id, Argument}
+use Rattle.span_table.specs.declared.heads.Head.{Head}
+use Rattle.span_table.specs.declared.of.Of.{Of}
+use Rattle.span_table.specs.declared.of.Of.TheVariants.{Spans, Async}
+use Rattle.span_table.specs.declared.sums.Sums.{Sums}
+use Rattle.span_table.specs.declared.table.Row.{Row}
+use Rattle.span_table.specs.Columns.{column_name}
+use Rattle.span_table.specs.Heads.{head_fits}
+use Rattle.span_table.specs.Sums.{fit}
+use Rattle.span_table_text.specs.Json.{json_line, text_of}
+use Rattle.span_table.specs.Keys.{TableKey}
+use Rattle.span_table_text.specs.Printed.{AllFit, AreDistinct, HasOwn, IsOfArgument, IsPart, IsPrint, IsRowOf, IsTable, PartsAreTold}
+use Rattle.span_table.specs.Tables.{SpanTable}
+use Rattle.span_table_text.specs.Tokens.{columns_tokens, head_tokens, key_tokens, name_tokens, numbers_tokens, of_tokens, row_tokens, sums_tokens, unit_tokens, value_tokens}
+use Rattle.span_table_text.proofs.Printed.{json_head-print, json_line-print}
+use Rattle.span_table.proofs.Summing.{sums_small}
+use Rattle.span_table_text.proofs.PrintedLines.{AreSmall, IsLine, IsRowOf-told, IsTold, IsToldKey, head_small, numbers_fit-each, print_head-IsLine, print_row-IsLine, tokens-head, tokens-row}
+
+-- two texts are the same if their first lines are, and what follows these
+line-told : (a b r s : Bytes) → IsLine a → IsLine b → a ++ 10 ∷ r ≡ b ++ 10 ∷ s → (a ≡ b) × (r ≡ s)
+line-told [] [] r s h k e = (refl, ap (drop 1) e)
+line-told [] (y ∷ b) r s h k e = absurd (k.0 (sym (ap (λ l. get_or l 0 0) e)))
+line-told (x ∷ a) [] r s h k e = absurd (h.0 (ap (λ l. get_or l 0 0) e))
+line-told (x ∷ a) (y ∷ b) r s h k e =
+    let same : x ≡ y = ap (λ l. get_or l 0 0) e in
+    let rest = line-told a b r s h.1 k.1 (ap (drop 1) e) in
+    (λ i. same i ∷ rest.0 i, rest.1)
+
+-- the column that is called so
+column_called : Bytes → Column
+column_called name =
+    cond (get_or name 0 0 == 97) (Argument (drop 5 name))
+    (cond (get_or name 0 0 == 99) Cat
+    (cond (get_or name 0 0 == 102) File
+    (cond (get_or name 0 0 == 105) Id
+    (cond (get_or name 0 0 == 110) Name
+    (cond (get_or name 0 0 == 112) (cond (get_or name 1 0 == 105) Pid Process)
+    (cond (get_or name 0 0 == 115) Scope (cond (get_or name 1 0 == 105) Tid Thread)))))))
+
+column_called-name : (column : Column) → column_called (column_name column) ≡ column
+unfolding column_called
+column_called-name Pid = refl
+column_called-name Tid = refl
+column_called-name Process = refl
+column_called-name Thread = refl
+column_called-name Name = refl
+column_called-name File = refl
+column_called-name Cat = refl
+column_called-name Scope = refl
+column_called-name Id = refl
+column_called-name (Argument name) = refl
+
+-- two columns with the same name are the same
+pub column_name-injective : (column other : Column) → column_name column ≡ column_name other → column ≡ other
+column_name-injective column other e = sym (column_called-name column) ∙ ap column_called e ∙ column_called-name other
+
+-- how the first number of a row is called
+abbrev pub first_number : Of → Bytes
+first_number Spans = codes "count"
+first_number Async = codes "closed"
+
+-- no column is called so: none begins with `co` or `cl`
+pub column_name-not_first_number : (of : Of) (column : Column) → column_name column ≢ first_number of
+column_name-not_first_number Spans Pid e = omega (arith, ap (λ l. get_or l 0 0) e)
+column_name-not_first_number Spans Tid e = omega (arith, ap (λ l. get_or l 0 0) e)
+column_name-not_first_number Spans Process e = omega (arith, ap (λ l. get_or l 0 0) e)
+column_name-not_first_number Spans Thread e = omega (arith, ap (λ l. get_or l 0 0) e)
+column_name-not_first_number Spans Name e = omega (arith, ap (λ l. get_or l 0 0) e)
+column_name-not_first_number Spans File e = omega (arith, ap (λ l. get_or l 0 0) e)
+column_name-not_first_number Spans Cat e = omega (arith, ap (λ l. get_or l 1 0) e)
+column_name-not_first_number Spans Scope e = omega (arith, ap (λ l. get_or l 0 0) e)
+column_name-not_first_number Spans Id e = omega (arith, ap (λ l. get_or l 0 0) e)
+column_name-not_first_number Spans (Argument name) e = omega (arith, ap (λ l. get_or l 0 0) e)
+column_name-not_first_number Async Pid e = omega (arith, ap (λ l. get_or l 0 0) e)
+column_name-not_first_number Async Tid e = omega (arith, ap (λ l. get_or l 0 0) e)
+column_name-not_first_number Async Process e = omega (arith, ap (λ l. get_or l 0 0) e)
+column_name-not_first_number Async Thread e = omega (arith, ap (λ l. get_or l 0 0) e)
+column_name-not_first_number Async Name e = omega (arith, ap (λ l. get_or l 0 0) e)
+column_name-not_first_number Async File e = omega (arith, ap (λ l. get_or l 0 0) e)
+column_name-not_first_number Async Cat e = omega (arith, ap (λ l. get_or l 1 0) e)
+column_name-not_first_number Async Scope e = omega (arith, ap (λ l. get_or l 0 0) e)
+column_name-not_first_number Async Id e = omega (arith, ap (λ l. get_or l 0 0) e)
+column_name-not_first_number Async (Argument name) e = omega (arith, ap (λ l. get_or l 0 0) e)
+
+names-told : (columns others : List Column) (ts us : List Token) → name_tokens columns ++ end_array ∷ ts ≡ name_tokens others ++ end_array ∷ us → (columns ≡ others) × (ts ≡ us)
+names-told [] [] ts us e = (refl, ap (drop 1) e)
+names-told [] (other ∷ others) ts us e = absurd (cc e)
+names-told (column ∷ columns) [] ts us e = absurd (cc e)
+names-told (column ∷ columns) (other ∷ others) ts us e =
+    let called : column_name column ≡ column_name other = cc e in
+    let same = column_name-injective column other called in
+    let rest = names-told columns others ts us (ap (drop 1) e) in
+    (λ i. same i ∷ rest.0 i, rest.1)
+
+value-told : (value second : ArgValue) (ts us : List Token) → IsOfArgument (Some value) → IsOfArgument (Some second) → value_tokens value ++ ts ≡ value_tokens second ++ us → (value ≡ second) × (ts ≡ us)
+value-told Nil Nil ts us h k e = (refl, ap (drop 1) e)
+value-told (Flag flag) (Flag other) ts us h k e = let same : flag ≡ other = cc e in (ap Flag same, ap (drop 1) e)
+value-told (Whole whole) (Whole other) ts us h k e = (ap Whole (signed_decimal_injective whole other h.sfits k.sfits (cc e)), ap (drop 1) e)
+value-told (Words text) (Words other) ts us h k e = let same : text ≡ other = cc e in (ap Words same, ap (drop 1) e)
+value-told Other Other ts us h k e = (refl, ap (drop 2) e)
+value-told value second ts us h k e = absurd (cc e)
+
+-- where a column that none of these is has a value, it stands first
+missing-told : (first : Bytes) (columns : List Column) (values : TableKey) (name : Bytes) (ts us : List Token) → All (λ other. name ≢ other) (map column_name columns) → name ≢ first
+    → key_tokens columns values ++ key first ∷ ts ≡ key name ∷ us → ⊥
+missing-told first [] values name ts us h k e = k (let same : name ≡ first = cc e in same)
+missing-told first (column ∷ columns) [] name ts us h k e = k (let same : name ≡ first = cc e in same)
+missing-told first (column ∷ columns) (None ∷ values) name ts us h k e = missing-told first columns values name ts us (All-tail (λ other. name ≢ other) (column_name column) (map column_name columns) h) k e
+missing-told first (column ∷ columns) (Some value ∷ values) name ts us h k e =
+    All-head (λ other. name ≢ other) (column_name column) (map column_name columns) h (let same : name ≡ column_name column = cc e in same)
+
+key-told : (of : Of) (columns : List Column) (values others : TableKey) (ts us : List Token) → AreDistinct (map column_name columns) → IsToldKey columns values → IsToldKey columns others
+    → key_tokens columns values ++ key (first_number of) ∷ ts ≡ key_tokens columns others ++ key (first_number of) ∷ us → (values ≡ others) × (ts ≡ us)
+key-told of [] [] [] ts us d h k e = (refl, ap (drop 1) e)
+key-told of [] [] (other ∷ others) ts us d h k e = absurd (omega (arith, k.0))
+key-told of [] (value ∷ values) others ts us d h k e = absurd (omega (arith, h.0))
+key-told of (column ∷ columns) [] others ts us d h k e = absurd (omega (arith, h.0))
+key-told of (column ∷ columns) (value ∷ values) [] ts us d h k e = absurd (omega (arith, k.0))
+key-told of (column ∷ columns) (None ∷ values) (None ∷ others) ts us d h k e =
+    let rest = key-told of columns values others ts us d.1 (omega (arith, h.0), h.1.1) (omega (arith, k.0), k.1.1) e in
+    (λ i. None ∷ rest.0 i, rest.1)
+key-told of (column ∷ columns) (None ∷ values) (Some second ∷ others) ts us d h k e = absurd (missing-told (first_number of) columns values (column_name column) ts _ d.0 (column_name-not_first_number of column) e)
+key-told of (column ∷ columns) (Some value ∷ values) (None ∷ others) ts us d h k e = absurd (missing-told (first_number of) columns others (column_name column) us _ d.0 (column_name-not_first_number of column) (sym e))
+key-told of (column ∷ columns) (Some value ∷ values) (Some second ∷ others) ts us d h k e =
+    let there = append_assoc (value_tokens value) (key_tokens columns values) (key (first_number of) ∷ ts) in
+    let back = append_assoc (value_tokens second) (key_tokens columns others) (key (first_number of) ∷ us) in
+    let same = value-told value second (key_tokens columns values ++ key (first_number of) ∷ ts) (key_tokens columns others ++ key (first_number of) ∷ us) h.1.0 k.1.0 (sym there ∙ ap (drop 1) e ∙ back) in
+    let rest = key-told of columns values others ts us d.1 (omega (arith, h.0), h.1.1) (omega (arith, k.0), k.1.1) same.1 in
+    (λ i. Some (same.0 i) ∷ rest.0 i, rest.1)
+
+sums-told : (of : Of) (sums others : Sums) → HasOwn of sums → HasOwn of others → fit sums ≡ true → fit others ≡ true
+    → sums_tokens of sums ++ end_object ∷ [] ≡ sums_tokens of others ++ end_object ∷ [] → sums ≡ others
+sums-told Async sums others own its h k e =
+    let a = sums_small sums h in
+    let b = sums_small others k in
+    let count : sums.count ≡ others.count = decimal_injective sums.count others.count a.0 b.0 (cc e) in
+    let total : sums.total ≡ others.total = decimal_injective sums.total others.total a.1 b.1 (cc e) in
+    let unclosed : sums.unclosed ≡ others.unclosed = decimal_injective sums.unclosed others.unclosed a.3 b.3 (cc e) in
+    let points : sums.points ≡ others.points = decimal_injective sums.points others.points a.4 b.4 (cc e) in
+    let self : sums.self_time ≡ others.self_time = own ∙ sym its in
+    λ i. record { count = count i; total = total i; self_time = self i; unclosed = unclosed i; points = points i }
+sums-told Spans sums others own its h k e =
+    let a = sums_small sums h in
+    let b = sums_small others k in
+    let count : sums.count ≡ others.count = decimal_injective sums.count others.count a.0 b.0 (cc e) in
+    let total : sums.total ≡ others.total = decimal_injective sums.total others.total a.1 b.1 (cc e) in
+    let self : sums.self_time ≡ others.self_time = decimal_injective sums.self_time others.self_time a.2 b.2 (cc e) in
+    let unclosed : sums.unclosed ≡ others.unclosed = own.0 ∙ sym its.0 in
+    let points : sums.points ≡ others.points = own.1 ∙ sym its.1 in
+    λ i. record { count = count i; total = total i; self_time = self i; unclosed = unclosed i; points = points i }
+
+-- the numbers of a row behind the name of the first
+later_numbers : Of → Sums → List Token
+later_numbers of sums = drop 1 (sums_tokens of sums ++ end_object ∷ [])
+
+sums-first : (of : Of) (sums : Sums) → sums_tokens of sums ++ end_object ∷ [] ≡ key (first_number of) ∷ later_numbers of sums
+unfolding later_numbers
+sums-first Spans sums = refl
+sums-first Async sums = refl
+
+row-told : (of : Of) (columns : List Column) (row other : Row) → AreDistinct (map column_name columns) → IsTold of columns row → IsTold of columns other
+    → row_tokens of columns row ≡ row_tokens of columns other → row ≡ other
+row-told of columns row other d h k e =
+    let mine = ap (λ l. key_tokens columns row.key ++ l) (sums-first of row.sums) in
+    let its = ap (λ l. key_tokens columns other.key ++ l) (sums-first of other.sums) in
+    let same = key-told of columns row.key other.key (later_numbers of row.sums) (later_numbers of other.sums) d h.key k.key (sym mine ∙ ap (drop 1) e ∙ its) in
+    let sums = sums-told of row.sums other.sums h.own k.own h.sums k.sums (sums-first of row.sums ∙ ap (λ l. key (first_number of) ∷ l) same.1 ∙ sym (sums-first of other.sums)) in
+    λ i. record { key = same.0 i; sums = sums i }
+
+-- a line of a row, and what follows it
+row-first : (of : Of) (columns : List Column) (row : Row) (rest : Bytes) → json_line of columns row ++ rest ≡ print (row_tokens of columns row) ++ 10 ∷ rest
+row-first of columns row rest = ap (λ l. l ++ rest) (json_line-print of columns row) ∙ append_assoc (print (row_tokens of columns row)) (10 ∷ []) rest
+
+rows-told : (of : Of) (columns : List Column) (rows others : List Row) → AreDistinct (map column_name columns) → All (IsTold of columns) rows → All (IsTold of columns) others → length rows ≡ length others
+    → flat_map (json_line of columns) rows ≡ flat_map (json_line of columns) others → rows ≡ others
+rows-told of columns [] [] d h k l e = refl
+rows-told of columns [] (other ∷ others) d h k l e = absurd (omega arith)
+rows-told of columns (row ∷ rows) [] d h k l e = absurd (omega arith)
+rows-told of columns (row ∷ rows) (other ∷ others) d h k l e =
+    let is = All-head (IsTold of columns) row rows h in
+    let its = All-head (IsTold of columns) other others k in
+    let more = flat_map (json_line of columns) rows in
+    let rest = flat_map (json_line of columns) others in
+    let lines = line-told (print (row_tokens of columns row)) (print (row_tokens of columns other)) more rest (print_row-IsLine of columns row is) (print_row-IsLine of columns other its)
+    (sym (row-first of columns row more) ∙ e ∙ row-first of columns other rest) in
+    let same = row-told of columns row other d is its (sym (tokens-row of columns row is) ∙ ap tokens lines.0 ∙ tokens-row of columns other its) in
+    let all = rows-told of columns rows others d (All-tail (IsTold of columns) row rows h) (All-tail (IsTold of columns) other others k) (omega arith) lines.1 in
+    λ i. same i ∷ all i
+
+-- rows of columns that are the same, of what is the same
+rows-with : (of second : Of) (columns more : List Column) (rows others : List Row) → of ≡ second → columns ≡ more → AreDistinct (map column_name columns) → All (IsTold of columns) rows
+    → All (IsTold second more) others → length rows ≡ length others → flat_map (json_line of columns) rows ≡ flat_map (json_line second more) others → rows ≡ others
+rows-with of second columns more rows others o p d h k l e =
+    let told = subst (λ c. All (IsTold of c) others) (sym p) (subst (λ s. All (IsTold s more) others) (sym o) k) in
+    rows-told of columns rows others d h told l (e ∙ (λ i. flat_map (json_line (sym o i) (sym p i)) others))
+
+numbers-told : (rows more : ℕ) (head other : Head) → rows < 2 ^ 64 → more < 2 ^ 64 → AreSmall head → AreSmall other
+    → numbers_tokens rows head ++ end_object ∷ [] ≡ numbers_tokens more other ++ end_object ∷ [] → (rows ≡ more) × (head ≡ other)
+numbers-told rows more head other few little small low e =
+    let count : rows ≡ more = decimal_injective rows more few little (cc e) in
+    let runs : head.runs ≡ other.runs = decimal_injective _ _ small.runs low.runs (cc e) in
+    let files : head.files ≡ other.files = decimal_injective _ _ small.files low.files (cc e) in
+    let unread : head.unread ≡ other.unread = decimal_injective _ _ small.unread low.unread (cc e) in
+    let accepted : head.counts.accepted ≡ other.counts.accepted = decimal_injective _ _ small.accepted low.accepted (cc e) in
+    let refused : head.counts.refused ≡ other.counts.refused = decimal_injective _ _ small.refused low.refused (cc e) in
+    let skipped : head.counts.skipped ≡ other.counts.skipped = decimal_injective _ _ small.skipped low.skipped (cc e) in
+    let queries : head.counts.queries ≡ other.counts.queries = decimal_injective _ _ small.queries low.queries (cc e) in
+    let seals : head.counts.seals ≡ other.counts.seals = decimal_injective _ _ small.seals low.seals (cc e) in (
+      count,
+      λ i. record {
+        runs = runs i;
+        files = files i;
+        unread = unread i;
+        counts = record { accepted = accepted i; refused = refused i; skipped = skipped i; queries = queries i; seals = seals i };
+      },
+    )
+
+of-told : (of second : Of) (unit more : Unit) (ts us : List Token) → of_tokens of ++ (unit_tokens unit ++ key (codes "columns") ∷ ts) ≡ of_tokens second ++ (unit_tokens more ++ key (codes "columns") ∷ us)
+    → (of ≡ second) × (unit_tokens unit ++ key (codes "columns") ∷ ts ≡ unit_tokens more ++ key (codes "columns") ∷ us)
+of-told Spans Spans unit more ts us e = (refl, e)
+of-told Async Async unit more ts us e = (refl, ap (drop 2) e)
+of-told Spans Async Microseconds more ts us e = let same : codes "columns" ≡ codes "of" = cc e in absurd (omega (arith, ap (λ l. get_or l 0 0) same))
+of-told Spans Async Nanoseconds more ts us e = let same : codes "unit" ≡ codes "of" = cc e in absurd (omega (arith, ap (λ l. get_or l 0 0) same))
+of-told Async Spans unit Microseconds ts us e = let same : codes "of" ≡ codes "columns" = cc e in absurd (omega (arith, ap (λ l. get_or l 0 0) same))
+of-told Async Spans unit Nanoseconds ts us e = let same : codes "of" ≡ codes "unit" = cc e in absurd (omega (arith, ap (λ l. get_or l 0 0) same))
+
+unit-told : (unit second : Unit) (ts us : List Token) → unit_tokens unit ++ key (codes "columns") ∷ ts ≡ unit_tokens second ++ key (codes "columns") ∷ us → (unit ≡ second) × (ts ≡ us)
+unit-told Microseconds Microseconds ts us e = (refl, ap (drop 1) e)
+unit-told Microseconds Nanoseconds ts us e = let same : codes "columns" ≡ codes "unit" = cc e in absurd (omega (arith, ap (λ l. get_or l 0 0) same))
+unit-told Nanoseconds Microseconds ts us e = let same : codes "unit" ≡ codes "columns" = cc e in absurd (omega (arith, ap (λ l. get_or l 0 0) same))
+unit-told Nanoseconds Nanoseconds ts us e = (refl, ap (drop 3) e)
+
+-- the first line, and what follows it
+head-first : (unit : Unit) (table : SpanTable) → text_of unit table ≡ print (head_tokens table.of unit table.columns (length table.rows) table.head) ++ 10 ∷ flat_map (json_line table.of table.columns) table.rows
+head-first unit table =
+    let rest = flat_map (json_line table.of table.columns) table.rows in
+    ap (λ l. l ++ rest) (json_head-print table.of unit table.columns (length table.rows) table.head)
+    ∙ append_assoc (print (head_tokens table.of unit table.columns (length table.rows) table.head)) (10 ∷ []) rest
+
+-- a table that its text tells
+record IsToldTable (table : SpanTable) : Type 0 where
+  pub head : head_fits table.head ≡ true
+  pub few : length table.rows < 2 ^ 64
+  pub rows : All (IsTold table.of table.columns) table.rows
+
+tables-told : (unit second : Unit) (one other : SpanTable) → AreDistinct (map column_name one.columns) → IsToldTable one → IsToldTable other
+    → text_of unit one ≡ text_of second other → (unit ≡ second) × (one ≡ other)
+tables-told unit second one other distinct is its e =
+    let many = length one.rows in
+    let more = length other.rows in
+    let lines = line-told (print (head_tokens one.of unit one.columns many one.head)) (print (head_tokens other.of second other.columns more other.head))
+    (flat_map (json_line one.of one.columns) one.rows) (flat_map (json_line other.of other.columns) other.rows)
+    (print_head-IsLine one.of unit one.columns many one.head is.few is.head) (print_head-IsLine other.of second other.columns more other.head its.few its.head)
+    (sym (head-first unit one) ∙ e ∙ head-first second other) in
+    let heads = sym (tokens-head one.of unit one.columns many one.head is.few is.head) ∙ ap tokens lines.0 ∙ tokens-head other.of second other.columns more other.head its.few its.head in
+    let mine = drop 1 (columns_tokens one.columns many one.head) in
+    let theirs = drop 1 (columns_tokens other.columns more other.head) in
+    let kinds = of-told one.of other.of unit second mine theirs (ap (drop 3) heads) in
+    let units = unit-told unit second mine theirs kinds.1 in
+    let columns = names-told one.columns other.columns (numbers_tokens many one.head ++ end_object ∷ []) (numbers_tokens more other.head ++ end_object ∷ []) (ap (drop 1) units.1) in
+    let numbers = numbers-told many more one.head other.head is.few its.few (head_small one.head is.head) (head_small other.head its.head) columns.1 in
+    let rows = rows-with one.of other.of one.columns other.columns one.rows other.rows kinds.0 columns.0 distinct is.rows its.rows numbers.0 lines.1 in
+    (units.0, λ i. record { of = kinds.0 i; columns = columns.0 i; head = numbers.1 i; rows = rows i })
+
+part-told : (table : SpanTable) → IsTable table → IsToldTable table
+part-told table is = record { head = is.head; few = is.few; rows = All-weaker (IsRowOf table.of table.columns) (IsTold table.of table.columns) (IsRowOf-told table.of table.columns) table.rows is.rows }
+
+-- each key of the table has a value for each column
+abbrev pub HasWholeKeys : SpanTable → Type 0
+HasWholeKeys table = All (λ row. length row.key ≡ length table.columns) table.rows
+
+-- each row has no number that what is summed doesn't have
+abbrev pub HasOwnNumbers : SpanTable → Type 0
+HasOwnNumbers table = All (λ row. HasOwn table.of row.sums) table.rows
+
+print-told : (table : SpanTable) → AllFit table → HasWholeKeys table → HasOwnNumbers table → IsToldTable table
+print-told table fits whole own =
+    let numbers = numbers_fit-each table fits.numbers in
+    record { head = numbers.0; few = fits.few; rows = λ k d low. record { key = (whole k d low, fits.keys k d low); own = own k d low; sums = numbers.1 k d low } }
+
+-- a table that was read of the text that is printed of another is this one
+pub prints-told : (unit second : Unit) (text : Bytes) (part table : SpanTable) → IsPart unit text part → IsPrint second text table → HasWholeKeys table → HasOwnNumbers table → (unit ≡ second) × (part ≡ table)
+prints-told unit second text part table is print whole own =
+    tables-told unit second part table is.is.columns.distinct (part-told part is.is) (print-told table print.fits whole own) (sym is.printed ∙ print.printed)
+
+-- a text is that of one table, in one unit
+pub parts-told : PartsAreTold
+parts-told unit second text one other is its =
+    tables-told unit second one other is.is.columns.distinct (part-told one is.is) (part-told other its.is) (sym is.printed ∙ its.printed)

@@ -1,0 +1,331 @@
+-- The tokens of the lines of a table are read back, and no line feed stands in such a line.
+use Rattle.std.proofs.Common.{◌≡◌, ◌≢◌, ℕ, ℤ, pos, negsuc, suc, ◌+◌, ◌/◌, ◌%◌, ◌^◌, ◌<◌, ◌≤◌, Bool, true, false, true≢false, cond, ◌&&◌, ◌||◌, ◌==◌, nat_lt, List, [], ◌∷◌, ◌++◌, All, length, refl, sym, ap, ◌∙◌, Some, None, arith, decimal, codes, FitsSigned}
+use Rattle.std.specs.Prelude.{⊤}
+use Rattle.std.specs.Char.{digit_char}
+use Rattle.std.specs.Fmt.{signed_decimal}
+use Rattle.std.specs.Int.{w64}
+use Rattle.std.specs.List.{AllByRecursion, list_all}
+use Rattle.std.specs.Str.Parse.{AllDigits}
+use Rattle.std.proofs.lemmas.Bool.{and_parts, ltb-false, ltb-true}
+use Rattle.std.proofs.lemmas.Fmt.{decimal_is_IsNumeral}
+use Rattle.std.proofs.lemmas.List.Elements.{All-from_recursion}
+use Rattle.std.proofs.lemmas.List.Sums.{AllPass-from_list_all}
+use Rattle.std.proofs.lemmas.Str.Parse.{digit_from_value}
+use Rattle.json.specs.Lex.{tokens}
+use Rattle.json.specs.Print.{ArePrintable, IsNumber, IsPrintable, begins, ends, escape, escape_byte, escape_letter, print, print_from, quoted, separator, token_text}
+use Rattle.json.specs.Word.{after_number}
+use Rattle.json.specs.Token.{Token, begin_object, end_object, begin_array, end_array, key, string, number, boolean, null, bad}
+use Rattle.json.proofs.Printed.Decimals.{IsNumber-decimal, IsNumber-signed_decimal}
+use Rattle.json.proofs.Printed.Tokens.{tokens-print}
+use Rattle.span_event.specs.declared.args.ArgValue.{ArgValue}
+use Rattle.span_event.specs.declared.args.ArgValue.TheVariants.{Nil, Flag, Whole, Words, Other}
+use Rattle.span_event.specs.Text.{Bytes}
+use Rattle.span_event.specs.declared.unit.Unit.{Unit}
+use Rattle.span_event.specs.declared.unit.Unit.TheVariants.{Microseconds, Nanoseconds}
+use Rattle.span_table.specs.declared.column.Column.{Column}
+use Rattle.span_table.specs.declared.column.Column.TheVariants.{Pid, Tid, Process, Thread, Name, File, Cat, Scope, Id, Argument}
+use Rattle.span_table.specs.declared.heads.Head.{Head}
+use Rattle.span_table.specs.declared.of.Of.{Of}
+use Rattle.span_table.specs.declared.of.Of.TheVariants.{Spans, Async}
+use Rattle.span_table.specs.declared.sums.Sums.{Sums}
+use Rattle.span_table.specs.declared.table.Row.{Row}
+use Rattle.span_table.specs.Columns.{Value}
+use Rattle.span_table.specs.Heads.{head_fits}
+use Rattle.span_table.specs.Sums.{fit}
+use Rattle.span_table_text.specs.Json.{numbers_fit}
+use Rattle.span_table.specs.Keys.{TableKey}
+use Rattle.span_table_text.specs.Printed.{HasOwn, IsKeyOf, IsOfArgument, IsRowOf, KeyFits, MayHave}
+use Rattle.span_table.specs.Tables.{SpanTable}
+use Rattle.span_table_text.specs.Tokens.{columns_tokens, counts_tokens, head_tokens, key_tokens, name_tokens, numbers_tokens, of_tokens, row_tokens, sums_tokens, unit_tokens, value_tokens}
+use Rattle.span_table.proofs.Summing.{sums_small}
+
+-- no line feed is among the bytes
+abbrev pub IsLine : Bytes → Type 0
+IsLine = AllByRecursion (λ byte. byte ≢ 10)
+
+-- the token can be printed, in a line
+abbrev IsInLine : Token → Type 0
+IsInLine begin_object = ⊤
+IsInLine end_object = ⊤
+IsInLine begin_array = ⊤
+IsInLine end_array = ⊤
+IsInLine (key text) = ⊤
+IsInLine (string text) = ⊤
+IsInLine (number text) = IsNumber text × IsLine text
+IsInLine (boolean flag) = ⊤
+IsInLine null = ⊤
+IsInLine bad = ⊥
+
+abbrev AreInLine : List Token → Type 0
+AreInLine = AllByRecursion IsInLine
+
+IsLine-append : (a b : Bytes) → IsLine a → IsLine b → IsLine (a ++ b)
+IsLine-append [] b h k = k
+IsLine-append (byte ∷ a) b h k = (h.0, IsLine-append a b h.1 k)
+
+AreInLine-append : (ts us : List Token) → AreInLine ts → AreInLine us → AreInLine (ts ++ us)
+AreInLine-append [] us h k = k
+AreInLine-append (t ∷ ts) us h k = (h.0, AreInLine-append ts us h.1 k)
+
+-- an escape has no line feed
+letter_line : (q b f n r t : Bool) (byte : ℕ) → (q ≡ true → byte ≢ 10) → cond q byte (cond b 98 (cond f 102 (cond n 110 (cond r 114 (cond t 116 0))))) ≢ 10
+letter_line true b f n r t byte h = h refl
+letter_line false true f n r t byte h = λ e. omega arith
+letter_line false false true n r t byte h = λ e. omega arith
+letter_line false false false true r t byte h = λ e. omega arith
+letter_line false false false false true t byte h = λ e. omega arith
+letter_line false false false false false true byte h = λ e. omega arith
+letter_line false false false false false false byte h = λ e. omega arith
+
+digit_line : (digit : ℕ) → digit_char digit ≢ 10
+digit_line digit = by (nat_lt digit 10)
+  where
+    by : (b : Bool) → cond b (48 + digit) (87 + digit) ≢ 10
+    by true = λ e. omega arith
+    by false = λ e. omega arith
+
+escape_byte-line : (byte : ℕ) → IsLine (escape_byte byte)
+unfolding escape_byte
+escape_byte-line byte = by (nat_lt 0 (escape_letter byte)) (nat_lt byte 32) (ltb-false byte 32)
+  where
+    quotes : ((byte == 34) || (byte == 92)) ≡ true → byte ≢ 10
+    quotes h e = true≢false (sym h ∙ ap (λ (x : ℕ). (x == 34) || (x == 92)) e)
+
+    by : (a b : Bool) → (b ≡ false → 32 ≤ byte)
+        → IsLine (cond a (92 ∷ escape_letter byte ∷ []) (cond b (92 ∷ 117 ∷ 48 ∷ 48 ∷ digit_char (byte / 16) ∷ digit_char (byte % 16) ∷ []) (byte ∷ [])))
+    by true b h = ((λ e. omega arith), (letter_line ((byte == 34) || (byte == 92)) (byte == 8) (byte == 12) (byte == 10) (byte == 13) (byte == 9) byte quotes, tt))
+    by false true h = ((λ e. omega arith), ((λ e. omega arith), ((λ e. omega arith), ((λ e. omega arith), (digit_line (byte / 16), (digit_line (byte % 16), tt))))))
+    by false false h = (let low = h refl in λ e. omega arith, tt)
+
+escape-line : (text : Bytes) → IsLine (escape text)
+escape-line [] = tt
+escape-line (byte ∷ text) = IsLine-append (escape_byte byte) (escape text) (escape_byte-line byte) (escape-line text)
+
+quoted-line : (text : Bytes) → IsLine (quoted text)
+quoted-line text = ((λ e. omega arith), IsLine-append (escape text) (34 ∷ []) (escape-line text) ((λ e. omega arith), tt))
+
+token-line : (t : Token) → IsInLine t → IsLine (token_text t)
+token-line begin_object h = ((λ e. omega arith), tt)
+token-line end_object h = ((λ e. omega arith), tt)
+token-line begin_array h = ((λ e. omega arith), tt)
+token-line end_array h = ((λ e. omega arith), tt)
+token-line (key text) h = IsLine-append (quoted text) (58 ∷ []) (quoted-line text) ((λ e. omega arith), tt)
+token-line (string text) h = quoted-line text
+token-line (number text) h = h.1
+token-line (boolean true) h = ((λ e. omega arith), ((λ e. omega arith), ((λ e. omega arith), ((λ e. omega arith), tt))))
+token-line (boolean false) h = ((λ e. omega arith), ((λ e. omega arith), ((λ e. omega arith), ((λ e. omega arith), ((λ e. omega arith), tt)))))
+token-line null h = ((λ e. omega arith), ((λ e. omega arith), ((λ e. omega arith), ((λ e. omega arith), tt))))
+token-line bad h = absurd h
+
+separator-line : (after : Bool) (t : Token) → IsLine (separator after t)
+separator-line after t = by (after && begins t)
+  where
+    by : (b : Bool) → IsLine (cond b (44 ∷ []) [])
+    by true = ((λ e. omega arith), tt)
+    by false = tt
+
+print-line : (after : Bool) (ts : List Token) → AreInLine ts → IsLine (print_from after ts)
+unfolding print_from
+print-line after [] h = tt
+print-line after (t ∷ ts) h = IsLine-append (separator after t) _ (separator-line after t) (IsLine-append (token_text t) _ (token-line t h.0) (print-line (ends t) ts h.1))
+
+printable : (t : Token) → IsInLine t → IsPrintable t
+printable begin_object h = tt
+printable end_object h = tt
+printable begin_array h = tt
+printable end_array h = tt
+printable (key text) h = tt
+printable (string text) h = tt
+printable (number text) h = h.0
+printable (boolean flag) h = tt
+printable null h = tt
+printable bad h = h
+
+all_printable : (ts : List Token) → AreInLine ts → ArePrintable ts
+unfolding ArePrintable
+all_printable [] h = tt
+all_printable (t ∷ ts) h = (printable t h.0, all_printable ts h.1)
+
+digits-line : (digits : List ℕ) → AllDigits 10 digits → IsLine digits
+digits-line [] h = tt
+digits-line (digit ∷ digits) h = (let high = digit_from_value digit h.0 in λ e. omega arith, digits-line digits h.1)
+
+decimal-in_line : (n : ℕ) → n < 2 ^ 64 → IsInLine (number (decimal n))
+decimal-in_line n h = (IsNumber-decimal n h, digits-line (decimal n) (decimal_is_IsNumeral n h).0.1)
+
+signed_decimal-in_line : (z : ℤ) → FitsSigned w64 z → IsInLine (number (signed_decimal z))
+signed_decimal-in_line (pos n) h = decimal-in_line n (omega (arith, h.sfits))
+signed_decimal-in_line (negsuc n) h =
+    let small : suc n < 2 ^ 64 = omega (arith, h.sfits) in
+    (IsNumber-signed_decimal (negsuc n) h.sfits, ((λ e. omega arith), digits-line (decimal (suc n)) (decimal_is_IsNumeral (suc n) small).0.1))
+
+-- the numbers of a table, where all of them fit
+pub numbers_fit-each : (table : SpanTable) → numbers_fit table ≡ true → (head_fits table.head ≡ true) × All (λ row. fit row.sums ≡ true) table.rows
+numbers_fit-each table h =
+    let fits = λ (row : Row). fit row.sums in
+    let parts = and_parts (head_fits table.head) (list_all fits table.rows) h in
+    (parts.0, AllPass-from_list_all fits table.rows parts.1)
+
+sums-in_line : (of : Of) (sums : Sums) → fit sums ≡ true → AreInLine (sums_tokens of sums)
+sums-in_line Async sums h =
+    let small = sums_small sums h in
+    (tt, (decimal-in_line sums.count small.0, (tt, (decimal-in_line sums.total small.1, (tt, (decimal-in_line sums.unclosed small.3, (tt, (decimal-in_line sums.points small.4, tt))))))))
+sums-in_line Spans sums h =
+    let small = sums_small sums h in
+    (tt, (decimal-in_line sums.count small.0, (tt, (decimal-in_line sums.total small.1, (tt, (decimal-in_line sums.self_time small.2, tt))))))
+
+-- the numbers of a head
+pub record AreSmall (head : Head) : Type 0 where
+  pub runs : head.runs < 2 ^ 64
+  pub files : head.files < 2 ^ 64
+  pub unread : head.unread < 2 ^ 64
+  pub accepted : head.counts.accepted < 2 ^ 64
+  pub refused : head.counts.refused < 2 ^ 64
+  pub skipped : head.counts.skipped < 2 ^ 64
+  pub queries : head.counts.queries < 2 ^ 64
+  pub seals : head.counts.seals < 2 ^ 64
+
+pub head_small : (head : Head) → head_fits head ≡ true → AreSmall head
+head_small head h =
+    let runs = and_parts (nat_lt head.runs (2 ^ 64)) _ h in
+    let files = and_parts (nat_lt head.files (2 ^ 64)) _ runs.1 in
+    let unread = and_parts (nat_lt head.unread (2 ^ 64)) _ files.1 in
+    let accepted = and_parts (nat_lt head.counts.accepted (2 ^ 64)) _ unread.1 in
+    let refused = and_parts (nat_lt head.counts.refused (2 ^ 64)) _ accepted.1 in
+    let skipped = and_parts (nat_lt head.counts.skipped (2 ^ 64)) _ refused.1 in
+    let queries = and_parts (nat_lt head.counts.queries (2 ^ 64)) _ skipped.1 in
+    record {
+      runs = ltb-true _ _ runs.0;
+      files = ltb-true _ _ files.0;
+      unread = ltb-true _ _ unread.0;
+      accepted = ltb-true _ _ accepted.0;
+      refused = ltb-true _ _ refused.0;
+      skipped = ltb-true _ _ skipped.0;
+      queries = ltb-true _ _ queries.0;
+      seals = ltb-true _ _ queries.1;
+    }
+
+counts-in_line : (head : Head) → AreSmall head → AreInLine (counts_tokens head.counts)
+counts-in_line head small =
+    let seals = decimal-in_line head.counts.seals small.seals in
+    let queries = decimal-in_line head.counts.queries small.queries in
+    let skipped = decimal-in_line head.counts.skipped small.skipped in
+    let refused = decimal-in_line head.counts.refused small.refused in
+    let accepted = decimal-in_line head.counts.accepted small.accepted in
+    (tt, (accepted, (tt, (refused, (tt, (skipped, (tt, (queries, (tt, (seals, tt))))))))))
+
+numbers-in_line : (rows : ℕ) (head : Head) → rows < 2 ^ 64 → AreSmall head → AreInLine (numbers_tokens rows head)
+numbers-in_line rows head few small =
+    let unread = decimal-in_line head.unread small.unread in
+    let files = decimal-in_line head.files small.files in
+    let runs = decimal-in_line head.runs small.runs in
+    (tt, (decimal-in_line rows few, (tt, (runs, (tt, (files, (tt, (unread, counts-in_line head small))))))))
+
+-- a number that a column has fits
+whole_fits : (column : Column) (whole : ℤ) → MayHave column (Some (Whole whole)) → FitsSigned w64 whole
+whole_fits Pid whole h = h
+whole_fits Tid whole h = h
+whole_fits Process whole h = absurd h
+whole_fits Thread whole h = absurd h
+whole_fits Name whole h = absurd h
+whole_fits File whole h = absurd h
+whole_fits Cat whole h = absurd h
+whole_fits Scope whole h = absurd h
+whole_fits Id whole h = absurd h
+whole_fits (Argument name) whole h = h
+
+-- a value that a column may have, an argument may have
+pub IsOfArgument-any : (column : Column) (value : Value) → MayHave column value → IsOfArgument value
+IsOfArgument-any column None may = tt
+IsOfArgument-any column (Some Nil) may = tt
+IsOfArgument-any column (Some (Flag flag)) may = tt
+IsOfArgument-any column (Some (Whole whole)) may = whole_fits column whole may
+IsOfArgument-any column (Some (Words text)) may = tt
+IsOfArgument-any column (Some Other) may = tt
+
+-- a key that a line tells: a value for each column, whose numbers have 64 bits
+abbrev pub IsToldKey : List Column → TableKey → Type 0
+IsToldKey columns values = (length values ≡ length columns) × KeyFits columns values
+
+IsKeyOf-told : (columns : List Column) (values : TableKey) → IsKeyOf columns values → IsToldKey columns values
+IsKeyOf-told [] [] h = (refl, tt)
+IsKeyOf-told [] (value ∷ values) h = absurd h
+IsKeyOf-told (column ∷ columns) [] h = absurd h
+IsKeyOf-told (column ∷ columns) (value ∷ values) h = let rest = IsKeyOf-told columns values h.1 in (ap suc rest.0, (IsOfArgument-any column value h.0, rest.1))
+
+-- a row that a line tells
+pub record IsTold (of : Of) (columns : List Column) (row : Row) : Type 0 where
+  pub key : IsToldKey columns row.key
+  pub own : HasOwn of row.sums
+  pub sums : fit row.sums ≡ true
+
+-- so is each that a table may have
+pub IsRowOf-told : (of : Of) (columns : List Column) (row : Row) → IsRowOf of columns row → IsTold of columns row
+IsRowOf-told of columns row is = record { key = IsKeyOf-told columns row.key is.key; own = is.own; sums = is.fits }
+
+value-in_line : (value : ArgValue) → IsOfArgument (Some value) → AreInLine (value_tokens value)
+value-in_line Nil h = (tt, tt)
+value-in_line (Flag flag) h = (tt, tt)
+value-in_line (Whole whole) h = (signed_decimal-in_line whole h, tt)
+value-in_line (Words text) h = (tt, tt)
+value-in_line Other h = (tt, (tt, tt))
+
+key-in_line : (columns : List Column) (values : TableKey) → KeyFits columns values → AreInLine (key_tokens columns values)
+key-in_line [] values h = tt
+key-in_line (column ∷ columns) [] h = tt
+key-in_line (column ∷ columns) (None ∷ values) h = key-in_line columns values h.1
+key-in_line (column ∷ columns) (Some value ∷ values) h = (tt, AreInLine-append (value_tokens value) _ (value-in_line value h.0) (key-in_line columns values h.1))
+
+row-in_line : (of : Of) (columns : List Column) (row : Row) → IsTold of columns row → AreInLine (row_tokens of columns row)
+row-in_line of columns row is =
+    let sums = AreInLine-append (sums_tokens of row.sums) (end_object ∷ []) (sums-in_line of row.sums is.sums) (tt, tt) in
+    (tt, AreInLine-append (key_tokens columns row.key) (sums_tokens of row.sums ++ end_object ∷ []) (key-in_line columns row.key is.key.1) sums)
+
+names-in_line : (columns : List Column) → AreInLine (name_tokens columns)
+names-in_line [] = tt
+names-in_line (column ∷ columns) = (tt, names-in_line columns)
+
+one-in_line : IsInLine (number (codes "1"))
+unfolding after_number
+one-in_line = (refl, ((λ e. omega arith), tt))
+
+of-in_line : (of : Of) → AreInLine (of_tokens of)
+of-in_line Spans = tt
+of-in_line Async = (tt, (tt, tt))
+
+unit-in_line : (unit : Unit) → AreInLine (unit_tokens unit)
+unit-in_line Microseconds = tt
+unit-in_line Nanoseconds = (tt, (tt, tt))
+
+head-in_line : (of : Of) (unit : Unit) (columns : List Column) (rows : ℕ) (head : Head) → rows < 2 ^ 64 → AreSmall head → AreInLine (head_tokens of unit columns rows head)
+head-in_line of unit columns rows head few small =
+    let numbers = AreInLine-append (numbers_tokens rows head) (end_object ∷ []) (numbers-in_line rows head few small) (tt, tt) in
+    let names : AreInLine (columns_tokens columns rows head) = (tt, (tt, AreInLine-append (name_tokens columns) _ (names-in_line columns) (tt, numbers))) in
+    let more = AreInLine-append (unit_tokens unit) (columns_tokens columns rows head) (unit-in_line unit) names in
+    (tt, (tt, (one-in_line, AreInLine-append (of_tokens of) (unit_tokens unit ++ columns_tokens columns rows head) (of-in_line of) more)))
+
+-- the tokens of a row are read back
+pub tokens-row : (of : Of) (columns : List Column) (row : Row) → IsTold of columns row → tokens (print (row_tokens of columns row)) ≡ row_tokens of columns row
+tokens-row of columns row is = tokens-print (row_tokens of columns row) (all_printable (row_tokens of columns row) (row-in_line of columns row is))
+
+-- those of the first line are read back
+pub tokens-head : (of : Of) (unit : Unit) (columns : List Column) (rows : ℕ) (head : Head) → rows < 2 ^ 64 → head_fits head ≡ true →
+    tokens (print (head_tokens of unit columns rows head)) ≡ head_tokens of unit columns rows head
+tokens-head of unit columns rows head few fits =
+    tokens-print (head_tokens of unit columns rows head) (all_printable (head_tokens of unit columns rows head) (head-in_line of unit columns rows head few (head_small head fits)))
+
+-- the line of a row is one line
+pub print_row-IsLine : (of : Of) (columns : List Column) (row : Row) → IsTold of columns row → IsLine (print (row_tokens of columns row))
+print_row-IsLine of columns row is = print-line false (row_tokens of columns row) (row-in_line of columns row is)
+
+-- the first line is one line
+pub print_head-IsLine : (of : Of) (unit : Unit) (columns : List Column) (rows : ℕ) (head : Head) → rows < 2 ^ 64 → head_fits head ≡ true → IsLine (print (head_tokens of unit columns rows head))
+print_head-IsLine of unit columns rows head few fits = print-line false (head_tokens of unit columns rows head) (head-in_line of unit columns rows head few (head_small head fits))
+
+-- no line feed stands in the line of a row
+pub print_row-line : (of : Of) (columns : List Column) (row : Row) → IsTold of columns row → All (λ byte. byte ≢ 10) (print (row_tokens of columns row))
+print_row-line of columns row is = All-from_recursion (λ byte. byte ≢ 10) (print (row_tokens of columns row)) (print_row-IsLine of columns row is)
+
+-- no line feed stands in the first line
+pub print_head-line : (of : Of) (unit : Unit) (columns : List Column) (rows : ℕ) (head : Head) → rows < 2 ^ 64 → head_fits head ≡ true → All (λ byte. byte ≢ 10) (print (head_tokens of unit columns rows head))
+print_head-line of unit columns rows head few fits = All-from_recursion (λ byte. byte ≢ 10) (print (head_tokens of unit columns rows head)) (print_head-IsLine of unit columns rows head few fits)

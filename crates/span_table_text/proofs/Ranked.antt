@@ -1,0 +1,69 @@
+-- No two rows that rise rank alike, so each has its place in a ranking.
+use Rattle.std.proofs.Common.{◌≡◌, Bool, true, false, cond, List, [], ◌∷◌, refl, ap}
+use Rattle.std.specs.Prelude.{filter}
+use Rattle.std.specs.Cmp.{IsTotalOrder}
+use Rattle.std.specs.List.{AllByRecursion, IsDistinct}
+use Rattle.std.specs.List.Sorted.{IsStrictlySortedBy}
+use Rattle.std.specs.Ordering.{eq_by_cmp, is_eq, nat_cmp, ordering_then}
+use Rattle.std.specs.declared.cmp.Ordering.{Ordering}
+use Rattle.std.specs.declared.cmp.Ordering.TheVariants.{Less, Equal, Greater}
+use Rattle.std.proofs.lemmas.Cmp.{back_total, nat_cmp_total, on_total, then_total}
+use Rattle.span_journal.proofs.Sorted.{AllByRecursion-map}
+use Rattle.span_table.specs.declared.sums.By.{By}
+use Rattle.span_table.specs.declared.table.Row.{Row}
+use Rattle.span_table.specs.KeyLaws.{key_cmp_total}
+use Rattle.span_table.specs.Keys.{key_cmp}
+use Rattle.span_table.specs.Sums.{number_by}
+use Rattle.span_table_text.specs.Ranks.{rank_order, RankingsHaveEachRow}
+use Rattle.span_table_text.specs.Shown.{Wanted, is_wanted, shown_rows}
+use Rattle.span_table.specs.Tables.{RowsRise}
+use Rattle.span_keyed_tracks.proofs.Sorted.{ascending-sorted}
+use Rattle.span_keyed_tracks.proofs.Sorting.{ascending-permutation}
+
+-- the order of a ranking is total
+pub rank_order-total : (by : By) → IsTotalOrder (rank_order by)
+rank_order-total by = then_total (on_total (λ (row : Row). number_by by row.sums) (back_total nat_cmp_total)) (on_total (λ (row : Row). row.key) key_cmp_total)
+
+filter-all : {A : Type 0} (P : A → Type 0) (p : A → Bool) (xs : List A) → AllByRecursion P xs → AllByRecursion P (filter p xs)
+filter-all P p [] all = tt
+filter-all {A = A} P p (x ∷ xs) all = by (p x) (filter-all P p xs all.1)
+  where
+    by : (b : Bool) → AllByRecursion P (filter p xs) → AllByRecursion P (cond b (x ∷ filter p xs) (filter p xs))
+    by true rest = (all.0, rest)
+    by false rest = rest
+
+-- those of sorted rows that pass a test are sorted
+pub filter-sorted : {A : Type 0} (R : A → A → Ordering) (p : A → Bool) (xs : List A) → IsStrictlySortedBy R xs → IsStrictlySortedBy R (filter p xs)
+unfolding IsStrictlySortedBy
+filter-sorted R p [] sorted = tt
+filter-sorted {A = A} R p (x ∷ xs) sorted = by (p x) (filter-all (λ y. R x y ≡ Less) p xs sorted.0) (filter-sorted R p xs sorted.1)
+  where
+    by : (b : Bool) → AllByRecursion (λ y. R x y ≡ Less) (filter p xs) → IsStrictlySortedBy R (filter p xs) → IsStrictlySortedBy R (cond b (x ∷ filter p xs) (filter p xs))
+    by true below rest = (below, rest)
+    by false below rest = rest
+
+apart : (p q : Ordering) → q ≡ Less → is_eq (ordering_then p q) ≡ false
+apart Less q below = refl
+apart Greater q below = refl
+apart Equal q below = ap is_eq below
+
+-- no two rows that rise rank alike
+pub IsDistinct-rising : (by : By) (rows : List Row) → RowsRise rows → IsDistinct (eq_by_cmp (rank_order by)) rows
+unfolding IsStrictlySortedBy IsDistinct
+IsDistinct-rising by [] sorted = tt
+IsDistinct-rising by (x ∷ xs) sorted = (
+  AllByRecursion-map (λ (y : Row). key_cmp x.key y.key ≡ Less) (λ (y : Row). eq_by_cmp (rank_order by) x y ≡ false)
+      (λ (y : Row) (below : key_cmp x.key y.key ≡ Less). apart (nat_cmp (number_by by y.sums) (number_by by x.sums)) (key_cmp x.key y.key) below) xs sorted.0,
+  IsDistinct-rising by xs sorted.1,
+)
+
+-- nor do those of them that are shown
+pub shown_rows-distinct : (by : By) (wanted : Wanted) (rows : List Row) → RowsRise rows → IsDistinct (eq_by_cmp (rank_order by)) (shown_rows wanted rows)
+shown_rows-distinct by wanted rows rise = IsDistinct-rising by (shown_rows wanted rows) (filter-sorted (λ (a b : Row). key_cmp a.key b.key) (λ (row : Row). is_wanted wanted row.key) rows rise)
+
+-- each row has its place, and no two rank alike
+pub ranked-each : RankingsHaveEachRow
+ranked-each by wanted rows rise = record {
+  places = ascending-permutation (rank_order-total by) (shown_rows wanted rows) (shown_rows-distinct by wanted rows rise);
+  order = ascending-sorted (rank_order-total by) (shown_rows wanted rows);
+}

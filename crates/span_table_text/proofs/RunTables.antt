@@ -1,0 +1,264 @@
+-- The rows of a table of runs are those of what it sums, so what is printed of it can be read back.
+use Rattle.std.proofs.Common.{◌≡◌, ℕ, ◌+◌, ◌<◌, ◌==◌, Bool, true, false, cond, not, ◌&&◌, ◌||◌, List, [], ◌∷◌, All, Contains, filter, flat_map, get_or, is_some, length, map, sum_by, Option, Some, None, option_map, refl, sym, ap, ap₂, subst, ◌∙◌, arith}
+use Rattle.std.specs.Cmp.{IsTotalOrder, eq_by_cmp_equiv}
+use Rattle.std.specs.List.{list_all, list_any}
+use Rattle.std.specs.Ordering.{is_eq}
+use Rattle.std.specs.declared.cmp.Ordering.{Ordering}
+use Rattle.std.proofs.lemmas.Bool.{and_parts, eqb-true}
+use Rattle.std.proofs.lemmas.List.{length-map}
+use Rattle.std.proofs.lemmas.List.Elements.{All-append, All-contains, All-contains_itself, All-head, All-map, All-nil, All-tail, All-weaker}
+use Rattle.std.proofs.lemmas.Map.Views.{list_any-from_Contains}
+use Rattle.span_event.specs.declared.args.ArgValue.TheVariants.{Words}
+use Rattle.span_event.specs.declared.thread.Thread.{Thread}
+use Rattle.span_event.specs.Args.{Arguments}
+use Rattle.span_event.specs.Text.{Bytes}
+use Rattle.span_event.specs.declared.unit.Unit.{Unit}
+use Rattle.span_keyed_tracks.specs.declared.async_track.AsyncRow.{AsyncRow}
+use Rattle.span_keyed_tracks.specs.declared.keys.AsyncKey.{AsyncKey}
+use Rattle.span_keyed_tracks.specs.Keyed.{Keyed, entry_of, keys_in, steps_at}
+use Rattle.span_keyed_tracks.proofs.Keyed.{has_key}
+use Rattle.span_keyed_tracks.proofs.SameKeys.{All-ascending, step_keys}
+use Rattle.span_keyed_tracks.proofs.Uses.{is_eq-turned}
+use Rattle.span_journal.specs.Journal.{accepted}
+use Rattle.span_journal.specs.Rows.{async_rows, names_of, thread_keys}
+use Rattle.span_journal.specs.Timed.{Timed, timed_spans}
+use Rattle.span_table.specs.declared.column.Column.{Column}
+use Rattle.span_table.specs.declared.column.Column.TheVariants.{Pid, Tid, Process, Thread as OfThread, Name, File, Cat, Scope, Id, Argument}
+use Rattle.span_table.specs.declared.of.Of.{Of}
+use Rattle.span_table.specs.declared.of.Of.TheVariants.{Spans, Async}
+use Rattle.span_table.specs.declared.sums.Sums.{Sums}
+use Rattle.span_table.specs.declared.table.Row.{Row}
+use Rattle.span_table.specs.Columns.{Run, async_value_at, goes_with, value_at}
+use Rattle.span_table_text.specs.Json.{shown_table, text_of}
+use Rattle.span_table.specs.KeyLaws.{key_cmp_total}
+use Rattle.span_table.specs.Keys.{TableKey, key_cmp}
+use Rattle.span_table_text.specs.Printed.{AllFit, AllIsPrinted, AreColumns, HasFile, HasSome, HaveFiles, IsKeyOf, IsName, IsOfArgument, IsPart, IsPrint, IsTable, IsWords, KeyFits, MayHave, PrintsAreParts}
+use Rattle.span_table_text.specs.Shown.{Wanted, is_wanted, key_has, wants_all}
+use Rattle.span_table.specs.Tables.{KeyedSums, SpanTable, keyed_async, keyed_span, row_of, rows_of, run_sums, sums_together, table_of, thread_sums}
+use Rattle.span_table_text.proofs.PartsTold.{HasOwnNumbers, HasWholeKeys, prints-told}
+use Rattle.span_table_text.proofs.PrintedLines.{numbers_fit-each}
+use Rattle.span_table.proofs.Rows.{RowsRise-rows_of}
+use Rattle.span_table.proofs.Tallies.{tally, tally-cons}
+
+-- what holds of all that each gives holds of all that they give
+All-flat_map : {A B : Type 0} (P : B → Type 0) (f : A → List B) (xs : List A) → All (λ x. All P (f x)) xs → All P (flat_map f xs)
+All-flat_map P f [] all = All-nil P
+All-flat_map P f (x ∷ xs) all =
+    All-append P (f x) (flat_map f xs) (All-head (λ y. All P (f y)) x xs all) (All-flat_map P f xs (All-tail (λ y. All P (f y)) x xs all))
+
+-- what every value has, those of a list have
+All-every : {A : Type 0} (P : A → Type 0) → ((x : A) → P x) → (xs : List A) → All P xs
+All-every P each xs = λ k d low. each (get_or xs k d)
+
+-- where each step comes to something, so do those of a key that has one
+module _ {K A : Type 0} {cmp : K → K → Ordering} (o : IsTotalOrder cmp) (f : A → ℕ) where
+  tally-some : (key : K) (es : List (Keyed K A)) → All (λ (e : Keyed K A). 0 < f e.step) es → has_key cmp key (step_keys es) ≡ true → 0 < tally cmp f key es
+  tally-some key [] each has = absurd cc
+  tally-some key (e ∷ es) each has = by (is_eq (cmp key e.key)) refl (tally-some key es (All-tail (λ (x : Keyed K A). 0 < f x.step) e es each))
+    where
+      own : tally cmp f key (e ∷ es) ≡ cond (is_eq (cmp e.key key)) (f e.step) 0 + tally cmp f key es
+      own = tally-cons cmp f key e es
+
+      by : (b : Bool) → is_eq (cmp key e.key) ≡ b → (has_key cmp key (step_keys es) ≡ true → 0 < tally cmp f key es) → 0 < tally cmp f key (e ∷ es)
+      by true h rest =
+          let some = All-head (λ (x : Keyed K A). 0 < f x.step) e es each in
+          let mine = subst (λ b. tally cmp f key (e ∷ es) ≡ cond b (f e.step) 0 + tally cmp f key es) (is_eq-turned o e.key key ∙ h) own in
+          omega (arith, some, mine)
+      by false h rest = let later = rest (sym (ap (λ b. b || has_key cmp key (step_keys es)) h) ∙ has) in omega (arith, later, own)
+
+nothing : (b : Bool) → let none : ℕ = cond b 0 0 in none ≡ 0
+nothing true = refl
+nothing false = refl
+
+-- where each step comes to nothing, so do those of a key
+tally-none : {K A : Type 0} (cmp : K → K → Ordering) (f : A → ℕ) (key : K) (es : List (Keyed K A)) → All (λ (e : Keyed K A). f e.step ≡ 0) es → tally cmp f key es ≡ 0
+tally-none cmp f key [] each = refl
+tally-none {K = K} {A = A} cmp f key (e ∷ es) each =
+    let none : f e.step ≡ 0 = All-head (λ (x : Keyed K A). f x.step ≡ 0) e es each in
+    let own : cond (is_eq (cmp e.key key)) (f e.step) 0 ≡ 0 = ap (λ n. cond (is_eq (cmp e.key key)) n 0) none ∙ nothing (is_eq (cmp e.key key)) in
+    omega (arith, tally-cons cmp f key e es, own, tally-none cmp f key es (All-tail (λ (x : Keyed K A). f x.step ≡ 0) e es each))
+
+-- what holds of each key of sums, with what the sums of this key come to, holds of each row
+All-rows : (P : Row → Type 0) (es : KeyedSums) → ((k : TableKey) → Contains (step_keys es) k → P (record { key = k; sums = sums_together (steps_at key_cmp k es) })) → All P (rows_of es)
+All-rows P es each =
+    let keys = keys_in key_cmp es in
+    let made = entry_of (λ (k : TableKey). sums_together (steps_at key_cmp k es)) in
+    let known = All-weaker (Contains (step_keys es)) (λ k. P (row_of (made k))) each (step_keys es) (All-contains_itself (step_keys es)) in
+    All-map P row_of (map made keys) (All-map (λ (e : TableKey × Sums). P (row_of e)) made keys (All-ascending key_cmp (λ k. P (row_of (made k))) (step_keys es) known))
+
+-- what holds of the keys of sums holds of those of the rows
+All-keys : (P : TableKey → Type 0) (es : KeyedSums) → All (λ (e : Keyed TableKey Sums). P e.key) es → All (λ (row : Row). P row.key) (rows_of es)
+All-keys P es each = All-rows (λ row. P row.key) es (λ k has. All-contains P (step_keys es) k (All-map P (λ (e : Keyed TableKey Sums). e.key) es each) has)
+
+-- where each of some sums counts a span, each row does
+All-counts : (es : KeyedSums) → All (λ (e : Keyed TableKey Sums). 0 < e.step.count) es → All (λ (row : Row). 0 < row.sums.count) (rows_of es)
+All-counts es each =
+    All-rows (λ row. 0 < row.sums.count) es (λ k has. tally-some key_cmp_total (λ (s : Sums). s.count) k es each (list_any-from_Contains (eq_by_cmp_equiv key_cmp_total) k (step_keys es) has))
+
+-- where each of some sums has nothing of a number, no row has
+All-none : (f : Sums → ℕ) → ((sums : List Sums) → f (sums_together sums) ≡ sum_by f sums) → (es : KeyedSums) → All (λ (e : Keyed TableKey Sums). f e.step ≡ 0) es → All (λ (row : Row). f row.sums ≡ 0) (rows_of es)
+All-none f adds es each = All-rows (λ row. f row.sums ≡ 0) es (λ k has. adds (steps_at key_cmp k es) ∙ tally-none key_cmp f k es each)
+
+-- what everything has that a table sums of a run, under its key
+abbrev OfRun : Of → List Column → (Keyed TableKey Sums → Type 0) → Run → Type 0
+OfRun Spans columns P run = (thread : Thread) (t : Timed) → P (keyed_span columns run thread t)
+OfRun Async columns P run = (row : AsyncRow) → P (keyed_async columns run row)
+
+module _ (columns : List Column) (P : Keyed TableKey Sums → Type 0) where
+  All-thread : (run : Run) (thread : Thread) → ((t : Timed) → P (keyed_span columns run thread t)) → All P (thread_sums columns run thread)
+  All-thread run thread each =
+      let spans = timed_spans run.journal thread in
+      All-map P (keyed_span columns run thread) spans (All-every (λ t. P (keyed_span columns run thread t)) each spans)
+
+  All-run : (of : Of) (run : Run) → OfRun of columns P run → All P (run_sums of columns run)
+  All-run Spans run each =
+      let threads = thread_keys (accepted run.journal) in
+      All-flat_map P (thread_sums columns run) threads (All-every (λ thread. All P (thread_sums columns run thread)) (λ thread. All-thread run thread (each thread)) threads)
+  All-run Async run each = All-map P (keyed_async columns run) (async_rows run.journal) (All-every (λ row. P (keyed_async columns run row)) each (async_rows run.journal))
+
+  -- what that of each run has, that of all runs has
+  All-runs : (of : Of) (runs : List Run) → All (OfRun of columns P) runs → All P (flat_map (run_sums of columns) runs)
+  All-runs of runs each = All-flat_map P (run_sums of columns) runs (All-weaker (OfRun of columns P) (λ run. All P (run_sums of columns run)) (All-run of) runs each)
+
+  All-runs-every : (of : Of) → ((run : Run) → OfRun of columns P run) → (runs : List Run) → All P (flat_map (run_sums of columns) runs)
+  All-runs-every of each runs = All-runs of runs (All-every (OfRun of columns P) each runs)
+
+named : (name : Option Bytes) → IsName (option_map Words name)
+named None = tt
+named (Some name) = tt
+
+words : (file : Option Bytes) → is_some file ≡ true → IsWords (option_map Words file)
+words None some = absurd cc
+words (Some file) some = tt
+
+-- a key that a table may have, if its numbers have 64 bits
+abbrev MayBeKey : List Column → TableKey → Type 0
+MayBeKey columns key = KeyFits columns key → IsKeyOf columns key
+
+module _ (run : Run) (thread : Thread) (name : Bytes) (args : Arguments) where
+  -- a value that a span has in a column is one that the column may have, if a number has 64 bits
+  value_at-MayHave : (column : Column) → goes_with Spans column ≡ true → HasFile run column → IsOfArgument (value_at run thread name args column) → MayHave column (value_at run thread name args column)
+  value_at-MayHave Pid suited file fits = fits
+  value_at-MayHave Tid suited file fits = fits
+  value_at-MayHave Process suited file fits = named (names_of run.journal (thread.pid, None)).name
+  value_at-MayHave OfThread suited file fits = named (names_of run.journal (thread.pid, Some thread.tid)).name
+  value_at-MayHave Name suited file fits = tt
+  value_at-MayHave File suited file fits = words run.file file
+  value_at-MayHave Cat suited file fits = absurd (cc suited)
+  value_at-MayHave Scope suited file fits = absurd (cc suited)
+  value_at-MayHave Id suited file fits = absurd (cc suited)
+  value_at-MayHave (Argument key) suited file fits = fits
+
+  key-MayBeKey : (columns : List Column) → All (λ column. goes_with Spans column ≡ true) columns → All (HasFile run) columns → MayBeKey columns (map (value_at run thread name args) columns)
+  key-MayBeKey [] suited files fits = tt
+  key-MayBeKey (column ∷ columns) suited files fits =
+      let goes = λ (c : Column). goes_with Spans c ≡ true in (
+        value_at-MayHave column (All-head goes column columns suited) (All-head (HasFile run) column columns files) fits.0,
+        key-MayBeKey columns (All-tail goes column columns suited) (All-tail (HasFile run) column columns files) fits.1,
+      )
+
+module _ (run : Run) (key : AsyncKey) where
+  -- so is one that an asynchronous key has
+  async_value_at-MayHave : (column : Column) → goes_with Async column ≡ true → HasFile run column → MayHave column (async_value_at run key column)
+  async_value_at-MayHave Cat suited file = tt
+  async_value_at-MayHave Scope suited file = tt
+  async_value_at-MayHave Id suited file = tt
+  async_value_at-MayHave Name suited file = tt
+  async_value_at-MayHave File suited file = words run.file file
+  async_value_at-MayHave Pid suited file = absurd (cc suited)
+  async_value_at-MayHave Tid suited file = absurd (cc suited)
+  async_value_at-MayHave Process suited file = absurd (cc suited)
+  async_value_at-MayHave OfThread suited file = absurd (cc suited)
+  async_value_at-MayHave (Argument name) suited file = absurd (cc suited)
+
+  async_key-MayBeKey : (columns : List Column) → All (λ column. goes_with Async column ≡ true) columns → All (HasFile run) columns → MayBeKey columns (map (async_value_at run key) columns)
+  async_key-MayBeKey [] suited files fits = tt
+  async_key-MayBeKey (column ∷ columns) suited files fits =
+      let goes = λ (c : Column). goes_with Async c ≡ true in (
+        async_value_at-MayHave column (All-head goes column columns suited) (All-head (HasFile run) column columns files),
+        async_key-MayBeKey columns (All-tail goes column columns suited) (All-tail (HasFile run) column columns files) fits.1,
+      )
+
+module _ (columns : List Column) where
+  -- each key of what is summed has a value for each column
+  run-whole : (of : Of) (run : Run) → OfRun of columns (λ e. length e.key ≡ length columns) run
+  run-whole Spans run = λ thread t. length-map columns (value_at run thread t.span.name t.span.args)
+  run-whole Async run = λ row. length-map columns (async_value_at run row.key)
+
+  run-MayBeKey : (of : Of) → All (λ column. goes_with of column ≡ true) columns → (run : Run) → All (HasFile run) columns → OfRun of columns (λ e. MayBeKey columns e.key) run
+  run-MayBeKey Spans suited run files = λ thread t. key-MayBeKey run thread t.span.name t.span.args columns suited files
+  run-MayBeKey Async suited run files = λ row. async_key-MayBeKey run row.key columns suited files
+
+  module _ (runs : List Run) where
+    pub table_of-HasWholeKeys : (of : Of) → HasWholeKeys (table_of of columns runs)
+    table_of-HasWholeKeys of =
+        All-keys (λ key. length key ≡ length columns) (flat_map (run_sums of columns) runs)
+        (All-runs-every columns (λ e. length e.key ≡ length columns) of (run-whole of) runs)
+
+    -- each row of spans has one
+    table_of-HasSome : (of : Of) → All (λ row. HasSome of row.sums) (table_of of columns runs).rows
+    table_of-HasSome Spans = All-counts (flat_map (run_sums Spans columns) runs) (All-runs-every columns (λ e. 0 < e.step.count) Spans (λ run thread t. omega arith) runs)
+    table_of-HasSome Async = All-every (λ row. HasSome Async row.sums) (λ row. tt) (table_of Async columns runs).rows
+
+    -- no row has a number that what is summed doesn't have
+    pub table_of-HasOwnNumbers : (of : Of) → HasOwnNumbers (table_of of columns runs)
+    table_of-HasOwnNumbers Spans =
+        let es = flat_map (run_sums Spans columns) runs in
+        let unclosed = All-none (λ (s : Sums). s.unclosed) (λ sums. refl) es (All-runs-every columns (λ e. e.step.unclosed ≡ 0) Spans (λ run thread t. refl) runs) in
+        let points = All-none (λ (s : Sums). s.points) (λ sums. refl) es (All-runs-every columns (λ e. e.step.points ≡ 0) Spans (λ run thread t. refl) runs) in
+        λ k d low. (unclosed k d low, points k d low)
+    table_of-HasOwnNumbers Async =
+        All-none (λ (s : Sums). s.self_time) (λ sums. refl) (flat_map (run_sums Async columns) runs)
+        (All-runs-every columns (λ e. e.step.self_time ≡ 0) Async (λ run row. refl) runs)
+
+    table_of-keys : (of : Of) → All (λ column. goes_with of column ≡ true) columns → HaveFiles columns runs → All (λ row. MayBeKey columns row.key) (table_of of columns runs).rows
+    table_of-keys of suited files =
+        let each = All-weaker (λ (run : Run). All (HasFile run) columns) (OfRun of columns (λ e. MayBeKey columns e.key)) (run-MayBeKey of suited) runs files in
+        All-keys (MayBeKey columns) (flat_map (run_sums of columns) runs) (All-runs columns (λ e. MayBeKey columns e.key) of runs each)
+
+module _ (of : Of) (columns : List Column) (runs : List Run) where
+  -- a table that was read of what is printed of runs is the table of these
+  pub part-table_of : (unit second : Unit) (text : Bytes) (part : SpanTable) → IsPart unit text part → IsPrint second text (table_of of columns runs)
+      → (unit ≡ second) × (part ≡ table_of of columns runs)
+  part-table_of unit second text part is print =
+      prints-told unit second text part (table_of of columns runs) is print (table_of-HasWholeKeys columns runs of) (table_of-HasOwnNumbers columns runs of)
+
+  -- the table of runs that have their files, if its numbers have 64 bits, is one that can be read back
+  pub IsTable-table_of : AreColumns of columns → HaveFiles columns runs → AllFit (table_of of columns runs) → IsTable (table_of of columns runs)
+  IsTable-table_of are files fits =
+      let numbers = numbers_fit-each (table_of of columns runs) fits.numbers in
+      let keys = table_of-keys columns runs of are.suited files in
+      let own = table_of-HasOwnNumbers columns runs of in
+      let some = table_of-HasSome columns runs of in
+      record {
+        columns = are;
+        head = numbers.0;
+        few = fits.few;
+        rows = λ k d low. record { key = keys k d low (fits.keys k d low); own = own k d low; some = some k d low; fits = numbers.1 k d low };
+        rise = RowsRise-rows_of (flat_map (run_sums of columns) runs);
+      }
+
+-- so what is printed of such runs is a part
+pub prints-parts : PrintsAreParts
+prints-parts unit of columns runs text are files utf8 print = record { is = IsTable-table_of of columns runs are files print.fits; utf8 = utf8; printed = print.printed }
+
+filter-every : {A : Type 0} (p : A → Bool) → ((x : A) → p x ≡ true) → (xs : List A) → filter p xs ≡ xs
+filter-every p each [] = refl
+filter-every p each (x ∷ xs) = ap (λ b. cond b (x ∷ filter p xs) (filter p xs)) (each x) ∙ ap (λ l. x ∷ l) (filter-every p each xs)
+
+-- where all rows are wanted, what is shown of a table is the whole table
+pub shown_table-all : (wanted : Wanted) (table : SpanTable) → wants_all wanted ≡ true → shown_table wanted table ≡ table
+shown_table-all wanted table all = λ i. record { of = table.of; columns = table.columns; head = table.head; rows = filter-every (λ (row : Row). is_wanted wanted row.key) (λ row. each row.key) table.rows i }
+  where
+    none : (texts : List Bytes) → (length texts == 0) ≡ true → texts ≡ []
+    none [] e = refl
+    none (text ∷ texts) e = absurd (let no = eqb-true (length (text ∷ texts)) 0 e in omega (arith, no))
+
+    each : (key : TableKey) → is_wanted wanted key ≡ true
+    each key =
+        let parts = and_parts (length wanted.only == 0) (length wanted.skip == 0) all in
+        ap₂ (λ (only skip : List Bytes). list_all (key_has key) only && not (list_any (key_has key) skip)) (none wanted.only parts.0) (none wanted.skip parts.1)
+
+-- so what JSON Lines have of it is its print
+pub json_of-print : AllIsPrinted
+json_of-print unit wanted table all fits = let same = shown_table-all wanted table all in record { fits = subst AllFit same fits; printed = ap (text_of unit) same }

@@ -1,0 +1,38 @@
+use Rattle.std.proofs.Common.{◌≡◌, ◌+◌, List, [], ◌∷◌, ◌++◌, length, take, sym, ap, subst, ◌∙◌, append_assoc, append-nil}
+use Rattle.std.specs.Prelude.{flat_map}
+use Rattle.std.proofs.lemmas.Grind.{flat_map-append}
+use Rattle.std.proofs.lemmas.List.{take_more}
+use Rattle.std.proofs.lemmas.List.Elements.{All-push}
+use Rattle.span_event.specs.Text.{Bytes}
+use Rattle.span_table.specs.declared.column.Column.{Column}
+use Rattle.span_table.specs.declared.of.Of.{Of}
+use Rattle.span_table.specs.declared.table.Row.{Row}
+use Rattle.span_table_text.specs.Json.{json_head, json_line}
+use Rattle.span_table_text.specs.Printed.{KeyFits}
+use Rattle.span_table_text.proofs.json_lines.text_of.Goals as goal
+
+pub loop-shown-preserved : goal.loop-shown-preserved
+loop-shown-preserved c =
+    let rows = c.args.rows.now in
+    let i = c.loop-shown.shown-index in
+    let row = c.shown-item.result in
+    let columns = c.args.table.now.columns in
+    let of = c.args.table.now.of in
+    let more : take (i + 1) rows ≡ take i rows ++ row ∷ [] = take_more rows i row c.loop-shown-test.true ∙ ap (λ r. take i rows ++ r ∷ []) (sym c.shown-item.is) in
+    let fits : KeyFits columns row.key =
+    subst (λ (cs : List Column). KeyFits cs row.key) c.columns-columns.ensures
+    (subst (λ (r : Row). KeyFits c.columns-columns.result.now r.key) c.shown.view_is c.in_ok-line.ensures.key_fits) in
+    let f : Row → Bytes = json_line of columns in
+    let head = json_head of c.args.unit columns (length rows) c.args.table.now.head in
+    let printed : c.in_ok-line.line.items ≡ c.clear.new.self.items ++ f row =
+    subst (λ (o : Of). c.in_ok-line.line.items ≡ c.clear.new.self.items ++ json_line o columns row) c.kind-of.ensures
+    (subst (λ (cs : List Column). c.in_ok-line.line.items ≡ c.clear.new.self.items ++ json_line c.kind-of.result cs row) c.columns-columns.ensures
+    (subst (λ (r : Row). c.in_ok-line.line.items ≡ c.clear.new.self.items ++ json_line c.kind-of.result c.columns-columns.result.now r) c.shown.view_is c.in_ok-line.ensures.line)) in
+    let line : c.in_ok-line.line.items ≡ f row = printed ∙ ap (λ l. l ++ f row) c.clear.ensures.items in
+    let appended = c.in_ok-extend_from_slice.ensures.items ∙ ap (λ l. c.loop-shown.out.items ++ l) (c.deref-in-loop-shown.ensures.value ∙ line) in
+    let all : flat_map f (take (i + 1) rows) ≡ flat_map f (take i rows) ++ f row =
+    ap (flat_map f) more ∙ flat_map-append f (take i rows) (row ∷ []) ∙ ap (λ l. flat_map f (take i rows) ++ l) (append-nil (f row)) in
+    record {
+      text = appended ∙ ap (λ l. l ++ f row) c.loop-shown.invariant.text ∙ append_assoc head (flat_map f (take i rows)) (f row) ∙ ap (λ l. head ++ l) (sym all);
+      keys = rw more (All-push (λ (r : Row). KeyFits columns r.key) (take i rows) row c.loop-shown.invariant.keys fits);
+    }

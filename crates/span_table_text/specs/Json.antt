@@ -1,0 +1,118 @@
+-- The rows of a table for machines: JSON Lines.
+use Rattle.std.specs.Prelude.{ℕ, Bool, ◌&&◌, List, [], ◌∷◌, ◌++◌, flat_map, length, map, codes, decimal, Some, None}
+use Rattle.std.specs.List.{join_with_byte, list_all}
+use Rattle.std.specs.Fmt.{signed_decimal}
+use Rattle.span_event.specs.declared.args.ArgValue.{ArgValue}
+use Rattle.span_event.specs.declared.args.ArgValue.TheVariants.{Nil, Flag, Whole, Words, Other}
+use Rattle.span_event.specs.Text.{Bytes}
+use Rattle.span_event.specs.declared.unit.Unit.{Unit}
+use Rattle.span_event.specs.declared.unit.Unit.TheVariants.{Microseconds, Nanoseconds}
+use Rattle.span_report.specs.Lines.{json_text_of}
+use Rattle.span_table.specs.declared.column.Column.{Column}
+use Rattle.span_table.specs.declared.of.Of.{Of}
+use Rattle.span_table.specs.declared.of.Of.TheVariants.{Spans, Async}
+use Rattle.span_table.specs.declared.sums.Sums.{Sums}
+use Rattle.span_table.specs.declared.heads.Head.{Head}
+use Rattle.span_table.specs.declared.table.Row.{Row}
+use Rattle.span_table.specs.Columns.{column_name}
+use Rattle.span_table.specs.Keys.{TableKey}
+use Rattle.span_table_text.specs.Lines.{flag_text}
+use Rattle.span_table_text.specs.Shown.{Wanted, shown_rows}
+use Rattle.span_table.specs.Tables.{SpanTable}
+use Rattle.span_table.specs.Heads.{head_fits}
+use Rattle.span_table.specs.Sums.{fit}
+
+-- the parts with a comma between them
+abbrev pub with_commas : List Bytes → Bytes
+with_commas parts = join_with_byte 44 parts
+
+-- a member of an object, whose name is of letters and digits alone
+abbrev pub member_of : Bytes → Bytes → Bytes
+member_of name value = 34 ∷ (name ++ (34 ∷ 58 ∷ value))
+
+abbrev pub number_member : Bytes → ℕ → Bytes
+number_member name number = member_of name (decimal number)
+
+-- the members between braces
+abbrev pub object_of : List Bytes → Bytes
+object_of members = 123 ∷ (with_commas members ++ 125 ∷ [])
+
+-- the name of a column
+abbrev pub column_json : Column → Bytes
+column_json column = json_text_of (column_name column)
+
+-- the names of columns
+abbrev pub columns_json : List Column → Bytes
+columns_json columns = 91 ∷ (with_commas (map column_json columns) ++ 93 ∷ [])
+
+-- the members of a head
+abbrev pub head_members : Head → List Bytes
+head_members head =
+    number_member (codes "runs") head.runs ∷ number_member (codes "files") head.files ∷ number_member (codes "unread") head.unread ∷
+    number_member (codes "events") head.counts.accepted ∷ number_member (codes "refused") head.counts.refused ∷ number_member (codes "skipped") head.counts.skipped ∷
+    number_member (codes "queries") head.counts.queries ∷ number_member (codes "seals") head.counts.seals ∷ []
+
+-- a value as JSON: of what isn't kept an empty object
+abbrev pub json_of_value : ArgValue → Bytes
+json_of_value Nil = codes "null"
+json_of_value (Flag flag) = flag_text flag
+json_of_value (Whole number) = signed_decimal number
+json_of_value (Words text) = json_text_of text
+json_of_value Other = codes "{}"
+
+-- a column with its value
+abbrev pub value_member : Column → ArgValue → Bytes
+value_member column value = column_json column ++ 58 ∷ json_of_value value
+
+-- each column that has a value with it
+abbrev pub value_members : List Column → TableKey → List Bytes
+value_members [] key = []
+value_members (column ∷ columns) [] = []
+value_members (column ∷ columns) (None ∷ key) = value_members columns key
+value_members (column ∷ columns) (Some value ∷ key) = value_member column value ∷ value_members columns key
+
+abbrev pub sums_members : Of → Sums → List Bytes
+sums_members Spans sums = number_member (codes "count") sums.count ∷ number_member (codes "total") sums.total ∷ number_member (codes "self") sums.self_time ∷ []
+sums_members Async sums =
+    number_member (codes "closed") sums.count ∷ number_member (codes "total") sums.total ∷ number_member (codes "open") sums.unclosed ∷ number_member (codes "points") sums.points ∷ []
+
+-- what a table sums, where that isn't the spans of threads
+unfoldable pub of_member : Of → Bytes
+of_member Spans = []
+of_member Async = codes ",\"of\":\"async\""
+
+-- the unit of all times, where it isn't microseconds
+unfoldable pub unit_member : Unit → Bytes
+unit_member Microseconds = []
+unit_member Nanoseconds = codes ",\"unit\":\"ns\""
+
+-- with this each first line begins
+abbrev pub version_member : Of → Unit → Bytes
+version_member of unit = codes "\"tracebook\":1" ++ (of_member of ++ unit_member unit)
+
+-- the line of a row
+unfoldable pub json_line : Of → List Column → Row → Bytes
+json_line of columns row = object_of (value_members columns row.key ++ sums_members of row.sums) ++ 10 ∷ []
+
+-- the first line
+unfoldable pub json_head : Of → Unit → List Column → ℕ → Head → Bytes
+json_head of unit columns rows head =
+    object_of (version_member of unit ∷ member_of (codes "columns") (columns_json columns) ∷ number_member (codes "rows") rows ∷ head_members head) ++ 10 ∷ []
+
+-- the first line, and then one for each row
+abbrev pub text_of : Unit → SpanTable → Bytes
+text_of unit table = json_head table.of unit table.columns (length table.rows) table.head ++ flat_map (json_line table.of table.columns) table.rows
+
+-- the table without the rows that aren't shown
+abbrev pub shown_table : Wanted → SpanTable → SpanTable
+shown_table wanted table = record { of = table.of; columns = table.columns; head = table.head; rows = shown_rows wanted table.rows }
+
+abbrev pub json_of : Unit → Wanted → SpanTable → Bytes
+json_of unit wanted table = text_of unit (shown_table wanted table)
+
+-- the head and all sums have 64 bits
+abbrev pub numbers_fit : SpanTable → Bool
+numbers_fit table = head_fits table.head && list_all (λ (row : Row). fit row.sums) table.rows
+
+abbrev pub json_fits : Wanted → SpanTable → Bool
+json_fits wanted table = numbers_fit (shown_table wanted table)

@@ -1,0 +1,9 @@
+pub mod Json
+pub mod JsonPieces
+pub mod Lines
+pub mod Pieces
+pub mod Printed
+pub mod Ranking
+pub mod Ranks
+pub mod Shown
+pub mod Tokens

@@ -1,0 +1,41 @@
+-- What the texts for people have in common: the names of columns, values, and how many rows are shown.
+use Rattle.std.specs.Prelude.{ℕ, if◌then◌else◌, Bool, true, false, [], ◌∷◌, codes, decimal}
+use Rattle.std.specs.Fmt.{signed_decimal}
+use Rattle.json.specs.Print.{escape}
+use Rattle.span_event.specs.declared.args.ArgValue.{ArgValue}
+use Rattle.span_event.specs.declared.args.ArgValue.TheVariants.{Nil, Flag, Whole, Words, Other}
+use Rattle.span_event.specs.Text.{Bytes}
+use Rattle.span_report.specs.Lines.{json_text_of, line_of, or_dash}
+use Rattle.span_table.specs.declared.column.Column.{Column}
+use Rattle.span_table.specs.declared.heads.Head.{Head}
+use Rattle.span_table.specs.Columns.{Value, column_name}
+use Rattle.span_table_text.specs.Shown.{Wanted, wants_all}
+
+abbrev pub flag_text : Bool → Bytes
+flag_text true = codes "true"
+flag_text false = codes "false"
+
+-- a value that is there
+abbrev pub arg_text : ArgValue → Bytes
+arg_text Nil = codes "null"
+arg_text (Flag flag) = flag_text flag
+arg_text (Whole number) = signed_decimal number
+arg_text (Words text) = json_text_of text
+arg_text Other = codes "..."
+
+-- a value, or `-` where there is none
+unfoldable pub value_text : Value → Bytes
+value_text value = or_dash arg_text value
+
+-- the name of a column as JSON writes it, without the quotes
+unfoldable pub column_title : Column → Bytes
+column_title column = escape (column_name column)
+
+-- how many runs there are, and how many files, where the head is to tell it
+unfoldable pub runs_line : Bool → Head → Bytes
+runs_line tells_runs head =
+    if tells_runs then line_of (codes "runs" ∷ decimal head.runs ∷ codes "files" ∷ decimal head.files ∷ codes "unread" ∷ decimal head.unread ∷ []) else []
+
+-- how many keys are shown of how many, where not all are wanted
+unfoldable pub shown_line : Wanted → ℕ → ℕ → Bytes
+shown_line wanted shown all = if wants_all wanted then [] else line_of (codes "shown" ∷ decimal shown ∷ codes "of" ∷ decimal all ∷ [])

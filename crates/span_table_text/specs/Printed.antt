@@ -1,0 +1,141 @@
+-- Tables that are printed as JSON Lines, and those whose text can be read back.
+use Rattle.std.specs.Prelude.{◌≡◌, ◌≢◌, ◌<◌, ◌≤◌, ◌^◌, true, List, [], ◌∷◌, All, is_some, length, map, Some, None, FitsSigned, ⊤}
+use Rattle.std.specs.Int.{w64}
+use Rattle.std.specs.Str.{IsUtf8}
+use Rattle.span_event.specs.declared.args.ArgValue.TheVariants.{Whole, Words}
+use Rattle.span_event.specs.Text.{Bytes}
+use Rattle.span_event.specs.declared.unit.Unit.{Unit}
+use Rattle.span_table.specs.declared.column.Column.{Column}
+use Rattle.span_table.specs.declared.column.Column.TheVariants.{Pid, Tid, Process, Thread, Name, File, Cat, Scope, Id, Argument}
+use Rattle.span_table.specs.declared.of.Of.{Of}
+use Rattle.span_table.specs.declared.of.Of.TheVariants.{Spans, Async}
+use Rattle.span_table.specs.declared.sums.Sums.{Sums}
+use Rattle.span_table.specs.declared.table.Row.{Row}
+use Rattle.span_table.specs.Columns.{Run, Value, column_name, goes_with, is_column}
+use Rattle.span_table.specs.Heads.{head_fits}
+use Rattle.span_table.specs.Sums.{fit}
+use Rattle.span_table_text.specs.Json.{json_of, numbers_fit, shown_table, text_of}
+use Rattle.span_table.specs.Keys.{TableKey}
+use Rattle.span_table_text.specs.Shown.{Wanted, wants_all}
+use Rattle.span_table.specs.Tables.{RowsRise, SpanTable, table_of}
+
+-- a number, which has 64 bits
+abbrev pub IsWhole : Value → Type 0
+IsWhole (Some (Whole number)) = FitsSigned w64 number
+IsWhole value = ⊥
+
+abbrev pub IsWords : Value → Type 0
+IsWords (Some (Words text)) = ⊤
+IsWords value = ⊥
+
+-- the name of a process or a thread, which may have none
+abbrev pub IsName : Value → Type 0
+IsName None = ⊤
+IsName value = IsWords value
+
+-- whatever an argument may be
+abbrev pub IsOfArgument : Value → Type 0
+IsOfArgument (Some (Whole number)) = FitsSigned w64 number
+IsOfArgument value = ⊤
+
+-- a value that what is summed may have in a column
+abbrev pub MayHave : Column → Value → Type 0
+MayHave Pid value = IsWhole value
+MayHave Tid value = IsWhole value
+MayHave Process value = IsName value
+MayHave Thread value = IsName value
+MayHave Name value = IsWords value
+MayHave File value = IsWords value
+MayHave Cat value = IsWords value
+MayHave Scope value = IsWords value
+MayHave Id value = IsWords value
+MayHave (Argument key) value = IsOfArgument value
+
+-- the numbers of a key have 64 bits, as far as there are columns
+abbrev pub KeyFits : List Column → TableKey → Type 0
+KeyFits [] key = ⊤
+KeyFits (column ∷ columns) [] = ⊤
+KeyFits (column ∷ columns) (value ∷ key) = IsOfArgument value × KeyFits columns key
+
+-- all numbers of a table have 64 bits, and so has that of its rows
+pub record AllFit (table : SpanTable) : Type 0 where
+  pub numbers : numbers_fit table ≡ true
+  pub few : length table.rows < 2 ^ 64
+  pub keys : All (λ row. KeyFits table.columns row.key) table.rows
+
+-- the text of such a table, in this unit
+pub record IsPrint (unit : Unit) (text : Bytes) (table : SpanTable) : Type 0 where
+  pub fits : AllFit table
+  pub printed : text ≡ text_of unit table
+
+-- the run has a file, if that is the column
+abbrev pub HasFile : Run → Column → Type 0
+HasFile run File = is_some run.file ≡ true
+HasFile run column = ⊤
+
+-- each run has a file, if that is a column
+abbrev pub HaveFiles : List Column → List Run → Type 0
+HaveFiles columns runs = All (λ run. All (HasFile run) columns) runs
+
+-- a value for each column
+abbrev pub IsKeyOf : List Column → TableKey → Type 0
+IsKeyOf [] [] = ⊤
+IsKeyOf (column ∷ columns) (value ∷ key) = MayHave column value × IsKeyOf columns key
+IsKeyOf columns key = ⊥
+
+-- numbers that what is summed doesn't have are 0
+abbrev pub HasOwn : Of → Sums → Type 0
+HasOwn Spans sums = (sums.unclosed ≡ 0) × (sums.points ≡ 0)
+HasOwn Async sums = sums.self_time ≡ 0
+
+-- a key of spans has one; an asynchronous key may have no closed span
+abbrev pub HasSome : Of → Sums → Type 0
+HasSome Spans sums = 0 < sums.count
+HasSome Async sums = ⊤
+
+-- a row that a table by these columns may have
+pub record IsRowOf (of : Of) (columns : List Column) (row : Row) : Type 0 where
+  pub key : IsKeyOf columns row.key
+  pub own : HasOwn of row.sums
+  pub some : HasSome of row.sums
+  pub fits : fit row.sums ≡ true
+
+-- none comes twice
+abbrev pub AreDistinct : List Bytes → Type 0
+AreDistinct [] = ⊤
+AreDistinct (name ∷ names) = All (λ other. name ≢ other) names × AreDistinct names
+
+-- the columns that a table may have
+pub record AreColumns (of : Of) (columns : List Column) : Type 0 where
+  pub some : 0 < length columns
+  pub few : length columns ≤ 8
+  pub each : All (λ column. is_column column ≡ true) columns
+  pub suited : All (λ column. goes_with of column ≡ true) columns
+  pub distinct : AreDistinct (map column_name columns)
+
+-- a table whose text can be read back
+pub record IsTable (table : SpanTable) : Type 0 where
+  pub columns : AreColumns table.of table.columns
+  pub head : head_fits table.head ≡ true
+  pub few : length table.rows < 2 ^ 64
+  pub rows : All (IsRowOf table.of table.columns) table.rows
+  pub rise : RowsRise table.rows
+
+-- a part: the text of such a table, in this unit
+pub record IsPart (unit : Unit) (text : Bytes) (table : SpanTable) : Type 0 where
+  pub is : IsTable table
+  pub utf8 : IsUtf8 text
+  pub printed : text ≡ text_of unit table
+
+-- a text is that of one table, in one unit
+abbrev pub PartsAreTold : Type 0
+PartsAreTold = (unit second : Unit) (text : Bytes) (one other : SpanTable) → IsPart unit text one → IsPart second text other → (unit ≡ second) × (one ≡ other)
+
+-- where all rows are wanted, what JSON Lines have of a table is its print
+abbrev pub AllIsPrinted : Type 0
+AllIsPrinted = (unit : Unit) (wanted : Wanted) (table : SpanTable) → wants_all wanted ≡ true → AllFit (shown_table wanted table) → IsPrint unit (json_of unit wanted table) table
+
+-- what is printed of runs is a part, if they have their files, and its text is UTF-8
+abbrev pub PrintsAreParts : Type 0
+PrintsAreParts = (unit : Unit) (of : Of) (columns : List Column) (runs : List Run) (text : Bytes) → AreColumns of columns → HaveFiles columns runs → IsUtf8 text →
+    IsPrint unit text (table_of of columns runs) → IsPart unit text (table_of of columns runs)

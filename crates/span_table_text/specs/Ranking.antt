@@ -1,0 +1,33 @@
+-- The text of a ranking.
+use Rattle.std.specs.Prelude.{ℕ, Bool, List, ◌∷◌, ◌++◌, take, flat_map, length, map, codes, decimal}
+use Rattle.span_event.specs.declared.unit.Unit.{Unit}
+use Rattle.span_event.specs.Text.{Bytes}
+use Rattle.span_report.specs.Lines.{line_of, right_in}
+use Rattle.span_report.specs.Report.{head_lines}
+use Rattle.span_table.specs.declared.column.Column.{Column}
+use Rattle.span_table.specs.declared.of.Of.{Of}
+use Rattle.span_table.specs.declared.of.Of.TheVariants.{Spans, Async}
+use Rattle.span_table.specs.declared.sums.By.{By}
+use Rattle.span_table.specs.declared.table.Row.{Row}
+use Rattle.span_table_text.specs.Lines.{column_title, runs_line, shown_line, value_text}
+use Rattle.span_table_text.specs.Ranks.{ranked}
+use Rattle.span_table_text.specs.Shown.{Wanted, shown_rows}
+use Rattle.span_table.specs.Tables.{SpanTable}
+
+-- the names of the columns
+unfoldable pub column_line : Of → List Column → Bytes
+column_line Spans columns = line_of (right_in 16 (codes "self") ∷ right_in 16 (codes "total") ∷ right_in 8 (codes "count") ∷ map column_title columns)
+column_line Async columns =
+    line_of (right_in 16 (codes "total") ∷ right_in 8 (codes "closed") ∷ right_in 8 (codes "open") ∷ right_in 8 (codes "points") ∷ map column_title columns)
+
+-- the line of a row
+unfoldable pub ranked_line : Of → Row → Bytes
+ranked_line Spans row = line_of (right_in 16 (decimal row.sums.self_time) ∷ right_in 16 (decimal row.sums.total) ∷ right_in 8 (decimal row.sums.count) ∷ map value_text row.key)
+ranked_line Async row =
+    line_of (right_in 16 (decimal row.sums.total) ∷ right_in 8 (decimal row.sums.count) ∷ right_in 8 (decimal row.sums.unclosed) ∷ right_in 8 (decimal row.sums.points) ∷
+    map value_text row.key)
+
+-- the head of the report, how many runs there are where that is told, how many rows are shown, the names of the columns, and then a line for each of the first rows
+abbrev pub ranking_of : Unit → ℕ → By → Wanted → Bool → SpanTable → Bytes
+ranking_of unit most by wanted tells_runs table = let shown = shown_rows wanted table.rows in
+    head_lines unit table.head.counts ++ (runs_line tells_runs table.head ++ (shown_line wanted (length shown) (length table.rows) ++ (column_line table.of table.columns ++ flat_map (ranked_line table.of) (take most (ranked by shown)))))

@@ -1,0 +1,29 @@
+-- The rows of a table in the order of a ranking.
+use Rattle.std.specs.Prelude.{List}
+use Rattle.std.specs.declared.cmp.Ordering.{Ordering}
+use Rattle.std.specs.Ordering.{nat_cmp, ordering_then}
+use Rattle.span_keyed_tracks.specs.Keyed.{ascending}
+use Rattle.span_table.specs.declared.sums.By.{By}
+use Rattle.span_table.specs.declared.table.Row.{Row}
+use Rattle.span_table.specs.Keys.{key_cmp}
+use Rattle.std.specs.List.Sorted.{IsPermutation, IsStrictlySortedBy}
+use Rattle.span_table_text.specs.Shown.{Wanted, shown_rows}
+use Rattle.span_table.specs.Tables.{RowsRise}
+use Rattle.span_table.specs.Sums.{number_by}
+
+-- the greater number first, and then by key
+abbrev pub rank_order : By → Row → Row → Ordering
+rank_order by a b = ordering_then (nat_cmp (number_by by b.sums) (number_by by a.sums)) (key_cmp a.key b.key)
+
+-- rows in the order of a ranking
+abbrev pub ranked : By → List Row → List Row
+ranked by rows = ascending (rank_order by) rows
+
+-- each row has its place, and no two rank alike
+pub record RanksEachRow (by : By) (rows : List Row) : Type 0 where
+  pub places : IsPermutation rows (ranked by rows)
+  pub order : IsStrictlySortedBy (rank_order by) (ranked by rows)
+
+-- this holds of the rows that are shown of any that rise, by whatever number
+abbrev pub RankingsHaveEachRow : Type 0
+RankingsHaveEachRow = (by : By) (wanted : Wanted) (rows : List Row) → RowsRise rows → RanksEachRow by (shown_rows wanted rows)
