@@ -25,7 +25,14 @@ pub use runs::{Collected, RunEnd, RunError, collect_to_ledger, run, run_to_ledge
 pub use sealing::Sealing;
 pub use settings::Settings;
 pub use span_event::Unit;
-pub use span_journal::{Answer, BoxedReply, Cause, CountRow, Entry, Kind, Op, ProcessRow, Query, Reply, SpanRow, ThreadRow};
-pub use span_ledger::{ArgValue, Args, AsyncKey, AsyncRow, AsyncTotals, BoxedId, ClosedSpan, Event, Field, FlowKey, FlowRow, FlowTotals, IdKey, InstantRow, Item, ItemFault, Ledger, NamedSpan, Phase, ProcessPart, Reach, SeriesKey, SeriesRow, SeriesTotals, Text, ThreadPart};
+pub use span_journal::{
+    Answer, BoxedReply, Cause, CountRow, Entry, Kind, Op, ProcessRow, Query, Reply, SpanRow,
+    ThreadRow,
+};
+pub use span_ledger::{
+    ArgValue, Args, AsyncKey, AsyncRow, AsyncTotals, BoxedId, ClosedSpan, Event, Field, FlowKey,
+    FlowRow, FlowTotals, IdKey, InstantRow, Item, ItemFault, Ledger, NamedSpan, Phase, ProcessPart,
+    Reach, SeriesKey, SeriesRow, SeriesTotals, Text, ThreadPart,
+};
 pub use span_report::{Sink, SinkFault, WriteFault, Writer};
 pub use words::{fault_word, numbered_text};

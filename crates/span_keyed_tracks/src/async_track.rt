@@ -9,11 +9,11 @@ ghost use Rattle.span_keyed_tracks.specs.Async.{AsyncEvent, AsyncStandsFor, HasA
 mod key_spans;
 
 use crate::fault::TrackFault;
-use span_names::HashKeys;
 use crate::hashed;
 use crate::keys::AsyncKey;
 use indexmap::IndexMap;
 use key_spans::KeySpans;
+use span_names::HashKeys;
 use std::alloc::{AllocError, Global};
 use std::marker::Model;
 

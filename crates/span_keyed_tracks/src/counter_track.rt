@@ -15,12 +15,12 @@ mod running;
 mod shared_key;
 
 use crate::fault::TrackFault;
-use span_names::HashKeys;
 use crate::keys::SeriesKey;
 use indexmap::IndexMap;
 use running::Running;
 use shared_key::{Counter, SharedKey};
 use span_event::{ArgValue, Event};
+use span_names::HashKeys;
 use std::alloc::{AllocError, Global};
 use std::marker::Model;
 

@@ -8,11 +8,11 @@ ghost use Rattle.span_keyed_tracks.specs.Flow.{flow_closed, flow_cmp, flow_point
 mod key_chains;
 
 use crate::fault::TrackFault;
-use span_names::HashKeys;
 use crate::hashed;
 use crate::keys::FlowKey;
 use indexmap::IndexMap;
 use key_chains::KeyChains;
+use span_names::HashKeys;
 use std::alloc::{AllocError, Global};
 use std::marker::Model;
 

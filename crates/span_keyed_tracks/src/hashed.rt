@@ -10,9 +10,9 @@ ghost use Rattle.span_keyed_tracks.specs.Keyed.{AreDistinct, in_key_order, kept_
 ghost use Rattle.span_keyed_tracks.specs.KeyedKept.{ChangesAt};
 
 use crate::fault::TrackFault;
-use span_names::HashKeys;
 use crate::key_change::Key;
 use indexmap::IndexMap;
+use span_names::HashKeys;
 use std::alloc::Global;
 use std::hash::Hash;
 

@@ -28,6 +28,9 @@ pub use span_journal::{
     Answer, Back, BoxedReply, Cause, CountRow, Entry, Kind, Op, ProcessRow, Query, Reply, SpanRow,
     ThreadRow, laws,
 };
-pub use span_keyed_tracks::{AsyncKey, AsyncRow, AsyncTotals, FlowKey, FlowRow, FlowTotals, InstantRow, SeriesKey, SeriesRow, SeriesTotals};
+pub use span_keyed_tracks::{
+    AsyncKey, AsyncRow, AsyncTotals, FlowKey, FlowRow, FlowTotals, InstantRow, SeriesKey,
+    SeriesRow, SeriesTotals,
+};
 pub use span_names::HashKeys;
 pub use span_track::ClosedSpan;

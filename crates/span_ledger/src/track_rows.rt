@@ -79,24 +79,13 @@ pub(crate) fn thread_row(
 fn named_row(spans: &ThreadTracks, thread: &Thread, name: Option<Text>) -> ThreadRow
     ensures { result ≡ track_row spans.now.threads thread.now name }
 {
-    match spans.threads.get(thread) {
+    let (unclosed, busy) = match spans.threads.get(thread) {
         Some(track) => {
             let track = track.as_track();
-            row_of(thread, name, track.depth(), track.busy())
+            (track.depth(), track.busy())
         }
-        None => row_of(thread, name, 0, 0),
-    }
-}
-
-fn row_of(thread: &Thread, name: Option<Text>, unclosed: u32, busy: u64) -> ThreadRow
-    ensures { result ≡ record {
-      pid = thread.now.pid;
-      tid = thread.now.tid;
-      name = name;
-      unclosed = unclosed;
-      busy = busy;
-    } }
-{
+        None => (0, 0),
+    };
     ThreadRow {
         pid: thread.pid,
         tid: thread.tid,

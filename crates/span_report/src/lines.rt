@@ -4,8 +4,8 @@ ghost use Rattle.span_report.specs.Lines.{first_line, unit_line, count_line, sea
 
 use serde_json::Value;
 use span_event::{BoxedId, Reach, Text, Unit};
-use span_keyed_tracks::{AsyncRow, FlowRow, InstantRow, SeriesRow, SeriesTotals};
 use span_journal::{CountRow, ProcessRow, SpanRow, ThreadRow};
+use span_keyed_tracks::{AsyncRow, FlowRow, InstantRow, SeriesRow, SeriesTotals};
 use std::alloc::{AllocError, Global};
 
 /// What a report prints as lines.

@@ -14,7 +14,10 @@ pub use book::{Book, Receipt};
 pub use seat::Seat;
 pub use share::{Share, ShareError};
 pub use span_journal::{Answer, Back, BoxedReply, Cause, Entry, Op, Query, Reply};
-pub use span_ledger::{ArgValue, Args, AsyncKey, BoxedId, Event, Field, FlowKey, HashKeys, IdKey, Item, ItemFault, Ledger, Phase, Reach, SeriesKey, Text};
+pub use span_ledger::{
+    ArgValue, Args, AsyncKey, BoxedId, Event, Field, FlowKey, HashKeys, IdKey, Item, ItemFault,
+    Ledger, Phase, Reach, SeriesKey, Text,
+};
 
 #[cfg(test)]
 mod tests;

@@ -3,8 +3,8 @@ ghost use Rattle.std.specs.Prelude.{◌≡◌, nat_eq};
 ghost use Rattle.span_self_time.specs.Spans.{self_of, busy_time};
 
 use crate::thread::ThreadTrack;
-pub use span_self_time::laws::self_law;
 use span_closed_spans::walk;
+pub use span_self_time::laws::self_law;
 
 /// The self times of the spans of one name, in ticks, found by walking through each of these spans.
 pub fn self_plain(track: &ThreadTrack, name: u32) -> u64

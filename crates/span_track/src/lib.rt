@@ -7,9 +7,13 @@ pub mod laws;
 mod thread;
 mod wanted;
 
-pub use span_event::{ArgValue, Args, BoxedId, Event, IdKey, Phase, Reach, Text};
 pub use span_closed_spans::NameTotal;
-pub use span_keyed_tracks::{AsyncKey, AsyncRow, AsyncTotals, AsyncTrack, CounterTrack, FlowClosed, FlowKey, FlowRow, FlowTotals, FlowTrack, InstantRow, MetaTrack, ProcessNames, SeriesKey, SeriesRow, SeriesTotals, ThreadNames, TrackFault, names_thread};
+pub use span_event::{ArgValue, Args, BoxedId, Event, IdKey, Phase, Reach, Text};
+pub use span_keyed_tracks::{
+    AsyncKey, AsyncRow, AsyncTotals, AsyncTrack, CounterTrack, FlowClosed, FlowKey, FlowRow,
+    FlowTotals, FlowTrack, InstantRow, MetaTrack, ProcessNames, SeriesKey, SeriesRow, SeriesTotals,
+    ThreadNames, TrackFault, names_thread,
+};
 pub use span_names::{HashKeys, Names};
 pub use span_self_time::{ClosedSpan, Segment};
 pub use thread::ThreadTrack;

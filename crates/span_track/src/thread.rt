@@ -13,9 +13,9 @@ ghost use Rattle.span_self_time.specs.Closed.{span_of, AreClosed};
 ghost use Rattle.span_closed_spans.specs.Totals.{total_for};
 
 use crate::wanted::Wanted;
+use span_closed_spans::{ClosedSpans, NameTotal};
 use span_event::{Args, Fault, merge_args};
 use span_keyed_tracks::TrackFault;
-use span_closed_spans::{ClosedSpans, NameTotal};
 use span_self_time::{ClosedSpan, Segment};
 use std::alloc::{AllocError, Global};
 use std::marker::Model;

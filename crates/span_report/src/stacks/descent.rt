@@ -4,8 +4,8 @@ ghost use Rattle.span_ledger.specs.Named.{AreThreadSpans};
 ghost use Rattle.span_report.specs.Stacks.Descent.{IsNextSplit, IsPopped, IsReady, StartsWith, Tells};
 
 use super::ends::{RankedSpans, bounds};
-use super::parts::{Part, Stretch, compare_nearness, split};
 use super::framed::StackFrame;
+use super::parts::{Part, Stretch, compare_nearness, split};
 use span_event::Text;
 use span_ledger::NamedSpan;
 use std::alloc::{AllocError, Global};

@@ -3,8 +3,8 @@
 use super::arguments::args_at;
 use super::placed::Placed;
 use super::{expect_busy, expect_name, expect_plain_times};
-use span_read::{ArgValue, Args, read_items};
 use span_closed_spans::NameTotal;
+use span_read::{ArgValue, Args, read_items};
 use span_track::{ThreadTrack, TrackFault};
 use std::alloc::Global;
 use std::process::Abort;
