@@ -72,15 +72,14 @@ impl NameTotals {
         ensures { result ≡ total_in (entries_of self.now) name }
     {
         match self {
-            NameTotals::Empty => NameTotal::of_none(),
             NameTotals::Single { name: only, length } if *only == name => NameTotal::of_one(
                 *length,
             ),
-            NameTotals::Single { .. } => NameTotal::of_none(),
             NameTotals::Many(totals) => match totals.get(&name) {
                 Some(total) => *total,
                 None => NameTotal::of_none(),
             },
+            _ => NameTotal::of_none(),
         }
     }
 

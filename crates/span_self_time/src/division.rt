@@ -1,5 +1,5 @@
 //! The division of a thread's time, kept in the way that suits the order in which its spans come.
-ghost use Rattle.std.specs.Prelude.{◌≡◌, ◌≢◌, ◌≤◌, ℕ, ◌≤ℤ◌, nat_eq, List, [], ◌∷◌, ◌++◌, length, map, take, slice_get, option_copied, All, OnOk, OnErr, IfOk};
+ghost use Rattle.std.specs.Prelude.{◌≡◌, ◌≢◌, ◌≤◌, ℕ, ◌≤ℤ◌, nat_eq, List, [], ◌∷◌, ◌++◌, length, map, slice_get, option_copied, All, OnOk, OnErr, IfOk};
 ghost use Rattle.span_self_time.specs.Spans.{Span, self_of, self_time, busy_time};
 ghost use Rattle.span_self_time.specs.Closed.{span_of, IsInTime, AreClosed};
 ghost use Rattle.span_self_time.specs.Segments.{HasSegmentsWith};
@@ -24,7 +24,7 @@ use time_map::TimeMap;
 // Where stacks have to move more parts than these for each span, a search is the quicker.
 const MOVES_FOR_A_SPAN: u64 = 128;
 
-/// The time of some closed spans, which it doesn't keep itself: of each, it has the stretches in which no other ranks above.
+/// How time is divided among closed spans. The spans themselves are kept by whoever adds them.
 #[derive(Drop)]
 pub struct Division {
     way: Way,
@@ -52,7 +52,7 @@ impl Division {
         }
     }
 
-    /// The time of no spans, among which each that is added is searched for from the first on. It tells the same as others.
+    /// The time of no spans, in which each that is added is searched for, from the first on. No reader can tell it from `new`'s.
     pub fn searching() -> Division
         ensures { Divides [] result }
     {
@@ -128,23 +128,12 @@ impl Division {
         ensures { IfOk result (λ times. times.items
             ≡ map (self_time (map span_of spans.now)) (map span_of spans.now)) }
     {
-        let lengths = self.lengths(spans, alloc)?;
+        let mut lengths = Lengths::of(spans, alloc)?;
+        self.way.tell_parts(&mut lengths)?;
         let mut times = Vec::with_capacity(alloc, spans.len())?;
         for span in spans {
             times.push(lengths.at(span.at))?;
         }
-        Ok(times)
-    }
-
-    // How long the parts of each of the spans are together, which are all that were added.
-    fn lengths(&self, spans: &[ClosedSpan], alloc: Global) -> Result<Lengths, AllocError>
-        requires closed { AreClosed (map span_of spans.now) }
-        requires division { Divides (map span_of spans.now) self.now }
-        ensures { IfOk result (λ times. All (λ s. time_at times s.at
-            ≡ self_time (map span_of spans.now) s) (map span_of spans.now)) }
-    {
-        let mut times = Lengths::of(spans, alloc)?;
-        self.way.tell_parts(&mut times)?;
         Ok(times)
     }
 
@@ -161,7 +150,8 @@ impl Division {
         requires in_time { IsInTime (span_of span.now) }
         requires apart { All (λ s. s.at ≢ span.now.at) (map span_of others.now) }
         requires division { Divides (map span_of others.now) self.old }
-        ensures ok { OnOk result (Divides (map span_of others.now ++ span_of span.now ∷ []) self.new) }
+        ensures ok { OnOk result
+            (Divides (map span_of others.now ++ span_of span.now ∷ []) self.new) }
         ensures err { OnErr result (Divides (map span_of others.now) self.new) }
     {
         let part = Part::whole(span);
@@ -170,16 +160,18 @@ impl Division {
         Ok(())
     }
 
-    // Turns to a search where stacks had to move too many parts for the spans so far, with those for this span. Where memory is
-    // refused, nothing changes.
+    // Turns to a search among what these spans, which are all that were added, make of the time, where stacks had to move too
+    // many parts for them, with those for the new one. Where memory is refused, nothing changes.
     fn suit(&mut self, span: &Part, spans: &[ClosedSpan], alloc: Global) -> Result<(), AllocError>
         requires { AreClosed (map span_of spans.now) }
         ensures { Divides (map span_of spans.now) self.old
             → Divides (map span_of spans.now) self.new }
     {
         let moves = self.moves.saturating_add(self.way.moves_for(span));
-        if moves / MOVES_FOR_A_SPAN > spans.len() as u64 {
-            self.way.search(spans, alloc)?;
+        let too_many = moves / MOVES_FOR_A_SPAN > spans.len() as u64;
+        if too_many && !matches!(self.way, Way::Searched(_)) {
+            let time_map = time_map_of(spans, alloc)?;
+            self.way = Way::Searched(Box::new(alloc, time_map)?);
         }
         self.moves = moves;
         Ok(())
@@ -240,20 +232,6 @@ impl Way {
             Way::Stacked(stacks) => stacks.moves_for(span),
             Way::Lone(_) | Way::Searched(_) => 0,
         }
-    }
-
-    // From now on searches among what these spans, which are all that were added, make of the time. Where memory is refused,
-    // nothing changes.
-    fn search(&mut self, spans: &[ClosedSpan], alloc: Global) -> Result<(), AllocError>
-        requires { AreClosed (map span_of spans.now) }
-        ensures { IsWay (owners_of (map span_of spans.now)) self.old
-            → IsWay (owners_of (map span_of spans.now)) self.new }
-    {
-        if !matches!(self, Way::Searched(_)) {
-            let time_map = time_map_of(spans, alloc)?;
-            *self = Way::Searched(Box::new(alloc, time_map)?);
-        }
-        Ok(())
     }
 }
 

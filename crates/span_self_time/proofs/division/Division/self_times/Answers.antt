@@ -1,10 +1,12 @@
-use Rattle.std.proofs.Common.{◌≡◌, ℕ, List, [], ◌∷◌, map, take, refl, sym, ap, ap₂, ◌∙◌, take_all, All}
+use Rattle.std.proofs.Common.{◌≡◌, ℕ, List, [], ◌∷◌, map, take, get_or, refl, sym, ap, ap₂, ◌∙◌, subst, take_all, arith, All, OnOk}
 use Rattle.std.proofs.lemmas.List.Elements.{All-head, All-tail}
 use Rattle.std.proofs.lemmas.Simd.{map-map}
 use Rattle.span_self_time.specs.declared.span.ClosedSpan.{ClosedSpan}
 use Rattle.span_self_time.specs.Closed.{span_of}
-use Rattle.span_self_time.specs.Division.Lengths.{time_at}
+use Rattle.span_self_time.specs.Division.{owners_of}
+use Rattle.span_self_time.specs.Division.Lengths.{time_at, Gains}
 use Rattle.span_self_time.specs.Spans.{Span, self_time}
+use Rattle.span_self_time.proofs.Lengths.{length_at-self_time}
 use Rattle.span_self_time.proofs.division.Division.self_times.Goals as goal
 
 map-same : {X Y : Type 0} (f g : X → Y) (xs : List X) → All (λ x. f x ≡ g x) xs → map f xs ≡ map g xs
@@ -15,7 +17,14 @@ pub returns : goal.returns
 returns c =
     let list = c.args.spans.now in
     let spans = map span_of list in
-    let time : Span ℕ → ℕ = λ s. time_at c.in_ok-lengths.lengths s.at in
+    let none = c.in_ok-lengths.lengths in
+    let told = c.tell_parts.new.times in
+    let time : Span ℕ → ℕ = λ s. time_at told s.at in
+    let has = c.tell_parts.ensures (owners_of spans) c.requires.division in
+    let gains : Gains none has.parts told = subst (λ r. OnOk r (Gains none has.parts told)) c.in_ok-tell_parts.was has.holds in
+    let own : All (λ s. time s ≡ self_time spans s) spans = λ k d within.
+    let at = (get_or spans k d).at in
+    omega (arith, gains at, c.in_ok-lengths.ensures at, length_at-self_time spans has.parts c.requires.closed has.are k d within) in
     let all : take c.loop-span.span-index list ≡ list = take_all c.loop-span.span-index list c.loop-span-test.false in
     c.loop-span.invariant ∙ ap (map (λ (s : ClosedSpan). time (span_of s))) all ∙ sym (map-map time span_of list)
-    ∙ map-same time (self_time spans) spans c.in_ok-lengths.ensures
+    ∙ map-same time (self_time spans) spans own
