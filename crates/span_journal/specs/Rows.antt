@@ -1,9 +1,8 @@
 -- The rows of a journal, in the order in which a report prints them.
-use Rattle.span_event.specs.Text.{Bytes}
+use Rattle.span_event.specs.Text.{Bytes, same_text, text_cmp}
 use Rattle.std.specs.Prelude.{◌+◌, ◌<◌, ◌^◌, if◌then◌else◌, ℕ, ℤ, List, length, map, filter_map, flat_map, count_by, Some, None}
 use Rattle.std.specs.Ordering.{int_cmp}
 use Rattle.span_event.specs.Orders.{thread_cmp}
-use Rattle.span_event.specs.Text.{same_text, text_cmp}
 use Rattle.span_self_time.specs.Spans.{Span, busy_time, named, total_of, self_of}
 use Rattle.span_keyed_tracks.specs.declared.async_track.AsyncRow.{AsyncRow}
 use Rattle.span_keyed_tracks.specs.declared.counter_track.SeriesRow.{SeriesRow}

@@ -1,5 +1,4 @@
 pub mod Grouped
-pub mod Keys
 pub mod Named
 pub mod Numbered
 pub mod Telling

@@ -6,13 +6,13 @@ ghost use Rattle.span_journal.specs.Told.{async_step, async_event};
 ghost use Rattle.span_ledger.specs.Telling.{TellsAsync};
 
 use crate::answer_pair::{AnswerPair, twice};
-use crate::event_key::{put_async_key, take_async_key};
-use span_event::{Event, Phase};
+use span_event::{Event, Phase, Text};
 use span_journal::Answer;
 use span_keyed_tracks::{AsyncKey, AsyncTrack, TrackFault};
 use std::alloc::Global;
+use std::mem;
 
-// An asynchronous event is told to the track. Its key has the event's own texts for so long: a copy of an id takes memory.
+// An asynchronous event is told to the track. Its key has the event's own texts for so long, so that none is copied.
 pub(crate) fn tell_async(
     alloc: Global,
     track: &mut AsyncTrack,
@@ -24,10 +24,20 @@ pub(crate) fn tell_async(
     ensures same { event.new ≡ event.old }
     ensures tells { TellsAsync track.old (async_event event.old event.old.phase) result track.new }
 {
-    let (phase, ts) = (event.phase, event.ts);
-    let key = take_async_key(alloc, event);
-    let told = tell_step(track, &key, phase, ts);
-    put_async_key(event, key);
+    let Some(id) = event.key.take() else {
+        unreachable!();
+    };
+    let key = AsyncKey {
+        cat: mem::replace(&mut event.cat, Text::empty(alloc)),
+        scope: mem::replace(&mut event.scope, Text::empty(alloc)),
+        id,
+        name: mem::replace(&mut event.name, Text::empty(alloc)),
+    };
+    let told = tell_step(track, &key, event.phase, event.ts);
+    event.cat = key.cat;
+    event.scope = key.scope;
+    event.key = Some(key.id);
+    event.name = key.name;
     told
 }
 

@@ -6,11 +6,11 @@ ghost use Rattle.span_journal.specs.Told.{flow_point, flow_event};
 ghost use Rattle.span_ledger.specs.Telling.{TellsFlow};
 
 use crate::answer_pair::{AnswerPair, twice};
-use crate::event_key::{put_flow_key, take_flow_key};
-use span_event::{Event, Phase};
+use span_event::{Event, Phase, Text};
 use span_journal::Answer;
 use span_keyed_tracks::{FlowClosed, FlowKey, FlowTrack, TrackFault};
 use std::alloc::Global;
+use std::mem;
 
 // A flow event is told to the track. Its key has the event's own texts for so long, as that of an asynchronous event.
 pub(crate) fn tell_flow(
@@ -24,10 +24,18 @@ pub(crate) fn tell_flow(
     ensures same { event.new ≡ event.old }
     ensures tells { TellsFlow track.old (flow_event event.old event.old.phase) result track.new }
 {
-    let (phase, ts) = (event.phase, event.ts);
-    let key = take_flow_key(alloc, event);
-    let told = tell_point(track, &key, phase, ts);
-    put_flow_key(event, key);
+    let Some(id) = event.key.take() else {
+        unreachable!();
+    };
+    let key = FlowKey {
+        cat: mem::replace(&mut event.cat, Text::empty(alloc)),
+        name: mem::replace(&mut event.name, Text::empty(alloc)),
+        id,
+    };
+    let told = tell_point(track, &key, event.phase, event.ts);
+    event.cat = key.cat;
+    event.name = key.name;
+    event.key = Some(key.id);
     told
 }
 

@@ -5,7 +5,6 @@
 mod answer_pair;
 mod async_events;
 mod counter_events;
-mod event_key;
 mod flow_events;
 mod ledger;
 mod listed;

@@ -11,9 +11,8 @@ use Rattle.span_table.specs.declared.of.Of.{Of}
 use Rattle.span_table.specs.declared.of.Of.TheVariants.{Spans, Async}
 use Rattle.span_table.specs.declared.sums.Sums.{Sums}
 use Rattle.span_event.specs.declared.args.ArgValue.{ArgValue}
-use Rattle.span_table.specs.Columns.{Value, column_name}
+use Rattle.span_table.specs.Columns.{Value, column_name, is_column}
 use Rattle.span_table.specs.Keys.{TableKey}
-use Rattle.span_table.specs.Columns.{is_column}
 use Rattle.span_table_text.specs.Printed.{AreDistinct, IsKeyOf, IsOfArgument}
 use Rattle.span_table_text.specs.Tokens.{key_tokens, name_tokens, sums_tokens, value_tokens}
 use Rattle.span_table_text.proofs.PartsTold.{column_name-not_first_number, first_number}

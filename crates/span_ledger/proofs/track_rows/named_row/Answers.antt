@@ -4,11 +4,16 @@ use Rattle.span_keyed_tracks.proofs.Keyed.{kept_at-found}
 use Rattle.span_track.specs.Thread.{thread_spans}
 use Rattle.span_ledger.specs.Tracked.{SpansKept, track_at}
 use Rattle.span_ledger.proofs.track_rows.named_row.Goals as goal
+use Rattle.span_ledger.proofs.track_rows.named_row.Goals.{in-Some, in-None}
 
-pub returns-in-Some : goal.returns-in-Some
-returns-in-Some c =
+pub returns : goal.returns
+returns c =
     let thread = c.args.thread.now in
-    let same : track_at c.args.spans.now.threads thread ≡ c.in-Some.track.now =
-    ap (λ (kept : SpansKept). track_at kept.threads thread) (sym c.spans.view_is)
-    ∙ kept_at-found thread_cmp (thread_spans []) c.spans.inside.threads.entries thread c.in-Some.track.now (sym c.in-Some.ensures.value) in
-    rw same (search rules)
+    elim c.match-get.branch [
+      | in-Some w ↦
+          let same : track_at c.args.spans.now.threads thread ≡ w.in-Some.track.now =
+          ap (λ (kept : SpansKept). track_at kept.threads thread) (sym c.spans.view_is)
+          ∙ kept_at-found thread_cmp (thread_spans []) c.spans.inside.threads.entries thread w.in-Some.track.now (sym w.in-Some.ensures.value) in
+          rw same (search rules)
+      | in-None w ↦ search rules
+    ]
