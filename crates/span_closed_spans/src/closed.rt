@@ -8,7 +8,8 @@ ghost use Rattle.span_self_time.specs.Segments.{lasts, AreSegments, HasSegments,
 ghost use Rattle.span_closed_spans.specs.Totals.{total_for};
 
 use crate::name_totals::{NameTotal, NameTotals};
-use span_self_time::{ClosedSpan, Division, Segment, distance};
+use span_event::distance;
+use span_self_time::{ClosedSpan, Division, Segment};
 use std::alloc::{AllocError, Global};
 use std::marker::Model;
 

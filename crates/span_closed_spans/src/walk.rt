@@ -6,7 +6,8 @@ ghost use Rattle.span_self_time.specs.Spans.{covers, is_outranked, is_covered, c
 ghost use Rattle.span_self_time.specs.Closed.{span_of, greatest_until, IsInTime, AreClosed};
 ghost use Rattle.span_closed_spans.specs.Walk.{IsUnbroken, counts};
 
-use span_self_time::{ClosedSpan, distance};
+use span_event::distance;
+use span_self_time::ClosedSpan;
 use std::alloc::{AllocError, Global};
 
 /// Which ticks a walk counts.

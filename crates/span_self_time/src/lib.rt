@@ -9,5 +9,5 @@ mod span;
 
 pub use division::Division;
 pub use segment::Segment;
-pub use span::{ClosedSpan, distance};
+pub use span::ClosedSpan;
 pub use span_event::Args;

@@ -7,6 +7,7 @@ ghost use Rattle.span_self_time.specs.Division.{owner_of, claims, between, whole
 ghost use Rattle.span_self_time.specs.Division.Stacks.{part_length};
 
 use crate::span::ClosedSpan;
+use span_event::distance;
 
 /// A stretch of time that belongs to one closed span: no span that covers it ranks above. It holds the ticks from `start`
 /// to before `until`. `name` is the number of the span's name, and `at` the position in the journal of the event that opened it.
@@ -60,11 +61,7 @@ impl Part {
     pub(crate) fn length(&self) -> u64
         ensures { result ≡ part_length self.now }
     {
-        if self.segment.start < self.segment.until {
-            self.segment.until.abs_diff(self.segment.start)
-        } else {
-            0
-        }
+        distance(self.segment.start, self.segment.until)
     }
 
     pub(crate) fn outranks(&self, other: &Part) -> bool

@@ -1,9 +1,7 @@
-//! Closed spans, and how far two times lie apart.
-ghost use Rattle.std.specs.Prelude.{◌≡◌, ◌≤ℤ◌};
-ghost use Rattle.span_event.specs.Time.{distance};
-ghost use Rattle.span_event.specs.Event.{least_time};
+//! Closed spans.
+ghost use Rattle.std.specs.Prelude.{◌≡◌};
 ghost use Rattle.span_self_time.specs.Spans.{outranks};
-ghost use Rattle.span_self_time.specs.Closed.{greatest_until, span_of};
+ghost use Rattle.span_self_time.specs.Closed.{span_of};
 
 use crate::segment::Part;
 use span_event::Args;
@@ -26,14 +24,4 @@ impl ClosedSpan {
     {
         Part::whole(self).outranks(&Part::whole(other))
     }
-}
-
-/// How many ticks there are from one time to another.
-pub fn distance(from: i64, to: i64) -> u64
-    requires forward { from ≤ℤ to }
-    requires from_in_time { least_time ≤ℤ from }
-    requires to_in_time { to ≤ℤ greatest_until }
-    ensures value { result ≡ distance from to }
-{
-    to.abs_diff(from)
 }

@@ -6,12 +6,10 @@ use Rattle.std.proofs.lemmas.List.{append-nil}
 use Rattle.span_self_time.specs.declared.segment.Part.{Part}
 use Rattle.span_self_time.specs.Spans.{Span, covers, outranks}
 use Rattle.span_event.specs.Event.{least_time}
-use Rattle.span_self_time.specs.Closed.{greatest_until}
 use Rattle.span_self_time.specs.Division.{Owners, owner_of, claims, taken, Belong, AreFuture, IsNew, AreParts, between}
 use Rattle.span_self_time.specs.Division.Stacks.{ArePast, IsOnly, parts_of, piece, starts_before, ends_by, IsTakenTo, IsNextPart, IsAtStart}
 use Rattle.span_self_time.proofs.Owners.{taken-before, taken-after, taken-within, taken-kept}
 use Rattle.span_self_time.proofs.Counts.{int_lt-above}
-use Rattle.span_self_time.proofs.Stacks.PartLengths.{whole_length-le}
 use Rattle.span_self_time.proofs.Stacks.Cursor.{StartsFrom, EndsBy-lasts_beyond, AreFuture-none, AreFuture-later, HasCursor-parts, IsCursor-within, IsCursor-before, AreParts-cursor}
 use Rattle.span_self_time.proofs.Stacks.Ends.{reverse-push}
 
@@ -82,8 +80,6 @@ pub record IsTakenUpTo (s : Span ℕ) (from until : ℤ) (p : Part) : Type 0 whe
   pub within : until ≤ℤ p.segment.until
   pub covered : until ≤ℤ s.until
   pub rest : until <ℤ s.until → until ≡ p.segment.until
-  pub from_in_time : least_time ≤ℤ from
-  pub in_time : until ≤ℤ greatest_until
 
 pub IsTakenUpTo-next : (s : Span ℕ) (from until : ℤ) (p : Part) (past future : List Part) (owners : Owners) → IsNextPart s from p past future owners → until ≡ int_min p.segment.until s.until → IsTakenUpTo s from until p
 IsTakenUpTo-next s from until p past future owners next is = record {
@@ -91,8 +87,6 @@ IsTakenUpTo-next s from until p past future owners next is = record {
   within = omega (arith, ints, clamps, is);
   covered = omega (arith, ints, clamps, is);
   rest = λ h. omega (arith, ints, clamps, is);
-  from_in_time = omega (arith, ints, next.in_time, next.begins);
-  in_time = omega (arith, ints, clamps, is, next.in_time);
 }
 
 -- what the span takes is its own
@@ -150,18 +144,13 @@ AreFuture-last owners t p rest after = subst (λ l. AreFuture owners t l) (rever
 -- the gap before the part that comes next
 pub record IsGapBefore (s : Span ℕ) (t : ℤ) (p : Part) (owners : Owners) : Type 0 where
   pub first : t ≤ℤ p.segment.start
-  pub from_in_time : least_time ≤ℤ t
-  pub in_time : p.segment.start ≤ℤ greatest_until
   pub belongs : p.segment.start ≤ℤ s.until → Belong (taken s owners) t p.segment.start (Some s)
 
 pub IsGapBefore-taken : (s : Span ℕ) (t : ℤ) (p : Part) (past rest : List Part) (owners : Owners) → IsTakenTo s t past (rest ++ p ∷ []) owners → IsGapBefore s t p owners
 IsGapBefore-taken s t p past rest owners at =
     let after = AreFuture-last owners t p rest at.after in
-    let fits = whole_length-le owners p.segment.until (reverse rest) after.5 in
     record {
       first = after.0;
-      from_in_time = omega (arith, ints, at.from, at.in_time);
-      in_time = omega (arith, ints, after.2, fits.0);
       belongs = λ within u here before. taken-within s owners u None true (omega (arith, ints, at.from)) (omega (arith, ints)) (after.1 u here before) refl;
     }
 

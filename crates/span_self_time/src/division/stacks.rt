@@ -3,8 +3,6 @@ ghost use Rattle.std.specs.Prelude.{true, false, map, option_copied, ◌≡◌, 
 ghost use Rattle.indexmap.specs.IndexMap.{get};
 ghost use Rattle.span_event.specs.Time.{distance};
 ghost use Rattle.span_self_time.specs.Spans.{outranks};
-ghost use Rattle.span_event.specs.Event.{least_time};
-ghost use Rattle.span_self_time.specs.Closed.{greatest_until};
 ghost use Rattle.span_self_time.specs.Division.{Owners, owner_of, taken, Belong, own_in, ForSome, CanAdd, Adds, KeepsOwners};
 ghost use Rattle.span_self_time.specs.Division.Lengths.{CanGain, Gains};
 ghost use Rattle.span_self_time.specs.Division.Stacks.{ArePast, IsOnly, parts_of, piece, ends_by, lasts_beyond, starts_before, AreStacks, IsMoved, IsEntering, IsTaking, IsAhead, IsPassing, IsTakenBack, IsGained};
@@ -12,8 +10,8 @@ ghost use Rattle.span_self_time.specs.Division.Stacks.{ArePast, IsOnly, parts_of
 use super::lengths::Lengths;
 use super::own_times::{gain_own, keep_name, lose_own, own_in};
 use crate::segment::{Part, Segment};
-use crate::span::distance;
 use indexmap::IndexMap;
+use span_event::distance;
 use std::alloc::{AllocError, Global};
 
 // Up to so many parts the cursor passes without being asked how many.
@@ -252,8 +250,6 @@ impl Stacks {
 
     fn gain(&mut self, span: &Part, from: i64, until: i64)
         requires lasts { from <ℤ until }
-        requires from_in_time { least_time ≤ℤ from }
-        requires to_in_time { until ≤ℤ greatest_until }
         requires room { vec_len self.old.past < vec_capacity self.old.past }
         requires kept { IsSome (get nat_eq self.old.own span.now.segment.name) }
         requires small { own_in self.old.own span.now.segment.name + distance from until < 2 ^ 64 }

@@ -18,12 +18,12 @@ overflow_add-time c =
     let from : to_z w64 (of_z w64 c.args.from) ≡ c.args.from = to_z-of_z c.ranges.from in
     let until : to_z w64 (of_z w64 c.args.until) ≡ c.args.until = to_z-of_z c.ranges.until in
     let most = counted_from-le (map span_of c.args.spans.now) c.args.counted (to_z w64 (of_z w64 c.args.from)) (to_z w64 (of_z w64 c.args.until)) (rw (from, until) c.requires.forward) (rw from c.requires.from_in_time) (rw until c.requires.to_in_time) in
-    omega (arith, step (goal.at.overflow_add-time c).After-counts true c.if-counts.true, most, c.loop-u.invariant.2, c.distance-time.ensures.value)
+    omega (arith, step (goal.at.overflow_add-time c).After-counts true c.if-counts.true, most, c.loop-u.invariant.2, c.distance-time.ensures)
 
 pub loop-u-preserved-then-counts : goal.loop-u-preserved-then-counts
 loop-u-preserved-then-counts c =
     let step = step (goal.at.loop-u-preserved-then-counts c).After-counts true c.if-counts.true in
-    (omega (arith, ints, c.loop-u.invariant.0), omega (arith, ints), omega (arith, step, c.loop-u.invariant.2, c.distance-time.ensures.value))
+    (omega (arith, ints, c.loop-u.invariant.0), omega (arith, ints), omega (arith, step, c.loop-u.invariant.2, c.distance-time.ensures))
 
 pub loop-u-preserved : goal.loop-u-preserved
 loop-u-preserved c =

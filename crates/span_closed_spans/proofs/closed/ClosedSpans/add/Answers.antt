@@ -50,7 +50,7 @@ length_is : (c : After-distance-length) → c.distance-length.result ≡ length_
 length_is c =
     let start : to_z w64 (of_z w64 c.args.span.start) ≡ c.args.span.start = search rules in
     let until : to_z w64 (of_z w64 c.args.span.until) ≡ c.args.span.until = search rules in
-    rw (start, until) at c.distance-length.ensures.value
+    rw (start, until) at c.distance-length.ensures
 
 pub add_span-requires-clause-total : goal.add_span-requires-clause-total
 add_span-requires-clause-total c =

@@ -27,15 +27,10 @@ from_is c = search rules
 pub push_between-requires : goal.push_between-requires
 push_between-requires c = omega (arith, c.requires.next.holds.room)
 
-pub distance-requires-clause-forward : goal.distance-requires-clause-forward
-distance-requires-clause-forward c =
-    let at = (goal.at.distance-requires-clause-forward c).After-min-until in
-    rw (until_is at, from_is at) (omega (arith, ints, (up_to at).forward))
-
 pub lose_own-requires-clause-some : goal.lose_own-requires-clause-some
 lose_own-requires-clause-some c =
     let at = (goal.at.lose_own-requires-clause-some c).After-min-until in
-    let length = rw (from_is at, until_is at) at c.distance.ensures.value in
+    let length = rw (from_is at, until_is at) at c.distance.ensures in
     omega (arith, length, distance-positive c.args.from c.min-until.result (up_to at).forward)
 
 pub lose_own-requires-clause-held : goal.lose_own-requires-clause-held
@@ -43,23 +38,13 @@ lose_own-requires-clause-held c =
     let at = (goal.at.lose_own-requires-clause-held c).After-min-until in
     let is = c.requires.next.holds in
     let up = up_to at in
-    let length = rw (from_is at, until_is at) at c.distance.ensures.value in
+    let length = rw (from_is at, until_is at) at c.distance.ensures in
     omega (arith, length, part-le-own _ _ c.args.from c.min-until.result _ c.args.self.now.past.items c.args.self.now.future.items is.sums is.next.within.0 (omega (arith, ints, up.forward)) up.within)
 
 pub gain-requires-clause-lasts : goal.gain-requires-clause-lasts
 gain-requires-clause-lasts c =
     let at = (goal.at.gain-requires-clause-lasts c).After-min-until in
     rw (until_is at, from_is at) (up_to at).forward
-
-pub gain-requires-clause-from_in_time : goal.gain-requires-clause-from_in_time
-gain-requires-clause-from_in_time c =
-    let at = (goal.at.gain-requires-clause-from_in_time c).After-min-until in
-    rw (from_is at) (up_to at).from_in_time
-
-pub gain-requires-clause-to_in_time : goal.gain-requires-clause-to_in_time
-gain-requires-clause-to_in_time c =
-    let at = (goal.at.gain-requires-clause-to_in_time c).After-min-until in
-    rw (until_is at) (up_to at).in_time
 
 pub gain-requires-clause-room : goal.gain-requires-clause-room
 gain-requires-clause-room c =
@@ -77,7 +62,7 @@ gain-requires-clause-small c =
     let is = c.requires.next.holds in
     let up = up_to at in
     let name = c.args.span.now.segment.name in
-    let lost = rw (from_is at, until_is at) at (rw c.distance.ensures.value at c.lose_own.ensures.sum name) in
+    let lost = rw (from_is at, until_is at) at (rw c.distance.ensures at c.lose_own.ensures.sum name) in
     rw (from_is at, until_is at) (ceded-small _ c.args.from c.min-until.result _ c.args.self.now.past.items c.args.self.now.future.items _ _ c.lose_own.new.own _ name (omega (arith, ints, up.forward)) up.within is.next is.sums lost)
 
 pub push_between-requires-2 : goal.push_between-requires-2
@@ -96,7 +81,7 @@ returns-clause-taken c = λ owners is.
     let future : c.push_between-2.new.parts.items ≡ c.args.self.now.future.items ++ piece c.args.part.now c.min-until.result c.args.part.now.segment.until = rw (until, ends, c.gain.ensures.future) at c.push_between-2.ensures.items in
     let gains = rw (from, until, past) at c.gain.ensures.past in
     let gained = gains (taken span owners) (IsOnly-taken span owners is.next.new) (Belong-ceded _ _ _ _ _ _ _ is.next c.requires.above up) (ArePast-ceded _ _ _ _ _ _ is.next) in
-    let length : c.distance.result ≡ distance c.args.from c.min-until.result = rw (from, until) at c.distance.ensures.value in
+    let length : c.distance.result ≡ distance c.args.from c.min-until.result = rw (from, until) at c.distance.ensures in
     let loses = rw length at c.lose_own.ensures.sum in
     let adds = rw (from, until) at c.gain.ensures.own in
     let head = rw (start, from) at c.push_between.ensures.len in

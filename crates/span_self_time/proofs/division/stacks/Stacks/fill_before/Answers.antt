@@ -12,19 +12,9 @@ overflow_add-self c =
     let is = c.requires.ahead.holds in
     let time : to_z w64 (of_z w64 c.args.time) ≡ c.args.time = search rules in
     let start : to_z w64 (of_z w64 c.args.part.now.segment.start) ≡ c.args.part.now.segment.start = search rules in
-    let length : c.distance.result ≡ distance c.args.time c.args.part.now.segment.start = rw (time, start) at c.distance.ensures.value in
+    let length : c.distance.result ≡ distance c.args.time c.args.part.now.segment.start = rw (time, start) at c.distance.ensures in
     let small = AreSmall-before _ _ _ _ _ _ _ _ (omega (arith, ints, c.if-time-part.true)) is.taken is.sums in
     omega (arith, small.of_all, length)
-
-pub gain-requires-clause-from_in_time : goal.gain-requires-clause-from_in_time
-gain-requires-clause-from_in_time c =
-    let time : to_z w64 (of_z w64 c.args.time) ≡ c.args.time = search rules in
-    rw time (IsGapBefore-taken _ _ _ _ _ _ c.requires.ahead.holds.taken).from_in_time
-
-pub gain-requires-clause-to_in_time : goal.gain-requires-clause-to_in_time
-gain-requires-clause-to_in_time c =
-    let start : to_z w64 (of_z w64 c.args.part.now.segment.start) ≡ c.args.part.now.segment.start = search rules in
-    rw start (IsGapBefore-taken _ _ _ _ _ _ c.requires.ahead.holds.taken).in_time
 
 pub gain-requires-clause-room : goal.gain-requires-clause-room
 gain-requires-clause-room c = omega (arith, c.requires.ahead.holds.room)
@@ -49,7 +39,7 @@ returns-then-time-part c = λ owners is.
     let gap = IsGapBefore-taken _ _ _ _ _ owners is.taken in
     let gains = rw (time, start) at c.gain.ensures.past in
     let gained = gains (taken span owners) (IsOnly-taken _ _ is.taken.new) (gap.belongs (omega (arith, ints, within))) is.taken.before in
-    let length : c.distance.result ≡ distance c.args.time c.args.part.now.segment.start = rw (time, start) at c.distance.ensures.value in
+    let length : c.distance.result ≡ distance c.args.time c.args.part.now.segment.start = rw (time, start) at c.distance.ensures in
     let adds = rw (time, start) at c.gain.ensures.own in
     let future = c.gain.ensures.future in
     let none = piece-none c.args.part.now c.args.part.now.segment.start c.args.part.now.segment.start (omega (arith, ints)) in

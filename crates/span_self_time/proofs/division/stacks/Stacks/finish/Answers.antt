@@ -12,7 +12,7 @@ overflow_add-self c =
     let is = c.requires.taken.holds in
     let time : to_z w64 (of_z w64 c.args.time) ≡ c.args.time = search rules in
     let until : to_z w64 (of_z w64 c.args.span.now.span_until) ≡ c.args.span.now.span_until = search rules in
-    let length : c.distance.result ≡ distance c.args.time c.args.span.now.span_until = rw (time, until) at c.distance.ensures.value in
+    let length : c.distance.result ≡ distance c.args.time c.args.span.now.span_until = rw (time, until) at c.distance.ensures in
     let starts = StartsFrom-starts_before c.args.span.now.span_until (reverse c.args.self.now.future.items) is.taken.in_time.1 c.requires.gap in
     let small = AreSmall-gap _ _ _ _ _ _ _ _ (omega (arith, ints, c.if-time-span.true)) starts is.taken is.sums in
     omega (arith, small.of_all, length)
@@ -40,7 +40,7 @@ returns-then-time-span c = λ owners is.
     let starts = StartsFrom-starts_before c.args.span.now.span_until (reverse c.args.self.now.future.items) is.taken.in_time.1 c.requires.gap in
     let gains = rw (time, until) at c.gain.ensures.past in
     let gained = gains (taken span owners) (IsOnly-taken _ _ is.taken.new) (Belong-gap _ _ c.args.span.now.span_until _ _ owners is.taken starts (omega (arith, ints))) is.taken.before in
-    let length : c.distance.result ≡ distance c.args.time c.args.span.now.span_until = rw (time, until) at c.distance.ensures.value in
+    let length : c.distance.result ≡ distance c.args.time c.args.span.now.span_until = rw (time, until) at c.distance.ensures in
     let adds = rw (time, until) at c.gain.ensures.own in
     record {
       parts = rw c.gain.ensures.future (AreParts-filled span c.args.time _ c.gain.new.self.past.items _ owners is.taken (omega (arith, ints, c.if-time-span.true)) starts gained.before);

@@ -29,7 +29,7 @@ length : (c : After-distance) → c.distance.result ≡ distance c.args.time c.e
 length c =
     let time : to_z w64 (of_z w64 c.args.time) ≡ c.args.time = search rules in
     let until : to_z w64 (of_z w64 c.end_of-until.result) ≡ c.end_of-until.result = search rules in
-    rw (time, until) at c.distance.ensures.value
+    rw (time, until) at c.distance.ensures
 
 pub charge-requires-clause-small : goal.charge-requires-clause-small
 charge-requires-clause-small c =
@@ -50,7 +50,7 @@ charge-requires-clause-held c =
     let owners = c.requires.taking.owners in
     let time : to_z w64 (of_z w64 t) ≡ t = search rules in
     let until : to_z w64 (of_z w64 n) ≡ n = search rules in
-    let length : c.distance.result ≡ distance t n = rw (time, until) at c.distance.ensures.value in
+    let length : c.distance.result ≡ distance t n = rw (time, until) at c.distance.ensures in
     let claim : IsClaimed s t n c.args.held c.args.self.now = record { within = c.requires.within; here = c.requires.held; claimed = c.requires.claimed; next = rw time at c.end_of-until.ensures } in
     held-length c.args.held c.args.self.now.own c.args.self.now.busy (taken_to s t owners) (taken_to s n owners) t n (Some s) c.distance.result c.requires.taking.holds.1.times
     (IsReplaced-taken s t n c.args.held c.args.self.now owners c.requires.taking.holds.0 c.requires.taking.holds.1 claim) length
@@ -68,7 +68,7 @@ returns-clause-taking c = λ owners enter is.
     let n = c.end_of-until.result in
     let time : to_z w64 (of_z w64 t) ≡ t = search rules in
     let until : to_z w64 (of_z w64 n) ≡ n = search rules in
-    let length : c.distance.result ≡ distance t n = rw (time, until) at c.distance.ensures.value in
+    let length : c.distance.result ≡ distance t n = rw (time, until) at c.distance.ensures in
     let part : c.between.result ≡ between span t n = rw (time, until) at c.between.ensures in
     let claim : IsClaimed s t n c.args.held c.args.self.now = record { within = c.requires.within; here = c.requires.held; claimed = c.requires.claimed; next = rw time at c.end_of-until.ensures } in
     let written : IsPut (at c.charge.new.self.stretches) t (Some (Some (between span t n))) (at c.write.new.self) =
