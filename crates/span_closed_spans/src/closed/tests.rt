@@ -11,12 +11,15 @@ use std::test::Fail;
 
 const NAMES: u32 = 5;
 
-// A span without arguments.
-#[derive(Clone, Copy)]
-struct Given {
-    name: u32,
-    start: i64,
-    until: i64,
+// A span by its name, its start and its end.
+type Given = (u32, i64, i64);
+
+// The same spans, in the one of which each is searched for from the first on.
+#[derive(Drop)]
+struct Both {
+    searched: ClosedSpans,
+    stacked: ClosedSpans,
+    alloc: Global,
 }
 
 fn are_opened_elsewhere(closed: &[ClosedSpan], at: u32) -> bool
@@ -31,31 +34,18 @@ fn is_new(spans: &ClosedSpans, at: u32) -> bool
     are_opened_elsewhere(spans.as_slice(), at)
 }
 
-// No spans, among which those that are added are searched for from the first on.
-fn searched(alloc: Global) -> ClosedSpans {
-    let mut spans = ClosedSpans::new(alloc);
-    spans.division = Division::searching();
-    spans
-}
-
 fn closed_span(alloc: Global, at: u32, given: &Given) -> ClosedSpan {
+    let (name, start, until) = *given;
     ClosedSpan {
-        name: given.name,
-        start: given.start,
-        until: given.until,
+        name,
+        start,
+        until,
         at,
         args: Args::empty(alloc),
     }
 }
 
-fn add(
-    rt: &impl Abort,
-    alloc: Global,
-    spans: &mut ClosedSpans,
-    at: u32,
-    given: &Given,
-) -> Result<(), Fail> {
-    let span = closed_span(alloc, at, given);
+fn add(rt: &impl Abort, spans: &mut ClosedSpans, span: ClosedSpan) -> Result<(), Fail> {
     assert!(rt; is_new(spans, span.at));
     assert!(rt; spans.list.len() < 1000);
     assert!(rt; 0 <= span.start && span.start <= span.until && span.until <= 1_000_000);
@@ -101,179 +91,123 @@ fn gather_all(
     Ok(gathered)
 }
 
-fn add_at_once(
-    rt: &impl Abort,
-    alloc: Global,
-    spans: &mut ClosedSpans,
-    given: &[Given],
-) -> Result<(), Fail> {
-    let gathered = gather_all(rt, alloc, spans, given)?;
-    spans.add_all(gathered)?;
-    Ok(())
-}
-
-// Both tell the times that the plain walks find, and the same segments.
-fn expect_same(rt: &impl Abort, searched: &ClosedSpans, stacked: &ClosedSpans) {
-    for name in 0..NAMES {
-        let own = self_of(searched.as_slice(), name);
-        assert_eq!(rt; searched.self_of(name), own, "name {name}");
-        assert_eq!(rt; stacked.self_of(name), own, "name {name} in stacks");
+impl Both {
+    fn new(alloc: Global) -> Both {
+        let mut searched = ClosedSpans::new(alloc);
+        searched.division = Division::searching();
+        Both {
+            searched,
+            stacked: ClosedSpans::new(alloc),
+            alloc,
+        }
     }
-    let busy = busy_time(searched.as_slice());
-    assert_eq!(rt; searched.busy(), busy);
-    assert_eq!(rt; stacked.busy(), busy);
-    let count = searched.segment_count();
-    assert_eq!(rt; count, stacked.segment_count());
-    for i in 0..count {
-        assert_eq!(rt; searched.segment(i), stacked.segment(i), "segment {i}");
+
+    fn add(&mut self, rt: &impl Abort, at: u32, given: &Given) -> Result<(), Fail> {
+        add(rt, &mut self.searched, closed_span(self.alloc, at, given))?;
+        add(rt, &mut self.stacked, closed_span(self.alloc, at, given))?;
+        self.expect_same(rt)
     }
-    assert_eq!(rt; searched.segment(count), None);
-}
 
-// Both tell the self times of single spans that the plain walk finds.
-fn expect_self_times(
-    rt: &impl Abort,
-    alloc: Global,
-    searched: &ClosedSpans,
-    stacked: &ClosedSpans,
-) -> Result<(), Fail> {
-    let own = self_times(searched.as_slice(), alloc)?;
-    assert_eq!(rt; searched.self_times(alloc)?, own);
-    assert_eq!(rt; stacked.self_times(alloc)?, own, "in stacks");
-    Ok(())
-}
-
-// Adds a span to both, and expects the same of them.
-fn add_to_both(
-    rt: &impl Abort,
-    alloc: Global,
-    one: &mut ClosedSpans,
-    other: &mut ClosedSpans,
-    at: u32,
-    given: &Given,
-) -> Result<(), Fail> {
-    add(rt, alloc, one, at, given)?;
-    add(rt, alloc, other, at, given)?;
-    expect_same(rt, one, other);
-    expect_self_times(rt, alloc, one, other)
-}
-
-fn add_all(
-    rt: &impl Abort,
-    alloc: Global,
-    one: &mut ClosedSpans,
-    other: &mut ClosedSpans,
-    given: &[Given],
-) -> Result<(), Fail> {
-    let mut at = 0u32;
-    for span in given {
-        add_to_both(rt, alloc, one, other, at, span)?;
-        at = at.saturating_add(1);
+    // Each is opened at the next position, from 0 on.
+    fn add_all(&mut self, rt: &impl Abort, given: &[Given]) -> Result<(), Fail> {
+        let mut at = 0u32;
+        for span in given {
+            self.add(rt, at, span)?;
+            at = at.saturating_add(1);
+        }
+        Ok(())
     }
-    Ok(())
-}
 
-fn add_at_once_to_both(
-    rt: &impl Abort,
-    alloc: Global,
-    one: &mut ClosedSpans,
-    other: &mut ClosedSpans,
-    given: &[Given],
-) -> Result<(), Fail> {
-    add_at_once(rt, alloc, one, given)?;
-    add_at_once(rt, alloc, other, given)?;
-    expect_same(rt, one, other);
-    expect_self_times(rt, alloc, one, other)
+    fn add_at_once(&mut self, rt: &impl Abort, given: &[Given]) -> Result<(), Fail> {
+        let gathered = gather_all(rt, self.alloc, &self.searched, given)?;
+        self.searched.add_all(gathered)?;
+        let gathered = gather_all(rt, self.alloc, &self.stacked, given)?;
+        self.stacked.add_all(gathered)?;
+        self.expect_same(rt)
+    }
+
+    // Both tell the times that the plain walks find, and the same segments.
+    fn expect_same(&self, rt: &impl Abort) -> Result<(), Fail> {
+        let spans = self.searched.as_slice();
+        for name in 0..NAMES {
+            let own = self_of(spans, name);
+            assert_eq!(rt; self.searched.self_of(name), own, "name {name}");
+            assert_eq!(rt; self.stacked.self_of(name), own, "name {name} in stacks");
+        }
+        let busy = busy_time(spans);
+        assert_eq!(rt; self.searched.busy(), busy);
+        assert_eq!(rt; self.stacked.busy(), busy);
+        let count = self.searched.segment_count();
+        assert_eq!(rt; count, self.stacked.segment_count());
+        for i in 0..count {
+            assert_eq!(rt;
+                self.searched.segment(i),
+                self.stacked.segment(i),
+                "segment {i}"
+            );
+        }
+        assert_eq!(rt; self.searched.segment(count), None);
+        let own = self_times(spans, self.alloc)?;
+        assert_eq!(rt; self.searched.self_times(self.alloc)?, own);
+        assert_eq!(rt; self.stacked.self_times(self.alloc)?, own, "in stacks");
+        Ok(())
+    }
 }
 
 fn expect_all(rt: &impl Abort, alloc: Global, given: &[Given]) -> Result<(), Fail> {
-    let mut one = searched(alloc);
-    let mut other = ClosedSpans::new(alloc);
-    let told = add_all(rt, alloc, &mut one, &mut other, given);
-    drop(other);
-    drop(one);
+    let mut both = Both::new(alloc);
+    let told = both.add_all(rt, given);
+    drop(both);
     told
-}
-
-fn span_of_name(name: u32, start: i64, until: i64) -> Given {
-    Given { name, start, until }
 }
 
 #[test]
 fn spans_that_start_together(rt: HostRuntime) -> Result<(), Fail> {
-    let growing = [
-        span_of_name(0, 3, 5),
-        span_of_name(1, 3, 9),
-        span_of_name(2, 3, 14),
-        span_of_name(3, 3, 20),
-        span_of_name(4, 3, 21),
-    ];
+    let growing = [(0, 3, 5), (1, 3, 9), (2, 3, 14), (3, 3, 20), (4, 3, 21)];
     expect_all(&rt, rt.alloc(), &growing)?;
     let mixed = [
-        span_of_name(0, 3, 14),
-        span_of_name(1, 3, 5),
-        span_of_name(2, 3, 21),
-        span_of_name(3, 3, 9),
-        span_of_name(4, 1, 30),
-        span_of_name(0, 3, 9),
-        span_of_name(1, 2, 25),
+        (0, 3, 14),
+        (1, 3, 5),
+        (2, 3, 21),
+        (3, 3, 9),
+        (4, 1, 30),
+        (0, 3, 9),
+        (1, 2, 25),
     ];
     expect_all(&rt, rt.alloc(), &mixed)
 }
 
 #[test]
 fn spans_that_cross(rt: HostRuntime) -> Result<(), Fail> {
-    let ascending = [
-        span_of_name(0, 0, 10),
-        span_of_name(1, 2, 12),
-        span_of_name(2, 4, 14),
-        span_of_name(3, 6, 16),
-    ];
+    let ascending = [(0, 0, 10), (1, 2, 12), (2, 4, 14), (3, 6, 16)];
     expect_all(&rt, rt.alloc(), &ascending)?;
-    let descending = [
-        span_of_name(0, 6, 16),
-        span_of_name(1, 4, 14),
-        span_of_name(2, 2, 12),
-        span_of_name(3, 0, 10),
-    ];
+    let descending = [(0, 6, 16), (1, 4, 14), (2, 2, 12), (3, 0, 10)];
     expect_all(&rt, rt.alloc(), &descending)
 }
 
 #[test]
 fn spans_that_grow_outwards(rt: HostRuntime) -> Result<(), Fail> {
-    let outwards = [
-        span_of_name(0, 10, 11),
-        span_of_name(1, 8, 13),
-        span_of_name(2, 6, 15),
-        span_of_name(0, 4, 17),
-        span_of_name(3, 5, 17),
-    ];
+    let outwards = [(0, 10, 11), (1, 8, 13), (2, 6, 15), (0, 4, 17), (3, 5, 17)];
     expect_all(&rt, rt.alloc(), &outwards)
 }
 
 #[test]
 fn a_long_span_between_short_ones(rt: HostRuntime) -> Result<(), Fail> {
     let comb = [
-        span_of_name(0, 5, 6),
-        span_of_name(0, 8, 9),
-        span_of_name(1, 0, 30),
-        span_of_name(0, 12, 13),
-        span_of_name(0, 15, 18),
-        span_of_name(2, 7, 16),
-        span_of_name(3, 9, 12),
+        (0, 5, 6),
+        (0, 8, 9),
+        (1, 0, 30),
+        (0, 12, 13),
+        (0, 15, 18),
+        (2, 7, 16),
+        (3, 9, 12),
     ];
     expect_all(&rt, rt.alloc(), &comb)
 }
 
 #[test]
 fn equal_spans_and_empty_ones(rt: HostRuntime) -> Result<(), Fail> {
-    let equal = [
-        span_of_name(0, 4, 9),
-        span_of_name(1, 4, 9),
-        span_of_name(2, 6, 6),
-        span_of_name(3, 4, 9),
-        span_of_name(4, 4, 4),
-    ];
+    let equal = [(0, 4, 9), (1, 4, 9), (2, 6, 6), (3, 4, 9), (4, 4, 4)];
     expect_all(&rt, rt.alloc(), &equal)
 }
 
@@ -284,67 +218,41 @@ fn next_chance(chance: u64) -> u64 {
         .wrapping_add(1442695040888963407)
 }
 
-fn add_at_random(
-    rt: &impl Abort,
-    alloc: Global,
-    one: &mut ClosedSpans,
-    other: &mut ClosedSpans,
-) -> Result<(), Fail> {
+fn add_at_random(rt: &impl Abort, both: &mut Both) -> Result<(), Fail> {
     let mut chance = 1u64;
     for at in 0..40u32 {
         chance = next_chance(chance);
         let start = ((chance >> 33) % 40) as i64;
         chance = next_chance(chance);
         let length = ((chance >> 33) % 20) as i64;
-        let span = span_of_name(at % NAMES, start, start + length);
-        add_to_both(rt, alloc, one, other, at, &span)?;
+        both.add(rt, at, &(at % NAMES, start, start + length))?;
     }
     Ok(())
 }
 
 #[test]
 fn spans_at_random(rt: HostRuntime) -> Result<(), Fail> {
-    let mut one = searched(rt.alloc());
-    let mut other = ClosedSpans::new(rt.alloc());
-    let told = add_at_random(&rt, rt.alloc(), &mut one, &mut other);
-    drop(other);
-    drop(one);
+    let mut both = Both::new(rt.alloc());
+    let told = add_at_random(&rt, &mut both);
+    drop(both);
     told
 }
 
 // Nested spans of one end over some that were closed before, none, and one more.
-fn add_groups(
-    rt: &impl Abort,
-    alloc: Global,
-    one: &mut ClosedSpans,
-    other: &mut ClosedSpans,
-) -> Result<(), Fail> {
-    let before = [
-        span_of_name(0, 2, 5),
-        span_of_name(1, 7, 9),
-        span_of_name(0, 12, 14),
-    ];
-    add_all(rt, alloc, one, other, &before)?;
-    let nested = [
-        span_of_name(2, 10, 20),
-        span_of_name(3, 6, 20),
-        span_of_name(2, 3, 20),
-        span_of_name(4, 0, 20),
-    ];
-    add_at_once_to_both(rt, alloc, one, other, &nested)?;
-    add_at_once_to_both(rt, alloc, one, other, &[])?;
-    add_at_once_to_both(rt, alloc, one, other, &[span_of_name(1, 1, 20)])?;
-    assert_eq!(rt; one.as_slice().len(), 8);
-    assert_eq!(rt; other.as_slice().len(), 8);
+fn add_groups(rt: &impl Abort, both: &mut Both) -> Result<(), Fail> {
+    both.add_all(rt, &[(0, 2, 5), (1, 7, 9), (0, 12, 14)])?;
+    both.add_at_once(rt, &[(2, 10, 20), (3, 6, 20), (2, 3, 20), (4, 0, 20)])?;
+    both.add_at_once(rt, &[])?;
+    both.add_at_once(rt, &[(1, 1, 20)])?;
+    assert_eq!(rt; both.searched.as_slice().len(), 8);
+    assert_eq!(rt; both.stacked.as_slice().len(), 8);
     Ok(())
 }
 
 #[test]
 fn spans_that_end_together(rt: HostRuntime) -> Result<(), Fail> {
-    let mut one = searched(rt.alloc());
-    let mut other = ClosedSpans::new(rt.alloc());
-    let told = add_groups(&rt, rt.alloc(), &mut one, &mut other);
-    drop(other);
-    drop(one);
+    let mut both = Both::new(rt.alloc());
+    let told = add_groups(&rt, &mut both);
+    drop(both);
     told
 }
