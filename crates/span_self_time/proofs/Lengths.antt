@@ -10,14 +10,14 @@ use Rattle.span_self_time.specs.Closed.{greatest_until, AreClosed}
 use Rattle.span_event.specs.Event.{least_time}
 use Rattle.span_self_time.specs.Division.{Owners, owners_of, AreParts}
 use Rattle.span_self_time.specs.Division.Lengths.{time_at, length_at, CanGain}
-use Rattle.span_self_time.specs.Division.Stacks.{part_length, whole_length}
+use Rattle.span_self_time.specs.Division.PartStacks.{part_length, whole_length}
 use Rattle.span_self_time.specs.Laws.{AreSpans}
 use Rattle.span_self_time.specs.Spans.{Span, self_time}
 use Rattle.span_self_time.proofs.Apart.{All-apart}
 use Rattle.span_self_time.proofs.Counts.{add-distance}
 use Rattle.span_self_time.proofs.Owners.{is_of}
 use Rattle.span_self_time.proofs.SelfSums.{cond-le}
-use Rattle.span_self_time.proofs.Stacks.PartLengths.{sum_by-parts, whole_length-le}
+use Rattle.span_self_time.proofs.PartStacks.PartLengths.{sum_by-parts, whole_length-le}
 
 length_at-le : (at : ℕ) (parts : List Part) → length_at at parts ≤ whole_length parts
 length_at-le at [] = omega arith

@@ -6,12 +6,12 @@ pub mod Lone
 pub mod Mapped
 pub mod OwnTimes
 pub mod Owners
+pub mod PartStacks
 pub mod Ranks
 pub mod Renumbering
 pub mod Segments
 pub mod SelfSums
 pub mod SelfTimes
 pub mod SpanTimes
-pub mod Stacks
 pub mod TimeMap
 pub mod Tops

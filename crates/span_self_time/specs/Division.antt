@@ -1,7 +1,7 @@
 -- To which span each tick belongs, and the parts of time that are of one span, whichever way they are kept.
 pub mod Lengths
 pub mod Lone
-pub mod Stacks
+pub mod PartStacks
 pub mod TimeMap
 pub mod Ways
 use Rattle.std.specs.Prelude.{◌≡◌, ◌≢◌, ℕ, nat_eq, ◌&&◌, Bool, true, false, if◌then◌else◌, ℤ, pos, ◌-ℤ◌, ◌≤ℤ◌, ◌<ℤ◌, int_lt, List, [], ◌∷◌, ◌++◌, Option, Some, None, fold, sum_by, unwrap_or}

@@ -11,33 +11,33 @@ ghost use Rattle.span_self_time.specs.Division.Ways.{IsWay, Divides};
 mod lengths;
 mod lone;
 mod own_times;
-mod stacks;
+mod part_stacks;
 mod time_map;
 
 use crate::segment::{Part, Segment};
 use crate::span::ClosedSpan;
 use lengths::Lengths;
-use stacks::Stacks;
+use part_stacks::PartStacks;
 use std::alloc::{AllocError, Global};
 use time_map::TimeMap;
 
-// Where stacks have to move more parts than these for each span, a search is the quicker.
+// Where the two stacks have to move more parts than these for each span, a search is the quicker.
 const MOVES_FOR_A_SPAN: u64 = 128;
 
 /// How time is divided among closed spans. The spans themselves are kept by whoever adds them.
 #[derive(Drop)]
 pub struct Division {
     way: Way,
-    // How many parts stacks had to move, about.
+    // How many parts the two stacks had to move, about.
     moves: u64,
 }
 
-// A single span takes no memory of its own. Of more, stacks are the quicker where each comes near the last one, and slow down with the
-// parts in between; a map, in which each span's place is searched for, doesn't.
+// A single span takes no memory of its own. Of more, two stacks of parts are the quicker where each comes near the last one, and slow
+// down with the parts in between; a map, in which each span's place is searched for, doesn't.
 #[derive(Drop)]
 pub(crate) enum Way {
     Lone(Option<Part>),
-    Stacked(Box<Stacks>),
+    Stacked(Box<PartStacks>),
     Searched(Box<TimeMap>),
 }
 
@@ -160,8 +160,8 @@ impl Division {
         Ok(())
     }
 
-    // Turns to a search among what these spans, which are all that were added, make of the time, where stacks had to move too
-    // many parts for them, with those for the new one. Where memory is refused, nothing changes.
+    // Turns to a search among what these spans, which are all that were added, make of the time, where the two stacks had to move
+    // too many parts for them, with those for the new one. Where memory is refused, nothing changes.
     fn suit(&mut self, span: &Part, spans: &[ClosedSpan], alloc: Global) -> Result<(), AllocError>
         requires { AreClosed (map span_of spans.now) }
         ensures { Divides (map span_of spans.now) self.old
@@ -185,7 +185,7 @@ impl Way {
         match self {
             Way::Lone(lone) => Ok(Way::Lone(*lone)),
             Way::Stacked(stacks) => {
-                let copy = Stacks::clone(stacks)?;
+                let copy = PartStacks::clone(stacks)?;
                 Ok(Way::Stacked(Box::new(alloc, copy)?))
             }
             Way::Searched(time_map) => {
@@ -226,7 +226,7 @@ impl Way {
         }
     }
 
-    // About how many parts stacks would have to move for this span, where these are many.
+    // About how many parts the two stacks would have to move for this span, where these are many.
     fn moves_for(&self, span: &Part) -> u64 {
         match self {
             Way::Stacked(stacks) => stacks.moves_for(span),

@@ -4,7 +4,7 @@ ghost use Rattle.std.specs.Bool.{OnTrue, OnFalse};
 ghost use Rattle.std.specs.Option.{option_map};
 ghost use Rattle.span_self_time.specs.Spans.{outranks};
 ghost use Rattle.span_self_time.specs.Division.{owner_of, claims, between, whole};
-ghost use Rattle.span_self_time.specs.Division.Stacks.{part_length};
+ghost use Rattle.span_self_time.specs.Division.PartStacks.{part_length};
 
 use crate::span::ClosedSpan;
 use span_event::distance;

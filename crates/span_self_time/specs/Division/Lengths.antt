@@ -3,7 +3,7 @@ use Rattle.std.specs.Prelude.{◌≡◌, ℕ, ◌+◌, ◌<◌, ◌^◌, nat_eq,
 use Rattle.span_self_time.specs.declared.division.lengths.Lengths.{Lengths}
 use Rattle.span_self_time.specs.declared.segment.Part.{Part}
 use Rattle.span_self_time.specs.Division.{own_in}
-use Rattle.span_self_time.specs.Division.Stacks.{part_length}
+use Rattle.span_self_time.specs.Division.PartStacks.{part_length}
 
 -- the time at a position: at its place, or in the map of those that have none
 abbrev pub time_at : Lengths → ℕ → ℕ

@@ -2,7 +2,7 @@
 ghost use Rattle.std.specs.Prelude.{◌≡◌, ◌+◌, ◌<◌, ◌^◌, ◌∷◌, [], ◌==◌, ℕ, if◌then◌else◌, IfOk, OnOk};
 ghost use Rattle.span_self_time.specs.Division.{own_in};
 ghost use Rattle.span_self_time.specs.Division.Lengths.{time_at, CanGain, Gains};
-ghost use Rattle.span_self_time.specs.Division.Stacks.{part_length};
+ghost use Rattle.span_self_time.specs.Division.PartStacks.{part_length};
 
 use super::own_times::own_in;
 use crate::segment::Part;

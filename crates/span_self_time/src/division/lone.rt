@@ -3,12 +3,12 @@ ghost use Rattle.std.specs.Prelude.{◌≡◌, map, length, slice_get, option_co
 ghost use Rattle.span_self_time.specs.Division.{Owners, IsNew, AreSettled, CanAdd, owner_of, taken};
 ghost use Rattle.span_self_time.specs.Division.Lengths.{CanGain, Gains};
 ghost use Rattle.span_self_time.specs.Division.Lone.{IsLone, parts_of_lone};
-ghost use Rattle.span_self_time.specs.Division.Stacks.{named_length, whole_length};
+ghost use Rattle.span_self_time.specs.Division.PartStacks.{named_length, whole_length};
 ghost use Rattle.span_self_time.specs.Division.Ways.{IsWay};
 
 use super::Way;
 use super::lengths::Lengths;
-use super::stacks::Stacks;
+use super::part_stacks::PartStacks;
 use crate::segment::{Part, Segment};
 use std::alloc::{AllocError, Global};
 
@@ -60,7 +60,7 @@ pub(crate) fn tell_parts(lone: &Option<Part>, times: &mut Lengths) -> Result<(),
     }
 }
 
-/// The time once another span has taken its own: stacks, where both last.
+/// The time once another span has taken its own: two stacks of parts, where both last.
 pub(crate) fn with_span(lone: Option<Part>, span: &Part, alloc: Global) -> Result<Way, AllocError>
     requires { CanAdd IsLone (owner_of span.now) lone }
     ensures { IfOk result (λ way. (owners : Owners) → IsLone owners lone
@@ -74,7 +74,7 @@ pub(crate) fn with_span(lone: Option<Part>, span: &Part, alloc: Global) -> Resul
         let whole = span.between(span.span_start, span.span_until);
         return Ok(Way::Lone(Some(whole)));
     };
-    let mut stacks = Stacks::new(alloc);
+    let mut stacks = PartStacks::new(alloc);
     stacks.add(&part)?;
     stacks.add(span)?;
     let stacks = Box::new(alloc, stacks)?;

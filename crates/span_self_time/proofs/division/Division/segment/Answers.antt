@@ -1,7 +1,7 @@
 use Rattle.std.proofs.Common.{◌≡◌, slice_get, option_copied, List, sym, subst}
 use Rattle.span_self_time.specs.declared.segment.Segment.{Segment}
 use Rattle.span_self_time.specs.Division.{owners_of}
-use Rattle.span_self_time.specs.Division.Stacks.{AreStacks}
+use Rattle.span_self_time.specs.Division.PartStacks.{ArePartStacks}
 use Rattle.span_self_time.specs.Division.TimeMap.{IsTimeMap}
 use Rattle.span_self_time.specs.Division.Ways.{IsWay}
 use Rattle.span_self_time.proofs.Lone.{AreParts-lone}
@@ -10,7 +10,7 @@ use Rattle.span_self_time.proofs.division.Division.segment.Goals as goal
 
 pub returns-in-Stacked : goal.returns-in-Stacked
 returns-in-Stacked c = λ spans closed is.
-    let kept = subst (AreStacks (owners_of spans)) (sym c.deref.ensures) (subst (IsWay (owners_of spans)) c.in-Stacked.is is) in
+    let kept = subst (ArePartStacks (owners_of spans)) (sym c.deref.ensures) (subst (IsWay (owners_of spans)) c.in-Stacked.is is) in
     HasSegmentsWith-parts (λ (segments : List Segment). option_copied c.segment-in-Stacked.result ≡ slice_get segments c.args.i) spans _ closed kept.parts c.segment-in-Stacked.ensures
 
 pub returns-in-Searched : goal.returns-in-Searched

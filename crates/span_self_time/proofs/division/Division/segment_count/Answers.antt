@@ -3,7 +3,7 @@ use Rattle.std.proofs.lemmas.List.{length-map}
 use Rattle.span_self_time.specs.declared.segment.Part.{Part}
 use Rattle.span_self_time.specs.declared.segment.Segment.{Segment}
 use Rattle.span_self_time.specs.Division.{owners_of}
-use Rattle.span_self_time.specs.Division.Stacks.{AreStacks}
+use Rattle.span_self_time.specs.Division.PartStacks.{ArePartStacks}
 use Rattle.span_self_time.specs.Division.TimeMap.{IsTimeMap}
 use Rattle.span_self_time.specs.Division.Ways.{IsWay}
 use Rattle.span_self_time.proofs.Lone.{AreParts-lone}
@@ -12,7 +12,7 @@ use Rattle.span_self_time.proofs.division.Division.segment_count.Goals as goal
 
 pub returns-in-Stacked : goal.returns-in-Stacked
 returns-in-Stacked c = λ spans closed is.
-    let kept = subst (AreStacks (owners_of spans)) (sym c.deref.ensures) (subst (IsWay (owners_of spans)) c.in-Stacked.is is) in
+    let kept = subst (ArePartStacks (owners_of spans)) (sym c.deref.ensures) (subst (IsWay (owners_of spans)) c.in-Stacked.is is) in
     HasSegmentsWith-parts (λ (segments : List Segment). c.segment_count-in-Stacked.result ≡ length segments) spans _ closed kept.parts (c.segment_count-in-Stacked.ensures ∙ sym (length-map _ (λ (p : Part). p.segment)))
 
 pub returns-in-Searched : goal.returns-in-Searched
