@@ -12,13 +12,9 @@ use Rattle.span_request.specs.declared.views.View.TheVariants.{Report}
 abbrev pub is_option : List ℕ → Bool
 is_option word = starts_with nat_eq word (codes "-")
 
--- the limit where the command line doesn't say
-abbrev pub default_limit : ℕ
-default_limit = 16777216
-
--- the settings where it doesn't say
+-- the settings where the command line doesn't say
 abbrev pub default_settings : Settings
-default_settings = record { unit = Microseconds; limit = default_limit; seal = false; strict = false }
+default_settings = record { unit = Microseconds; limit = 16777216; seal = false; strict = false }
 
 -- the files of these names are to be collected, with the default settings, and reported
 abbrev pub NamesFiles : List (List ℕ) → Request → Type 0

@@ -17,13 +17,9 @@ use Rattle.tracebook.specs.Tables.{TableFits, table_text}
 abbrev pub Known : Type 0
 Known = Bytes → Option Bytes
 
--- the most bytes that are read of a table
-abbrev pub most_added : ℕ
-most_added = 1099511627776
-
--- the text is that of the file of this name, as far as it is read
+-- the text is that of the file of this name, as far as it is read: at most 2^40 bytes
 abbrev pub IsText : Known → Bytes → Bytes → Type 0
-IsText known name text = AreFirst most_added (known name) text
+IsText known name text = AreFirst 1099511627776 (known name) text
 
 -- this holds of the files of these names; of standard input, as the file `-`, where there are none
 abbrev pub OfInputs : SourceBytes → List Bytes → (Known → List Bytes → Type 0) → Type 0

@@ -4,10 +4,8 @@ pub mod Comparison
 pub mod Fleet
 pub mod Pages
 pub mod Reading
-pub mod RepeatedTables
 pub mod Repeats
 pub mod Request
-pub mod Sides
 pub mod Sums
 pub mod Tables
 pub mod View

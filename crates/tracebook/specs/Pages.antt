@@ -22,13 +22,9 @@ use Rattle.tracebook.specs.Tables.{TableFits, table_text}
 abbrev pub shown_alone : Settings → Input → ShownRun
 shown_alone settings file = record { files = file ∷ []; ends = ends_from settings.unit 1 (file ∷ []); journal = journal_in_turn settings (file ∷ []) [] }
 
--- the most files whose runs a page shows
-abbrev pub most_shown : ℕ
-most_shown = 64
-
--- the runs that a page of files shows: of more there is just the table of their sum
+-- the runs that a page of files shows: of more than 64 there is just the table of their sum
 abbrev pub shown_runs : Settings → List Input → List ShownRun
-shown_runs settings files = if nat_le (length files) most_shown then map (shown_alone settings) files else []
+shown_runs settings files = if nat_le (length files) 64 then map (shown_alone settings) files else []
 
 -- the runs come to the table that the page has of them
 abbrev pub asked_for : PageView → List Run → SpanTable → Type 0

@@ -21,6 +21,7 @@ use Rattle.span_request.specs.declared.views.RepeatsForm.{RepeatsForm}
 use Rattle.span_request.specs.declared.views.RepeatsForm.TheVariants.{Text, Json}
 use Rattle.span_request.specs.declared.views.RepeatsView.{RepeatsView}
 use Rattle.span_request.specs.Numbers.{goes_by}
+use Rattle.tracebook.specs.declared.repeated_tables.Tables.{Tables}
 use Rattle.tracebook.specs.Added.{AddsBeside, Known, OfInputs}
 use Rattle.tracebook.specs.Sums.{GathersBoth, WritesAll, WritesPart}
 use Rattle.tracebook.specs.Tables.{asked_by}
@@ -93,6 +94,15 @@ pub record AreTablesOfSides (source : SourceBytes) (base_names names : List Byte
   pub chooses : Chooses columns first
   pub earlier : AreTablesBeside first base source.file base_names
   pub later : OfInputs source names (AreTablesBeside first other)
+
+-- what the tables say is what the first says, and they are those of the files of both sides
+pub record AreOfSides (source : SourceBytes) (base_names names : List Bytes) (view : RepeatsView) (tables : Tables) : Type 0 where
+  pub first : PartSum
+  pub of : tables.of ≡ first.of
+  pub unit : tables.unit ≡ first.unit
+  pub columns : tables.columns.items ≡ first.sum.columns
+  pub number : goes_by first.of view.by ≡ true
+  pub are : AreTablesOfSides source base_names names view.options.columns.items first tables.base.items tables.other.items
 
 -- what is printed of both sides
 abbrev pub added_text : RepeatsView → PartSum → List SpanTable → List SpanTable → Bytes

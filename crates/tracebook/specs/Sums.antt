@@ -33,14 +33,10 @@ Summed = Gathered SpanTable
 abbrev pub SumsInputs : SourceBytes → List (List ℕ) → Settings → Of → List Column → Summed → Type 0
 SumsInputs source names settings of columns summed = GathersInputs source names settings (IsTableOf of columns) summed
 
--- 1 where a fault line is said, else 0
-abbrev pub told_status : Bytes → ℕ
-told_status lines = if length lines == 0 then 0 else 1
-
--- the text is written, and the status follows from these fault lines
+-- the text is written, and the status is 1 where a fault line is said, else 0
 pub record WritesAll (text lines : Bytes) (status : ℕ) (old new : SinkState) : Type 0 where
   pub written : TakesBytes old new text
-  pub ended : status ≡ told_status lines
+  pub ended : status ≡ (if length lines == 0 then 0 else 1)
 
 -- nothing was written, or the output failed after first bytes of the text
 abbrev pub WritesPart : Bytes → SinkState → SinkState → Type 0

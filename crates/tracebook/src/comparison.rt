@@ -7,11 +7,11 @@ ghost use Rattle.tracebook.specs.Comparison.{AreTooGreat, ChangesLeave, Comparis
 
 use crate::tables::asked_by;
 use span_collect::{Collected, Input, RunError, Settings, collect_to_ledger};
+use span_comparisons::{comparison, json_comparison};
 use span_event::{Fault, Unit};
 use span_report::{Sink, write_bytes};
 use span_request::{ComparisonForm, ComparisonView};
 use span_runs::table_of_run;
-use span_comparisons::{comparison, json_comparison};
 use span_table::Table;
 use span_table_text::JsonFault;
 use std::alloc::Global;

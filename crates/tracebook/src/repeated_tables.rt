@@ -1,8 +1,7 @@
 //! Tables that were printed, each of one of the runs that were repeated on two sides.
 ghost use Rattle.std.specs.Prelude.{◌≡◌, ◌<◌, ◌≤◌, ◌∷◌, IfOk};
-ghost use Rattle.tracebook.specs.Repeats.{AreTablesBeside, IsTableBeside, RepeatsAdded, RepeatsAddedPart};
-ghost use Rattle.tracebook.specs.RepeatedTables.{AreOfSides};
 ghost use Rattle.tracebook.specs.Added.{OfInputs};
+ghost use Rattle.tracebook.specs.Repeats.{AreOfSides, AreTablesBeside, IsTableBeside, RepeatsAdded, RepeatsAddedPart};
 
 use crate::added::{AddStop, fail_add, sum_beside, sum_names};
 use crate::repeats::{are_few, write_tables};

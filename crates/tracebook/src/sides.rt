@@ -1,6 +1,6 @@
 //! Two sides that are compared, of files each of which is a run of its own.
 ghost use Rattle.std.specs.Prelude.{◌≡◌, ◌++◌, IfErr, IfOk, OnOk};
-ghost use Rattle.tracebook.specs.Sides.{GathersSides};
+ghost use Rattle.tracebook.specs.Sums.{GathersBoth};
 
 use crate::apart::{gather_inputs, jobs_of};
 use span_event::Text;
@@ -61,8 +61,9 @@ pub(crate) fn gather_sides<
     source: &S,
     faults: &mut F,
 ) -> Result<Sides<T>, u8>
-    ensures sides { IfOk result (GathersSides (S.bytes source.now) base.now names.now
-        apart.now.settings (T.come_to options.now.of options.now.columns.items)) }
+    ensures sides { IfOk result (λ sides. GathersBoth (S.bytes source.now) base.now names.now
+        apart.now.settings (T.come_to options.now.of options.now.columns.items)
+        sides.base sides.other) }
     ensures status { IfErr result (λ status. status ≡ 2) }
     ensures said { OnOk result (F.state faults.new ≡ F.state faults.old) }
 {
