@@ -164,19 +164,16 @@ fn request_of_matches(
 }
 
 fn settings_of(matches: &ArgMatches<'_>) -> Settings {
-    Settings {
-        unit: unit_of(matches),
-        limit: matches.get_one::<u32>("limit").unwrap_or(DEFAULT_LIMIT),
-        seal: matches.get_flag("seal"),
-        strict: matches.get_flag("strict"),
-    }
-}
-
-fn unit_of(matches: &ArgMatches<'_>) -> Unit {
-    if matches.get_flag("nanoseconds") {
+    let unit = if matches.get_flag("nanoseconds") {
         Unit::Nanoseconds
     } else {
         Unit::Microseconds
+    };
+    Settings {
+        unit,
+        limit: matches.get_one::<u32>("limit").unwrap_or(DEFAULT_LIMIT),
+        seal: matches.get_flag("seal"),
+        strict: matches.get_flag("strict"),
     }
 }
 
