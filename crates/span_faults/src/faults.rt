@@ -173,22 +173,16 @@ pub fn put_hints<F: Faults>(
         return;
     };
     for (file, end) in files.iter().zip(&collected.end.ends) {
-        if let Some(hint) = fractions_at_end(end, &counts) {
-            put_hint(alloc, &file.name, hint, faults);
+        if let FileEnd::Read { caller, items } = end {
+            if let Some(hint) = counts.fractions_of(*caller, *items) {
+                put_hint(alloc, &file.name, hint, faults);
+            }
         }
         if let Some(hint) = hint_of_end(file, end, &counts) {
             put_hint(alloc, &file.name, hint, faults);
         }
     }
     drop(counts);
-}
-
-// Which elements of a file that ended so may be read with their fractions.
-fn fractions_at_end(end: &FileEnd, counts: &RefusalCounts) -> Option<Hint> {
-    match end {
-        FileEnd::Read { caller, items } => counts.fractions_of(*caller, *items),
-        _ => None,
-    }
 }
 
 // What else may help with a file that ended so.
