@@ -57,7 +57,7 @@ impl<'a> Source for Host<'a> {
             inner: stdin,
             progress: &self.progress,
         };
-        read_up_to(self.rt.alloc(), &mut reader, most as usize)
+        read_up_to(self.rt.alloc(), &mut reader, 0, most as usize)
     }
 
     fn file(&self, name: &Text, most: u64) -> Result<Vec<u8>, SourceFault> {
@@ -74,7 +74,7 @@ impl<'a> Source for Host<'a> {
             inner: file,
             progress: &self.progress,
         };
-        read_up_to(self.rt.alloc(), &mut reader, most as usize)
+        read_up_to(self.rt.alloc(), &mut reader, size as usize, most as usize)
     }
 
     fn size(&self, name: &Text) -> u64 {

@@ -49,17 +49,21 @@ fn read_some<R: Read>(
     }
 }
 
-/// The bytes up to the end, or the first `most` of them. A read that fails or is interrupted is not tried again.
+/// The bytes up to the end, or the first `most` of them. There is room for `likely` from the start; 0 where it isn't known how many
+/// there are. A read that fails or is interrupted is not tried again.
 pub fn read_up_to<R: Read>(
     alloc: Global,
     reader: &mut R,
+    likely: usize,
     most: usize,
 ) -> Result<Vec<u8>, SourceFault>
     ensures first { IfOk result (λ bytes. AreFirst most (R.remaining reader.old) bytes.items) }
     ensures within { IfOk result (λ bytes. vec_len bytes ≤ most) }
 {
     let mut chunk = chunk_of(alloc, CHUNK)?;
-    let mut bytes = Vec::new(alloc);
+    let Ok(mut bytes) = Vec::with_capacity(alloc, likely.min(most)) else {
+        return Err(SourceFault::Memory);
+    };
     while bytes.len() < most {
         let room = CHUNK.min(most - bytes.len());
         if read_some(reader, &mut chunk[..room], &mut bytes)? == 0 {
