@@ -14,15 +14,15 @@ use Rattle.span_table.specs.declared.table.Row.{Row}
 use Rattle.span_table.specs.KeyLaws.{key_cmp_total}
 use Rattle.span_table.specs.Keys.{key_cmp}
 use Rattle.span_table.specs.Sums.{number_by}
-use Rattle.span_table_text.specs.Ranks.{rank_order, RankingsHaveEachRow}
+use Rattle.span_table_text.specs.Ranks.{ranking_order, RankingsHaveEachRow}
 use Rattle.span_table_text.specs.Shown.{Wanted, is_wanted, shown_rows}
 use Rattle.span_table.specs.Tables.{RowsRise}
 use Rattle.span_keyed_tracks.proofs.Sorted.{ascending-sorted}
 use Rattle.span_keyed_tracks.proofs.Sorting.{ascending-permutation}
 
 -- the order of a ranking is total
-pub rank_order-total : (by : By) → IsTotalOrder (rank_order by)
-rank_order-total by = then_total (on_total (λ (row : Row). number_by by row.sums) (back_total nat_cmp_total)) (on_total (λ (row : Row). row.key) key_cmp_total)
+pub ranking_order-total : (by : By) → IsTotalOrder (ranking_order by)
+ranking_order-total by = then_total (on_total (λ (row : Row). number_by by row.sums) (back_total nat_cmp_total)) (on_total (λ (row : Row). row.key) key_cmp_total)
 
 filter-all : {A : Type 0} (P : A → Type 0) (p : A → Bool) (xs : List A) → AllByRecursion P xs → AllByRecursion P (filter p xs)
 filter-all P p [] all = tt
@@ -48,22 +48,22 @@ apart Greater q below = refl
 apart Equal q below = ap is_eq below
 
 -- no two rows that rise rank alike
-pub IsDistinct-rising : (by : By) (rows : List Row) → RowsRise rows → IsDistinct (eq_by_cmp (rank_order by)) rows
+pub IsDistinct-rising : (by : By) (rows : List Row) → RowsRise rows → IsDistinct (eq_by_cmp (ranking_order by)) rows
 unfolding IsStrictlySortedBy IsDistinct
 IsDistinct-rising by [] sorted = tt
 IsDistinct-rising by (x ∷ xs) sorted = (
-  AllByRecursion-map (λ (y : Row). key_cmp x.key y.key ≡ Less) (λ (y : Row). eq_by_cmp (rank_order by) x y ≡ false)
+  AllByRecursion-map (λ (y : Row). key_cmp x.key y.key ≡ Less) (λ (y : Row). eq_by_cmp (ranking_order by) x y ≡ false)
       (λ (y : Row) (below : key_cmp x.key y.key ≡ Less). apart (nat_cmp (number_by by y.sums) (number_by by x.sums)) (key_cmp x.key y.key) below) xs sorted.0,
   IsDistinct-rising by xs sorted.1,
 )
 
 -- nor do those of them that are shown
-pub shown_rows-distinct : (by : By) (wanted : Wanted) (rows : List Row) → RowsRise rows → IsDistinct (eq_by_cmp (rank_order by)) (shown_rows wanted rows)
+pub shown_rows-distinct : (by : By) (wanted : Wanted) (rows : List Row) → RowsRise rows → IsDistinct (eq_by_cmp (ranking_order by)) (shown_rows wanted rows)
 shown_rows-distinct by wanted rows rise = IsDistinct-rising by (shown_rows wanted rows) (filter-sorted (λ (a b : Row). key_cmp a.key b.key) (λ (row : Row). is_wanted wanted row.key) rows rise)
 
 -- each row has its place, and no two rank alike
 pub ranked-each : RankingsHaveEachRow
 ranked-each by wanted rows rise = record {
-  places = ascending-permutation (rank_order-total by) (shown_rows wanted rows) (shown_rows-distinct by wanted rows rise);
-  order = ascending-sorted (rank_order-total by) (shown_rows wanted rows);
+  places = ascending-permutation (ranking_order-total by) (shown_rows wanted rows) (shown_rows-distinct by wanted rows rise);
+  order = ascending-sorted (ranking_order-total by) (shown_rows wanted rows);
 }

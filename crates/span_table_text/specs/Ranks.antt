@@ -12,17 +12,17 @@ use Rattle.span_table.specs.Tables.{RowsRise}
 use Rattle.span_table.specs.Sums.{number_by}
 
 -- the greater number first, and then by key
-abbrev pub rank_order : By → Row → Row → Ordering
-rank_order by a b = ordering_then (nat_cmp (number_by by b.sums) (number_by by a.sums)) (key_cmp a.key b.key)
+abbrev pub ranking_order : By → Row → Row → Ordering
+ranking_order by a b = ordering_then (nat_cmp (number_by by b.sums) (number_by by a.sums)) (key_cmp a.key b.key)
 
 -- rows in the order of a ranking
 abbrev pub ranked : By → List Row → List Row
-ranked by rows = ascending (rank_order by) rows
+ranked by rows = ascending (ranking_order by) rows
 
 -- each row has its place, and no two rank alike
 pub record RanksEachRow (by : By) (rows : List Row) : Type 0 where
   pub places : IsPermutation rows (ranked by rows)
-  pub order : IsStrictlySortedBy (rank_order by) (ranked by rows)
+  pub order : IsStrictlySortedBy (ranking_order by) (ranked by rows)
 
 -- this holds of the rows that are shown of any that rise, by whatever number
 abbrev pub RankingsHaveEachRow : Type 0

@@ -6,7 +6,7 @@ ghost use Rattle.span_report.specs.Report.{head_lines};
 ghost use Rattle.span_table.specs.declared.of.Of.TheVariants.{Spans, Async};
 ghost use Rattle.span_table_text.specs.Pieces.{sums_names, sums_text};
 ghost use Rattle.span_table_text.specs.Ranking.{column_line, ranked_line, ranking_of};
-ghost use Rattle.span_table_text.specs.Ranks.{rank_order, ranked};
+ghost use Rattle.span_table_text.specs.Ranks.{ranking_order, ranked};
 
 use crate::lines::{
     put_count, put_counts, put_right, put_runs, put_seals, put_shown, put_titles, put_values,
@@ -60,7 +60,7 @@ fn head(alloc: Global, unit: Unit, counts: &HeadCounts) -> Result<String, AllocE
 
 // Which of two comes first.
 fn compare(shown: &ShownRow, other: &ShownRow, by: By) -> Ordering
-    ensures { result ≡ rank_order by shown.now other.now }
+    ensures { result ≡ ranking_order by shown.now other.now }
 {
     let (row, next) = (shown.row, other.row);
     let by_key = row.key.cmp(&next.key);
@@ -68,7 +68,7 @@ fn compare(shown: &ShownRow, other: &ShownRow, by: By) -> Ordering
 }
 
 fn in_order<'a>(mut rows: Vec<ShownRow<'a>>, by: By) -> Vec<ShownRow<'a>>
-    requires { IsDistinct (eq_by_cmp (rank_order by)) rows.items }
+    requires { IsDistinct (eq_by_cmp (ranking_order by)) rows.items }
     ensures { result.items ≡ ranked by rows.entry.items }
 {
     rows.sort_unstable_by(|a, b| compare(a, b, by));
