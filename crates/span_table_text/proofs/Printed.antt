@@ -15,14 +15,15 @@ use Rattle.span_table.specs.declared.of.Of.TheVariants.{Spans, Async}
 use Rattle.span_table.specs.declared.sums.Sums.{Sums}
 use Rattle.span_table.specs.declared.table.Row.{Row}
 use Rattle.span_table.specs.Columns.{column_name}
-use Rattle.span_table_text.specs.Json.{column_json, json_head, json_line, json_of_value, of_member, unit_member, with_commas}
+use Rattle.span_table_text.specs.Json.{column_json, json_head, json_line, of_member, unit_member, with_commas}
+use Rattle.span_table_text.specs.Lines.{value_json}
 use Rattle.span_table_text.specs.JsonPieces.{count_text, end_text, events_text, files_text, head_text, members_text, others_text, start_text, sums_text}
 use Rattle.span_table.specs.Keys.{TableKey}
 use Rattle.span_table_text.specs.Tokens.{head_tokens, key_tokens, name_tokens, numbers_tokens, of_tokens, row_tokens, sums_tokens, unit_tokens, value_tokens}
 use Rattle.span_table_text.proofs.JsonPieces.{json_head_pieces, json_line_pieces}
 
 -- a value, and then some more
-value-print : (value : ArgValue) (ts : List Token) → print_from false (value_tokens value ++ ts) ≡ json_of_value value ++ print_from true ts
+value-print : (value : ArgValue) (ts : List Token) → print_from false (value_tokens value ++ ts) ≡ value_json (codes "{}") value ++ print_from true ts
 unfolding print_from json_text_of
 value-print Nil ts = refl
 value-print (Flag true) ts = refl
@@ -53,8 +54,8 @@ keys-print (column ∷ columns) (Some value ∷ values) name ts =
     let more = key_tokens columns values ++ key name ∷ ts in
     let rest = comma-print columns values name ts ∙ ap (λ l. 44 ∷ l) (keys-print columns values name ts) in
     ap (λ us. (called ++ 58 ∷ []) ++ print_from false us) (append_assoc (value_tokens value) (key_tokens columns values) (key name ∷ ts))
-    ∙ ap (λ l. (called ++ 58 ∷ []) ++ l) (value-print value more ∙ ap (λ l. json_of_value value ++ l) rest)
-    ∙ member-joined called (json_of_value value) (members_text columns values) (print_from false (key name ∷ ts))
+    ∙ ap (λ l. (called ++ 58 ∷ []) ++ l) (value-print value more ∙ ap (λ l. value_json (codes "{}") value ++ l) rest)
+    ∙ member-joined called (value_json (codes "{}") value) (members_text columns values) (print_from false (key name ∷ ts))
 
 three-ended : (a b c : Bytes) → (a ++ 44 ∷ (b ++ 44 ∷ (c ++ 125 ∷ []))) ++ 10 ∷ [] ≡ (a ++ 44 ∷ (b ++ 44 ∷ c)) ++ 125 ∷ 10 ∷ []
 three-ended a b c = simp append_assoc refl

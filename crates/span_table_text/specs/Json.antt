@@ -1,9 +1,7 @@
 -- The rows of a table for machines: JSON Lines.
 use Rattle.std.specs.Prelude.{ℕ, Bool, ◌&&◌, List, [], ◌∷◌, ◌++◌, flat_map, length, map, codes, decimal, Some, None}
 use Rattle.std.specs.List.{join_with_byte, list_all}
-use Rattle.std.specs.Fmt.{signed_decimal}
 use Rattle.span_event.specs.declared.args.ArgValue.{ArgValue}
-use Rattle.span_event.specs.declared.args.ArgValue.TheVariants.{Nil, Flag, Whole, Words, Other}
 use Rattle.span_event.specs.Text.{Bytes}
 use Rattle.span_event.specs.declared.unit.Unit.{Unit}
 use Rattle.span_event.specs.declared.unit.Unit.TheVariants.{Microseconds, Nanoseconds}
@@ -16,7 +14,7 @@ use Rattle.span_table.specs.declared.heads.Head.{Head}
 use Rattle.span_table.specs.declared.table.Row.{Row}
 use Rattle.span_table.specs.Columns.{column_name}
 use Rattle.span_table.specs.Keys.{TableKey}
-use Rattle.span_table_text.specs.Lines.{flag_text}
+use Rattle.span_table_text.specs.Lines.{value_json}
 use Rattle.span_table_text.specs.Shown.{Wanted, shown_rows}
 use Rattle.span_table.specs.Tables.{SpanTable}
 use Rattle.span_table.specs.Heads.{head_fits}
@@ -52,17 +50,9 @@ head_members head =
     number_member (codes "events") head.counts.accepted ∷ number_member (codes "refused") head.counts.refused ∷ number_member (codes "skipped") head.counts.skipped ∷
     number_member (codes "queries") head.counts.queries ∷ number_member (codes "seals") head.counts.seals ∷ []
 
--- a value as JSON: of what isn't kept an empty object
-abbrev pub json_of_value : ArgValue → Bytes
-json_of_value Nil = codes "null"
-json_of_value (Flag flag) = flag_text flag
-json_of_value (Whole number) = signed_decimal number
-json_of_value (Words text) = json_text_of text
-json_of_value Other = codes "{}"
-
--- a column with its value
+-- a column with its value, of what isn't kept an empty object
 abbrev pub value_member : Column → ArgValue → Bytes
-value_member column value = column_json column ++ 58 ∷ json_of_value value
+value_member column value = column_json column ++ 58 ∷ value_json (codes "{}") value
 
 -- each column that has a value with it
 abbrev pub value_members : List Column → TableKey → List Bytes

@@ -15,17 +15,17 @@ abbrev pub flag_text : Bool → Bytes
 flag_text true = codes "true"
 flag_text false = codes "false"
 
--- a value that is there
-abbrev pub arg_text : ArgValue → Bytes
-arg_text Nil = codes "null"
-arg_text (Flag flag) = flag_text flag
-arg_text (Whole number) = signed_decimal number
-arg_text (Words text) = json_text_of text
-arg_text Other = codes "..."
+-- a value that is there, by what stands for those that aren't kept
+abbrev pub value_json : Bytes → ArgValue → Bytes
+value_json other Nil = codes "null"
+value_json other (Flag flag) = flag_text flag
+value_json other (Whole number) = signed_decimal number
+value_json other (Words text) = json_text_of text
+value_json other Other = other
 
 -- a value, or `-` where there is none
 unfoldable pub value_text : Value → Bytes
-value_text value = or_dash arg_text value
+value_text value = or_dash (value_json (codes "...")) value
 
 -- the name of a column as JSON writes it, without the quotes
 unfoldable pub column_title : Column → Bytes

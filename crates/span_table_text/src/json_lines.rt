@@ -3,11 +3,12 @@ ghost use Rattle.std.specs.Prelude.{◌≡◌, ◌<◌, ◌^◌, All, ◌++◌, 
 ghost use Rattle.std.specs.List.{join_with_byte, list_all};
 ghost use Rattle.span_table_text.specs.declared.json_lines.JsonFault.TheVariants.{TooGreat};
 ghost use Rattle.span_table.specs.Sums.{fit};
-ghost use Rattle.span_table_text.specs.Json.{column_json, columns_json, json_fits, json_head, json_line, json_of, json_of_value, of_member, shown_table, unit_member};
+ghost use Rattle.span_table_text.specs.Json.{column_json, columns_json, json_fits, json_head, json_line, json_of, of_member, shown_table, unit_member};
 ghost use Rattle.span_table_text.specs.Printed.{AllFit, KeyFits};
 ghost use Rattle.span_table_text.specs.JsonPieces.{count_text, end_text, events_text, files_text, head_text, member_text, members_text, others_text, start_text};
 
 use crate::json_rows::{column_names, with_json_row};
+use crate::lines::put_arg;
 use crate::shown::{Shown, ShownRow};
 use span_event::{ArgValue, Unit};
 use span_report::json_text;
@@ -275,22 +276,6 @@ fn put_member(
     };
     put_name(alloc, out, column)?;
     out.push(':')?;
-    put_value(alloc, out, value)?;
+    put_arg(alloc, out, value, "{}")?;
     out.push(',')
-}
-
-fn put_value(alloc: Global, out: &mut String, value: &ArgValue) -> Result<(), AllocError>
-    ensures { OnOk result (string_bytes out.new ≡ string_bytes out.old ++ json_of_value value.now) }
-{
-    match value {
-        ArgValue::Nil => out.push_str("null"),
-        ArgValue::Flag(true) => out.push_str("true"),
-        ArgValue::Flag(false) => out.push_str("false"),
-        ArgValue::Whole(number) => {
-            let number = *number;
-            write!(out, "{number}")
-        }
-        ArgValue::Words(text) => out.push_str(json_text(alloc, text)?.as_str()),
-        ArgValue::Other => out.push_str("{}"),
-    }
 }

@@ -1,7 +1,7 @@
 //! What the texts for people have in common: numbers in a width, values, the names of columns, and how many rows are shown.
 ghost use Rattle.std.specs.Prelude.{◌≡◌, ◌++◌, decimal, flat_map, string_bytes, OnOk};
 ghost use Rattle.span_report.specs.Lines.{count_line, right_in, seals_line};
-ghost use Rattle.span_table_text.specs.Lines.{arg_text, runs_line, shown_line};
+ghost use Rattle.span_table_text.specs.Lines.{runs_line, shown_line, value_json};
 ghost use Rattle.span_table_text.specs.Pieces.{then_right, then_title, then_value};
 ghost use Rattle.json.specs.Print.{escape, quoted};
 ghost use Rattle.span_event.specs.Text.{Bytes};
@@ -91,12 +91,19 @@ fn put_value(alloc: Global, out: &mut String, value: &Option<ArgValue>) -> Resul
     out.push(' ')?;
     match value {
         None => out.push('-'),
-        Some(value) => put_arg(alloc, out, value),
+        Some(value) => put_arg(alloc, out, value, "..."),
     }
 }
 
-fn put_arg(alloc: Global, out: &mut String, value: &ArgValue) -> Result<(), AllocError>
-    ensures { OnOk result (string_bytes out.new ≡ string_bytes out.old ++ arg_text value.now) }
+/// Appends a value that is there, `other` for one that isn't kept.
+pub(crate) fn put_arg(
+    alloc: Global,
+    out: &mut String,
+    value: &ArgValue,
+    other: &str,
+) -> Result<(), AllocError>
+    ensures { OnOk result (string_bytes out.new
+        ≡ string_bytes out.old ++ value_json other.now value.now) }
 {
     match value {
         ArgValue::Nil => out.push_str("null"),
@@ -107,7 +114,7 @@ fn put_arg(alloc: Global, out: &mut String, value: &ArgValue) -> Result<(), Allo
             write!(out, "{number}")
         }
         ArgValue::Words(text) => out.push_str(json_text(alloc, text)?.as_str()),
-        ArgValue::Other => out.push_str("..."),
+        ArgValue::Other => out.push_str(other),
     }
 }
 
