@@ -26,7 +26,7 @@ use Rattle.span_request.specs.declared.views.View.TheVariants.{Report, Table, Re
 use Rattle.tracebook.specs.Comparison.{AreTooGreat, HasEnded, HasTooGreat, changes_of_runs, changes_text, compared_table, comparison_in_turn, greater}
 use Rattle.tracebook.specs.Tables.{TableExceeds, asked_table, table_text}
 use Rattle.tracebook.specs.View.{ExceedsBits, ExceedsNames, text_of}
-use Rattle.tracebook.proofs.Compared.{greater-is}
+use Rattle.tracebook.proofs.RunPairs.{greater-is}
 
 module _ (files : List Input) (settings : Settings) (ends : List FileEnd) (asked : Asked) (sealing : Sealing) (journal : List Entry)
     (account : SealedAccount files [] settings ends asked sealing journal) (separate : AreSeparate settings.unit files) (below : status_of ends asked sealing < 2) where

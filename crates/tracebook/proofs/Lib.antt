@@ -1,9 +1,9 @@
 mod Adding
 mod Changes
-mod Compared
 mod FleetTrees
 mod InTurn
 mod Parts
 mod RepeatedSides
 mod RunPages
+mod RunPairs
 mod Views

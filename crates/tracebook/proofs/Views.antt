@@ -29,19 +29,6 @@ use Rattle.tracebook.specs.declared.view.ViewFault.TheVariants.{Run, TooGreat, S
 use Rattle.tracebook.specs.View.{ExceedsBits, ExceedsNames, IsUnwritten, OfEnds, TextLeaves, ViewLeaves, of_folded, of_written, text_of}
 use Rattle.tracebook.proofs.InTurn.{ExceedsBits-in_turn, ExceedsNames-in_turn, text_of-in_turn}
 
--- of a text that has no bound
-pub TextLeaves-of_written : (unit : Unit) (view : View) (files : List Input) (fault : WriteFault) (ends : List FileEnd) (journal : List Entry) (old new : SinkState) →
-    WriteLeaves fault (text_of unit view files ends journal) old new → TextLeaves unit view files (of_written fault) ends journal old new
-TextLeaves-of_written unit view files Memory ends journal old new leaves = leaves
-TextLeaves-of_written unit view files (Output written) ends journal old new leaves = leaves
-
--- of folded stacks
-pub TextLeaves-of_folded : (unit : Unit) (labels : Vec SpanColumn) (files : List Input) (fault : FoldedFault) (ends : List FileEnd) (journal : List Entry) (old new : SinkState) →
-    FoldedLeaves fault labels.items journal old new → TextLeaves unit (Folded labels) files (of_folded fault) ends journal old new
-TextLeaves-of_folded unit labels files Unfolded ends journal old new leaves = leaves
-TextLeaves-of_folded unit labels files TooLarge ends journal old new leaves = leaves
-TextLeaves-of_folded unit labels files (FoldedCut written) ends journal old new leaves = (leaves.1, leaves.2)
-
 -- a run of these inputs ended, not with 2, and this is left of its view
 module _ (view : View) (inputs : List Input) (settings : Settings) (run : RunEnd) (journal : List Entry) (old new : SinkState)
     (account : SealedAccount inputs [] settings run.ends.items run.asked run.sealing journal) (status : run.status ≡ status_of run.ends.items run.asked run.sealing)

@@ -42,7 +42,7 @@ impl ComparisonFault {
 
 // What was collected of the base's files, and of the others.
 #[derive(Drop)]
-pub(crate) struct Compared {
+pub(crate) struct RunPair {
     pub(crate) base: Collected,
     pub(crate) other: Collected,
 }
@@ -63,7 +63,7 @@ pub(crate) fn run_comparison<O: Sink, R: Threads + Wait + RandomSource + Sync>(
     settings: &Settings,
     view: &ComparisonView,
     out: &mut O,
-) -> Result<Compared, ComparisonFault>
+) -> Result<RunPair, ComparisonFault>
     ensures run { IfOk result (λ compared. IsComparisonOf view.now base.now files.now settings.now
         compared.base.end compared.other.end (O.state out.old) (O.state out.new)) }
     ensures fault { IfErr result (λ fault. ComparisonLeaves view.now fault base.now files.now
@@ -77,7 +77,7 @@ pub(crate) fn run_comparison<O: Sink, R: Threads + Wait + RandomSource + Sync>(
         Ok(later) => later,
         Err(refusal) => return Err(ComparisonFault::Run(refusal)),
     };
-    let compared = Compared {
+    let compared = RunPair {
         base: earlier,
         other: later,
     };
@@ -97,7 +97,7 @@ fn write_changes<O: Sink, R: RandomSource>(
     unit: Unit,
     base: &[Input],
     files: &[Input],
-    compared: &Compared,
+    compared: &RunPair,
     view: &ComparisonView,
     out: &mut O,
 ) -> Result<(), ComparisonFault>
@@ -126,7 +126,7 @@ fn changes_of<R: RandomSource>(
     unit: Unit,
     base: &[Input],
     files: &[Input],
-    compared: &Compared,
+    compared: &RunPair,
     view: &ComparisonView,
 ) -> Result<Vec<u8>, JsonFault>
     ensures text { IfOk result (λ text. text.items ≡ changes_of_runs unit view.now

@@ -1,6 +1,6 @@
 use Rattle.std.proofs.Common.{sym, ◌∙◌}
 use Rattle.std.proofs.lemmas.Slice.Zip.{AllZip-long}
-use Rattle.tracebook.proofs.Compared.{ComparisonPart-ended, HasEnded-le, greater-le, greater-none, greater-told}
+use Rattle.tracebook.proofs.RunPairs.{ComparisonPart-ended, HasEnded-le, greater-le, greater-none, greater-told}
 use Rattle.span_faults.proofs.FaultLines.{Reports-le, Reports-status}
 use Rattle.tracebook.proofs.program.compare.Goals as goal
 

@@ -26,22 +26,6 @@ greater-is a b = (grind (arith, nat_tests), grind (arith, nat_tests), either (na
     either true = inr refl
     either false = inl refl
 
--- files of the base that were not collected leave the output as it was
-pub ComparisonLeaves-base : (view : ComparisonView) (error : RunError) (base files : List Input) (settings : Settings) (state : SinkState) →
-    IsNotCollected error base [] settings → ComparisonLeaves view (Run error) base files settings state state
-ComparisonLeaves-base view FileCount base files settings state is = (inl is, refl)
-ComparisonLeaves-base view Memory base files settings state is = refl
-ComparisonLeaves-base view (Unaccounted entries calls) base files settings state is = (inl is, refl)
-ComparisonLeaves-base view (Output written) base files settings state is = absurd is
-
--- so do the others
-pub ComparisonLeaves-other : (view : ComparisonView) (error : RunError) (base files : List Input) (settings : Settings) (state : SinkState) →
-    IsNotCollected error files [] settings → ComparisonLeaves view (Run error) base files settings state state
-ComparisonLeaves-other view FileCount base files settings state is = (inr is, refl)
-ComparisonLeaves-other view Memory base files settings state is = refl
-ComparisonLeaves-other view (Unaccounted entries calls) base files settings state is = (inr is, refl)
-ComparisonLeaves-other view (Output written) base files settings state is = absurd is
-
 -- no run ends with more than 2
 pub HasEnded-le : {files : List Input} {settings : Settings} (run : RunEnd) {journal : List Entry} → HasEnded files settings run journal → run.status ≤ 2
 HasEnded-le run ended = dite (ℕ_discrete run.status 2)
