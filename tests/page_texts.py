@@ -4,17 +4,17 @@ import os
 import re
 
 FIXED = os.path.join(os.path.dirname(os.path.abspath(__file__)), "..", "crates", "span_page", "src", "fixed.rt")
-HEAD_END = '<script type="application/json" id="data">'
+DATA_START = '<script type="application/json" id="data">'
 # What stands in the data as an escape alone.
 ESCAPED = "<>&\u2028\u2029"
 
 
 def fixed_texts():
-    """The head and the tail that the crate has."""
+    """The fixed texts that the crate has, before the data and behind them."""
     with open(FIXED, encoding="utf-8") as file:
-        texts = re.findall(r'const (HEAD|TAIL): &str = r(#+)"(.*?)"\2;', file.read(), re.DOTALL)
-    if [name for name, _, _ in texts] != ["HEAD", "TAIL"] or not texts[0][2].endswith(HEAD_END):
-        raise ValueError(f"{FIXED} has no head and tail")
+        texts = re.findall(r'const (BEFORE|BEHIND): &str = r(#+)"(.*?)"\2;', file.read(), re.DOTALL)
+    if [name for name, _, _ in texts] != ["BEFORE", "BEHIND"] or not texts[0][2].endswith(DATA_START):
+        raise ValueError(f"{FIXED} has no two fixed texts")
     return [text for _, _, text in texts]
 
 
@@ -25,13 +25,13 @@ def data_text(value):
 
 
 def page_text(value):
-    head, tail = fixed_texts()
-    return head + data_text(value) + tail
+    before, behind = fixed_texts()
+    return before + data_text(value) + behind
 
 
 def data_of(page):
     """The value of the data between the fixed texts."""
-    head, tail = fixed_texts()
-    if not (page.startswith(head) and page.endswith(tail)):
+    before, behind = fixed_texts()
+    if not (page.startswith(before) and page.endswith(behind)):
         raise ValueError("a page doesn't begin and end with the fixed texts")
-    return json.loads(page[len(head) : len(page) - len(tail)])
+    return json.loads(page[len(before) : len(page) - len(behind)])

@@ -5,7 +5,7 @@ use Rattle.span_event.specs.declared.unit.Unit.{Unit}
 use Rattle.span_report.specs.declared.stacks.label.SpanColumn.{SpanColumn}
 use Rattle.span_page.specs.Data.{most_frames}
 use Rattle.span_report.specs.Lines.{json_text_of}
-use Rattle.span_page.specs.Page.{head_text, tail_text}
+use Rattle.span_page.specs.Page.{text_before, text_behind}
 use Rattle.span_page.specs.Runs.{BegunPage, Holds, ShownRun, are_some, begun_text, page_of_runs, left_behind_run, left_behind_runs, run_json, runs_json}
 use Rattle.span_page.specs.Safe.{safe, safe_byte}
 use Rattle.span_page.proofs.SafePieces.{safe_after-before, safe-runs}
@@ -43,15 +43,15 @@ module _ (unit : Unit) (labels : List SpanColumn) where
   pub begun_text-push : (runs : List ShownRun) (run : ShownRun) →
       (begun_text unit labels runs ++ comma (are_some runs)) ++ safe (run_json unit labels (left_behind_runs labels most_frames runs) run) ≡ begun_text unit labels (runs ++ run ∷ [])
   begun_text-push [] run =
-      ap (λ (t : List ℕ). t ++ safe (run_json unit labels most_frames run)) (append-nil (head_text ++ codes "{\"runs\":["))
-      ∙ append_assoc head_text (codes "{\"runs\":[") (safe (run_json unit labels most_frames run))
+      ap (λ (t : List ℕ). t ++ safe (run_json unit labels most_frames run)) (append-nil (text_before ++ codes "{\"runs\":["))
+      ∙ append_assoc text_before (codes "{\"runs\":[") (safe (run_json unit labels most_frames run))
   begun_text-push (first ∷ runs) run =
       let more = run_json unit labels (left_behind_runs labels most_frames (first ∷ runs)) run in
       let others = runs_json unit labels (left_behind_run labels most_frames first) runs in
       let before = join_with_byte 44 (run_json unit labels most_frames first ∷ others) in
-      append_assoc (head_text ++ (codes "{\"runs\":[" ++ safe before)) (44 ∷ []) (safe more)
-      ∙ append_assoc head_text (codes "{\"runs\":[" ++ safe before) (44 ∷ safe more)
-      ∙ ap (λ (t : List ℕ). head_text ++ (codes "{\"runs\":[" ++ t)) (
+      append_assoc (text_before ++ (codes "{\"runs\":[" ++ safe before)) (44 ∷ []) (safe more)
+      ∙ append_assoc text_before (codes "{\"runs\":[" ++ safe before) (44 ∷ safe more)
+      ∙ ap (λ (t : List ℕ). text_before ++ (codes "{\"runs\":[" ++ t)) (
       ap (λ (t : List ℕ). safe before ++ t) (sym (safe-comma more))
       ∙ sym (safe_after-before 44 refl refl refl more zero before (omega arith))
       ∙ ap safe (sym (join_with_byte-push (run_json unit labels most_frames first) others more)
@@ -74,7 +74,7 @@ module _ (unit : Unit) (labels : List SpanColumn) where
   pub Holds-alike : (runs : List ShownRun) (one other : ShownRun) (page : BegunPage) → ((left : ℕ) → run_json unit labels left one ≡ run_json unit labels left other) →
       ((left : ℕ) → left_behind_run labels left one ≡ left_behind_run labels left other) → Holds unit labels (runs ++ one ∷ []) page → Holds unit labels (runs ++ other ∷ []) page
   Holds-alike runs one other page same behind holds = record {
-    text = holds.text ∙ ap (λ (texts : List (List ℕ)). head_text ++ (codes "{\"runs\":[" ++ safe (join_with_byte 44 texts)))
+    text = holds.text ∙ ap (λ (texts : List (List ℕ)). text_before ++ (codes "{\"runs\":[" ++ safe (join_with_byte 44 texts)))
         (runs_json-push most_frames runs one ∙ ap (λ (text : List ℕ). runs_json unit labels most_frames runs ++ text ∷ []) (same (left_behind_runs labels most_frames runs)) ∙ sym (runs_json-push most_frames runs other));
     left = holds.left ∙ left_behind_runs-push most_frames runs one ∙ behind (left_behind_runs labels most_frames runs) ∙ sym (left_behind_runs-push most_frames runs other);
     some = holds.some ∙ many runs one ∙ sym (many runs other);
@@ -82,9 +82,9 @@ module _ (unit : Unit) (labels : List SpanColumn) where
 
   -- the text is ended by a table
   pub page_of_runs-begun : (table : List ℕ) (runs : List ShownRun) →
-      (((begun_text unit labels runs ++ codes "],\"table\":") ++ safe (json_text_of table)) ++ codes "}") ++ tail_text ≡ page_of_runs unit labels table runs
+      (((begun_text unit labels runs ++ codes "],\"table\":") ++ safe (json_text_of table)) ++ codes "}") ++ text_behind ≡ page_of_runs unit labels table runs
   unfolding page_of_runs
   page_of_runs-begun table runs =
       let texts = runs_json unit labels most_frames runs in
-      append-page head_text (codes "{\"runs\":[") (safe (join_with_byte 44 texts)) (codes "],\"table\":") (safe (json_text_of table)) (codes "}") tail_text
-      ∙ ap (λ (t : List ℕ). head_text ++ (t ++ tail_text)) (sym (safe-runs texts table))
+      append-page text_before (codes "{\"runs\":[") (safe (join_with_byte 44 texts)) (codes "],\"table\":") (safe (json_text_of table)) (codes "}") text_behind
+      ∙ ap (λ (t : List ℕ). text_before ++ (t ++ text_behind)) (sym (safe-runs texts table))

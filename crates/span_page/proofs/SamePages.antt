@@ -19,7 +19,7 @@ use Rattle.span_collect.specs.Refusals.Text.{refusals_of}
 use Rattle.span_page.specs.Data.{all_stacks_json, array_of, data_of, graph_json, graphs_json, left_after, left_behind, most_frames, names_json, rest_of, stacks_json, threads_of}
 use Rattle.span_page.specs.Runs.{run_json}
 use Rattle.span_page.specs.Laws.{PagesFollowFromActs}
-use Rattle.span_page.specs.Page.{head_text, page_of, tail_text}
+use Rattle.span_page.specs.Page.{text_before, page_of, text_behind}
 use Rattle.span_page.specs.Safe.{safe}
 
 -- the same graphs fit into what is left
@@ -73,4 +73,4 @@ module _ (labels : List SpanColumn) (journal other : List Entry) (alike : AreAli
 pub page_of-alike : PagesFollowFromActs
 unfolding page_of
 page_of-alike unit labels table files ends others journal other alike refusals faults =
-    ap (λ (text : List ℕ). head_text ++ (safe text ++ tail_text)) (data_of-alike labels journal other alike unit files ends others refusals faults table)
+    ap (λ (text : List ℕ). text_before ++ (safe text ++ text_behind)) (data_of-alike labels journal other alike unit files ends others refusals faults table)

@@ -5,17 +5,17 @@ use Rattle.span_journal.specs.declared.entry.Entry.{Entry}
 use Rattle.span_collect.specs.declared.files.FileEnd.{FileEnd}
 use Rattle.span_collect.specs.declared.files.Input.{Input}
 use Rattle.span_report.specs.declared.stacks.label.SpanColumn.{SpanColumn}
-use Rattle.span_page.specs.declared.fixed.TheConstants.{HEAD, TAIL}
+use Rattle.span_page.specs.declared.fixed.TheConstants.{BEFORE, BEHIND}
 use Rattle.span_page.specs.Data.{data_of}
 use Rattle.span_page.specs.Safe.{safe}
 
 -- the fixed texts, which are too long for a proof to look into
-unfoldable pub head_text : List ℕ
-head_text = HEAD.now
+unfoldable pub text_before : List ℕ
+text_before = BEFORE.now
 
-unfoldable pub tail_text : List ℕ
-tail_text = TAIL.now
+unfoldable pub text_behind : List ℕ
+text_behind = BEHIND.now
 
--- A fixed head, the data in this unit, and a fixed tail. Frames are labels by these columns, and the table of spans is this text.
+-- A fixed text, the data in this unit, and another fixed text. Frames are labels by these columns, and the table of spans is this text.
 unfoldable pub page_of : Unit → List SpanColumn → List ℕ → List Input → List FileEnd → List Entry → List ℕ
-page_of unit labels table files ends journal = head_text ++ (safe (data_of unit labels table files ends journal) ++ tail_text)
+page_of unit labels table files ends journal = text_before ++ (safe (data_of unit labels table files ends journal) ++ text_behind)

@@ -10,7 +10,7 @@ use Rattle.span_report.specs.Lines.{json_text_of}
 use Rattle.span_report.specs.Report.{report_of}
 use Rattle.span_report.specs.declared.stacks.label.SpanColumn.{SpanColumn}
 use Rattle.span_page.specs.Data.{array_of, left_behind, most_frames, rest_of, threads_of}
-use Rattle.span_page.specs.Page.{head_text, tail_text}
+use Rattle.span_page.specs.Page.{text_before, text_behind}
 use Rattle.span_page.specs.Safe.{safe}
 
 -- a run as a page shows it: its files, how they ended, and the journal
@@ -44,9 +44,9 @@ abbrev pub runs_data : Unit → List SpanColumn → List ℕ → List ShownRun �
 runs_data unit labels table runs =
     codes "{\"runs\":" ++ (array_of (runs_json unit labels most_frames runs) ++ (codes ",\"table\":" ++ (json_text_of table ++ codes "}")))
 
--- a fixed head, the data, and a fixed tail
+-- a fixed text, the data, and another fixed text
 unfoldable pub page_of_runs : Unit → List SpanColumn → List ℕ → List ShownRun → List ℕ
-page_of_runs unit labels table runs = head_text ++ (safe (runs_data unit labels table runs) ++ tail_text)
+page_of_runs unit labels table runs = text_before ++ (safe (runs_data unit labels table runs) ++ text_behind)
 
 -- a page of runs so far: its text, how many frames are left, and whether it has a run
 pub record BegunPage : Type 0 where
@@ -56,7 +56,7 @@ pub record BegunPage : Type 0 where
 
 -- the text so far of a page of these runs in this unit, with labels by these columns
 abbrev pub begun_text : Unit → List SpanColumn → List ShownRun → List ℕ
-begun_text unit labels runs = head_text ++ (codes "{\"runs\":[" ++ safe (join_with_byte 44 (runs_json unit labels most_frames runs)))
+begun_text unit labels runs = text_before ++ (codes "{\"runs\":[" ++ safe (join_with_byte 44 (runs_json unit labels most_frames runs)))
 
 -- whether there is a run
 abbrev pub are_some : List ShownRun → Bool

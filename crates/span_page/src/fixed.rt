@@ -1,6 +1,6 @@
 //! The fixed texts before and behind a page's data. Made by `page/join` of the sources beside it.
 
-pub(crate) const HEAD: &str = r#"<!DOCTYPE html>
+pub(crate) const BEFORE: &str = r#"<!DOCTYPE html>
 <html lang="en">
 <head>
 <meta charset="utf-8">
@@ -159,7 +159,7 @@ A click or Enter zooms into a frame, Escape or Backspace goes back, arrow keys m
 </main>
 <script type="application/json" id="data">"#;
 
-pub(crate) const TAIL: &str = r#"</script>
+pub(crate) const BEHIND: &str = r#"</script>
 <script type="module">
 // Reads the text of a report and that of refusals, and writes numbers and names for people. Times and counts are BigInts, since
 // they may need more digits than a number has.

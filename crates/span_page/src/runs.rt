@@ -3,7 +3,7 @@ ghost use Rattle.std.specs.Prelude.{◌≡◌, [], List, length, string_bytes, I
 ghost use Rattle.span_page.specs.Runs.{Holds, ShownRun, TakesRun, page_of_runs};
 
 use crate::data::{MOST_FRAMES, put_report, put_rest, put_safe_string};
-use crate::text::{head, tail};
+use crate::text::{before, behind};
 use span_collect::{FileEnd, Input};
 use span_event::Unit;
 use span_ledger::Ledger;
@@ -35,7 +35,7 @@ impl RunsPage {
             → Holds unit labels [] page) }
     {
         let mut text = Vec::new(alloc);
-        text.extend_from_slice(head().as_bytes())?;
+        text.extend_from_slice(before().as_bytes())?;
         text.extend_from_slice(b"{\"runs\":[")?;
         Ok(RunsPage {
             text,
@@ -89,7 +89,7 @@ impl RunsPage {
         text.extend_from_slice(b"],\"table\":")?;
         put_safe_string(alloc, &mut text, table)?;
         text.extend_from_slice(b"}")?;
-        text.extend_from_slice(tail().as_bytes())?;
+        text.extend_from_slice(behind().as_bytes())?;
         Ok(text)
     }
 }

@@ -1,18 +1,18 @@
 //! The text of a page.
 ghost use Rattle.std.specs.Prelude.{◌≡◌, length, string_bytes, IfOk};
-ghost use Rattle.span_page.specs.Page.{head_text, page_of, tail_text};
+ghost use Rattle.span_page.specs.Page.{page_of, text_before, text_behind};
 
 use crate::data::put_data;
-use crate::fixed::{HEAD, TAIL};
+use crate::fixed::{BEFORE, BEHIND};
 use span_collect::{FileEnd, Input};
 use span_event::Unit;
 use span_ledger::Ledger;
 use span_report::stacks::SpanColumn;
 use std::alloc::{AllocError, Global};
 
-/// The page of the ledger's journal, whose times are in this unit, and of the files that were told to it: a fixed head, the data as
-/// one JSON text, and a fixed tail. Frames are labels by these columns, and the table of spans is a text, JSON Lines. In the data `<`,
-/// `>`, `&` and the two line separators are escapes. There is one end for each file, in order.
+/// The page of the ledger's journal, whose times are in this unit, and of the files that were told to it: a fixed text, the data as
+/// one JSON text, and another fixed text. Frames are labels by these columns, and the table of spans is a text, JSON Lines. In the
+/// data `<`, `>`, `&` and the two line separators are escapes. There is one end for each file, in order.
 #[tactic(auto, unfolding(crate::specs::Page::page_of), using(std::proofs::Common::append_assoc))]
 pub fn page(
     alloc: Global,
@@ -28,22 +28,22 @@ pub fn page(
         ≡ page_of unit labels.now (string_bytes table) files.now ends.now ledger.now.journal) }
 {
     let mut out = Vec::new(alloc);
-    out.extend_from_slice(head().as_bytes())?;
+    out.extend_from_slice(before().as_bytes())?;
     put_data(alloc, unit, &mut out, ledger, files, ends, labels, table)?;
-    out.extend_from_slice(tail().as_bytes())?;
+    out.extend_from_slice(behind().as_bytes())?;
     Ok(out)
 }
 
-#[tactic(auto, unfolding(crate::specs::Page::head_text))]
-pub(crate) fn head() -> &'static str
-    ensures { result.now ≡ head_text }
+#[tactic(auto, unfolding(crate::specs::Page::text_before))]
+pub(crate) fn before() -> &'static str
+    ensures { result.now ≡ text_before }
 {
-    HEAD
+    BEFORE
 }
 
-#[tactic(auto, unfolding(crate::specs::Page::tail_text))]
-pub(crate) fn tail() -> &'static str
-    ensures { result.now ≡ tail_text }
+#[tactic(auto, unfolding(crate::specs::Page::text_behind))]
+pub(crate) fn behind() -> &'static str
+    ensures { result.now ≡ text_behind }
 {
-    TAIL
+    BEHIND
 }

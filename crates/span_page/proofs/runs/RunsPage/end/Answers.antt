@@ -10,4 +10,4 @@ returns c = λ unit labels runs holds.
     let a = c.in_ok-extend_from_slice.ensures.items ∙ ap (λ (t : List ℕ). t ++ codes "],\"table\":") ((λ i. (c.self.view_is i).text) ∙ holds.text) in
     let b = c.in_ok-put_safe_string.ensures ∙ ap (λ (t : List ℕ). t ++ safe (json_text_of table)) a in
     let d = c.in_ok-extend_from_slice-2.ensures.items ∙ ap (λ (t : List ℕ). t ++ codes "}") b in
-    c.in_ok-extend_from_slice-3.ensures.items ∙ (λ i. d i ++ (c.as_bytes.ensures.value ∙ c.tail.ensures) i) ∙ page_of_runs-begun unit labels table runs
+    c.in_ok-extend_from_slice-3.ensures.items ∙ (λ i. d i ++ (c.as_bytes.ensures.value ∙ c.behind.ensures) i) ∙ page_of_runs-begun unit labels table runs
