@@ -180,6 +180,7 @@ pub fn collect_to_ledger<R: Threads + Wait + RandomSource + Sync>(
     ensures count { (result ≡ Err RunError.FileCount) ↔ AreNoneOrTooMany files.now }
     ensures error { IfErr result (λ error. IsNotCollected error files.now asks.now settings.now) }
 {
+    // Errors and what was collected have types of their own in a run, so that who collects meets none that only an output gives.
     let outcome = match collect(rt, alloc, files, asks, &FreeGate, settings) {
         Ok(outcome) => outcome,
         Err(CollectError::FileCount) => return Err(RunError::FileCount),

@@ -35,6 +35,7 @@ pub fn folded(
 {
     let mut out = Vec::new(alloc);
     let mut left = MOST_NAMES;
+    // The parts are those of a report, so that both have the threads in one order. The rows in them serve nothing else here.
     for part in &ledger.parts(alloc)? {
         put_process(alloc, ledger, columns, &mut out, &mut left, part)?;
     }
