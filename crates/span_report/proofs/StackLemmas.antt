@@ -13,5 +13,5 @@ pub mod StackOrders
 pub mod Standing
 pub mod Starts
 pub mod Tallies
-pub mod Telling
 pub mod Times
+pub mod Visiting

@@ -1,4 +1,4 @@
--- How a telling of frames stands against the spans: what was told and what is left, and that in the end all frames were told.
+-- How a descent stands against the spans: what was visited and what is left, and that in the end all frames were visited.
 use Rattle.std.proofs.Common.{◌≡◌, ℕ, ◌+◌, ◌<◌, ◌≤◌, true, false, ◌&&◌, cond, List, [], ◌∷◌, ◌++◌, length, map, flat_map, take, get_or, refl, sym, ap, subst, ◌∙◌, arith, inl, inr, true≢false}
 use Rattle.std.specs.Prelude.{nat_lt}
 use Rattle.std.specs.List.{count_by, list_any}
@@ -17,26 +17,26 @@ use Rattle.span_self_time.proofs.Mapped.{sum_by-map}
 use Rattle.span_keyed_tracks.specs.Keyed.{ascending}
 use Rattle.span_report.specs.declared.stacks.descent.Descent.{Descent}
 use Rattle.span_report.specs.Stacks.Bounds.{beginnings, frame_count, frames_of, names_in}
-use Rattle.span_report.specs.Stacks.Descent.{IsReady, StartsWith, TellsFrame, left_of, told_last}
+use Rattle.span_report.specs.Stacks.Descent.{IsReady, StartsWith, VisitsFrame, last_visited, left_of}
 use Rattle.span_report.specs.Stacks.Ticks.{Folded, Stack, folded, folded_stacks, has_frames, same_stack, stack_at, stack_order, stacks_of}
 use Rattle.span_report.specs.Stacks.Framed.{AreAscending, Framed, folded_after, last_stack, stack_after}
 use Rattle.span_report.proofs.StackLemmas.Beginnings.{any-has, has-beginning, list_any-flat_map}
 use Rattle.span_report.proofs.StackLemmas.Members.{Has, HasEach, HasEach-append, HasEach-cons, HasEach-none, StandOnce-sorted, any-index, has-at, length-le-each, or-either, same-true, sum_by-le-each}
 use Rattle.span_report.proofs.StackLemmas.Tallies.{list_any-ascending, sorted-same}
-use Rattle.span_report.proofs.StackLemmas.Telling.{AreAscending-push, count-any, has-told, length-told_stacks, rows-folded, rows-timed, stacks-sorted, tally-any, tally-empty, tally-own, told, told-begun, told-push, told-sorted, told_stacks, told_stacks-push}
+use Rattle.span_report.proofs.StackLemmas.Visiting.{AreAscending-push, count-any, has-visited, length-visited_stacks, rows-folded, rows-timed, stacks-sorted, tally-any, tally-empty, tally-own, visited-begun, visited-sorted, visited_stacks, visited_stacks-push, visited_ticks, visited_ticks-push}
 use Rattle.span_report.proofs.StackLemmas.Times.{count_by-cons, count_by-stacks_of, stack_order-same, stack_order-total}
 
 -- how many ticks of the spans have the stack
 abbrev pub count_of : List (Span Bytes) → Stack → ℕ
 count_of spans stack = count_by (same_stack stack) (stacks_of spans)
 
--- these frames of the spans were told, and the descent goes on behind them
-pub record IsTold (spans : List (Span Bytes)) (frames : List Framed) (descent : Descent) : Type 0 where
+-- these frames of the spans were visited, and the descent goes on behind them
+pub record AreVisited (spans : List (Span Bytes)) (frames : List Framed) (descent : Descent) : Type 0 where
   pub ready : IsReady descent
-  pub last : told_last descent ≡ last_stack frames
+  pub last : last_visited descent ≡ last_stack frames
   pub ascending : AreAscending [] frames
-  pub times : (name : Bytes) (names : Stack) → told frames (name ∷ names) + left_of descent (name ∷ names) ≡ count_of spans (name ∷ names)
-  pub begun : HasEach (frames_of spans) (told_stacks [] frames)
+  pub times : (name : Bytes) (names : Stack) → visited_ticks frames (name ∷ names) + left_of descent (name ∷ names) ≡ count_of spans (name ∷ names)
+  pub begun : HasEach (frames_of spans) (visited_stacks [] frames)
 
 -- how many of the stacks are above one
 abbrev pub above : Stack → List Stack → ℕ
@@ -100,92 +100,92 @@ module _ (spans : List (Span Bytes)) where
       let at = any-index (λ (s : Stack). list_any (same_stack k) (beginnings s)) (stacks_of spans) found in
       (get_or (stacks_of spans) at.0 [], at.2, has-at (stacks_of spans) at.0 at.1)
 
-  -- nothing was told yet
-  pub IsTold-none : (d : Descent) → IsReady d → StartsWith spans d → IsTold spans [] d
-  IsTold-none d ready starts = record { ready = ready; last = starts.last; ascending = tt; times = λ name names. zero_add (starts.left name names); begun = HasEach-none (frames_of spans) }
+  -- nothing was visited yet
+  pub AreVisited-none : (d : Descent) → IsReady d → StartsWith spans d → AreVisited spans [] d
+  AreVisited-none d ready starts = record { ready = ready; last = starts.last; ascending = tt; times = λ name names. zero_add (starts.left name names); begun = HasEach-none (frames_of spans) }
     where
       zero_add : {m n : ℕ} → m ≡ n → 0 + m ≡ n
       zero_add same = omega (arith, same)
 
-  module _ (frames : List Framed) (d : Descent) (is : IsTold spans frames d) where
+  module _ (frames : List Framed) (d : Descent) (is : AreVisited spans frames d) where
     -- a stack of which any is left is one of the spans
     left-counted : (start : Stack) (name : Bytes) (rest : Stack) → 0 < left_of d (start ++ name ∷ rest) → Has (stacks_of spans) (start ++ name ∷ rest)
     left-counted [] name rest some = has-counted (name ∷ rest) (omega (arith, some, is.times name rest))
     left-counted (x ∷ start) name rest some = has-counted (x ∷ (start ++ name ∷ rest)) (omega (arith, some, is.times x (start ++ name ∷ rest)))
 
-    told-le : (k : Stack) → told frames k ≤ count_of spans k
-    told-le [] = omega (arith, tally-empty [] frames)
-    told-le (name ∷ names) = omega (arith, is.times name names)
+    visited_ticks-le : (k : Stack) → visited_ticks frames k ≤ count_of spans k
+    visited_ticks-le [] = omega (arith, tally-empty [] frames)
+    visited_ticks-le (name ∷ names) = omega (arith, is.times name names)
 
-    -- one more frame is told
-    module _ (new : Descent) (f : Framed) (tells : TellsFrame d new f) where
-      own-frame : Has (frames_of spans) (stack_after (told_last d) f)
+    -- one more frame is visited
+    module _ (new : Descent) (f : Framed) (visits : VisitsFrame d new f) where
+      own-frame : Has (frames_of spans) (stack_after (last_visited d) f)
       own-frame =
-          let start = take f.below (told_last d) in
-          has-frame (start ++ f.name ∷ []) (start ++ f.name ∷ tells.begun.0) (has-beginning start f.name tells.begun.0) (left-counted start f.name tells.begun.0 tells.begun.1)
+          let start = take f.below (last_visited d) in
+          has-frame (start ++ f.name ∷ []) (start ++ f.name ∷ visits.begun.0) (has-beginning start f.name visits.begun.0) (left-counted start f.name visits.begun.0 visits.begun.1)
 
-      next-stack : stack_after (told_last d) f ≡ stack_after (last_stack frames) f
+      next-stack : stack_after (last_visited d) f ≡ stack_after (last_stack frames) f
       next-stack = ap (λ (l : Stack). stack_after l f) is.last
 
-      pub IsTold-next : IsReady new → IsTold spans (frames ++ f ∷ []) new
-      IsTold-next ready = record {
+      pub AreVisited-next : IsReady new → AreVisited spans (frames ++ f ∷ []) new
+      AreVisited-next ready = record {
         ready = ready;
-        last = tells.last ∙ next-stack ∙ sym (fold_push stack_after [] frames f);
-        ascending = AreAscending-push [] frames f is.ascending (subst (λ (l : Stack). f.below ≤ length l) is.last tells.within) (subst (λ (l : Stack). stack_order l (stack_after l f) ≡ Less) is.last tells.above);
+        last = visits.last ∙ next-stack ∙ sym (fold_push stack_after [] frames f);
+        ascending = AreAscending-push [] frames f is.ascending (subst (λ (l : Stack). f.below ≤ length l) is.last visits.within) (subst (λ (l : Stack). stack_order l (stack_after l f) ≡ Less) is.last visits.above);
         times = λ name names.
             let own = ap (λ (s : Stack). cond (same_stack (name ∷ names) s) f.time 0) next-stack in
-            omega (arith, is.times name names, tells.left (name ∷ names), told-push frames f (name ∷ names), own);
-        begun = subst (HasEach (frames_of spans)) (sym (told_stacks-push [] frames f))
-            (HasEach-append (frames_of spans) (told_stacks [] frames) (stack_after (last_stack frames) f ∷ []) is.begun
+            omega (arith, is.times name names, visits.left (name ∷ names), visited_ticks-push frames f (name ∷ names), own);
+        begun = subst (HasEach (frames_of spans)) (sym (visited_stacks-push [] frames f))
+            (HasEach-append (frames_of spans) (visited_stacks [] frames) (stack_after (last_stack frames) f ∷ []) is.begun
             (HasEach-cons (frames_of spans) (stack_after (last_stack frames) f) [] (subst (Has (frames_of spans)) next-stack own-frame) (HasEach-none (frames_of spans))));
       }
 
       -- fewer frames are above it then
-      pub above-next : above (told_last new) (frames_of spans) < above (told_last d) (frames_of spans)
-      above-next = above-less (told_last d) (stack_after (told_last d) f) (frames_of spans) tells.above own-frame (told_last new) tells.last
+      pub above-next : above (last_visited new) (frames_of spans) < above (last_visited d) (frames_of spans)
+      above-next = above-less (last_visited d) (stack_after (last_visited d) f) (frames_of spans) visits.above own-frame (last_visited new) visits.last
 
-    -- frames that were told are no more than there are
-    pub told-fewer : length frames ≤ frame_count spans
-    told-fewer =
-        let fewer = length-le-each (told_stacks [] frames) (frames_of spans) (StandOnce-sorted (told_stacks [] frames) (told-sorted [] frames is.ascending)) is.begun in
-        omega (arith, fewer, length-told_stacks [] frames)
+    -- frames that were visited are no more than there are
+    pub visited-fewer : length frames ≤ frame_count spans
+    visited-fewer =
+        let fewer = length-le-each (visited_stacks [] frames) (frames_of spans) (StandOnce-sorted (visited_stacks [] frames) (visited-sorted [] frames is.ascending)) is.begun in
+        omega (arith, fewer, length-visited_stacks [] frames)
 
     -- and their names no more than those of all stacks
-    pub told-names : names_in (folded_after [] frames) ≤ names_in (folded_stacks spans)
-    told-names =
+    pub visited-names : names_in (folded_after [] frames) ≤ names_in (folded_stacks spans)
+    visited-names =
         let stacks = stacks_of spans in
         let rows = folded_after [] frames in
         let keys = ascending stack_order stacks in
         let each = λ (k : Stack) (has : Has (map (λ (f : Folded). f.stack) rows) k).
-        let some : 0 < told frames k = lt-some (told frames k) (sym (tally-any rows k (rows-timed [] frames)) ∙ has) in
-        list_any-ascending stack_order-total stack_order-same (same_stack k) stacks ∙ has-counted k (omega (arith, some, told-le k)) in
+        let some : 0 < visited_ticks frames k = lt-some (visited_ticks frames k) (sym (tally-any rows k (rows-timed [] frames)) ∙ has) in
+        list_any-ascending stack_order-total stack_order-same (same_stack k) stacks ∙ has-counted k (omega (arith, some, visited_ticks-le k)) in
         let le = sum_by-le-each (λ (s : Stack). length s) (map (λ (f : Folded). f.stack) rows) keys (StandOnce-sorted (map (λ (f : Folded). f.stack) rows) (stacks-sorted [] frames is.ascending)) each in
         omega (arith, le, sum_by-map (λ (s : Stack). length s) (λ (f : Folded). f.stack) rows, sum_by-map (λ (f : Folded). length f.stack) (folded stacks) keys)
 
-    -- in the end all were told
+    -- in the end all were visited
     module _ (none : (stack : Stack) → left_of d stack ≡ 0) where
-      all-told : (k : Stack) → told frames k ≡ count_of spans k
-      all-told [] = tally-empty [] frames ∙ sym count-empty
-      all-told (name ∷ names) = omega (arith, is.times name names, none (name ∷ names))
+      visited_ticks-all : (k : Stack) → visited_ticks frames k ≡ count_of spans k
+      visited_ticks-all [] = tally-empty [] frames ∙ sym count-empty
+      visited_ticks-all (name ∷ names) = omega (arith, is.times name names, none (name ∷ names))
 
       pub folded-all : folded_after [] frames ≡ folded_stacks spans
       folded-all =
           let stacks = stacks_of spans in
           let rows = folded_after [] frames in
           let sorted = stacks-sorted [] frames is.ascending in
-          let member = λ (k : Stack). tally-any rows k (rows-timed [] frames) ∙ ap (nat_lt 0) (all-told k) ∙ count-any k stacks ∙ sym (list_any-ascending stack_order-total stack_order-same (same_stack k) stacks) in
+          let member = λ (k : Stack). tally-any rows k (rows-timed [] frames) ∙ ap (nat_lt 0) (visited_ticks-all k) ∙ count-any k stacks ∙ sym (list_any-ascending stack_order-total stack_order-same (same_stack k) stacks) in
           let keys : map (λ (f : Folded). f.stack) rows ≡ ascending stack_order stacks = sorted-same stack_order-total stack_order-same (map (λ (f : Folded). f.stack) rows) (ascending stack_order stacks) sorted (ascending-sorted stack_order-total stacks) member in
-          let counted = AllByRecursion-map (λ (f : Folded). f.time ≡ told frames f.stack) (λ (f : Folded). f.time ≡ count_of spans f.stack) (λ (f : Folded) (timed : f.time ≡ told frames f.stack). timed ∙ all-told f.stack) rows (tally-own rows sorted) in
+          let counted = AllByRecursion-map (λ (f : Folded). f.time ≡ visited_ticks frames f.stack) (λ (f : Folded). f.time ≡ count_of spans f.stack) (λ (f : Folded) (timed : f.time ≡ visited_ticks frames f.stack). timed ∙ visited_ticks-all f.stack) rows (tally-own rows sorted) in
           rows-folded stacks rows counted ∙ ap (map (folded stacks)) keys
 
       pub count-all : length frames ≡ frame_count spans
       count-all =
-          let more = length-le-each (frames_of spans) (told_stacks [] frames) (StandOnce-sorted (frames_of spans) (ascending-sorted stack_order-total (flat_map beginnings (stacks_of spans)))) each in
-          omega (arith, more, told-fewer, length-told_stacks [] frames)
+          let more = length-le-each (frames_of spans) (visited_stacks [] frames) (StandOnce-sorted (frames_of spans) (ascending-sorted stack_order-total (flat_map beginnings (stacks_of spans)))) each in
+          omega (arith, more, visited-fewer, length-visited_stacks [] frames)
         where
-          each : HasEach (told_stacks [] frames) (frames_of spans)
+          each : HasEach (visited_stacks [] frames) (frames_of spans)
           each k has =
               let begun = frame-begun k has in
               let rows = folded_after [] frames in
-              let row : Has (map (λ (f : Folded). f.stack) rows) begun.0 = tally-any rows begun.0 (rows-timed [] frames) ∙ ap (nat_lt 0) (all-told begun.0) ∙ count-any begun.0 (stacks_of spans) ∙ begun.2 in
-              told-begun [] [] frames (HasEach-none []) begun.0 (has-told [] frames begun.0 row) k begun.1
+              let row : Has (map (λ (f : Folded). f.stack) rows) begun.0 = tally-any rows begun.0 (rows-timed [] frames) ∙ ap (nat_lt 0) (visited_ticks-all begun.0) ∙ count-any begun.0 (stacks_of spans) ∙ begun.2 in
+              visited-begun [] [] frames (HasEach-none []) begun.0 (has-visited [] frames begun.0 row) k begun.1

@@ -1,4 +1,4 @@
--- That a descent stays ready, and what is left of each stack, from its start on and as frames are told.
+-- That a descent stays ready, and what is left of each stack, from its start on and as frames are visited.
 use Rattle.std.proofs.Common.{◌≡◌, ℕ, ◌+◌, ◌<◌, ◌^◌, ◌&&◌, cond, List, [], ◌∷◌, ◌++◌, length, map, take, drop, refl, sym, ap, ap₂, subst, ◌∙◌, arith, append_assoc}
 use Rattle.std.specs.List.{AllByRecursion, count_by}
 use Rattle.std.specs.List.Sorted.{IsPermutation, IsSorted}
@@ -15,7 +15,7 @@ use Rattle.span_self_time.proofs.Counts.{count_from-le, count_from-same}
 use Rattle.span_report.specs.declared.stacks.descent.Descent.{Descent}
 use Rattle.span_report.specs.declared.stacks.parts.Part.{Part}
 use Rattle.span_report.specs.declared.stacks.parts.Stretch.{Stretch}
-use Rattle.span_report.specs.Stacks.Descent.{IsNextSplit, IsReady, StartsWith, TellsFrame, left_of, told_last}
+use Rattle.span_report.specs.Stacks.Descent.{IsNextSplit, IsReady, StartsWith, VisitsFrame, last_visited, left_of}
 use Rattle.span_report.specs.Stacks.Ticks.{Stack, has_frames, names_at, ranked, same_stack, stack_at, stacks_of}
 use Rattle.span_report.specs.Stacks.Parts.{IsAhead, IsSound, IsSplit, Near, left, nearness, part_stack, times_on}
 use Rattle.span_report.proofs.StackLemmas.Nearing.{AllByRecursion-front, AllByRecursion-last, IsAhead-on, Near-append, Near-front, Near-last, Near-sorted, ahead-next, deeper-near, farther, left-next, no_deeper}
@@ -35,7 +35,7 @@ same-framed frame frames (x ∷ xs) = refl
 
 -- a descent that begins with the parts of a whole stretch
 module _ (d : Descent) (s : Stretch) (time : ℕ) (found : List Part) (split : IsSplit d.spans 0 s time [] found) (moved : IsPermutation found d.parts.items) (empty : d.stack.items ≡ []) where
-  last-empty : told_last d ≡ []
+  last-empty : last_visited d ≡ []
   last-empty = ap (λ names. map (λ name. name.now) names) empty
 
   left-found : (stack : Stack) → left_of d stack + cond (same_stack stack []) time 0 ≡ times_on d.spans [] s stack
@@ -67,14 +67,14 @@ module _ (d : Descent) (s : Stretch) (time : ℕ) (found : List Part) (split : I
           ∙ count_from-same (λ u. has_frames (stack_at spans u) && same_stack (name ∷ names) (stack_at spans u)) (λ u. same_stack (name ∷ names) (stack_at spans u)) (earliest spans) (distance (earliest spans) (latest spans)) (λ u since before. same-framed name names (stack_at spans u)) in
           omega (arith, left-found (name ∷ names)) ∙ whole ∙ bounds ∙ sym counted
 
--- the next frame is told: the parts of its stack are split, and those that are found come next
+-- the next frame is visited: the parts of its stack are split, and those that are found come next
 module _ (old mid new : Descent) (first : Part) (others near : List Part) (time : ℕ) (ready : IsReady old) (whole : old.parts.items ≡ others ++ first ∷ []) (split : IsNextSplit first time old mid)
-    (moved : IsPermutation mid.found.items near) (sorted : IsSorted nearness near) (spans : new.spans ≡ mid.spans) (parts : new.parts.items ≡ mid.parts.items ++ near) (told : told_last new ≡ part_stack (told_last old) first) where
+    (moved : IsPermutation mid.found.items near) (sorted : IsSorted nearness near) (spans : new.spans ≡ mid.spans) (parts : new.parts.items ≡ mid.parts.items ++ near) (visited : last_visited new ≡ part_stack (last_visited old) first) where
   abbrev last : Stack
-  last = told_last old
+  last = last_visited old
 
   abbrev base : Stack
-  base = part_stack (told_last old) first
+  base = part_stack (last_visited old) first
 
   abbrev IsOn : Part → Type 0
   IsOn p = (p.below ≡ first.below + 1) × IsSound old.spans p.over
@@ -101,16 +101,16 @@ module _ (old mid new : Descent) (first : Part) (others near : List Part) (time 
 
   left-new : (stack : Stack) → left_of new stack ≡ left old.spans last mid.parts.items stack + left old.spans base mid.found.items stack
   left-new stack =
-      ap (λ (l : List (Span Bytes)). left l (told_last new) new.parts.items stack) (spans ∙ split.spans)
-      ∙ ap₂ (λ (l : Stack) (ps : List Part). left old.spans l ps stack) told parts
+      ap (λ (l : List (Span Bytes)). left l (last_visited new) new.parts.items stack) (spans ∙ split.spans)
+      ∙ ap₂ (λ (l : Stack) (ps : List Part). left old.spans l ps stack) visited parts
       ∙ sum_by-append (λ (p : Part). times_on old.spans (part_stack base p) p.over stack) mid.parts.items near
       ∙ ap₂ (λ a b. a + b) (left-next last first ahead-first old.spans mid.parts.items stack far) (left-permutation old.spans base mid.found.items near stack moved)
 
-  pub TellsFrame-next : TellsFrame old new (record { below = first.below; name = first.name.now; time = time })
-  TellsFrame-next = record {
+  pub VisitsFrame-next : VisitsFrame old new (record { below = first.below; name = first.name.now; time = time })
+  VisitsFrame-next = record {
     within = ahead-first.0;
     above = ahead-first.1;
-    last = told;
+    last = visited;
     left = λ stack. omega (arith, left-new stack, split.counts stack);
     begun = (rest, subst (λ (s : Stack). 0 < left_of old s) (append_assoc (take first.below last) (first.name.now ∷ []) rest) some);
   }
@@ -126,7 +126,7 @@ module _ (old mid new : Descent) (first : Part) (others near : List Part) (time 
   pub IsReady-next : new.found.items ≡ [] → IsReady new
   IsReady-next none = record {
     near = subst Near (sym parts) (Near-append mid.parts.items near (Near-front mid.parts.items split.popped.0 (subst Near split.popped.1 ready.near)) (Near-sorted near sorted) (each mid.parts.items far));
-    ahead = subst (λ (l : Stack). AllByRecursion (IsAhead l) new.parts.items) (sym told) (subst (AllByRecursion (IsAhead base)) (sym parts)
+    ahead = subst (λ (l : Stack). AllByRecursion (IsAhead l) new.parts.items) (sym visited) (subst (AllByRecursion (IsAhead base)) (sym parts)
         (AllByRecursion-append (IsAhead base) mid.parts.items near
         (ahead-next last first ahead-first mid.parts.items far (AllByRecursion-front (IsAhead last) mid.parts.items split.popped.0 (subst (AllByRecursion (IsAhead last)) split.popped.1 ready.ahead)))
         (AllByRecursion-map IsOn (IsAhead base) (λ p (is : IsOn p). IsAhead-on base p (is.0 ∙ sym deep)) near on-base)));

@@ -1,4 +1,4 @@
--- The order of the parts that are left: the nearest is the last, and its stack is the least that comes after the one told before.
+-- The order of the parts that are left: the nearest is the last, and its stack is the least that comes after the one visited before.
 use Rattle.std.proofs.Common.{◌≡◌, ℕ, zero, suc, ◌+◌, ◌<◌, ◌≤◌, false, List, [], ◌∷◌, ◌++◌, length, take, get_or, Option, Some, refl, sym, ap, ap₂, subst, ◌∙◌, arith, inl, inr, ◌⊎◌, true≢false}
 use Rattle.std.specs.Cmp.{IsTotalOrder}
 use Rattle.std.specs.List.{AllByRecursion}
@@ -153,7 +153,7 @@ order-deeper (z ∷ zs) (suc b) (suc k) x y less within above =
     ap₂ ordering_then same (order-deeper zs b k x y (omega (arith, less)) (omega (arith, within)) rest)
 
 module _ (last : Stack) (g : Part) (ahead : IsAhead last g) where
-  -- the parts that are farther keep their stacks once the nearest is told
+  -- the parts that are farther keep their stacks once the nearest is visited
   pub part_stack-next : (p : Part) → nearness p g ≡ Less → part_stack (part_stack last g) p ≡ part_stack last p
   part_stack-next p less =
       let fewer = no_deeper p g less in

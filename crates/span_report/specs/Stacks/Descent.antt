@@ -1,4 +1,4 @@
--- How a descent through the frames of spans stands: which stack was told last, and which ticks are left to be told.
+-- How a descent through the frames of spans stands: which stack was visited last, and which ticks are left.
 use Rattle.std.specs.Prelude.{◌≡◌, ℕ, ◌+◌, ◌<◌, ◌≤◌, ◌^◌, if◌then◌else◌, List, [], ◌∷◌, ◌++◌, length, map, take, Option, Some, None}
 use Rattle.std.specs.List.{AllByRecursion, count_by}
 use Rattle.std.specs.declared.cmp.Ordering.TheVariants.{Less, Equal}
@@ -11,38 +11,38 @@ use Rattle.span_report.specs.Stacks.Ticks.{Stack, same_stack, stack_order, stack
 use Rattle.span_report.specs.Stacks.Parts.{IsAhead, IsSound, Near, left, nearness, part_stack}
 use Rattle.span_report.specs.Stacks.Framed.{Framed, stack_after}
 
--- the stack that was told last
-abbrev pub told_last : Descent → Stack
-told_last descent = map (λ name. name.now) descent.stack.items
+-- the stack that was visited last
+abbrev pub last_visited : Descent → Stack
+last_visited descent = map (λ name. name.now) descent.stack.items
 
 -- how many ticks that are left have the stack
 abbrev pub left_of : Descent → Stack → ℕ
-left_of descent stack = left descent.spans (told_last descent) descent.parts.items stack
+left_of descent stack = left descent.spans (last_visited descent) descent.parts.items stack
 
 pub record IsReady (descent : Descent) : Type 0 where
   pub near : Near descent.parts.items
-  pub ahead : AllByRecursion (IsAhead (told_last descent)) descent.parts.items
+  pub ahead : AllByRecursion (IsAhead (last_visited descent)) descent.parts.items
   pub sound : AllByRecursion (λ p. IsSound descent.spans p.over) descent.parts.items
   pub small : (stack : Stack) → left_of descent stack < 2 ^ 64
   pub none : descent.found.items ≡ []
 
 -- all ticks of the spans are left
 pub record StartsWith (spans : List (Span Bytes)) (descent : Descent) : Type 0 where
-  pub last : told_last descent ≡ []
+  pub last : last_visited descent ≡ []
   pub left : (name : Bytes) (names : Stack) → left_of descent (name ∷ names) ≡ count_by (same_stack (name ∷ names)) (stacks_of spans)
 
--- a frame is told: it comes after the stack before, with all that is left of its own stack, and more stacks begin with it, or it alone
-pub record TellsFrame (old new : Descent) (frame : Framed) : Type 0 where
-  pub within : frame.below ≤ length (told_last old)
-  pub above : stack_order (told_last old) (stack_after (told_last old) frame) ≡ Less
-  pub last : told_last new ≡ stack_after (told_last old) frame
-  pub left : (stack : Stack) → left_of new stack + (if same_stack stack (stack_after (told_last old) frame) then frame.time else 0) ≡ left_of old stack
-  pub begun : (rest : Stack) × (0 < left_of old (take frame.below (told_last old) ++ frame.name ∷ rest))
+-- a frame is visited: it comes after the stack before, with all that is left of its own stack, and more stacks begin with it, or it alone
+pub record VisitsFrame (old new : Descent) (frame : Framed) : Type 0 where
+  pub within : frame.below ≤ length (last_visited old)
+  pub above : stack_order (last_visited old) (stack_after (last_visited old) frame) ≡ Less
+  pub last : last_visited new ≡ stack_after (last_visited old) frame
+  pub left : (stack : Stack) → left_of new stack + (if same_stack stack (stack_after (last_visited old) frame) then frame.time else 0) ≡ left_of old stack
+  pub begun : (rest : Stack) × (0 < left_of old (take frame.below (last_visited old) ++ frame.name ∷ rest))
 
 -- or nothing is left
-abbrev pub Tells : Descent → Descent → Option Framed → Type 0
-Tells old new None = (stack : Stack) → left_of old stack ≡ 0
-Tells old new (Some frame) = TellsFrame old new frame
+abbrev pub Visits : Descent → Descent → Option Framed → Type 0
+Visits old new None = (stack : Stack) → left_of old stack ≡ 0
+Visits old new (Some frame) = VisitsFrame old new frame
 
 -- the nearest part is taken off, if it has the stack of the first
 pub record IsPoppedPart (first : Part) (old : Descent) (part : Part) (new : Descent) : Type 0 where
@@ -64,6 +64,6 @@ pub record IsNextSplit (first : Part) (time : ℕ) (old new : Descent) : Type 0 
   pub popped : (parts : List Part) × (old.parts.items ≡ new.parts.items ++ parts)
   pub done : (p : Part) → last_of new.parts.items ≡ Some p → nearness p first ≡ Equal → ⊥
   pub counts : (stack : Stack) →
-      left old.spans (told_last old) new.parts.items stack + (left old.spans (part_stack (told_last old) first) new.found.items stack + (if same_stack stack (part_stack (told_last old) first) then time else 0))
+      left old.spans (last_visited old) new.parts.items stack + (left old.spans (part_stack (last_visited old) first) new.found.items stack + (if same_stack stack (part_stack (last_visited old) first) then time else 0))
       ≡ left_of old stack
   pub found : AllByRecursion (λ p. (p.below ≡ first.below + 1) × IsSound old.spans p.over) new.found.items

@@ -63,7 +63,7 @@ pub record IsFirstBeyond (spans : List (Span Bytes)) (n : ℕ) (time : ℤ) (fir
   pub over : NoneCovers spans n first time
   pub lasts : (d : Span Bytes) → first < length spans → int_max time (slice_index_or spans first d).start <ℤ (slice_index_or spans first d).until
 
--- the stack of a part, where another one was told before
+-- the stack of a part, where another one was visited before
 abbrev pub part_stack : Stack → Part → Stack
 part_stack last part = take part.below last ++ part.name.now ∷ []
 

@@ -1,7 +1,7 @@
 //! The frames of a thread one after the other, each made from the parts of time that its stack and those behind it have.
 ghost use Rattle.std.specs.Prelude.{◌≤◌, length, IfOk, OnOk};
 ghost use Rattle.span_ledger.specs.Named.{AreThreadSpans};
-ghost use Rattle.span_report.specs.Stacks.Descent.{IsNextSplit, IsPopped, IsReady, StartsWith, Tells};
+ghost use Rattle.span_report.specs.Stacks.Descent.{IsNextSplit, IsPopped, IsReady, StartsWith, Visits};
 
 use super::ends::{RankedSpans, bounds};
 use super::framed::StackFrame;
@@ -10,16 +10,16 @@ use span_event::Text;
 use span_ledger::NamedSpan;
 use std::alloc::{AllocError, Global};
 
-// A frame at a time, the least stack first. The parts of a stack are only made when it is told, so there are no more of them than
-// the spans have stretches.
+// A frame at a time, the least stack first. The parts of a stack are only made when it is visited, so there are no more of them
+// than the spans have stretches.
 #[derive(Drop)]
 pub(crate) struct Descent<'a> {
     spans: RankedSpans<'a>,
-    // Those whose stacks are still to be told, the nearest last.
+    // Those whose stacks are still to be visited, the nearest last.
     parts: Vec<Part<'a>>,
-    // Those that stand on the stack that is being told.
+    // Those that stand on the stack that is being visited.
     found: Vec<Part<'a>>,
-    // The one that was told last.
+    // The one that was visited last.
     pub stack: Vec<&'a Text>,
 }
 
@@ -43,11 +43,11 @@ impl<'a> Descent<'a> {
         })
     }
 
-    // The next frame, whose stack is then the one told last.
+    // Visits the next frame, whose stack is then the last one visited.
     pub(crate) fn next(&mut self) -> Result<Option<StackFrame<'a>>, AllocError>
         requires { IsReady self.old }
         ensures ready { OnOk result (IsReady self.new) }
-        ensures tells { IfOk result (λ frame. Tells self.old self.new frame) }
+        ensures visits { IfOk result (λ frame. Visits self.old self.new frame) }
     {
         let Some(first) = self.parts.last() else {
             return Ok(None);

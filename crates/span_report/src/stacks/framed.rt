@@ -14,7 +14,7 @@ use std::alloc::{AllocError, Global};
 use std::marker::Model;
 
 /// The last frame of a stack, how many other frames are below it, and for how many ticks a thread has just this stack. The
-/// others are those with which the stack before it begins, so a list of frames tells many stacks without any frame twice.
+/// others are those with which the stack before it begins, so a list of frames gives many stacks without any frame twice.
 #[derive(Drop)]
 pub struct StackFrame<'a> {
     pub below: usize,
@@ -45,8 +45,8 @@ impl<'a> StackFrame<'a> {
 }
 
 /// The folded stacks of a thread's spans, frame by frame, in the order of their lists of labels. A stack that has no tick of
-/// its own is told too, if others begin with it. If there are more frames than `most`, none is told, and there were never more in
-/// memory.
+/// its own has a frame too, if others begin with it. If there are more frames than `most`, none is given, and there were never
+/// more in memory.
 pub fn framed_stacks<'a>(
     alloc: Global,
     spans: &'a LabelledSpans,

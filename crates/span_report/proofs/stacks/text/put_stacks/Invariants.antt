@@ -1,18 +1,18 @@
 use Rattle.std.proofs.Common.{◌≡◌, ◌+◌, ◌++◌, [], List}
 use Rattle.span_report.specs.Stacks.Bounds.{frames_of, names_in}
-use Rattle.span_report.specs.Stacks.Descent.{told_last}
+use Rattle.span_report.specs.Stacks.Descent.{last_visited}
 use Rattle.span_report.specs.Stacks.Folded.{stack_lines}
 use Rattle.span_report.specs.Stacks.Framed.{Framed, folded_after}
-use Rattle.span_report.proofs.StackLemmas.Counting.{IsTold, above}
+use Rattle.span_report.proofs.StackLemmas.Counting.{AreVisited, above}
 use Rattle.span_report.proofs.stacks.text.put_stacks.Given as goal
 
--- some frames were told: their lines are there, and their names were taken
+-- some frames were visited: their lines are there, and their names were taken
 abbrev pub invariant-loop-descent : goal.invariant-loop-descent
 invariant-loop-descent l =
-    (frames : List Framed) × IsTold l.fn.spans.items frames l.descent
+    (frames : List Framed) × AreVisited l.fn.spans.items frames l.descent
     × (l.out.items ≡ l.fn.out.items ++ stack_lines l.start (folded_after [] frames))
     × (l.left + names_in (folded_after [] frames) ≡ l.fn.left)
 
 -- the frames that are above the last one
 abbrev pub decreases-loop-descent : goal.decreases-loop-descent
-decreases-loop-descent l = above (told_last l.descent) (frames_of l.fn.spans.items)
+decreases-loop-descent l = above (last_visited l.descent) (frames_of l.fn.spans.items)

@@ -6,9 +6,9 @@ use Rattle.span_ledger.proofs.Sorting.{IsSorted-from_sort_by}
 use Rattle.span_keyed_tracks.proofs.Lists.Last.{take-last}
 use Rattle.span_report.specs.declared.stacks.descent.Descent.{Descent}
 use Rattle.span_report.specs.declared.stacks.parts.Part.{Part}
-use Rattle.span_report.specs.Stacks.Descent.{told_last}
+use Rattle.span_report.specs.Stacks.Descent.{last_visited}
 use Rattle.span_report.specs.Stacks.Parts.{part_stack}
-use Rattle.span_report.proofs.StackLemmas.Descending.{IsReady-next, TellsFrame-next}
+use Rattle.span_report.proofs.StackLemmas.Descending.{IsReady-next, VisitsFrame-next}
 use Rattle.span_report.proofs.StackLemmas.Nearing.{nearness-total}
 use Rattle.span_report.proofs.stacks.descent.Descent.next.Goals as goal
 
@@ -21,15 +21,15 @@ returns-clause-ready c =
     let lent = λ (name : Bor Bytes). name.now in
     let read = subst (λ (xs : List Part). Some first ≡ slice_get xs (length xs - 1)) c.deref.ensures.value c.in-Some.ensures.value in
     let whole = take-last old.parts.items first read in
-    let told : told_last new ≡ part_stack (told_last old) first =
+    let visited : last_visited new ≡ part_stack (last_visited old) first =
     ap (map lent) (c.in_ok-push.ensures.items ∙ ap (λ (names : List (Bor Bytes)). names ++ first.name ∷ []) (c.truncate.ensures.items ∙ ap (take first.below) c.in_ok-time.ensures.stack))
     ∙ map_push lent (take first.below old.stack.items) first.name
     ∙ ap (λ (names : List Bytes). names ++ first.name.now ∷ []) (sym (take-map lent first.below old.stack.items)) in
     IsReady-next old mid new first (take (length old.parts.items - 1) old.parts.items) c.sort_unstable_by.new.self.items c.in_ok-time.time c.requires whole c.in_ok-time.ensures c.sort_unstable_by.ensures.permutation
-    (IsSorted-from_sort_by nearness-total c.sort_unstable_by.new.self.items c.sort_unstable_by.ensures.sorted (λ a r f' call. search rules)) refl c.in_ok-append.ensures.items told c.in_ok-append.ensures.other_items
+    (IsSorted-from_sort_by nearness-total c.sort_unstable_by.new.self.items c.sort_unstable_by.ensures.sorted (λ a r f' call. search rules)) refl c.in_ok-append.ensures.items visited c.in_ok-append.ensures.other_items
 
-pub returns-clause-tells : goal.returns-clause-tells
-returns-clause-tells c =
+pub returns-clause-visits : goal.returns-clause-visits
+returns-clause-visits c =
     let old = c.args.self.now in
     let first = c.in-Some.first.now in
     let mid = c.split_next.new.self in
@@ -37,9 +37,9 @@ returns-clause-tells c =
     let lent = λ (name : Bor Bytes). name.now in
     let read = subst (λ (xs : List Part). Some first ≡ slice_get xs (length xs - 1)) c.deref.ensures.value c.in-Some.ensures.value in
     let whole = take-last old.parts.items first read in
-    let told : told_last new ≡ part_stack (told_last old) first =
+    let visited : last_visited new ≡ part_stack (last_visited old) first =
     ap (map lent) (c.in_ok-push.ensures.items ∙ ap (λ (names : List (Bor Bytes)). names ++ first.name ∷ []) (c.truncate.ensures.items ∙ ap (take first.below) c.in_ok-time.ensures.stack))
     ∙ map_push lent (take first.below old.stack.items) first.name
     ∙ ap (λ (names : List Bytes). names ++ first.name.now ∷ []) (sym (take-map lent first.below old.stack.items)) in
-    TellsFrame-next old mid new first (take (length old.parts.items - 1) old.parts.items) c.sort_unstable_by.new.self.items c.in_ok-time.time c.requires whole c.in_ok-time.ensures c.sort_unstable_by.ensures.permutation
-    (IsSorted-from_sort_by nearness-total c.sort_unstable_by.new.self.items c.sort_unstable_by.ensures.sorted (λ a r f' call. search rules)) refl c.in_ok-append.ensures.items told
+    VisitsFrame-next old mid new first (take (length old.parts.items - 1) old.parts.items) c.sort_unstable_by.new.self.items c.in_ok-time.time c.requires whole c.in_ok-time.ensures c.sort_unstable_by.ensures.permutation
+    (IsSorted-from_sort_by nearness-total c.sort_unstable_by.new.self.items c.sort_unstable_by.ensures.sorted (λ a r f' call. search rules)) refl c.in_ok-append.ensures.items visited

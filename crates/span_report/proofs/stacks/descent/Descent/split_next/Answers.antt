@@ -5,7 +5,7 @@ use Rattle.std.proofs.lemmas.Int.{ints}
 use Rattle.span_event.specs.Text.{Bytes}
 use Rattle.span_self_time.specs.Spans.{Span}
 use Rattle.span_report.specs.declared.stacks.parts.Part.{Part}
-use Rattle.span_report.specs.Stacks.Descent.{IsNextSplit, left_of, told_last}
+use Rattle.span_report.specs.Stacks.Descent.{IsNextSplit, last_visited, left_of}
 use Rattle.span_report.specs.Stacks.Ticks.{Stack, same_stack}
 use Rattle.span_report.specs.Stacks.Parts.{IsSound, IsSplit, left, part_stack}
 use Rattle.span_report.proofs.StackLemmas.Nearing.{AllByRecursion-front, AllByRecursion-last}
@@ -16,13 +16,13 @@ use Rattle.span_report.proofs.stacks.descent.Descent.split_next.Goals as goal
 pub loop-part-init : goal.loop-part-init
 loop-part-init c =
     let old = c.args.self.now in
-    let base = part_stack (told_last old) c.args.first.now in
+    let base = part_stack (last_visited old) c.args.first.now in
     let none = c.requires.ready.none in
     record {
       spans = refl;
       stack = refl;
       popped = ([], sym (append-nil old.parts.items));
-      counts = λ stack. subst (λ (l : List Part). left old.spans (told_last old) old.parts.items stack + (left old.spans base l stack + cond (same_stack stack base) 0 0) ≡ left_of old stack) (sym none) (nothing (same_stack stack base) (left_of old stack));
+      counts = λ stack. subst (λ (l : List Part). left old.spans (last_visited old) old.parts.items stack + (left old.spans base l stack + cond (same_stack stack base) 0 0) ≡ left_of old stack) (sym none) (nothing (same_stack stack base) (left_of old stack));
       found = subst (AllByRecursion (λ (p : Part). (p.below ≡ c.args.first.now.below + 1) × IsSound old.spans p.over)) (sym none) tt;
     }
   where
@@ -61,13 +61,13 @@ split c =
 
 -- what the parts that were taken off had, once one more is split
 counted : (c : In_ok-time) (stack : Stack) →
-    left c.args.self.now.spans (told_last c.args.self.now) c.pop_like.new.self.parts.items stack
-    + (left c.args.self.now.spans (part_stack (told_last c.args.self.now) c.args.first.now) c.split.new.found.items stack + cond (same_stack stack (part_stack (told_last c.args.self.now) c.args.first.now)) (c.loop-part.time + c.in_ok-time.field-0) 0)
+    left c.args.self.now.spans (last_visited c.args.self.now) c.pop_like.new.self.parts.items stack
+    + (left c.args.self.now.spans (part_stack (last_visited c.args.self.now) c.args.first.now) c.split.new.found.items stack + cond (same_stack stack (part_stack (last_visited c.args.self.now) c.args.first.now)) (c.loop-part.time + c.in_ok-time.field-0) 0)
     ≡ left_of c.args.self.now stack
 counted c stack =
     let old = c.args.self.now in
     let first = c.args.first.now in
-    let last = told_last old in
+    let last = last_visited old in
     let base = part_stack last first in
     let off = c.in-Some.ensures in
     let before = c.loop-part.invariant in
@@ -78,7 +78,7 @@ counted c stack =
 pub overflow_add-time : goal.overflow_add-time
 overflow_add-time c =
     let old = c.args.self.now in
-    let base = part_stack (told_last old) c.args.first.now in
+    let base = part_stack (last_visited old) c.args.first.now in
     omega (arith, own-small base _ _ _ (left_of old base) (counted (goal.at.overflow_add-time c).In_ok-time base) (c.requires.ready.small base))
 
 pub loop-part-smaller : goal.loop-part-smaller

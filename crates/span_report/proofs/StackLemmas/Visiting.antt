@@ -1,4 +1,4 @@
--- Which frames were told of those of spans, and that in the end they are all of them, with the folded stacks.
+-- Which frames were visited of those of spans, and that in the end they are all of them, with the folded stacks.
 use Rattle.std.proofs.Common.{◌≡◌, ℕ, zero, suc, ◌+◌, ◌<◌, ◌≤◌, Bool, true, false, ◌||◌, cond, List, [], ◌∷◌, ◌++◌, length, map, take, refl, sym, ap, ap₂, subst, ◌∙◌, arith, append_assoc, append-nil, inl, inr, true≢false}
 use Rattle.std.specs.Prelude.{fold, nat_lt}
 use Rattle.std.specs.List.{AllByRecursion, count_by, list_any, sum_by}
@@ -20,17 +20,17 @@ use Rattle.span_report.proofs.StackLemmas.Tallies.{none-below}
 use Rattle.span_report.proofs.StackLemmas.Times.{count_by-cons, stack_order-same, stack_order-total}
 
 -- the stacks of frames after another stack
-abbrev pub told_stacks : Stack → List Framed → List Stack
-told_stacks before [] = []
-told_stacks before (f ∷ fs) = stack_after before f ∷ told_stacks (stack_after before f) fs
+abbrev pub visited_stacks : Stack → List Framed → List Stack
+visited_stacks before [] = []
+visited_stacks before (f ∷ fs) = stack_after before f ∷ visited_stacks (stack_after before f) fs
 
 -- the times of those of the rows that have the stack
 abbrev pub tally : List Folded → Stack → ℕ
 tally rows stack = sum_by (λ row. cond (same_stack stack row.stack) row.time 0) rows
 
--- how many ticks of the stack were told
-abbrev pub told : List Framed → Stack → ℕ
-told frames stack = tally (folded_after [] frames) stack
+-- how many ticks of the stack were visited
+abbrev pub visited_ticks : List Framed → Stack → ℕ
+visited_ticks frames stack = tally (folded_after [] frames) stack
 
 -- the stacks of one more frame
 pub folded_after-push : (before : Stack) (frames : List Framed) (f : Framed) → folded_after before (frames ++ f ∷ []) ≡ folded_after before frames ++ folded_if (stack_after (fold stack_after before frames) f) f.time
@@ -44,13 +44,13 @@ pub AreAscending-push : (before : Stack) (frames : List Framed) (f : Framed) →
 AreAscending-push before [] f are within up = (within, up, tt)
 AreAscending-push before (g ∷ gs) f are within up = (are.0, are.1, AreAscending-push (stack_after before g) gs f are.2 within up)
 
-pub told_stacks-push : (before : Stack) (frames : List Framed) (f : Framed) → told_stacks before (frames ++ f ∷ []) ≡ told_stacks before frames ++ stack_after (fold stack_after before frames) f ∷ []
-told_stacks-push before [] f = refl
-told_stacks-push before (g ∷ gs) f = ap (λ (l : List Stack). stack_after before g ∷ l) (told_stacks-push (stack_after before g) gs f)
+pub visited_stacks-push : (before : Stack) (frames : List Framed) (f : Framed) → visited_stacks before (frames ++ f ∷ []) ≡ visited_stacks before frames ++ stack_after (fold stack_after before frames) f ∷ []
+visited_stacks-push before [] f = refl
+visited_stacks-push before (g ∷ gs) f = ap (λ (l : List Stack). stack_after before g ∷ l) (visited_stacks-push (stack_after before g) gs f)
 
-pub length-told_stacks : (before : Stack) (frames : List Framed) → length (told_stacks before frames) ≡ length frames
-length-told_stacks before [] = refl
-length-told_stacks before (f ∷ fs) = ap suc (length-told_stacks (stack_after before f) fs)
+pub length-visited_stacks : (before : Stack) (frames : List Framed) → length (visited_stacks before frames) ≡ length frames
+length-visited_stacks before [] = refl
+length-visited_stacks before (f ∷ fs) = ap suc (length-visited_stacks (stack_after before f) fs)
 
 -- the stacks of frames that ascend are all above the one before them
 stacks-above : (before : Stack) (frames : List Framed) → AreAscending before frames → AllByRecursion (λ s. stack_order before s ≡ Less) (map (λ f. f.stack) (folded_after before frames))
@@ -74,32 +74,32 @@ stacks-sorted before (f ∷ fs) are = by f.time (stacks-sorted (stack_after befo
     by zero rest = rest
     by (suc t) rest = (stacks-above (stack_after before f) fs are.2, rest)
 
-told-above : (before : Stack) (frames : List Framed) → AreAscending before frames → AllByRecursion (λ s. stack_order before s ≡ Less) (told_stacks before frames)
-told-above before [] are = tt
-told-above before (f ∷ fs) are = (
+visited-above : (before : Stack) (frames : List Framed) → AreAscending before frames → AllByRecursion (λ s. stack_order before s ≡ Less) (visited_stacks before frames)
+visited-above before [] are = tt
+visited-above before (f ∷ fs) are = (
   are.1,
   AllByRecursion-map (λ s. stack_order (stack_after before f) s ≡ Less) (λ s. stack_order before s ≡ Less) (λ s (above : stack_order (stack_after before f) s ≡ Less). stack_order-total.trans before (stack_after before f) s are.1 above)
-      (told_stacks (stack_after before f) fs) (told-above (stack_after before f) fs are.2),
+      (visited_stacks (stack_after before f) fs) (visited-above (stack_after before f) fs are.2),
 )
 
-pub told-sorted : (before : Stack) (frames : List Framed) → AreAscending before frames → IsStrictlySortedBy stack_order (told_stacks before frames)
+pub visited-sorted : (before : Stack) (frames : List Framed) → AreAscending before frames → IsStrictlySortedBy stack_order (visited_stacks before frames)
 unfolding IsStrictlySortedBy
-told-sorted before [] are = tt
-told-sorted before (f ∷ fs) are = (told-above (stack_after before f) fs are.2, told-sorted (stack_after before f) fs are.2)
+visited-sorted before [] are = tt
+visited-sorted before (f ∷ fs) are = (visited-above (stack_after before f) fs are.2, visited-sorted (stack_after before f) fs are.2)
 
--- the rows are of stacks that were told
-pub has-told : (before : Stack) (frames : List Framed) → HasEach (told_stacks before frames) (map (λ f. f.stack) (folded_after before frames))
-has-told before [] = λ k has. has
-has-told before (f ∷ fs) = by f.time (has-told (stack_after before f) fs)
+-- the rows are of stacks that were visited
+pub has-visited : (before : Stack) (frames : List Framed) → HasEach (visited_stacks before frames) (map (λ f. f.stack) (folded_after before frames))
+has-visited before [] = λ k has. has
+has-visited before (f ∷ fs) = by f.time (has-visited (stack_after before f) fs)
   where
     here : Stack
     here = stack_after before f
 
-    by : (t : ℕ) → HasEach (told_stacks here fs) (map (λ f. f.stack) (folded_after here fs)) → HasEach (here ∷ told_stacks here fs) (map (λ f. f.stack) (folded_if here t ++ folded_after here fs))
-    by zero rest = λ k has. or-right (same_stack k here) (list_any (same_stack k) (told_stacks here fs)) (rest k has)
+    by : (t : ℕ) → HasEach (visited_stacks here fs) (map (λ f. f.stack) (folded_after here fs)) → HasEach (here ∷ visited_stacks here fs) (map (λ f. f.stack) (folded_if here t ++ folded_after here fs))
+    by zero rest = λ k has. or-right (same_stack k here) (list_any (same_stack k) (visited_stacks here fs)) (rest k has)
     by (suc t) rest = λ k has. elim (or-either (same_stack k here) (list_any (same_stack k) (map (λ (f : Folded). f.stack) (folded_after here fs))) has) [
-      | inl own ↦ or-left (same_stack k here) (list_any (same_stack k) (told_stacks here fs)) own
-      | inr later ↦ or-right (same_stack k here) (list_any (same_stack k) (told_stacks here fs)) (rest k later)
+      | inl own ↦ or-left (same_stack k here) (list_any (same_stack k) (visited_stacks here fs)) own
+      | inr later ↦ or-right (same_stack k here) (list_any (same_stack k) (visited_stacks here fs)) (rest k later)
     ]
 
 beginnings-push : (stack : Stack) (name : Bytes) → beginnings (stack ++ name ∷ []) ≡ beginnings stack ++ (stack ++ name ∷ []) ∷ []
@@ -124,19 +124,19 @@ beginnings-take (suc n) (x ∷ xs) =
     let under = under-has x k (beginnings (take n xs)) has in
     has-later (x ∷ []) (map (λ b. x ∷ b) (beginnings xs)) k (subst (Has (map (λ b. x ∷ b) (beginnings xs))) (sym under.1) (has-under x under.0 (beginnings xs) (beginnings-take n xs under.0 under.2))))
 
--- what a told stack begins with was told
-pub told-begun : (seen : List Stack) (before : Stack) (frames : List Framed) → HasEach seen (beginnings before) → (k : Stack) → Has (told_stacks before frames) k → HasEach (seen ++ told_stacks before frames) (beginnings k)
-told-begun seen before [] each k has = absurd (has-none k has)
-told-begun seen before (f ∷ fs) each k has = elim (or-either (same_stack k here) (list_any (same_stack k) (told_stacks here fs)) has) [
-  | inl same ↦ subst (λ (s : Stack). HasEach (seen ++ here ∷ told_stacks here fs) (beginnings s)) (sym (same-true k here same)) (λ j begins. subst (λ (l : List Stack). Has l j) again (has-left (seen ++ here ∷ []) (told_stacks here fs) j (own j begins)))
-  | inr later ↦ λ j begins. subst (λ (l : List Stack). Has l j) again (told-begun (seen ++ here ∷ []) here fs own k later j begins)
+-- what a visited stack begins with was visited
+pub visited-begun : (seen : List Stack) (before : Stack) (frames : List Framed) → HasEach seen (beginnings before) → (k : Stack) → Has (visited_stacks before frames) k → HasEach (seen ++ visited_stacks before frames) (beginnings k)
+visited-begun seen before [] each k has = absurd (has-none k has)
+visited-begun seen before (f ∷ fs) each k has = elim (or-either (same_stack k here) (list_any (same_stack k) (visited_stacks here fs)) has) [
+  | inl same ↦ subst (λ (s : Stack). HasEach (seen ++ here ∷ visited_stacks here fs) (beginnings s)) (sym (same-true k here same)) (λ j begins. subst (λ (l : List Stack). Has l j) again (has-left (seen ++ here ∷ []) (visited_stacks here fs) j (own j begins)))
+  | inr later ↦ λ j begins. subst (λ (l : List Stack). Has l j) again (visited-begun (seen ++ here ∷ []) here fs own k later j begins)
 ]
   where
     here : Stack
     here = stack_after before f
 
-    again : (seen ++ here ∷ []) ++ told_stacks here fs ≡ seen ++ here ∷ told_stacks here fs
-    again = append_assoc seen (here ∷ []) (told_stacks here fs)
+    again : (seen ++ here ∷ []) ++ visited_stacks here fs ≡ seen ++ here ∷ visited_stacks here fs
+    again = append_assoc seen (here ∷ []) (visited_stacks here fs)
 
     own : HasEach (seen ++ here ∷ []) (beginnings here)
     own = subst (HasEach (seen ++ here ∷ [])) (sym (beginnings-push (take f.below before) f.name))
@@ -224,11 +224,11 @@ tally-if s k (suc t) = sum_by-cons (λ (row : Folded). cond (same_stack k row.st
     plain n = omega arith
 
 -- one more frame adds its time to its stack
-pub told-push : (frames : List Framed) (f : Framed) (k : Stack) → told (frames ++ f ∷ []) k ≡ told frames k + cond (same_stack k (stack_after (last_stack frames) f)) f.time 0
-told-push frames f k =
+pub visited_ticks-push : (frames : List Framed) (f : Framed) (k : Stack) → visited_ticks (frames ++ f ∷ []) k ≡ visited_ticks frames k + cond (same_stack k (stack_after (last_stack frames) f)) f.time 0
+visited_ticks-push frames f k =
     ap (λ (rows : List Folded). tally rows k) (folded_after-push [] frames f)
     ∙ sum_by-append (λ (row : Folded). cond (same_stack k row.stack) row.time 0) (folded_after [] frames) (folded_if (stack_after (last_stack frames) f) f.time)
-    ∙ ap (λ n. told frames k + n) (tally-if (stack_after (last_stack frames) f) k f.time)
+    ∙ ap (λ n. visited_ticks frames k + n) (tally-if (stack_after (last_stack frames) f) k f.time)
 
 -- the empty stack has no time
 pub tally-empty : (before : Stack) (frames : List Framed) → tally (folded_after before frames) [] ≡ 0
