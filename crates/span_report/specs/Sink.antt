@@ -3,7 +3,7 @@ use Rattle.std.specs.Prelude.{◌≡◌, ℕ, ◌+◌, List, Option, Some, None}
 use Rattle.std.specs.Io.KnownBytes.{Appends}
 use Rattle.std.specs.declared.snapshot.Snapshot.{Snapshot}
 
--- the bytes taken so far, where the sink tells them, and how many calls on it failed
+-- the bytes taken so far, where the sink shows them, and how many calls on it failed
 pub record SinkState : Type 0 where
   pub taken : Option (List ℕ)
   pub failures : ℕ

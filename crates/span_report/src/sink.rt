@@ -1,4 +1,4 @@
-//! Where a report goes: a sink takes bytes, and tells in contracts which.
+//! Where a report goes: a sink takes bytes, and shows in contracts which.
 ghost use Rattle.std.specs.Prelude.{◌<◌, ◌≤◌, [], length, take, IfOk, OnOk, OnErr};
 ghost use Rattle.span_report.specs.Sink.{SinkState, TakesBytes, Fails};
 
@@ -6,7 +6,7 @@ ghost use Rattle.span_report.specs.Sink.{SinkState, TakesBytes, Fails};
 #[derive(Clone, Copy, Debug, PartialEq, Eq)]
 pub struct SinkFault;
 
-/// An output. Contracts see the bytes that it took, where it tells them, and how many calls on it failed.
+/// An output. Contracts see the bytes that it took, where it shows them, and how many calls on it failed.
 pub trait Sink {
     ghost state: { Self → SinkState };
 

@@ -126,7 +126,7 @@ impl Both {
         self.expect_same(rt)
     }
 
-    // Both tell the times that the plain walks find, and the same segments.
+    // Both give the times that the plain walks find, and the same segments.
     fn expect_same(&self, rt: &impl Abort) -> Result<(), Fail> {
         let spans = self.searched.as_slice();
         for name in 0..NAMES {
@@ -156,9 +156,9 @@ impl Both {
 
 fn expect_all(rt: &impl Abort, alloc: Global, given: &[Given]) -> Result<(), Fail> {
     let mut both = Both::new(alloc);
-    let told = both.add_all(rt, given);
+    let result = both.add_all(rt, given);
     drop(both);
-    told
+    result
 }
 
 #[test]
@@ -233,9 +233,9 @@ fn add_at_random(rt: &impl Abort, both: &mut Both) -> Result<(), Fail> {
 #[test]
 fn spans_at_random(rt: HostRuntime) -> Result<(), Fail> {
     let mut both = Both::new(rt.alloc());
-    let told = add_at_random(&rt, &mut both);
+    let result = add_at_random(&rt, &mut both);
     drop(both);
-    told
+    result
 }
 
 // Nested spans of one end over some that were closed before, none, and one more.
@@ -252,7 +252,7 @@ fn add_groups(rt: &impl Abort, both: &mut Both) -> Result<(), Fail> {
 #[test]
 fn spans_that_end_together(rt: HostRuntime) -> Result<(), Fail> {
     let mut both = Both::new(rt.alloc());
-    let told = add_groups(&rt, &mut both);
+    let result = add_groups(&rt, &mut both);
     drop(both);
-    told
+    result
 }

@@ -31,9 +31,9 @@ span        1                3                3 "b"
 #[test]
 fn a_refused_growth_leaves_no_part_of_a_report(rt: HostRuntime) -> Result<(), Fail> {
     let ledger = told_at_last(rt.alloc(), NESTED).ok_or("not told")?;
-    let told = Printed::Report(Unit::Microseconds, &ledger).is_whole_or_none(&rt, NESTED_REPORT);
+    let whole = Printed::Report(Unit::Microseconds, &ledger).is_whole_or_none(&rt, NESTED_REPORT);
     drop(ledger);
-    told
+    whole
 }
 
 const IN_NANOSECONDS: &str = r#"tracebook 1

@@ -140,7 +140,7 @@ const CROSSING: &str =
     {"ph":"X","name":"c","ts":2,"dur":4,"pid":1,"tid":1},{"ph":"X","name":"d","ts":3,"dur":4,"pid":1,"tid":1}]"#;
 
 #[test]
-fn tells_no_more_frames_than_are_taken(rt: HostRuntime) -> Result<(), Fail> {
+fn gives_no_more_frames_than_are_taken(rt: HostRuntime) -> Result<(), Fail> {
     let ledger = told(rt.alloc(), CROSSING).ok_or("not told")?;
     let all = frame_count(rt.alloc(), &ledger, 10);
     let fewer = frame_count(rt.alloc(), &ledger, 9);

@@ -60,7 +60,7 @@ fn tries_no_failed_write_again(rt: HostRuntime) {
 }
 
 #[test]
-fn a_failure_to_finish_is_told(rt: HostRuntime) {
+fn a_failure_to_finish_is_a_fault(rt: HostRuntime) {
     fails_after(
         &rt,
         Output::new(rt.alloc(), 51, End::Broken, false),
