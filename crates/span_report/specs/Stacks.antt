@@ -8,5 +8,5 @@ pub mod Frames
 pub mod Labelled
 pub mod Labels
 pub mod Laws
+pub mod Pending
 pub mod Ticks
-pub mod Parts

@@ -1,8 +1,8 @@
 //! The folded stacks of a ledger, as a text for viewers of flame graphs.
 //!
-//! A thread's frames are visited in the order of their stacks, and none is kept: what is kept are the parts of time whose stacks
-//! are still to be visited, which are no more than the spans have stretches. Each frame costs a step for each part of time that
-//! has it; of spans that nest that is one for each span, and of spans that cross at most as many as are open.
+//! A thread's frames are visited in the order of their stacks, and none is kept but those that are pending, which are no more than
+//! the spans have stretches. Each frame costs a step for each stretch of time that has it; of spans that nest that is one for each
+//! span, and of spans that cross at most as many as are open.
 
 mod descent;
 mod ends;
@@ -13,7 +13,7 @@ mod label;
 mod labelled;
 pub mod laws;
 mod output;
-mod parts;
+mod pending;
 mod ranks;
 mod text;
 

@@ -13,45 +13,45 @@ use Rattle.span_journal.proofs.Sorted.{AllByRecursion-append, AllByRecursion-map
 use Rattle.span_self_time.specs.Spans.{Span, earliest, latest}
 use Rattle.span_self_time.proofs.Counts.{count_from-le, count_from-same}
 use Rattle.span_report.specs.declared.stacks.descent.Descent.{Descent}
-use Rattle.span_report.specs.declared.stacks.parts.Part.{Part}
-use Rattle.span_report.specs.declared.stacks.parts.Stretch.{Stretch}
+use Rattle.span_report.specs.declared.stacks.pending.PendingFrame.{PendingFrame}
+use Rattle.span_report.specs.declared.stacks.pending.Stretch.{Stretch}
 use Rattle.span_report.specs.Stacks.Descent.{IsNextSplit, IsReady, StartsWith, VisitsFrame, last_visited, left_of}
 use Rattle.span_report.specs.Stacks.Ticks.{Stack, has_frames, names_at, ranked, same_stack, stack_at, stacks_of}
-use Rattle.span_report.specs.Stacks.Parts.{IsAhead, IsSound, IsSplit, Near, left, nearness, part_stack, times_on}
+use Rattle.span_report.specs.Stacks.Pending.{IsAhead, IsSound, IsSplit, Near, left, nearness, pending_stack, times_on}
 use Rattle.span_report.proofs.StackLemmas.Nearing.{AllByRecursion-front, AllByRecursion-last, IsAhead-on, Near-append, Near-front, Near-last, Near-sorted, ahead-next, deeper-near, farther, left-next, no_deeper}
 use Rattle.span_report.proofs.StackLemmas.Splitting.{times_on-own}
 use Rattle.span_report.proofs.StackLemmas.Times.{count_by-stacks_of}
 
-AllByRecursion-permutation : (P : Part → Type 0) (xs ys : List Part) → IsPermutation xs ys → AllByRecursion P xs → AllByRecursion P ys
+AllByRecursion-permutation : (P : PendingFrame → Type 0) (xs ys : List PendingFrame) → IsPermutation xs ys → AllByRecursion P xs → AllByRecursion P ys
 AllByRecursion-permutation P xs ys moved all = recursion_from_All P ys (All-permutation P xs ys moved (All-from_recursion P xs all))
 
-left-permutation : (spans : List (Span Bytes)) (last : Stack) (xs ys : List Part) (stack : Stack) → IsPermutation xs ys → left spans last ys stack ≡ left spans last xs stack
-left-permutation spans last xs ys stack moved = sum_by-IsPermutation (λ (p : Part). times_on spans (part_stack last p) p.over stack) xs ys moved
+left-permutation : (spans : List (Span Bytes)) (last : Stack) (xs ys : List PendingFrame) (stack : Stack) → IsPermutation xs ys → left spans last ys stack ≡ left spans last xs stack
+left-permutation spans last xs ys stack moved = sum_by-IsPermutation (λ (p : PendingFrame). times_on spans (pending_stack last p) p.over stack) xs ys moved
 
 -- a stack with frames is no empty one
 same-framed : (frame : Bytes) (frames stack : Stack) → (has_frames stack && same_stack (frame ∷ frames) stack) ≡ same_stack (frame ∷ frames) stack
 same-framed frame frames [] = refl
 same-framed frame frames (x ∷ xs) = refl
 
--- a descent that begins with the parts of a whole stretch
-module _ (d : Descent) (s : Stretch) (time : ℕ) (found : List Part) (split : IsSplit d.spans 0 s time [] found) (moved : IsPermutation found d.parts.items) (empty : d.stack.items ≡ []) where
+-- a descent that begins with the frames of a whole stretch
+module _ (d : Descent) (s : Stretch) (time : ℕ) (found : List PendingFrame) (split : IsSplit d.spans 0 s time [] found) (moved : IsPermutation found d.pending.items) (empty : d.stack.items ≡ []) where
   last-empty : last_visited d ≡ []
   last-empty = ap (λ names. map (λ name. name.now) names) empty
 
   left-found : (stack : Stack) → left_of d stack + cond (same_stack stack []) time 0 ≡ times_on d.spans [] s stack
   left-found stack =
-      let here = ap (λ (last : Stack). left d.spans last d.parts.items stack) last-empty ∙ left-permutation d.spans [] found d.parts.items stack moved in
+      let here = ap (λ (last : Stack). left d.spans last d.pending.items stack) last-empty ∙ left-permutation d.spans [] found d.pending.items stack moved in
       omega (arith, here, split.counts [] refl stack)
 
-  each-found : AllByRecursion (λ p. (p.below ≡ 0) × IsSound d.spans p.over) d.parts.items
-  each-found = AllByRecursion-permutation (λ p. (p.below ≡ 0) × IsSound d.spans p.over) found d.parts.items moved (split.sound tt)
+  each-found : AllByRecursion (λ p. (p.below ≡ 0) × IsSound d.spans p.over) d.pending.items
+  each-found = AllByRecursion-permutation (λ p. (p.below ≡ 0) × IsSound d.spans p.over) found d.pending.items moved (split.sound tt)
 
-  pub IsReady-new : IsSorted nearness d.parts.items → d.found.items ≡ [] → distance s.from s.until < 2 ^ 64 → IsReady d
+  pub IsReady-new : IsSorted nearness d.pending.items → d.found.items ≡ [] → distance s.from s.until < 2 ^ 64 → IsReady d
   IsReady-new sorted none small = record {
-    near = Near-sorted d.parts.items sorted;
-    ahead = subst (λ (last : Stack). AllByRecursion (IsAhead last) d.parts.items) (sym last-empty)
-        (AllByRecursion-map (λ p. (p.below ≡ 0) × IsSound d.spans p.over) (IsAhead []) (λ p (is : (p.below ≡ 0) × IsSound d.spans p.over). IsAhead-on [] p is.0) d.parts.items each-found);
-    sound = AllByRecursion-map (λ p. (p.below ≡ 0) × IsSound d.spans p.over) (λ p. IsSound d.spans p.over) (λ p (is : (p.below ≡ 0) × IsSound d.spans p.over). is.1) d.parts.items each-found;
+    near = Near-sorted d.pending.items sorted;
+    ahead = subst (λ (last : Stack). AllByRecursion (IsAhead last) d.pending.items) (sym last-empty)
+        (AllByRecursion-map (λ p. (p.below ≡ 0) × IsSound d.spans p.over) (IsAhead []) (λ p (is : (p.below ≡ 0) × IsSound d.spans p.over). IsAhead-on [] p is.0) d.pending.items each-found);
+    sound = AllByRecursion-map (λ p. (p.below ≡ 0) × IsSound d.spans p.over) (λ p. IsSound d.spans p.over) (λ p (is : (p.below ≡ 0) × IsSound d.spans p.over). is.1) d.pending.items each-found;
     small = λ stack. omega (arith, left-found stack, small, count_from-le (λ u. same_stack stack ([] ++ names_at (drop s.next d.spans) u)) s.from (distance s.from s.until));
     none = none;
   }
@@ -67,16 +67,16 @@ module _ (d : Descent) (s : Stretch) (time : ℕ) (found : List Part) (split : I
           ∙ count_from-same (λ u. has_frames (stack_at spans u) && same_stack (name ∷ names) (stack_at spans u)) (λ u. same_stack (name ∷ names) (stack_at spans u)) (earliest spans) (distance (earliest spans) (latest spans)) (λ u since before. same-framed name names (stack_at spans u)) in
           omega (arith, left-found (name ∷ names)) ∙ whole ∙ bounds ∙ sym counted
 
--- the next frame is visited: the parts of its stack are split, and those that are found come next
-module _ (old mid new : Descent) (first : Part) (others near : List Part) (time : ℕ) (ready : IsReady old) (whole : old.parts.items ≡ others ++ first ∷ []) (split : IsNextSplit first time old mid)
-    (moved : IsPermutation mid.found.items near) (sorted : IsSorted nearness near) (spans : new.spans ≡ mid.spans) (parts : new.parts.items ≡ mid.parts.items ++ near) (visited : last_visited new ≡ part_stack (last_visited old) first) where
+-- the next frame is visited: the pending ones of its stack are split, and those that are found come next
+module _ (old mid new : Descent) (first : PendingFrame) (others near : List PendingFrame) (time : ℕ) (ready : IsReady old) (whole : old.pending.items ≡ others ++ first ∷ []) (split : IsNextSplit first time old mid)
+    (moved : IsPermutation mid.found.items near) (sorted : IsSorted nearness near) (spans : new.spans ≡ mid.spans) (pending : new.pending.items ≡ mid.pending.items ++ near) (visited : last_visited new ≡ pending_stack (last_visited old) first) where
   abbrev last : Stack
   last = last_visited old
 
   abbrev base : Stack
-  base = part_stack (last_visited old) first
+  base = pending_stack (last_visited old) first
 
-  abbrev IsOn : Part → Type 0
+  abbrev IsOn : PendingFrame → Type 0
   IsOn p = (p.below ≡ first.below + 1) × IsSound old.spans p.over
 
   ahead-first : IsAhead last first
@@ -85,13 +85,13 @@ module _ (old mid new : Descent) (first : Part) (others near : List Part) (time 
   sound-first : IsSound old.spans first.over
   sound-first = AllByRecursion-last (λ p. IsSound old.spans p.over) others first (subst (AllByRecursion (λ p. IsSound old.spans p.over)) whole ready.sound)
 
-  -- the parts that stay are all farther
-  far : AllByRecursion (λ q. nearness q first ≡ Less) mid.parts.items
+  -- the frames that stay are all farther
+  far : AllByRecursion (λ q. nearness q first ≡ Less) mid.pending.items
   far =
-      let behind = λ (q : Part). nearness q first ≡ Greater → ⊥ in
+      let behind = λ (q : PendingFrame). nearness q first ≡ Greater → ⊥ in
       let all = subst (AllByRecursion behind) (sym whole) (Near-last others first (subst Near whole ready.near)) in
-      farther mid.parts.items first (Near-front mid.parts.items split.popped.0 (subst Near split.popped.1 ready.near))
-      (AllByRecursion-front behind mid.parts.items split.popped.0 (subst (AllByRecursion behind) split.popped.1 all)) split.done
+      farther mid.pending.items first (Near-front mid.pending.items split.popped.0 (subst Near split.popped.1 ready.near))
+      (AllByRecursion-front behind mid.pending.items split.popped.0 (subst (AllByRecursion behind) split.popped.1 all)) split.done
 
   on-base : AllByRecursion IsOn near
   on-base = AllByRecursion-permutation IsOn mid.found.items near moved split.found
@@ -99,12 +99,12 @@ module _ (old mid new : Descent) (first : Part) (others near : List Part) (time 
   deep : length base ≡ first.below + 1
   deep = length_push (take first.below last) first.name.now ∙ ap (λ n. n + 1) (length-take-le first.below last ahead-first.0)
 
-  left-new : (stack : Stack) → left_of new stack ≡ left old.spans last mid.parts.items stack + left old.spans base mid.found.items stack
+  left-new : (stack : Stack) → left_of new stack ≡ left old.spans last mid.pending.items stack + left old.spans base mid.found.items stack
   left-new stack =
-      ap (λ (l : List (Span Bytes)). left l (last_visited new) new.parts.items stack) (spans ∙ split.spans)
-      ∙ ap₂ (λ (l : Stack) (ps : List Part). left old.spans l ps stack) visited parts
-      ∙ sum_by-append (λ (p : Part). times_on old.spans (part_stack base p) p.over stack) mid.parts.items near
-      ∙ ap₂ (λ a b. a + b) (left-next last first ahead-first old.spans mid.parts.items stack far) (left-permutation old.spans base mid.found.items near stack moved)
+      ap (λ (l : List (Span Bytes)). left l (last_visited new) new.pending.items stack) (spans ∙ split.spans)
+      ∙ ap₂ (λ (l : Stack) (ps : List PendingFrame). left old.spans l ps stack) visited pending
+      ∙ sum_by-append (λ (p : PendingFrame). times_on old.spans (pending_stack base p) p.over stack) mid.pending.items near
+      ∙ ap₂ (λ a b. a + b) (left-next last first ahead-first old.spans mid.pending.items stack far) (left-permutation old.spans base mid.found.items near stack moved)
 
   pub VisitsFrame-next : VisitsFrame old new (record { below = first.below; name = first.name.now; time = time })
   VisitsFrame-next = record {
@@ -120,27 +120,27 @@ module _ (old mid new : Descent) (first : Part) (others near : List Part) (time 
 
       some : 0 < left_of old (base ++ rest)
       some =
-          let parted = ap (λ (ps : List Part). left old.spans last ps (base ++ rest)) whole ∙ sum_by_push (λ (p : Part). times_on old.spans (part_stack last p) p.over (base ++ rest)) others first in
+          let parted = ap (λ (ps : List PendingFrame). left old.spans last ps (base ++ rest)) whole ∙ sum_by_push (λ (p : PendingFrame). times_on old.spans (pending_stack last p) p.over (base ++ rest)) others first in
           omega (arith, parted, times_on-own old.spans base first.over sound-first.lasts)
 
   pub IsReady-next : new.found.items ≡ [] → IsReady new
   IsReady-next none = record {
-    near = subst Near (sym parts) (Near-append mid.parts.items near (Near-front mid.parts.items split.popped.0 (subst Near split.popped.1 ready.near)) (Near-sorted near sorted) (each mid.parts.items far));
-    ahead = subst (λ (l : Stack). AllByRecursion (IsAhead l) new.parts.items) (sym visited) (subst (AllByRecursion (IsAhead base)) (sym parts)
-        (AllByRecursion-append (IsAhead base) mid.parts.items near
-        (ahead-next last first ahead-first mid.parts.items far (AllByRecursion-front (IsAhead last) mid.parts.items split.popped.0 (subst (AllByRecursion (IsAhead last)) split.popped.1 ready.ahead)))
+    near = subst Near (sym pending) (Near-append mid.pending.items near (Near-front mid.pending.items split.popped.0 (subst Near split.popped.1 ready.near)) (Near-sorted near sorted) (each mid.pending.items far));
+    ahead = subst (λ (l : Stack). AllByRecursion (IsAhead l) new.pending.items) (sym visited) (subst (AllByRecursion (IsAhead base)) (sym pending)
+        (AllByRecursion-append (IsAhead base) mid.pending.items near
+        (ahead-next last first ahead-first mid.pending.items far (AllByRecursion-front (IsAhead last) mid.pending.items split.popped.0 (subst (AllByRecursion (IsAhead last)) split.popped.1 ready.ahead)))
         (AllByRecursion-map IsOn (IsAhead base) (λ p (is : IsOn p). IsAhead-on base p (is.0 ∙ sym deep)) near on-base)));
-    sound = subst (λ (l : List (Span Bytes)). AllByRecursion (λ p. IsSound l p.over) new.parts.items) (sym (spans ∙ split.spans)) (subst (AllByRecursion sound) (sym parts)
-        (AllByRecursion-append sound mid.parts.items near (AllByRecursion-front sound mid.parts.items split.popped.0 (subst (AllByRecursion sound) split.popped.1 ready.sound))
+    sound = subst (λ (l : List (Span Bytes)). AllByRecursion (λ p. IsSound l p.over) new.pending.items) (sym (spans ∙ split.spans)) (subst (AllByRecursion sound) (sym pending)
+        (AllByRecursion-append sound mid.pending.items near (AllByRecursion-front sound mid.pending.items split.popped.0 (subst (AllByRecursion sound) split.popped.1 ready.sound))
         (AllByRecursion-map IsOn sound (λ p (is : IsOn p). is.1) near on-base)));
     small = λ stack. omega (arith, left-new stack, split.counts stack, ready.small stack);
     none = none;
   }
     where
-      sound : Part → Type 0
+      sound : PendingFrame → Type 0
       sound p = IsSound old.spans p.over
 
-      nearer : (x : Part) → nearness x first ≡ Less → (ys : List Part) → AllByRecursion IsOn ys → AllByRecursion (λ y. nearness x y ≡ Greater → ⊥) ys
+      nearer : (x : PendingFrame) → nearness x first ≡ Less → (ys : List PendingFrame) → AllByRecursion IsOn ys → AllByRecursion (λ y. nearness x y ≡ Greater → ⊥) ys
       nearer x less [] on = tt
       nearer x less (y ∷ ys) on = (
         λ over.
@@ -150,6 +150,6 @@ module _ (old mid new : Descent) (first : Part) (others near : List Part) (time 
         nearer x less ys on.1,
       )
 
-      each : (xs : List Part) → AllByRecursion (λ q. nearness q first ≡ Less) xs → AllByRecursion (λ x. AllByRecursion (λ y. nearness x y ≡ Greater → ⊥) near) xs
+      each : (xs : List PendingFrame) → AllByRecursion (λ q. nearness q first ≡ Less) xs → AllByRecursion (λ x. AllByRecursion (λ y. nearness x y ≡ Greater → ⊥) near) xs
       each [] less = tt
       each (x ∷ xs) less = (nearer x less.0 near on-base, each xs less.1)

@@ -8,7 +8,7 @@ use Rattle.span_event.specs.Text.{Bytes}
 use Rattle.span_self_time.specs.Spans.{Span, covers}
 use Rattle.span_self_time.proofs.Counts.{covers-after}
 use Rattle.span_report.specs.declared.stacks.ends.Link.{Link}
-use Rattle.span_report.specs.Stacks.Parts.{AreLinks, IsFirstBeyond, IsJump, IsLater, IsLink, IsLinkTo, NoneCovers}
+use Rattle.span_report.specs.Stacks.Pending.{AreLinks, IsFirstBeyond, IsJump, IsLater, IsLink, IsLinkTo, NoneCovers}
 
 module _ (spans : List (Span Bytes)) where
   -- past a jump to a span that ends by the time

@@ -1,4 +1,4 @@
--- The order of the parts that are left: the nearest is the last, and its stack is the least that comes after the one visited before.
+-- The order of pending frames: the nearest is the last, and its stack is the least that comes after the one visited before.
 use Rattle.std.proofs.Common.{◌≡◌, ℕ, zero, suc, ◌+◌, ◌<◌, ◌≤◌, false, List, [], ◌∷◌, ◌++◌, length, take, get_or, Option, Some, refl, sym, ap, ap₂, subst, ◌∙◌, arith, inl, inr, ◌⊎◌, true≢false}
 use Rattle.std.specs.Cmp.{IsTotalOrder}
 use Rattle.std.specs.List.{AllByRecursion}
@@ -15,13 +15,13 @@ use Rattle.span_event.specs.Text.{Bytes, text_cmp}
 use Rattle.span_event.proofs.Orders.{text_same}
 use Rattle.span_keyed_tracks.specs.Last.{last_of}
 use Rattle.span_self_time.specs.Spans.{Span}
-use Rattle.span_report.specs.declared.stacks.parts.Part.{Part}
+use Rattle.span_report.specs.declared.stacks.pending.PendingFrame.{PendingFrame}
 use Rattle.span_report.specs.Stacks.Ticks.{Stack, stack_order}
-use Rattle.span_report.specs.Stacks.Parts.{IsAhead, Near, left, nearness, part_stack, times_on}
+use Rattle.span_report.specs.Stacks.Pending.{IsAhead, Near, left, nearness, pending_stack, times_on}
 use Rattle.span_report.proofs.StackLemmas.StackOrders.{below-pushed, none-below-empty, stack_order-pushed, turned-greater, turned-less}
 
 pub nearness-total : IsTotalOrder nearness
-nearness-total = then_total (on_total (λ (p : Part). p.below) nat_cmp_total) (on_total (λ (p : Part). p.name.now) (back_total nat_list_cmp_total))
+nearness-total = then_total (on_total (λ (p : PendingFrame). p.below) nat_cmp_total) (on_total (λ (p : PendingFrame). p.name.now) (back_total nat_list_cmp_total))
 
 -- what holds of all of a list holds of all that it begins with
 pub AllByRecursion-front : {A : Type 0} (P : A → Type 0) (xs ys : List A) → AllByRecursion P (xs ++ ys) → AllByRecursion P xs
@@ -32,16 +32,16 @@ pub AllByRecursion-last : {A : Type 0} (P : A → Type 0) (xs : List A) (x : A) 
 AllByRecursion-last P [] x all = all.0
 AllByRecursion-last P (y ∷ xs) x all = AllByRecursion-last P xs x all.1
 
-pub Near-front : (xs ys : List Part) → Near (xs ++ ys) → Near xs
+pub Near-front : (xs ys : List PendingFrame) → Near (xs ++ ys) → Near xs
 Near-front [] ys near = tt
 Near-front (x ∷ xs) ys near = (AllByRecursion-front (λ q. nearness x q ≡ Greater → ⊥) xs ys near.0, Near-front xs ys near.1)
 
 -- the last is no farther than any
-pub Near-last : (xs : List Part) (p : Part) → Near (xs ++ p ∷ []) → AllByRecursion (λ q. nearness q p ≡ Greater → ⊥) (xs ++ p ∷ [])
+pub Near-last : (xs : List PendingFrame) (p : PendingFrame) → Near (xs ++ p ∷ []) → AllByRecursion (λ q. nearness q p ≡ Greater → ⊥) (xs ++ p ∷ [])
 Near-last [] p near = (λ over. let both : Equal ≡ Greater = sym (tied_itself nearness-total p) ∙ over in absurd cc, tt)
 Near-last (x ∷ xs) p near = (AllByRecursion-last (λ q. nearness x q ≡ Greater → ⊥) xs p near.0, Near-last xs p near.1)
 
-not_over : (a b c : Part) → (nearness a b ≡ Greater → ⊥) → nearness b c ≡ Less → nearness a c ≡ Less
+not_over : (a b c : PendingFrame) → (nearness a b ≡ Greater → ⊥) → nearness b c ≡ Less → nearness a c ≡ Less
 not_over a b c under less = by (nearness a b) refl
   where
     by : (r : Ordering) → nearness a b ≡ r → nearness a c ≡ Less
@@ -49,8 +49,8 @@ not_over a b c under less = by (nearness a b) refl
     by Equal tie = nearness-total.congr a b c tie ∙ less
     by Greater tie = absurd (under tie)
 
--- where the last of these parts doesn't tie with another one and all are no nearer, they are farther
-pub farther : (xs : List Part) (g : Part) → Near xs → AllByRecursion (λ q. nearness q g ≡ Greater → ⊥) xs → ((p : Part) → last_of xs ≡ Some p → nearness p g ≡ Equal → ⊥) → AllByRecursion (λ q. nearness q g ≡ Less) xs
+-- where the last of these frames doesn't tie with another one and all are no nearer, they are farther
+pub farther : (xs : List PendingFrame) (g : PendingFrame) → Near xs → AllByRecursion (λ q. nearness q g ≡ Greater → ⊥) xs → ((p : PendingFrame) → last_of xs ≡ Some p → nearness p g ≡ Equal → ⊥) → AllByRecursion (λ q. nearness q g ≡ Less) xs
 farther [] g near all done = tt
 farther (x ∷ []) g near all done = (by (nearness x g) refl, tt)
   where
@@ -62,23 +62,23 @@ farther (x ∷ y ∷ ys) g near all done =
     let rest = farther (y ∷ ys) g near.1 all.1 (λ p is. done p (later p (last_of (y ∷ ys)) is)) in
     (not_over x y g near.0.0 rest.0, rest)
   where
-    later : (p : Part) (o : Option Part) → o ≡ Some p → option_or o (Some x) ≡ Some p
+    later : (p : PendingFrame) (o : Option PendingFrame) → o ≡ Some p → option_or o (Some x) ≡ Some p
     later p o is = ap (λ q. option_or q (Some x)) is
 
--- farther parts before nearer ones
-pub Near-append : (xs ys : List Part) → Near xs → Near ys → AllByRecursion (λ x. AllByRecursion (λ y. nearness x y ≡ Greater → ⊥) ys) xs → Near (xs ++ ys)
+-- farther frames before nearer ones
+pub Near-append : (xs ys : List PendingFrame) → Near xs → Near ys → AllByRecursion (λ x. AllByRecursion (λ y. nearness x y ≡ Greater → ⊥) ys) xs → Near (xs ++ ys)
 Near-append [] ys first second apart = second
 Near-append (x ∷ xs) ys first second apart = (both xs first.0 apart.0, Near-append xs ys first.1 second apart.1)
   where
-    both : (zs : List Part) → AllByRecursion (λ q. nearness x q ≡ Greater → ⊥) zs → AllByRecursion (λ y. nearness x y ≡ Greater → ⊥) ys → AllByRecursion (λ q. nearness x q ≡ Greater → ⊥) (zs ++ ys)
+    both : (zs : List PendingFrame) → AllByRecursion (λ q. nearness x q ≡ Greater → ⊥) zs → AllByRecursion (λ y. nearness x y ≡ Greater → ⊥) ys → AllByRecursion (λ q. nearness x q ≡ Greater → ⊥) (zs ++ ys)
     both [] all more = more
     both (z ∷ zs) all more = (all.0, both zs all.1 more)
 
-not-greater : (a b : Part) → is_lt (nearness b a) ≡ false → nearness a b ≡ Greater → ⊥
+not-greater : (a b : PendingFrame) → is_lt (nearness b a) ≡ false → nearness a b ≡ Greater → ⊥
 not-greater a b is over = true≢false (sym (ap is_lt (turned-greater nearness-total a b over)) ∙ is)
 
 -- what was sorted by nearness
-pub Near-sorted : (xs : List Part) → IsSorted nearness xs → Near xs
+pub Near-sorted : (xs : List PendingFrame) → IsSorted nearness xs → Near xs
 Near-sorted [] sorted = tt
 Near-sorted (x ∷ []) sorted = (tt, tt)
 Near-sorted (x ∷ y ∷ ys) sorted =
@@ -88,24 +88,24 @@ Near-sorted (x ∷ y ∷ ys) sorted =
     let first : nearness x y ≡ Greater → ⊥ = not-greater x y (sorted 0 x (omega arith) (omega arith)) in
     ((first, each ys rest.0 first), rest)
   where
-    each : (zs : List Part) → AllByRecursion (λ q. nearness y q ≡ Greater → ⊥) zs → (nearness x y ≡ Greater → ⊥) → AllByRecursion (λ q. nearness x q ≡ Greater → ⊥) zs
+    each : (zs : List PendingFrame) → AllByRecursion (λ q. nearness y q ≡ Greater → ⊥) zs → (nearness x y ≡ Greater → ⊥) → AllByRecursion (λ q. nearness x q ≡ Greater → ⊥) zs
     each [] all first = tt
     each (z ∷ zs) all first = (λ over. through z (nearness x y) refl over (all.0) first, each zs all.1 first)
       where
-        through : (z : Part) (r : Ordering) → nearness x y ≡ r → nearness x z ≡ Greater → (nearness y z ≡ Greater → ⊥) → (nearness x y ≡ Greater → ⊥) → ⊥
+        through : (z : PendingFrame) (r : Ordering) → nearness x y ≡ r → nearness x z ≡ Greater → (nearness y z ≡ Greater → ⊥) → (nearness x y ≡ Greater → ⊥) → ⊥
         through z Less tie over under first = under (turned-less nearness-total z y (nearness-total.trans z x y (turned-greater nearness-total x z over) tie))
         through z Equal tie over under first = under (sym (nearness-total.congr x y z tie) ∙ over)
         through z Greater tie over under first = first tie
 
--- parts of more frames are nearer
-pub deeper-near : (x y : Part) → x.below < y.below → nearness x y ≡ Less
+-- frames on more frames are nearer
+pub deeper-near : (x y : PendingFrame) → x.below < y.below → nearness x y ≡ Less
 deeper-near x y less = ap (λ r. ordering_then r (text_cmp y.name.now x.name.now)) (under x.below y.below less)
   where
     under : (a b : ℕ) → a < b → nat_cmp a b ≡ Less
     under a b less = grind (arith, nat_tests)
 
--- a part that is farther has fewer frames, or as many and a greater name
-less-cases : (p q : Part) → nearness p q ≡ Less → (p.below < q.below) ⊎ ((p.below ≡ q.below) × (text_cmp q.name.now p.name.now ≡ Less))
+-- a frame that is farther stands on fewer frames, or on as many and has a greater name
+less-cases : (p q : PendingFrame) → nearness p q ≡ Less → (p.below < q.below) ⊎ ((p.below ≡ q.below) × (text_cmp q.name.now p.name.now ≡ Less))
 less-cases p q less = by (nat_cmp p.below q.below) refl less
   where
     fewer : (a b : ℕ) → nat_cmp a b ≡ Less → a < b
@@ -119,15 +119,15 @@ less-cases p q less = by (nat_cmp p.below q.below) refl less
     by Equal tie is = inr (even p.below q.below tie, is)
     by Greater tie is = absurd cc
 
-pub no_deeper : (p q : Part) → nearness p q ≡ Less → p.below ≤ q.below
+pub no_deeper : (p q : PendingFrame) → nearness p q ≡ Less → p.below ≤ q.below
 no_deeper p q less = by (less-cases p q less)
   where
     by : (p.below < q.below) ⊎ ((p.below ≡ q.below) × (text_cmp q.name.now p.name.now ≡ Less)) → p.below ≤ q.below
     by (inl fewer) = omega (arith, fewer)
     by (inr (same, above)) = omega (arith, same)
 
-pub tied-parts : (p q : Part) → nearness p q ≡ Equal → (p.below ≡ q.below) × (p.name.now ≡ q.name.now)
-tied-parts p q tie = by (nat_cmp p.below q.below) refl tie
+pub tied-pending : (p q : PendingFrame) → nearness p q ≡ Equal → (p.below ≡ q.below) × (p.name.now ≡ q.name.now)
+tied-pending p q tie = by (nat_cmp p.below q.below) refl tie
   where
     even : (a b : ℕ) → nat_cmp a b ≡ Equal → a ≡ b
     even a b is = grind (arith, nat_tests)
@@ -152,10 +152,10 @@ order-deeper (z ∷ zs) (suc b) (suc k) x y less within above =
     let rest : stack_order zs (take b zs ++ y ∷ []) ≡ Less = sym (ap (λ r. ordering_then r (stack_order zs (take b zs ++ y ∷ []))) same) ∙ above in
     ap₂ ordering_then same (order-deeper zs b k x y (omega (arith, less)) (omega (arith, within)) rest)
 
-module _ (last : Stack) (g : Part) (ahead : IsAhead last g) where
-  -- the parts that are farther keep their stacks once the nearest is visited
-  pub part_stack-next : (p : Part) → nearness p g ≡ Less → part_stack (part_stack last g) p ≡ part_stack last p
-  part_stack-next p less =
+module _ (last : Stack) (g : PendingFrame) (ahead : IsAhead last g) where
+  -- the frames that are farther keep their stacks once the nearest is visited
+  pub pending_stack-next : (p : PendingFrame) → nearness p g ≡ Less → pending_stack (pending_stack last g) p ≡ pending_stack last p
+  pending_stack-next p less =
       let fewer = no_deeper p g less in
       ap (λ (s : Stack). s ++ p.name.now ∷ []) (take-append-le p.below (take g.below last) (g.name.now ∷ []) (omega (arith, fewer, length-take-le g.below last ahead.0)) ∙ take-shorter p.below g.below last fewer)
     where
@@ -166,30 +166,30 @@ module _ (last : Stack) (g : Part) (ahead : IsAhead last g) where
       take-shorter (suc a) (suc b) (x ∷ l) le = ap (λ m. x ∷ m) (take-shorter a b l (omega (arith, le)))
 
   -- and are still ahead
-  pub IsAhead-next : (p : Part) → nearness p g ≡ Less → IsAhead last p → IsAhead (part_stack last g) p
+  pub IsAhead-next : (p : PendingFrame) → nearness p g ≡ Less → IsAhead last p → IsAhead (pending_stack last g) p
   IsAhead-next p less is = by (less-cases p g less)
     where
-      many : length (part_stack last g) ≡ g.below + 1
+      many : length (pending_stack last g) ≡ g.below + 1
       many = length_push (take g.below last) g.name.now ∙ ap (λ n. n + 1) (length-take-le g.below last ahead.0)
 
-      by : (p.below < g.below) ⊎ ((p.below ≡ g.below) × (text_cmp g.name.now p.name.now ≡ Less)) → IsAhead (part_stack last g) p
-      by (inl fewer) = (omega (arith, many, fewer), ap (stack_order (part_stack last g)) (part_stack-next p less) ∙ order-deeper last p.below g.below g.name.now p.name.now fewer ahead.0 is.1)
+      by : (p.below < g.below) ⊎ ((p.below ≡ g.below) × (text_cmp g.name.now p.name.now ≡ Less)) → IsAhead (pending_stack last g) p
+      by (inl fewer) = (omega (arith, many, fewer), ap (stack_order (pending_stack last g)) (pending_stack-next p less) ∙ order-deeper last p.below g.below g.name.now p.name.now fewer ahead.0 is.1)
       by (inr (same, above)) = (
         omega (arith, many, same),
-        ap (stack_order (part_stack last g)) (part_stack-next p less ∙ ap (λ n. take n last ++ p.name.now ∷ []) same) ∙ stack_order-pushed (take g.below last) g.name.now p.name.now ∙ above,
+        ap (stack_order (pending_stack last g)) (pending_stack-next p less ∙ ap (λ n. take n last ++ p.name.now ∷ []) same) ∙ stack_order-pushed (take g.below last) g.name.now p.name.now ∙ above,
       )
 
-  pub ahead-next : (xs : List Part) → AllByRecursion (λ q. nearness q g ≡ Less) xs → AllByRecursion (IsAhead last) xs → AllByRecursion (IsAhead (part_stack last g)) xs
+  pub ahead-next : (xs : List PendingFrame) → AllByRecursion (λ q. nearness q g ≡ Less) xs → AllByRecursion (IsAhead last) xs → AllByRecursion (IsAhead (pending_stack last g)) xs
   ahead-next [] less are = tt
   ahead-next (x ∷ xs) less are = (IsAhead-next x less.0 are.0, ahead-next xs less.1 are.1)
 
-  pub left-next : (spans : List (Span Bytes)) (xs : List Part) (stack : Stack) → AllByRecursion (λ q. nearness q g ≡ Less) xs → left spans (part_stack last g) xs stack ≡ left spans last xs stack
+  pub left-next : (spans : List (Span Bytes)) (xs : List PendingFrame) (stack : Stack) → AllByRecursion (λ q. nearness q g ≡ Less) xs → left spans (pending_stack last g) xs stack ≡ left spans last xs stack
   left-next spans [] stack less = refl
   left-next spans (x ∷ xs) stack less =
-      sum_by-cons (λ (p : Part). times_on spans (part_stack (part_stack last g) p) p.over stack) x xs
-      ∙ ap₂ (λ a b. a + b) (ap (λ (s : Stack). times_on spans s x.over stack) (part_stack-next x less.0)) (left-next spans xs stack less.1)
-      ∙ sym (sum_by-cons (λ (p : Part). times_on spans (part_stack last p) p.over stack) x xs)
+      sum_by-cons (λ (p : PendingFrame). times_on spans (pending_stack (pending_stack last g) p) p.over stack) x xs
+      ∙ ap₂ (λ a b. a + b) (ap (λ (s : Stack). times_on spans s x.over stack) (pending_stack-next x less.0)) (left-next spans xs stack less.1)
+      ∙ sym (sum_by-cons (λ (p : PendingFrame). times_on spans (pending_stack last p) p.over stack) x xs)
 
--- a part that stands on the whole stack is ahead
-pub IsAhead-on : (last : Stack) (p : Part) → p.below ≡ length last → IsAhead last p
+-- a frame that stands on the whole stack is ahead
+pub IsAhead-on : (last : Stack) (p : PendingFrame) → p.below ≡ length last → IsAhead last p
 IsAhead-on last p deep = (omega (arith, deep), ap (λ (s : Stack). stack_order last (s ++ p.name.now ∷ [])) (take_all p.below last (omega (arith, deep))) ∙ below-pushed last p.name.now)

@@ -8,10 +8,10 @@ use Rattle.std.proofs.lemmas.List.{drop-drop, drop_more, drop_all, get_or-drop, 
 use Rattle.span_event.specs.Text.{Bytes}
 use Rattle.span_self_time.specs.Spans.{Span, covers}
 use Rattle.span_self_time.proofs.Counts.{covers-after, covers-before, covers-between}
-use Rattle.span_report.specs.declared.stacks.parts.Part.{Part}
-use Rattle.span_report.specs.declared.stacks.parts.Stretch.{Stretch}
+use Rattle.span_report.specs.declared.stacks.pending.PendingFrame.{PendingFrame}
+use Rattle.span_report.specs.declared.stacks.pending.Stretch.{Stretch}
 use Rattle.span_report.specs.Stacks.Ticks.{names_at}
-use Rattle.span_report.specs.Stacks.Parts.{IsBare, IsFirstBeyond, IsFirstPart, IsLater, NoneCovers, Rise}
+use Rattle.span_report.specs.Stacks.Pending.{IsBare, IsFirstBeyond, IsFirstPending, IsLater, NoneCovers, Rise}
 
 -- a span that doesn't cover u adds no name
 names_at-over : (x : Span Bytes) (xs : List (Span Bytes)) (u : ℤ) → covers x u ≡ false → names_at (x ∷ xs) u ≡ names_at xs u
@@ -91,9 +91,9 @@ module _ (spans : List (Span Bytes)) where
         pub IsBare-late : s.until ≤ℤ int_max x.start s.from → IsBare spans s
         IsBare-late late u since before = names_at-first u since ∙ names_at-before u (omega (arith, ints, clamps, late, since, before))
 
-        pub IsFirstPart-first : (part : Part) → part.over.from ≡ int_max x.start s.from → part.over.until ≡ int_min x.until s.until → part.over.next ≡ at + 1 → part.name.now ≡ x.name →
-            int_max x.start s.from <ℤ s.until → IsFirstPart spans s part
-        IsFirstPart-first part from until next name early =
+        pub IsFirstPending-first : (frame : PendingFrame) → frame.over.from ≡ int_max x.start s.from → frame.over.until ≡ int_min x.until s.until → frame.over.next ≡ at + 1 → frame.name.now ≡ x.name →
+            int_max x.start s.from <ℤ s.until → IsFirstPending spans s frame
+        IsFirstPending-first frame from until next name early =
             let lasts = beyond.lasts x within in
             let start = ap (λ (s : Span Bytes). s.start) (sym is) in
             let end = ap (λ (s : Span Bytes). s.until) (sym is) in

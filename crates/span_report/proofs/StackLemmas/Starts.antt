@@ -12,7 +12,7 @@ use Rattle.span_self_time.specs.Spans.{Span, earliest, latest}
 use Rattle.span_self_time.proofs.Ranks.{Decides-outranks, IsAbove}
 use Rattle.span_ledger.specs.Named.{IsTimely}
 use Rattle.span_report.specs.Stacks.Ticks.{rank_order, ranked}
-use Rattle.span_report.specs.Stacks.Parts.{Rise}
+use Rattle.span_report.specs.Stacks.Pending.{Rise}
 use Rattle.span_report.proofs.StackLemmas.RankOrder.{outranks-before, ranked-sorted}
 
 starts-rise : (a b : Span Bytes) → rank_order a b ≡ Less → a.start ≤ℤ b.start

@@ -6,9 +6,9 @@ use Rattle.span_event.specs.Text.{Bytes}
 use Rattle.span_self_time.specs.Spans.{Span}
 use Rattle.span_keyed_tracks.specs.Last.{last_of}
 use Rattle.span_report.specs.declared.stacks.descent.Descent.{Descent}
-use Rattle.span_report.specs.declared.stacks.parts.Part.{Part}
+use Rattle.span_report.specs.declared.stacks.pending.PendingFrame.{PendingFrame}
 use Rattle.span_report.specs.Stacks.Ticks.{Stack, same_stack, stack_order, stacks_of}
-use Rattle.span_report.specs.Stacks.Parts.{IsAhead, IsSound, Near, left, nearness, part_stack}
+use Rattle.span_report.specs.Stacks.Pending.{IsAhead, IsSound, Near, left, nearness, pending_stack}
 use Rattle.span_report.specs.Stacks.Framed.{Framed, stack_after}
 
 -- the stack that was visited last
@@ -17,12 +17,12 @@ last_visited descent = map (λ name. name.now) descent.stack.items
 
 -- how many ticks that are left have the stack
 abbrev pub left_of : Descent → Stack → ℕ
-left_of descent stack = left descent.spans (last_visited descent) descent.parts.items stack
+left_of descent stack = left descent.spans (last_visited descent) descent.pending.items stack
 
 pub record IsReady (descent : Descent) : Type 0 where
-  pub near : Near descent.parts.items
-  pub ahead : AllByRecursion (IsAhead (last_visited descent)) descent.parts.items
-  pub sound : AllByRecursion (λ p. IsSound descent.spans p.over) descent.parts.items
+  pub near : Near descent.pending.items
+  pub ahead : AllByRecursion (IsAhead (last_visited descent)) descent.pending.items
+  pub sound : AllByRecursion (λ p. IsSound descent.spans p.over) descent.pending.items
   pub small : (stack : Stack) → left_of descent stack < 2 ^ 64
   pub none : descent.found.items ≡ []
 
@@ -44,26 +44,26 @@ abbrev pub Visits : Descent → Descent → Option Framed → Type 0
 Visits old new None = (stack : Stack) → left_of old stack ≡ 0
 Visits old new (Some frame) = VisitsFrame old new frame
 
--- the nearest part is taken off, if it has the stack of the first
-pub record IsPoppedPart (first : Part) (old : Descent) (part : Part) (new : Descent) : Type 0 where
-  pub parts : old.parts.items ≡ new.parts.items ++ part ∷ []
-  pub below : part.below ≡ first.below
-  pub name : part.name.now ≡ first.name.now
+-- the nearest frame is taken off, if it has the stack of the first
+pub record IsPoppedFrame (first : PendingFrame) (old : Descent) (frame : PendingFrame) (new : Descent) : Type 0 where
+  pub pending : old.pending.items ≡ new.pending.items ++ frame ∷ []
+  pub below : frame.below ≡ first.below
+  pub name : frame.name.now ≡ first.name.now
   pub spans : new.spans ≡ old.spans
   pub found : new.found.items ≡ old.found.items
   pub stack : new.stack.items ≡ old.stack.items
 
-abbrev pub IsPopped : Part → Descent → Option Part → Descent → Type 0
-IsPopped first old None new = (new ≡ old) × ((p : Part) → last_of old.parts.items ≡ Some p → nearness p first ≡ Equal → ⊥)
-IsPopped first old (Some part) new = IsPoppedPart first old part new
+abbrev pub IsPopped : PendingFrame → Descent → Option PendingFrame → Descent → Type 0
+IsPopped first old None new = (new ≡ old) × ((p : PendingFrame) → last_of old.pending.items ≡ Some p → nearness p first ≡ Equal → ⊥)
+IsPopped first old (Some frame) new = IsPoppedFrame first old frame new
 
--- the parts of the stack that comes next are taken off, and those that stand on it are found
-pub record IsNextSplit (first : Part) (time : ℕ) (old new : Descent) : Type 0 where
+-- the pending frames of the stack that comes next are taken off, and those that stand on it are found
+pub record IsNextSplit (first : PendingFrame) (time : ℕ) (old new : Descent) : Type 0 where
   pub spans : new.spans ≡ old.spans
   pub stack : new.stack.items ≡ old.stack.items
-  pub popped : (parts : List Part) × (old.parts.items ≡ new.parts.items ++ parts)
-  pub done : (p : Part) → last_of new.parts.items ≡ Some p → nearness p first ≡ Equal → ⊥
+  pub popped : (frames : List PendingFrame) × (old.pending.items ≡ new.pending.items ++ frames)
+  pub done : (p : PendingFrame) → last_of new.pending.items ≡ Some p → nearness p first ≡ Equal → ⊥
   pub counts : (stack : Stack) →
-      left old.spans (last_visited old) new.parts.items stack + (left old.spans (part_stack (last_visited old) first) new.found.items stack + (if same_stack stack (part_stack (last_visited old) first) then time else 0))
+      left old.spans (last_visited old) new.pending.items stack + (left old.spans (pending_stack (last_visited old) first) new.found.items stack + (if same_stack stack (pending_stack (last_visited old) first) then time else 0))
       ≡ left_of old stack
   pub found : AllByRecursion (λ p. (p.below ≡ first.below + 1) × IsSound old.spans p.over) new.found.items

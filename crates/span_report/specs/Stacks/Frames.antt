@@ -3,7 +3,7 @@ use Rattle.std.specs.Prelude.{ℕ, nat_eq, nat_lt, if◌then◌else◌, ℤ, Lis
 use Rattle.std.specs.Fmt.{signed_decimal}
 use Rattle.span_event.specs.Text.{Bytes}
 
--- `:` in the place of `;`, which parts frames, and a blank in the place of each byte below 32
+-- `:` in the place of `;`, which separates frames, and a blank in the place of each byte below 32
 abbrev pub frame_byte : ℕ → ℕ
 frame_byte byte = if nat_eq byte 59 then 58 else if nat_lt byte 32 then 32 else byte
 

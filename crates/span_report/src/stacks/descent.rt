@@ -1,25 +1,25 @@
-//! The frames of a thread one after the other, each made from the parts of time that its stack and those behind it have.
+//! The frames of a thread one after another: of those that are pending the nearest is visited, and those that stand on it are next.
 ghost use Rattle.std.specs.Prelude.{◌≤◌, length, IfOk, OnOk};
 ghost use Rattle.span_ledger.specs.Named.{AreThreadSpans};
 ghost use Rattle.span_report.specs.Stacks.Descent.{IsNextSplit, IsPopped, IsReady, StartsWith, Visits};
 
 use super::ends::{RankedSpans, bounds};
 use super::framed::StackFrame;
-use super::parts::{Part, Stretch, compare_nearness, split};
+use super::pending::{PendingFrame, Stretch, compare_nearness, split};
 use span_event::Text;
 use span_ledger::NamedSpan;
 use std::alloc::{AllocError, Global};
 
-// A frame at a time, the least stack first. The parts of a stack are only made when it is visited, so there are no more of them
+// A frame at a time, the least stack first. Frames become pending when the one that they stand on is visited, so they are no more
 // than the spans have stretches.
 #[derive(Drop)]
 pub(crate) struct Descent<'a> {
     spans: RankedSpans<'a>,
-    // Those whose stacks are still to be visited, the nearest last.
-    parts: Vec<Part<'a>>,
-    // Those that stand on the stack that is being visited.
-    found: Vec<Part<'a>>,
-    // The one that was visited last.
+    // The nearest last.
+    pending: Vec<PendingFrame<'a>>,
+    // Those that stand on the frame that is being visited.
+    found: Vec<PendingFrame<'a>>,
+    // The stack that was visited last.
     pub stack: Vec<&'a Text>,
 }
 
@@ -31,13 +31,13 @@ impl<'a> Descent<'a> {
     {
         let (from, until) = bounds(&spans);
         let spans = RankedSpans::new(alloc, spans)?;
-        let mut parts = Vec::new(alloc);
+        let mut pending = Vec::new(alloc);
         let next = 0;
-        split(&spans, 0, &Stretch { from, until, next }, &mut parts)?;
-        parts.sort_unstable_by(compare_nearness);
+        split(&spans, 0, &Stretch { from, until, next }, &mut pending)?;
+        pending.sort_unstable_by(compare_nearness);
         Ok(Descent {
             spans,
-            parts,
+            pending,
             found: Vec::new(alloc),
             stack: Vec::new(alloc),
         })
@@ -49,13 +49,13 @@ impl<'a> Descent<'a> {
         ensures ready { OnOk result (IsReady self.new) }
         ensures visits { IfOk result (λ frame. Visits self.old self.new frame) }
     {
-        let Some(first) = self.parts.last() else {
+        let Some(first) = self.pending.last() else {
             return Ok(None);
         };
         let first = *first;
         let time = self.split_next(&first)?;
         self.found.sort_unstable_by(compare_nearness);
-        self.parts.append(&mut self.found)?;
+        self.pending.append(&mut self.found)?;
         self.stack.truncate(first.below);
         self.stack.push(first.name)?;
         Ok(Some(StackFrame {
@@ -65,26 +65,26 @@ impl<'a> Descent<'a> {
         }))
     }
 
-    // Splits the parts of the stack that comes next, and answers how many ticks have just this stack.
-    fn split_next(&mut self, first: &Part<'a>) -> Result<u64, AllocError>
+    // Splits the pending frames of the stack that comes next, and answers how many ticks have just this stack.
+    fn split_next(&mut self, first: &PendingFrame<'a>) -> Result<u64, AllocError>
         requires ready { IsReady self.old }
         requires below { first.now.below ≤ length self.old.stack.items }
         ensures { IfOk result (λ time. IsNextSplit first.now time self.old self.new) }
     {
         let mut time = 0u64;
-        while let Some(part) = self.pop_like(first) {
-            time += split(&self.spans, first.below + 1, &part.over, &mut self.found)?;
+        while let Some(frame) = self.pop_like(first) {
+            time += split(&self.spans, first.below + 1, &frame.over, &mut self.found)?;
         }
         Ok(time)
     }
 
-    // The nearest part, which is taken off, if it has the stack of this one.
-    fn pop_like(&mut self, first: &Part) -> Option<Part<'a>>
+    // The nearest pending frame, which is taken off, if it has the stack of this one.
+    fn pop_like(&mut self, first: &PendingFrame) -> Option<PendingFrame<'a>>
         ensures { IsPopped first.now self.old result self.new }
     {
-        let part = self.parts.last()?;
-        if part.below == first.below && part.name == first.name {
-            self.parts.pop()
+        let frame = self.pending.last()?;
+        if frame.below == first.below && frame.name == first.name {
+            self.pending.pop()
         } else {
             None
         }

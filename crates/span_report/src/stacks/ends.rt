@@ -4,9 +4,9 @@ ghost use Rattle.std.specs.Int.{int_max};
 ghost use Rattle.span_self_time.specs.Laws.{AreSpans};
 ghost use Rattle.span_self_time.specs.Spans.{earliest, latest};
 ghost use Rattle.span_report.specs.Stacks.Ticks.{ranked};
-ghost use Rattle.span_report.specs.Stacks.Parts.{AreLinks, IsBare, IsFirstBeyond, IsFirstPart, IsLinkTo, IsOnward, Rise};
+ghost use Rattle.span_report.specs.Stacks.Pending.{AreLinks, IsBare, IsFirstBeyond, IsFirstPending, IsLinkTo, IsOnward, Rise};
 
-use super::parts::{Part, Stretch};
+use super::pending::{PendingFrame, Stretch};
 use super::ranks::sort_by_rank;
 use span_ledger::NamedSpan;
 use std::alloc::{AllocError, Global};
@@ -32,7 +32,7 @@ impl<'a> Model for RankedSpans<'a> {
     ghost use Rattle.std.specs.Prelude.{List};
     ghost use Rattle.span_event.specs.Text.{Bytes};
     ghost use Rattle.span_self_time.specs.Spans.{Span};
-    ghost use Rattle.span_report.specs.Stacks.Parts.{AreLinks, Rise};
+    ghost use Rattle.span_report.specs.Stacks.Pending.{AreLinks, Rise};
 
     ghost Value = { List (Span Bytes) };
 
@@ -54,12 +54,12 @@ impl<'a> RankedSpans<'a> {
         Ok(RankedSpans { spans, links })
     }
 
-    // The first part of the stretch in which a span stands, on so many frames.
-    pub(crate) fn first_part(&self, below: usize, stretch: &Stretch) -> Option<Part<'a>>
+    // The first frame in the stretch, which stands on so many others.
+    pub(crate) fn first_pending(&self, below: usize, stretch: &Stretch) -> Option<PendingFrame<'a>>
         requires { stretch.now.next ≤ length self.now }
         ensures bare { result ≡ None → IsBare self.now stretch.now }
-        ensures first { IfSome result (λ part. IsFirstPart self.now stretch.now part) }
-        ensures below { IfSome result (λ part. part.below ≡ below) }
+        ensures first { IfSome result (λ frame. IsFirstPending self.now stretch.now frame) }
+        ensures below { IfSome result (λ frame. frame.below ≡ below) }
     {
         let at = first_beyond(&self.spans, &self.links, stretch.next, stretch.from);
         if at >= self.spans.len() {
@@ -73,7 +73,7 @@ impl<'a> RankedSpans<'a> {
         let until = named.span.until.min(stretch.until);
         let next = at + 1;
         let over = Stretch { from, until, next };
-        Some(Part {
+        Some(PendingFrame {
             below,
             name: named.name,
             over,

@@ -2,7 +2,7 @@ use Rattle.std.proofs.Common.{◌≡◌, ◌<◌, ◌≤ℤ◌, int_le, true, ge
 use Rattle.std.specs.Int.{int_max}
 use Rattle.std.proofs.lemmas.Int.{ints}
 use Rattle.span_report.specs.declared.stacks.ends.Link.{Link}
-use Rattle.span_report.specs.Stacks.Parts.{IsOnward, NoneCovers}
+use Rattle.span_report.specs.Stacks.Pending.{IsOnward, NoneCovers}
 use Rattle.span_report.proofs.StackLemmas.Links.{NoneCovers-jump}
 use Rattle.span_report.proofs.StackLemmas.Standing.{NoneCovers-later}
 use Rattle.span_report.proofs.stacks.ends.first_beyond.Goals as goal

@@ -1,5 +1,5 @@
 use Rattle.std.proofs.Common.{◌-◌, ◌≤◌, length}
-use Rattle.span_report.specs.Stacks.Parts.{NoneCovers}
+use Rattle.span_report.specs.Stacks.Pending.{NoneCovers}
 use Rattle.span_report.proofs.stacks.ends.first_beyond.Given as goal
 
 -- none of the spans so far covers any of the time

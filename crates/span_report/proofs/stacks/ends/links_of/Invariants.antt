@@ -1,5 +1,5 @@
 use Rattle.std.proofs.Common.{◌≤◌, length}
-use Rattle.span_report.specs.Stacks.Parts.{AreLinks}
+use Rattle.span_report.specs.Stacks.Pending.{AreLinks}
 use Rattle.span_report.proofs.stacks.ends.links_of.Given as goal
 
 -- the links from the place on are known

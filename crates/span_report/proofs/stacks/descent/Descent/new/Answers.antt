@@ -5,9 +5,9 @@ use Rattle.span_self_time.specs.Spans.{earliest, latest}
 use Rattle.span_self_time.proofs.Counts.{add-distance}
 use Rattle.span_ledger.proofs.Sorting.{IsSorted-from_sort_by}
 use Rattle.span_report.specs.declared.stacks.descent.Descent.{Descent}
-use Rattle.span_report.specs.declared.stacks.parts.Part.{Part}
-use Rattle.span_report.specs.declared.stacks.parts.Stretch.{Stretch}
-use Rattle.span_report.specs.Stacks.Parts.{IsSplit}
+use Rattle.span_report.specs.declared.stacks.pending.PendingFrame.{PendingFrame}
+use Rattle.span_report.specs.declared.stacks.pending.Stretch.{Stretch}
+use Rattle.span_report.specs.Stacks.Pending.{IsSplit}
 use Rattle.span_report.proofs.StackLemmas.Descending.{IsReady-new, StartsWith-new}
 use Rattle.span_report.proofs.StackLemmas.Nearing.{nearness-total}
 use Rattle.span_report.proofs.StackLemmas.Starts.{latest-le-greatest, least-le-earliest}
@@ -38,8 +38,8 @@ returns-clause-ready c =
     let first = c.bounds-from.ensures.from ∙ ap earliest c.deref.ensures.value in
     let last = c.bounds-from.ensures.until ∙ ap latest c.deref.ensures.value in
     let whole : Stretch = record { from = c.bounds-from.result.0; until = c.bounds-from.result.1; next = 0 } in
-    let split = subst (λ (l : List Part). IsSplit c.in_ok-spans.spans 0 whole c.in_ok-split.field-0 l c.split.new.found.items) c.new-parts.ensures.items (rw (from, until) at c.in_ok-split.ensures) in
-    let d : Descent = record { spans = c.in_ok-spans.spans; parts = c.sort_unstable_by.new.self; found = c.new-2.result; stack = c.new-3.result } in
+    let split = subst (λ (l : List PendingFrame). IsSplit c.in_ok-spans.spans 0 whole c.in_ok-split.field-0 l c.split.new.found.items) c.new-pending.ensures.items (rw (from, until) at c.in_ok-split.ensures) in
+    let d : Descent = record { spans = c.in_ok-spans.spans; pending = c.sort_unstable_by.new.self; found = c.new-2.result; stack = c.new-3.result } in
     let end = add-distance (earliest spans) (latest spans) (omega (arith, ints, earliest-le spans, le-latest spans)) in
     let short : distance (earliest spans) (latest spans) < 2 ^ 64 = omega (arith, ints, end, least-le-earliest spans c.requires.in_time, latest-le-greatest spans c.requires.in_time) in
     let small : distance whole.from whole.until < 2 ^ 64 = rw (first, last) short in
@@ -54,6 +54,6 @@ returns-clause-starts c =
     let first = c.bounds-from.ensures.from ∙ ap earliest c.deref.ensures.value in
     let last = c.bounds-from.ensures.until ∙ ap latest c.deref.ensures.value in
     let whole : Stretch = record { from = c.bounds-from.result.0; until = c.bounds-from.result.1; next = 0 } in
-    let split = subst (λ (l : List Part). IsSplit c.in_ok-spans.spans 0 whole c.in_ok-split.field-0 l c.split.new.found.items) c.new-parts.ensures.items (rw (from, until) at c.in_ok-split.ensures) in
-    let d : Descent = record { spans = c.in_ok-spans.spans; parts = c.sort_unstable_by.new.self; found = c.new-2.result; stack = c.new-3.result } in
+    let split = subst (λ (l : List PendingFrame). IsSplit c.in_ok-spans.spans 0 whole c.in_ok-split.field-0 l c.split.new.found.items) c.new-pending.ensures.items (rw (from, until) at c.in_ok-split.ensures) in
+    let d : Descent = record { spans = c.in_ok-spans.spans; pending = c.sort_unstable_by.new.self; found = c.new-2.result; stack = c.new-3.result } in
     StartsWith-new d whole c.in_ok-split.field-0 c.split.new.found.items split c.sort_unstable_by.ensures.permutation c.new-3.ensures.items spans c.in_ok-spans.ensures first last refl

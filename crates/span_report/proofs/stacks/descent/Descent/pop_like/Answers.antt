@@ -4,24 +4,24 @@ use Rattle.std.specs.Cmp.Lexicographic.{nat_list_eq_equiv}
 use Rattle.span_event.specs.Text.{same_text}
 use Rattle.span_keyed_tracks.specs.Last.{last_of}
 use Rattle.span_keyed_tracks.proofs.Lists.Last.{last_of-append, take-last}
-use Rattle.span_report.specs.declared.stacks.parts.Part.{Part}
-use Rattle.span_report.proofs.StackLemmas.Nearing.{tied-parts}
+use Rattle.span_report.specs.declared.stacks.pending.PendingFrame.{PendingFrame}
+use Rattle.span_report.proofs.StackLemmas.Nearing.{tied-pending}
 use Rattle.span_report.proofs.stacks.descent.Descent.pop_like.Goals as goal
-use Rattle.span_report.proofs.stacks.descent.Descent.pop_like.Goals.{else-part-first-via-then-part-first+else-eq, else-part-first-via-else-part-first}
+use Rattle.span_report.proofs.stacks.descent.Descent.pop_like.Goals.{else-frame-first-via-then-frame-first+else-eq, else-frame-first-via-else-frame-first}
 
-pub returns-else-part-first : goal.returns-else-part-first
-returns-else-part-first c =
-    let parts = c.args.self.now.parts.items in
-    let part = c.in_ok-part.part.now in
-    let read = subst (λ (xs : List Part). Some part ≡ slice_get xs (length xs - 1)) c.deref.ensures.value c.in_ok-part.ensures.value in
-    let last : last_of parts ≡ Some part = ap last_of (take-last parts part read) ∙ last_of-append (take (length parts - 1) parts) part in
-    (refl, λ p is tie. differ p (sym is ∙ last) (tied-parts p c.args.first.now tie))
+pub returns-else-frame-first : goal.returns-else-frame-first
+returns-else-frame-first c =
+    let pending = c.args.self.now.pending.items in
+    let frame = c.in_ok-frame.frame.now in
+    let read = subst (λ (xs : List PendingFrame). Some frame ≡ slice_get xs (length xs - 1)) c.deref.ensures.value c.in_ok-frame.ensures.value in
+    let last : last_of pending ≡ Some frame = ap last_of (take-last pending frame read) ∙ last_of-append (take (length pending - 1) pending) frame in
+    (refl, λ p is tie. differ p (sym is ∙ last) (tied-pending p c.args.first.now tie))
   where
-    differ : (p : Part) → Some p ≡ Some c.in_ok-part.part.now → (p.below ≡ c.args.first.now.below) × (p.name.now ≡ c.args.first.now.name.now) → ⊥
+    differ : (p : PendingFrame) → Some p ≡ Some c.in_ok-frame.frame.now → (p.below ≡ c.args.first.now.below) × (p.name.now ≡ c.args.first.now.name.now) → ⊥
     differ p found same =
-        let own : p ≡ c.in_ok-part.part.now = cc in
-        let name = ap (λ (q : Part). q.name.now) (sym own) ∙ same.1 in
-        elim c.else-part-first.branch [
-          | else-part-first-via-then-part-first+else-eq w ↦ true≢false (sym (ap (λ text. same_text text c.args.first.now.name.now) name ∙ nat_list_eq_equiv.refl c.args.first.now.name.now) ∙ sym w.eq.ensures ∙ w.if-eq.false)
-          | else-part-first-via-else-part-first w ↦ w.if-part-first.false (ap (λ (q : Part). q.below) (sym own) ∙ same.0)
+        let own : p ≡ c.in_ok-frame.frame.now = cc in
+        let name = ap (λ (q : PendingFrame). q.name.now) (sym own) ∙ same.1 in
+        elim c.else-frame-first.branch [
+          | else-frame-first-via-then-frame-first+else-eq w ↦ true≢false (sym (ap (λ text. same_text text c.args.first.now.name.now) name ∙ nat_list_eq_equiv.refl c.args.first.now.name.now) ∙ sym w.eq.ensures ∙ w.if-eq.false)
+          | else-frame-first-via-else-frame-first w ↦ w.if-frame-first.false (ap (λ (q : PendingFrame). q.below) (sym own) ∙ same.0)
         ]

@@ -2,12 +2,12 @@ use Rattle.std.proofs.Common.{◌≡◌, ◌+◌, ◌-◌, ◌≤◌, ◌≤ℤ�
 use Rattle.std.specs.List.{AllByRecursion}
 use Rattle.span_event.specs.Time.{distance}
 use Rattle.span_report.specs.Stacks.Ticks.{Stack, same_stack}
-use Rattle.span_report.specs.Stacks.Parts.{IsSound, left, times_on}
-use Rattle.span_report.proofs.stacks.parts.split.Given as goal
+use Rattle.span_report.specs.Stacks.Pending.{IsSound, left, times_on}
+use Rattle.span_report.proofs.stacks.pending.split.Given as goal
 
 -- what was found, the time without a span, and the rest have together what the stretch has
-abbrev pub invariant-loop-part : goal.invariant-loop-part
-invariant-loop-part l = record {
+abbrev pub invariant-loop-frame : goal.invariant-loop-frame
+invariant-loop-frame l = record {
   from : l.whole.from ≤ℤ l.rest.from;
   forward : l.rest.from ≤ℤ l.rest.until;
   until : l.rest.until ≡ l.whole.until;
@@ -18,5 +18,5 @@ invariant-loop-part l = record {
   sound : AllByRecursion (λ p. (p.below ≡ l.below) × IsSound l.spans p.over) l.fn.found.items → AllByRecursion (λ p. (p.below ≡ l.below) × IsSound l.spans p.over) l.found.items;
 }
 
-abbrev pub decreases-loop-part : goal.decreases-loop-part
-decreases-loop-part l = length l.spans - l.rest.next
+abbrev pub decreases-loop-frame : goal.decreases-loop-frame
+decreases-loop-frame l = length l.spans - l.rest.next

@@ -1,8 +1,8 @@
-//! Parts of a thread's time, with the stack that stands through each.
+//! Frames that are still to be visited, each with the time through which its stack stands.
 ghost use Rattle.std.specs.Prelude.{◌≡◌, ◌^◌, ◌≤◌, ◌≤ℤ◌, length, IfOk};
 ghost use Rattle.span_event.specs.Event.{least_time};
 ghost use Rattle.span_self_time.specs.Closed.{greatest_until};
-ghost use Rattle.span_report.specs.Stacks.Parts.{IsSplit, nearness};
+ghost use Rattle.span_report.specs.Stacks.Pending.{IsSplit, nearness};
 
 use super::ends::RankedSpans;
 use span_event::{Text, distance};
@@ -17,20 +17,20 @@ pub(crate) struct Stretch {
     pub next: usize,
 }
 
-// A stretch through which a stack stands: so many frames, which another stack has too, and on them this name.
+// A frame that is still to be visited. Through this stretch it stands on so many frames of the stack that was visited last.
 #[derive(Clone, Copy)]
-pub(crate) struct Part<'a> {
+pub(crate) struct PendingFrame<'a> {
     pub below: usize,
     pub name: &'a Text,
     pub over: Stretch,
 }
 
-// Puts the parts in which spans stand on the stretch to those that were found, and answers how much of it is bare.
+// Puts the frames that stand in the stretch, on so many others, to those that were found, and answers how much of it is bare.
 pub(crate) fn split<'a>(
     spans: &RankedSpans<'a>,
     below: usize,
     whole: &Stretch,
-    found: &mut Vec<Part<'a>>,
+    found: &mut Vec<PendingFrame<'a>>,
 ) -> Result<u64, AllocError>
     requires from { least_time ≤ℤ whole.now.from }
     requires forward { whole.now.from ≤ℤ whole.now.until }
@@ -41,17 +41,17 @@ pub(crate) fn split<'a>(
 {
     let mut rest = *whole;
     let mut time = 0u64;
-    while let Some(part) = spans.first_part(below, &rest) {
-        time += distance(rest.from, part.over.from);
-        rest.from = part.over.until;
-        rest.next = part.over.next;
-        found.push(part)?;
+    while let Some(frame) = spans.first_pending(below, &rest) {
+        time += distance(rest.from, frame.over.from);
+        rest.from = frame.over.until;
+        rest.next = frame.over.next;
+        found.push(frame)?;
     }
     Ok(time + distance(rest.from, rest.until))
 }
 
-// Which of two parts comes nearer: that with more frames, and of as many that with the lesser name.
-pub(crate) fn compare_nearness(a: &Part, b: &Part) -> Ordering
+// Which of two frames is nearer: that on more frames, and of as many that with the lesser name.
+pub(crate) fn compare_nearness(a: &PendingFrame, b: &PendingFrame) -> Ordering
     ensures { result ≡ nearness a.now b.now }
 {
     a.below.cmp(&b.below).then_with(|| b.name.cmp(a.name))

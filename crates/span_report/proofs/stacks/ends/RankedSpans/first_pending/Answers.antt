@@ -3,10 +3,10 @@ use Rattle.std.specs.Int.{int_max, int_min}
 use Rattle.std.proofs.lemmas.Int.{clamps, ints}
 use Rattle.span_event.specs.Text.{Bytes}
 use Rattle.span_self_time.specs.Spans.{Span}
-use Rattle.span_report.specs.declared.stacks.parts.Part.{Part}
-use Rattle.span_report.specs.Stacks.Parts.{IsBare, IsFirstBeyond, IsFirstPart}
-use Rattle.span_report.proofs.StackLemmas.Standing.{IsBare-end, IsBare-late, IsFirstPart-first}
-use Rattle.span_report.proofs.stacks.ends.RankedSpans.first_part.Goals as goal
+use Rattle.span_report.specs.declared.stacks.pending.PendingFrame.{PendingFrame}
+use Rattle.span_report.specs.Stacks.Pending.{IsBare, IsFirstBeyond, IsFirstPending}
+use Rattle.span_report.proofs.StackLemmas.Standing.{IsBare-end, IsBare-late, IsFirstPending-first}
+use Rattle.span_report.proofs.stacks.ends.RankedSpans.first_pending.Goals as goal
 
 pub returns-then-at-len-clause-bare : goal.returns-then-at-len-clause-bare
 returns-then-at-len-clause-bare c = λ none.
@@ -55,6 +55,6 @@ returns-clause-first c =
     let last : c.min-until.result ≡ int_min x.until s.until = (rw (end, until) at c.min-until.ensures.value) ∙ ap (λ (n : Span Bytes). int_min n.until s.until) c.named.view_is in
     let test = rw (until, most) at c.if-from-stretch.false in
     let early : c.max-from.result <ℤ s.until = grind (arith, ints) in
-    let part : Part = record { below = c.args.below; name = c.named.inside.name; over = record { from = c.max-from.result; until = c.min-until.result; next = at + 1 } } in
-    rw (most, least) (subst (λ (l : List (Span Bytes)). IsFirstPart l s part) c.self.view_is
-    (IsFirstPart-first spans c.self.invariant.1 s at beyond x within c.index-named.ensures part first last refl (ap (λ (n : Span Bytes). n.name) c.named.view_is) (omega (arith, ints, first, early))))
+    let frame : PendingFrame = record { below = c.args.below; name = c.named.inside.name; over = record { from = c.max-from.result; until = c.min-until.result; next = at + 1 } } in
+    rw (most, least) (subst (λ (l : List (Span Bytes)). IsFirstPending l s frame) c.self.view_is
+    (IsFirstPending-first spans c.self.invariant.1 s at beyond x within c.index-named.ensures frame first last refl (ap (λ (n : Span Bytes). n.name) c.named.view_is) (omega (arith, ints, first, early))))

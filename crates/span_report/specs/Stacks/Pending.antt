@@ -1,4 +1,4 @@
--- The time of a thread in parts: a stack stands through each, and on it may stand some of the spans in ascending rank.
+-- Pending frames: the stack of each stands through a stretch of time, and on it may stand some of the spans in ascending rank.
 use Rattle.std.specs.Prelude.{◌≡◌, ◌⊎◌, ℕ, ◌+◌, ◌<◌, ◌≤◌, ℤ, ◌≤ℤ◌, ◌<ℤ◌, All, false, if◌then◌else◌, List, [], ◌∷◌, ◌++◌, length, drop, take, sum_by, slice_index_or}
 use Rattle.std.specs.Int.{int_max}
 use Rattle.std.specs.List.{AllByRecursion}
@@ -11,8 +11,8 @@ use Rattle.span_event.specs.Time.{distance}
 use Rattle.span_self_time.specs.Closed.{greatest_until}
 use Rattle.span_self_time.specs.Spans.{Span, count_from, covers}
 use Rattle.span_report.specs.declared.stacks.ends.Link.{Link}
-use Rattle.span_report.specs.declared.stacks.parts.Part.{Part}
-use Rattle.span_report.specs.declared.stacks.parts.Stretch.{Stretch}
+use Rattle.span_report.specs.declared.stacks.pending.PendingFrame.{PendingFrame}
+use Rattle.span_report.specs.declared.stacks.pending.Stretch.{Stretch}
 use Rattle.span_report.specs.Stacks.Ticks.{Stack, names_at, same_stack, stack_order}
 
 -- from this time on none of the spans from the j-th to before the k-th covers a tick
@@ -63,22 +63,22 @@ pub record IsFirstBeyond (spans : List (Span Bytes)) (n : ℕ) (time : ℤ) (fir
   pub over : NoneCovers spans n first time
   pub lasts : (d : Span Bytes) → first < length spans → int_max time (slice_index_or spans first d).start <ℤ (slice_index_or spans first d).until
 
--- the stack of a part, where another one was visited before
-abbrev pub part_stack : Stack → Part → Stack
-part_stack last part = take part.below last ++ part.name.now ∷ []
+-- the stack of a pending frame, where another one was visited before
+abbrev pub pending_stack : Stack → PendingFrame → Stack
+pending_stack last frame = take frame.below last ++ frame.name.now ∷ []
 
--- nearer are parts of more frames, and of as many those of lesser names
-abbrev pub nearness : Part → Part → Ordering
+-- nearer are those on more frames, and of as many those of lesser names
+abbrev pub nearness : PendingFrame → PendingFrame → Ordering
 nearness a b = ordering_then (nat_cmp a.below b.below) (text_cmp b.name.now a.name.now)
 
--- none of the parts is nearer than one behind it
-abbrev pub Near : List Part → Type 0
+-- none of the frames is nearer than one behind it
+abbrev pub Near : List PendingFrame → Type 0
 Near [] = Unit {0}
-Near (p ∷ parts) = AllByRecursion (λ q. nearness p q ≡ Greater → ⊥) parts × Near parts
+Near (p ∷ pending) = AllByRecursion (λ q. nearness p q ≡ Greater → ⊥) pending × Near pending
 
--- the part's stack comes after another one, with which it begins but for its own frame
-abbrev pub IsAhead : Stack → Part → Type 0
-IsAhead last part = (part.below ≤ length last) × (stack_order last (part_stack last part) ≡ Less)
+-- the frame's stack comes after another one, with which it begins but for the frame itself
+abbrev pub IsAhead : Stack → PendingFrame → Type 0
+IsAhead last frame = (frame.below ≤ length last) × (stack_order last (pending_stack last frame) ≡ Less)
 
 module _ (spans : List (Span Bytes)) where
   -- the stretch has a tick, and lies within the times that spans can have
@@ -92,27 +92,27 @@ module _ (spans : List (Span Bytes)) where
   abbrev pub times_on : Stack → Stretch → Stack → ℕ
   times_on base s stack = count_from s.from (distance s.from s.until) (λ u. same_stack stack (base ++ names_at (drop s.next spans) u))
 
-  -- how many ticks of the parts have this stack
-  abbrev pub left : Stack → List Part → Stack → ℕ
-  left last parts stack = sum_by (λ p. times_on (part_stack last p) p.over stack) parts
+  -- how many ticks of the pending frames have this stack
+  abbrev pub left : Stack → List PendingFrame → Stack → ℕ
+  left last pending stack = sum_by (λ p. times_on (pending_stack last p) p.over stack) pending
 
-  -- the part is the first of a stretch in which a span stands; behind its own spans go on those of the rest
-  pub record IsFirstPart (s : Stretch) (part : Part) : Type 0 where
-    pub from : s.from ≤ℤ part.over.from
-    pub lasts : part.over.from <ℤ part.over.until
-    pub until : part.over.until ≤ℤ s.until
-    pub behind : s.next < part.over.next
-    pub within : part.over.next ≤ length spans
-    pub before : (u : ℤ) → s.from ≤ℤ u → u <ℤ part.over.from → names_at (drop s.next spans) u ≡ []
-    pub through : (u : ℤ) → part.over.from ≤ℤ u → u <ℤ part.over.until → names_at (drop s.next spans) u ≡ part.name.now ∷ names_at (drop part.over.next spans) u
-    pub rest : (u : ℤ) → part.over.until ≤ℤ u → u <ℤ s.until → names_at (drop s.next spans) u ≡ names_at (drop part.over.next spans) u
+  -- the frame is the first that stands in a stretch; behind its own spans go on those of the rest
+  pub record IsFirstPending (s : Stretch) (frame : PendingFrame) : Type 0 where
+    pub from : s.from ≤ℤ frame.over.from
+    pub lasts : frame.over.from <ℤ frame.over.until
+    pub until : frame.over.until ≤ℤ s.until
+    pub behind : s.next < frame.over.next
+    pub within : frame.over.next ≤ length spans
+    pub before : (u : ℤ) → s.from ≤ℤ u → u <ℤ frame.over.from → names_at (drop s.next spans) u ≡ []
+    pub through : (u : ℤ) → frame.over.from ≤ℤ u → u <ℤ frame.over.until → names_at (drop s.next spans) u ≡ frame.name.now ∷ names_at (drop frame.over.next spans) u
+    pub rest : (u : ℤ) → frame.over.until ≤ℤ u → u <ℤ s.until → names_at (drop s.next spans) u ≡ names_at (drop frame.over.next spans) u
 
   -- no span stands in the stretch
   abbrev pub IsBare : Stretch → Type 0
   IsBare s = (u : ℤ) → s.from ≤ℤ u → u <ℤ s.until → names_at (drop s.next spans) u ≡ []
 
-  -- the parts of a stretch in which spans stand on so many frames are put to the others, and the rest is its own time
-  pub record IsSplit (below : ℕ) (s : Stretch) (time : ℕ) (old new : List Part) : Type 0 where
+  -- the frames that stand in a stretch, on so many others, are put to those found, and the rest is its own time
+  pub record IsSplit (below : ℕ) (s : Stretch) (time : ℕ) (old new : List PendingFrame) : Type 0 where
     pub counts : (base : Stack) → length base ≡ below → (stack : Stack)
         → left base new stack + (if same_stack stack base then time else 0) ≡ left base old stack + times_on base s stack
     pub sound : AllByRecursion (λ p. (p.below ≡ below) × IsSound p.over) old → AllByRecursion (λ p. (p.below ≡ below) × IsSound p.over) new
