@@ -1,38 +1,38 @@
--- That the parts of one span are together as long as its self time.
+-- That the segments of one span are together as long as its self time.
 use Rattle.std.proofs.Common.{◌≡◌, ◌≢◌, ◌≤◌, ℕ, ◌+◌, cond, nat_eq, List, [], ◌∷◌, get_or, refl, sym, ap, ◌∙◌, arith, All, eq-eqb, ne_eqb}
 use Rattle.std.specs.List.{sum_by}
 use Rattle.std.proofs.lemmas.Int.{ints}
 use Rattle.std.proofs.lemmas.List.Elements.{All-cons, All-head, All-nil, All-tail}
 use Rattle.std.proofs.lemmas.List.Sums.{sum_by-cons}
 use Rattle.span_self_time.specs.declared.division.lengths.Lengths.{Lengths}
-use Rattle.span_self_time.specs.declared.segment.Part.{Part}
+use Rattle.span_self_time.specs.declared.segment.OwnedSegment.{OwnedSegment}
 use Rattle.span_self_time.specs.Closed.{greatest_until, AreClosed}
 use Rattle.span_event.specs.Event.{least_time}
-use Rattle.span_self_time.specs.Division.{Owners, owners_of, AreParts}
+use Rattle.span_self_time.specs.Division.{Owners, owners_of, AreOwnedSegments}
 use Rattle.span_self_time.specs.Division.Lengths.{time_at, length_at, CanGain}
-use Rattle.span_self_time.specs.Division.PartStacks.{part_length, whole_length}
+use Rattle.span_self_time.specs.Division.SegmentStacks.{segment_length, whole_length}
 use Rattle.span_self_time.specs.Laws.{AreSpans}
 use Rattle.span_self_time.specs.Spans.{Span, self_time}
 use Rattle.span_self_time.proofs.Apart.{All-apart}
 use Rattle.span_self_time.proofs.Counts.{add-distance}
 use Rattle.span_self_time.proofs.Owners.{is_of}
 use Rattle.span_self_time.proofs.SelfSums.{cond-le}
-use Rattle.span_self_time.proofs.PartStacks.PartLengths.{sum_by-parts, whole_length-le}
+use Rattle.span_self_time.proofs.SegmentStacks.SegmentLengths.{sum_by-segments, whole_length-le}
 
-length_at-le : (at : ℕ) (parts : List Part) → length_at at parts ≤ whole_length parts
+length_at-le : (at : ℕ) (segments : List OwnedSegment) → length_at at segments ≤ whole_length segments
 length_at-le at [] = omega arith
-length_at-le at (p ∷ parts) =
-    omega (arith, sum_by-cons (λ (x : Part). cond (nat_eq x.segment.at at) (part_length x) 0) p parts, sum_by-cons (λ (x : Part). part_length x) p parts, cond-le (nat_eq p.segment.at at) (part_length p), length_at-le at parts)
+length_at-le at (p ∷ segments) =
+    omega (arith, sum_by-cons (λ (x : OwnedSegment). cond (nat_eq x.segment.at at) (segment_length x) 0) p segments, sum_by-cons (λ (x : OwnedSegment). segment_length x) p segments, cond-le (nat_eq p.segment.at at) (segment_length p), length_at-le at segments)
 
 -- where nothing was gained, each position can gain its part of the whole time
-pub CanGain-none : (times : Lengths) (owners : Owners) (parts : List Part) → ((at : ℕ) → time_at times at ≡ 0) → AreParts owners parts → CanGain times parts
-CanGain-none times owners parts none are = λ at.
-    let all = whole_length-le owners least_time parts are.each in
+pub CanGain-none : (times : Lengths) (owners : Owners) (segments : List OwnedSegment) → ((at : ℕ) → time_at times at ≡ 0) → AreOwnedSegments owners segments → CanGain times segments
+CanGain-none times owners segments none are = λ at.
+    let all = whole_length-le owners least_time segments are.each in
     let whole = add-distance least_time greatest_until all.0 in
-    omega (arith, ints, none at, length_at-le at parts, all.1, whole)
+    omega (arith, ints, none at, length_at-le at segments, all.1, whole)
 
--- what the rest of the parts add to what was gained of them is what all of them add
-abbrev pub IsLeft : Lengths → Lengths → List Part → List Part → Type 0
+-- what the rest of the segments add to what was gained of them is what all of them add
+abbrev pub IsLeft : Lengths → Lengths → List OwnedSegment → List OwnedSegment → Type 0
 IsLeft first times all rest = (at : ℕ) → time_at times at + length_at at rest ≡ time_at first at + length_at at all
 
 -- a span counts where its position is asked for, and no other does
@@ -51,7 +51,7 @@ sum_by-at f (s ∷ spans) are =
     none at (x ∷ spans) apart =
         omega (arith, sum_by-cons (λ y. cond (nat_eq y.at at) (f y) 0) x spans, ap (λ b. cond b (f x) 0) (ne_eqb x.at at (All-head (λ (y : Span ℕ). y.at ≢ at) x spans apart)), none at spans (All-tail (λ (y : Span ℕ). y.at ≢ at) x spans apart))
 
--- the parts of a span are as long as its self time
-pub length_at-self_time : (spans : List (Span ℕ)) (parts : List Part) → AreClosed spans → AreParts (owners_of spans) parts → All (λ s. length_at s.at parts ≡ self_time spans s) spans
-length_at-self_time spans parts closed are = λ k d within.
-    sum_by-parts (is_of (get_or spans k d).at) refl spans parts closed are ∙ sum_by-at (self_time spans) spans closed.are k d within
+-- the segments of a span are as long as its self time
+pub length_at-self_time : (spans : List (Span ℕ)) (segments : List OwnedSegment) → AreClosed spans → AreOwnedSegments (owners_of spans) segments → All (λ s. length_at s.at segments ≡ self_time spans s) spans
+length_at-self_time spans segments closed are = λ k d within.
+    sum_by-segments (is_of (get_or spans k d).at) refl spans segments closed are ∙ sum_by-at (self_time spans) spans closed.are k d within

@@ -6,9 +6,9 @@ pub mod Lone
 pub mod Mapped
 pub mod OwnTimes
 pub mod Owners
-pub mod PartStacks
 pub mod Ranks
 pub mod Renumbering
+pub mod SegmentStacks
 pub mod Segments
 pub mod SelfSums
 pub mod SelfTimes

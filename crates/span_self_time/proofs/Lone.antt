@@ -1,20 +1,20 @@
--- Where at most one span has time, its part is all parts.
+-- Where at most one span has time, its segment is all segments.
 use Rattle.std.proofs.Common.{◌≡◌, ℕ, ℤ, ◌≤ℤ◌, ◌<ℤ◌, [], ◌∷◌, Option, Some, None, true, refl, sym, subst, arith}
 use Rattle.std.proofs.lemmas.Int.{ints, by_lt_z}
-use Rattle.span_self_time.specs.declared.segment.Part.{Part}
+use Rattle.span_self_time.specs.declared.segment.OwnedSegment.{OwnedSegment}
 use Rattle.span_self_time.specs.Spans.{Span}
 use Rattle.span_event.specs.Event.{least_time}
 use Rattle.span_self_time.specs.Closed.{greatest_until}
-use Rattle.span_self_time.specs.Division.{Owners, owner_of, taken, AreParts, IsNew, AreSettled}
-use Rattle.span_self_time.specs.Division.Lone.{IsLone, parts_of_lone}
+use Rattle.span_self_time.specs.Division.{Owners, owner_of, taken, AreOwnedSegments, IsNew, AreSettled}
+use Rattle.span_self_time.specs.Division.Lone.{IsLone, segments_of_lone}
 use Rattle.span_self_time.proofs.Owners.{taken-before, taken-after, taken-within}
 
 -- nobody has time
 abbrev pub nobody : Owners
 nobody u = None
 
-pub AreParts-nobody : AreParts nobody []
-AreParts-nobody = record { nothing = λ u before. refl; each = (omega (arith, ints), λ u from. refl) }
+pub AreOwnedSegments-nobody : AreOwnedSegments nobody []
+AreOwnedSegments-nobody = record { nothing = λ u before. refl; each = (omega (arith, ints), λ u from. refl) }
 
 pub AreSettled-nobody : AreSettled nobody
 AreSettled-nobody = record { own = λ u o is. absurd cc; no_claim = λ u v o is here. absurd cc }
@@ -29,7 +29,7 @@ taken-nothing s owners same = λ i u. at u i
     at : (u : ℤ) → taken s owners u ≡ owners u
     at u = by_lt_z u s.start (λ h. taken-before s owners u h) (λ h. taken-after s owners u (omega (arith, ints, same)))
 
-alone : (p : Part) → p.segment.start ≡ p.span_start → p.segment.until ≡ p.span_until → p.span_start <ℤ p.span_until → least_time ≤ℤ p.span_start → p.span_until ≤ℤ greatest_until → AreParts (taken (owner_of p) nobody) (p ∷ [])
+alone : (p : OwnedSegment) → p.segment.start ≡ p.span_start → p.segment.until ≡ p.span_until → p.span_start <ℤ p.span_until → least_time ≤ℤ p.span_start → p.span_until ≤ℤ greatest_until → AreOwnedSegments (taken (owner_of p) nobody) (p ∷ [])
 alone p start until lasts first last = record {
   nothing = λ u before. taken-before (owner_of p) nobody u (omega (arith, ints));
   each = (
@@ -42,6 +42,6 @@ alone p start until lasts first last = record {
   );
 }
 
-pub AreParts-lone : (owners : Owners) (lone : Option Part) → IsLone owners lone → AreParts owners (parts_of_lone lone)
-AreParts-lone owners None is = subst (λ o. AreParts o []) (sym is) AreParts-nobody
-AreParts-lone owners (Some p) is = subst (λ o. AreParts o (p ∷ [])) (sym is.taken_all) (alone p is.start is.until is.lasts is.in_time.0 is.in_time.1)
+pub AreOwnedSegments-lone : (owners : Owners) (lone : Option OwnedSegment) → IsLone owners lone → AreOwnedSegments owners (segments_of_lone lone)
+AreOwnedSegments-lone owners None is = subst (λ o. AreOwnedSegments o []) (sym is) AreOwnedSegments-nobody
+AreOwnedSegments-lone owners (Some p) is = subst (λ o. AreOwnedSegments o (p ∷ [])) (sym is.taken_all) (alone p is.start is.until is.lasts is.in_time.0 is.in_time.1)

@@ -1,13 +1,13 @@
--- What segments in order tell of a tick, and that the parts of the time of spans are their segments.
+-- What segments in order tell of a tick, and that the segments of the time of spans are their segments.
 use Rattle.std.proofs.Common.{◌≡◌, ◌≢◌, ℕ, nat_eq, Bool, true, false, ◌&&◌, ◌||◌, ℤ, ◌≤ℤ◌, ◌<ℤ◌, List, [], ◌∷◌, map, Some, refl, sym, ap, ap₂, ◌∙◌, arith, All, get_or}
 use Rattle.std.proofs.lemmas.Int.{ints, by_lt_z}
 use Rattle.std.proofs.lemmas.Bool.{ne_eqb, and_right, or_from}
 use Rattle.std.proofs.lemmas.List.Elements.{All-nil, All-cons}
 use Rattle.span_self_time.specs.declared.segment.Segment.{Segment}
-use Rattle.span_self_time.specs.declared.segment.Part.{Part}
+use Rattle.span_self_time.specs.declared.segment.OwnedSegment.{OwnedSegment}
 use Rattle.span_self_time.specs.Spans.{Span}
 use Rattle.span_self_time.specs.Segments.{lies_in, is_in_segment, IsRightBefore, AreInOrder, AreSegments, HasSegmentsWith}
-use Rattle.span_self_time.specs.Division.{Owners, bare, owners_of, owner_of, AreFuture, AreParts}
+use Rattle.span_self_time.specs.Division.{Owners, bare, owners_of, owner_of, AreFuture, AreOwnedSegments}
 use Rattle.span_self_time.specs.Laws.{AreSpans}
 use Rattle.span_event.specs.Event.{least_time}
 use Rattle.span_self_time.specs.Closed.{AreClosed}
@@ -72,52 +72,53 @@ is_in_segment-until g segments order =
 abbrev pub IsNamed : List (Span ℕ) → Segment → Type 0
 IsNamed spans g = All (λ s. s.at ≡ g.at → s.name ≡ g.name) spans
 
-abbrev segments_of : List Part → List Segment
-segments_of parts = map (λ p. p.segment) parts
+-- the segments without the starts and ends of their spans
+abbrev plain_segments : List OwnedSegment → List Segment
+plain_segments owned = map (λ p. p.segment) owned
 
-AreFrom-parts : (owners : Owners) (t : ℤ) (parts : List Part) → AreFuture owners t parts → AreFrom t (segments_of parts)
-AreFrom-parts owners t [] future = tt
-AreFrom-parts owners t (p ∷ parts) future = future.0
+AreFrom-owned : (owners : Owners) (t : ℤ) (owned : List OwnedSegment) → AreFuture owners t owned → AreFrom t (plain_segments owned)
+AreFrom-owned owners t [] future = tt
+AreFrom-owned owners t (p ∷ owned) future = future.0
 
 -- no two owners have the same position
 abbrev AreSingle : Owners → Type 0
 AreSingle owners = (u v : ℤ) (a b : Span ℕ) → owners u ≡ Some a → owners v ≡ Some b → a.at ≡ b.at → a ≡ b
 
 module _ (owners : Owners) (single : AreSingle owners) where
-  -- where two parts touch, their owners differ, so their positions do
-  IsRightBefore-parts : (p : Part) (parts : List Part) → owners p.segment.start ≡ Some (owner_of p) → owners p.segment.until ≢ Some (owner_of p) → AreFuture owners p.segment.until parts → IsRightBefore p.segment (segments_of parts)
-  IsRightBefore-parts p [] starts ends future = tt
-  IsRightBefore-parts p (q ∷ parts) starts ends future = (
+  -- where two segments touch, their owners differ, so their positions do
+  IsRightBefore-owned : (p : OwnedSegment) (owned : List OwnedSegment) → owners p.segment.start ≡ Some (owner_of p) → owners p.segment.until ≢ Some (owner_of p) → AreFuture owners p.segment.until owned → IsRightBefore p.segment (plain_segments owned)
+  IsRightBefore-owned p [] starts ends future = tt
+  IsRightBefore-owned p (q ∷ owned) starts ends future = (
     future.0,
     λ touch same.
         let here = future.3 q.segment.start (omega (arith, ints)) future.2 in
         ends (ap owners touch ∙ here ∙ ap Some (sym (single p.segment.start q.segment.start (owner_of p) (owner_of q) starts here same))),
   )
 
-  AreInOrder-parts : (t : ℤ) (parts : List Part) → AreFuture owners t parts → AreInOrder (segments_of parts)
-  AreInOrder-parts t [] future = tt
-  AreInOrder-parts t (p ∷ parts) future =
-      (future.2, IsRightBefore-parts p parts (future.3 p.segment.start (omega (arith, ints)) future.2) future.4 future.5, AreInOrder-parts p.segment.until parts future.5)
+  AreInOrder-owned : (t : ℤ) (owned : List OwnedSegment) → AreFuture owners t owned → AreInOrder (plain_segments owned)
+  AreInOrder-owned t [] future = tt
+  AreInOrder-owned t (p ∷ owned) future =
+      (future.2, IsRightBefore-owned p owned (future.3 p.segment.start (omega (arith, ints)) future.2) future.4 future.5, AreInOrder-owned p.segment.until owned future.5)
 
-  is_in_segment-parts : (t : ℤ) (parts : List Part) → AreFuture owners t parts → (at : ℕ) (u : ℤ) → t ≤ℤ u → is_in_segment (segments_of parts) at u ≡ is_of at (owners u)
-  is_in_segment-parts t [] future at u from = sym (ap (is_of at) (future.1 u from))
-  is_in_segment-parts t (p ∷ parts) future at u from =
-      let order = AreInOrder-parts t (p ∷ parts) future in
+  is_in_segment-owned : (t : ℤ) (owned : List OwnedSegment) → AreFuture owners t owned → (at : ℕ) (u : ℤ) → t ≤ℤ u → is_in_segment (plain_segments owned) at u ≡ is_of at (owners u)
+  is_in_segment-owned t [] future at u from = sym (ap (is_of at) (future.1 u from))
+  is_in_segment-owned t (p ∷ owned) future at u from =
+      let order = AreInOrder-owned t (p ∷ owned) future in
       by_lt_z u p.segment.start
       (λ early.
-      is_in_segment-before p.segment.start (p.segment ∷ segments_of parts) order (omega (arith, ints)) at u early ∙ sym (ap (is_of at) (future.1 u from early)))
+      is_in_segment-before p.segment.start (p.segment ∷ plain_segments owned) order (omega (arith, ints)) at u early ∙ sym (ap (is_of at) (future.1 u from early)))
       (λ begun.
       by_lt_z u p.segment.until
-      (λ early. is_in_segment-head p.segment (segments_of parts) order at u begun early ∙ sym (ap (is_of at) (future.3 u begun early)))
-      (λ late. is_in_segment-tail p.segment (segments_of parts) at u late ∙ is_in_segment-parts p.segment.until parts future.5 at u late))
+      (λ early. is_in_segment-head p.segment (plain_segments owned) order at u begun early ∙ sym (ap (is_of at) (future.3 u begun early)))
+      (λ late. is_in_segment-tail p.segment (plain_segments owned) at u late ∙ is_in_segment-owned p.segment.until owned future.5 at u late))
 
-  is_in_segment-AreParts : (parts : List Part) → AreParts owners parts → (at : ℕ) (u : ℤ) → is_in_segment (segments_of parts) at u ≡ is_of at (owners u)
-  is_in_segment-AreParts parts are at u =
+  is_in_segment-AreOwnedSegments : (owned : List OwnedSegment) → AreOwnedSegments owners owned → (at : ℕ) (u : ℤ) → is_in_segment (plain_segments owned) at u ≡ is_of at (owners u)
+  is_in_segment-AreOwnedSegments owned are at u =
       by_lt_z u least_time
       (λ early.
-      is_in_segment-before least_time (segments_of parts) (AreInOrder-parts least_time parts are.each) (AreFrom-parts owners least_time parts are.each) at u early
+      is_in_segment-before least_time (plain_segments owned) (AreInOrder-owned least_time owned are.each) (AreFrom-owned owners least_time owned are.each) at u early
       ∙ sym (ap (is_of at) (are.nothing u early)))
-      (λ from. is_in_segment-parts least_time parts are.each at u from)
+      (λ from. is_in_segment-owned least_time owned are.each at u from)
 
 -- no other of the spans has the position of this one
 abbrev IsAlone : List (Span ℕ) → Span ℕ → Type 0
@@ -144,22 +145,22 @@ module _ (spans : List (Span ℕ)) (are : AreSpans spans) where
       λ k d within same. ap (λ (s : Span ℕ). s.name) (sym (owner.holds k d within (ap (λ (s : Span ℕ). s.at) owner.is ∙ sym same)))
       ∙ ap (λ (s : Span ℕ). s.name) owner.is
 
-  names-parts : (t : ℤ) (parts : List Part) → AreFuture (owners_of spans) t parts → All (IsNamed spans) (segments_of parts)
-  names-parts t [] future = All-nil (IsNamed spans)
-  names-parts t (p ∷ parts) future =
-      All-cons (IsNamed spans) p.segment (segments_of parts)
+  names-owned : (t : ℤ) (owned : List OwnedSegment) → AreFuture (owners_of spans) t owned → All (IsNamed spans) (plain_segments owned)
+  names-owned t [] future = All-nil (IsNamed spans)
+  names-owned t (p ∷ owned) future =
+      All-cons (IsNamed spans) p.segment (plain_segments owned)
       (names-owners_of p.segment.start (owner_of p) (future.3 p.segment.start (omega (arith, ints)) future.2))
-      (names-parts p.segment.until parts future.5)
+      (names-owned p.segment.until owned future.5)
 
--- the parts of the time of closed spans are the segments that they make
-pub AreSegments-parts : (spans : List (Span ℕ)) (parts : List Part) → AreClosed spans → AreParts (owners_of spans) parts → AreSegments spans (map (λ p. p.segment) parts)
-AreSegments-parts spans parts closed are =
+-- the segments of the time of closed spans are the segments that they make
+pub AreSegments-owned : (spans : List (Span ℕ)) (owned : List OwnedSegment) → AreClosed spans → AreOwnedSegments (owners_of spans) owned → AreSegments spans (map (λ p. p.segment) owned)
+AreSegments-owned spans owned closed are =
     let single = AreSingle-owners_of spans closed.are in
     record {
-      in_order = AreInOrder-parts (owners_of spans) single least_time parts are.each;
-      exact = λ at u. is_in_segment-AreParts (owners_of spans) single parts are at u ∙ sym (is_on_top-owners_of spans at u);
-      named = names-parts spans closed.are least_time parts are.each;
+      in_order = AreInOrder-owned (owners_of spans) single least_time owned are.each;
+      exact = λ at u. is_in_segment-AreOwnedSegments (owners_of spans) single owned are at u ∙ sym (is_on_top-owners_of spans at u);
+      named = names-owned spans closed.are least_time owned are.each;
     }
 
-pub HasSegmentsWith-parts : (P : List Segment → Type 0) (spans : List (Span ℕ)) (parts : List Part) → AreClosed spans → AreParts (owners_of spans) parts → P (segments_of parts) → HasSegmentsWith spans P
-HasSegmentsWith-parts P spans parts closed are holds = record { segments = segments_of parts; are = AreSegments-parts spans parts closed are; holds = holds }
+pub HasSegmentsWith-owned : (P : List Segment → Type 0) (spans : List (Span ℕ)) (owned : List OwnedSegment) → AreClosed spans → AreOwnedSegments (owners_of spans) owned → P (plain_segments owned) → HasSegmentsWith spans P
+HasSegmentsWith-owned P spans owned closed are holds = record { segments = plain_segments owned; are = AreSegments-owned spans owned closed are; holds = holds }

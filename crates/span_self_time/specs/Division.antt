@@ -1,22 +1,22 @@
--- To which span each tick belongs, and the parts of time that are of one span, whichever way they are kept.
+-- To which span each tick belongs, and the segments of time that are of one span, whichever way they are kept.
 pub mod Lengths
 pub mod Lone
-pub mod PartStacks
+pub mod SegmentStacks
 pub mod TimeMap
 pub mod Ways
 use Rattle.std.specs.Prelude.{◌≡◌, ◌≢◌, ℕ, nat_eq, ◌&&◌, Bool, true, false, if◌then◌else◌, ℤ, pos, ◌-ℤ◌, ◌≤ℤ◌, ◌<ℤ◌, int_lt, List, [], ◌∷◌, ◌++◌, Option, Some, None, fold, sum_by, unwrap_or}
 use Rattle.indexmap.specs.IndexMap.{IndexMap, get}
 use Rattle.std.specs.declared.hash.FoldHasher.{FoldHasher}
 use Rattle.std.specs.declared.hash.BuildHasherDefault.{BuildHasherDefault}
-use Rattle.span_self_time.specs.declared.segment.Part.{Part}
+use Rattle.span_self_time.specs.declared.segment.OwnedSegment.{OwnedSegment}
 use Rattle.span_self_time.specs.declared.span.ClosedSpan.{ClosedSpan}
 use Rattle.span_event.specs.Time.{distance}
 use Rattle.span_self_time.specs.Spans.{Span, covers, outranks}
 use Rattle.span_event.specs.Event.{least_time}
 use Rattle.span_self_time.specs.Closed.{greatest_until, IsInTime}
 
--- the one part of a span that has all of its time
-abbrev pub whole : ClosedSpan → Part
+-- the one segment of a span that has all of its time
+abbrev pub whole : ClosedSpan → OwnedSegment
 whole s = record { segment = record { start = s.start; until = s.until; name = s.name; at = s.at }; span_start = s.start; span_until = s.until }
 
 -- to which span each tick belongs; spans stand in it without their arguments
@@ -38,32 +38,32 @@ taken s owners u = if covers s u && claims s (owners u) then Some s else owners 
 abbrev pub owners_of : List (Span ℕ) → Owners
 owners_of spans u = fold (λ owner s. if covers s u && claims (bare s) owner then Some (bare s) else owner) None spans
 
--- the span of a part
-abbrev pub owner_of : Part → Span ℕ
+-- the span of a segment
+abbrev pub owner_of : OwnedSegment → Span ℕ
 owner_of p = record { name = p.segment.name; start = p.span_start; until = p.span_until; at = p.segment.at; args = [] }
 
 -- each tick from a to before b has this owner
 abbrev pub Belong : Owners → ℤ → ℤ → Option (Span ℕ) → Type 0
 Belong owners a b owner = (u : ℤ) → a ≤ℤ u → u <ℤ b → owners u ≡ owner
 
--- the parts, the first first, are the time from t on: each is as long as can be to its end
-abbrev pub AreFuture : Owners → ℤ → List Part → Type 0
+-- the segments, the first first, are the time from t on: each is as long as can be to its end
+abbrev pub AreFuture : Owners → ℤ → List OwnedSegment → Type 0
 AreFuture owners t [] = (t ≤ℤ greatest_until) × ((u : ℤ) → t ≤ℤ u → owners u ≡ None)
 AreFuture owners t (p ∷ ps) =
     (t ≤ℤ p.segment.start) × Belong owners t p.segment.start None
     × (p.segment.start <ℤ p.segment.until) × Belong owners p.segment.start p.segment.until (Some (owner_of p))
     × (owners p.segment.until ≢ Some (owner_of p)) × AreFuture owners p.segment.until ps
 
--- the parts, in order, are the whole time
-pub record AreParts (owners : Owners) (parts : List Part) : Type 0 where
+-- the segments, in order, are the whole time
+pub record AreOwnedSegments (owners : Owners) (segments : List OwnedSegment) : Type 0 where
   pub nothing : (u : ℤ) → u <ℤ least_time → owners u ≡ None
-  pub each : AreFuture owners least_time parts
+  pub each : AreFuture owners least_time segments
 
--- there are parts of these owners of which P holds
-pub record HasParts (owners : Owners) (P : List Part → Type 0) : Type 0 where
-  pub parts : List Part
-  pub are : AreParts owners parts
-  pub holds : P parts
+-- there are segments of these owners of which P holds
+pub record HasOwnedSegments (owners : Owners) (P : List OwnedSegment → Type 0) : Type 0 where
+  pub segments : List OwnedSegment
+  pub are : AreOwnedSegments owners segments
+  pub holds : P segments
 
 -- the running self times of the names
 abbrev pub SelfTimes : Type 0
@@ -100,6 +100,6 @@ Adds Is s old new = (owners : Owners) → Is owners old → IsNew s owners → A
 abbrev pub KeepsOwners : {T : Type 0} → (Owners → T → Type 0) → T → T → Type 0
 KeepsOwners Is old new = (owners : Owners) → Is owners old → Is owners new
 
--- the same span's part from a to before b
-abbrev pub between : Part → ℤ → ℤ → Part
+-- the same span's segment from a to before b
+abbrev pub between : OwnedSegment → ℤ → ℤ → OwnedSegment
 between p a b = record { segment = record { start = a; until = b; name = p.segment.name; at = p.segment.at }; span_start = p.span_start; span_until = p.span_until }

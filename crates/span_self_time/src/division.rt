@@ -3,7 +3,7 @@ ghost use Rattle.std.specs.Prelude.{◌≡◌, ◌≢◌, ◌≤◌, ℕ, ◌≤
 ghost use Rattle.span_self_time.specs.Spans.{Span, self_of, self_time, busy_time};
 ghost use Rattle.span_self_time.specs.Closed.{span_of, IsInTime, AreClosed};
 ghost use Rattle.span_self_time.specs.Segments.{HasSegmentsWith};
-ghost use Rattle.span_self_time.specs.Division.{Owners, owner_of, owners_of, ForSome, HasParts, CanAdd, Adds, KeepsOwners};
+ghost use Rattle.span_self_time.specs.Division.{Owners, owner_of, owners_of, ForSome, HasOwnedSegments, CanAdd, Adds, KeepsOwners};
 ghost use Rattle.span_self_time.specs.Division.Lengths.{time_at, Gains};
 ghost use Rattle.span_self_time.specs.Division.TimeMap.{IsTimeMap};
 ghost use Rattle.span_self_time.specs.Division.Ways.{IsWay, Divides};
@@ -11,33 +11,33 @@ ghost use Rattle.span_self_time.specs.Division.Ways.{IsWay, Divides};
 mod lengths;
 mod lone;
 mod own_times;
-mod part_stacks;
+mod segment_stacks;
 mod time_map;
 
-use crate::segment::{Part, Segment};
+use crate::segment::{OwnedSegment, Segment};
 use crate::span::ClosedSpan;
 use lengths::Lengths;
-use part_stacks::PartStacks;
+use segment_stacks::SegmentStacks;
 use std::alloc::{AllocError, Global};
 use time_map::TimeMap;
 
-// Where the two stacks have to move more parts than these for each span, a search is the quicker.
+// Where the two stacks have to move more segments than these for each span, a search is the quicker.
 const MOVES_FOR_A_SPAN: u64 = 128;
 
 /// How time is divided among closed spans. The spans themselves are kept by whoever adds them.
 #[derive(Drop)]
 pub struct Division {
     way: Way,
-    // How many parts the two stacks had to move, about.
+    // How many segments the two stacks had to move, about.
     moves: u64,
 }
 
-// A single span takes no memory of its own. Of more, two stacks of parts are the quicker where each comes near the last one, and slow
-// down with the parts in between; a map, in which each span's place is searched for, doesn't.
+// A single span takes no memory of its own. Of more, two stacks of segments are the quicker where each comes near the last one, and slow
+// down with the segments in between; a map, in which each span's place is searched for, doesn't.
 #[derive(Drop)]
 pub(crate) enum Way {
-    Lone(Option<Part>),
-    Stacked(Box<PartStacks>),
+    Lone(Option<OwnedSegment>),
+    Stacked(Box<SegmentStacks>),
     Searched(Box<TimeMap>),
 }
 
@@ -129,7 +129,7 @@ impl Division {
             ≡ map (self_time (map span_of spans.now)) (map span_of spans.now)) }
     {
         let mut lengths = Lengths::of(spans, alloc)?;
-        self.way.tell_parts(&mut lengths)?;
+        self.way.add_lengths(&mut lengths)?;
         let mut times = Vec::with_capacity(alloc, spans.len())?;
         for span in spans {
             times.push(lengths.at(span.at))?;
@@ -154,15 +154,20 @@ impl Division {
             (Divides (map span_of others.now ++ span_of span.now ∷ []) self.new) }
         ensures err { OnErr result (Divides (map span_of others.now) self.new) }
     {
-        let part = Part::whole(span);
-        self.suit(&part, others, alloc)?;
-        self.way.add(&part, alloc)?;
+        let owned = OwnedSegment::whole(span);
+        self.suit(&owned, others, alloc)?;
+        self.way.add(&owned, alloc)?;
         Ok(())
     }
 
     // Turns to a search among what these spans, which are all that were added, make of the time, where the two stacks had to move
-    // too many parts for them, with those for the new one. Where memory is refused, nothing changes.
-    fn suit(&mut self, span: &Part, spans: &[ClosedSpan], alloc: Global) -> Result<(), AllocError>
+    // too many segments for them, with those for the new one. Where memory is refused, nothing changes.
+    fn suit(
+        &mut self,
+        span: &OwnedSegment,
+        spans: &[ClosedSpan],
+        alloc: Global,
+    ) -> Result<(), AllocError>
         requires { AreClosed (map span_of spans.now) }
         ensures { Divides (map span_of spans.now) self.old
             → Divides (map span_of spans.now) self.new }
@@ -185,7 +190,7 @@ impl Way {
         match self {
             Way::Lone(lone) => Ok(Way::Lone(*lone)),
             Way::Stacked(stacks) => {
-                let copy = PartStacks::clone(stacks)?;
+                let copy = SegmentStacks::clone(stacks)?;
                 Ok(Way::Stacked(Box::new(alloc, copy)?))
             }
             Way::Searched(time_map) => {
@@ -195,23 +200,23 @@ impl Way {
         }
     }
 
-    // The span of each part gains the part's length.
-    fn tell_parts(&self, times: &mut Lengths) -> Result<(), AllocError>
+    // The span of each segment gains the segment's length.
+    fn add_lengths(&self, times: &mut Lengths) -> Result<(), AllocError>
         requires division { ForSome (λ owners. IsWay owners self.now) }
         requires none { (at : ℕ) → time_at times.old at ≡ 0 }
-        ensures { (owners : Owners) → IsWay owners self.now
-            → HasParts owners (λ parts. OnOk result (Gains times.old parts times.new)) }
+        ensures { (owners : Owners) → IsWay owners self.now → HasOwnedSegments owners (λ segments.
+            OnOk result (Gains times.old segments times.new)) }
     {
         match self {
-            Way::Lone(lone) => lone::tell_parts(lone, times),
-            Way::Stacked(stacks) => stacks.tell_parts(times),
-            Way::Searched(time_map) => time_map.tell_parts(times),
+            Way::Lone(lone) => lone::add_lengths(lone, times),
+            Way::Stacked(stacks) => stacks.add_lengths(times),
+            Way::Searched(time_map) => time_map.add_lengths(times),
         }
     }
 
     // The span takes the ticks that it covers from no one and from the spans that it outranks. Where memory is refused,
     // no reader sees a change.
-    fn add(&mut self, span: &Part, alloc: Global) -> Result<(), AllocError>
+    fn add(&mut self, span: &OwnedSegment, alloc: Global) -> Result<(), AllocError>
         requires { CanAdd IsWay (owner_of span.now) self.old }
         ensures ok { OnOk result (Adds IsWay (owner_of span.now) self.old self.new) }
         ensures err { OnErr result (KeepsOwners IsWay self.old self.new) }
@@ -226,8 +231,8 @@ impl Way {
         }
     }
 
-    // About how many parts the two stacks would have to move for this span, where these are many.
-    fn moves_for(&self, span: &Part) -> u64 {
+    // About how many segments the two stacks would have to move for this span, where these are many.
+    fn moves_for(&self, span: &OwnedSegment) -> u64 {
         match self {
             Way::Stacked(stacks) => stacks.moves_for(span),
             Way::Lone(_) | Way::Searched(_) => 0,
@@ -241,7 +246,7 @@ fn time_map_of(spans: &[ClosedSpan], alloc: Global) -> Result<TimeMap, AllocErro
 {
     let mut time_map = TimeMap::new(alloc);
     for span in spans {
-        time_map.add(&Part::whole(span))?;
+        time_map.add(&OwnedSegment::whole(span))?;
     }
     Ok(time_map)
 }

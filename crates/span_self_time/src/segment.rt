@@ -4,7 +4,7 @@ ghost use Rattle.std.specs.Bool.{OnTrue, OnFalse};
 ghost use Rattle.std.specs.Option.{option_map};
 ghost use Rattle.span_self_time.specs.Spans.{outranks};
 ghost use Rattle.span_self_time.specs.Division.{owner_of, claims, between, whole};
-ghost use Rattle.span_self_time.specs.Division.PartStacks.{part_length};
+ghost use Rattle.span_self_time.specs.Division.SegmentStacks.{segment_length};
 
 use crate::span::ClosedSpan;
 use span_event::distance;
@@ -19,19 +19,19 @@ pub struct Segment {
     pub at: u32,
 }
 
-/// A segment with the start and the end of its span, which say how the span ranks.
+/// A segment with the start and the end of the span that owns it, which say how that span ranks.
 #[derive(Clone, Copy, Debug)]
-pub(crate) struct Part {
+pub(crate) struct OwnedSegment {
     pub segment: Segment,
     pub span_start: i64,
     pub span_until: i64,
 }
 
-impl Part {
-    pub(crate) fn whole(span: &ClosedSpan) -> Part
+impl OwnedSegment {
+    pub(crate) fn whole(span: &ClosedSpan) -> OwnedSegment
         ensures { result ≡ whole span.now }
     {
-        Part {
+        OwnedSegment {
             segment: Segment {
                 start: span.start,
                 until: span.until,
@@ -43,11 +43,11 @@ impl Part {
         }
     }
 
-    /// Another part of the same span.
-    pub(crate) fn between(&self, start: i64, until: i64) -> Part
+    /// Another segment of the same span.
+    pub(crate) fn between(&self, start: i64, until: i64) -> OwnedSegment
         ensures { result ≡ between self.now start until }
     {
-        Part {
+        OwnedSegment {
             segment: Segment {
                 start,
                 until,
@@ -57,14 +57,14 @@ impl Part {
         }
     }
 
-    /// The ticks of the part; none where it ends sooner than it starts.
+    /// The ticks of the segment; none where it ends sooner than it starts.
     pub(crate) fn length(&self) -> u64
-        ensures { result ≡ part_length self.now }
+        ensures { result ≡ segment_length self.now }
     {
         distance(self.segment.start, self.segment.until)
     }
 
-    pub(crate) fn outranks(&self, other: &Part) -> bool
+    pub(crate) fn outranks(&self, other: &OwnedSegment) -> bool
         ensures { result ≡ outranks (owner_of self.now) (owner_of other.now) }
     {
         other.span_start < self.span_start
@@ -74,16 +74,16 @@ impl Part {
     }
 
     /// Whether the span takes time from the owner, or from no one.
-    pub(crate) fn claims(&self, owner: &Option<Part>) -> bool
+    pub(crate) fn claims(&self, owner: &Option<OwnedSegment>) -> bool
         ensures { result ≡ claims (owner_of self.now) (option_map owner_of owner.now) }
     {
         match owner {
-            Some(part) => self.outranks(part),
+            Some(owned) => self.outranks(owned),
             None => true,
         }
     }
 
-    pub(crate) fn is_of_span_of(&self, other: &Part) -> bool
+    pub(crate) fn is_of_span_of(&self, other: &OwnedSegment) -> bool
         ensures same { OnTrue result (owner_of self.now ≡ owner_of other.now) }
         ensures differs { OnFalse result (owner_of self.now ≢ owner_of other.now) }
     {

@@ -3,7 +3,7 @@ ghost use Rattle.std.specs.Prelude.{◌≡◌};
 ghost use Rattle.span_self_time.specs.Spans.{outranks};
 ghost use Rattle.span_self_time.specs.Closed.{span_of};
 
-use crate::segment::Part;
+use crate::segment::OwnedSegment;
 use span_event::Args;
 
 /// A span that has ended, with the number of its name. It covers the ticks from `start` to before `until`; `at` is the
@@ -22,6 +22,6 @@ impl ClosedSpan {
     pub fn outranks(&self, other: &ClosedSpan) -> bool
         ensures { result ≡ outranks (span_of self.now) (span_of other.now) }
     {
-        Part::whole(self).outranks(&Part::whole(other))
+        OwnedSegment::whole(self).outranks(&OwnedSegment::whole(other))
     }
 }

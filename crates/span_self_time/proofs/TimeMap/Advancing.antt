@@ -4,11 +4,11 @@ use Rattle.std.specs.Option.{option_map}
 use Rattle.std.proofs.lemmas.Int.{ints, by_lt_z}
 use Rattle.std.proofs.lemmas.Bool.{or_cases, false_from_ne_true}
 use Rattle.std.proofs.lemmas.Option.{same_Some}
-use Rattle.span_self_time.specs.declared.segment.Part.{Part}
+use Rattle.span_self_time.specs.declared.segment.OwnedSegment.{OwnedSegment}
 use Rattle.span_self_time.specs.declared.division.time_map.TimeMap.{TimeMap}
 use Rattle.span_self_time.specs.Spans.{Span, covers, outranks}
 use Rattle.span_self_time.specs.Division.{Owners, owner_of, claims, taken, Belong}
-use Rattle.span_self_time.specs.Division.TimeMap.Stretches.{Starts, at, IsNext, IsHeld, IsOfPart, IsDivided, IsEnd, IsPut}
+use Rattle.span_self_time.specs.Division.TimeMap.Stretches.{Starts, at, IsNext, IsHeld, IsOfSegment, IsDivided, IsEnd, IsPut}
 use Rattle.span_self_time.specs.Division.TimeMap.{IsEntrant, IsTaking, taken_to, AreTimes}
 use Rattle.span_self_time.proofs.Counts.{covers-between, int_lt-above, int_lt-below}
 use Rattle.span_self_time.proofs.Ranks.{outranks-trans, outranks-either}
@@ -103,7 +103,7 @@ claimed-starts s t time_map owners is claimed =
       | inr none ↦ by_start (at time_map.stretches t) refl none
     ]
   where
-    by_start : (o : Option (Option Part)) → at time_map.stretches t ≡ o → claims s (owners (t -ℤ pos 1)) ≡ false → IsSome o
+    by_start : (o : Option (Option OwnedSegment)) → at time_map.stretches t ≡ o → claims s (owners (t -ℤ pos 1)) ≡ false → IsSome o
     by_start (Some v) h none = refl
     by_start None h none =
         let stays = owner-stays (taken_to s t owners) (at time_map.stretches) t is.divided h in
@@ -112,13 +112,13 @@ claimed-starts s t time_map owners is claimed =
         absurd (true≢false (sym claimed ∙ ap (claims s) (sym same) ∙ none))
 
 -- the span has a claim on the stretch from t to n
-pub record IsClaimed (s : Span ℕ) (t n : ℤ) (v : Option Part) (time_map : TimeMap) : Type 0 where
+pub record IsClaimed (s : Span ℕ) (t n : ℤ) (v : Option OwnedSegment) (time_map : TimeMap) : Type 0 where
   pub within : t <ℤ s.until
   pub here : at time_map.stretches t ≡ Some v
   pub claimed : claims s (option_map owner_of v) ≡ true
   pub next : IsNext (at time_map.stretches) t n
 
-module _ (s : Span ℕ) (t n : ℤ) (v : Option Part) (time_map : TimeMap) (owners : Owners) (enter : IsEntrant s owners) (is : IsTaking s t time_map owners) (claim : IsClaimed s t n v time_map) where
+module _ (s : Span ℕ) (t n : ℤ) (v : Option OwnedSegment) (time_map : TimeMap) (owners : Owners) (enter : IsEntrant s owners) (is : IsTaking s t time_map owners) (claim : IsClaimed s t n v time_map) where
   pub ends : n ≤ℤ s.until
   ends =
       by_lt_z s.until n (λ h. absurd (IsSome-None (at time_map.stretches s.until) (claim.next.none s.until claim.within h) is.until)) (λ h. h)
@@ -140,13 +140,13 @@ module _ (s : Span ℕ) (t n : ℤ) (v : Option Part) (time_map : TimeMap) (owne
   }
 
 -- a stretch changes hands
-module _ (old new : Owners) (m n : Starts) (t e : ℤ) (v : Option Part) (p : Part) (are : IsDivided old m) (here : m t ≡ Some v) (next : IsNext m t e) (put : IsPut m t (Some (Some p)) n) (start : p.segment.start ≡ t) (until : p.segment.until ≡ e) (change : IsReplaced old new t e (option_map owner_of v) (Some (owner_of p))) where
+module _ (old new : Owners) (m n : Starts) (t e : ℤ) (v : Option OwnedSegment) (p : OwnedSegment) (are : IsDivided old m) (here : m t ≡ Some v) (next : IsNext m t e) (put : IsPut m t (Some (Some p)) n) (start : p.segment.start ≡ t) (until : p.segment.until ≡ e) (change : IsReplaced old new t e (option_map owner_of v) (Some (owner_of p))) where
   pub keeps-given : (q : ℤ) → IsSome (m q) → IsSome (n q)
   keeps-given q some =
       by_eq_z q t (λ g. IsSome-Some (n q) _ (ap n g ∙ put.here)) (λ g. subst IsSome (sym (put.others q g)) some)
 
-  by_part : {P : Type 0} (j : ℤ) (r : Part) → n j ≡ Some (Some r) → (j ≡ t → p ≡ r → P) → (j ≢ t → m j ≡ Some (Some r) → P) → P
-  by_part j r is first other =
+  by_segment : {P : Type 0} (j : ℤ) (r : OwnedSegment) → n j ≡ Some (Some r) → (j ≡ t → p ≡ r → P) → (j ≢ t → m j ≡ Some (Some r) → P) → P
+  by_segment j r is first other =
       by_eq_z j t (λ h. first h (same_Some _ _ (same_Some _ _ (sym put.here ∙ ap n (sym h) ∙ is))))
       (λ h. other h (sym (put.others j h) ∙ is))
 
@@ -161,8 +161,8 @@ module _ (old new : Owners) (m n : Starts) (t e : ℤ) (v : Option Part) (p : Pa
     });
   }
 
-  -- a part of m that starts elsewhere lies before t or from e on
-  elsewhere : (j u : ℤ) (r : Part) → j ≢ t → m j ≡ Some (Some r) → j ≤ℤ u → u <ℤ r.segment.until → new u ≡ old u
+  -- a segment of m that starts elsewhere lies before t or from e on
+  elsewhere : (j u : ℤ) (r : OwnedSegment) → j ≢ t → m j ≡ Some (Some r) → j ≤ℤ u → u <ℤ r.segment.until → new u ≡ old u
   elsewhere j u r differs is from before =
       by_lt_z u t (λ h. change.before u h)
       (λ h. by_lt_z u e
@@ -171,7 +171,7 @@ module _ (old new : Owners) (m n : Starts) (t e : ℤ) (v : Option Part) (p : Pa
       (λ l. IsSome-None (m j) (next.none j (by_lt_z t j (λ x. x) (λ x. absurd (differs (omega (arith, ints))))) (omega (arith, ints))) (IsSome-Some (m j) _ is))))
       (λ k. change.after u k))
 
-  held-elsewhere : (j : ℤ) (r : Part) → j ≢ t → m j ≡ Some (Some r) → IsHeld new n j r
+  held-elsewhere : (j : ℤ) (r : OwnedSegment) → j ≢ t → m j ≡ Some (Some r) → IsHeld new n j r
   held-elsewhere j r differs is =
       let held = are.held j r is in
       record {
@@ -186,23 +186,23 @@ module _ (old new : Owners) (m n : Starts) (t e : ℤ) (v : Option Part) (p : Pa
         };
       }
 
-  of_part : (u : ℤ) → IsOfPart m u → (t ≤ℤ u → u <ℤ e → ⊥) → IsOfPart n u
-  of_part u of outside =
+  of_segment : (u : ℤ) → IsOfSegment m u → (t ≤ℤ u → u <ℤ e → ⊥) → IsOfSegment n u
+  of_segment u of outside =
       by_eq_z of.start t
       (λ h. absurd (by_lt_z u e (λ k. outside (omega (arith, ints, of.from, h)) k)
-      (λ k. IsSome-None (m e) ((are.held of.start of.part of.is).next.none e (omega (arith, ints, h, next.later)) (omega (arith, ints, of.before))) next.some)))
-      (λ h. record { start = of.start; part = of.part; is = put.others of.start h ∙ of.is; from = of.from; before = of.before })
+      (λ k. IsSome-None (m e) ((are.held of.start of.owned of.is).next.none e (omega (arith, ints, h, next.later)) (omega (arith, ints, of.before))) next.some)))
+      (λ h. record { start = of.start; owned = of.owned; is = put.others of.start h ∙ of.is; from = of.from; before = of.before })
 
-  owned : (u : ℤ) (o : Span ℕ) → new u ≡ Some o → IsOfPart n u
+  owned : (u : ℤ) (o : Span ℕ) → new u ≡ Some o → IsOfSegment n u
   owned u o is =
-      by_lt_z u t (λ h. of_part u (are.owned u o (sym (change.before u h) ∙ is)) (λ from before. omega (arith, ints)))
+      by_lt_z u t (λ h. of_segment u (are.owned u o (sym (change.before u h) ∙ is)) (λ from before. omega (arith, ints)))
       (λ h. by_lt_z u e
-      (λ k. record { start = t; part = p; is = put.here; from = h; before = omega (arith, ints, until) })
-      (λ k. of_part u (are.owned u o (sym (change.after u k) ∙ is)) (λ from before. omega (arith, ints))))
+      (λ k. record { start = t; owned = p; is = put.here; from = h; before = omega (arith, ints, until) })
+      (λ k. of_segment u (are.owned u o (sym (change.after u k) ∙ is)) (λ from before. omega (arith, ints))))
 
   pub IsDivided-given : IsDivided new n
   IsDivided-given = record {
-    held = λ j r is. by_part j r is
+    held = λ j r is. by_segment j r is
         (λ h same. subst (λ x. IsHeld new n x r) (sym h) (subst (IsHeld new n t) same held-given))
         (λ h here. held-elsewhere j r h here);
     owned = owned;
@@ -211,9 +211,9 @@ module _ (old new : Owners) (m n : Starts) (t e : ℤ) (v : Option Part) (p : Pa
         (λ g. are.in_time q (subst IsSome (put.others q g) some));
   }
 
-  -- parts end where they did, or where the stretch does
+  -- segments end where they did, or where the stretch does
   pub IsEnd-given : (u : ℤ) (o : Span ℕ) → IsEnd n u o → ((u ≡ e) × (owner_of p ≡ o)) ⊎ IsEnd m u o
   IsEnd-given u o end =
-      by_part end.start end.part end.is
-      (λ h same. inl (sym end.until ∙ ap (λ (x : Part). x.segment.until) (sym same) ∙ until, ap owner_of same ∙ end.owner))
-      (λ h is. inr (record { start = end.start; part = end.part; is = is; until = end.until; owner = end.owner }))
+      by_segment end.start end.owned end.is
+      (λ h same. inl (sym end.until ∙ ap (λ (x : OwnedSegment). x.segment.until) (sym same) ∙ until, ap owner_of same ∙ end.owner))
+      (λ h is. inr (record { start = end.start; owned = end.owned; is = is; until = end.until; owner = end.owner }))

@@ -3,7 +3,7 @@ use Rattle.std.proofs.Common.{◌<◌, ◌^◌, Bool, true, ◌≡◌, ◌≢◌
 use Rattle.std.specs.Option.{option_map, is_some}
 use Rattle.std.proofs.lemmas.Int.{ints, by_lt_z}
 use Rattle.indexmap.specs.IndexMap.{get}
-use Rattle.span_self_time.specs.declared.segment.Part.{Part}
+use Rattle.span_self_time.specs.declared.segment.OwnedSegment.{OwnedSegment}
 use Rattle.span_self_time.specs.declared.division.time_map.TimeMap.{TimeMap}
 use Rattle.span_self_time.specs.declared.division.time_map.stretches.Stretches.{Stretches}
 use Rattle.span_event.specs.Time.{distance}
@@ -18,24 +18,24 @@ use Rattle.span_self_time.proofs.Owners.{taken-after}
 use Rattle.span_self_time.proofs.TimeMap.Barring.{AreBarred-taken}
 
 -- who held the stretch has at least its time
-pub held-length : (v : Option Part) (own : SelfTimes) (busy : ℕ) (owners new : Owners) (t n : ℤ) (r : Option (Span ℕ)) (d : ℕ) → AreTimes own busy owners → IsReplaced owners new t n (option_map owner_of v) r → d ≡ distance t n → IfSome v (λ part. d ≤ own_in own part.segment.name)
+pub held-length : (v : Option OwnedSegment) (own : SelfTimes) (busy : ℕ) (owners new : Owners) (t n : ℤ) (r : Option (Span ℕ)) (d : ℕ) → AreTimes own busy owners → IsReplaced owners new t n (option_map owner_of v) r → d ≡ distance t n → IfSome v (λ owned. d ≤ own_in own owned.segment.name)
 held-length None own busy owners new t n r d times change length = tt
 held-length (Some p) own busy owners new t n r d times change length =
     let least = distance-time_of (has_name p.segment.name) owners t n (Some (owner_of p)) change.first (omega (arith, ints, change.lasts)) change.last change.was (eq-eqb p.segment.name p.segment.name refl) in
     omega (arith, least, length, times.of_names p.segment.name)
 
 -- the running times have room for what the span takes, once who held it has lost it
-pub charged-small : (q : Option (Span ℕ) → Bool) (v : Option Part) (s : Span ℕ) (old new : Owners) (t n : ℤ) (had d : ℕ) → IsReplaced old new t n (option_map owner_of v) (Some s) → q (Some s) ≡ true → had ≡ time_of q old → d ≡ distance t n → had + d < 2 ^ 64 + cond (q (option_map owner_of v)) d 0
+pub charged-small : (q : Option (Span ℕ) → Bool) (v : Option OwnedSegment) (s : Span ℕ) (old new : Owners) (t n : ℤ) (had d : ℕ) → IsReplaced old new t n (option_map owner_of v) (Some s) → q (Some s) ≡ true → had ≡ time_of q old → d ≡ distance t n → had + d < 2 ^ 64 + cond (q (option_map owner_of v)) d 0
 charged-small q v s old new t n had d change passes has length =
     let gained = ap (λ b. cond b (distance t n) 0) passes in
     let lost = ap (λ x. cond (q (option_map owner_of v)) x 0) length in
     omega (arith, has, length, gained, lost, time_of-replaced q old new t n (option_map owner_of v) (Some s) change, time_of-le q new)
 
-pub is_some-owner : (v : Option Part) → is_some (option_map owner_of v) ≡ is_some v
+pub is_some-owner : (v : Option OwnedSegment) → is_some (option_map owner_of v) ≡ is_some v
 is_some-owner None = refl
 is_some-owner (Some p) = refl
 
-pub AreTimes-charged : (v : Option Part) (s : Span ℕ) (own more : SelfTimes) (busy busier : ℕ) (old new : Owners) (t n : ℤ) (d : ℕ) → IsReplaced old new t n (option_map owner_of v) (Some s) → AreTimes own busy old → d ≡ distance t n
+pub AreTimes-charged : (v : Option OwnedSegment) (s : Span ℕ) (own more : SelfTimes) (busy busier : ℕ) (old new : Owners) (t n : ℤ) (d : ℕ) → IsReplaced old new t n (option_map owner_of v) (Some s) → AreTimes own busy old → d ≡ distance t n
     → ((name : ℕ) → own_in more name + cond (has_name name (option_map owner_of v)) d 0 ≡ own_in own name + cond (nat_eq s.name name) d 0) → busier + cond (is_some v) d 0 ≡ busy + d → AreTimes more busier new
 AreTimes-charged v s own more busy busier old new t n d change times length charged all = record {
   of_names = λ name.
@@ -55,14 +55,14 @@ pub record IsJoining (t : ℤ) (old new : Stretches) : Type 0 where
   pub ends : (x : Owners) (u : ℤ) (o : Span ℕ) → IsDivided x (at old) → IsEnd (at new) u o → IsEnd (at old) u o
   pub apart : (x : Owners) (o : Span ℕ) → IsDivided x (at old) → IsEnd (at new) t o → x t ≢ Some o
 
--- the part p is the stretch that the span has taken
-pub record IsGiven (s : Span ℕ) (t n : ℤ) (p : Part) (old new : Stretches) : Type 0 where
+-- the segment p is the stretch that the span has taken
+pub record IsGiven (s : Span ℕ) (t n : ℤ) (p : OwnedSegment) (old new : Stretches) : Type 0 where
   pub put : IsPut (at old) t (Some (Some p)) (at new)
   pub start : p.segment.start ≡ t
   pub until : p.segment.until ≡ n
   pub owner : owner_of p ≡ s
 
-pub IsTaking-taken : (s : Span ℕ) (t n : ℤ) (v : Option Part) (p : Part) (time_map : TimeMap) (given joined : Stretches) (own : SelfTimes) (busy : ℕ) (owners : Owners)
+pub IsTaking-taken : (s : Span ℕ) (t n : ℤ) (v : Option OwnedSegment) (p : OwnedSegment) (time_map : TimeMap) (given joined : Stretches) (own : SelfTimes) (busy : ℕ) (owners : Owners)
     → IsEntrant s owners → IsTaking s t time_map owners → IsClaimed s t n v time_map → IsGiven s t n p time_map.stretches given → IsJoining t given joined
     → AreTimes own busy (taken_to s n owners) → IsSome (get nat_eq own s.name) → IsTaking s n (record { stretches = joined; ties = time_map.ties; own = own; busy = busy }) owners
 IsTaking-taken s t n v p time_map given joined own busy owners enter is claim gift join times kept = record {
@@ -97,7 +97,7 @@ IsTaking-taken s t n v p time_map given joined own busy owners enter is claim gi
     keeps = keeps-given old new (at time_map.stretches) (at given) t n v p is.divided claim.here claim.next gift.put gift.start gift.until change
 
     key : (u : ℤ) (o : Span ℕ) → IsEnd (at time_map.stretches) u o → IsSome (at time_map.stretches u)
-    key u o end = subst (λ x. IsSome (at time_map.stretches x)) end.until (is.divided.held end.start end.part end.is).next.some
+    key u o end = subst (λ x. IsSome (at time_map.stretches x)) end.until (is.divided.held end.start end.owned end.is).next.some
 
     outside : (u : ℤ) → u ≢ t → IsSome (at time_map.stretches u) → new u ≡ old u
     outside u differs some =
@@ -109,13 +109,13 @@ pub IsTaking-start : (s : Span ℕ) (time_map : TimeMap) (stretches : Stretches)
     → ((x : Owners) → IsDivided x (at time_map.stretches) → IsDivided x (at stretches)) → IsSome (at stretches s.start) → IsSome (at stretches s.until)
     → ((x : Owners) (u : ℤ) (o : Span ℕ) → IsDivided x (at time_map.stretches) → IsEnd (at stretches) u o → (u ≡ s.until) ⊎ ((u ≡ s.start) ⊎ IsEnd (at time_map.stretches) u o))
     → ((name : ℕ) → own_in own name ≡ own_in time_map.own name) → IsSome (get nat_eq own s.name) → IsTaking s s.start (record { stretches = stretches; ties = time_map.ties; own = own; busy = time_map.busy }) owners
-IsTaking-start s time_map stretches own owners is divided start until parts same kept =
+IsTaking-start s time_map stretches own owners is divided start until ends same kept =
     let unchanged = taken_to-start s owners in
     record {
       from = omega (arith, ints);
       divided = subst (λ (x : Owners). IsDivided x (at stretches)) unchanged (divided owners is.divided);
       whole = subst (λ (x : Owners). (u : ℤ) (o : Span ℕ) → IsEnd (at stretches) u o → u ≢ s.start → u ≢ s.until → x u ≢ Some o) unchanged
-          (λ u o end starts untils. elim (parts owners u o is.divided end) [
+          (λ u o end starts untils. elim (ends owners u o is.divided end) [
             | inl h ↦ absurd (untils h)
             | inr rest ↦ elim rest [
               | inl h ↦ absurd (starts h)

@@ -2,23 +2,23 @@
 use Rattle.std.proofs.Common.{◌≡◌, ◌≢◌, ◌⊎◌, inl, inr, ℕ, ℤ, ◌≤ℤ◌, ◌<ℤ◌, IsSome, Some, None, refl, sym, ap, ◌∙◌, subst, arith}
 use Rattle.std.proofs.lemmas.Int.{ints, by_lt_z}
 use Rattle.std.proofs.lemmas.Option.{same_Some}
-use Rattle.span_self_time.specs.declared.segment.Part.{Part}
+use Rattle.span_self_time.specs.declared.segment.OwnedSegment.{OwnedSegment}
 use Rattle.span_self_time.specs.Spans.{Span}
 use Rattle.span_event.specs.Event.{least_time}
 use Rattle.span_self_time.specs.Closed.{greatest_until}
 use Rattle.span_self_time.specs.Division.{Owners, owner_of, between}
-use Rattle.span_self_time.specs.Division.TimeMap.Stretches.{Starts, IsLast, IsHeld, IsOfPart, IsDivided, IsEnd, IsPut}
+use Rattle.span_self_time.specs.Division.TimeMap.Stretches.{Starts, IsLast, IsHeld, IsOfSegment, IsDivided, IsEnd, IsPut}
 use Rattle.span_self_time.proofs.TimeMap.StretchOwners.{by_eq_z, IsSome-Some, IsSome-None, until-last, last-is, IsHeld-same}
 
 -- n has one more start, at t
-pub record IsCut (m n : Starts) (t : ℤ) (p : Part) (k : ℤ) : Type 0 where
+pub record IsCut (m n : Starts) (t : ℤ) (p : OwnedSegment) (k : ℤ) : Type 0 where
   pub last : IsLast m t k (Some p)
   pub later : k <ℤ t
   pub head : n k ≡ Some (Some (between p p.segment.start t))
   pub tail : n t ≡ Some (Some (between p t p.segment.until))
   pub others : (q : ℤ) → q ≢ k → q ≢ t → n q ≡ m q
 
-pub IsCut-put : (m tailed n : Starts) (t k : ℤ) (p : Part) → IsLast m t k (Some p) → k ≢ t → IsPut m t (Some (Some (between p t p.segment.until))) tailed → IsPut tailed k (Some (Some (between p p.segment.start t))) n → IsCut m n t p k
+pub IsCut-put : (m tailed n : Starts) (t k : ℤ) (p : OwnedSegment) → IsLast m t k (Some p) → k ≢ t → IsPut m t (Some (Some (between p t p.segment.until))) tailed → IsPut tailed k (Some (Some (between p p.segment.start t))) n → IsCut m n t p k
 IsCut-put m tailed n t k p last differs tail head = record {
   last = last;
   later = by_lt_z k t (λ h. h) (λ h. absurd (differs (omega (arith, ints, last.first))));
@@ -27,7 +27,7 @@ IsCut-put m tailed n t k p last differs tail head = record {
   others = λ q first second. head.others q first ∙ tail.others q second;
 }
 
-module _ (owners : Owners) (m n : Starts) (t k : ℤ) (p : Part) (are : IsDivided owners m) (cut : IsCut m n t p k) where
+module _ (owners : Owners) (m n : Starts) (t k : ℤ) (p : OwnedSegment) (are : IsDivided owners m) (cut : IsCut m n t p k) where
   none : m t ≡ None
   none = cut.last.none t cut.later (omega (arith, ints))
 
@@ -36,9 +36,9 @@ module _ (owners : Owners) (m n : Starts) (t k : ℤ) (p : Part) (are : IsDivide
       by_eq_z q k (λ h. IsSome-Some (n q) _ (ap n h ∙ cut.head))
       (λ h. by_eq_z q t (λ g. IsSome-Some (n q) _ (ap n g ∙ cut.tail)) (λ g. subst IsSome (sym (cut.others q h g)) some))
 
-  -- a part of n is one of the two, or one of m
-  by_part : {P : Type 0} (j : ℤ) (r : Part) → n j ≡ Some (Some r) → (j ≡ k → between p p.segment.start t ≡ r → P) → (j ≡ t → between p t p.segment.until ≡ r → P) → (j ≢ k → j ≢ t → m j ≡ Some (Some r) → P) → P
-  by_part j r is first second other =
+  -- a segment of n is one of the two, or one of m
+  by_segment : {P : Type 0} (j : ℤ) (r : OwnedSegment) → n j ≡ Some (Some r) → (j ≡ k → between p p.segment.start t ≡ r → P) → (j ≡ t → between p t p.segment.until ≡ r → P) → (j ≢ k → j ≢ t → m j ≡ Some (Some r) → P) → P
+  by_segment j r is first second other =
       by_eq_z j k (λ h. first h (same_Some _ _ (same_Some _ _ (sym cut.head ∙ ap n (sym h) ∙ is))))
       (λ h. by_eq_z j t (λ g. second g (same_Some _ _ (same_Some _ _ (sym cut.tail ∙ ap n (sym g) ∙ is))))
       (λ g. other h g (sym (cut.others j h g) ∙ is)))
@@ -71,7 +71,7 @@ module _ (owners : Owners) (m n : Starts) (t k : ℤ) (p : Part) (are : IsDivide
         };
       }
 
-  held-other : (j : ℤ) (r : Part) → j ≢ k → m j ≡ Some (Some r) → IsHeld owners n j r
+  held-other : (j : ℤ) (r : OwnedSegment) → j ≢ k → m j ≡ Some (Some r) → IsHeld owners n j r
   held-other j r differs is =
       let held = are.held j r is in
       IsHeld-same owners m n j r held (keeps-cut r.segment.until) (λ q after before.
@@ -79,17 +79,17 @@ module _ (owners : Owners) (m n : Starts) (t k : ℤ) (p : Part) (are : IsDivide
       (λ h. by_eq_z q t (λ g. absurd (differs (last-is owners m t k j (Some p) r are cut.last is (omega (arith, ints)) (omega (arith, ints)))))
       (λ g. cut.others q h g ∙ held.next.none q after before)))
 
-  of_part : (u : ℤ) → IsOfPart m u → IsOfPart n u
-  of_part u of =
+  of_segment : (u : ℤ) → IsOfSegment m u → IsOfSegment n u
+  of_segment u of =
       by_eq_z of.start k
       (λ h.
-      let same : p ≡ of.part = same_Some _ _ (same_Some _ _ (sym cut.last.is ∙ ap m (sym h) ∙ of.is)) in
+      let same : p ≡ of.owned = same_Some _ _ (same_Some _ _ (sym cut.last.is ∙ ap m (sym h) ∙ of.is)) in
       by_lt_z u t
-      (λ g. record { start = k; part = between p p.segment.start t; is = cut.head; from = subst (λ x. x ≤ℤ u) h of.from; before = g })
-      (λ g. record { start = t; part = between p t p.segment.until; is = cut.tail; from = g; before = subst (λ (x : Part). u <ℤ x.segment.until) (sym same) of.before }))
+      (λ g. record { start = k; owned = between p p.segment.start t; is = cut.head; from = subst (λ x. x ≤ℤ u) h of.from; before = g })
+      (λ g. record { start = t; owned = between p t p.segment.until; is = cut.tail; from = g; before = subst (λ (x : OwnedSegment). u <ℤ x.segment.until) (sym same) of.before }))
       (λ h. record {
         start = of.start;
-        part = of.part;
+        owned = of.owned;
         is = cut.others of.start h (λ g. IsSome-None (m of.start) (ap m g ∙ none) (IsSome-Some (m of.start) _ of.is)) ∙ of.is;
         from = of.from;
         before = of.before;
@@ -97,26 +97,26 @@ module _ (owners : Owners) (m n : Starts) (t k : ℤ) (p : Part) (are : IsDivide
 
   pub IsDivided-cut : least_time ≤ℤ t → t ≤ℤ greatest_until → IsDivided owners n
   IsDivided-cut least greatest = record {
-    held = λ j r is. by_part j r is
+    held = λ j r is. by_segment j r is
         (λ h same. subst (λ x. IsHeld owners n x r) (sym h) (subst (IsHeld owners n k) same held-head))
         (λ h same. subst (λ x. IsHeld owners n x r) (sym h) (subst (IsHeld owners n t) same held-tail))
         (λ h g here. held-other j r h here);
-    owned = λ u o is. of_part u (are.owned u o is);
+    owned = λ u o is. of_segment u (are.owned u o is);
     in_time = λ q some.
         by_eq_z q k (λ h. are.in_time q (IsSome-Some (m q) _ (ap m h ∙ cut.last.is)))
         (λ h. by_eq_z q t (λ g. (subst (λ x. least_time ≤ℤ x) (sym g) least, subst (λ x. x ≤ℤ greatest_until) (sym g) greatest))
         (λ g. are.in_time q (subst IsSome (cut.others q h g) some)));
   }
 
-  -- parts end where they did, or at t
+  -- segments end where they did, or at t
   pub IsEnd-cut : (u : ℤ) (o : Span ℕ) → IsEnd n u o → (u ≡ t) ⊎ IsEnd m u o
   IsEnd-cut u o end =
-      by_part end.start end.part end.is
-      (λ h same. inl (sym end.until ∙ ap (λ (x : Part). x.segment.until) (sym same)))
-      (λ h same. inr (record { start = k; part = p; is = cut.last.is; until = ap (λ (x : Part). x.segment.until) same ∙ end.until; owner = ap owner_of same ∙ end.owner }))
-      (λ h g is. inr (record { start = end.start; part = end.part; is = is; until = end.until; owner = end.owner }))
+      by_segment end.start end.owned end.is
+      (λ h same. inl (sym end.until ∙ ap (λ (x : OwnedSegment). x.segment.until) (sym same)))
+      (λ h same. inr (record { start = k; owned = p; is = cut.last.is; until = ap (λ (x : OwnedSegment). x.segment.until) same ∙ end.until; owner = ap owner_of same ∙ end.owner }))
+      (λ h g is. inr (record { start = end.start; owned = end.owned; is = is; until = end.until; owner = end.owner }))
 
--- a start where there is no part
+-- a start where there is no segment
 pub record IsOpened (m n : Starts) (t : ℤ) : Type 0 where
   pub new : m t ≡ None
   pub free : (owners : Owners) → IsDivided owners m → owners t ≡ None
@@ -127,11 +127,11 @@ module _ (owners : Owners) (m n : Starts) (t : ℤ) (are : IsDivided owners m) (
   keeps-free q some =
       by_eq_z q t (λ g. IsSome-Some (n q) _ (ap n g ∙ opened.put.here)) (λ g. subst IsSome (sym (opened.put.others q g)) some)
 
-  from_m : (j : ℤ) (r : Part) → n j ≡ Some (Some r) → m j ≡ Some (Some r)
+  from_m : (j : ℤ) (r : OwnedSegment) → n j ≡ Some (Some r) → m j ≡ Some (Some r)
   from_m j r is =
       by_eq_z j t (λ g. let none : None ≡ Some r = same_Some _ _ (sym opened.put.here ∙ ap n (sym g) ∙ is) in absurd cc) (λ g. sym (opened.put.others j g) ∙ is)
 
-  held-free : (j : ℤ) (r : Part) → m j ≡ Some (Some r) → IsHeld owners n j r
+  held-free : (j : ℤ) (r : OwnedSegment) → m j ≡ Some (Some r) → IsHeld owners n j r
   held-free j r is =
       let held = are.held j r is in
       IsHeld-same owners m n j r held (keeps-free r.segment.until) (λ q after before.
@@ -146,7 +146,7 @@ module _ (owners : Owners) (m n : Starts) (t : ℤ) (are : IsDivided owners m) (
         let of = are.owned u o is in
         record {
           start = of.start;
-          part = of.part;
+          owned = of.owned;
           is = opened.put.others of.start (λ g. IsSome-None (m of.start) (ap m g ∙ opened.new) (IsSome-Some (m of.start) _ of.is)) ∙ of.is;
           from = of.from;
           before = of.before;
@@ -157,4 +157,4 @@ module _ (owners : Owners) (m n : Starts) (t : ℤ) (are : IsDivided owners m) (
   }
 
   pub IsEnd-free : (u : ℤ) (o : Span ℕ) → IsEnd n u o → IsEnd m u o
-  IsEnd-free u o end = record { start = end.start; part = end.part; is = from_m end.start end.part end.is; until = end.until; owner = end.owner }
+  IsEnd-free u o end = record { start = end.start; owned = end.owned; is = from_m end.start end.owned end.is; until = end.until; owner = end.owner }

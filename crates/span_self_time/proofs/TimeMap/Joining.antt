@@ -1,52 +1,52 @@
--- How two parts of one span that touch become one.
+-- How two segments of one span that touch become one.
 use Rattle.std.proofs.Common.{◌≡◌, ◌≢◌, ℕ, ℤ, pos, ◌-ℤ◌, ◌≤ℤ◌, ◌<ℤ◌, IsSome, Option, Some, None, sym, ap, ◌∙◌, subst, arith}
 use Rattle.std.proofs.lemmas.Int.{ints, by_lt_z}
 use Rattle.std.proofs.lemmas.Option.{same_Some}
-use Rattle.span_self_time.specs.declared.segment.Part.{Part}
+use Rattle.span_self_time.specs.declared.segment.OwnedSegment.{OwnedSegment}
 use Rattle.span_self_time.specs.Spans.{Span}
 use Rattle.span_self_time.specs.Division.{Owners, owner_of, between}
-use Rattle.span_self_time.specs.Division.TimeMap.Stretches.{Starts, IsLast, IsHeld, IsOfPart, IsDivided, IsEnd, IsPut}
+use Rattle.span_self_time.specs.Division.TimeMap.Stretches.{Starts, IsLast, IsHeld, IsOfSegment, IsDivided, IsEnd, IsPut}
 use Rattle.span_self_time.proofs.TimeMap.StretchOwners.{by_eq_z, IsSome-Some, IsSome-None, until-last, last-is, apart, IsHeld-same}
 
--- where no part starts at t, the owner of a part that ends there doesn't go on
-pub apart-free : (owners : Owners) (m : Starts) (t : ℤ) (o : Span ℕ) → IsDivided owners m → ((p : Part) → m t ≢ Some (Some p)) → IsEnd m t o → owners t ≢ Some o
+-- where no segment starts at t, the owner of a segment that ends there doesn't go on
+pub apart-free : (owners : Owners) (m : Starts) (t : ℤ) (o : Span ℕ) → IsDivided owners m → ((p : OwnedSegment) → m t ≢ Some (Some p)) → IsEnd m t o → owners t ≢ Some o
 apart-free owners m t o are free end is =
     let of = are.owned t o is in
-    let held = are.held end.start end.part end.is in
+    let held = are.held end.start end.owned end.is in
     let some : IsSome (m t) = subst (λ u. IsSome (m u)) end.until held.next.some in
-    by_eq_z of.start t (λ h. free of.part (ap m (sym h) ∙ of.is))
+    by_eq_z of.start t (λ h. free of.owned (ap m (sym h) ∙ of.is))
     (λ h.
-    let ends = apart owners m of.start t of.part are of.is some (by_lt_z of.start t (λ g. g) (λ g. absurd (h (omega (arith, ints, of.from))))) in
+    let ends = apart owners m of.start t of.owned are of.is some (by_lt_z of.start t (λ g. g) (λ g. absurd (h (omega (arith, ints, of.from))))) in
     omega (arith, ints, of.before))
 
--- the part that ends at t starts where the last stretch before t does
-pub start-last : (owners : Owners) (m : Starts) (t k : ℤ) (v : Option Part) (j : ℤ) (r : Part) → IsDivided owners m → IsLast m (t -ℤ pos 1) k v → m j ≡ Some (Some r) → r.segment.until ≡ t → j ≡ k
+-- the segment that ends at t starts where the last stretch before t does
+pub start-last : (owners : Owners) (m : Starts) (t k : ℤ) (v : Option OwnedSegment) (j : ℤ) (r : OwnedSegment) → IsDivided owners m → IsLast m (t -ℤ pos 1) k v → m j ≡ Some (Some r) → r.segment.until ≡ t → j ≡ k
 start-last owners m t k v j r are last is ends =
     let held = are.held j r is in
     last-is owners m (t -ℤ pos 1) k j v r are last is (omega (arith, ints, held.next.later, ends)) (omega (arith, ints, ends))
 
-pub part-last : (owners : Owners) (m : Starts) (t k : ℤ) (v : Option Part) (o : Span ℕ) → IsDivided owners m → IsLast m (t -ℤ pos 1) k v → IsEnd m t o → ((r : Part) → v ≡ Some r → owner_of r ≡ o → ⊥) → ⊥
-part-last owners m t k v o are last end none =
-    let same = start-last owners m t k v end.start end.part are last end.is end.until in
-    none end.part (same_Some v (Some end.part) (sym last.is ∙ ap m (sym same) ∙ end.is)) end.owner
+pub segment-last : (owners : Owners) (m : Starts) (t k : ℤ) (v : Option OwnedSegment) (o : Span ℕ) → IsDivided owners m → IsLast m (t -ℤ pos 1) k v → IsEnd m t o → ((r : OwnedSegment) → v ≡ Some r → owner_of r ≡ o → ⊥) → ⊥
+segment-last owners m t k v o are last end none =
+    let same = start-last owners m t k v end.start end.owned are last end.is end.until in
+    none end.owned (same_Some v (Some end.owned) (sym last.is ∙ ap m (sym same) ∙ end.is)) end.owner
 
--- no part ends where none starts before
+-- no segment ends where none starts before
 pub apart-none : (owners : Owners) (m : Starts) (t : ℤ) (o : Span ℕ) → IsDivided owners m → ((q : ℤ) → q ≤ℤ (t -ℤ pos 1) → m q ≡ None) → IsEnd m t o → ⊥
 apart-none owners m t o are none end =
-    let held = are.held end.start end.part end.is in
+    let held = are.held end.start end.owned end.is in
     IsSome-None (m end.start) (none end.start (omega (arith, ints, held.next.later, end.until))) (IsSome-Some (m end.start) _ end.is)
 
--- the last stretch before t is of another span than the part at t
-pub apart-other : (owners : Owners) (m : Starts) (t k : ℤ) (p later : Part) (o : Span ℕ) → IsDivided owners m → IsLast m (t -ℤ pos 1) k (Some p) → m t ≡ Some (Some later) → owner_of p ≢ owner_of later → IsEnd m t o → owners t ≢ Some o
+-- the last stretch before t is of another span than the segment at t
+pub apart-other : (owners : Owners) (m : Starts) (t k : ℤ) (p later : OwnedSegment) (o : Span ℕ) → IsDivided owners m → IsLast m (t -ℤ pos 1) k (Some p) → m t ≡ Some (Some later) → owner_of p ≢ owner_of later → IsEnd m t o → owners t ≢ Some o
 apart-other owners m t k p later o are last here differs end is =
     let held = are.held t later here in
-    part-last owners m t k (Some p) o are last end (λ r same own.
+    segment-last owners m t k (Some p) o are last end (λ r same own.
     let first : owner_of p ≡ o = ap owner_of (same_Some p r same) ∙ own in
     let second : owner_of later ≡ o = same_Some _ _ (sym (held.belongs t (omega (arith, ints)) held.next.later) ∙ is) in
     differs (first ∙ sym second))
 
 -- n has one start less, at t
-pub record IsJoined (m n : Starts) (t : ℤ) (p later : Part) (k : ℤ) : Type 0 where
+pub record IsJoined (m n : Starts) (t : ℤ) (p later : OwnedSegment) (k : ℤ) : Type 0 where
   pub last : IsLast m (t -ℤ pos 1) k (Some p)
   pub here : m t ≡ Some (Some later)
   pub same : owner_of p ≡ owner_of later
@@ -54,7 +54,7 @@ pub record IsJoined (m n : Starts) (t : ℤ) (p later : Part) (k : ℤ) : Type 0
   pub gone : n t ≡ None
   pub others : (q : ℤ) → q ≢ k → q ≢ t → n q ≡ m q
 
-pub IsJoined-put : (m less n : Starts) (t k : ℤ) (p later : Part) → IsLast m (t -ℤ pos 1) k (Some p) → m t ≡ Some (Some later) → owner_of p ≡ owner_of later → IsPut m t None less → IsPut less k (Some (Some (between p p.segment.start later.segment.until))) n → IsJoined m n t p later k
+pub IsJoined-put : (m less n : Starts) (t k : ℤ) (p later : OwnedSegment) → IsLast m (t -ℤ pos 1) k (Some p) → m t ≡ Some (Some later) → owner_of p ≡ owner_of later → IsPut m t None less → IsPut less k (Some (Some (between p p.segment.start later.segment.until))) n → IsJoined m n t p later k
 IsJoined-put m less n t k p later last here same gone whole = record {
   last = last;
   here = here;
@@ -64,13 +64,13 @@ IsJoined-put m less n t k p later last here same gone whole = record {
   others = λ q first second. whole.others q first ∙ gone.others q second;
 }
 
-pub keeps-joined : (m n : Starts) (t k : ℤ) (p later : Part) → IsJoined m n t p later k → (q : ℤ) → q ≢ t → IsSome (m q) → IsSome (n q)
+pub keeps-joined : (m n : Starts) (t k : ℤ) (p later : OwnedSegment) → IsJoined m n t p later k → (q : ℤ) → q ≢ t → IsSome (m q) → IsSome (n q)
 keeps-joined m n t k p later join q differs some =
     by_eq_z q k (λ h. IsSome-Some (n q) _ (ap n h ∙ join.whole)) (λ h. subst IsSome (sym (join.others q h differs)) some)
 
-module _ (owners : Owners) (m n : Starts) (t k : ℤ) (p later : Part) (are : IsDivided owners m) (join : IsJoined m n t p later k) where
-  by_part : {P : Type 0} (j : ℤ) (r : Part) → n j ≡ Some (Some r) → (j ≡ k → between p p.segment.start later.segment.until ≡ r → P) → (j ≢ k → j ≢ t → m j ≡ Some (Some r) → P) → P
-  by_part j r is first other =
+module _ (owners : Owners) (m n : Starts) (t k : ℤ) (p later : OwnedSegment) (are : IsDivided owners m) (join : IsJoined m n t p later k) where
+  by_segment : {P : Type 0} (j : ℤ) (r : OwnedSegment) → n j ≡ Some (Some r) → (j ≡ k → between p p.segment.start later.segment.until ≡ r → P) → (j ≢ k → j ≢ t → m j ≡ Some (Some r) → P) → P
+  by_segment j r is first other =
       by_eq_z j k (λ h. first h (same_Some _ _ (same_Some _ _ (sym join.whole ∙ ap n (sym h) ∙ is))))
       (λ h. by_eq_z j t (λ g. absurd (IsSome-None (n j) (ap n g ∙ join.gone) (IsSome-Some (n j) _ is)))
       (λ g. other h g (sym (join.others j h g) ∙ is)))
@@ -102,7 +102,7 @@ module _ (owners : Owners) (m n : Starts) (t k : ℤ) (p later : Part) (are : Is
         };
       }
 
-  held-other : (j : ℤ) (r : Part) → j ≢ k → j ≢ t → m j ≡ Some (Some r) → IsHeld owners n j r
+  held-other : (j : ℤ) (r : OwnedSegment) → j ≢ k → j ≢ t → m j ≡ Some (Some r) → IsHeld owners n j r
   held-other j r differs away is =
       let held = are.held j r is in
       IsHeld-same owners m n j r held
@@ -111,45 +111,45 @@ module _ (owners : Owners) (m n : Starts) (t k : ℤ) (p later : Part) (are : Is
       by_eq_z q k (λ h. absurd (IsSome-None (m q) (held.next.none q after before) (IsSome-Some (m q) _ (ap m h ∙ join.last.is))))
       (λ h. by_eq_z q t (λ g. ap n g ∙ join.gone) (λ g. join.others q h g ∙ held.next.none q after before)))
 
-  of_part : (u : ℤ) → IsOfPart m u → IsOfPart n u
-  of_part u of =
+  of_segment : (u : ℤ) → IsOfSegment m u → IsOfSegment n u
+  of_segment u of =
       let second = are.held t later join.here in
       let before = join.last.first in
       by_eq_z of.start k
       (λ h.
-      let same : p ≡ of.part = same_Some _ _ (same_Some _ _ (sym join.last.is ∙ ap m (sym h) ∙ of.is)) in
-      let under : u <ℤ p.segment.until = subst (λ (x : Part). u <ℤ x.segment.until) (sym same) of.before in
-      record { start = k; part = between p p.segment.start later.segment.until; is = join.whole; from = subst (λ x. x ≤ℤ u) h of.from; before = omega (arith, ints, until, second.next.later) })
+      let same : p ≡ of.owned = same_Some _ _ (same_Some _ _ (sym join.last.is ∙ ap m (sym h) ∙ of.is)) in
+      let under : u <ℤ p.segment.until = subst (λ (x : OwnedSegment). u <ℤ x.segment.until) (sym same) of.before in
+      record { start = k; owned = between p p.segment.start later.segment.until; is = join.whole; from = subst (λ x. x ≤ℤ u) h of.from; before = omega (arith, ints, until, second.next.later) })
       (λ h. by_eq_z of.start t
       (λ g.
-      let same : later ≡ of.part = same_Some _ _ (same_Some _ _ (sym join.here ∙ ap m (sym g) ∙ of.is)) in
-      record { start = k; part = between p p.segment.start later.segment.until; is = join.whole; from = omega (arith, ints, of.from, g); before = subst (λ (x : Part). u <ℤ x.segment.until) (sym same) of.before })
-      (λ g. record { start = of.start; part = of.part; is = join.others of.start h g ∙ of.is; from = of.from; before = of.before }))
+      let same : later ≡ of.owned = same_Some _ _ (same_Some _ _ (sym join.here ∙ ap m (sym g) ∙ of.is)) in
+      record { start = k; owned = between p p.segment.start later.segment.until; is = join.whole; from = omega (arith, ints, of.from, g); before = subst (λ (x : OwnedSegment). u <ℤ x.segment.until) (sym same) of.before })
+      (λ g. record { start = of.start; owned = of.owned; is = join.others of.start h g ∙ of.is; from = of.from; before = of.before }))
 
   pub IsDivided-joined : IsDivided owners n
   IsDivided-joined = record {
-    held = λ j r is. by_part j r is
+    held = λ j r is. by_segment j r is
         (λ h same. subst (λ x. IsHeld owners n x r) (sym h) (subst (IsHeld owners n k) same held-whole))
         (λ h g here. held-other j r h g here);
-    owned = λ u o is. of_part u (are.owned u o is);
+    owned = λ u o is. of_segment u (are.owned u o is);
     in_time = λ q some.
         by_eq_z q k (λ h. are.in_time q (IsSome-Some (m q) _ (ap m h ∙ join.last.is)))
         (λ h. by_eq_z q t (λ g. absurd (IsSome-None (n q) (ap n g ∙ join.gone) some)) (λ g. are.in_time q (subst IsSome (join.others q h g) some)));
   }
 
-  -- parts end where they did
+  -- segments end where they did
   pub IsEnd-joined : (u : ℤ) (o : Span ℕ) → IsEnd n u o → IsEnd m u o
   IsEnd-joined u o end =
-      by_part end.start end.part end.is
-      (λ h same. record { start = t; part = later; is = join.here; until = ap (λ (x : Part). x.segment.until) same ∙ end.until; owner = sym join.same ∙ ap owner_of same ∙ end.owner })
-      (λ h g is. record { start = end.start; part = end.part; is = is; until = end.until; owner = end.owner })
+      by_segment end.start end.owned end.is
+      (λ h same. record { start = t; owned = later; is = join.here; until = ap (λ (x : OwnedSegment). x.segment.until) same ∙ end.until; owner = sym join.same ∙ ap owner_of same ∙ end.owner })
+      (λ h g is. record { start = end.start; owned = end.owned; is = is; until = end.until; owner = end.owner })
 
   -- but for t
   pub apart-joined : (o : Span ℕ) → IsEnd n t o → ⊥
   apart-joined o end =
-      by_part end.start end.part end.is
+      by_segment end.start end.owned end.is
       (λ h same.
       let second = are.held t later join.here in
-      let ends : later.segment.until ≡ t = ap (λ (x : Part). x.segment.until) same ∙ end.until in
+      let ends : later.segment.until ≡ t = ap (λ (x : OwnedSegment). x.segment.until) same ∙ end.until in
       omega (arith, ints, second.next.later))
-      (λ h g is. h (start-last owners m t k (Some p) end.start end.part are join.last is end.until))
+      (λ h g is. h (start-last owners m t k (Some p) end.start end.owned are join.last is end.until))

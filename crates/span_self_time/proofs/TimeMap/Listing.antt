@@ -1,4 +1,4 @@
--- The parts of a division in order.
+-- The segments of a division in order.
 use Rattle.std.proofs.Common.{◌≡◌, true, ℤ, pos, ◌+ℤ◌, ◌≤ℤ◌, ◌<ℤ◌, IsSome, List, [], ◌∷◌, length, ◌≤◌, Option, Some, None, refl, sym, ap, ◌∙◌, arith}
 use Rattle.std.specs.Ordering.{int_cmp, is_eq}
 use Rattle.std.specs.Option.{is_some}
@@ -10,17 +10,17 @@ use Rattle.std.specs.List.{AllByRecursion}
 use Rattle.std.proofs.lemmas.Int.{ints, by_lt_z}
 use Rattle.std.proofs.lemmas.Option.{same_Some}
 use Rattle.std.proofs.lemmas.Map.Entries.{lookup_head, lookup_tail}
-use Rattle.span_self_time.specs.declared.segment.Part.{Part}
+use Rattle.span_self_time.specs.declared.segment.OwnedSegment.{OwnedSegment}
 use Rattle.span_self_time.specs.declared.division.time_map.stretches.Stretches.{Stretches}
 use Rattle.span_event.specs.Event.{least_time}
 use Rattle.span_self_time.specs.Closed.{greatest_until}
-use Rattle.span_self_time.specs.Division.{Owners, owner_of, AreFuture, AreParts}
-use Rattle.span_self_time.specs.Division.TimeMap.Stretches.{Starts, at, IsDivided, AreWhole, present, parts_in}
+use Rattle.span_self_time.specs.Division.{Owners, owner_of, AreFuture, AreOwnedSegments}
+use Rattle.span_self_time.specs.Division.TimeMap.Stretches.{Starts, at, IsDivided, AreWhole, present, segments_in}
 use Rattle.span_self_time.proofs.TimeMap.StretchOwners.{by_eq_z, IsSome-Some, IsSome-None, owner-none, apart}
 use Rattle.span_self_time.proofs.TimeMap.Searching.{differs}
 
 abbrev Entries : Type 0
-Entries = List (ℤ × Option Part)
+Entries = List (ℤ × Option OwnedSegment)
 
 -- the entries are all that starts from t on
 abbrev IsRun : Starts → ℤ → Entries → Type 0
@@ -40,11 +40,11 @@ abbrev StartsFrom : ℤ → Entries → Type 0
 StartsFrom t [] = Unit {0}
 StartsFrom t (e ∷ es) = t ≤ℤ e.0
 
-StartsFrom-sorted : (e : ℤ × Option Part) (es : Entries) → AllByRecursion (λ k. int_cmp e.0 k ≡ Less) (keys_of es) → StartsFrom (e.0 +ℤ pos 1) es
+StartsFrom-sorted : (e : ℤ × Option OwnedSegment) (es : Entries) → AllByRecursion (λ k. int_cmp e.0 k ≡ Less) (keys_of es) → StartsFrom (e.0 +ℤ pos 1) es
 StartsFrom-sorted e [] above = tt
 StartsFrom-sorted e (x ∷ es) above = let h : int_cmp e.0 x.0 ≡ Less = above.0 in grind (arith, ints, h)
 
-none-below : (q : ℤ) (e : ℤ × Option Part) (es : Entries) → q <ℤ e.0 → StartsFrom (e.0 +ℤ pos 1) es → IsStrictlySortedBy int_cmp (keys_of es) → found (e ∷ es) q ≡ None
+none-below : (q : ℤ) (e : ℤ × Option OwnedSegment) (es : Entries) → q <ℤ e.0 → StartsFrom (e.0 +ℤ pos 1) es → IsStrictlySortedBy int_cmp (keys_of es) → found (e ∷ es) q ≡ None
 unfolding IsStrictlySortedBy
 none-below q e [] h starts sorted = lookup_tail (is_at (int_cmp q)) e [] (differs q e.0 (λ same. omega (arith, ints)))
 none-below q e (x ∷ es) h starts sorted =
@@ -66,12 +66,12 @@ IsRun-found t (e ∷ es) sorted starts =
     below q h = none-below q e es h (StartsFrom-sorted e es sorted.0) sorted.1
 
 module _ (owners : Owners) (m : Starts) (are : IsDivided owners m) (whole : AreWhole owners m) where
-  -- from t on the parts are those of the entries, of which the first starts from s on
-  AreFuture-run : (t s : ℤ) (es : Entries) → t ≤ℤ greatest_until → ((k : ℤ) (p : Part) → m k ≡ Some (Some p) → k <ℤ s → p.segment.until ≤ℤ t) → ((q : ℤ) → s ≤ℤ q → IsSome (m q) → t ≤ℤ q) → IsRun m s es → AreFuture owners t (present (values_of es))
+  -- from t on the segments are those of the entries, of which the first starts from s on
+  AreFuture-run : (t s : ℤ) (es : Entries) → t ≤ℤ greatest_until → ((k : ℤ) (p : OwnedSegment) → m k ≡ Some (Some p) → k <ℤ s → p.segment.until ≤ℤ t) → ((q : ℤ) → s ≤ℤ q → IsSome (m q) → t ≤ℤ q) → IsRun m s es → AreFuture owners t (present (values_of es))
   AreFuture-run t s [] last done later run = (
     last,
     λ u from. owner-none owners m u are (λ of.
-        by_lt_z of.start s (λ h. let ends = done of.start of.part of.is h in omega (arith, ints, of.before)) (λ h. IsSome-None (m of.start) (run of.start h) (IsSome-Some (m of.start) _ of.is))),
+        by_lt_z of.start s (λ h. let ends = done of.start of.owned of.is h in omega (arith, ints, of.before)) (λ h. IsSome-None (m of.start) (run of.start h) (IsSome-Some (m of.start) _ of.is))),
   )
   AreFuture-run t s ((k, None) ∷ es) last done later run =
       AreFuture-run t (k +ℤ pos 1) es last
@@ -87,10 +87,10 @@ module _ (owners : Owners) (m : Starts) (are : IsDivided owners m) (whole : AreW
         (λ u from before. free u from (omega (arith, ints, before, held.start))),
         omega (arith, ints, held.start, held.next.later),
         (λ u from before. held.belongs u (omega (arith, ints, held.start)) before),
-        whole p.segment.until (owner_of p) (record { start = k; part = p; is = run.2; until = refl; owner = refl }),
+        whole p.segment.until (owner_of p) (record { start = k; owned = p; is = run.2; until = refl; owner = refl }),
         AreFuture-run p.segment.until (k +ℤ pos 1) es (are.in_time p.segment.until held.next.some).1
             (λ j r is before. by_eq_z j k
-            (λ h. let same : p ≡ r = same_Some _ _ (same_Some _ _ (sym run.2 ∙ ap m (sym h) ∙ is)) in omega (arith, ints, ap (λ (x : Part). x.segment.until) same))
+            (λ h. let same : p ≡ r = same_Some _ _ (same_Some _ _ (sym run.2 ∙ ap m (sym h) ∙ is)) in omega (arith, ints, ap (λ (x : OwnedSegment). x.segment.until) same))
             (λ h. let ends = apart owners m j k r are is (IsSome-Some (m k) _ run.2) (by_lt_z j k (λ g. g) (λ g. absurd (h (omega (arith, ints))))) in omega (arith, ints, held.next.later)))
             (λ q from some. apart owners m k q p are run.2 some (omega (arith, ints)))
             run.3,
@@ -99,11 +99,11 @@ module _ (owners : Owners) (m : Starts) (are : IsDivided owners m) (whole : AreW
       free : (u : ℤ) → t ≤ℤ u → u <ℤ k → owners u ≡ None
       free u from before =
           owner-none owners m u are (λ of.
-          by_lt_z of.start s (λ h. let ends = done of.start of.part of.is h in omega (arith, ints, of.before))
+          by_lt_z of.start s (λ h. let ends = done of.start of.owned of.is h in omega (arith, ints, of.before))
           (λ h. IsSome-None (m of.start) (run.1 of.start h (omega (arith, ints, of.from))) (IsSome-Some (m of.start) _ of.is)))
 
-pub AreParts-stretches : (owners : Owners) (s : Stretches) → IsDivided owners (at s) → AreWhole owners (at s) → IsOrdered int_cmp s.map → AreParts owners (parts_in s)
-AreParts-stretches owners s are whole ordered = record {
+pub AreOwnedSegments-stretches : (owners : Owners) (s : Stretches) → IsDivided owners (at s) → AreWhole owners (at s) → IsOrdered int_cmp s.map → AreOwnedSegments owners (segments_in s)
+AreOwnedSegments-stretches owners s are whole ordered = record {
   nothing = λ u before.
       owner-none owners (at s) u are (λ of.
       let from = are.in_time of.start (IsSome-Some (at s of.start) _ of.is) in
@@ -114,11 +114,11 @@ AreParts-stretches owners s are whole ordered = record {
       (IsRun-found least_time s.map.entries ordered (first s.map.entries (λ e es is. (are.in_time e.0 (ap is_some (ap (λ l. found l e.0) is ∙ lookup_head (is_at (int_cmp e.0)) e es (is_eq-int_cmp e.0)))).0)));
 }
   where
-    first : (es : Entries) → ((e : ℤ × Option Part) (rest : Entries) → es ≡ e ∷ rest → least_time ≤ℤ e.0) → StartsFrom least_time es
+    first : (es : Entries) → ((e : ℤ × Option OwnedSegment) (rest : Entries) → es ≡ e ∷ rest → least_time ≤ℤ e.0) → StartsFrom least_time es
     first [] h = tt
     first (e ∷ es) h = h e es refl
 
-pub length-present : (parts : List (Option Part)) → length (present parts) ≤ length parts
+pub length-present : (segments : List (Option OwnedSegment)) → length (present segments) ≤ length segments
 length-present [] = omega arith
-length-present (None ∷ parts) = omega (arith, length-present parts)
-length-present (Some p ∷ parts) = omega (arith, length-present parts)
+length-present (None ∷ segments) = omega (arith, length-present segments)
+length-present (Some p ∷ segments) = omega (arith, length-present segments)

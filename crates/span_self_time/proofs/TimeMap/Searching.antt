@@ -9,7 +9,7 @@ use Rattle.std.specs.declared.result.Result.TheVariants.{Ok, Err}
 use Rattle.std.specs.BTreeMap.{BTreeMap, get}
 use Rattle.std.specs.BTreeMap.Range.{IsRangeOf}
 use Rattle.std.proofs.lemmas.Int.{ints}
-use Rattle.span_self_time.specs.declared.segment.Part.{Part}
+use Rattle.span_self_time.specs.declared.segment.OwnedSegment.{OwnedSegment}
 use Rattle.span_self_time.specs.Division.TimeMap.Stretches.{Starts, IsLast, IsNext}
 
 pub le-from_cmp : (a b : ℤ) → is_gt (int_cmp a b) ≡ false → a ≤ℤ b
@@ -28,7 +28,7 @@ pub none-unless : {A : Type 0} (o : Option A) → (IsSome o → ⊥) → o ≡ N
 none-unless None h = refl
 none-unless (Some x) h = absurd (h refl)
 
-pub IsLast-greatest : (m : Starts) (t k : ℤ) (v : Option Part) → m k ≡ Some v → is_gt (int_cmp k t) ≡ false → ((q : ℤ) → is_gt (int_cmp q t) ≡ false → IsSome (m q) → is_lt (int_cmp k q) ≡ false) → IsLast m t k v
+pub IsLast-greatest : (m : Starts) (t k : ℤ) (v : Option OwnedSegment) → m k ≡ Some v → is_gt (int_cmp k t) ≡ false → ((q : ℤ) → is_gt (int_cmp q t) ≡ false → IsSome (m q) → is_lt (int_cmp k q) ≡ false) → IsLast m t k v
 IsLast-greatest m t k v is upto greatest = record {
   is = is;
   first = le-from_cmp k t upto;
@@ -41,7 +41,7 @@ lt-from_cmp a b h = grind (arith, ints)
 cmp-from_lt : (a b : ℤ) → a <ℤ b → int_cmp a b ≡ Less
 cmp-from_lt a b h = grind (arith, ints)
 
-pub IsNext-first : (m : BTreeMap ℤ (Option Part)) (t n : ℤ) (v : Option Part) (found rest : List (ℤ × Option Part)) → IsRangeOf int_cmp (Excluded t) Unbounded m found → found ≡ (n, v) ∷ rest → IsNext (λ q. get int_cmp m q) t n
+pub IsNext-first : (m : BTreeMap ℤ (Option OwnedSegment)) (t n : ℤ) (v : Option OwnedSegment) (found rest : List (ℤ × Option OwnedSegment)) → IsRangeOf int_cmp (Excluded t) Unbounded m found → found ≡ (n, v) ∷ rest → IsNext (λ q. get int_cmp m q) t n
 IsNext-first m t n v found rest range is =
     let are = subst (λ l. IsRangeOf int_cmp (Excluded t) Unbounded m l) is range in
     record {

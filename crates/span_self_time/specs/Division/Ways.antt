@@ -6,13 +6,13 @@ use Rattle.span_self_time.specs.declared.division.Way.TheVariants.{Lone, Stacked
 use Rattle.span_self_time.specs.Spans.{Span}
 use Rattle.span_self_time.specs.Division.{Owners, owners_of}
 use Rattle.span_self_time.specs.Division.Lone.{IsLone}
-use Rattle.span_self_time.specs.Division.PartStacks.{ArePartStacks}
+use Rattle.span_self_time.specs.Division.SegmentStacks.{AreSegmentStacks}
 use Rattle.span_self_time.specs.Division.TimeMap.{IsTimeMap}
 
 -- what is kept is the time of these owners
 abbrev pub IsWay : Owners → Way → Type 0
 IsWay owners (Lone lone) = IsLone owners lone
-IsWay owners (Stacked t) = ArePartStacks owners t.value
+IsWay owners (Stacked t) = AreSegmentStacks owners t.value
 IsWay owners (Searched s) = IsTimeMap owners s.value
 
 -- the division is that of these spans

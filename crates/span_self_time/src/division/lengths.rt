@@ -1,11 +1,11 @@
-//! How long the parts of single spans are together, by the positions of the events that opened them.
+//! How long the segments of single spans are together, by the positions of the events that opened them.
 ghost use Rattle.std.specs.Prelude.{◌≡◌, ◌+◌, ◌<◌, ◌^◌, ◌∷◌, [], ◌==◌, ℕ, if◌then◌else◌, IfOk, OnOk};
 ghost use Rattle.span_self_time.specs.Division.{own_in};
 ghost use Rattle.span_self_time.specs.Division.Lengths.{time_at, CanGain, Gains};
-ghost use Rattle.span_self_time.specs.Division.PartStacks.{part_length};
+ghost use Rattle.span_self_time.specs.Division.SegmentStacks.{segment_length};
 
 use super::own_times::own_in;
-use crate::segment::Part;
+use crate::segment::OwnedSegment;
 use crate::span::ClosedSpan;
 use indexmap::IndexMap;
 use std::alloc::{AllocError, Global};
@@ -42,23 +42,23 @@ impl Lengths {
         }
     }
 
-    /// The span of each part gains the part's length.
-    pub(crate) fn gain_parts(&mut self, parts: &[Part]) -> Result<(), AllocError>
-        requires { CanGain self.old parts.now }
-        ensures { OnOk result (Gains self.old parts.now self.new) }
+    /// The span of each segment gains the segment's length.
+    pub(crate) fn gain_segments(&mut self, segments: &[OwnedSegment]) -> Result<(), AllocError>
+        requires { CanGain self.old segments.now }
+        ensures { OnOk result (Gains self.old segments.now self.new) }
     {
-        for part in parts {
-            self.gain_part(part)?;
+        for owned in segments {
+            self.gain_segment(owned)?;
         }
         Ok(())
     }
 
-    /// The part's span gains its length.
-    pub(crate) fn gain_part(&mut self, part: &Part) -> Result<(), AllocError>
-        requires { time_at self.old part.now.segment.at + part_length part.now < 2 ^ 64 }
-        ensures { OnOk result (Gains self.old (part.now ∷ []) self.new) }
+    /// The segment's span gains its length.
+    pub(crate) fn gain_segment(&mut self, owned: &OwnedSegment) -> Result<(), AllocError>
+        requires { time_at self.old owned.now.segment.at + segment_length owned.now < 2 ^ 64 }
+        ensures { OnOk result (Gains self.old (owned.now ∷ []) self.new) }
     {
-        self.gain(part.segment.at, part.length())
+        self.gain(owned.segment.at, owned.length())
     }
 
     fn gain(&mut self, at: u32, length: u64) -> Result<(), AllocError>

@@ -2,36 +2,36 @@
 ghost use Rattle.std.specs.Prelude.{◌≡◌, map, length, slice_get, option_copied, IfOk, OnOk};
 ghost use Rattle.span_self_time.specs.Division.{Owners, IsNew, AreSettled, CanAdd, owner_of, taken};
 ghost use Rattle.span_self_time.specs.Division.Lengths.{CanGain, Gains};
-ghost use Rattle.span_self_time.specs.Division.Lone.{IsLone, parts_of_lone};
-ghost use Rattle.span_self_time.specs.Division.PartStacks.{named_length, whole_length};
+ghost use Rattle.span_self_time.specs.Division.Lone.{IsLone, segments_of_lone};
+ghost use Rattle.span_self_time.specs.Division.SegmentStacks.{named_length, whole_length};
 ghost use Rattle.span_self_time.specs.Division.Ways.{IsWay};
 
 use super::Way;
 use super::lengths::Lengths;
-use super::part_stacks::PartStacks;
-use crate::segment::{Part, Segment};
+use super::segment_stacks::SegmentStacks;
+use crate::segment::{OwnedSegment, Segment};
 use std::alloc::{AllocError, Global};
 
-pub(crate) fn self_of(lone: &Option<Part>, name: u32) -> u64
-    ensures { result ≡ named_length name (parts_of_lone lone.now) }
+pub(crate) fn self_of(lone: &Option<OwnedSegment>, name: u32) -> u64
+    ensures { result ≡ named_length name (segments_of_lone lone.now) }
 {
     match lone {
-        Some(part) if part.segment.name == name => part.length(),
+        Some(owned) if owned.segment.name == name => owned.length(),
         _ => 0,
     }
 }
 
-pub(crate) fn busy(lone: &Option<Part>) -> u64
-    ensures { result ≡ whole_length (parts_of_lone lone.now) }
+pub(crate) fn busy(lone: &Option<OwnedSegment>) -> u64
+    ensures { result ≡ whole_length (segments_of_lone lone.now) }
 {
     match lone {
-        Some(part) => part.length(),
+        Some(owned) => owned.length(),
         None => 0,
     }
 }
 
-pub(crate) fn segment_count(lone: &Option<Part>) -> u64
-    ensures { result ≡ length (parts_of_lone lone.now) }
+pub(crate) fn segment_count(lone: &Option<OwnedSegment>) -> u64
+    ensures { result ≡ length (segments_of_lone lone.now) }
 {
     match lone {
         Some(_) => 1,
@@ -39,29 +39,36 @@ pub(crate) fn segment_count(lone: &Option<Part>) -> u64
     }
 }
 
-pub(crate) fn segment(lone: &Option<Part>, i: u64) -> Option<&Segment>
+pub(crate) fn segment(lone: &Option<OwnedSegment>, i: u64) -> Option<&Segment>
     ensures { option_copied result
-        ≡ slice_get (map (λ part. part.segment) (parts_of_lone lone.now)) i }
+        ≡ slice_get (map (λ owned. owned.segment) (segments_of_lone lone.now)) i }
 {
     match lone {
-        Some(part) if i == 0 => Some(&part.segment),
+        Some(owned) if i == 0 => Some(&owned.segment),
         _ => None,
     }
 }
 
-/// The span gains the length of its part.
-pub(crate) fn tell_parts(lone: &Option<Part>, times: &mut Lengths) -> Result<(), AllocError>
-    requires { CanGain times.old (parts_of_lone lone.now) }
-    ensures { OnOk result (Gains times.old (parts_of_lone lone.now) times.new) }
+/// The span gains the length of its segment.
+pub(crate) fn add_lengths(
+    lone: &Option<OwnedSegment>,
+    times: &mut Lengths,
+) -> Result<(), AllocError>
+    requires { CanGain times.old (segments_of_lone lone.now) }
+    ensures { OnOk result (Gains times.old (segments_of_lone lone.now) times.new) }
 {
     match lone {
-        Some(part) => times.gain_part(part),
+        Some(owned) => times.gain_segment(owned),
         None => Ok(()),
     }
 }
 
-/// The time once another span has taken its own: two stacks of parts, where both last.
-pub(crate) fn with_span(lone: Option<Part>, span: &Part, alloc: Global) -> Result<Way, AllocError>
+/// The time once another span has taken its own: two stacks of segments, where both last.
+pub(crate) fn with_span(
+    lone: Option<OwnedSegment>,
+    span: &OwnedSegment,
+    alloc: Global,
+) -> Result<Way, AllocError>
     requires { CanAdd IsLone (owner_of span.now) lone }
     ensures { IfOk result (λ way. (owners : Owners) → IsLone owners lone
         → IsNew (owner_of span.now) owners → AreSettled owners
@@ -70,12 +77,12 @@ pub(crate) fn with_span(lone: Option<Part>, span: &Part, alloc: Global) -> Resul
     if span.span_start == span.span_until {
         return Ok(Way::Lone(lone));
     }
-    let Some(part) = lone else {
+    let Some(owned) = lone else {
         let whole = span.between(span.span_start, span.span_until);
         return Ok(Way::Lone(Some(whole)));
     };
-    let mut stacks = PartStacks::new(alloc);
-    stacks.add(&part)?;
+    let mut stacks = SegmentStacks::new(alloc);
+    stacks.add(&owned)?;
     stacks.add(span)?;
     let stacks = Box::new(alloc, stacks)?;
     Ok(Way::Stacked(stacks))

@@ -6,9 +6,9 @@ ghost use Rattle.std.specs.Ordering.{int_cmp};
 ghost use Rattle.indexmap.specs.IndexMap.{get};
 ghost use Rattle.span_self_time.specs.Spans.{Span, self_of, busy_time};
 ghost use Rattle.span_self_time.specs.Closed.{AreClosed};
-ghost use Rattle.span_self_time.specs.Division.{Owners, owner_of, claims, owners_of, own_in, ForSome, HasParts, CanAdd, Adds, KeepsOwners};
+ghost use Rattle.span_self_time.specs.Division.{Owners, owner_of, claims, owners_of, own_in, ForSome, HasOwnedSegments, CanAdd, Adds, KeepsOwners};
 ghost use Rattle.span_self_time.specs.Division.Lengths.{CanGain, Gains};
-ghost use Rattle.span_self_time.specs.Division.TimeMap.Stretches.{at, parts_in};
+ghost use Rattle.span_self_time.specs.Division.TimeMap.Stretches.{at, segments_in};
 ghost use Rattle.span_self_time.specs.Division.TimeMap.Ties.{IsBarred, AreBarred};
 ghost use Rattle.span_self_time.specs.Division.TimeMap.{has_name, IsTimeMap, IsEntrant, IsTaking};
 
@@ -17,7 +17,7 @@ mod ties;
 
 use super::lengths::Lengths;
 use super::own_times::{gain_own, keep_name, lose_own, own_in};
-use crate::segment::{Part, Segment};
+use crate::segment::{OwnedSegment, Segment};
 use indexmap::IndexMap;
 use span_event::distance;
 use std::alloc::{AllocError, Global};
@@ -61,31 +61,33 @@ impl TimeMap {
 
     pub(crate) fn segment_count(&self) -> u64
         ensures { (owners : Owners) → IsTimeMap owners self.now
-            → HasParts owners (λ parts. result ≡ length parts) }
+            → HasOwnedSegments owners (λ segments. result ≡ length segments) }
     {
-        self.stretches.part_count()
+        self.stretches.segment_count()
     }
 
     pub(crate) fn segment(&self, i: u64) -> Option<&Segment>
-        ensures { (owners : Owners) → IsTimeMap owners self.now → HasParts owners (λ parts.
-            option_copied result ≡ slice_get (map (λ part. part.segment) parts) i) }
+        ensures { (owners : Owners) → IsTimeMap owners self.now
+            → HasOwnedSegments owners (λ segments.
+            option_copied result ≡ slice_get (map (λ owned. owned.segment) segments) i) }
     {
         self.stretches.segment(i)
     }
 
-    /// The span of each part gains the part's length.
-    pub(crate) fn tell_parts(&self, times: &mut Lengths) -> Result<(), AllocError>
+    /// The span of each segment gains the segment's length.
+    pub(crate) fn add_lengths(&self, times: &mut Lengths) -> Result<(), AllocError>
         requires { IsOrdered int_cmp self.now.stretches.map
-            → CanGain times.old (parts_in self.now.stretches) }
+            → CanGain times.old (segments_in self.now.stretches) }
         ensures { (owners : Owners) → IsTimeMap owners self.now
-            → HasParts owners (λ parts. OnOk result (Gains times.old parts times.new)) }
+            → HasOwnedSegments owners (λ segments.
+            OnOk result (Gains times.old segments times.new)) }
     {
-        self.stretches.tell_parts(times)
+        self.stretches.add_lengths(times)
     }
 
     /// The span takes the ticks that it covers from no one and from the spans that it outranks. Where memory is refused,
     /// no reader sees a change.
-    pub(crate) fn add(&mut self, span: &Part) -> Result<(), AllocError>
+    pub(crate) fn add(&mut self, span: &OwnedSegment) -> Result<(), AllocError>
         requires { CanAdd IsTimeMap (owner_of span.now) self.old }
         ensures ok { OnOk result (Adds IsTimeMap (owner_of span.now) self.old self.new) }
         ensures err { OnErr result (KeepsOwners IsTimeMap self.old self.new) }
@@ -105,15 +107,15 @@ impl TimeMap {
     }
 
     // Whether the span starts when another does.
-    fn starts_with_another(&self, span: &Part) -> bool {
-        match self.stretches.part_at(span.span_start) {
-            Some(part) => part.span_start == span.span_start,
+    fn starts_with_another(&self, span: &OwnedSegment) -> bool {
+        match self.stretches.segment_at(span.span_start) {
+            Some(owned) => owned.span_start == span.span_start,
             None => false,
         }
     }
 
     // Notes the span's end, if it starts with another.
-    fn note(&mut self, span: &Part, tied: bool)
+    fn note(&mut self, span: &OwnedSegment, tied: bool)
         ensures { (owners : Owners) → IsBarred owners span.now.span_start span.now.span_until
             → IsTimeMap owners self.old → IsTimeMap owners self.new }
     {
@@ -123,7 +125,7 @@ impl TimeMap {
     }
 
     // From stretch to stretch, or over all that a span covers from which the new one takes nothing.
-    fn go_through(&mut self, span: &Part)
+    fn go_through(&mut self, span: &OwnedSegment)
         requires { ForSome (λ owners. IsEntrant (owner_of span.now) owners
             × IsTaking (owner_of span.now) span.now.span_start self.old owners) }
         ensures { (owners : Owners) → IsEntrant (owner_of span.now) owners
@@ -137,7 +139,7 @@ impl TimeMap {
     }
 
     // Takes the stretch that starts at `time`, or goes over a span from which it takes nothing. Returns the time before which all is taken.
-    fn go_on(&mut self, span: &Part, time: i64) -> i64
+    fn go_on(&mut self, span: &OwnedSegment, time: i64) -> i64
         requires taking { ForSome (λ owners. IsEntrant (owner_of span.now) owners
             × IsTaking (owner_of span.now) time self.old owners) }
         requires within { time <ℤ span.now.span_until }
@@ -146,37 +148,37 @@ impl TimeMap {
             → IsTaking (owner_of span.now) result self.new owners }
         ensures on { time <ℤ result }
     {
-        let held = self.stretches.part_at(time);
+        let held = self.stretches.segment_at(time);
         if span.claims(&held) {
             return self.take(span, time, held);
         }
-        let Some(part) = held else {
+        let Some(owned) = held else {
             unreachable!();
         };
-        self.over(span, &part)
+        self.over(span, &owned)
     }
 
-    // The time up to which the part's span, or another that starts with it, leaves nothing to the new span.
-    fn over(&self, span: &Part, part: &Part) -> i64
-        requires { claims (owner_of span.now) (Some (owner_of part.now)) ≡ false }
-        ensures on { part.now.span_until ≤ℤ result }
+    // The time up to which the segment's span, or another that starts with it, leaves nothing to the new span.
+    fn over(&self, span: &OwnedSegment, owned: &OwnedSegment) -> i64
+        requires { claims (owner_of span.now) (Some (owner_of owned.now)) ≡ false }
+        ensures on { owned.now.span_until ≤ℤ result }
         ensures barred { (owners : Owners) (u : ℤ) → AreBarred owners self.now.ties
-            → part.now.span_start ≤ℤ u → part.now.span_until ≤ℤ u → u <ℤ result
+            → owned.now.span_start ≤ℤ u → owned.now.span_until ≤ℤ u → u <ℤ result
             → claims (owner_of span.now) (owners u) ≡ false }
     {
-        let end = if span.span_start < part.span_start {
+        let end = if span.span_start < owned.span_start {
             i64::MAX
         } else {
             span.span_until
         };
-        match self.ties.last_before(part.span_start, end) {
-            Some(until) => until.max(part.span_until),
-            None => part.span_until,
+        match self.ties.last_before(owned.span_start, end) {
+            Some(until) => until.max(owned.span_until),
+            None => owned.span_until,
         }
     }
 
     // Takes the stretch that starts at `time`. Returns its end.
-    fn take(&mut self, span: &Part, time: i64, held: Option<Part>) -> i64
+    fn take(&mut self, span: &OwnedSegment, time: i64, held: Option<OwnedSegment>) -> i64
         requires taking { ForSome (λ owners. IsEntrant (owner_of span.now) owners
             × IsTaking (owner_of span.now) time self.old owners) }
         requires within { time <ℤ span.now.span_until }
@@ -195,13 +197,13 @@ impl TimeMap {
     }
 
     // Who held the time loses it, and then the name gains it.
-    fn charge(&mut self, name: u32, held: &Option<Part>, length: u64)
+    fn charge(&mut self, name: u32, held: &Option<OwnedSegment>, length: u64)
         requires some { 0 < length }
         requires kept { IsSome (get nat_eq self.old.own name) }
         requires small { own_in self.old.own name + length
             < 2 ^ 64 + (if has_name name (option_map owner_of held.now) then length else 0) }
         requires busy { self.old.busy + length < 2 ^ 64 + (if is_some held.now then length else 0) }
-        requires held { IfSome held.now (λ part. length ≤ own_in self.old.own part.segment.name) }
+        requires held { IfSome held.now (λ owned. length ≤ own_in self.old.own owned.segment.name) }
         ensures own { (other : ℕ) → own_in self.new.own other
             + (if has_name other (option_map owner_of held.now) then length else 0)
             ≡ own_in self.old.own other + (if name == other then length else 0) }
@@ -213,7 +215,7 @@ impl TimeMap {
         ensures ties { self.new.ties ≡ self.old.ties }
     {
         match held {
-            Some(part) => lose_own(&mut self.own, part.segment.name, length),
+            Some(owned) => lose_own(&mut self.own, owned.segment.name, length),
             None => self.busy += length,
         }
         gain_own(&mut self.own, name, length);

@@ -2,7 +2,7 @@
 use Rattle.std.specs.Prelude.{◌≡◌, ◌≢◌, ℕ, ℤ, ◌≤ℤ◌, ◌<ℤ◌, IsSome, List, [], ◌∷◌, Option, Some, None}
 use Rattle.std.specs.Ordering.{int_cmp}
 use Rattle.std.specs.BTreeMap.{get, values}
-use Rattle.span_self_time.specs.declared.segment.Part.{Part}
+use Rattle.span_self_time.specs.declared.segment.OwnedSegment.{OwnedSegment}
 use Rattle.span_self_time.specs.declared.division.time_map.stretches.Stretches.{Stretches}
 use Rattle.span_self_time.specs.Spans.{Span}
 use Rattle.span_event.specs.Event.{least_time}
@@ -11,13 +11,13 @@ use Rattle.span_self_time.specs.Division.{Owners, owner_of, Belong}
 
 -- what starts at each time, if anything
 abbrev pub Starts : Type 0
-Starts = ℤ → Option (Option Part)
+Starts = ℤ → Option (Option OwnedSegment)
 
 abbrev pub at : Stretches → Starts
 at s q = get int_cmp s.map q
 
 -- the stretch that starts at k is the last one that starts no later than t
-pub record IsLast (m : Starts) (t k : ℤ) (v : Option Part) : Type 0 where
+pub record IsLast (m : Starts) (t k : ℤ) (v : Option OwnedSegment) : Type 0 where
   pub is : m k ≡ Some v
   pub first : k ≤ℤ t
   pub none : (q : ℤ) → k <ℤ q → q ≤ℤ t → m q ≡ None
@@ -28,49 +28,49 @@ pub record IsNext (m : Starts) (t n : ℤ) : Type 0 where
   pub later : t <ℤ n
   pub none : (q : ℤ) → t <ℤ q → q <ℤ n → m q ≡ None
 
--- the part at k is of its span, and the next stretch starts where it ends
-pub record IsHeld (owners : Owners) (m : Starts) (k : ℤ) (p : Part) : Type 0 where
+-- the segment at k is of its span, and the next stretch starts where it ends
+pub record IsHeld (owners : Owners) (m : Starts) (k : ℤ) (p : OwnedSegment) : Type 0 where
   pub start : p.segment.start ≡ k
   pub belongs : Belong owners k p.segment.until (Some (owner_of p))
   pub next : IsNext m k p.segment.until
 
--- u is a tick of a part
-pub record IsOfPart (m : Starts) (u : ℤ) : Type 0 where
+-- u is a tick of a segment
+pub record IsOfSegment (m : Starts) (u : ℤ) : Type 0 where
   pub start : ℤ
-  pub part : Part
-  pub is : m start ≡ Some (Some part)
+  pub owned : OwnedSegment
+  pub is : m start ≡ Some (Some owned)
   pub from : start ≤ℤ u
-  pub before : u <ℤ part.segment.until
+  pub before : u <ℤ owned.segment.until
 
 -- the stretches are those of these owners
 pub record IsDivided (owners : Owners) (m : Starts) : Type 0 where
-  pub held : (k : ℤ) (p : Part) → m k ≡ Some (Some p) → IsHeld owners m k p
-  pub owned : (u : ℤ) (o : Span ℕ) → owners u ≡ Some o → IsOfPart m u
+  pub held : (k : ℤ) (p : OwnedSegment) → m k ≡ Some (Some p) → IsHeld owners m k p
+  pub owned : (u : ℤ) (o : Span ℕ) → owners u ≡ Some o → IsOfSegment m u
   pub in_time : (k : ℤ) → IsSome (m k) → (least_time ≤ℤ k) × (k ≤ℤ greatest_until)
 
--- a part of this owner ends at t
+-- a segment of this owner ends at t
 pub record IsEnd (m : Starts) (t : ℤ) (o : Span ℕ) : Type 0 where
   pub start : ℤ
-  pub part : Part
-  pub is : m start ≡ Some (Some part)
-  pub until : part.segment.until ≡ t
-  pub owner : owner_of part ≡ o
+  pub owned : OwnedSegment
+  pub is : m start ≡ Some (Some owned)
+  pub until : owned.segment.until ≡ t
+  pub owner : owner_of owned ≡ o
 
 -- n has v at k, and at each other time what m has
-pub record IsPut (m : Starts) (k : ℤ) (v : Option (Option Part)) (n : Starts) : Type 0 where
+pub record IsPut (m : Starts) (k : ℤ) (v : Option (Option OwnedSegment)) (n : Starts) : Type 0 where
   pub here : n k ≡ v
   pub others : (q : ℤ) → q ≢ k → n q ≡ m q
 
--- each part is as long as can be: where it ends, its span's time does
+-- each segment is as long as can be: where it ends, its span's time does
 abbrev pub AreWhole : Owners → Starts → Type 0
 AreWhole owners m = (t : ℤ) (o : Span ℕ) → IsEnd m t o → owners t ≢ Some o
 
 -- what is there of these
-abbrev pub present : List (Option Part) → List Part
+abbrev pub present : List (Option OwnedSegment) → List OwnedSegment
 present [] = []
-present (None ∷ parts) = present parts
-present (Some p ∷ parts) = p ∷ present parts
+present (None ∷ segments) = present segments
+present (Some p ∷ segments) = p ∷ present segments
 
--- the parts in order
-abbrev pub parts_in : Stretches → List Part
-parts_in s = present (values s.map)
+-- the segments in order
+abbrev pub segments_in : Stretches → List OwnedSegment
+segments_in s = present (values s.map)

@@ -12,9 +12,9 @@ use Rattle.span_self_time.proofs.division.Division.add.Goals as goal
 owners_of-push : (spans : List (Span ℕ)) (s : Span ℕ) → owners_of (spans ++ s ∷ []) ≡ taken (bare s) (owners_of spans)
 owners_of-push spans s = λ i u. owners_of-append spans s u i
 
--- the part of a whole span is of that span
-own : (c : After-suit) → owner_of c.whole-part.result ≡ bare (span_of c.args.span.now)
-own c = ap owner_of c.whole-part.ensures
+-- the segment of a whole span is of that span
+own : (c : After-suit) → owner_of c.whole-owned.result ≡ bare (span_of c.args.span.now)
+own c = ap owner_of c.whole-owned.ensures
 
 new : (c : After-suit) → IsNew (bare (span_of c.args.span.now)) (owners_of (map span_of c.args.others.now))
 new c = owners_of-apart (map span_of c.args.others.now) c.args.span.now.at c.requires.apart

@@ -1,25 +1,25 @@
 use Rattle.std.proofs.Common.{◌≡◌, slice_get, option_copied, List, sym, subst}
 use Rattle.span_self_time.specs.declared.segment.Segment.{Segment}
 use Rattle.span_self_time.specs.Division.{owners_of}
-use Rattle.span_self_time.specs.Division.PartStacks.{ArePartStacks}
+use Rattle.span_self_time.specs.Division.SegmentStacks.{AreSegmentStacks}
 use Rattle.span_self_time.specs.Division.TimeMap.{IsTimeMap}
 use Rattle.span_self_time.specs.Division.Ways.{IsWay}
-use Rattle.span_self_time.proofs.Lone.{AreParts-lone}
-use Rattle.span_self_time.proofs.Segments.{HasSegmentsWith-parts}
+use Rattle.span_self_time.proofs.Lone.{AreOwnedSegments-lone}
+use Rattle.span_self_time.proofs.Segments.{HasSegmentsWith-owned}
 use Rattle.span_self_time.proofs.division.Division.segment.Goals as goal
 
 pub returns-in-Stacked : goal.returns-in-Stacked
 returns-in-Stacked c = λ spans closed is.
-    let kept = subst (ArePartStacks (owners_of spans)) (sym c.deref.ensures) (subst (IsWay (owners_of spans)) c.in-Stacked.is is) in
-    HasSegmentsWith-parts (λ (segments : List Segment). option_copied c.segment-in-Stacked.result ≡ slice_get segments c.args.i) spans _ closed kept.parts c.segment-in-Stacked.ensures
+    let kept = subst (AreSegmentStacks (owners_of spans)) (sym c.deref.ensures) (subst (IsWay (owners_of spans)) c.in-Stacked.is is) in
+    HasSegmentsWith-owned (λ (segments : List Segment). option_copied c.segment-in-Stacked.result ≡ slice_get segments c.args.i) spans _ closed kept.segments c.segment-in-Stacked.ensures
 
 pub returns-in-Searched : goal.returns-in-Searched
 returns-in-Searched c = λ spans closed is.
     let kept = subst (IsTimeMap (owners_of spans)) (sym c.deref-in-Searched.ensures) (subst (IsWay (owners_of spans)) c.in-Searched.is is) in
     let has = c.segment-in-Searched.ensures (owners_of spans) kept in
-    HasSegmentsWith-parts (λ (segments : List Segment). option_copied c.segment-in-Searched.result ≡ slice_get segments c.args.i) spans has.parts closed has.are has.holds
+    HasSegmentsWith-owned (λ (segments : List Segment). option_copied c.segment-in-Searched.result ≡ slice_get segments c.args.i) spans has.segments closed has.are has.holds
 
 pub returns-in-Lone : goal.returns-in-Lone
 returns-in-Lone c = λ spans closed is.
     let lone = subst (IsWay (owners_of spans)) c.in-Lone.is is in
-    HasSegmentsWith-parts (λ (segments : List Segment). option_copied c.segment.result ≡ slice_get segments c.args.i) spans _ closed (AreParts-lone _ _ lone) c.segment.ensures
+    HasSegmentsWith-owned (λ (segments : List Segment). option_copied c.segment.result ≡ slice_get segments c.args.i) spans _ closed (AreOwnedSegments-lone _ _ lone) c.segment.ensures

@@ -1,27 +1,27 @@
 use Rattle.std.proofs.Common.{◌≡◌, length, List, sym, ◌∙◌, subst}
 use Rattle.std.proofs.lemmas.List.{length-map}
-use Rattle.span_self_time.specs.declared.segment.Part.{Part}
+use Rattle.span_self_time.specs.declared.segment.OwnedSegment.{OwnedSegment}
 use Rattle.span_self_time.specs.declared.segment.Segment.{Segment}
 use Rattle.span_self_time.specs.Division.{owners_of}
-use Rattle.span_self_time.specs.Division.PartStacks.{ArePartStacks}
+use Rattle.span_self_time.specs.Division.SegmentStacks.{AreSegmentStacks}
 use Rattle.span_self_time.specs.Division.TimeMap.{IsTimeMap}
 use Rattle.span_self_time.specs.Division.Ways.{IsWay}
-use Rattle.span_self_time.proofs.Lone.{AreParts-lone}
-use Rattle.span_self_time.proofs.Segments.{HasSegmentsWith-parts}
+use Rattle.span_self_time.proofs.Lone.{AreOwnedSegments-lone}
+use Rattle.span_self_time.proofs.Segments.{HasSegmentsWith-owned}
 use Rattle.span_self_time.proofs.division.Division.segment_count.Goals as goal
 
 pub returns-in-Stacked : goal.returns-in-Stacked
 returns-in-Stacked c = λ spans closed is.
-    let kept = subst (ArePartStacks (owners_of spans)) (sym c.deref.ensures) (subst (IsWay (owners_of spans)) c.in-Stacked.is is) in
-    HasSegmentsWith-parts (λ (segments : List Segment). c.segment_count-in-Stacked.result ≡ length segments) spans _ closed kept.parts (c.segment_count-in-Stacked.ensures ∙ sym (length-map _ (λ (p : Part). p.segment)))
+    let kept = subst (AreSegmentStacks (owners_of spans)) (sym c.deref.ensures) (subst (IsWay (owners_of spans)) c.in-Stacked.is is) in
+    HasSegmentsWith-owned (λ (segments : List Segment). c.segment_count-in-Stacked.result ≡ length segments) spans _ closed kept.segments (c.segment_count-in-Stacked.ensures ∙ sym (length-map _ (λ (p : OwnedSegment). p.segment)))
 
 pub returns-in-Searched : goal.returns-in-Searched
 returns-in-Searched c = λ spans closed is.
     let kept = subst (IsTimeMap (owners_of spans)) (sym c.deref-in-Searched.ensures) (subst (IsWay (owners_of spans)) c.in-Searched.is is) in
     let has = c.segment_count-in-Searched.ensures (owners_of spans) kept in
-    HasSegmentsWith-parts (λ (segments : List Segment). c.segment_count-in-Searched.result ≡ length segments) spans has.parts closed has.are (has.holds ∙ sym (length-map has.parts (λ (p : Part). p.segment)))
+    HasSegmentsWith-owned (λ (segments : List Segment). c.segment_count-in-Searched.result ≡ length segments) spans has.segments closed has.are (has.holds ∙ sym (length-map has.segments (λ (p : OwnedSegment). p.segment)))
 
 pub returns-in-Lone : goal.returns-in-Lone
 returns-in-Lone c = λ spans closed is.
     let lone = subst (IsWay (owners_of spans)) c.in-Lone.is is in
-    HasSegmentsWith-parts (λ (segments : List Segment). c.segment_count.result ≡ length segments) spans _ closed (AreParts-lone _ _ lone) (c.segment_count.ensures ∙ sym (length-map _ (λ (p : Part). p.segment)))
+    HasSegmentsWith-owned (λ (segments : List Segment). c.segment_count.result ≡ length segments) spans _ closed (AreOwnedSegments-lone _ _ lone) (c.segment_count.ensures ∙ sym (length-map _ (λ (p : OwnedSegment). p.segment)))

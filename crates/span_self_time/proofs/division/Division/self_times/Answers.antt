@@ -18,13 +18,13 @@ returns c =
     let list = c.args.spans.now in
     let spans = map span_of list in
     let none = c.in_ok-lengths.lengths in
-    let told = c.tell_parts.new.times in
-    let time : Span ℕ → ℕ = λ s. time_at told s.at in
-    let has = c.tell_parts.ensures (owners_of spans) c.requires.division in
-    let gains : Gains none has.parts told = subst (λ r. OnOk r (Gains none has.parts told)) c.in_ok-tell_parts.was has.holds in
+    let gained = c.add_lengths.new.times in
+    let time : Span ℕ → ℕ = λ s. time_at gained s.at in
+    let has = c.add_lengths.ensures (owners_of spans) c.requires.division in
+    let gains : Gains none has.segments gained = subst (λ r. OnOk r (Gains none has.segments gained)) c.in_ok-add_lengths.was has.holds in
     let own : All (λ s. time s ≡ self_time spans s) spans = λ k d within.
     let at = (get_or spans k d).at in
-    omega (arith, gains at, c.in_ok-lengths.ensures at, length_at-self_time spans has.parts c.requires.closed has.are k d within) in
+    omega (arith, gains at, c.in_ok-lengths.ensures at, length_at-self_time spans has.segments c.requires.closed has.are k d within) in
     let all : take c.loop-span.span-index list ≡ list = take_all c.loop-span.span-index list c.loop-span-test.false in
     c.loop-span.invariant ∙ ap (map (λ (s : ClosedSpan). time (span_of s))) all ∙ sym (map-map time span_of list)
     ∙ map-same time (self_time spans) spans own

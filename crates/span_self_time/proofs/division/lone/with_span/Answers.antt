@@ -2,7 +2,7 @@ use Rattle.std.proofs.Common.{Some, sym, subst, arith}
 use Rattle.std.proofs.lemmas.Int.{ints}
 use Rattle.span_self_time.specs.Division.{Owners, owner_of, taken}
 use Rattle.span_self_time.specs.Division.Lone.{IsLone}
-use Rattle.span_self_time.specs.Division.PartStacks.{ArePartStacks}
+use Rattle.span_self_time.specs.Division.SegmentStacks.{AreSegmentStacks}
 use Rattle.span_self_time.proofs.Lone.{nobody, AreSettled-nobody, IsNew-nobody, taken-nothing}
 use Rattle.span_self_time.proofs.division.lone.with_span.Goals.{In_ok-add}
 use Rattle.span_self_time.proofs.division.lone.with_span.Goals as goal
@@ -13,10 +13,10 @@ returns-then-span c = λ owners is new settled.
     subst (λ (o : Owners). IsLone o c.args.lone) (sym same) is
 
 -- the stacks of the first span are those of its owners
-first : (c : In_ok-add) (owners : Owners) → IsLone owners c.args.lone → ArePartStacks owners c.add.new.self
+first : (c : In_ok-add) (owners : Owners) → IsLone owners c.args.lone → AreSegmentStacks owners c.add.new.self
 first c owners is =
-    let alone : IsLone owners (Some c.in-Some.part) = subst (IsLone owners) c.in-Some.is is in
-    subst (λ (o : Owners). ArePartStacks o c.add.new.self) (sym alone.taken_all) (c.in_ok-add.ensures.ok nobody c.new-stacks.ensures (IsNew-nobody (owner_of c.in-Some.part)) AreSettled-nobody)
+    let alone : IsLone owners (Some c.in-Some.owned) = subst (IsLone owners) c.in-Some.is is in
+    subst (λ (o : Owners). AreSegmentStacks o c.add.new.self) (sym alone.taken_all) (c.in_ok-add.ensures.ok nobody c.new-stacks.ensures (IsNew-nobody (owner_of c.in-Some.owned)) AreSettled-nobody)
 
 pub add-requires-2 : goal.add-requires-2
 add-requires-2 c =
@@ -27,4 +27,4 @@ add-requires-2 c =
 pub returns : goal.returns
 returns c = λ owners is new settled.
     let at = (goal.at.returns c).In_ok-add in
-    subst (ArePartStacks (taken (owner_of c.args.span.now) owners)) (sym c.in_ok-stacks.ensures.ok) (c.in_ok-add-2.ensures.ok owners (first at owners is) new settled)
+    subst (AreSegmentStacks (taken (owner_of c.args.span.now) owners)) (sym c.in_ok-stacks.ensures.ok) (c.in_ok-add-2.ensures.ok owners (first at owners is) new settled)

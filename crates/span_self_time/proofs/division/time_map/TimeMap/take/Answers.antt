@@ -1,6 +1,6 @@
 use Rattle.std.proofs.Common.{option_map, eq-eqb, rules, ◌≡◌, Some, sym, ap, subst, w64, to_z, of_z, IsSome, refl}
 use Rattle.std.specs.Option.{is_some}
-use Rattle.span_self_time.specs.declared.segment.Part.{Part}
+use Rattle.span_self_time.specs.declared.segment.OwnedSegment.{OwnedSegment}
 use Rattle.span_self_time.specs.declared.division.time_map.stretches.Stretches.{Stretches}
 use Rattle.span_event.specs.Time.{distance}
 use Rattle.span_self_time.specs.Division.{owner_of, between}
@@ -69,10 +69,10 @@ returns-clause-taking c = λ owners enter is.
     let time : to_z w64 (of_z w64 t) ≡ t = search rules in
     let until : to_z w64 (of_z w64 n) ≡ n = search rules in
     let length : c.distance.result ≡ distance t n = rw (time, until) at c.distance.ensures in
-    let part : c.between.result ≡ between span t n = rw (time, until) at c.between.ensures in
+    let owned : c.between.result ≡ between span t n = rw (time, until) at c.between.ensures in
     let claim : IsClaimed s t n c.args.held c.args.self.now = record { within = c.requires.within; here = c.requires.held; claimed = c.requires.claimed; next = rw time at c.end_of-until.ensures } in
     let written : IsPut (at c.charge.new.self.stretches) t (Some (Some (between span t n))) (at c.write.new.self) =
-    subst (λ (p : Part). IsPut (at c.charge.new.self.stretches) t (Some (Some p)) (at c.write.new.self)) part (subst (λ t. IsPut (at c.charge.new.self.stretches) t (Some (Some c.between.result)) (at c.write.new.self)) time c.write.ensures) in
+    subst (λ (p : OwnedSegment). IsPut (at c.charge.new.self.stretches) t (Some (Some p)) (at c.write.new.self)) owned (subst (λ t. IsPut (at c.charge.new.self.stretches) t (Some (Some c.between.result)) (at c.write.new.self)) time c.write.ensures) in
     let given : IsGiven s t n (between span t n) c.args.self.now.stretches c.write.new.self = record {
       put = subst (λ (x : Stretches). IsPut (at x) t (Some (Some (between span t n))) (at c.write.new.self)) c.charge.ensures.stretches written;
       start = refl;

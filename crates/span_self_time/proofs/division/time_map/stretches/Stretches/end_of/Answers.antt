@@ -3,5 +3,5 @@ use Rattle.span_self_time.proofs.division.time_map.stretches.Stretches.end_of.Go
 
 pub returns-in-Some : goal.returns-in-Some
 returns-in-Some c =
-    let until : to_z w64 (of_z w64 c.in-Some.part.segment.until) ≡ c.in-Some.part.segment.until = search rules in
-    rw until (c.requires.divided.holds.held c.args.time c.in-Some.part (c.requires.held ∙ ap Some c.in-Some.is)).next
+    let until : to_z w64 (of_z w64 c.in-Some.owned.segment.until) ≡ c.in-Some.owned.segment.until = search rules in
+    rw until (c.requires.divided.holds.held c.args.time c.in-Some.owned (c.requires.held ∙ ap Some c.in-Some.is)).next

@@ -3,7 +3,7 @@ use Rattle.std.specs.Option.{is_some}
 use Rattle.std.proofs.lemmas.Int.{ints}
 use Rattle.span_self_time.specs.Division.TimeMap.Stretches.{at, IsLast, IsPut}
 use Rattle.span_self_time.specs.Division.{between}
-use Rattle.span_self_time.proofs.TimeMap.Joining.{apart-free, apart-none, part-last, apart-other, IsJoined, IsJoined-put, keeps-joined, IsDivided-joined, IsEnd-joined, apart-joined}
+use Rattle.span_self_time.proofs.TimeMap.Joining.{apart-free, apart-none, segment-last, apart-other, IsJoined, IsJoined-put, keeps-joined, IsDivided-joined, IsEnd-joined, apart-joined}
 use Rattle.span_self_time.proofs.division.time_map.stretches.Stretches.join.Goals as goal
 
 pub returns-in_default-clause-apart : goal.returns-in_default-clause-apart
@@ -22,37 +22,37 @@ returns-in_default-held-clause-apart c = λ owners o are end.
     let t = c.args.time in
     let sooner : to_z w64 (of_z w64 (to_z w64 (of_z w64 t) -ℤ pos 1)) ≡ (t -ℤ pos 1) = search rules in
     let last : IsLast m (t -ℤ pos 1) c.in-Some-last_at.start None = subst (λ v. IsLast m (t -ℤ pos 1) c.in-Some-last_at.start v) c.in_default-held.is (rw sooner at c.in-Some-last_at.ensures) in
-    absurd (part-last owners m t c.in-Some-last_at.start None o are last end (λ r same own. cc))
+    absurd (segment-last owners m t c.in-Some-last_at.start None o are last end (λ r same own. cc))
 
 pub returns-else-is_of_span_of-clause-apart : goal.returns-else-is_of_span_of-clause-apart
 returns-else-is_of_span_of-clause-apart c = λ owners o are end.
     let m = at c.args.self.now in
     let t = c.args.time in
-    let part = c.in-Some-held.part in
+    let owned = c.in-Some-held.owned in
     let time : to_z w64 (of_z w64 t) ≡ t = search rules in
     let sooner : to_z w64 (of_z w64 (to_z w64 (of_z w64 t) -ℤ pos 1)) ≡ (t -ℤ pos 1) = search rules in
-    let last : IsLast m (t -ℤ pos 1) c.in-Some-last_at.start (Some part) = subst (λ v. IsLast m (t -ℤ pos 1) c.in-Some-last_at.start v) c.in-Some-held.is (rw sooner at c.in-Some-last_at.ensures) in
-    apart-other owners m t c.in-Some-last_at.start part c.in-Some.later o are last (rw time at c.in-Some.ensures) c.if-is_of_span_of.ensures.differs end
+    let last : IsLast m (t -ℤ pos 1) c.in-Some-last_at.start (Some owned) = subst (λ v. IsLast m (t -ℤ pos 1) c.in-Some-last_at.start v) c.in-Some-held.is (rw sooner at c.in-Some-last_at.ensures) in
+    apart-other owners m t c.in-Some-last_at.start owned c.in-Some.later o are last (rw time at c.in-Some.ensures) c.if-is_of_span_of.ensures.differs end
 
-joined : (c : goal.After-write) → IsJoined (at c.args.self.now) (at c.write.new.self) c.args.time c.in-Some-held.part c.in-Some.later c.in-Some-last_at.start
+joined : (c : goal.After-write) → IsJoined (at c.args.self.now) (at c.write.new.self) c.args.time c.in-Some-held.owned c.in-Some.later c.in-Some-last_at.start
 joined c =
     let m = at c.args.self.now in
     let less = at c.remove.new.self in
     let n = at c.write.new.self in
     let t = c.args.time in
     let k = c.in-Some-last_at.start in
-    let part = c.in-Some-held.part in
+    let owned = c.in-Some-held.owned in
     let later = c.in-Some.later in
     let time : to_z w64 (of_z w64 t) ≡ t = search rules in
     let sooner : to_z w64 (of_z w64 (to_z w64 (of_z w64 t) -ℤ pos 1)) ≡ (t -ℤ pos 1) = search rules in
     let start : to_z w64 (of_z w64 k) ≡ k = search rules in
-    let first : to_z w64 (of_z w64 part.segment.start) ≡ part.segment.start = search rules in
+    let first : to_z w64 (of_z w64 owned.segment.start) ≡ owned.segment.start = search rules in
     let until : to_z w64 (of_z w64 later.segment.until) ≡ later.segment.until = search rules in
-    let whole : c.between.result ≡ between part part.segment.start later.segment.until = rw (first, until) at c.between.ensures in
-    let last : IsLast m (t -ℤ pos 1) k (Some part) = subst (λ v. IsLast m (t -ℤ pos 1) k v) c.in-Some-held.is (rw sooner at c.in-Some-last_at.ensures) in
+    let whole : c.between.result ≡ between owned owned.segment.start later.segment.until = rw (first, until) at c.between.ensures in
+    let last : IsLast m (t -ℤ pos 1) k (Some owned) = subst (λ v. IsLast m (t -ℤ pos 1) k v) c.in-Some-held.is (rw sooner at c.in-Some-last_at.ensures) in
     let gone : IsPut m t None less = subst (λ t. IsPut m t None less) time c.remove.ensures in
-    let written : IsPut less k (Some (Some (between part part.segment.start later.segment.until))) n = subst (λ p. IsPut less k (Some (Some p)) n) whole (subst (λ k. IsPut less k (Some (Some c.between.result)) n) start c.write.ensures) in
-    IsJoined-put m less n t k part later last (rw time at c.in-Some.ensures) c.if-is_of_span_of.ensures.same gone written
+    let written : IsPut less k (Some (Some (between owned owned.segment.start later.segment.until))) n = subst (λ p. IsPut less k (Some (Some p)) n) whole (subst (λ k. IsPut less k (Some (Some c.between.result)) n) start c.write.ensures) in
+    IsJoined-put m less n t k owned later last (rw time at c.in-Some.ensures) c.if-is_of_span_of.ensures.same gone written
 
 pub write-requires : goal.write-requires
 write-requires c =

@@ -9,4 +9,4 @@ returns-in-Some c =
     let time : to_z w64 (of_z w64 c.args.time) ≡ c.args.time = search rules in
     let range = c.range.ensures.in_range tt in
     let here = range.3 _ _ c.in-Some.ensures.steps in
-    rw start (subst (λ t. IsLast (at c.args.self.now) t c.in-Some.start.now c.in-Some.part.now) time (IsLast-greatest (at c.args.self.now) (to_z w64 (of_z w64 c.args.time)) c.in-Some.start.now c.in-Some.part.now here.1 here.0.1 (λ q upto some. range.4 _ _ c.in-Some.ensures.steps q (tt, upto) some)))
+    rw start (subst (λ t. IsLast (at c.args.self.now) t c.in-Some.start.now c.in-Some.owned.now) time (IsLast-greatest (at c.args.self.now) (to_z w64 (of_z w64 c.args.time)) c.in-Some.start.now c.in-Some.owned.now here.1 here.0.1 (λ q upto some. range.4 _ _ c.in-Some.ensures.steps q (tt, upto) some)))

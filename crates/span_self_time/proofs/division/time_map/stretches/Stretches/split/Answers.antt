@@ -21,7 +21,7 @@ returns-in_default-clause-divided c =
     } in
     λ owners are. IsDivided-free owners m n t are opened c.requires.from_in_time c.requires.to_in_time
 
--- after the last part
+-- after the last segment
 opened : (c : goal.In_ok-put-2) → IsOpened (at c.args.self.now) (at c.put-in_default-held.new.self) c.args.time
 opened c =
     let m = at c.args.self.now in
@@ -53,24 +53,24 @@ write-requires c =
     let put : IsPut m t (Some (Some c.between.result)) tailed = subst (λ t. IsPut m t (Some (Some c.between.result)) tailed) time c.in_ok-put-3.ensures.ok in
     rw start (ap is_some (put.others k (λ e. c.if-start-time.false (ap (of_z w64) e)) ∙ c.in-Some.ensures.is))
 
-cut : (c : goal.After-write) → IsCut (at c.args.self.now) (at c.write.new.self) c.args.time c.in-Some-held.part c.in-Some.start
+cut : (c : goal.After-write) → IsCut (at c.args.self.now) (at c.write.new.self) c.args.time c.in-Some-held.owned c.in-Some.start
 cut c =
     let m = at c.args.self.now in
     let tailed = at c.put-2.new.self in
     let n = at c.write.new.self in
     let t = c.args.time in
     let k = c.in-Some.start in
-    let part = c.in-Some-held.part in
+    let owned = c.in-Some-held.owned in
     let time : to_z w64 (of_z w64 t) ≡ t = search rules in
     let start : to_z w64 (of_z w64 k) ≡ k = search rules in
-    let first : to_z w64 (of_z w64 part.segment.start) ≡ part.segment.start = search rules in
-    let until : to_z w64 (of_z w64 part.segment.until) ≡ part.segment.until = search rules in
-    let tail : c.between.result ≡ between part t part.segment.until = rw (time, until) at c.between.ensures in
-    let head : c.between-2.result ≡ between part part.segment.start t = rw (time, first) at c.between-2.ensures in
-    let last : IsLast m t k (Some part) = subst (λ v. IsLast m t k v) c.in-Some-held.is (subst (λ t. IsLast m t k c.in-Some.held) time c.in-Some.ensures) in
-    let put : IsPut m t (Some (Some (between part t part.segment.until))) tailed = subst (λ p. IsPut m t (Some (Some p)) tailed) tail (subst (λ t. IsPut m t (Some (Some c.between.result)) tailed) time c.in_ok-put-3.ensures.ok) in
-    let written : IsPut tailed k (Some (Some (between part part.segment.start t))) n = subst (λ p. IsPut tailed k (Some (Some p)) n) head (subst (λ k. IsPut tailed k (Some (Some c.between-2.result)) n) start c.write.ensures) in
-    IsCut-put m tailed n t k part last (λ e. c.if-start-time.false (ap (of_z w64) e)) put written
+    let first : to_z w64 (of_z w64 owned.segment.start) ≡ owned.segment.start = search rules in
+    let until : to_z w64 (of_z w64 owned.segment.until) ≡ owned.segment.until = search rules in
+    let tail : c.between.result ≡ between owned t owned.segment.until = rw (time, until) at c.between.ensures in
+    let head : c.between-2.result ≡ between owned owned.segment.start t = rw (time, first) at c.between-2.ensures in
+    let last : IsLast m t k (Some owned) = subst (λ v. IsLast m t k v) c.in-Some-held.is (subst (λ t. IsLast m t k c.in-Some.held) time c.in-Some.ensures) in
+    let put : IsPut m t (Some (Some (between owned t owned.segment.until))) tailed = subst (λ p. IsPut m t (Some (Some p)) tailed) tail (subst (λ t. IsPut m t (Some (Some c.between.result)) tailed) time c.in_ok-put-3.ensures.ok) in
+    let written : IsPut tailed k (Some (Some (between owned owned.segment.start t))) n = subst (λ p. IsPut tailed k (Some (Some p)) n) head (subst (λ k. IsPut tailed k (Some (Some c.between-2.result)) n) start c.write.ensures) in
+    IsCut-put m tailed n t k owned last (λ e. c.if-start-time.false (ap (of_z w64) e)) put written
 
 pub returns-clause-divided : goal.returns-clause-divided
 returns-clause-divided c = λ owners are. IsDivided-cut owners _ _ _ _ _ are (cut c) c.requires.from_in_time c.requires.to_in_time

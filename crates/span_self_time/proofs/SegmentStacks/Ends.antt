@@ -1,0 +1,45 @@
+-- How segments move between the past and the future of a cursor, and what lies at the two ends that meet there.
+use Rattle.std.proofs.Common.{◌≡◌, ◌≤◌, ◌<◌, ℕ, ◌+◌, ◌-◌, length, length-append, get_or, ℤ, ◌<ℤ◌, int_le, true, false, true≢false, List, [], ◌∷◌, ◌++◌, reverse, slice_get, Some, refl, sym, ap, ◌∙◌, arith}
+use Rattle.std.proofs.lemmas.Int.{ints}
+use Rattle.std.proofs.lemmas.List.{reverse-append, append_assoc, length-reverse, get_or-append_right, get_or-reverse}
+use Rattle.std.proofs.lemmas.Option.{slice_get-get_or}
+use Rattle.span_self_time.specs.declared.segment.OwnedSegment.{OwnedSegment}
+use Rattle.span_self_time.specs.Division.{Owners, AreFuture}
+use Rattle.span_self_time.specs.Division.SegmentStacks.{segments_of, ends_by, lasts_beyond, starts_before}
+
+pub reverse-push : {A : Type 0} (xs : List A) (x : A) → reverse (xs ++ x ∷ []) ≡ x ∷ reverse xs
+reverse-push xs x = reverse-append xs (x ∷ [])
+
+-- the segment at the cursor is the last before it or the first behind it
+pub segments_of-push : (past future : List OwnedSegment) (p : OwnedSegment) → segments_of past (future ++ p ∷ []) ≡ segments_of (past ++ p ∷ []) future
+segments_of-push past future p =
+    ap (λ l. past ++ l) (reverse-push future p) ∙ sym (append_assoc past (p ∷ []) (reverse future))
+
+-- a segment that ends by t may join the past
+pub lasts_beyond-push : (t : ℤ) (past future : List OwnedSegment) (p : OwnedSegment) → ends_by t (reverse (future ++ p ∷ [])) ≡ true → lasts_beyond t (reverse (past ++ p ∷ [])) ≡ false
+lasts_beyond-push t past future p ends =
+    let here : int_le p.segment.until t ≡ true = sym (ap (ends_by t) (reverse-push future p)) ∙ ends in
+    rw (reverse-push past p) (grind (arith, ints))
+
+-- the time before a segment is sooner than any by which the segment has started
+pub starts_before-future : (owners : Owners) (t until : ℤ) (segments : List OwnedSegment) → AreFuture owners t segments → starts_before until segments ≡ true → t <ℤ until
+starts_before-future owners t until [] after h = absurd (true≢false (sym h))
+starts_before-future owners t until (p ∷ segments) after h = omega (arith, ints, after.0, h)
+
+-- a segment behind the cursor
+pub get_or-segments_of : (past future : List OwnedSegment) (i : ℕ) (d : OwnedSegment) → length past ≤ i → i - length past < length future → get_or (segments_of past future) i d ≡ get_or future (length future - 1 - (i - length past)) d
+get_or-segments_of past future i d from within =
+    get_or-append_right past (reverse future) (length past) i d refl from ∙ get_or-reverse future (i - length past) d within
+
+pub length-segments_of : (past future : List OwnedSegment) → length (segments_of past future) ≡ length past + length future
+length-segments_of past future = length-append past (reverse future) ∙ ap (λ n. length past + n) (length-reverse future)
+
+-- the last segment stands first in the past
+pub slice_get-reverse : (segments : List OwnedSegment) → slice_get (reverse segments) 0 ≡ slice_get segments (length segments - 1)
+slice_get-reverse [] = refl
+slice_get-reverse (p ∷ segments) =
+    let some : 0 < length (p ∷ segments) = omega arith in
+    let turned : 0 < length (reverse (p ∷ segments)) = omega (arith, some, length-reverse (p ∷ segments)) in
+    let last : length (p ∷ segments) - 1 - 0 ≡ length (p ∷ segments) - 1 = omega arith in
+    slice_get-get_or (reverse (p ∷ segments)) 0 p turned ∙ ap Some (get_or-reverse (p ∷ segments) 0 p some ∙ ap (λ k. get_or (p ∷ segments) k p) last)
+    ∙ sym (slice_get-get_or (p ∷ segments) (length (p ∷ segments) - 1) p (omega (arith, some)))

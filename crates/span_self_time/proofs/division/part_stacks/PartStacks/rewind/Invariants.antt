@@ -1,9 +1,0 @@
-use Rattle.std.proofs.Common.{vec_len}
-use Rattle.span_self_time.specs.Division.PartStacks.{IsMoved}
-use Rattle.span_self_time.proofs.division.part_stacks.PartStacks.rewind.Given as goal
-
-abbrev pub invariant-loop-self : goal.invariant-loop-self
-invariant-loop-self l = IsMoved l.initial.self l.self
-
-abbrev pub decreases-loop-self : goal.decreases-loop-self
-decreases-loop-self l = vec_len l.self.past
