@@ -31,8 +31,8 @@ pub use span_journal::{
 };
 pub use span_ledger::{
     ArgValue, Args, AsyncKey, AsyncRow, AsyncTotals, BoxedId, ClosedSpan, Event, Field, FlowKey,
-    FlowRow, FlowTotals, IdKey, InstantRow, Item, ItemFault, Ledger, NamedSpan, Phase, ProcessPart,
-    Reach, SeriesKey, SeriesRow, SeriesTotals, Text, ThreadPart,
+    FlowRow, FlowTotals, IdKey, InstantRow, Item, ItemFault, Ledger, NamedSpan, Phase, ProcessRows,
+    Reach, SeriesKey, SeriesRow, SeriesTotals, Text, ThreadRows,
 };
 pub use span_report::{Sink, SinkFault, WriteFault, Writer};
 pub use words::{fault_word, numbered_text};

@@ -1,5 +1,5 @@
 pub mod LegalJournals
 pub mod Selected
-pub mod SeriesParts
+pub mod SeriesOfProcess
 pub mod Sorted
 pub mod Topics

@@ -1,9 +1,9 @@
 pub mod Answers
+pub mod ByProcess
 pub mod Journal
 pub mod Kind
 pub mod Legal
 pub mod Order
-pub mod Parts
 pub mod Refusal
 pub mod Replies
 pub mod Rows

@@ -72,16 +72,16 @@ of_process pid f None = refl
 of_process pid f (Some w) = refl
 
 -- what a metadata event sets of its process, if it has an effect
-abbrev process_part : Event → Option (Keyed Holder Setting)
-process_part event =
+abbrev process_setting : Event → Option (Keyed Holder Setting)
+process_setting event =
     cond (same_text event.name (codes "process_name")) (name_setting event None)
     (cond (same_text event.name (codes "process_labels")) (labels_setting event None) (cond (same_text event.name (codes "process_sort_index")) (sort_setting event None) None))
 
 -- an event that names no thread by its own name sets nothing of one
 pub is_of_thread-other : (event : Event) → same_text event.name (codes "thread_name") ≡ false → same_text event.name (codes "thread_sort_index") ≡ false → is_of_thread (setting_of event) ≡ false
 is_of_thread-other event name sort =
-    ap (λ b. is_of_thread (cond b (name_setting event (Some event.tid)) (cond (same_text event.name (codes "thread_sort_index")) (sort_setting event (Some event.tid)) (process_part event)))) name
-    ∙ ap (λ b. is_of_thread (cond b (sort_setting event (Some event.tid)) (process_part event))) sort
+    ap (λ b. is_of_thread (cond b (name_setting event (Some event.tid)) (cond (same_text event.name (codes "thread_sort_index")) (sort_setting event (Some event.tid)) (process_setting event)))) name
+    ∙ ap (λ b. is_of_thread (cond b (sort_setting event (Some event.tid)) (process_setting event))) sort
     ∙ pick (same_text event.name (codes "process_name")) (name_setting event None) _ (of_process event.pid set_name (text_at (codes "name") event))
     (pick (same_text event.name (codes "process_labels")) (labels_setting event None) _ (of_process event.pid set_labels (text_at (codes "labels") event))
     (pick (same_text event.name (codes "process_sort_index")) (sort_setting event None) None (of_process event.pid set_sort_index (whole_at (codes "sort_index") event)) refl))

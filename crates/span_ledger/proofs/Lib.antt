@@ -8,10 +8,10 @@ pub mod KeyTelling
 pub mod Later
 pub mod Listing
 pub mod NamedSpans
-pub mod PartRows
 pub mod PhaseTelling
 pub mod Renaming
 pub mod RowOrder
+pub mod RowsInGroups
 pub mod Sorting
 pub mod Taking
 pub mod Telling

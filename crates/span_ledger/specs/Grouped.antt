@@ -6,7 +6,7 @@ use Rattle.span_keyed_tracks.specs.declared.counter_track.SeriesRow.{SeriesRow}
 use Rattle.span_keyed_tracks.specs.Keyed.{entry_of}
 use Rattle.span_journal.specs.declared.entry.Entry.{Entry}
 use Rattle.span_event.specs.declared.thread.Thread.{Thread}
-use Rattle.span_journal.specs.Parts.{ProcessRows, thread_part}
+use Rattle.span_journal.specs.ByProcess.{ProcessRows, rows_in_thread}
 use Rattle.span_journal.specs.Rows.{process_row}
 
 -- threads and series of one process
@@ -36,10 +36,10 @@ abbrev pub GroupsGrow : ℤ → (Grouped → Grouped) → List (ℤ × Grouped) 
 GroupsGrow pid grow old new = (f : ℤ → Grouped) (pids : List ℤ) → IsStrictlySortedBy int_cmp pids → old ≡ map (entry_of f) pids →
     new ≡ map (entry_of (λ q. if int_eq pid q then grow (f q) else f q)) pids
 
--- the part of a process with what is grouped under it
-abbrev pub grouped_part : List Entry → ℤ × Grouped → ProcessRows
-grouped_part journal (pid, group) = record {
+-- the rows of a process with what is grouped under it
+abbrev pub rows_in_group : List Entry → ℤ × Grouped → ProcessRows
+rows_in_group journal (pid, group) = record {
   row = process_row journal pid;
-  threads = map (thread_part journal) group.threads;
+  threads = map (rows_in_thread journal) group.threads;
   series = group.series;
 }

@@ -4,22 +4,22 @@
 
 mod answer_pair;
 mod async_events;
+mod by_process;
 mod counter_events;
 mod flow_events;
 mod ledger;
 mod listed;
 mod meta_events;
 mod named_spans;
-mod parts;
 mod phase_tracks;
 mod replies;
 mod thread_tracks;
 mod track_rows;
 mod tracks;
 
+pub use by_process::{ProcessRows, ThreadRows};
 pub use ledger::Ledger;
 pub use named_spans::{NamedSpan, TimedSpan};
-pub use parts::{ProcessPart, ThreadPart};
 pub use span_event::{
     ArgValue, Args, BoxedId, Event, Field, IdKey, Item, ItemFault, Items, Phase, Reach, Text,
 };

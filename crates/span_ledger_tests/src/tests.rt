@@ -12,7 +12,7 @@ mod timed_spans;
 
 use examples::{EXAMPLES, Example};
 use span_journal::{Answer, Cause, Entry, Op};
-use span_ledger::{Item, Ledger, ProcessPart, ThreadPart};
+use span_ledger::{Item, Ledger, ProcessRows, ThreadRows};
 use span_read::read_items;
 use std::alloc::{AllocError, Global};
 use std::fmt::Debug;
@@ -82,25 +82,25 @@ fn rows(alloc: Global, ledger: &Ledger) -> Result<String, AllocError> {
     Ok(lines)
 }
 
-fn put_thread(lines: &mut String, part: &ThreadPart) -> Result<(), AllocError> {
-    writeln!(lines, "{:?}", part.row)?;
-    put_rows(lines, &part.spans)?;
-    put_rows(lines, &part.instants)
+fn put_thread(lines: &mut String, thread: &ThreadRows) -> Result<(), AllocError> {
+    writeln!(lines, "{:?}", thread.row)?;
+    put_rows(lines, &thread.spans)?;
+    put_rows(lines, &thread.instants)
 }
 
-fn put_process(lines: &mut String, part: &ProcessPart) -> Result<(), AllocError> {
-    writeln!(lines, "{:?}", part.row)?;
-    for thread in &part.threads {
+fn put_process(lines: &mut String, process: &ProcessRows) -> Result<(), AllocError> {
+    writeln!(lines, "{:?}", process.row)?;
+    for thread in &process.threads {
         put_thread(lines, thread)?;
     }
-    put_rows(lines, &part.series)
+    put_rows(lines, &process.series)
 }
 
 // The rows of each process, with those of its threads.
-fn parts(alloc: Global, ledger: &Ledger) -> Result<String, AllocError> {
+fn rows_by_process(alloc: Global, ledger: &Ledger) -> Result<String, AllocError> {
     let mut lines = String::new(alloc);
-    for part in &ledger.parts(alloc)? {
-        put_process(&mut lines, part)?;
+    for process in &ledger.rows_by_process(alloc)? {
+        put_process(&mut lines, process)?;
     }
     Ok(lines)
 }
@@ -140,15 +140,15 @@ fn worked_examples(rt: HostRuntime) -> Result<(), Fail> {
     Ok(())
 }
 
-fn parts_nest_in(rt: &(impl Abort + AllocGlobal), ledger: &mut Ledger) -> Result<(), Fail> {
+fn rows_nest_in(rt: &(impl Abort + AllocGlobal), ledger: &mut Ledger) -> Result<(), Fail> {
     let events = r#"[{"ph":"C","name":"m","ts":5,"pid":2,"args":{"k":7}},
         {"ph":"i","name":"gc","ts":3,"pid":1,"tid":4},{"ph":"X","name":"b","ts":0,"dur":3,"pid":2,"tid":9},
         {"ph":"X","name":"a","ts":1,"dur":1,"pid":2,"tid":9},{"ph":"X","name":"c","ts":0,"dur":2,"pid":2,"tid":-9},
         {"ph":"C","name":"m","ts":5,"pid":1,"args":{"k":1}}]"#;
     answers(rt.alloc(), ledger, events)?;
-    let parts = parts(rt.alloc(), ledger)?;
+    let rows = rows_by_process(rt.alloc(), ledger)?;
     assert_eq!(rt;
-        parts.as_str(),
+        rows.as_str(),
         r#"ProcessRow { pid: 1, name: None }
 ThreadRow { pid: 1, tid: 4, name: None, unclosed: 0, busy: 0 }
 InstantRow { pid: 1, tid: 4, name: "gc", reach: Thread, count: 1 }
@@ -166,9 +166,9 @@ SeriesRow { key: SeriesKey { pid: 2, name: "m", id: None, series: "k" }, totals:
 }
 
 #[test]
-fn parts_nest(rt: HostRuntime) -> Result<(), Fail> {
+fn rows_nest(rt: HostRuntime) -> Result<(), Fail> {
     let mut ledger = Ledger::new(rt.alloc(), 100, false);
-    let told = parts_nest_in(&rt, &mut ledger);
+    let told = rows_nest_in(&rt, &mut ledger);
     drop(ledger);
     told
 }

@@ -7,7 +7,7 @@ use Rattle.json.specs.Print.{escape}
 use Rattle.span_event.specs.declared.unit.Unit.{Unit}
 use Rattle.span_journal.specs.declared.entry.Entry.{Entry}
 use Rattle.span_report.specs.declared.stacks.label.SpanColumn.{SpanColumn}
-use Rattle.span_journal.specs.Parts.{process_parts}
+use Rattle.span_journal.specs.ByProcess.{rows_by_process}
 use Rattle.span_report.specs.Lines.{json_text_of}
 use Rattle.span_collect.specs.declared.files.FileEnd.{FileEnd}
 use Rattle.span_collect.specs.declared.files.Input.{Input}
@@ -87,7 +87,7 @@ safe-json text rest = safe_after-append 34 refl refl rest zero (34 ∷ escape te
 safe-stacks : (left : ℕ) (labels : List SpanColumn) (journal : List Entry) (rest : List ℕ) → safe (all_stacks_json left labels journal ++ rest) ≡ safe (all_stacks_json left labels journal) ++ safe rest
 unfolding all_stacks_json
 safe-stacks left labels journal rest =
-    safe_after-append 93 refl refl rest zero (91 ∷ join_with_byte 44 (graphs_json labels journal left (threads_of (process_parts journal)))) (omega (arith))
+    safe_after-append 93 refl refl rest zero (91 ∷ join_with_byte 44 (graphs_json labels journal left (threads_of (rows_by_process journal)))) (omega (arith))
 
 -- the names of files, and what is behind them
 safe-names : (files : List Input) (rest : List ℕ) → safe (names_json files ++ rest) ≡ safe (names_json files) ++ safe rest

@@ -3,7 +3,7 @@ use Rattle.std.proofs.Common.{◌≡◌, ℕ, ◌-◌, cond, nat_lt, List, [], �
 use Rattle.span_event.specs.declared.thread.Thread.{Thread}
 use Rattle.span_event.specs.declared.unit.Unit.{Unit}
 use Rattle.span_journal.specs.declared.entry.Entry.{Entry}
-use Rattle.span_journal.specs.Parts.{process_parts}
+use Rattle.span_journal.specs.ByProcess.{rows_by_process}
 use Rattle.span_journal.specs.Topics.{AreAlike}
 use Rattle.span_journal.proofs.Topics.Rows.{rows-follow}
 use Rattle.span_report.specs.Lines.{json_text_of}
@@ -45,13 +45,13 @@ module _ (labels : List SpanColumn) (journal other : List Entry) (alike : AreAli
   all_stacks_json-alike : (left : ℕ) → all_stacks_json left labels journal ≡ all_stacks_json left labels other
   unfolding all_stacks_json
   all_stacks_json-alike left =
-      ap array_of (graphs_json-alike labels journal other (stacks-alike journal other alike) left (threads_of (process_parts journal))
-      ∙ ap (λ parts. graphs_json labels other left (threads_of parts)) (rows-follow journal other alike).parts)
+      ap array_of (graphs_json-alike labels journal other (stacks-alike journal other alike) left (threads_of (rows_by_process journal))
+      ∙ ap (λ processes. graphs_json labels other left (threads_of processes)) (rows-follow journal other alike).processes)
 
   -- as many frames are left
-  pub left_behind-follows : (left : ℕ) → left_behind labels journal left (threads_of (process_parts journal)) ≡ left_behind labels other left (threads_of (process_parts other))
-  left_behind-follows left = left_behind-alike labels journal other (stacks-alike journal other alike) left (threads_of (process_parts journal))
-      ∙ ap (λ parts. left_behind labels other left (threads_of parts)) (rows-follow journal other alike).parts
+  pub left_behind-follows : (left : ℕ) → left_behind labels journal left (threads_of (rows_by_process journal)) ≡ left_behind labels other left (threads_of (rows_by_process other))
+  left_behind-follows left = left_behind-alike labels journal other (stacks-alike journal other alike) left (threads_of (rows_by_process journal))
+      ∙ ap (λ processes. left_behind labels other left (threads_of processes)) (rows-follow journal other alike).processes
 
   module _ (unit : Unit) (files : List Input) (ends others : List FileEnd) (refusals : refusals_of unit files ends journal ≡ refusals_of unit files others other) (faults : end_lines files ends ≡ end_lines files others) where
     rest_of-alike : (left : ℕ) → rest_of unit left labels files ends journal ≡ rest_of unit left labels files others other

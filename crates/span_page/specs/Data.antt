@@ -4,7 +4,7 @@ use Rattle.std.specs.List.{join_with_byte}
 use Rattle.span_event.specs.declared.thread.Thread.{Thread}
 use Rattle.span_event.specs.declared.unit.Unit.{Unit}
 use Rattle.span_journal.specs.declared.entry.Entry.{Entry}
-use Rattle.span_journal.specs.Parts.{ProcessRows, ThreadRows, process_parts}
+use Rattle.span_journal.specs.ByProcess.{ProcessRows, ThreadRows, rows_by_process}
 use Rattle.span_report.specs.Lines.{json_text_of}
 use Rattle.span_report.specs.Report.{report_of}
 use Rattle.span_report.specs.Stacks.Folded.{thread_frame_count, thread_stacks}
@@ -34,11 +34,11 @@ stacks_json stacks = array_of (map stack_json (coded_after [] stacks))
 
 -- the threads of a process
 abbrev pub threads_in : ProcessRows → List Thread
-threads_in process = map (λ (part : ThreadRows). record { pid = part.row.pid; tid = part.row.tid }) process.threads
+threads_in process = map (λ (thread : ThreadRows). record { pid = thread.row.pid; tid = thread.row.tid }) process.threads
 
 -- the threads of the report, in its order
 abbrev pub threads_of : List ProcessRows → List Thread
-threads_of parts = flat_map threads_in parts
+threads_of processes = flat_map threads_in processes
 
 -- the stacks of a thread of a journal, of labels by these columns
 abbrev pub thread_json : List SpanColumn → List Entry → Thread → List ℕ
@@ -69,7 +69,7 @@ module _ (labels : List SpanColumn) (journal : List Entry) where
 
 -- the stacks of each thread of a journal whose graph fits into so many frames
 unfoldable pub all_stacks_json : ℕ → List SpanColumn → List Entry → List ℕ
-all_stacks_json left labels journal = array_of (graphs_json labels journal left (threads_of (process_parts journal)))
+all_stacks_json left labels journal = array_of (graphs_json labels journal left (threads_of (rows_by_process journal)))
 
 -- the names of files
 unfoldable pub names_json : List Input → List ℕ

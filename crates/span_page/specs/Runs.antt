@@ -3,7 +3,7 @@ use Rattle.std.specs.Prelude.{◌≡◌, ℕ, Bool, true, false, List, [], ◌�
 use Rattle.std.specs.List.{join_with_byte}
 use Rattle.span_event.specs.declared.unit.Unit.{Unit}
 use Rattle.span_journal.specs.declared.entry.Entry.{Entry}
-use Rattle.span_journal.specs.Parts.{process_parts}
+use Rattle.span_journal.specs.ByProcess.{rows_by_process}
 use Rattle.span_collect.specs.declared.files.FileEnd.{FileEnd}
 use Rattle.span_collect.specs.declared.files.Input.{Input}
 use Rattle.span_report.specs.Lines.{json_text_of}
@@ -22,7 +22,7 @@ pub record ShownRun : Type 0 where
 module _ (labels : List SpanColumn) where
   -- how many frames are left behind it
   abbrev pub left_behind_run : ℕ → ShownRun → ℕ
-  left_behind_run left run = left_behind labels run.journal left (threads_of (process_parts run.journal))
+  left_behind_run left run = left_behind labels run.journal left (threads_of (rows_by_process run.journal))
 
   -- how many frames are left behind them
   abbrev pub left_behind_runs : ℕ → List ShownRun → ℕ

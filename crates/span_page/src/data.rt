@@ -1,7 +1,7 @@
 //! The data of a page.
 ghost use Rattle.std.specs.Prelude.{◌≡◌, ◌++◌, codes, length, map, string_bytes, IfOk, OnOk};
 ghost use Rattle.std.specs.List.{join_with_byte};
-ghost use Rattle.span_journal.specs.Parts.{process_parts};
+ghost use Rattle.span_journal.specs.ByProcess.{rows_by_process};
 ghost use Rattle.span_report.specs.Lines.{json_text_of};
 ghost use Rattle.span_report.specs.Report.{report_of};
 ghost use Rattle.span_page.specs.Data.{all_stacks_json, data_of, graph_json, graphs_json, left_after, left_behind, names_json, rest_of, threads_in, threads_of};
@@ -13,7 +13,7 @@ use serde_json::Value;
 use span_collect::refusals::refusals_text;
 use span_collect::{FileEnd, Input, fault_lines};
 use span_event::{Thread, Unit};
-use span_ledger::{Ledger, ProcessPart};
+use span_ledger::{Ledger, ProcessRows};
 use span_report::report_text;
 use span_report::stacks::{LabelledSpans, SpanColumn, StacksFault, framed_stacks};
 use std::alloc::{AllocError, Global};
@@ -63,7 +63,7 @@ pub(crate) fn put_report(
     ensures text { OnOk result (out.new.items ≡ out.old.items
         ++ (codes "{\"report\":" ++ safe (json_text_of (report_of unit ledger.now.journal)))) }
     ensures threads { IfOk result (λ threads. threads.items
-        ≡ threads_of (process_parts ledger.now.journal)) }
+        ≡ threads_of (rows_by_process ledger.now.journal)) }
 {
     let (report, threads) = report_and_threads(alloc, unit, ledger)?;
     out.extend_from_slice(b"{\"report\":")?;
@@ -84,7 +84,7 @@ pub(crate) fn put_rest(
     left: u32,
 ) -> Result<u32, AllocError>
     requires ends { length files.now ≡ length ends.now }
-    requires threads { threads.now ≡ threads_of (process_parts ledger.now.journal) }
+    requires threads { threads.now ≡ threads_of (rows_by_process ledger.now.journal) }
     ensures text { OnOk result (out.new.items ≡ out.old.items
         ++ safe (rest_of unit left labels.now files.now ends.now ledger.now.journal)) }
     ensures left { IfOk result (λ rest.
@@ -138,11 +138,11 @@ fn report_and_threads(
 ) -> Result<(String, Vec<Thread>), AllocError>
     ensures report { IfOk result (λ both. string_bytes both.0 ≡ report_of unit ledger.now.journal) }
     ensures threads { IfOk result (λ both. both.1.items
-        ≡ threads_of (process_parts ledger.now.journal)) }
+        ≡ threads_of (rows_by_process ledger.now.journal)) }
 {
-    let parts = ledger.parts(alloc)?;
-    let report = report_text(alloc, unit, ledger, &parts)?;
-    let threads = threads_of(alloc, &parts)?;
+    let processes = ledger.rows_by_process(alloc)?;
+    let report = report_text(alloc, unit, ledger, &processes)?;
+    let threads = threads_of(alloc, &processes)?;
     Ok((report, threads))
 }
 
@@ -176,7 +176,7 @@ fn stacks_text(
     threads: &[Thread],
     left: u32,
 ) -> Result<(String, u32), AllocError>
-    requires { threads.now ≡ threads_of (process_parts ledger.now.journal) }
+    requires { threads.now ≡ threads_of (rows_by_process ledger.now.journal) }
     ensures text { IfOk result (λ both. string_bytes both.0
         ≡ all_stacks_json left labels.now ledger.now.journal) }
     ensures left { IfOk result (λ both. both.1
@@ -198,23 +198,23 @@ pub(crate) fn put_string(alloc: Global, out: &mut String, text: &str) -> Result<
 }
 
 // The threads of the report, in its order.
-fn threads_of(alloc: Global, parts: &[ProcessPart]) -> Result<Vec<Thread>, AllocError>
-    ensures { IfOk result (λ threads. threads.items ≡ threads_of parts.now) }
+fn threads_of(alloc: Global, processes: &[ProcessRows]) -> Result<Vec<Thread>, AllocError>
+    ensures { IfOk result (λ threads. threads.items ≡ threads_of processes.now) }
 {
     let mut threads = Vec::new(alloc);
-    for process in parts {
+    for process in processes {
         put_threads_in(&mut threads, process)?;
     }
     Ok(threads)
 }
 
-fn put_threads_in(threads: &mut Vec<Thread>, process: &ProcessPart) -> Result<(), AllocError>
+fn put_threads_in(threads: &mut Vec<Thread>, process: &ProcessRows) -> Result<(), AllocError>
     ensures { OnOk result (threads.new.items ≡ threads.old.items ++ threads_in process.now) }
 {
-    for part in &process.threads {
+    for thread in &process.threads {
         threads.push(Thread {
-            pid: part.row.pid,
-            tid: part.row.tid,
+            pid: thread.row.pid,
+            tid: thread.row.tid,
         })?;
     }
     Ok(())

@@ -10,7 +10,7 @@ use Rattle.span_report.specs.Report.{head_lines, process_lines}
 
 -- journals that have the same acts on a process have the same lines of it
 pub process_lines-alike : ProcessLinesFollowFromActs
-process_lines-alike pid journal other alike = ap process_lines (values-follow (of_process pid) journal other alike).part
+process_lines-alike pid journal other alike = ap process_lines (values-follow (of_process pid) journal other alike).rows
 
 -- journals that have the same acts on a key have the same line of it
 pub key_lines-alike : KeyLinesFollowFromActs
@@ -23,4 +23,4 @@ key_lines-alike = record {
 pub report_of-alike : ReportsFollowFromActs
 report_of-alike unit journal other alike =
     let rows = rows-follow journal other alike in
-    λ i. head_lines unit (alike.counts i) ++ (flat_map process_lines (rows.parts i) ++ (flat_map async_line (rows.asynchronous i) ++ flat_map flow_line (rows.flows i)))
+    λ i. head_lines unit (alike.counts i) ++ (flat_map process_lines (rows.processes i) ++ (flat_map async_line (rows.asynchronous i) ++ flat_map flow_line (rows.flows i)))

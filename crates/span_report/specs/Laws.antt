@@ -9,7 +9,7 @@ use Rattle.span_keyed_tracks.specs.declared.keys.FlowKey.{FlowKey}
 use Rattle.span_keyed_tracks.specs.Async.{async_cmp}
 use Rattle.span_keyed_tracks.specs.Flow.{flow_cmp}
 use Rattle.span_journal.specs.declared.entry.Entry.{Entry}
-use Rattle.span_journal.specs.Parts.{process_part}
+use Rattle.span_journal.specs.ByProcess.{rows_in_process}
 use Rattle.span_journal.specs.Rows.{async_rows, flow_rows}
 use Rattle.span_journal.specs.Topics.{AreAlike, acts_on, of_async, of_flow, of_process}
 use Rattle.span_report.specs.Lines.{async_line, flow_line}
@@ -18,7 +18,7 @@ use Rattle.span_report.specs.Report.{process_lines, report_of}
 -- the lines of a process follow from the accepted acts on it
 abbrev pub ProcessLinesFollowFromActs : Type 0
 ProcessLinesFollowFromActs = (pid : ℤ) (journal other : List Entry) → acts_on (of_process pid) journal ≡ acts_on (of_process pid) other →
-    process_lines (process_part journal pid) ≡ process_lines (process_part other pid)
+    process_lines (rows_in_process journal pid) ≡ process_lines (rows_in_process other pid)
 
 -- the line of an asynchronous key, if it has one
 abbrev pub async_lines : AsyncKey → List Entry → List ℕ

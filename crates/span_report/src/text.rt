@@ -1,34 +1,34 @@
 //! The text of a report: one walk over the processes of a ledger, their threads, and what each has.
 ghost use Rattle.std.specs.Prelude.{◌≡◌, ◌++◌, string_bytes, flat_map, OnOk, IfOk};
-ghost use Rattle.span_journal.specs.Parts.{process_parts};
+ghost use Rattle.span_journal.specs.ByProcess.{rows_by_process};
 ghost use Rattle.span_report.specs.Report.{head_lines, process_lines, report_of, thread_lines};
 
 use crate::lines::{Printed, first_line, put_counts, put_seals, put_unit};
 use span_event::Unit;
 use span_journal::CountRow;
-use span_ledger::{Ledger, ProcessPart, ThreadPart};
+use span_ledger::{Ledger, ProcessRows, ThreadRows};
 use std::alloc::{AllocError, Global};
 
 /// The text of the report of the ledger's journal, whose times are in this unit.
 pub fn report(alloc: Global, unit: Unit, ledger: &Ledger) -> Result<Vec<u8>, AllocError>
     ensures { IfOk result (λ text. text.items ≡ report_of unit ledger.now.journal) }
 {
-    let text = report_text(alloc, unit, ledger, &ledger.parts(alloc)?)?;
+    let text = report_text(alloc, unit, ledger, &ledger.rows_by_process(alloc)?)?;
     Ok(text.into_bytes())
 }
 
-/// As `report`, for texts that hold it and need the ledger's parts too, which take the most time and memory.
+/// As `report`, for texts that hold it and need the ledger's rows by process too, which take the most time and memory.
 pub fn report_text(
     alloc: Global,
     unit: Unit,
     ledger: &Ledger,
-    parts: &[ProcessPart],
+    processes: &[ProcessRows],
 ) -> Result<String, AllocError>
-    requires { parts.now ≡ process_parts ledger.now.journal }
+    requires { processes.now ≡ rows_by_process ledger.now.journal }
     ensures { IfOk result (λ text. string_bytes text ≡ report_of unit ledger.now.journal) }
 {
     let mut out = head(alloc, unit, ledger.counts())?;
-    put_each(alloc, &mut out, parts)?;
+    put_each(alloc, &mut out, processes)?;
     put_each(alloc, &mut out, &ledger.async_rows(alloc)?)?;
     put_each(alloc, &mut out, &ledger.flow_rows(alloc)?)?;
     Ok(out)
@@ -45,7 +45,7 @@ pub fn head(alloc: Global, unit: Unit, counts: CountRow) -> Result<String, Alloc
     Ok(out)
 }
 
-impl Printed for ProcessPart {
+impl Printed for ProcessRows {
     ghost lines = { process_lines };
 
     fn put(&self, alloc: Global, out: &mut String) -> Result<(), AllocError> {
@@ -55,7 +55,7 @@ impl Printed for ProcessPart {
     }
 }
 
-impl Printed for ThreadPart {
+impl Printed for ThreadRows {
     ghost lines = { thread_lines };
 
     fn put(&self, alloc: Global, out: &mut String) -> Result<(), AllocError> {
@@ -70,8 +70,8 @@ fn put_each<P: Printed>(alloc: Global, out: &mut String, printed: &[P]) -> Resul
     ensures { OnOk result (string_bytes out.new
         ≡ string_bytes out.old ++ flat_map P.lines printed.now) }
 {
-    for part in printed {
-        part.put(alloc, out)?;
+    for rows in printed {
+        rows.put(alloc, out)?;
     }
     Ok(())
 }

@@ -16,7 +16,7 @@ use Rattle.span_keyed_tracks.specs.Keyed.{ascending}
 use Rattle.span_track.specs.Nesting.{closed_spans}
 use Rattle.span_track.proofs.Threads.Renumbering.{closed_spans-renumbered}
 use Rattle.span_journal.specs.declared.entry.Entry.{Entry}
-use Rattle.span_journal.specs.Parts.{ProcessRows, ThreadRows}
+use Rattle.span_journal.specs.ByProcess.{ProcessRows, ThreadRows}
 use Rattle.span_journal.specs.Topics.{AreAlike, of_process}
 use Rattle.span_journal.proofs.Topics.Rows.{rows-follow}
 use Rattle.span_journal.proofs.Topics.Threads.{thread_events-alike}
@@ -102,10 +102,10 @@ pub stacks-alike : StacksFollowFromActs
 stacks-alike journal other alike = record {
   stacks = thread_stacks-alike journal other alike;
   frames = thread_frame_count-alike journal other alike;
-  text = λ columns i. flat_map (λ (process : ProcessRows). flat_map (λ (part : ThreadRows).
-      stack_lines (thread_frames process.row part.row) (thread_stacks-alike journal other alike columns (record { pid = part.row.pid; tid = part.row.tid }) i))
-      process.threads) ((rows-follow journal other alike).parts i);
-  names = λ columns i. sum_by (λ (process : ProcessRows). sum_by (λ (part : ThreadRows).
-      sum_by (λ (folded : Folded). length folded.stack) (thread_stacks-alike journal other alike columns (record { pid = part.row.pid; tid = part.row.tid }) i))
-      process.threads) ((rows-follow journal other alike).parts i);
+  text = λ columns i. flat_map (λ (process : ProcessRows). flat_map (λ (thread : ThreadRows).
+      stack_lines (thread_frames process.row thread.row) (thread_stacks-alike journal other alike columns (record { pid = thread.row.pid; tid = thread.row.tid }) i))
+      process.threads) ((rows-follow journal other alike).processes i);
+  names = λ columns i. sum_by (λ (process : ProcessRows). sum_by (λ (thread : ThreadRows).
+      sum_by (λ (folded : Folded). length folded.stack) (thread_stacks-alike journal other alike columns (record { pid = thread.row.pid; tid = thread.row.tid }) i))
+      process.threads) ((rows-follow journal other alike).processes i);
 }

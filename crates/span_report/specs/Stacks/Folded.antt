@@ -4,7 +4,7 @@ use Rattle.span_event.specs.declared.thread.Thread.{Thread}
 use Rattle.span_journal.specs.declared.entry.Entry.{Entry}
 use Rattle.span_journal.specs.declared.rows.ProcessRow.{ProcessRow}
 use Rattle.span_journal.specs.declared.rows.ThreadRow.{ThreadRow}
-use Rattle.span_journal.specs.Parts.{ProcessRows, ThreadRows, process_parts}
+use Rattle.span_journal.specs.ByProcess.{ProcessRows, ThreadRows, rows_by_process}
 use Rattle.span_report.specs.declared.stacks.label.SpanColumn.{SpanColumn}
 use Rattle.span_report.specs.Stacks.Bounds.{frame_count, names_in}
 use Rattle.span_report.specs.Stacks.Frames.{frame, owner_frame}
@@ -37,21 +37,21 @@ module _ (columns : List SpanColumn) (journal : List Entry) where
   thread_frame_count thread = frame_count (labelled_spans columns journal thread)
 
   abbrev pub thread_lines : ProcessRow → ThreadRows → List ℕ
-  thread_lines process part = stack_lines (thread_frames process part.row) (thread_stacks (record { pid = part.row.pid; tid = part.row.tid }))
+  thread_lines process thread = stack_lines (thread_frames process thread.row) (thread_stacks (record { pid = thread.row.pid; tid = thread.row.tid }))
 
   abbrev pub process_lines : ProcessRows → List ℕ
-  process_lines part = flat_map (thread_lines part.row) part.threads
+  process_lines process = flat_map (thread_lines process.row) process.threads
 
   -- a line for each stack of each thread, in the order of the report
   abbrev pub folded_of : List ℕ
-  folded_of = flat_map process_lines (process_parts journal)
+  folded_of = flat_map process_lines (rows_by_process journal)
 
   -- the names of all folded stacks, as many of each stack as it is deep
   abbrev pub thread_names : ThreadRows → ℕ
-  thread_names part = names_in (thread_stacks (record { pid = part.row.pid; tid = part.row.tid }))
+  thread_names thread = names_in (thread_stacks (record { pid = thread.row.pid; tid = thread.row.tid }))
 
   abbrev pub process_names : ProcessRows → ℕ
-  process_names part = sum_by thread_names part.threads
+  process_names process = sum_by thread_names process.threads
 
   abbrev pub names_of : ℕ
-  names_of = sum_by process_names (process_parts journal)
+  names_of = sum_by process_names (rows_by_process journal)

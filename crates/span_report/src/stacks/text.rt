@@ -13,7 +13,7 @@ use super::label::SpanColumn;
 use super::labelled::LabelledSpans;
 use span_event::{Text, Thread};
 use span_journal::{ProcessRow, ThreadRow};
-use span_ledger::{Ledger, NamedSpan, ProcessPart, ThreadPart};
+use span_ledger::{Ledger, NamedSpan, ProcessRows, ThreadRows};
 use std::alloc::{AllocError, Global};
 
 // How many names the folded stacks of a ledger may have, each stack as many as it is deep.
@@ -35,9 +35,9 @@ pub fn folded(
 {
     let mut out = Vec::new(alloc);
     let mut left = MOST_NAMES;
-    // The parts are those of a report, so that both have the threads in one order. The rows in them serve nothing else here.
-    for part in &ledger.parts(alloc)? {
-        put_process(alloc, ledger, columns, &mut out, &mut left, part)?;
+    // The rows are those of a report, so that both have the threads in one order; they serve nothing else here.
+    for process in &ledger.rows_by_process(alloc)? {
+        put_process(alloc, ledger, columns, &mut out, &mut left, process)?;
     }
     Ok(out)
 }
@@ -49,7 +49,7 @@ fn put_process(
     columns: &[SpanColumn],
     out: &mut Vec<u8>,
     left: &mut u32,
-    process: &ProcessPart,
+    process: &ProcessRows,
 ) -> Result<(), StacksFault>
     ensures text { OnOk result (out.new.items
         ≡ out.old.items ++ process_lines columns.now ledger.now.journal process.now) }
@@ -58,8 +58,8 @@ fn put_process(
     ensures full { result ≡ Err StacksFault.TooLarge
         → left.old < process_names columns.now ledger.now.journal process.now }
 {
-    for part in &process.threads {
-        put_thread(alloc, ledger, columns, out, left, &process.row, part)?;
+    for thread in &process.threads {
+        put_thread(alloc, ledger, columns, out, left, &process.row, thread)?;
     }
     Ok(())
 }
@@ -71,16 +71,16 @@ fn put_thread(
     out: &mut Vec<u8>,
     left: &mut u32,
     process: &ProcessRow,
-    part: &ThreadPart,
+    rows: &ThreadRows,
 ) -> Result<(), StacksFault>
     ensures text { OnOk result (out.new.items
-        ≡ out.old.items ++ thread_lines columns.now ledger.now.journal process.now part.now) }
+        ≡ out.old.items ++ thread_lines columns.now ledger.now.journal process.now rows.now) }
     ensures fits { OnOk result
-        (left.new + thread_names columns.now ledger.now.journal part.now ≡ left.old) }
+        (left.new + thread_names columns.now ledger.now.journal rows.now ≡ left.old) }
     ensures full { result ≡ Err StacksFault.TooLarge
-        → left.old < thread_names columns.now ledger.now.journal part.now }
+        → left.old < thread_names columns.now ledger.now.journal rows.now }
 {
-    let row = &part.row;
+    let row = &rows.row;
     let start = thread_frames(alloc, process, row)?;
     let thread = Thread {
         pid: row.pid,

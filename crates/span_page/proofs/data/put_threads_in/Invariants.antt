@@ -1,7 +1,7 @@
 use Rattle.std.proofs.Common.{◌≡◌, ◌++◌, map, take}
-use Rattle.span_journal.specs.Parts.{ThreadRows}
+use Rattle.span_journal.specs.ByProcess.{ThreadRows}
 use Rattle.span_page.proofs.data.put_threads_in.Given as goal
 
 -- the threads so far
-abbrev pub invariant-loop-part : goal.invariant-loop-part
-invariant-loop-part l = l.threads.items ≡ l.fn.threads.items ++ map (λ (part : ThreadRows). record { pid = part.row.pid; tid = part.row.tid }) (take l.part-index l.process.threads)
+abbrev pub invariant-loop-thread : goal.invariant-loop-thread
+invariant-loop-thread l = l.threads.items ≡ l.fn.threads.items ++ map (λ (thread : ThreadRows). record { pid = thread.row.pid; tid = thread.row.tid }) (take l.thread-index l.process.threads)

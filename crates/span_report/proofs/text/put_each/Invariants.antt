@@ -3,5 +3,5 @@ use Rattle.std.specs.Prelude.{flat_map}
 use Rattle.span_report.proofs.text.put_each.Given as goal
 
 -- the lines of those so far
-abbrev pub invariant-loop-part : goal.invariant-loop-part
-invariant-loop-part g l = string_bytes l.out ≡ string_bytes l.fn.out ++ flat_map g.P.Printed.lines (take l.part-index l.printed)
+abbrev pub invariant-loop-rows : goal.invariant-loop-rows
+invariant-loop-rows g l = string_bytes l.out ≡ string_bytes l.fn.out ++ flat_map g.P.Printed.lines (take l.rows-index l.printed)

@@ -1,4 +1,4 @@
--- The parts that are made of what is grouped are those of the journal.
+-- The rows that are made of what is grouped are those of the journal.
 use Rattle.span_event.specs.Orders.{thread_cmp}
 use Rattle.std.proofs.Common.{◌≡◌, ℤ, List, Bool, ap, ap₂, ◌∙◌, map}
 use Rattle.std.specs.Prelude.{filter_map}
@@ -9,13 +9,13 @@ use Rattle.span_keyed_tracks.specs.Counters.{series_rows, series_rows_of}
 use Rattle.span_keyed_tracks.specs.Keyed.{entry_of}
 use Rattle.span_journal.specs.declared.entry.Entry.{Entry}
 use Rattle.span_event.specs.declared.thread.Thread.{Thread}
-use Rattle.span_ledger.specs.Grouped.{Grouped, group_of, grouped_part, groups_of}
+use Rattle.span_ledger.specs.Grouped.{Grouped, group_of, rows_in_group, groups_of}
 use Rattle.span_journal.specs.Journal.{accepted}
-use Rattle.span_journal.specs.Parts.{process_part, process_parts, threads_in}
+use Rattle.span_journal.specs.ByProcess.{rows_in_process, rows_by_process, threads_in}
 use Rattle.span_journal.specs.Rows.{process_keys, thread_keys}
 use Rattle.span_journal.specs.Told.{counter_events, listed_by}
 use Rattle.span_journal.proofs.Selected.{filter-ascending}
-use Rattle.span_journal.proofs.SeriesParts.{filter-series_rows}
+use Rattle.span_journal.proofs.SeriesOfProcess.{filter-series_rows}
 use Rattle.span_journal.proofs.Sorted.{map-map}
 use Rattle.span_event.proofs.Orders.{thread_cmp-same, thread_cmp-total}
 use Rattle.span_ledger.proofs.TrackRows.{map-same}
@@ -29,9 +29,9 @@ module _ (journal : List Entry) where
       (filter-ascending thread_cmp-total in_process (λ (a b : Thread) (e : thread_cmp a b ≡ Equal). ap in_process (thread_cmp-same a b e)) (filter_map (λ a. listed_by a.act) (accepted journal)))
       (filter-series_rows pid (counter_events (accepted journal)))
 
-  -- the parts of the groups are those of the journal
-  pub process_parts-grouped : map (grouped_part journal) (groups_of (process_keys (accepted journal)) (thread_keys (accepted journal)) (series_rows (counter_events (accepted journal)))) ≡ process_parts journal
-  process_parts-grouped =
+  -- the rows in the groups are those of the journal
+  pub rows_by_process-grouped : map (rows_in_group journal) (groups_of (process_keys (accepted journal)) (thread_keys (accepted journal)) (series_rows (counter_events (accepted journal)))) ≡ rows_by_process journal
+  rows_by_process-grouped =
       let group = group_of (thread_keys (accepted journal)) (series_rows (counter_events (accepted journal))) in
-      map-map (grouped_part journal) (entry_of group) (process_keys (accepted journal))
-      ∙ map-same (λ pid. grouped_part journal (pid, group pid)) (process_part journal) (process_keys (accepted journal)) (λ (pid : ℤ). ap (λ (g : Grouped). grouped_part journal (pid, g)) (group_of-is pid))
+      map-map (rows_in_group journal) (entry_of group) (process_keys (accepted journal))
+      ∙ map-same (λ pid. rows_in_group journal (pid, group pid)) (rows_in_process journal) (process_keys (accepted journal)) (λ (pid : ℤ). ap (λ (g : Grouped). rows_in_group journal (pid, g)) (group_of-is pid))

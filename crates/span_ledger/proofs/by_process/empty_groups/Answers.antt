@@ -7,7 +7,7 @@ use Rattle.span_ledger.specs.Grouped.{groups_of}
 use Rattle.span_ledger.proofs.Ascending.{ascending-passed}
 use Rattle.span_ledger.proofs.Grouping.{groups_of-inserted}
 use Rattle.span_journal.proofs.Sorted.{ascending-sorted}
-use Rattle.span_ledger.proofs.parts.empty_groups.Goals as goal
+use Rattle.span_ledger.proofs.by_process.empty_groups.Goals as goal
 
 pub loop-pid-preserved-in_ok-insert : goal.loop-pid-preserved-in_ok-insert
 loop-pid-preserved-in_ok-insert c =

@@ -1,4 +1,4 @@
--- What a journal has of each process, and of each of its threads: a report says this, part by part.
+-- What a journal has of each process, and of each of its threads: a report says this, process by process.
 use Rattle.span_event.specs.Orders.{thread_cmp}
 use Rattle.std.specs.Prelude.{ℤ, List, map, filter, filter_map}
 use Rattle.std.specs.Ordering.{int_eq}
@@ -32,20 +32,20 @@ pub record ProcessRows : Type 0 where
 abbrev pub threads_in : ℤ → List Accepted → List Thread
 threads_in pid events = ascending thread_cmp (filter (λ thread. int_eq thread.pid pid) (filter_map (λ a. listed_by a.act) events))
 
-abbrev pub thread_part : List Entry → Thread → ThreadRows
-thread_part journal thread = record {
+abbrev pub rows_in_thread : List Entry → Thread → ThreadRows
+rows_in_thread journal thread = record {
   row = thread_row journal thread;
   spans = thread_span_rows journal thread;
   instants = instant_rows_of thread (meta_events (accepted journal));
 }
 
-abbrev pub process_part : List Entry → ℤ → ProcessRows
-process_part journal pid = record {
+abbrev pub rows_in_process : List Entry → ℤ → ProcessRows
+rows_in_process journal pid = record {
   row = process_row journal pid;
-  threads = map (thread_part journal) (threads_in pid (accepted journal));
+  threads = map (rows_in_thread journal) (threads_in pid (accepted journal));
   series = series_rows_of pid (counter_events (accepted journal));
 }
 
--- the parts of the processes that have an accepted event, in ascending order
-abbrev pub process_parts : List Entry → List ProcessRows
-process_parts journal = map (process_part journal) (process_keys (accepted journal))
+-- the rows of each process that has an accepted event, in ascending order of processes
+abbrev pub rows_by_process : List Entry → List ProcessRows
+rows_by_process journal = map (rows_in_process journal) (process_keys (accepted journal))

@@ -1,7 +1,7 @@
 use Rattle.std.proofs.Common.{◌∷◌, [], ◌++◌, ap, ◌∙◌}
 use Rattle.span_ledger.specs.Grouped.{group_of, groups_of}
 use Rattle.span_ledger.proofs.Grouping.{groups_of-series}
-use Rattle.span_ledger.proofs.parts.add_series.Goals as goal
+use Rattle.span_ledger.proofs.by_process.add_series.Goals as goal
 
 pub loop-row-preserved : goal.loop-row-preserved
 loop-row-preserved c = λ pids threads sorted is.

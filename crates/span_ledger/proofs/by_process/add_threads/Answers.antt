@@ -1,7 +1,7 @@
 use Rattle.std.proofs.Common.{[], ◌∙◌}
 use Rattle.span_ledger.specs.Grouped.{group_of}
 use Rattle.span_ledger.proofs.Grouping.{groups_of-thread}
-use Rattle.span_ledger.proofs.parts.add_threads.Goals as goal
+use Rattle.span_ledger.proofs.by_process.add_threads.Goals as goal
 
 pub loop-thread-preserved : goal.loop-thread-preserved
 loop-thread-preserved c = λ pids sorted is.

@@ -5,8 +5,8 @@ ghost use Rattle.std.specs.List.Sorted.{IsStrictlySortedBy};
 ghost use Rattle.span_event.specs.Given.{Gives};
 ghost use Rattle.span_keyed_tracks.specs.Counters.{CounterStandsFor, series_rows};
 ghost use Rattle.span_keyed_tracks.specs.Keyed.{ascending};
-ghost use Rattle.span_ledger.specs.Grouped.{GroupsGrow, group_of, grouped_part, groups_of, with_series, with_thread};
-ghost use Rattle.span_journal.specs.Parts.{process_parts, thread_part};
+ghost use Rattle.span_ledger.specs.Grouped.{GroupsGrow, group_of, rows_in_group, groups_of, with_series, with_thread};
+ghost use Rattle.span_journal.specs.ByProcess.{rows_by_process, rows_in_thread};
 ghost use Rattle.span_ledger.specs.Tracked.{FollowsJournal};
 
 use crate::listed::Listed;
@@ -19,9 +19,9 @@ use std::alloc::{AllocError, Global};
 use std::collections::{BTreeMap, BTreeSet};
 use std::marker::Model;
 
-/// A thread with what it has.
+/// The rows of a thread.
 #[derive(Drop)]
-pub struct ThreadPart {
+pub struct ThreadRows {
     pub row: ThreadRow,
     /// One for each name of its closed spans, in byte order of names.
     pub spans: Vec<SpanRow>,
@@ -29,32 +29,32 @@ pub struct ThreadPart {
     pub instants: Vec<InstantRow>,
 }
 
-impl Model for ThreadPart {
-    ghost use Rattle.span_journal.specs.Parts.{ThreadRows};
+impl Model for ThreadRows {
+    ghost use Rattle.span_journal.specs.ByProcess.{ThreadRows};
 
     ghost Value = { ThreadRows };
 
-    ghost view = { λ p.
-        record { row = p.row; spans = p.spans.items; instants = p.instants.items } };
+    ghost view = { λ r.
+        record { row = r.row; spans = r.spans.items; instants = r.instants.items } };
 }
 
-/// A process with what it has.
+/// The rows of a process.
 #[derive(Drop)]
-pub struct ProcessPart {
+pub struct ProcessRows {
     pub row: ProcessRow,
     /// In ascending order.
-    pub threads: Vec<ThreadPart>,
+    pub threads: Vec<ThreadRows>,
     /// One for each of its series, by the counter's name, its id and the series.
     pub series: Vec<SeriesRow>,
 }
 
-impl Model for ProcessPart {
-    ghost use Rattle.span_journal.specs.Parts.{ProcessRows};
+impl Model for ProcessRows {
+    ghost use Rattle.span_journal.specs.ByProcess.{ProcessRows};
 
     ghost Value = { ProcessRows };
 
-    ghost view = { λ p.
-        record { row = p.row; threads = p.threads.items; series = p.series.items } };
+    ghost view = { λ r.
+        record { row = r.row; threads = r.threads.items; series = r.series.items } };
 }
 
 // What is listed under one process.
@@ -103,84 +103,85 @@ impl Group {
     }
 }
 
-// The parts of the processes that the tracks list.
-pub(crate) fn process_parts(
+// The rows of each process that the tracks list.
+pub(crate) fn rows_by_process(
     alloc: Global,
     journal: &[Entry],
     tracks: &Tracks,
-) -> Result<Vec<ProcessPart>, AllocError>
+) -> Result<Vec<ProcessRows>, AllocError>
     requires { FollowsJournal journal.now tracks.now }
-    ensures { IfOk result (λ parts. parts.items ≡ process_parts journal.now) }
+    ensures { IfOk result (λ processes. processes.items ≡ rows_by_process journal.now) }
 {
     let groups = grouped(alloc, tracks)?;
-    parts_of(alloc, journal, tracks, groups)
+    rows_in_groups(alloc, journal, tracks, groups)
 }
 
-fn parts_of(
+fn rows_in_groups(
     alloc: Global,
     journal: &[Entry],
     tracks: &Tracks,
     groups: BTreeMap<i64, Group>,
-) -> Result<Vec<ProcessPart>, AllocError>
+) -> Result<Vec<ProcessRows>, AllocError>
     requires { FollowsJournal journal.now tracks.now }
-    ensures { IfOk result (λ parts. parts.items ≡ map (grouped_part journal.now) groups.entries) }
+    ensures { IfOk result (λ processes. processes.items
+        ≡ map (rows_in_group journal.now) groups.entries) }
 {
-    let mut parts = Vec::with_capacity(alloc, groups.len())?;
+    let mut processes = Vec::with_capacity(alloc, groups.len())?;
     for (pid, group) in groups {
-        parts.push(process_part(alloc, journal, tracks, pid, group)?)?;
+        processes.push(rows_in_process(alloc, journal, tracks, pid, group)?)?;
     }
-    Ok(parts)
+    Ok(processes)
 }
 
-// What is grouped under a process, as its part.
-fn process_part(
+// The rows of a process with what is grouped under it.
+fn rows_in_process(
     alloc: Global,
     journal: &[Entry],
     tracks: &Tracks,
     pid: i64,
     group: Group,
-) -> Result<ProcessPart, AllocError>
+) -> Result<ProcessRows, AllocError>
     requires { FollowsJournal journal.now tracks.now }
-    ensures { IfOk result (λ part. part ≡ grouped_part journal.now (pid, group)) }
+    ensures { IfOk result (λ rows. rows ≡ rows_in_group journal.now (pid, group)) }
 {
     let row = process_row(alloc, journal, tracks, pid)?;
-    let threads = thread_parts(alloc, journal, tracks, &group.threads)?;
-    Ok(ProcessPart {
+    let threads = rows_in_threads(alloc, journal, tracks, &group.threads)?;
+    Ok(ProcessRows {
         row,
         threads,
         series: group.series,
     })
 }
 
-fn thread_parts(
+fn rows_in_threads(
     alloc: Global,
     journal: &[Entry],
     tracks: &Tracks,
     threads: &[Thread],
-) -> Result<Vec<ThreadPart>, AllocError>
+) -> Result<Vec<ThreadRows>, AllocError>
     requires { FollowsJournal journal.now tracks.now }
-    ensures { IfOk result (λ parts. parts.items ≡ map (thread_part journal.now) threads.now) }
+    ensures { IfOk result (λ rows. rows.items ≡ map (rows_in_thread journal.now) threads.now) }
 {
-    let mut parts = Vec::with_capacity(alloc, threads.len())?;
+    let mut rows = Vec::with_capacity(alloc, threads.len())?;
     for thread in threads {
-        parts.push(thread_part(alloc, journal, tracks, thread)?)?;
+        rows.push(rows_in_thread(alloc, journal, tracks, thread)?)?;
     }
-    Ok(parts)
+    Ok(rows)
 }
 
-fn thread_part(
+fn rows_in_thread(
     alloc: Global,
     journal: &[Entry],
     tracks: &Tracks,
     thread: &Thread,
-) -> Result<ThreadPart, AllocError>
+) -> Result<ThreadRows, AllocError>
     requires { FollowsJournal journal.now tracks.now }
-    ensures { IfOk result (λ part. part ≡ thread_part journal.now thread.now) }
+    ensures { IfOk result (λ rows. rows ≡ rows_in_thread journal.now thread.now) }
 {
     let row = thread_row(alloc, journal, tracks, thread)?;
     let spans = thread_span_rows(alloc, journal, tracks, thread)?;
     let instants = tracks.phases.meta.instant_rows_of(alloc, *thread)?;
-    Ok(ThreadPart {
+    Ok(ThreadRows {
         row,
         spans,
         instants,

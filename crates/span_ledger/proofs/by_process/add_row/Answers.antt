@@ -2,7 +2,7 @@ use Rattle.std.proofs.Common.{sym, ap}
 use Rattle.span_keyed_tracks.proofs.Results.{on_ok-map}
 use Rattle.span_ledger.specs.Grouped.{with_series}
 use Rattle.span_ledger.proofs.Grouping.{GroupsGrow-absent, GroupsGrow-written}
-use Rattle.span_ledger.proofs.parts.add_row.Goals as goal
+use Rattle.span_ledger.proofs.by_process.add_row.Goals as goal
 
 pub returns-in-Some : goal.returns-in-Some
 returns-in-Some c =

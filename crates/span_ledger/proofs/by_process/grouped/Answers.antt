@@ -7,7 +7,7 @@ use Rattle.span_event.specs.Given.{Gives}
 use Rattle.span_ledger.specs.Grouped.{groups_of}
 use Rattle.span_ledger.specs.Tracked.{TracksKept}
 use Rattle.span_journal.proofs.Sorted.{ascending-sorted}
-use Rattle.span_ledger.proofs.parts.grouped.Goals as goal
+use Rattle.span_ledger.proofs.by_process.grouped.Goals as goal
 
 pub returns : goal.returns
 returns c = λ list stands.

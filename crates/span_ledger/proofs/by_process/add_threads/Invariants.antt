@@ -2,7 +2,7 @@ use Rattle.std.proofs.Common.{◌≡◌, ℤ, List, []}
 use Rattle.std.specs.List.Sorted.{IsStrictlySortedBy}
 use Rattle.std.specs.Ordering.{int_cmp}
 use Rattle.span_ledger.specs.Grouped.{groups_of}
-use Rattle.span_ledger.proofs.parts.add_threads.Given as goal
+use Rattle.span_ledger.proofs.by_process.add_threads.Given as goal
 
 -- the threads that were passed are grouped
 abbrev pub invariant-loop-thread : goal.invariant-loop-thread
