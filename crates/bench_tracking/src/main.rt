@@ -1,6 +1,6 @@
 //! Gives the spans of a trace, read from standard input, to the track of one thread, whatever threads they are on, and prints
 //! what they come to: a program to be timed. To standard error go the nanoseconds that the track took to keep the events, and
-//! then to tell its busy time and the self time of each name; reading isn't among them.
+//! then to give its busy time and the self time of each name; reading isn't among them.
 #![tactic(auto)]
 
 mod step;
@@ -22,13 +22,13 @@ fn own_times(track: &ThreadTrack, names: u32) -> u64 {
     sum
 }
 
-// What the track comes to, and how long it took to keep the events and to tell that.
-fn tell(rt: &HostRuntime, track: &ThreadTrack, names: u32, keeping: u128) -> io::Result<()> {
+// What the track comes to, and how long it took to keep the events and to give that.
+fn show(rt: &HostRuntime, track: &ThreadTrack, names: u32, keeping: u128) -> io::Result<()> {
     let start = Instant::now(rt)?;
     let busy = track.busy();
     let own = own_times(track, names);
-    let telling = start.elapsed(rt)?.as_nanos();
-    eprintln!(rt; "{keeping} {telling}")?;
+    let giving = start.elapsed(rt)?.as_nanos();
+    eprintln!(rt; "{keeping} {giving}")?;
     let (closed, open) = (track.closed_count(), track.depth());
     println!(rt; "closed {closed} open {open} busy {busy} own {own}")
 }
@@ -38,9 +38,9 @@ fn keep(rt: &HostRuntime, steps: &[Step], names: u32) -> io::Result<()> {
     match track_of(rt.alloc(), steps) {
         Ok(track) => {
             let keeping = start.elapsed(rt)?.as_nanos();
-            let told = tell(rt, &track, names, keeping);
+            let shown = show(rt, &track, names, keeping);
             drop(track);
-            told
+            shown
         }
         Err(fault) => println!(rt; "{fault:?}"),
     }
@@ -53,9 +53,9 @@ fn main(rt: HostRuntime) -> io::Result<()> {
     match read_items(alloc, &bytes) {
         Ok(items) => {
             let (steps, names) = steps_of(alloc, items)?;
-            let told = keep(&rt, &steps, names);
+            let shown = keep(&rt, &steps, names);
             drop(steps);
-            told
+            shown
         }
         Err(error) => println!(rt; "{error}"),
     }

@@ -37,7 +37,7 @@ told_by NotStarted = 0
 abbrev pub calls_told : List FileEnd → Asked → ℕ
 calls_told ends asked = asked.done + sum_by told_by ends
 
--- The journal has all that the ends and `asked` tell of, and more: so many entries, of which so many calls are told.
+-- The journal has all that the ends and `asked` name, and more: so many entries, of which so many calls are told.
 pub record HasMore (files : List Input) (asks : List Query) (settings : Settings) (entries told : ℕ) : Type 0 where
   pub journal : List Entry
   pub ends : List FileEnd

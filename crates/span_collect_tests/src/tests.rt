@@ -195,9 +195,9 @@ fn workers_read_and_tell_while_the_main_seat_asks(rt: HostRuntime) -> Result<(),
         late: AtomicBool::new(false),
     };
     let outcome = collect_two(&rt, &gate)?;
-    let told = two_are_collected(&rt, &outcome);
+    let checked = two_are_collected(&rt, &outcome);
     drop(outcome);
-    told?;
+    checked?;
     assert!(rt; !gate.late.load(Ordering::SeqCst));
     assert_eq!(rt; gate.reading.load(Ordering::SeqCst), 3);
     assert_eq!(rt; gate.telling.load(Ordering::SeqCst), 7);
@@ -237,9 +237,9 @@ fn one_after_the_other(
         late: AtomicBool::new(false),
     };
     let outcome = collect_two(rt, &gate)?;
-    let told = is_collected_last(rt, &outcome, held);
+    let checked = is_collected_last(rt, &outcome, held);
     drop(outcome);
-    told?;
+    checked?;
     assert!(rt; !gate.late.load(Ordering::SeqCst));
     Ok(())
 }
@@ -317,7 +317,7 @@ fn ends_with(
     Ok(())
 }
 
-// A run of these files, of which one is refused, writes this report, and these lines tell of its ends.
+// A run of these files, of which one is refused, writes this report, and its ends are those of these lines.
 fn runs(
     rt: &(impl Threads + Wait + RandomSource + Sync + Abort + AllocGlobal),
     files: &[Input],
@@ -336,9 +336,9 @@ fn runs(
     )?;
     assert!(rt; out.as_slice() == wanted.as_bytes());
     drop(out);
-    let told = ends_with(rt, files, &end, lines);
+    let checked = ends_with(rt, files, &end, lines);
     drop(end);
-    told
+    checked
 }
 
 fn stops_at_the_limit_of(
@@ -360,9 +360,9 @@ fn stops_at_the_limit_of(
 fn stops_at_the_limit(rt: HostRuntime) -> Result<(), Fail> {
     let alloc = rt.alloc();
     let files = vec![in alloc; file_of(alloc, "four.json", FOUR)?]?;
-    let told = stops_at_the_limit_of(&rt, &files);
+    let checked = stops_at_the_limit_of(&rt, &files);
     drop(files);
-    told
+    checked
 }
 
 #[test]
@@ -374,9 +374,9 @@ fn reports_of_the_other_file_where_one_is_cut(rt: HostRuntime) -> Result<(), Fai
         file_of(alloc, "cut.json", r#"[{"ph":"B","na"#)?,
     ]?;
     let line = "tracebook: \"cut.json\": 1 NotJson\n";
-    let told = runs(&rt, &files, ONE_REPORT, line);
+    let checked = runs(&rt, &files, ONE_REPORT, line);
     drop(files);
-    told
+    checked
 }
 
 #[test]
@@ -400,7 +400,7 @@ fn shows_a_number_with_its_word(rt: HostRuntime) -> Result<(), Fail> {
 }
 
 #[test]
-fn tells_of_a_file_by_its_name_as_json_text(rt: HostRuntime) -> Result<(), Fail> {
+fn names_a_file_as_json_text(rt: HostRuntime) -> Result<(), Fail> {
     let alloc = rt.alloc();
     for (name, code, line) in [
         (

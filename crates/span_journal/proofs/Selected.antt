@@ -22,7 +22,7 @@ module _ {K : Type 0} {R : K → K → Ordering} (o : IsTotalOrder R) where
   insert_key-first k [] below = refl
   insert_key-first k (x ∷ xs) below = ap (λ r. match_ordering r (k ∷ x ∷ xs) (x ∷ xs) (x ∷ insert_key R xs k)) below.0
 
-  -- a selection that doesn't tell keys apart which the order doesn't tell apart
+  -- a selection that distinguishes no keys but those that the order does
   module _ (p : K → Bool) (same : (a b : K) → R a b ≡ Equal → p a ≡ p b) where
     filter-insert_key : (k : K) (ks : List K) → IsStrictlySortedBy R ks → filter p (insert_key R ks k) ≡ cond (p k) (insert_key R (filter p ks) k) (filter p ks)
     unfolding IsStrictlySortedBy

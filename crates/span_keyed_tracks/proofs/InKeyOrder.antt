@@ -127,7 +127,7 @@ module _ {K : Type 0} {cmp : K → K → Ordering} (o : IsTotalOrder cmp) (same 
       let there : has_key cmp key (keys_of es) ≡ true = sym (is_some-lookup (is_at (cmp key)) es) ∙ ap is_some found in
       kept ∙ ap (λ b. cond b (keys_of es) (keys_of es ++ key ∷ [])) (sym there)
 
--- where a map tells keys apart as their order does
+-- where a map distinguishes keys as their order does
 module _ {K X : Type 0} {cmp : K → K → Ordering} (o : IsTotalOrder cmp) (same : (a b : K) → cmp a b ≡ Equal → a ≡ b) {eq : K → K → Bool} (matches : (a b : K) → eq a b ≡ is_eq (cmp a b)) where
   -- what is found is the same
   pub lookup-matches : (k : K) (es : List (K × X)) → lookup (eq k) es ≡ lookup (is_at (cmp k)) es

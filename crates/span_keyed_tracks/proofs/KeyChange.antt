@@ -54,7 +54,7 @@ module _ {K X : Type 0} {cmp : K → K → Ordering} (o : IsTotalOrder cmp) wher
           made = result;
           value = value;
           called = subst (λ v. call v result value) (sym (kept_at-found cmp none old key was found)) called;
-          answers = λ refusal told. told;
+          answers = λ refusal holds. holds;
           ordered = sorted;
           ok = ends.0;
           err = ends.1;

@@ -102,7 +102,7 @@ module _ {K : Type 0} {cmp : K → K → Ordering} (o : IsTotalOrder cmp) where
   none_later k x (y ∷ ys) Equal e low below = (ap is_eq (o.congr k x y e ∙ below.0), none_later k x ys Equal e low below.1)
   none_later k x (y ∷ ys) Greater e low below = absurd (low refl)
 
--- where keys that the order does not tell apart are the same
+-- where keys that the order doesn't distinguish are the same
 module _ {K : Type 0} {cmp : K → K → Ordering} (o : IsTotalOrder cmp) (same : (a b : K) → cmp a b ≡ Equal → a ≡ b) where
   pub same_from_is_eq : (a b : K) → is_eq (cmp a b) ≡ true → a ≡ b
   same_from_is_eq a b h = by (cmp a b) refl h

@@ -26,7 +26,7 @@ use Rattle.span_event.specs.Text.{same_text}
 pub holder_cmp-total : IsTotalOrder holder_cmp
 holder_cmp-total = then_total (on_total (λ h. h.0) int_cmp_total) (on_total (λ h. h.1) (options_total int_cmp_total))
 
--- those that it does not tell apart are the same
+-- those that it doesn't distinguish are the same
 pub holder_cmp-same : (a b : Holder) → holder_cmp a b ≡ Equal → a ≡ b
 holder_cmp-same a b e =
     let parts = both_equal (int_cmp a.0 b.0) (option_cmp int_cmp a.1 b.1) e in

@@ -22,7 +22,7 @@ async_cmp-total =
     then_total (on_total (λ k. k.cat) nat_list_cmp_total)
     (then_total (on_total (λ k. k.scope) nat_list_cmp_total) (then_total (on_total (λ k. k.id) id_cmp-total) (on_total (λ k. k.name) nat_list_cmp_total)))
 
--- asynchronous keys that it does not tell apart are the same
+-- asynchronous keys that it doesn't distinguish are the same
 pub async_cmp-same : (a b : AsyncKey) → async_cmp a b ≡ Equal → a ≡ b
 async_cmp-same a b e =
     let first = both_equal (text_cmp a.cat b.cat) (ordering_then (text_cmp a.scope b.scope) (ordering_then (id_cmp a.id b.id) (text_cmp a.name b.name))) e in
@@ -38,7 +38,7 @@ async_cmp-same a b e =
 pub flow_cmp-total : IsTotalOrder flow_cmp
 flow_cmp-total = then_total (on_total (λ k. k.cat) nat_list_cmp_total) (then_total (on_total (λ k. k.name) nat_list_cmp_total) (on_total (λ k. k.id) id_cmp-total))
 
--- flow keys that it does not tell apart are the same
+-- flow keys that it doesn't distinguish are the same
 pub flow_cmp-same : (a b : FlowKey) → flow_cmp a b ≡ Equal → a ≡ b
 flow_cmp-same a b e =
     let first = both_equal (text_cmp a.cat b.cat) (ordering_then (text_cmp a.name b.name) (id_cmp a.id b.id)) e in
@@ -54,7 +54,7 @@ series_cmp-total =
     then_total (on_total (λ k. k.pid) int_cmp_total)
     (then_total (on_total (λ k. k.name) nat_list_cmp_total) (then_total (on_total (λ k. k.id) (options_total id_cmp-total)) (on_total (λ k. k.series) nat_list_cmp_total)))
 
--- series that it does not tell apart are the same
+-- series that it doesn't distinguish are the same
 pub series_cmp-same : (a b : SeriesKey) → series_cmp a b ≡ Equal → a ≡ b
 series_cmp-same a b e =
     let first = both_equal (int_cmp a.pid b.pid) (ordering_then (text_cmp a.name b.name) (ordering_then (option_cmp id_cmp a.id b.id) (text_cmp a.series b.series))) e in

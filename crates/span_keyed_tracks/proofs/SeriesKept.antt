@@ -37,7 +37,7 @@ option_eq-is_eq eq cmp each (Some x) (Some y) = each x y
 same_id-is_eq : (a b : IdKey) → same_id a b ≡ is_eq (id_cmp a b)
 same_id-is_eq a b = both_tied _ _ (option_cmp int_cmp a.home b.home) (text_cmp a.id b.id) (option_eq-is_eq int_eq int_cmp (λ x y. refl) a.home b.home) (texts_ties a.id b.id)
 
--- fields are the same just where the order doesn't tell keys apart
+-- fields are the same just where the order doesn't distinguish keys
 same_series-is_eq : (a b : SeriesKey) → same_series a b ≡ is_eq (series_cmp a b)
 same_series-is_eq a b =
     both_tied _ _ (int_cmp a.pid b.pid) (ordering_then (text_cmp a.name b.name) (ordering_then (option_cmp id_cmp a.id b.id) (text_cmp a.series b.series))) refl

@@ -1,4 +1,4 @@
--- Names, labels and sort indices of processes and threads, and instants: what metadata events and instants tell.
+-- Names, labels and sort indices of processes and threads, and instants: what metadata events and instants say.
 use Rattle.std.specs.Prelude.{◌≡◌, ℕ, ◌≤◌, ◌^◌, ◌-◌, ℤ, Bool, true, false, codes, is_some, List, [], ◌∷◌, ◌++◌, length, filter_map, Option, Some, None, option_and_then, if◌then◌else◌}
 use Rattle.std.specs.Option.{option_map, option_cmp}
 use Rattle.std.specs.declared.cmp.Ordering.{Ordering}

@@ -1,4 +1,4 @@
-//! Tracks that are told events, and what they then tell.
+//! Tracks that are told events, and what they then give.
 ghost use Rattle.std.specs.Prelude.{All, IfOk};
 ghost use Rattle.span_event.specs.Event.{IsGood};
 ghost use Rattle.span_event.specs.Item.{IsGoodItem};

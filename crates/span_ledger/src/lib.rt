@@ -1,4 +1,4 @@
-//! The ledger: the journal of a collection, and what its accepted events have told so far, so that no answer looks back.
+//! The ledger: the journal of a collection, and what its accepted events come to so far, so that no answer looks back.
 //! A tick is a microsecond or a nanosecond, as the run counts.
 #![tactic(auto)]
 

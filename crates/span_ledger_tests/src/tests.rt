@@ -1,4 +1,4 @@
-//! A ledger that is told worked examples, and what it then tells.
+//! A ledger that is told worked examples, and what it then gives.
 ghost use Rattle.span_event.specs.Item.{IsGoodItem};
 ghost use Rattle.span_journal.specs.Legal.{IsGoodOp};
 
@@ -110,10 +110,10 @@ fn expect_example(
     ledger: &mut Ledger,
     example: &Example,
 ) -> Result<(), Fail> {
-    let told = answers(rt.alloc(), ledger, example.events)?;
+    let answers = answers(rt.alloc(), ledger, example.events)?;
     assert!(rt;
-        told.as_str() == example.answers,
-        "{}: answers {told}",
+        answers.as_str() == example.answers,
+        "{}: answers {answers}",
         example.name
     );
     let rows = rows(rt.alloc(), ledger)?;
@@ -127,9 +127,9 @@ fn expect_example(
 
 fn run_example(rt: &(impl Abort + AllocGlobal), example: &Example) -> Result<(), Fail> {
     let mut ledger = Ledger::new(rt.alloc(), 100, false);
-    let told = expect_example(rt, &mut ledger, example);
+    let checked = expect_example(rt, &mut ledger, example);
     drop(ledger);
-    told
+    checked
 }
 
 #[test]
@@ -168,9 +168,9 @@ SeriesRow { key: SeriesKey { pid: 2, name: "m", id: None, series: "k" }, totals:
 #[test]
 fn rows_nest(rt: HostRuntime) -> Result<(), Fail> {
     let mut ledger = Ledger::new(rt.alloc(), 100, false);
-    let told = rows_nest_in(&rt, &mut ledger);
+    let checked = rows_nest_in(&rt, &mut ledger);
     drop(ledger);
-    told
+    checked
 }
 
 fn the_journal_can_be_read_in(
@@ -210,9 +210,9 @@ fn the_journal_can_be_read_in(
 #[test]
 fn the_journal_can_be_read(rt: HostRuntime) -> Result<(), Fail> {
     let mut ledger = Ledger::new(rt.alloc(), 100, false);
-    let told = the_journal_can_be_read_in(&rt, &mut ledger);
+    let checked = the_journal_can_be_read_in(&rt, &mut ledger);
     drop(ledger);
-    told
+    checked
 }
 
 fn a_full_journal_gives_the_operation_back_in(
@@ -220,9 +220,9 @@ fn a_full_journal_gives_the_operation_back_in(
     ledger: &mut Ledger,
 ) -> Result<(), Fail> {
     let events = r#"[{"ph":"B","ts":0},{"ph":"B","ts":0},{"ph":"B","ts":0},{"ph":"B","ts":0}]"#;
-    let told = answers(rt.alloc(), ledger, events)?;
+    let answers = answers(rt.alloc(), ledger, events)?;
     assert_eq!(rt;
-        told.as_str(),
+        answers.as_str(),
         "Opened { depth: 1 }\nOpened { depth: 2 }\nOpened { depth: 3 }\nFull\n"
     );
     let Err(back) = ledger.apply(1, Op::One(Item::Other)) else {
@@ -238,9 +238,9 @@ fn a_full_journal_gives_the_operation_back_in(
 #[test]
 fn a_full_journal_gives_the_operation_back(rt: HostRuntime) -> Result<(), Fail> {
     let mut ledger = Ledger::new(rt.alloc(), 3, false);
-    let told = a_full_journal_gives_the_operation_back_in(&rt, &mut ledger);
+    let checked = a_full_journal_gives_the_operation_back_in(&rt, &mut ledger);
     drop(ledger);
-    told
+    checked
 }
 
 // An event costs as many bytes as these, in a file's list of items and then in the journal.

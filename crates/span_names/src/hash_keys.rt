@@ -17,7 +17,7 @@ impl HashKeys {
         HashKeys { random: None }
     }
 
-    /// Keys of random bytes, so that nobody outside can tell which names collide; the fixed ones where no random bytes can be had.
+    /// Keys of random bytes, so that nobody outside can know which names collide; the fixed ones where no random bytes can be had.
     pub fn random(rt: &impl RandomSource) -> HashKeys {
         HashKeys {
             random: RandomState::new(rt).ok(),

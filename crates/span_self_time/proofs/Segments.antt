@@ -1,4 +1,4 @@
--- What segments in order tell of a tick, and that the segments of the time of spans are their segments.
+-- What segments in order say of a tick, and that the segments of the time of spans are their segments.
 use Rattle.std.proofs.Common.{◌≡◌, ◌≢◌, ℕ, nat_eq, Bool, true, false, ◌&&◌, ◌||◌, ℤ, ◌≤ℤ◌, ◌<ℤ◌, List, [], ◌∷◌, map, Some, refl, sym, ap, ap₂, ◌∙◌, arith, All, get_or}
 use Rattle.std.proofs.lemmas.Int.{ints, by_lt_z}
 use Rattle.std.proofs.lemmas.Bool.{ne_eqb, and_right, or_from}

@@ -86,7 +86,7 @@ pub record ForSome (P : Owners → Type 0) : Type 0 where
   pub owners : Owners
   pub holds : P owners
 
--- a new span may take its own from the owners of whom `Is` tells what is kept
+-- a new span may take its own from the owners of whom `Is` says what is kept
 pub record CanAdd {T : Type 0} (Is : Owners → T → Type 0) (s : Span ℕ) (kept : T) : Type 0 where
   pub is : ForSome (λ owners. Is owners kept × IsNew s owners × AreSettled owners)
   pub forward : s.start ≤ℤ s.until

@@ -52,7 +52,7 @@ impl Division {
         }
     }
 
-    /// The time of no spans, in which each that is added is searched for, from the first on. No reader can tell it from `new`'s.
+    /// The time of no spans, in which each that is added is searched for, from the first on. No reader can distinguish it from `new`'s.
     pub fn searching() -> Division
         ensures { Divides [] result }
     {
@@ -62,7 +62,7 @@ impl Division {
         }
     }
 
-    /// A copy, which tells the same times and segments.
+    /// A copy, which gives the same times and segments.
     pub fn try_clone(&self, alloc: Global) -> Result<Division, AllocError>
         ensures { IfOk result (λ copy. (spans : List (Span ℕ)) → Divides spans self.now
             → Divides spans copy) }

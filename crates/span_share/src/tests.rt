@@ -232,11 +232,11 @@ fn tell_past_the_limit(
 #[test]
 fn a_share_of_one_entry(rt: HostRuntime) -> Result<(), Fail> {
     let (share, mut seat) = Share::start(rt.alloc(), 1, false)?;
-    let told = tell_past_the_limit(&rt, &share, &mut seat);
+    let checked = tell_past_the_limit(&rt, &share, &mut seat);
     let (ledger, seat) = share.close(&rt, seat);
     assert_eq!(rt; ledger.len(), 1);
     assert_eq!(rt; seat.number(), 0);
-    told
+    checked
 }
 
 #[test]

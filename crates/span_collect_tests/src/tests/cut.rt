@@ -1,4 +1,4 @@
-//! What a collection tells where it was cut: by the limit, or where a worker wasn't started.
+//! What a collection says where it was cut: by the limit, or where a worker wasn't started.
 use super::{file_of, files_of, up_to};
 use span_collect::{FileEnd, FreeGate, Input, Outcome, collect, fault_lines, run};
 use span_journal::{Cause, Query};
@@ -45,9 +45,9 @@ fn asks_up_to_the_limit(
 fn a_query_may_meet_the_limit(rt: HostRuntime) -> Result<(), Fail> {
     let alloc = rt.alloc();
     let files = vec![in alloc; file_of(alloc, "empty.json", "[]")?]?;
-    let told = asks_up_to_the_limit(&rt, &files);
+    let checked = asks_up_to_the_limit(&rt, &files);
     drop(files);
-    told
+    checked
 }
 
 fn has_lines(
@@ -70,7 +70,7 @@ fn a_worker_that_is_not_started_has_a_line(rt: HostRuntime) -> Result<(), Fail> 
         items: 2,
     };
     let line = "tracebook: \"span.json\": 42 NotStarted\n";
-    let told = has_lines(&rt, &files, &[FileEnd::NotStarted, read], line);
+    let checked = has_lines(&rt, &files, &[FileEnd::NotStarted, read], line);
     drop(files);
-    told
+    checked
 }

@@ -81,9 +81,9 @@ fn each_caller_calls_the_gate_in_order(rt: HostRuntime) -> Result<(), Fail> {
         wrong: AtomicBool::new(false),
     };
     let files = two_and_three(rt.alloc())?;
-    let told = collect_behind(&rt, &files, &gate);
+    let collected = collect_behind(&rt, &files, &gate);
     drop(files);
-    drop(told?);
+    drop(collected?);
     assert!(rt; !gate.wrong.load(Ordering::SeqCst));
     assert_eq!(rt; gate.first.load(Ordering::SeqCst), 3);
     assert_eq!(rt; gate.second.load(Ordering::SeqCst), 4);
@@ -138,9 +138,9 @@ fn the_gate_is_called_before_each_step(rt: HostRuntime) -> Result<(), Fail> {
         late: AtomicBool::new(false),
     };
     let files = two_and_three(rt.alloc())?;
-    let told = collect_behind(&rt, &files, &gate);
+    let collected = collect_behind(&rt, &files, &gate);
     drop(files);
-    let outcome = told?;
+    let outcome = collected?;
     second_is_first(&rt, &outcome);
     drop(outcome);
     assert!(rt; !gate.late.load(Ordering::SeqCst));

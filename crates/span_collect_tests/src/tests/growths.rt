@@ -1,4 +1,4 @@
-//! What a collection tells where a growth is refused. The test runs with each allocation refused in turn, by
+//! What a collection says where a growth is refused. The test runs with each allocation refused in turn, by
 //! tests/refused_allocations.
 use super::{TWO_REPORT, files_of, up_to};
 use span_collect::{CollectError, FileEnd, Gate, Input, Outcome, RunEnd, RunError, collect, run};
@@ -139,8 +139,8 @@ fn a_refused_growth_is_accounted(rt: HostRuntime) -> Result<(), Fail> {
             return Err(Fail::from(error));
         }
     };
-    let told = collect_and_run(&rt, &files, &mut out);
+    let checked = collect_and_run(&rt, &files, &mut out);
     drop(files);
     drop(out);
-    told
+    checked
 }

@@ -97,9 +97,9 @@ fn have_one_report_sealed_or_not(
 #[test]
 fn separate_files_have_one_report(rt: HostRuntime) -> Result<(), Fail> {
     let files = files_of(rt.alloc(), 1, 2)?;
-    let told = have_one_report_sealed_or_not(&rt, &files);
+    let checked = have_one_report_sealed_or_not(&rt, &files);
     drop(files);
-    told
+    checked
 }
 
 const CUT: [&str; 2] = [
@@ -132,9 +132,9 @@ fn two_of(alloc: Global, texts: [&str; 2]) -> Result<Vec<Input>, AllocError> {
 #[test]
 fn separate_files_that_were_cut_have_one_report(rt: HostRuntime) -> Result<(), Fail> {
     let files = two_of(rt.alloc(), CUT)?;
-    let told = has_one_report(&rt, &files, &SEALED, CUT_REPORT);
+    let checked = has_one_report(&rt, &files, &SEALED, CUT_REPORT);
     drop(files);
-    told
+    checked
 }
 
 const SAMPLES: [&str; 2] = [
@@ -168,7 +168,7 @@ fn either_sample_may_be_last(
 #[test]
 fn files_with_a_counter_in_common_have_two_reports(rt: HostRuntime) -> Result<(), Fail> {
     let files = two_of(rt.alloc(), SAMPLES)?;
-    let told = either_sample_may_be_last(&rt, &files);
+    let checked = either_sample_may_be_last(&rt, &files);
     drop(files);
-    told
+    checked
 }

@@ -43,9 +43,9 @@ fn no_length_of_a_file_is_refused(rt: HostRuntime) -> Result<(), Fail> {
     text.push(b'[')?;
     for _ in 0..625 {
         let files = next_files(rt.alloc(), &mut text)?;
-        let told = are_read(&rt, &files);
+        let checked = are_read(&rt, &files);
         drop(files);
-        told?;
+        checked?;
     }
     assert_eq!(rt; text.len(), 40_001);
     Ok(())

@@ -10,7 +10,7 @@ use std::sync::Wait;
 use std::test::Fail;
 use std::thread::Threads;
 
-// How many bytes a run of these files tells were written before the output failed.
+// How many bytes a run of these files says were written before the output failed.
 fn written_to(
     rt: &(impl Threads + Wait + RandomSource + Sync + AllocGlobal),
     files: &[Input],
@@ -37,7 +37,7 @@ fn written_to(
     }
 }
 
-// A run of a file whose report has 143 bytes tells how many of them went to this output, and no others did.
+// A run of a file whose report has 143 bytes says how many of them went to this output, and no others did.
 fn fails_after(
     rt: &(impl Threads + Wait + RandomSource + Sync + Abort + AllocGlobal),
     files: &[Input],

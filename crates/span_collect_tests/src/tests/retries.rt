@@ -135,7 +135,7 @@ fn tell_and_report(rt: &(impl Abort + AllocGlobal), ledger: &mut Ledger) -> Resu
 #[test]
 fn what_was_told_again_is_reported_as_if_nothing_was_refused(rt: HostRuntime) -> Result<(), Fail> {
     let mut ledger = Ledger::new(rt.alloc(), 100, false);
-    let told = tell_and_report(&rt, &mut ledger);
+    let checked = tell_and_report(&rt, &mut ledger);
     drop(ledger);
-    told
+    checked
 }

@@ -1,4 +1,4 @@
-//! What a collection and a run tell where the open spans are sealed.
+//! What a collection and a run say where the open spans are sealed.
 use super::file_of;
 use span_collect::{FreeGate, Input, Outcome, RunEnd, Settings, Unit, collect, run};
 use span_journal::{Cause, Query};

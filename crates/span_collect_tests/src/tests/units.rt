@@ -59,16 +59,16 @@ fn is_run_in_nanoseconds(
     let collected = run_to_ledger(rt, alloc, files, &[], &SETTINGS, &mut Writer::new(&mut out))?;
     assert!(rt; out.as_slice() == REPORT.as_bytes());
     drop(out);
-    let told = has_refusals(rt, files, &collected);
+    let checked = has_refusals(rt, files, &collected);
     drop(collected);
-    told
+    checked
 }
 
 #[test]
 fn a_run_in_nanoseconds_says_its_unit(rt: HostRuntime) -> Result<(), Fail> {
     let alloc = rt.alloc();
     let files = vec![in alloc; file_of(alloc, "fractions.json", FRACTIONS)?]?;
-    let told = is_run_in_nanoseconds(&rt, &files);
+    let checked = is_run_in_nanoseconds(&rt, &files);
     drop(files);
-    told
+    checked
 }

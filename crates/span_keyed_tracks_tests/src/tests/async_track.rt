@@ -49,11 +49,11 @@ fn expect_end(
     track: &mut AsyncTrack,
     key: &AsyncKey,
     ts: i64,
-    told: Result<u64, TrackFault>,
+    length: Result<u64, TrackFault>,
 )
     requires { IsTime ts }
 {
-    assert_eq!(rt; track.end_async(key, ts), told);
+    assert_eq!(rt; track.end_async(key, ts), length);
 }
 
 fn expect_totals(rt: &impl Abort, track: &AsyncTrack, key: &AsyncKey, totals: AsyncTotals) {
@@ -203,7 +203,7 @@ fn tell(
     begin(rt, track, key, ts)
 }
 
-// Tells it, again where memory was refused: then the track must tell what it told before.
+// Tells it, again where memory was refused: then the track must give what it gave before.
 fn tell_at_last(
     rt: &(impl Abort + AllocGlobal),
     track: &mut AsyncTrack,

@@ -103,7 +103,7 @@ fn count_of_rows(alloc: Global, track: &CounterTrack) -> Result<usize, AllocErro
     }
 }
 
-// Takes a counter event, again where memory was refused: then the track must tell what it told before.
+// Takes a counter event, again where memory was refused: then the track must give what it gave before.
 fn take_at_last(
     rt: &(impl Abort + AllocGlobal),
     track: &mut CounterTrack,

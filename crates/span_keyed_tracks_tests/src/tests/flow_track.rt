@@ -142,7 +142,7 @@ fn count_of_rows(alloc: Global, track: &FlowTrack) -> Result<usize, AllocError> 
     }
 }
 
-// Tells a point, again where memory was refused: then the track must tell what it told before.
+// Tells a point, again where memory was refused: then the track must give what it gave before.
 fn tell_at_last(
     rt: &(impl Abort + AllocGlobal),
     track: &mut FlowTrack,

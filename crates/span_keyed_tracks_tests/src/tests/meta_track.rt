@@ -10,7 +10,7 @@ use std::alloc::{AllocError, Global};
 use std::process::Abort;
 use std::test::Fail;
 
-// Takes an event, where so many were taken before, and tells whether it names its thread.
+// Takes an event, where so many were taken before, and says whether it names its thread.
 fn take(rt: &impl Abort, track: &mut MetaTrack, event: &Event, taken: u32) -> bool
     requires good { IsGood event.now }
     requires few { taken < 1000 }
@@ -84,7 +84,7 @@ fn the_last_name_holds(rt: HostRuntime) -> Result<(), Fail> {
     Ok(())
 }
 
-// What the readers tell of process 1, its thread 2 and an instant of this name: how long names are, and numbers.
+// What the readers give of process 1, its thread 2 and an instant of this name: how long names are, and numbers.
 #[derive(Clone, Copy, Debug, PartialEq, Eq)]
 struct Readings {
     process: Option<usize>,
@@ -109,7 +109,7 @@ fn readings_of(track: &MetaTrack, name: &Text) -> Readings {
     }
 }
 
-// Takes an event, again where memory was refused: then the track must tell what it told before.
+// Takes an event, again where memory was refused: then the track must give what it gave before.
 fn take_at_last(rt: &impl Abort, track: &mut MetaTrack, event: &Event, taken: u32, name: &Text)
     requires good { IsGood event.now }
     requires few { taken < 1000 }

@@ -40,7 +40,7 @@ fn hands_out_in(rt: &(impl Abort + AllocGlobal), ledger: &mut Ledger) -> Result<
 #[test]
 fn closed_spans_stand_in_the_order_of_their_ends(rt: HostRuntime) -> Result<(), Fail> {
     let mut ledger = Ledger::new(rt.alloc(), 100, false);
-    let told = hands_out_in(&rt, &mut ledger);
+    let checked = hands_out_in(&rt, &mut ledger);
     drop(ledger);
-    told
+    checked
 }

@@ -1,4 +1,4 @@
-//! What readers tell where a growth of the ledger is refused.
+//! What readers give where a growth of the ledger is refused.
 ghost use Rattle.std.specs.Prelude.{All, IfErr, IfOk};
 ghost use Rattle.span_event.specs.Item.{IsGoodItem};
 ghost use Rattle.span_journal.specs.Legal.{IsGoodOp};
@@ -14,7 +14,7 @@ use std::alloc::{AllocError, Global};
 use std::process::Abort;
 use std::test::Fail;
 
-// What the readers tell, where one growth may be refused.
+// What the readers give, where one growth may be refused.
 fn seen_at_last(alloc: Global, ledger: &Ledger) -> Result<String, AllocError> {
     match rows(alloc, ledger) {
         Ok(lines) => Ok(lines),
@@ -54,7 +54,7 @@ fn tell(ledger: &mut Ledger, op: Op) -> Result<(), Back>
     }
 }
 
-// Tells what came back, once the readers tell what they told before.
+// Tells what came back, once the readers give what they gave before.
 fn tell_again(
     rt: &(impl Abort + AllocGlobal),
     ledger: &mut Ledger,
@@ -80,7 +80,7 @@ fn tell_again(
     }
 }
 
-// Tells an operation, again where memory was refused: then the readers must tell what they told before.
+// Tells an operation, again where memory was refused: then the readers must give what they gave before.
 fn tell_at_last(rt: &(impl Abort + AllocGlobal), ledger: &mut Ledger, op: Op) -> Result<(), Fail>
     requires { IsGoodOp op }
 {
@@ -137,9 +137,9 @@ fn tell_to_a_ledger(rt: &(impl Abort + AllocGlobal), example: &Example) -> Resul
     let mut ledger = Ledger::new(rt.alloc(), 100, false);
     // Where this is refused, entries still make room for themselves.
     let _ = ledger.reserve(2);
-    let told = tell_example(rt, &mut ledger, example);
+    let checked = tell_example(rt, &mut ledger, example);
     drop(ledger);
-    told
+    checked
 }
 
 fn tell_and_seal(rt: &(impl Abort + AllocGlobal), ledger: &mut Ledger) -> Result<(), Fail> {
@@ -155,9 +155,9 @@ fn tell_and_seal(rt: &(impl Abort + AllocGlobal), ledger: &mut Ledger) -> Result
 #[test]
 fn a_refused_seal_changes_nothing(rt: HostRuntime) -> Result<(), Fail> {
     let mut ledger = Ledger::new(rt.alloc(), 100, false);
-    let told = tell_and_seal(&rt, &mut ledger);
+    let checked = tell_and_seal(&rt, &mut ledger);
     drop(ledger);
-    told
+    checked
 }
 
 type Replies = Vec<(Query, &'static str)>;
@@ -183,9 +183,9 @@ fn tell_and_ask(rt: &(impl Abort + AllocGlobal), ledger: &mut Ledger) -> Result<
 #[test]
 fn a_refused_query_changes_nothing(rt: HostRuntime) -> Result<(), Fail> {
     let mut ledger = Ledger::new(rt.alloc(), 100, false);
-    let told = tell_and_ask(&rt, &mut ledger);
+    let checked = tell_and_ask(&rt, &mut ledger);
     drop(ledger);
-    told
+    checked
 }
 
 // Runs with each allocation refused in turn, by tests/refused_allocations.

@@ -152,7 +152,7 @@ fn queries_are_answered_in(
 #[test]
 fn queries_are_answered_from_the_entries_before(rt: HostRuntime) -> Result<(), Fail> {
     let mut ledger = Ledger::new(rt.alloc(), 100, false);
-    let told = queries_are_answered_in(&rt, &mut ledger);
+    let checked = queries_are_answered_in(&rt, &mut ledger);
     drop(ledger);
-    told
+    checked
 }

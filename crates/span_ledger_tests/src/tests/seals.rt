@@ -49,9 +49,9 @@ fn it_goes_on_after_a_seal_in(
     let later =
         r#"[{"ph":"E","ts":14,"pid":1,"tid":1},{"ph":"B","name":"c","ts":13,"pid":1,"tid":1},
         {"ph":"B","name":"c","ts":14,"pid":1,"tid":1}]"#;
-    let told = answers(alloc, ledger, later)?;
+    let answers = answers(alloc, ledger, later)?;
     assert_eq!(rt;
-        told.as_str(),
+        answers.as_str(),
         "Refused(21)\nRefused(22)\nOpened { depth: 1 }\n"
     );
     assert_eq!(rt; sealed(alloc, ledger, 1, 13)?.as_str(), "Refused(22)");
@@ -73,7 +73,7 @@ fn seal_twice(rt: &(impl Abort + AllocGlobal), ledger: &mut Ledger) -> Result<()
 #[test]
 fn a_seal_closes_what_is_open(rt: HostRuntime) -> Result<(), Fail> {
     let mut ledger = Ledger::new(rt.alloc(), 100, false);
-    let told = seal_twice(&rt, &mut ledger);
+    let checked = seal_twice(&rt, &mut ledger);
     drop(ledger);
-    told
+    checked
 }

@@ -44,16 +44,16 @@ CountRow { accepted: 2, refused: 4, skipped: 0, queries: 0, seals: 0 }
 #[test]
 fn a_strict_end_names_its_begin(rt: HostRuntime) -> Result<(), Fail> {
     let mut ledger = Ledger::new(rt.alloc(), 100, true);
-    let told = strict_ends_in(&rt, &mut ledger);
+    let checked = strict_ends_in(&rt, &mut ledger);
     drop(ledger);
-    told
+    checked
 }
 
 // The names of both begins have numbers; the inner span stays open, and a seal looks at no name.
 fn a_known_name_in(rt: &(impl Abort + AllocGlobal), ledger: &mut Ledger) -> Result<(), Fail> {
-    let told = answers(rt.alloc(), ledger, OTHER_NAME)?;
+    let answers = answers(rt.alloc(), ledger, OTHER_NAME)?;
     assert_eq!(rt;
-        told.as_str(),
+        answers.as_str(),
         "Opened { depth: 1 }\nOpened { depth: 2 }\nRefused(27)\n"
     );
     let sealed = ledger.apply(
@@ -74,16 +74,16 @@ fn a_known_name_in(rt: &(impl Abort + AllocGlobal), ledger: &mut Ledger) -> Resu
 #[test]
 fn a_strict_end_with_the_name_of_an_outer_span(rt: HostRuntime) -> Result<(), Fail> {
     let mut ledger = Ledger::new(rt.alloc(), 100, true);
-    let told = a_known_name_in(&rt, &mut ledger);
+    let checked = a_known_name_in(&rt, &mut ledger);
     drop(ledger);
-    told
+    checked
 }
 
 fn other_ends_in(rt: &(impl Abort + AllocGlobal), ledger: &mut Ledger) -> Result<(), Fail> {
     assert!(rt; !ledger.strict());
-    let told = answers(rt.alloc(), ledger, OTHER_NAME)?;
+    let answers = answers(rt.alloc(), ledger, OTHER_NAME)?;
     assert_eq!(rt;
-        told.as_str(),
+        answers.as_str(),
         "Opened { depth: 1 }\nOpened { depth: 2 }\nClosed { start: 1, length: 4, args: Args { pairs: [] } }\n"
     );
     Ok(())
@@ -92,7 +92,7 @@ fn other_ends_in(rt: &(impl Abort + AllocGlobal), ledger: &mut Ledger) -> Result
 #[test]
 fn an_end_closes_whatever_is_open(rt: HostRuntime) -> Result<(), Fail> {
     let mut ledger = Ledger::new(rt.alloc(), 100, false);
-    let told = other_ends_in(&rt, &mut ledger);
+    let checked = other_ends_in(&rt, &mut ledger);
     drop(ledger);
-    told
+    checked
 }

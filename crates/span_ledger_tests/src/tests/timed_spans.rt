@@ -48,9 +48,9 @@ fn hands_out_in(rt: &(impl Abort + AllocGlobal), ledger: &mut Ledger) -> Result<
 #[test]
 fn timed_spans_have_the_time_that_is_their_own(rt: HostRuntime) -> Result<(), Fail> {
     let mut ledger = Ledger::new(rt.alloc(), 100, false);
-    let told = hands_out_in(&rt, &mut ledger);
+    let checked = hands_out_in(&rt, &mut ledger);
     drop(ledger);
-    told
+    checked
 }
 
 // Of two names of a process the later holds; one thread of it has a name, and the other none.
@@ -72,7 +72,7 @@ fn names_in(rt: &(impl Abort + AllocGlobal), ledger: &mut Ledger) -> Result<(), 
 #[test]
 fn processes_and_threads_have_the_names_that_were_set_last(rt: HostRuntime) -> Result<(), Fail> {
     let mut ledger = Ledger::new(rt.alloc(), 100, false);
-    let told = names_in(&rt, &mut ledger);
+    let checked = names_in(&rt, &mut ledger);
     drop(ledger);
-    told
+    checked
 }

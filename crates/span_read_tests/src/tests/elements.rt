@@ -78,9 +78,9 @@ fn has_defaults(rt: &(impl Abort + AllocGlobal), event: &Event) -> Result<(), Fa
 #[test]
 fn fields_have_defaults(rt: HostRuntime) -> Result<(), Fail> {
     let event = event_of(rt.alloc(), r#"{"ph":"i","ts":9007199254740991}"#)?.ok_or("an event")?;
-    let told = has_defaults(&rt, &event);
+    let checked = has_defaults(&rt, &event);
     drop(event);
-    told
+    checked
 }
 
 fn has_fields(rt: &(impl Abort + AllocGlobal), event: &Event, words: &str) -> Result<(), Fail> {
@@ -113,9 +113,9 @@ fn fields_are_read_at_their_phases_alone(rt: HostRuntime) -> Result<(), Fail> {
     for (letter, words) in &read {
         let text = format!(in rt.alloc(); r#"{{"ph":"{letter}",{fields}}}"#)?;
         let event = event_of(rt.alloc(), text.as_str())?.ok_or("an event")?;
-        let told = has_fields(&rt, &event, words);
+        let checked = has_fields(&rt, &event, words);
         drop(event);
-        told?;
+        checked?;
     }
     Ok(())
 }
@@ -403,9 +403,9 @@ fn ids_are_texts_or_whole_numbers(rt: HostRuntime) -> Result<(), Fail> {
     for (members, home, id) in ids {
         let text = format!(in rt.alloc(); r#"{{"ph":"b","ts":1,"pid":3,{members}}}"#)?;
         let event = event_of(rt.alloc(), text.as_str())?.ok_or("an event")?;
-        let told = has_key(&rt, &event, home, id, members);
+        let checked = has_key(&rt, &event, home, id, members);
         drop(event);
-        told?;
+        checked?;
     }
     Ok(())
 }

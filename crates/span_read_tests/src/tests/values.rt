@@ -84,9 +84,9 @@ fn values_of_arguments_are_kept_by_kind(rt: HostRuntime) -> Result<(), Fail> {
         rt.alloc(),
         r#"{"n":1,"w":"x","f":true,"z":null,"d":1.5,"a":[],"o":{}}"#,
     )?;
-    let told = has_values(&rt, &event.args);
+    let checked = has_values(&rt, &event.args);
     drop(event);
-    told
+    checked
 }
 
 // What the arguments of an event with these members show.
@@ -108,10 +108,10 @@ fn has_second_pair(rt: &impl Abort, merged: &Args) -> Result<(), Fail> {
 fn merges(rt: &(impl Abort + AllocGlobal), begin: &Args, end: &Args) -> Result<(), Fail> {
     let alloc = rt.alloc();
     let merged = merge_args(alloc, begin, end)?;
-    let told = has_second_pair(rt, &merged);
+    let checked = has_second_pair(rt, &merged);
     let merged_shown = shown(alloc, &merged);
     drop(merged);
-    told?;
+    checked?;
     let whole = shown_of(alloc, r#"{"x":1,"y":3,"z":true}"#)?;
     assert_eq!(rt; merged_shown?.as_str(), whole.as_str());
     Ok(())
@@ -130,17 +130,17 @@ fn stands_alone(rt: &(impl Abort + AllocGlobal), begin: &Args) -> Result<(), Fai
 fn merges_with_ends(rt: &(impl Abort + AllocGlobal), begin: &Args) -> Result<(), Fail> {
     stands_alone(rt, begin)?;
     let end = event_with(rt.alloc(), r#"{"y":3,"z":true}"#)?;
-    let told = merges(rt, begin, &end.args);
+    let checked = merges(rt, begin, &end.args);
     drop(end);
-    told
+    checked
 }
 
 #[test]
 fn the_value_of_the_end_is_taken(rt: HostRuntime) -> Result<(), Fail> {
     let begin = event_with(rt.alloc(), r#"{"x":1,"y":2}"#)?;
-    let told = merges_with_ends(&rt, &begin.args);
+    let checked = merges_with_ends(&rt, &begin.args);
     drop(begin);
-    told
+    checked
 }
 
 fn shows_the_same(
@@ -159,9 +159,9 @@ fn shows_the_same(
 fn equals_its_copy(rt: &(impl Abort + AllocGlobal), event: &Event) -> Result<(), Fail> {
     let alloc = rt.alloc();
     let copy = event.try_clone(alloc)?;
-    let told = shows_the_same(rt, event, &copy);
+    let checked = shows_the_same(rt, event, &copy);
     drop(copy);
-    told?;
+    checked?;
     let args = event.args.try_clone(alloc)?;
     let args_shown = shown(alloc, &args);
     drop(args);
@@ -172,9 +172,9 @@ fn equals_its_copy(rt: &(impl Abort + AllocGlobal), event: &Event) -> Result<(),
 #[test]
 fn an_event_equals_its_copy(rt: HostRuntime) -> Result<(), Fail> {
     let event = event_with(rt.alloc(), r#"{"x":1,"y":2}"#)?;
-    let told = equals_its_copy(&rt, &event);
+    let checked = equals_its_copy(&rt, &event);
     drop(event);
-    told
+    checked
 }
 
 #[test]

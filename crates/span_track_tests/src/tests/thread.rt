@@ -125,9 +125,9 @@ fn on_track<F: FnOnce(&mut Placed) -> Result<(), Fail>>(alloc: Global, uses: F) 
     requires { F.IsAlwaysCallable uses }
 {
     let mut placed = Placed::new(alloc);
-    let told = uses(&mut placed);
+    let checked = uses(&mut placed);
     drop(placed);
-    told
+    checked
 }
 
 fn a_span_in_a_span_on(rt: &impl Abort, placed: &mut Placed) -> Result<(), Fail> {

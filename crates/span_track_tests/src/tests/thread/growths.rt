@@ -1,4 +1,4 @@
-//! What a track tells where a growth of it is refused. The test runs with each allocation refused in turn, by
+//! What a track gives where a growth of it is refused. The test runs with each allocation refused in turn, by
 //! tests/refused_allocations.
 use super::arguments::args_at;
 use super::placed::Placed;
@@ -44,7 +44,7 @@ const CLOSED: [(u32, i64, i64); 7] = [
     (0, 0, 50),
 ];
 
-// What the readers tell.
+// What the readers give.
 #[derive(Clone, Copy, Debug, PartialEq, Eq)]
 struct Readings {
     depth: u32,
@@ -104,7 +104,7 @@ fn tell(rt: &impl Abort, placed: &mut Placed, step: Step) -> Result<(), TrackFau
     }
 }
 
-// Tells a step, again where memory was refused: then the readers must tell what they told before.
+// Tells a step, again where memory was refused: then the readers must give what they gave before.
 fn tell_at_last(rt: &impl Abort, placed: &mut Placed, step: Step) -> Result<(), Fail> {
     let before = readings_of(placed.track());
     let mut told = tell(rt, placed, step);
@@ -159,7 +159,7 @@ fn args_at_last(alloc: Global) -> Option<Args> {
 fn a_refused_growth_changes_nothing(rt: HostRuntime) -> Result<(), Fail> {
     let args = args_at_last(rt.alloc()).ok_or("no arguments")?;
     let mut placed = Placed::with_args(rt.alloc(), args);
-    let told = tell_all(&rt, &mut placed);
+    let checked = tell_all(&rt, &mut placed);
     drop(placed);
-    told
+    checked
 }

@@ -13,8 +13,8 @@ pub returns-clause-refusal : goal.returns-clause-refusal
 returns-clause-refusal c =
     ChangesAt-refusal async_cmp-total async_cmp-same async_spans c.new-none.ensures c.self.view_is c.change_at.ensures.changes (λ steps. async_end_refusal steps c.args.ts)
     (λ steps made value called.
-    let told : Answers made (refusal_of (async_matched (last_of (async_spans steps).opened) c.args.ts)) = search rules in
-    subst (λ begin. Answers made (refusal_of (async_matched begin c.args.ts))) (sym (opener-open_of steps)) told)
+    let answers : Answers made (refusal_of (async_matched (last_of (async_spans steps).opened) c.args.ts)) = search rules in
+    subst (λ begin. Answers made (refusal_of (async_matched begin c.args.ts))) (sym (opener-open_of steps)) answers)
 
 pub returns-clause-length : goal.returns-clause-length
 returns-clause-length c =
