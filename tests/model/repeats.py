@@ -54,8 +54,8 @@ class Sides:
         of = self.first().of
         return tuple([of.number(self.by, table.rows.get(key, of.nothing())) for table in side] for side in (self.base, self.other))
 
-    def heads(self):
-        """Those of both sides, each added up."""
+    def sums(self):
+        """Each side's tables added up."""
         return tuple(tables.sum_of(side, self.first().columns) for side in (self.base, self.other))
 
     def spreads(self):
@@ -78,7 +78,7 @@ def numbers_of(earlier, later):
 
 
 def repeats_lines(sides):
-    base, other = sides.heads()
+    base, other = sides.sums()
     yield from first_lines(other.unit)
     for line in base.head_lines():
         yield f"base {line}"
@@ -103,9 +103,9 @@ def repeats_of(sides):
 
 
 def json_repeats_lines(sides):
-    spreads, heads = list(sides.spreads()), sides.heads()
+    spreads, sums = list(sides.spreads()), sides.sums()
     first = [*tables.first_members(sides.first()), *number_members(["rows", "same"], [len(spreads), same_of(spreads)])]
-    yield members([*first, *((side, members(tables.head_members(head))) for side, head in zip(("base", "other"), heads))])
+    yield members([*first, *((side, members(tables.counts_members(table))) for side, table in zip(("base", "other"), sums))])
     for key, _, _ in spreads:
         lists = [f"[{','.join(map(tables.number, values))}]" for values in sides.values(key)]
         yield members([*tables.key_members(sides.first().columns, key), *zip(("values0", "values1"), lists)])

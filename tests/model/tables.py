@@ -34,7 +34,7 @@ class Run:
     name: str = ""
 
 
-# What a head counts, in the order of JSON Lines.
+# What a table counts beside its rows, in the order of JSON Lines.
 COUNTS = ["runs", "files", "unread", "events", "refused", "skipped", "queries", "seals"]
 
 
@@ -231,7 +231,7 @@ def number_members(names, numbers):
     return [(name, number(count)) for name, count in zip(names, numbers)]
 
 
-def head_members(table):
+def counts_members(table):
     return number_members(COUNTS, [table.counts[name] for name in COUNTS])
 
 
@@ -249,7 +249,7 @@ def first_members(table):
 
 def json_lines(table, wanted):
     rows = sorted((key, numbers) for key, numbers in table.rows.items() if wanted.shows(key))
-    yield members([*first_members(table), ("rows", number(len(rows))), *head_members(table)])
+    yield members([*first_members(table), ("rows", number(len(rows))), *counts_members(table)])
     for key, numbers in rows:
         yield members(key_members(table.columns, key) + number_members(table.of.numbers, numbers))
 
@@ -262,7 +262,7 @@ def json_of(table, wanted=ALL):
 def json_comparison_lines(base, other, wanted):
     changes, same = changes_of(base, other, other.of.order[0], wanted)
     head = [*first_members(other), *number_members(["rows", "same"], [len(changes), same])]
-    yield members([*head, ("base", members(head_members(base))), ("other", members(head_members(other)))])
+    yield members([*head, ("base", members(counts_members(base))), ("other", members(counts_members(other)))])
     names = [f"{name}{side}" for name in other.of.numbers for side in (0, 1)]
     for key, earlier, later in changes:
         numbers = [part for both in zip(earlier, later) for part in both]

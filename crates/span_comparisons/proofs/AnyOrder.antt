@@ -15,12 +15,12 @@ use Rattle.span_comparisons.specs.Comparison.{compared_heads}
 use Rattle.span_table.specs.Keys.{TableKey, key_cmp}
 use Rattle.span_table_text.specs.Lines.{shown_line}
 use Rattle.span_table.specs.Sums.{number_by}
-use Rattle.span_comparisons.specs.Repeats.{overlap_line, side_head, spread_columns, spread_line}
+use Rattle.span_comparisons.specs.Repeats.{overlap_line, side_counts, spread_columns, spread_line}
 use Rattle.span_table_text.specs.Shown.{is_wanted}
 use Rattle.span_comparisons.specs.Spreads.{Spreads, all_keys, apart_spreads, has_same_spread, is_apart, is_overlap, keys_of, overlap_count, same_spread_count, shown_keys, shown_spreads, spread_of, spreads_at, values_at}
 use Rattle.span_table.specs.Tables.{SpanTable}
 use Rattle.span_comparisons.specs.Laws.{EachKeyIsCounted, RepetitionsHaveNoOrder, ValuesAreSorted}
-use Rattle.span_table.proofs.AddedTables.{head-same}
+use Rattle.span_table.proofs.AddedTables.{counts-same}
 use Rattle.span_table.proofs.Alike.{has_key-append, same_keys}
 use Rattle.span_comparisons.proofs.Sorts.{sorted-ends, sorted-moved, sorted-non_decreasing, sorted-permutation}
 use Rattle.span_comparisons.proofs.SpreadOrder.{spread_order-total, spreads-distinct}
@@ -50,11 +50,11 @@ all_keys-moved tables moved is =
     λ k. has_key-tables k tables ∙ list_any-IsPermutation (λ (table : SpanTable). has_key key_cmp k (map (λ (row : Row). row.key) table.rows)) tables moved is ∙ sym (has_key-tables k moved) in
     same_keys (keys_of tables) (keys_of moved) (λ k h. sym (same k) ∙ h) (λ k h. same k ∙ h)
 
-side_head-moved : (tables moved : List SpanTable) → IsPermutation tables moved → side_head tables ≡ side_head moved
-side_head-moved tables moved is =
-    let head = λ (table : SpanTable). table.head in
-    head-same (side_head tables) (side_head moved)
-    (λ f adds. adds (map head tables) ∙ sym (sum_by-IsPermutation f (map head tables) (map head moved) (IsPermutation-map head tables moved is)) ∙ sym (adds (map head moved)))
+side_counts-moved : (tables moved : List SpanTable) → IsPermutation tables moved → side_counts tables ≡ side_counts moved
+side_counts-moved tables moved is =
+    let counts = λ (table : SpanTable). table.counts in
+    counts-same (side_counts tables) (side_counts moved)
+    (λ f adds. adds (map counts tables) ∙ sym (sum_by-IsPermutation f (map counts tables) (map counts moved) (IsPermutation-map counts tables moved is)) ∙ sym (adds (map counts moved)))
 
 side-moved : (by : By) (tables moved : List SpanTable) → IsPermutation tables moved → (key : TableKey) → spread_of (values_at by tables key) ≡ spread_of (values_at by moved key)
 side-moved by tables moved is key =
@@ -63,7 +63,7 @@ side-moved by tables moved is key =
 -- the text of repeated runs is the same for the repetitions of a side in whatever order
 pub repeats_of-moved : RepetitionsHaveNoOrder
 repeats_of-moved unit by wanted columns base other moved_base moved_other is_base is_other = λ i.
-    first_line ++ (unit_line unit ++ (compared_heads true (side_head-moved base moved_base is_base i) (side_head-moved other moved_other is_other i)
+    first_line ++ (unit_line unit ++ (compared_heads true (side_counts-moved base moved_base is_base i) (side_counts-moved other moved_other is_other i)
     ++ (shown_line wanted (length (shown i)) (length (keys i)) ++ (spread_columns columns ++ (flat_map spread_line (apart_spreads (shown i)) ++ overlap_line (overlap_count (shown i)) (same_spread_count (shown i)))))))
   where
     keys : all_keys (base ++ other) ≡ all_keys (moved_base ++ moved_other)

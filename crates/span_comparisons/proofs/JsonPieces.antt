@@ -5,17 +5,17 @@ use Rattle.span_event.specs.Text.{Bytes}
 use Rattle.span_event.specs.declared.unit.Unit.{Unit}
 use Rattle.span_comparisons.specs.declared.changes.Both.{Both}
 use Rattle.span_table.specs.declared.column.Column.{Column}
-use Rattle.span_table.specs.declared.heads.Head.{Head}
+use Rattle.span_table.specs.declared.counts.TableCounts.{TableCounts}
 use Rattle.span_table.specs.declared.of.Of.{Of}
 use Rattle.span_table.specs.declared.of.Of.TheVariants.{Spans, Async}
 use Rattle.span_comparisons.specs.JsonChanges.{both_members, json_change, json_heads}
-use Rattle.span_table_text.specs.Json.{columns_json, head_members, object_of, member_of, number_member, version_member, with_commas}
-use Rattle.span_comparisons.specs.JsonPieces.{base_values_text, both_text, closed_text, counts_text, ends_text, open_text, other_text, points_text, selves_text, spans_text, totals_text, heads_text, other_values_text}
+use Rattle.span_table_text.specs.Json.{columns_json, counts_members, object_of, member_of, number_member, version_member, with_commas}
+use Rattle.span_comparisons.specs.JsonPieces.{base_values_text, both_text, closed_text, row_counts_text, ends_text, open_text, other_text, points_text, selves_text, spans_text, totals_text, compared_counts_text, other_values_text}
 use Rattle.span_table_text.specs.JsonPieces.{end_text, members_text, start_text}
 use Rattle.span_comparisons.specs.Changes.{Change}
 use Rattle.span_table.specs.Keys.{TableKey}
 use Rattle.span_comparisons.specs.Repeats.{json_values, values_json}
-use Rattle.span_table_text.proofs.JsonPieces.{ended, head_members-text, members-then}
+use Rattle.span_table_text.proofs.JsonPieces.{counts_members-text, ended, members-then}
 
 both_members-text : (of : Of) (both : Both) → with_commas (both_members of both) ≡ both_text of both
 unfolding spans_text totals_text selves_text closed_text open_text points_text
@@ -44,10 +44,10 @@ json_change_pieces Async columns change =
 six-then : (a b c d e f : Bytes) → 123 ∷ ((a ++ 44 ∷ (b ++ 44 ∷ (c ++ 44 ∷ (d ++ 44 ∷ (e ++ 44 ∷ f))))) ++ 125 ∷ []) ++ 10 ∷ [] ≡ 123 ∷ (a ++ 44 ∷ (b ++ 44 ∷ (c ++ 44 ∷ (d ++ 44 ∷ (e ++ 44 ∷ (f ++ 125 ∷ 10 ∷ []))))))
 six-then a b c d e f = simp append_assoc refl
 
-counts-then : (of : Of) (unit : Unit) (c n s l : Bytes) → 123 ∷ (version_member of unit ++ 44 ∷ (member_of (codes "columns") c ++ 44 ∷ (member_of (codes "rows") n ++ 44 ∷ (member_of (codes "same") s ++ (codes ",\"base\":{" ++ l)))))
+row_counts-then : (of : Of) (unit : Unit) (c n s l : Bytes) → 123 ∷ (version_member of unit ++ 44 ∷ (member_of (codes "columns") c ++ 44 ∷ (member_of (codes "rows") n ++ 44 ∷ (member_of (codes "same") s ++ (codes ",\"base\":{" ++ l)))))
     ≡ start_text of unit ++ (c ++ ((codes ",\"rows\":" ++ (n ++ (codes ",\"same\":" ++ (s ++ codes ",\"base\":{")))) ++ l))
 unfolding start_text
-counts-then of unit c n s l = simp append_assoc refl
+row_counts-then of unit c n s l = simp append_assoc refl
 
 both-then : (h k : Bytes) → (h ++ 125 ∷ []) ++ 44 ∷ (codes "\"other\":{" ++ ((k ++ 125 ∷ []) ++ 125 ∷ 10 ∷ [])) ≡ h ++ (other_text ++ (k ++ ends_text))
 unfolding other_text ends_text
@@ -61,15 +61,15 @@ heads-then : (of : Of) (unit : Unit) (c n s h k : Bytes) →
 heads-then of unit c n s h k =
     six-then (version_member of unit) (member_of (codes "columns") c) (member_of (codes "rows") n) (member_of (codes "same") s) (member_of (codes "base") (123 ∷ (h ++ 125 ∷ []))) (member_of (codes "other") (123 ∷ (k ++ 125 ∷ [])))
     ∙ ap (λ l. 123 ∷ (version_member of unit ++ 44 ∷ (member_of (codes "columns") c ++ 44 ∷ (member_of (codes "rows") n ++ 44 ∷ (member_of (codes "same") s ++ (codes ",\"base\":{" ++ l)))))) (both-then h k)
-    ∙ counts-then of unit c n s (h ++ (other_text ++ (k ++ ends_text)))
+    ∙ row_counts-then of unit c n s (h ++ (other_text ++ (k ++ ends_text)))
 
 -- the first line of a comparison, from its pieces
-pub json_heads_pieces : (of : Of) (unit : Unit) (columns : List Column) (rows same : ℕ) (base other : Head) →
-    json_heads of unit columns rows same base other ≡ start_text of unit ++ (columns_json columns ++ (counts_text rows same ++ heads_text base other))
-unfolding json_heads counts_text
+pub json_heads_pieces : (of : Of) (unit : Unit) (columns : List Column) (rows same : ℕ) (base other : TableCounts) →
+    json_heads of unit columns rows same base other ≡ start_text of unit ++ (columns_json columns ++ (row_counts_text rows same ++ compared_counts_text base other))
+unfolding json_heads row_counts_text
 json_heads_pieces of unit columns rows same base other =
-    heads-then of unit (columns_json columns) (decimal rows) (decimal same) (with_commas (head_members base)) (with_commas (head_members other))
-    ∙ (λ i. start_text of unit ++ (columns_json columns ++ (counts_text rows same ++ (head_members-text base i ++ (other_text ++ (head_members-text other i ++ ends_text))))))
+    heads-then of unit (columns_json columns) (decimal rows) (decimal same) (with_commas (counts_members base)) (with_commas (counts_members other))
+    ∙ (λ i. start_text of unit ++ (columns_json columns ++ (row_counts_text rows same ++ (counts_members-text base i ++ (other_text ++ (counts_members-text other i ++ ends_text))))))
 
 -- the line of a key with its values, from its pieces
 pub json_values_pieces : (columns : List Column) (key : TableKey) (base other : List ℕ) →

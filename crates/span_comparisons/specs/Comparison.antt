@@ -6,7 +6,7 @@ use Rattle.span_event.specs.declared.unit.Unit.{Unit}
 use Rattle.span_journal.specs.declared.rows.CountRow.{CountRow}
 use Rattle.span_report.specs.Lines.{count_line, first_line, line_of, right_in, seals_line, unit_line}
 use Rattle.span_table.specs.declared.column.Column.{Column}
-use Rattle.span_table.specs.declared.heads.Head.{Head}
+use Rattle.span_table.specs.declared.counts.TableCounts.{TableCounts}
 use Rattle.span_table.specs.declared.of.Of.{Of}
 use Rattle.span_table.specs.declared.of.Of.TheVariants.{Spans, Async}
 use Rattle.span_table.specs.declared.sums.By.{By}
@@ -17,20 +17,20 @@ use Rattle.span_table.specs.Tables.{SpanTable}
 
 -- the head of the base but for its first line: each line has the word before it
 abbrev pub base_lines : CountRow → Bytes
-base_lines counts = codes "base " ++ (count_line counts ++ (if counts.seals == 0 then [] else codes "base " ++ seals_line counts.seals))
+base_lines entries = codes "base " ++ (count_line entries ++ (if entries.seals == 0 then [] else codes "base " ++ seals_line entries.seals))
 
 -- the head of the other but for its first line
 abbrev pub other_lines : CountRow → Bytes
-other_lines counts = count_line counts ++ seals_line counts.seals
+other_lines entries = count_line entries ++ seals_line entries.seals
 
 -- how many runs the base has, where that is told
-abbrev pub base_runs_line : Bool → Head → Bytes
-base_runs_line tells_runs head = if tells_runs then codes "base " ++ runs_line true head else []
+abbrev pub base_runs_line : Bool → TableCounts → Bytes
+base_runs_line tells_runs counts = if tells_runs then codes "base " ++ runs_line true counts else []
 
 -- both heads but for their first line
-unfoldable pub compared_heads : Bool → Head → Head → Bytes
+unfoldable pub compared_heads : Bool → TableCounts → TableCounts → Bytes
 compared_heads tells_runs base other =
-    base_lines base.counts ++ (base_runs_line tells_runs base ++ (other_lines other.counts ++ runs_line tells_runs other))
+    base_lines base.entries ++ (base_runs_line tells_runs base ++ (other_lines other.entries ++ runs_line tells_runs other))
 
 -- the names of the columns
 unfoldable pub change_columns : Of → List Column → Bytes
@@ -64,5 +64,5 @@ abbrev pub comparison_of : Unit → By → Wanted → Bool → SpanTable → Spa
 comparison_of unit by wanted tells_runs base other =
     let all = compared base.rows other.rows in
     let shown = shown_changes wanted all in
-    first_line ++ (unit_line unit ++ (compared_heads tells_runs base.head other.head ++ (shown_line wanted (length shown) (length all) ++
+    first_line ++ (unit_line unit ++ (compared_heads tells_runs base.counts other.counts ++ (shown_line wanted (length shown) (length all) ++
     (change_columns other.of other.columns ++ (flat_map (change_line other.of) (changes_of other.of by shown) ++ same_line (same_count shown))))))

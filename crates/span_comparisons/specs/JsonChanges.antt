@@ -7,13 +7,13 @@ use Rattle.span_comparisons.specs.declared.changes.Both.{Both}
 use Rattle.span_table.specs.declared.column.Column.{Column}
 use Rattle.span_table.specs.declared.of.Of.{Of}
 use Rattle.span_table.specs.declared.of.Of.TheVariants.{Spans, Async}
-use Rattle.span_table.specs.declared.heads.Head.{Head}
+use Rattle.span_table.specs.declared.counts.TableCounts.{TableCounts}
 use Rattle.span_comparisons.specs.Changes.{Change, changes_of, compared, same_count, shown_changes}
 use Rattle.span_table.specs.Sums.{fit, usual_by}
 use Rattle.span_table_text.specs.Shown.{Wanted}
 use Rattle.span_table.specs.Tables.{SpanTable}
-use Rattle.span_table.specs.Heads.{head_fits}
-use Rattle.span_table_text.specs.Json.{columns_json, head_members, member_of, number_member, object_of, value_members, version_member}
+use Rattle.span_table.specs.Counts.{counts_fit}
+use Rattle.span_table_text.specs.Json.{columns_json, counts_members, member_of, number_member, object_of, value_members, version_member}
 
 -- the sums of both sides
 abbrev pub both_members : Of → Both → List Bytes
@@ -32,10 +32,10 @@ unfoldable pub json_change : Of → List Column → Change → Bytes
 json_change of columns change = object_of (value_members columns change.key ++ both_members of change.both) ++ 10 ∷ []
 
 -- the first line of a comparison
-unfoldable pub json_heads : Of → Unit → List Column → ℕ → ℕ → Head → Head → Bytes
+unfoldable pub json_heads : Of → Unit → List Column → ℕ → ℕ → TableCounts → TableCounts → Bytes
 json_heads of unit columns rows same base other =
     object_of (version_member of unit ∷ member_of (codes "columns") (columns_json columns) ∷ number_member (codes "rows") rows ∷ number_member (codes "same") same ∷
-    member_of (codes "base") (object_of (head_members base)) ∷ member_of (codes "other") (object_of (head_members other)) ∷ []) ++ 10 ∷ []
+    member_of (codes "base") (object_of (counts_members base)) ∷ member_of (codes "other") (object_of (counts_members other)) ∷ []) ++ 10 ∷ []
 
 -- the changes that are shown, in the order of a comparison where no number is named
 abbrev pub json_changes_of : Wanted → SpanTable → SpanTable → List Change
@@ -45,13 +45,13 @@ json_changes_of wanted base other = changes_of other.of (usual_by other.of) (sho
 abbrev pub json_comparison_of : Unit → Wanted → SpanTable → SpanTable → Bytes
 json_comparison_of unit wanted base other =
     let changes = json_changes_of wanted base other in
-    json_heads other.of unit other.columns (length changes) (same_count (shown_changes wanted (compared base.rows other.rows))) base.head other.head
+    json_heads other.of unit other.columns (length changes) (same_count (shown_changes wanted (compared base.rows other.rows))) base.counts other.counts
     ++ flat_map (json_change other.of other.columns) changes
 
 -- both sums have 64 bits
 abbrev pub both_fit : Change → Bool
 both_fit change = fit change.both.base && fit change.both.other
 
--- both heads, and all sums of the changes that are shown, have 64 bits
+-- the counts of both tables, and all sums of the changes that are shown, have 64 bits
 abbrev pub json_changes_fit : Wanted → SpanTable → SpanTable → Bool
-json_changes_fit wanted base other = (head_fits base.head && head_fits other.head) && list_all both_fit (json_changes_of wanted base other)
+json_changes_fit wanted base other = (counts_fit base.counts && counts_fit other.counts) && list_all both_fit (json_changes_of wanted base other)

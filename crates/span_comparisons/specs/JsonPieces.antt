@@ -4,13 +4,13 @@ use Rattle.span_event.specs.Text.{Bytes}
 use Rattle.span_comparisons.specs.declared.changes.Both.{Both}
 use Rattle.span_table.specs.declared.of.Of.{Of}
 use Rattle.span_table.specs.declared.of.Of.TheVariants.{Spans, Async}
-use Rattle.span_table.specs.declared.heads.Head.{Head}
+use Rattle.span_table.specs.declared.counts.TableCounts.{TableCounts}
 use Rattle.span_comparisons.specs.Repeats.{values_json}
-use Rattle.span_table_text.specs.JsonPieces.{head_text}
+use Rattle.span_table_text.specs.JsonPieces.{counts_text}
 
--- the first line of a comparison, from its columns to the head of the base, from there to the head of the other, and its end
-unfoldable pub counts_text : ℕ → ℕ → Bytes
-counts_text rows same = codes ",\"rows\":" ++ (decimal rows ++ (codes ",\"same\":" ++ (decimal same ++ codes ",\"base\":{")))
+-- the first line of a comparison, from its columns to the counts of the base, from there to the counts of the other, and its end
+unfoldable pub row_counts_text : ℕ → ℕ → Bytes
+row_counts_text rows same = codes ",\"rows\":" ++ (decimal rows ++ (codes ",\"same\":" ++ (decimal same ++ codes ",\"base\":{")))
 
 unfoldable pub other_text : Bytes
 other_text = codes "},\"other\":{"
@@ -18,8 +18,8 @@ other_text = codes "},\"other\":{"
 unfoldable pub ends_text : Bytes
 ends_text = codes "}}\n"
 
-abbrev pub heads_text : Head → Head → Bytes
-heads_text base other = head_text base ++ (other_text ++ (head_text other ++ ends_text))
+abbrev pub compared_counts_text : TableCounts → TableCounts → Bytes
+compared_counts_text base other = counts_text base ++ (other_text ++ (counts_text other ++ ends_text))
 
 -- the members of a change of spans: how many, their total times, and their self times
 unfoldable pub spans_text : Both → Bytes

@@ -19,7 +19,7 @@ use Rattle.span_table.specs.Tables.{RowsRise, SpanTable}
 abbrev pub ComparesWithItself : Unit → By → Wanted → Bool → SpanTable → Type 0
 ComparesWithItself unit by wanted tells_runs table = let shown = length (shown_rows wanted table.rows) in
     comparison_of unit by wanted tells_runs table table
-    ≡ first_line ++ (unit_line unit ++ (compared_heads tells_runs table.head table.head ++
+    ≡ first_line ++ (unit_line unit ++ (compared_heads tells_runs table.counts table.counts ++
     (shown_line wanted shown (length table.rows) ++ (change_columns table.of table.columns ++ same_line shown))))
 
 -- this holds of each table, in whatever unit and order

@@ -5,22 +5,22 @@ use Rattle.span_event.specs.Text.{Bytes}
 use Rattle.span_event.specs.declared.unit.Unit.{Unit}
 use Rattle.span_report.specs.Lines.{first_line, line_of, right_in, unit_line}
 use Rattle.span_table.specs.declared.column.Column.{Column}
-use Rattle.span_table.specs.declared.heads.Head.{Head}
+use Rattle.span_table.specs.declared.counts.TableCounts.{TableCounts}
 use Rattle.span_table.specs.declared.of.Of.{Of}
 use Rattle.span_table.specs.declared.sums.By.{By}
 use Rattle.span_comparisons.specs.Comparison.{compared_heads, difference_text}
 use Rattle.span_comparisons.specs.JsonChanges.{json_heads}
-use Rattle.span_table.specs.Heads.{head_fits}
+use Rattle.span_table.specs.Counts.{counts_fit}
 use Rattle.span_table_text.specs.Json.{member_of, object_of, value_members, with_commas}
 use Rattle.span_table.specs.Keys.{TableKey}
 use Rattle.span_table_text.specs.Lines.{column_title, shown_line, value_text}
 use Rattle.span_table_text.specs.Shown.{Wanted}
 use Rattle.span_comparisons.specs.Spreads.{Spreads, all_keys, apart_spreads, overlap_count, same_spread_count, shown_keys, shown_spreads, values_at}
-use Rattle.span_table.specs.Tables.{SpanTable, heads_together}
+use Rattle.span_table.specs.Tables.{SpanTable, counts_together}
 
--- the heads of a side's repetitions added
-abbrev pub side_head : List SpanTable → Head
-side_head tables = heads_together (map (λ (table : SpanTable). table.head) tables)
+-- the counts of a side's repetitions added
+abbrev pub side_counts : List SpanTable → TableCounts
+side_counts tables = counts_together (map (λ (table : SpanTable). table.counts) tables)
 
 -- the names of the columns
 unfoldable pub spread_columns : List Column → Bytes
@@ -42,7 +42,7 @@ overlap_line overlap same = line_of (codes "overlap" ∷ decimal overlap ∷ cod
 abbrev pub repeats_of : Unit → By → Wanted → List Column → List SpanTable → List SpanTable → Bytes
 repeats_of unit by wanted columns base other =
     let shown = shown_spreads by wanted base other in
-    first_line ++ (unit_line unit ++ (compared_heads true (side_head base) (side_head other) ++ (shown_line wanted (length shown) (length (all_keys (base ++ other))) ++
+    first_line ++ (unit_line unit ++ (compared_heads true (side_counts base) (side_counts other) ++ (shown_line wanted (length shown) (length (all_keys (base ++ other))) ++
     (spread_columns columns ++ (flat_map spread_line (apart_spreads shown) ++ overlap_line (overlap_count shown) (same_spread_count shown))))))
 
 -- the values of a side, in the order of its repetitions
@@ -61,7 +61,7 @@ json_values_at by columns base other key = json_values columns key (values_at by
 abbrev pub json_repeats_of : Unit → Of → By → Wanted → List Column → List SpanTable → List SpanTable → Bytes
 json_repeats_of unit of by wanted columns base other =
     let keys = shown_keys wanted (base ++ other) in
-    json_heads of unit columns (length keys) (same_spread_count (shown_spreads by wanted base other)) (side_head base) (side_head other) ++ flat_map (json_values_at by columns base other) keys
+    json_heads of unit columns (length keys) (same_spread_count (shown_spreads by wanted base other)) (side_counts base) (side_counts other) ++ flat_map (json_values_at by columns base other) keys
 
 -- all of the values have 64 bits
 abbrev pub values_fit : List ℕ → Bool
@@ -71,7 +71,7 @@ values_fit values = list_all (λ value. nat_lt value (2 ^ 64)) values
 abbrev pub key_fits : By → List SpanTable → List SpanTable → TableKey → Bool
 key_fits by base other key = values_fit (values_at by base key) && values_fit (values_at by other key)
 
--- both heads, and all values of the keys that are shown, have 64 bits
+-- the counts of both sides, and all values of the keys that are shown, have 64 bits
 abbrev pub json_repeats_fit : By → Wanted → List SpanTable → List SpanTable → Bool
 json_repeats_fit by wanted base other =
-    (head_fits (side_head base) && head_fits (side_head other)) && list_all (key_fits by base other) (shown_keys wanted (base ++ other))
+    (counts_fit (side_counts base) && counts_fit (side_counts other)) && list_all (key_fits by base other) (shown_keys wanted (base ++ other))

@@ -7,7 +7,7 @@ ghost use Rattle.span_comparisons.specs.Pieces.{both_text, change_names, times_t
 use crate::changes::{Both, Changed, differences};
 use span_event::Unit;
 use span_report::{first_line, put_unit};
-use span_table::{By, Column, Head, HeadCounts, Of, Sum, Table};
+use span_table::{By, Column, EntryCounts, Of, Sum, Table, TableCounts};
 use span_table_text::Shown;
 use span_table_text::lines::{
     put_count, put_counts, put_right, put_runs, put_seals, put_shown, put_titles, put_values,
@@ -31,7 +31,7 @@ pub fn comparison(
 {
     let mut out = first_line(alloc)?;
     put_unit(&mut out, unit)?;
-    put_heads(&mut out, &base.head(), &other.head(), tells_runs)?;
+    put_heads(&mut out, &base.counts(), &other.counts(), tells_runs)?;
     let of = other.kind();
     let found = differences(alloc, of, base.rows(), other.rows(), shown, by)?;
     put_shown(&mut out, shown, found.shown, found.all)?;
@@ -45,47 +45,47 @@ pub fn comparison(
 #[tactic(auto, using(std::proofs::Common::append_assoc), unfolding(crate::specs::Comparison::compared_heads))]
 pub(crate) fn put_heads(
     out: &mut String,
-    base: &Head,
-    other: &Head,
+    base: &TableCounts,
+    other: &TableCounts,
     tells_runs: bool,
 ) -> Result<(), AllocError>
     ensures { OnOk result (string_bytes out.new
         ≡ string_bytes out.old ++ compared_heads tells_runs base.now other.now) }
 {
-    put_base(out, &base.counts)?;
+    put_base(out, &base.entries)?;
     put_base_runs(out, base, tells_runs)?;
-    put_other(out, &other.counts)?;
+    put_other(out, &other.entries)?;
     put_runs(out, other, tells_runs)
 }
 
-fn put_base(out: &mut String, counts: &HeadCounts) -> Result<(), AllocError>
-    ensures { OnOk result (string_bytes out.new ≡ string_bytes out.old ++ base_lines counts.now) }
+fn put_base(out: &mut String, entries: &EntryCounts) -> Result<(), AllocError>
+    ensures { OnOk result (string_bytes out.new ≡ string_bytes out.old ++ base_lines entries.now) }
 {
     out.push_str("base ")?;
-    put_counts(out, counts)?;
-    if counts.seals == 0 {
+    put_counts(out, entries)?;
+    if entries.seals == 0 {
         return Ok(());
     }
     out.push_str("base ")?;
-    put_seals(out, counts.seals)
+    put_seals(out, entries.seals)
 }
 
-fn put_base_runs(out: &mut String, head: &Head, tells_runs: bool) -> Result<(), AllocError>
+fn put_base_runs(out: &mut String, counts: &TableCounts, tells_runs: bool) -> Result<(), AllocError>
     ensures { OnOk result (string_bytes out.new
-        ≡ string_bytes out.old ++ base_runs_line tells_runs head.now) }
+        ≡ string_bytes out.old ++ base_runs_line tells_runs counts.now) }
 {
     if !tells_runs {
         return Ok(());
     }
     out.push_str("base ")?;
-    put_runs(out, head, true)
+    put_runs(out, counts, true)
 }
 
-fn put_other(out: &mut String, counts: &HeadCounts) -> Result<(), AllocError>
-    ensures { OnOk result (string_bytes out.new ≡ string_bytes out.old ++ other_lines counts.now) }
+fn put_other(out: &mut String, entries: &EntryCounts) -> Result<(), AllocError>
+    ensures { OnOk result (string_bytes out.new ≡ string_bytes out.old ++ other_lines entries.now) }
 {
-    put_counts(out, counts)?;
-    put_seals(out, counts.seals)
+    put_counts(out, entries)?;
+    put_seals(out, entries.seals)
 }
 
 #[tactic(auto, using(crate::proofs::Pieces::change_columns_pieces, std::proofs::Common::append_assoc))]

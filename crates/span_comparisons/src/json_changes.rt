@@ -3,14 +3,14 @@ ghost use Rattle.std.specs.Prelude.{◌≡◌, ◌++◌, ◌&&◌, true, false, 
 ghost use Rattle.std.specs.List.{list_all};
 ghost use Rattle.span_table_text.specs.declared.json_lines.JsonFault.TheVariants.{TooGreat};
 ghost use Rattle.span_comparisons.specs.JsonChanges.{both_fit, json_change, json_changes_fit, json_comparison_of, json_heads};
-ghost use Rattle.span_table.specs.Heads.{head_fits};
+ghost use Rattle.span_table.specs.Counts.{counts_fit};
 ghost use Rattle.span_table.specs.declared.of.Of.TheVariants.{Spans, Async};
-ghost use Rattle.span_comparisons.specs.JsonPieces.{both_text, closed_text, counts_text, ends_text, heads_text, open_text, other_text, points_text, selves_text, spans_text, totals_text};
+ghost use Rattle.span_comparisons.specs.JsonPieces.{both_text, closed_text, compared_counts_text, ends_text, open_text, other_text, points_text, row_counts_text, selves_text, spans_text, totals_text};
 
 use crate::changes::{Both, Changed, ComparedTables, differences};
 use span_event::Unit;
-use span_table::{Column, Head, Of, Table, fits, head_fits};
-use span_table_text::json_lines::{put_columns, put_end, put_head, put_members, put_start};
+use span_table::{Column, Of, Table, TableCounts, counts_fit, fits};
+use span_table_text::json_lines::{put_columns, put_end, put_members, put_start, put_table_counts};
 use span_table_text::{JsonFault, Shown};
 use std::alloc::{AllocError, Global};
 
@@ -33,7 +33,7 @@ pub fn json_comparison(
     let Ok(found) = differences(alloc, of, base.rows(), other.rows(), shown, of.by()) else {
         return Err(JsonFault::Memory);
     };
-    if !heads_fit(base, other) || !all_fit(&found.changes) {
+    if !both_counts_fit(base, other) || !all_fit(&found.changes) {
         return Err(JsonFault::TooGreat);
     }
     match text_of(alloc, unit, base, other, &found) {
@@ -42,10 +42,10 @@ pub fn json_comparison(
     }
 }
 
-fn heads_fit(base: &Table, other: &Table) -> bool
-    ensures { result ≡ (head_fits base.now.head && head_fits other.now.head) }
+fn both_counts_fit(base: &Table, other: &Table) -> bool
+    ensures { result ≡ (counts_fit base.now.counts && counts_fit other.now.counts) }
 {
-    head_fits(&base.head()) && head_fits(&other.head())
+    counts_fit(&base.counts()) && counts_fit(&other.counts())
 }
 
 fn all_fit(changes: &[Changed]) -> bool
@@ -62,7 +62,7 @@ fn text_of(
     found: &ComparedTables,
 ) -> Result<Vec<u8>, AllocError>
     ensures { IfOk result (λ text. text.items ≡ json_heads other.now.of unit other.now.columns
-        (length found.now.changes.items) found.now.same base.now.head other.now.head
+        (length found.now.changes.items) found.now.same base.now.counts other.now.counts
         ++ flat_map (json_change other.now.of other.now.columns) found.now.changes.items) }
 {
     let mut out = String::new(alloc);
@@ -74,8 +74,8 @@ fn text_of(
         columns,
         rows: found.changes.len(),
         same: found.same,
-        base: base.head(),
-        other: other.head(),
+        base: base.counts(),
+        other: other.counts(),
     };
     put_first(alloc, &mut out, &line)?;
     for change in &found.changes {
@@ -92,8 +92,8 @@ pub(crate) struct FirstLine<'a> {
     pub(crate) columns: &'a [Column],
     pub(crate) rows: usize,
     pub(crate) same: u128,
-    pub(crate) base: Head,
-    pub(crate) other: Head,
+    pub(crate) base: TableCounts,
+    pub(crate) other: TableCounts,
 }
 
 /// Appends the first line of a comparison.
@@ -105,23 +105,29 @@ pub(crate) fn put_first(alloc: Global, out: &mut String, line: &FirstLine) -> Re
 {
     put_start(out, line.of, line.unit)?;
     put_columns(alloc, out, line.columns)?;
-    put_counts(out, line.rows, line.same)?;
-    put_heads(out, line.base, line.other)
+    put_row_counts(out, line.rows, line.same)?;
+    put_compared_counts(out, line.base, line.other)
 }
 
 #[tactic(auto, using(std::proofs::Common::append_assoc))]
-fn put_heads(out: &mut String, base: Head, other: Head) -> Result<(), AllocError>
-    ensures { OnOk result (string_bytes out.new ≡ string_bytes out.old ++ heads_text base other) }
+fn put_compared_counts(
+    out: &mut String,
+    base: TableCounts,
+    other: TableCounts,
+) -> Result<(), AllocError>
+    ensures { OnOk result (string_bytes out.new
+        ≡ string_bytes out.old ++ compared_counts_text base other) }
 {
-    put_head(out, base)?;
+    put_table_counts(out, base)?;
     put_other(out)?;
-    put_head(out, other)?;
+    put_table_counts(out, other)?;
     put_ends(out)
 }
 
-#[tactic(auto, unfolding(crate::specs::JsonPieces::counts_text))]
-fn put_counts(out: &mut String, rows: usize, same: u128) -> Result<(), AllocError>
-    ensures { OnOk result (string_bytes out.new ≡ string_bytes out.old ++ counts_text rows same) }
+#[tactic(auto, unfolding(crate::specs::JsonPieces::row_counts_text))]
+fn put_row_counts(out: &mut String, rows: usize, same: u128) -> Result<(), AllocError>
+    ensures { OnOk result (string_bytes out.new
+        ≡ string_bytes out.old ++ row_counts_text rows same) }
 {
     write!(out, ",\"rows\":{rows},\"same\":{same},\"base\":{{")
 }

@@ -7,9 +7,9 @@ ghost use Rattle.span_comparisons.specs.Repeats.{json_repeats_fit, json_repeats_
 
 use crate::json_changes::{FirstLine, put_first};
 use crate::repeated::repeated;
-use crate::sides::{Side, side_head};
+use crate::sides::{Side, side_counts};
 use span_event::Unit;
-use span_table::{By, Column, Key, Of, Sum, Table, head_fits};
+use span_table::{By, Column, Key, Of, Sum, Table, counts_fit};
 use span_table_text::json_lines::{put_end, put_members};
 use span_table_text::{JsonFault, Shown};
 use std::alloc::{AllocError, Global};
@@ -41,10 +41,10 @@ pub fn json_repeats(
         columns,
         rows: found.keys.len(),
         same: found.same,
-        base: side_head(base),
-        other: side_head(other),
+        base: side_counts(base),
+        other: side_counts(other),
     };
-    if !head_fits(&line.base) || !head_fits(&line.other) {
+    if !counts_fit(&line.base) || !counts_fit(&line.other) {
         return Err(JsonFault::TooGreat);
     }
     let mut out = String::new(alloc);

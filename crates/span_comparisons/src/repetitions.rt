@@ -5,7 +5,7 @@ ghost use Rattle.span_comparisons.specs.Repeats.{overlap_line, repeats_of, sprea
 
 use crate::comparisons::{put_heads, put_times};
 use crate::repeated::repeated;
-use crate::sides::side_head;
+use crate::sides::side_counts;
 use crate::spreads::{Spread, Spreads};
 use span_event::Unit;
 use span_report::{first_line, put_unit};
@@ -32,7 +32,7 @@ pub fn repeats(
 {
     let mut out = first_line(alloc)?;
     put_unit(&mut out, unit)?;
-    put_heads(&mut out, &side_head(base), &side_head(other), true)?;
+    put_heads(&mut out, &side_counts(base), &side_counts(other), true)?;
     let found = repeated(alloc, base, other, shown, by)?;
     put_shown(&mut out, shown, found.keys.len() as u128, found.all as u128)?;
     put_columns(alloc, &mut out, columns)?;

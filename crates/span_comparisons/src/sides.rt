@@ -1,10 +1,10 @@
 //! A side of repeated runs: a table for each repetition.
 ghost use Rattle.std.specs.Prelude.{◌≡◌, ◌≤◌, map, length, OnOk, IfOk};
-ghost use Rattle.span_comparisons.specs.Repeats.{side_head};
+ghost use Rattle.span_comparisons.specs.Repeats.{side_counts};
 ghost use Rattle.span_comparisons.specs.Spreads.{spread_of, values_at};
 
 use crate::spreads::Spread;
-use span_table::{By, Head, Key, Sum, Table, sums_at};
+use span_table::{By, Key, Sum, Table, TableCounts, sums_at};
 use std::alloc::{AllocError, Global};
 use std::marker::Model;
 
@@ -69,14 +69,14 @@ impl<'a> Side<'a> {
     }
 }
 
-/// The heads of a side's tables added.
-pub(crate) fn side_head(tables: &[Table]) -> Head
+/// The counts of a side's tables added.
+pub(crate) fn side_counts(tables: &[Table]) -> TableCounts
     requires { length tables.now ≤ 64 }
-    ensures { result ≡ side_head tables.now }
+    ensures { result ≡ side_counts tables.now }
 {
-    let mut head = Head::of_none();
+    let mut counts = TableCounts::of_none();
     for table in tables {
-        head.add(&table.head());
+        counts.add(&table.counts());
     }
-    head
+    counts
 }

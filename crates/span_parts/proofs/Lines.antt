@@ -6,7 +6,7 @@ use Rattle.json.specs.Print.{print}
 use Rattle.span_event.specs.Text.{Bytes}
 use Rattle.span_event.specs.declared.unit.Unit.{Unit as TimeUnit}
 use Rattle.span_table.specs.declared.column.Column.{Column}
-use Rattle.span_table.specs.declared.heads.Head.{Head}
+use Rattle.span_table.specs.declared.counts.TableCounts.{TableCounts}
 use Rattle.span_table.specs.declared.of.Of.{Of}
 use Rattle.span_table.specs.declared.table.Row.{Row}
 use Rattle.span_table_text.specs.Json.{json_head}
@@ -17,8 +17,8 @@ use Rattle.span_parts.specs.First.{MayBegin}
 use Rattle.span_parts.specs.Rows.{IsRowLine}
 
 -- the tokens of a first line are those that were printed
-pub tokens-first : (of : Of) (unit : TimeUnit) (columns : List Column) (rows : ℕ) (head : Head) (line : Bytes) → MayBegin of columns rows head → line ++ 10 ∷ [] ≡ json_head of unit columns rows head → tokens line ≡ head_tokens of unit columns rows head
-tokens-first of unit columns rows head line may is = ap tokens (append_cancel_right line (print (head_tokens of unit columns rows head)) (10 ∷ []) (is ∙ json_head-print of unit columns rows head)) ∙ tokens-head of unit columns rows head may.few may.head_fits
+pub tokens-first : (of : Of) (unit : TimeUnit) (columns : List Column) (rows : ℕ) (counts : TableCounts) (line : Bytes) → MayBegin of columns rows counts → line ++ 10 ∷ [] ≡ json_head of unit columns rows counts → tokens line ≡ head_tokens of unit columns rows counts
+tokens-first of unit columns rows counts line may is = ap tokens (append_cancel_right line (print (head_tokens of unit columns rows counts)) (10 ∷ []) (is ∙ json_head-print of unit columns rows counts)) ∙ tokens-head of unit columns rows counts may.few may.counts_fit
 
 -- and those of the line of a row
 pub tokens-line : (of : Of) (columns : List Column) (row : Row) (line : Bytes) → IsRowLine of columns line row → tokens line ≡ row_tokens of columns row

@@ -5,12 +5,12 @@ use Rattle.std.specs.Prelude.{flat_map, sum_by}
 use Rattle.std.proofs.lemmas.List.Sums.{sum_by-append}
 use Rattle.std.proofs.lemmas.Grind.{flat_map-append}
 use Rattle.span_table.specs.declared.column.Column.{Column}
-use Rattle.span_table.specs.declared.heads.Head.{Head}
+use Rattle.span_table.specs.declared.counts.TableCounts.{TableCounts}
 use Rattle.span_table.specs.declared.of.Of.{Of}
 use Rattle.span_table.specs.declared.table.Row.{Row}
-use Rattle.span_table.specs.Adding.{add_tables, keyed_by, keyed_rows, with_columns, with_head, with_row}
-use Rattle.span_table.specs.Tables.{KeyedSums, RowsRise, SpanTable, heads_together, rows_of}
-use Rattle.span_table.proofs.AddedTables.{head-same, rows-back, rows_of-alike}
+use Rattle.span_table.specs.Adding.{add_tables, keyed_by, keyed_rows, with_columns, with_counts, with_row}
+use Rattle.span_table.specs.Tables.{KeyedSums, RowsRise, SpanTable, counts_together, rows_of}
+use Rattle.span_table.proofs.AddedTables.{counts-same, rows-back, rows_of-alike}
 use Rattle.span_table.proofs.Alike.{AddUpAlike-append, AddUpAlike-refl, AddUpAlike-sym}
 use Rattle.span_table.proofs.OwnRows.{rows_of-own}
 use Rattle.span_parts.specs.Rows.{row_at, with_rows}
@@ -21,23 +21,23 @@ rows-then sums more = rows_of-alike (keyed_rows (rows_of sums) ++ more) (sums ++
 
 -- a table whose rows are those of some sums
 abbrev table_with : SpanTable → KeyedSums → SpanTable
-table_with table sums = record { of = table.of; columns = table.columns; head = table.head; rows = rows_of sums }
+table_with table sums = record { of = table.of; columns = table.columns; counts = table.counts; rows = rows_of sums }
 
 -- rows added one by one are those of all
 with_rows-of : (places : List ℕ) (rows : List Row) (table : SpanTable) (sums : KeyedSums) → with_rows places rows (table_with table sums) ≡ table_with table (sums ++ map (keyed_by places) rows)
 with_rows-of places [] table sums = ap (table_with table) (sym (append-nil sums))
 with_rows-of places (row ∷ rows) table sums =
-    ap (with_rows places rows) (λ i. record { of = table.of; columns = table.columns; head = table.head; rows = rows-then sums (keyed_by places row ∷ []) i })
+    ap (with_rows places rows) (λ i. record { of = table.of; columns = table.columns; counts = table.counts; rows = rows-then sums (keyed_by places row ∷ []) i })
     ∙ with_rows-of places rows table (sums ++ keyed_by places row ∷ [])
     ∙ ap (table_with table) (append_assoc sums (keyed_by places row ∷ []) (map (keyed_by places) rows))
 
--- the head and the rows of a part added are the part added
+-- the counts and the rows of a part added are the part added
 pub with_rows-part : (places : List ℕ) (old part : SpanTable) → RowsRise old.rows →
-    with_rows places part.rows (with_head old part.head) ≡ add_tables old.of old.columns (old ∷ with_columns places part ∷ [])
+    with_rows places part.rows (with_counts old part.counts) ≡ add_tables old.of old.columns (old ∷ with_columns places part ∷ [])
 with_rows-part places old part rise =
-    ap (λ l. with_rows places part.rows (record { of = old.of; columns = old.columns; head = heads_together (old.head ∷ part.head ∷ []); rows = l })) (sym (rows_of-own old.rows rise))
-    ∙ with_rows-of places part.rows (with_head old part.head) (keyed_rows old.rows)
-    ∙ (λ i. record { of = old.of; columns = old.columns; head = heads_together (old.head ∷ part.head ∷ []); rows = all i })
+    ap (λ l. with_rows places part.rows (record { of = old.of; columns = old.columns; counts = counts_together (old.counts ∷ part.counts ∷ []); rows = l })) (sym (rows_of-own old.rows rise))
+    ∙ with_rows-of places part.rows (with_counts old part.counts) (keyed_rows old.rows)
+    ∙ (λ i. record { of = old.of; columns = old.columns; counts = counts_together (old.counts ∷ part.counts ∷ []); rows = all i })
   where
     more : KeyedSums
     more = map (keyed_by places) part.rows
@@ -54,23 +54,23 @@ with_rows-push places (first ∷ rows) row table = with_rows-push places rows ro
 
 -- a table added to a sum is one more of those that it has
 pub add_tables-more : (of : Of) (columns : List Column) (tables : List SpanTable) (table : SpanTable) → add_tables of columns (add_tables of columns tables ∷ table ∷ []) ≡ add_tables of columns (tables ++ table ∷ [])
-add_tables-more of columns tables table = λ i. record { of = of; columns = columns; head = heads i; rows = rows i }
+add_tables-more of columns tables table = λ i. record { of = of; columns = columns; counts = all_counts i; rows = rows i }
   where
-    head_in : SpanTable → Head
-    head_in t = t.head
+    counts_in : SpanTable → TableCounts
+    counts_in t = t.counts
 
     sums_in : SpanTable → KeyedSums
     sums_in t = keyed_rows t.rows
 
-    heads : heads_together (heads_together (map head_in tables) ∷ table.head ∷ []) ≡ heads_together (map head_in (tables ++ table ∷ []))
-    heads = head-same (heads_together (heads_together (map head_in tables) ∷ table.head ∷ [])) (heads_together (map head_in (tables ++ table ∷ []))) (λ f adds.
-        adds (heads_together (map head_in tables) ∷ table.head ∷ [])
-        ∙ sum_by-append f (heads_together (map head_in tables) ∷ []) (table.head ∷ [])
-        ∙ ap (λ n. n + sum_by f (table.head ∷ [])) (one f (heads_together (map head_in tables)) ∙ adds (map head_in tables))
-        ∙ sym (adds (map head_in (tables ++ table ∷ [])) ∙ ap (sum_by f) (map-append head_in tables (table ∷ [])) ∙ sum_by-append f (map head_in tables) (table.head ∷ [])))
+    all_counts : counts_together (counts_together (map counts_in tables) ∷ table.counts ∷ []) ≡ counts_together (map counts_in (tables ++ table ∷ []))
+    all_counts = counts-same (counts_together (counts_together (map counts_in tables) ∷ table.counts ∷ [])) (counts_together (map counts_in (tables ++ table ∷ []))) (λ f adds.
+        adds (counts_together (map counts_in tables) ∷ table.counts ∷ [])
+        ∙ sum_by-append f (counts_together (map counts_in tables) ∷ []) (table.counts ∷ [])
+        ∙ ap (λ n. n + sum_by f (table.counts ∷ [])) (one f (counts_together (map counts_in tables)) ∙ adds (map counts_in tables))
+        ∙ sym (adds (map counts_in (tables ++ table ∷ [])) ∙ ap (sum_by f) (map-append counts_in tables (table ∷ [])) ∙ sum_by-append f (map counts_in tables) (table.counts ∷ [])))
       where
-        one : (f : Head → ℕ) (head : Head) → sum_by f (head ∷ []) ≡ f head
-        one f head = omega arith
+        one : (f : TableCounts → ℕ) (counts : TableCounts) → sum_by f (counts ∷ []) ≡ f counts
+        one f counts = omega arith
 
     rows : rows_of (keyed_rows (rows_of (flat_map sums_in tables)) ++ (keyed_rows table.rows ++ [])) ≡ rows_of (flat_map sums_in (tables ++ table ∷ []))
     rows = rows-then (flat_map sums_in tables) (keyed_rows table.rows ++ []) ∙ ap rows_of (sym (flat_map-append sums_in tables (table ∷ [])))

@@ -8,7 +8,7 @@ use Rattle.span_event.specs.declared.unit.Unit.{Unit as TimeUnit}
 use Rattle.span_table.specs.declared.column.Column.{Column}
 use Rattle.span_table.specs.declared.of.Of.{Of}
 use Rattle.span_table.specs.declared.table.Row.{Row}
-use Rattle.span_table.specs.Adding.{add_tables, keyed_rows, picked, with_columns, with_head, with_row}
+use Rattle.span_table.specs.Adding.{add_tables, keyed_rows, picked, with_columns, with_counts, with_row}
 use Rattle.span_table_text.specs.Printed.{IsPart}
 use Rattle.span_table.specs.Tables.{RowsRise, SpanTable}
 use Rattle.span_table.proofs.Rows.{RowsRise-rows_of}
@@ -33,8 +33,8 @@ with_rows-kind places (row ∷ rows) table = with_rows-kind places rows (with_ro
 pub IsByThese-added : (of : Of) (unit : TimeUnit) (columns : List Column) (places : List ℕ) (text : Bytes) (old new : SpanTable) → IsByThese of columns places old → IsAdded of unit columns places text old new → IsByThese of columns places new
 IsByThese-added of unit columns places text old new by added = record {
   fit = by.fit;
-  kind = ap (λ (t : SpanTable). t.of) added.sum ∙ with_rows-kind places added.part.rows (with_head old added.part.head) ∙ by.kind;
-  by = ap (λ (t : SpanTable). t.columns) added.sum ∙ with_rows-columns places added.part.rows (with_head old added.part.head) ∙ by.by;
+  kind = ap (λ (t : SpanTable). t.of) added.sum ∙ with_rows-kind places added.part.rows (with_counts old added.part.counts) ∙ by.kind;
+  by = ap (λ (t : SpanTable). t.columns) added.sum ∙ with_rows-columns places added.part.rows (with_counts old added.part.counts) ∙ by.by;
 }
 
 AreParts-push : (unit : TimeUnit) (texts : List Bytes) (parts : List SpanTable) (text : Bytes) (part : SpanTable) → AreParts unit texts parts → IsPart unit text part → AreParts unit (texts ++ text ∷ []) (parts ++ part ∷ [])
@@ -45,7 +45,7 @@ AreParts-push unit (other ∷ texts) (one ∷ parts) text part are is = (are.0, 
 
 -- a sum of tables, with a part
 added-more : (of : Of) (columns : List Column) (places : List ℕ) (tables : List SpanTable) (old part : SpanTable) → old ≡ add_tables of columns tables →
-    with_rows places part.rows (with_head old part.head) ≡ add_tables of columns (tables ++ with_columns places part ∷ [])
+    with_rows places part.rows (with_counts old part.counts) ≡ add_tables of columns (tables ++ with_columns places part ∷ [])
 added-more of columns places tables old part is =
     with_rows-part places old part (subst (λ (t : SpanTable). RowsRise t.rows) (sym is) (RowsRise-rows_of (flat_map (λ (table : SpanTable). keyed_rows table.rows) tables)))
     ∙ ap (λ (t : SpanTable). add_tables t.of t.columns (t ∷ with_columns places part ∷ [])) is

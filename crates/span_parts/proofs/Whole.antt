@@ -7,7 +7,7 @@ use Rattle.span_event.specs.declared.unit.Unit.{Unit as TimeUnit}
 use Rattle.span_table.specs.declared.column.Column.{Column}
 use Rattle.span_table.specs.declared.of.Of.{Of}
 use Rattle.span_table.specs.declared.table.Row.{Row}
-use Rattle.span_table.specs.Adding.{with_head}
+use Rattle.span_table.specs.Adding.{with_counts}
 use Rattle.span_table_text.specs.Json.{json_head, json_line}
 use Rattle.span_table_text.specs.Printed.{IsPart, IsRowOf}
 use Rattle.span_table.specs.Tables.{SpanTable}
@@ -23,30 +23,30 @@ use Rattle.span_parts.specs.Sum.{IsAdded, IsNoPart, RefusesOthers, SumFails}
 use Rattle.span_parts.proofs.Added.{EndsLine}
 
 -- how a part begins
-pub begins_so : (unit : TimeUnit) (text : Bytes) (part : SpanTable) → IsPart unit text part → MayBegin part.of part.columns (length part.rows) part.head
-begins_so unit text part is = record { columns_fit = is.is.columns; few = is.is.few; head_fits = is.is.head }
+pub begins_so : (unit : TimeUnit) (text : Bytes) (part : SpanTable) → IsPart unit text part → MayBegin part.of part.columns (length part.rows) part.counts
+begins_so unit text part is = record { columns_fit = is.is.columns; few = is.is.few; counts_fit = is.is.counts }
 
 -- a text without a line that ends is none
 pub no_line-part : (text : Bytes) → ((xs ys : Bytes) → text ≡ xs ++ 10 ∷ ys → All (λ byte. byte ≢ 10) xs → ⊥) → IsNoPart text
 no_line-part text none unit part is =
-    let told = print (head_tokens part.of unit part.columns (length part.rows) part.head) in
+    let told = print (head_tokens part.of unit part.columns (length part.rows) part.counts) in
     let lines = flat_map (json_line part.of part.columns) part.rows in
     none told lines
-    (is.printed ∙ ap (λ l. l ++ lines) (json_head-print part.of unit part.columns (length part.rows) part.head) ∙ append_assoc told (10 ∷ []) lines)
-    (print_head-line part.of unit part.columns (length part.rows) part.head is.is.few is.is.head)
+    (is.printed ∙ ap (λ l. l ++ lines) (json_head-print part.of unit part.columns (length part.rows) part.counts) ∙ append_assoc told (10 ∷ []) lines)
+    (print_head-line part.of unit part.columns (length part.rows) part.counts is.is.few is.is.counts)
 
 module _ (text line rest : Bytes) (ends : EndsLine text line rest) (unit : TimeUnit) (part : SpanTable) (is : IsPart unit text part) where
-  cut : (line ≡ print (head_tokens part.of unit part.columns (length part.rows) part.head)) × (rest ≡ flat_map (json_line part.of part.columns) part.rows)
+  cut : (line ≡ print (head_tokens part.of unit part.columns (length part.rows) part.counts)) × (rest ≡ flat_map (json_line part.of part.columns) part.rows)
   cut =
-      let told = print (head_tokens part.of unit part.columns (length part.rows) part.head) in
+      let told = print (head_tokens part.of unit part.columns (length part.rows) part.counts) in
       let lines = flat_map (json_line part.of part.columns) part.rows in
       ends told lines
-      (is.printed ∙ ap (λ l. l ++ lines) (json_head-print part.of unit part.columns (length part.rows) part.head) ∙ append_assoc told (10 ∷ []) lines)
-      (print_head-line part.of unit part.columns (length part.rows) part.head is.is.few is.is.head)
+      (is.printed ∙ ap (λ l. l ++ lines) (json_head-print part.of unit part.columns (length part.rows) part.counts) ∙ append_assoc told (10 ∷ []) lines)
+      (print_head-line part.of unit part.columns (length part.rows) part.counts is.is.few is.is.counts)
 
   -- its first line
-  pub line-part : line ++ 10 ∷ [] ≡ json_head part.of unit part.columns (length part.rows) part.head
-  line-part = ap (λ l. l ++ 10 ∷ []) cut.0 ∙ sym (json_head-print part.of unit part.columns (length part.rows) part.head)
+  pub line-part : line ++ 10 ∷ [] ≡ json_head part.of unit part.columns (length part.rows) part.counts
+  line-part = ap (λ l. l ++ 10 ∷ []) cut.0 ∙ sym (json_head-print part.of unit part.columns (length part.rows) part.counts)
 
   -- and what is behind it
   pub rest-part : rest ≡ flat_map (json_line part.of part.columns) part.rows
@@ -54,19 +54,19 @@ module _ (text line rest : Bytes) (ends : EndsLine text line rest) (unit : TimeU
 
 module _ (text rest : Bytes) (first : FirstLine) (begins : Begins text first rest) where
   -- with its rows a text that begins so is a part
-  pub IsAdded-rows : (places : List ℕ) (old new : SpanTable) → AllAdded first.of first.columns.items places rest first.rows (with_head old first.head) new → IsAdded first.of first.unit first.columns.items places text old new
+  pub IsAdded-rows : (places : List ℕ) (old new : SpanTable) → AllAdded first.of first.columns.items places rest first.rows (with_counts old first.counts) new → IsAdded first.of first.unit first.columns.items places text old new
   IsAdded-rows places old new added = record {
-    part = record { of = first.of; columns = first.columns.items; head = first.head; rows = added.rows };
+    part = record { of = first.of; columns = first.columns.items; counts = first.counts; rows = added.rows };
     is = record {
       is = record {
         columns = begins.may.columns_fit;
-        head = begins.may.head_fits;
+        counts = begins.may.counts_fit;
         few = omega (arith, added.so_many, begins.may.few);
         rows = added.are.each;
         rise = added.are.rise;
       };
       utf8 = begins.utf8;
-      printed = begins.printed ∙ (λ i. json_head first.of first.unit first.columns.items (sym added.so_many i) first.head ++ added.are.lines i);
+      printed = begins.printed ∙ (λ i. json_head first.of first.unit first.columns.items (sym added.so_many i) first.counts ++ added.are.lines i);
     };
     kind = refl;
     by = refl;

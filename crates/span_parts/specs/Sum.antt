@@ -7,7 +7,7 @@ use Rattle.span_parts.specs.declared.fault.PartFault.{PartFault}
 use Rattle.span_parts.specs.declared.fault.PartFault.TheVariants.{NotTable, OtherColumns, Memory, TooMany}
 use Rattle.span_table.specs.declared.column.Column.{Column}
 use Rattle.span_table.specs.declared.of.Of.{Of}
-use Rattle.span_table.specs.Adding.{add_tables, picked, with_columns, with_head}
+use Rattle.span_table.specs.Adding.{add_tables, picked, with_columns, with_counts}
 use Rattle.span_table_text.specs.Printed.{AreColumns, IsPart}
 use Rattle.span_table.specs.Tables.{SpanTable}
 use Rattle.span_parts.specs.Rows.{with_rows}
@@ -125,14 +125,14 @@ abbrev pub FindsPlaces : List Column → List Column → Option (Vec ℕ) → Ty
 FindsPlaces wanted columns None = (places : List ℕ) → AreAt places wanted columns → ⊥
 FindsPlaces wanted columns (Some found) = AreAt found.items wanted columns
 
--- the part of this text, which sums this, in this unit and by these columns, was added: its head and its rows, each with the values at
+-- the part of this text, which sums this, in this unit and by these columns, was added: its counts and its rows, each with the values at
 -- these places of its key
 pub record IsAdded (of : Of) (unit : TimeUnit) (columns : List Column) (places : List ℕ) (text : Bytes) (old new : SpanTable) : Type 0 where
   pub part : SpanTable
   pub is : IsPart unit text part
   pub kind : part.of ≡ of
   pub by : part.columns ≡ columns
-  pub sum : new ≡ with_rows places part.rows (with_head old part.head)
+  pub sum : new ≡ with_rows places part.rows (with_counts old part.counts)
 
 -- why a part that begins well is not added: its rows are none, or the sum's doing
 abbrev pub SumFails : Bytes → PartFault → Type 0

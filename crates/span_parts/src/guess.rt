@@ -10,17 +10,17 @@ ghost use Rattle.span_event.specs.declared.args.ArgValue.{ArgValue as TheValue};
 ghost use Rattle.span_event.specs.declared.args.ArgValue.TheVariants.{Whole};
 ghost use Rattle.span_event.specs.declared.unit.Unit.{Unit as TheUnit};
 ghost use Rattle.span_table.specs.declared.column.Column.{Column as TheColumn};
-ghost use Rattle.span_table.specs.declared.heads.Head.{Head as TheHead};
+ghost use Rattle.span_table.specs.declared.counts.TableCounts.{TableCounts as TheCounts};
 ghost use Rattle.span_table.specs.declared.of.Of.{Of as TheOf};
 ghost use Rattle.span_table.specs.declared.of.Of.TheVariants.{Async, Spans};
 ghost use Rattle.span_table.specs.declared.sums.Sums.{Sums as TheSums};
 ghost use Rattle.span_table.specs.declared.table.Row.{Row as TheRow};
 ghost use Rattle.span_table.specs.Columns.{column_name};
-ghost use Rattle.span_table.specs.Heads.{head_fits};
+ghost use Rattle.span_table.specs.Counts.{counts_fit};
 ghost use Rattle.span_table.specs.Sums.{fit};
 ghost use Rattle.span_table.specs.Keys.{TableKey};
 ghost use Rattle.span_table_text.specs.Printed.{AreColumns, AreDistinct, HasOwn, IsKeyOf, IsOfArgument, IsRowOf};
-ghost use Rattle.span_table_text.specs.Tokens.{counts_tokens, head_tokens, key_tokens, name_tokens, number_tokens, numbers_tokens, of_tokens, row_tokens, sums_tokens, unit_tokens, value_tokens};
+ghost use Rattle.span_table_text.specs.Tokens.{entry_counts_tokens, head_tokens, key_tokens, name_tokens, number_tokens, numbers_tokens, of_tokens, row_tokens, sums_tokens, unit_tokens, value_tokens};
 ghost use Rattle.span_parts.specs.First.{MayBegin, Says};
 ghost use Rattle.span_parts.specs.Guess.{Finds, Found, Leaves, MayFollow};
 
@@ -28,17 +28,17 @@ use crate::heads::MOST_COLUMNS;
 use crate::tokens::{after_one, key_after, number_after, text_after};
 use json::Token;
 use span_event::{ArgValue, Text, Unit};
-use span_table::{Column, Head, HeadCounts, Key, Of, Row, Sum, Sums};
+use span_table::{Column, EntryCounts, Key, Of, Row, Sum, Sums, TableCounts};
 use std::alloc::{AllocError, Global};
 
-/// What a first line says: what is summed, the unit, the columns, the number of rows and the head.
+/// What a first line says: what is summed, the unit, the columns, the number of rows and the counts.
 #[derive(Drop)]
 pub(crate) struct FirstLine {
     pub(crate) of: Of,
     pub(crate) unit: Unit,
     pub(crate) columns: Vec<Column>,
     pub(crate) rows: u64,
-    pub(crate) head: Head,
+    pub(crate) counts: TableCounts,
 }
 
 pub(crate) fn first_line_of(
@@ -46,10 +46,10 @@ pub(crate) fn first_line_of(
     tokens: &[Token],
 ) -> Result<Option<FirstLine>, AllocError>
     ensures { IfOk result (λ found.
-        (of : TheOf) (unit : TheUnit) (columns : List TheColumn) (rows : ℕ) (head : TheHead)
-        → MayBegin of columns rows head
-        → map token_of tokens.now ≡ head_tokens of unit columns rows head
-        → Says of unit columns rows head found) }
+        (of : TheOf) (unit : TheUnit) (columns : List TheColumn) (rows : ℕ) (counts : TheCounts)
+        → MayBegin of columns rows counts
+        → map token_of tokens.now ≡ head_tokens of unit columns rows counts
+        → Says of unit columns rows counts found) }
 {
     let mut columns = Vec::new(alloc);
     let Some((of, rest)) = of_after(tokens) else {
@@ -64,13 +64,13 @@ pub(crate) fn first_line_of(
     let Some(rest) = after_one(rest) else {
         return Ok(None);
     };
-    match head_of(rest) {
-        Some((rows, head)) => Ok(Some(FirstLine {
+    match numbers_of(rest) {
+        Some((rows, counts)) => Ok(Some(FirstLine {
             of,
             unit,
             columns,
             rows,
-            head,
+            counts,
         })),
         None => Ok(None),
     }
@@ -130,33 +130,36 @@ fn put_columns<'t, 'a>(
     }
 }
 
-fn head_of(tokens: &[Token]) -> Option<(u64, Head)>
-    ensures { (rows : ℕ) (head : TheHead) (rest : List Told) → rows < 2 ^ 64 → head_fits head ≡ true
-        → map token_of tokens.now ≡ numbers_tokens rows head ++ rest → result ≡ Some (rows, head) }
+fn numbers_of(tokens: &[Token]) -> Option<(u64, TableCounts)>
+    ensures { (rows : ℕ) (counts : TheCounts) (rest : List Told)
+        → rows < 2 ^ 64 → counts_fit counts ≡ true
+        → map token_of tokens.now ≡ numbers_tokens rows counts ++ rest
+        → result ≡ Some (rows, counts) }
 {
     let (rows, rest) = number_after(tokens, "rows")?;
     let (runs, rest) = number_after(rest, "runs")?;
     let (files, rest) = number_after(rest, "files")?;
     let (unread, rest) = number_after(rest, "unread")?;
-    let head = Head {
+    let counts = TableCounts {
         runs: u128::from(runs),
         files: u128::from(files),
         unread: u128::from(unread),
-        counts: counts_of(rest)?,
+        entries: entry_counts_of(rest)?,
     };
-    Some((rows, head))
+    Some((rows, counts))
 }
 
-fn counts_of(tokens: &[Token]) -> Option<HeadCounts>
-    ensures { (head : TheHead) (rest : List Told) → head_fits head ≡ true
-        → map token_of tokens.now ≡ counts_tokens head.counts ++ rest → result ≡ Some head.counts }
+fn entry_counts_of(tokens: &[Token]) -> Option<EntryCounts>
+    ensures { (counts : TheCounts) (rest : List Told) → counts_fit counts ≡ true
+        → map token_of tokens.now ≡ entry_counts_tokens counts.entries ++ rest
+        → result ≡ Some counts.entries }
 {
     let (accepted, rest) = number_after(tokens, "events")?;
     let (refused, rest) = number_after(rest, "refused")?;
     let (skipped, rest) = number_after(rest, "skipped")?;
     let (queries, rest) = number_after(rest, "queries")?;
     let (seals, _) = number_after(rest, "seals")?;
-    Some(HeadCounts {
+    Some(EntryCounts {
         accepted: u128::from(accepted),
         refused: u128::from(refused),
         skipped: u128::from(skipped),

@@ -4,7 +4,7 @@ ghost use Rattle.std.specs.List.{list_any};
 ghost use Rattle.span_event.specs.Text.{Bytes};
 ghost use Rattle.span_event.specs.declared.unit.Unit.{Unit as TheUnit};
 ghost use Rattle.span_table.specs.declared.column.Column.{Column as TheColumn};
-ghost use Rattle.span_table.specs.declared.heads.Head.{Head as TheHead};
+ghost use Rattle.span_table.specs.declared.counts.TableCounts.{TableCounts as TheCounts};
 ghost use Rattle.span_table.specs.declared.of.Of.{Of as TheOf};
 ghost use Rattle.span_table.specs.Columns.{column_name};
 ghost use Rattle.span_table_text.specs.Json.{json_head};
@@ -18,7 +18,7 @@ use crate::guess::{FirstLine, first_line_of};
 use crate::room::{LineRoom, is_line};
 use crate::tokens::tokens_of;
 use span_event::Text;
-use span_table::{Column, Of, head_fits};
+use span_table::{Column, Of, counts_fit};
 use span_table_text::{column_names, put_json_head};
 use std::alloc::{AllocError, Global};
 
@@ -55,10 +55,10 @@ fn head_of_line(
 ) -> Result<Option<FirstLine>, AllocError>
     ensures is { IfOk result (λ found. IfSome found (IsFirstLine line.now)) }
     ensures found { IfOk result (λ found.
-        (of : TheOf) (unit : TheUnit) (columns : List TheColumn) (rows : ℕ) (head : TheHead)
-        → MayBegin of columns rows head
-        → line.now ++ 10 ∷ [] ≡ json_head of unit columns rows head
-        → Says of unit columns rows head found) }
+        (of : TheOf) (unit : TheUnit) (columns : List TheColumn) (rows : ℕ) (counts : TheCounts)
+        → MayBegin of columns rows counts
+        → line.now ++ 10 ∷ [] ≡ json_head of unit columns rows counts
+        → Says of unit columns rows counts found) }
 {
     let tokens = tokens_of(alloc, line, &mut room.scratch)?;
     let Some(first) = first_line_of(alloc, &tokens)? else {
@@ -68,7 +68,7 @@ fn head_of_line(
     if !are_columns(first.of, &first.columns, &names) {
         return Ok(None);
     }
-    if !head_fits(&first.head) {
+    if !counts_fit(&first.counts) {
         return Ok(None);
     }
     if !is_head(alloc, &first, line)? {
@@ -81,7 +81,7 @@ fn head_of_line(
 fn is_head(alloc: Global, first: &FirstLine, line: &str) -> Result<bool, AllocError>
     ensures { IfOk result (λ same. IsTrue same ↔ line.now ++ 10 ∷ []
         ≡ json_head first.now.of first.now.unit first.now.columns.items
-        first.now.rows first.now.head) }
+        first.now.rows first.now.counts) }
 {
     let mut printed = String::new(alloc);
     put_json_head(
@@ -91,7 +91,7 @@ fn is_head(alloc: Global, first: &FirstLine, line: &str) -> Result<bool, AllocEr
         first.unit,
         &first.columns,
         first.rows as usize,
-        first.head,
+        first.counts,
     )?;
     Ok(is_line(printed.as_bytes(), line))
 }

@@ -163,7 +163,7 @@ fn is_alike(first: &FirstLine, of: Of, unit: Unit, columns: &[Column]) -> bool
 
 // Why a text that begins so is refused: for what it sums, its unit or its columns, if it is a part.
 fn fault_of_others(alloc: Global, first: &FirstLine, rest: &str, room: &mut LineRoom) -> PartFault
-    requires { MayBegin first.now.of first.now.columns.items first.now.rows first.now.head }
+    requires { MayBegin first.now.of first.now.columns.items first.now.rows first.now.counts }
     ensures { (text : Bytes) → Begins text first.now rest.now
         → RefusesOthers first.now.of first.now.unit first.now.columns.items text result }
 {

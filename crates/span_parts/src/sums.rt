@@ -29,13 +29,13 @@ pub(crate) fn add_part(
     sum: Addition,
     room: &mut LineRoom,
 ) -> Result<Addition, PartFault>
-    requires { MayBegin first.now.of first.now.columns.items first.now.rows first.now.head }
+    requires { MayBegin first.now.of first.now.columns.items first.now.rows first.now.counts }
     ensures added { IfOk result (λ new. (text : Bytes) → Begins text first.now rest.now
         → IsAdded first.now.of first.now.unit first.now.columns.items places.now text sum new) }
     ensures fault { IfErr result (λ fault. (text : Bytes) → Begins text first.now rest.now
         → SumFails text fault) }
 {
-    let mut sum = match sum.add_head(&first.head) {
+    let mut sum = match sum.add_counts(&first.counts) {
         Ok(sum) => sum,
         Err(_) => return Err(PartFault::TooMany),
     };
@@ -59,7 +59,7 @@ pub(crate) fn look_through(
     rest: &str,
     room: &mut LineRoom,
 ) -> Result<(), PartFault>
-    requires { MayBegin first.now.of first.now.columns.items first.now.rows first.now.head }
+    requires { MayBegin first.now.of first.now.columns.items first.now.rows first.now.counts }
     ensures is { OnOk result ((text : Bytes) → Begins text first.now rest.now
         → HasColumns first.now.of first.now.unit first.now.columns.items text) }
     ensures fault { IfErr result (λ fault. (text : Bytes) → Begins text first.now rest.now

@@ -24,13 +24,13 @@ use Rattle.span_table.specs.declared.column.Column.{Column}
 use Rattle.span_table.specs.declared.of.Of.{Of}
 use Rattle.span_table.specs.declared.of.Of.TheVariants.{Spans, Async}
 use Rattle.span_table.specs.declared.sums.Sums.{Sums}
-use Rattle.span_table.specs.declared.heads.Head.{Head}
+use Rattle.span_table.specs.declared.counts.TableCounts.{TableCounts}
 use Rattle.span_table.specs.declared.table.Row.{Row}
 use Rattle.span_table.specs.Adding.{AddingLosesNothing, DroppingAdds, OrderIsNothing, keyed_by, keyed_rows, picked}
 use Rattle.span_table.specs.Columns.{async_value_at, value_at}
 use Rattle.span_table.specs.KeyLaws.{key_cmp_total, key_cmp-same}
 use Rattle.span_table.specs.Keys.{TableKey, key_cmp}
-use Rattle.span_table.specs.Tables.{KeyedSums, Run, SpanTable, head_of, heads_together, keyed_async, keyed_span, row_of, rows_of, run_sums, sums_together, table_of, thread_sums}
+use Rattle.span_table.specs.Tables.{KeyedSums, Run, SpanTable, counts_of, counts_together, keyed_async, keyed_span, row_of, rows_of, run_sums, sums_together, table_of, thread_sums}
 use Rattle.span_table.proofs.Alike.{AddUpAlike, AddUpAlike-flat_map, AddUpAlike-grouped, has_key-append, summed-alike}
 use Rattle.span_table.proofs.Tallies.{made_of, tally, tally-append, under}
 
@@ -68,43 +68,43 @@ rows-back es =
     subst (λ l. AddUpAlike l es) (sym (rows-regrouped (λ k. k) es))
     (subst (AddUpAlike (regrouped (λ k. k) es)) (map-id es) (AddUpAlike-grouped key_cmp_total key_cmp-same (λ k. k) es))
 
--- a number of heads that are added is that of these together
-module _ (f : Head → ℕ) (adds : (heads : List Head) → f (heads_together heads) ≡ sum_by f heads) where
-  number-parts : (parts : List (List Run)) → f (heads_together (map (λ part. heads_together (map head_of part)) parts)) ≡ f (heads_together (map head_of (flat_map (λ part. part) parts)))
-  number-parts parts = adds (map (λ part. heads_together (map head_of part)) parts) ∙ each parts ∙ sym (adds (map head_of (flat_map (λ part. part) parts)))
+-- a number of counts that are added is that of these together
+module _ (f : TableCounts → ℕ) (adds : (all : List TableCounts) → f (counts_together all) ≡ sum_by f all) where
+  number-parts : (parts : List (List Run)) → f (counts_together (map (λ part. counts_together (map counts_of part)) parts)) ≡ f (counts_together (map counts_of (flat_map (λ part. part) parts)))
+  number-parts parts = adds (map (λ part. counts_together (map counts_of part)) parts) ∙ each parts ∙ sym (adds (map counts_of (flat_map (λ part. part) parts)))
     where
-      each : (parts : List (List Run)) → sum_by f (map (λ part. heads_together (map head_of part)) parts) ≡ sum_by f (map head_of (flat_map (λ part. part) parts))
+      each : (parts : List (List Run)) → sum_by f (map (λ part. counts_together (map counts_of part)) parts) ≡ sum_by f (map counts_of (flat_map (λ part. part) parts))
       each [] = refl
       each (part ∷ parts) =
-          sum_by-cons f (heads_together (map head_of part)) (map (λ part. heads_together (map head_of part)) parts)
-          ∙ ap₂ (λ a b. a + b) (adds (map head_of part)) (each parts)
-          ∙ sym (ap (sum_by f) (map-append head_of part (flat_map (λ part. part) parts)) ∙ sum_by-append f (map head_of part) (map head_of (flat_map (λ part. part) parts)))
+          sum_by-cons f (counts_together (map counts_of part)) (map (λ part. counts_together (map counts_of part)) parts)
+          ∙ ap₂ (λ a b. a + b) (adds (map counts_of part)) (each parts)
+          ∙ sym (ap (sum_by f) (map-append counts_of part (flat_map (λ part. part) parts)) ∙ sum_by-append f (map counts_of part) (map counts_of (flat_map (λ part. part) parts)))
 
--- heads, where each number of them is the same
-pub head-same : (a b : Head) → ((f : Head → ℕ) → ((heads : List Head) → f (heads_together heads) ≡ sum_by f heads) → f a ≡ f b) → a ≡ b
-head-same a b same =
-    let runs = same (λ (h : Head). h.runs) (λ heads. refl) in
-    let files = same (λ (h : Head). h.files) (λ heads. refl) in
-    let unread = same (λ (h : Head). h.unread) (λ heads. refl) in
-    let accepted_count = same (λ (h : Head). h.counts.accepted) (sum_by-map (λ (row : CountRow). row.accepted) (λ (h : Head). h.counts)) in
-    let refused = same (λ (h : Head). h.counts.refused) (sum_by-map (λ (row : CountRow). row.refused) (λ (h : Head). h.counts)) in
-    let skipped = same (λ (h : Head). h.counts.skipped) (sum_by-map (λ (row : CountRow). row.skipped) (λ (h : Head). h.counts)) in
-    let queries = same (λ (h : Head). h.counts.queries) (sum_by-map (λ (row : CountRow). row.queries) (λ (h : Head). h.counts)) in
-    let seals = same (λ (h : Head). h.counts.seals) (sum_by-map (λ (row : CountRow). row.seals) (λ (h : Head). h.counts)) in
+-- counts, where each number of them is the same
+pub counts-same : (a b : TableCounts) → ((f : TableCounts → ℕ) → ((all : List TableCounts) → f (counts_together all) ≡ sum_by f all) → f a ≡ f b) → a ≡ b
+counts-same a b same =
+    let runs = same (λ (counts : TableCounts). counts.runs) (λ all. refl) in
+    let files = same (λ (counts : TableCounts). counts.files) (λ all. refl) in
+    let unread = same (λ (counts : TableCounts). counts.unread) (λ all. refl) in
+    let accepted_count = same (λ (counts : TableCounts). counts.entries.accepted) (sum_by-map (λ (row : CountRow). row.accepted) (λ (counts : TableCounts). counts.entries)) in
+    let refused = same (λ (counts : TableCounts). counts.entries.refused) (sum_by-map (λ (row : CountRow). row.refused) (λ (counts : TableCounts). counts.entries)) in
+    let skipped = same (λ (counts : TableCounts). counts.entries.skipped) (sum_by-map (λ (row : CountRow). row.skipped) (λ (counts : TableCounts). counts.entries)) in
+    let queries = same (λ (counts : TableCounts). counts.entries.queries) (sum_by-map (λ (row : CountRow). row.queries) (λ (counts : TableCounts). counts.entries)) in
+    let seals = same (λ (counts : TableCounts). counts.entries.seals) (sum_by-map (λ (row : CountRow). row.seals) (λ (counts : TableCounts). counts.entries)) in
     λ i. record {
       runs = runs i;
       files = files i;
       unread = unread i;
-      counts = record { accepted = accepted_count i; refused = refused i; skipped = skipped i; queries = queries i; seals = seals i };
+      entries = record { accepted = accepted_count i; refused = refused i; skipped = skipped i; queries = queries i; seals = seals i };
     }
 
 -- the tables of lists of runs, added, are the table of all these runs together
 pub add_tables-parts : AddingLosesNothing
-add_tables-parts of columns parts = λ i. record { of = of; columns = columns; head = heads i; rows = rows i }
+add_tables-parts of columns parts = λ i. record { of = of; columns = columns; counts = all_counts i; rows = rows i }
   where
-    heads : heads_together (map (λ (table : SpanTable). table.head) (map (table_of of columns) parts)) ≡ heads_together (map head_of (flat_map (λ part. part) parts))
-    heads = ap heads_together (map-map (λ (table : SpanTable). table.head) (table_of of columns) parts)
-        ∙ head-same (heads_together (map (λ part. heads_together (map head_of part)) parts)) (heads_together (map head_of (flat_map (λ part. part) parts))) (λ f adds. number-parts f adds parts)
+    all_counts : counts_together (map (λ (table : SpanTable). table.counts) (map (table_of of columns) parts)) ≡ counts_together (map counts_of (flat_map (λ part. part) parts))
+    all_counts = ap counts_together (map-map (λ (table : SpanTable). table.counts) (table_of of columns) parts)
+        ∙ counts-same (counts_together (map (λ part. counts_together (map counts_of part)) parts)) (counts_together (map counts_of (flat_map (λ part. part) parts))) (λ f adds. number-parts f adds parts)
 
     rows : rows_of (flat_map (λ (table : SpanTable). keyed_rows table.rows) (map (table_of of columns) parts)) ≡ rows_of (flat_map (run_sums of columns) (flat_map (λ part. part) parts))
     rows = ap rows_of (flat_map-map (λ (table : SpanTable). keyed_rows table.rows) (table_of of columns) parts)
@@ -143,7 +143,7 @@ module _ (places : List ℕ) (columns : List Column) where
 
 -- a table by fewer columns is the table by more, with the others dropped
 pub table_of-picked : DroppingAdds
-table_of-picked places of columns runs = λ i. record { of = of; columns = picked places columns; head = heads_together (map head_of runs); rows = rows-picked places columns of runs i }
+table_of-picked places of columns runs = λ i. record { of = of; columns = picked places columns; counts = counts_together (map counts_of runs); rows = rows-picked places columns of runs i }
 
 -- what adds up over runs is the same in whatever order they come
 module _ (F : Run → KeyedSums) (k : TableKey) where
@@ -177,11 +177,11 @@ module _ (F : Run → KeyedSums) (k : TableKey) where
 
 -- a table is the same for runs in whatever order
 pub table_of-moved : OrderIsNothing
-table_of-moved of columns runs other moved = λ i. record { of = of; columns = columns; head = heads i; rows = rows i }
+table_of-moved of columns runs other moved = λ i. record { of = of; columns = columns; counts = all_counts i; rows = rows i }
   where
-    heads : heads_together (map head_of runs) ≡ heads_together (map head_of other)
-    heads = head-same (heads_together (map head_of runs)) (heads_together (map head_of other))
-        (λ f adds. adds (map head_of runs) ∙ sym (sum_by-IsPermutation f (map head_of runs) (map head_of other) (IsPermutation-map head_of runs other moved)) ∙ sym (adds (map head_of other)))
+    all_counts : counts_together (map counts_of runs) ≡ counts_together (map counts_of other)
+    all_counts = counts-same (counts_together (map counts_of runs)) (counts_together (map counts_of other))
+        (λ f adds. adds (map counts_of runs) ∙ sym (sum_by-IsPermutation f (map counts_of runs) (map counts_of other) (IsPermutation-map counts_of runs other moved)) ∙ sym (adds (map counts_of other)))
 
     rows : rows_of (flat_map (run_sums of columns) runs) ≡ rows_of (flat_map (run_sums of columns) other)
     rows = rows_of-alike (flat_map (run_sums of columns) runs) (flat_map (run_sums of columns) other) (record {

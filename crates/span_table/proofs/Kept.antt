@@ -8,19 +8,19 @@ use Rattle.std.proofs.lemmas.List.Elements.{All-cons, All-nil}
 use Rattle.span_keyed_tracks.specs.Keyed.{entry_of, keys_in, steps_at}
 use Rattle.span_keyed_tracks.proofs.Keyed.{kept_at-entries_in}
 use Rattle.span_table.specs.declared.column.Column.{Column}
-use Rattle.span_table.specs.declared.heads.Head.{Head}
+use Rattle.span_table.specs.declared.counts.TableCounts.{TableCounts}
 use Rattle.span_table.specs.declared.of.Of.{Of}
 use Rattle.span_table.specs.declared.sums.Sums.{Sums}
 use Rattle.span_table.specs.declared.table.Row.{Row}
 use Rattle.span_table.specs.Adding.{JoinsRuns, TakesRuns, add_tables, keyed_row, keyed_rows, with_row, with_run}
 use Rattle.span_table.specs.Collected.{AllWithin, GrowsBy, IsWithin, Takes, with_sums}
 use Rattle.span_table.specs.Columns.{Run}
-use Rattle.span_table.specs.Heads.{IsHeadWithin}
+use Rattle.span_table.specs.Counts.{AreCountsWithin}
 use Rattle.span_table.specs.KeyLaws.{key_cmp_total, key_cmp-same}
 use Rattle.span_table.specs.Sums.{fit}
 use Rattle.span_table.specs.Kept.{IsAdded, IsKept}
 use Rattle.span_table.specs.Keys.{TableKey, key_cmp}
-use Rattle.span_table.specs.Tables.{KeyedSums, RowsRise, SpanTable, SumsByKey, head_of, heads_together, row_of, rows_of, run_sums, summed, sums_together, table_of}
+use Rattle.span_table.specs.Tables.{KeyedSums, RowsRise, SpanTable, SumsByKey, counts_of, counts_together, row_of, rows_of, run_sums, summed, sums_together, table_of}
 use Rattle.span_table.proofs.AddedTables.{add_tables-parts, rows-back, rows_of-alike}
 use Rattle.span_table.proofs.Alike.{AddUpAlike, AddUpAlike-append, AddUpAlike-refl, AddUpAlike-sym, sums_at-append, summed-alike}
 use Rattle.span_table.proofs.OwnRows.{rows_of-own}
@@ -84,35 +84,35 @@ rows-taken old new more rise takes = ap (map row_of) (takes (keyed_rows (map row
 rise-taken : (old new : SumsByKey) (more : KeyedSums) → RowsRise (map row_of old) → Takes old new more → RowsRise (map row_of new)
 rise-taken old new more rise takes = subst RowsRise (sym (rows-taken old new more rise takes)) (RowsRise-rows_of (keyed_rows (map row_of old) ++ more))
 
-heads_together-one : (a : Head) → heads_together (a ∷ []) ≡ a
-heads_together-one a =
-    let one : (f : Head → ℕ) → 0 + f a ≡ f a = λ f. omega arith in
-    let runs = one (λ h. h.runs) in
-    let files = one (λ h. h.files) in
-    let unread = one (λ h. h.unread) in
-    let accepted = one (λ h. h.counts.accepted) in
-    let refused = one (λ h. h.counts.refused) in
-    let skipped = one (λ h. h.counts.skipped) in
-    let queries = one (λ h. h.counts.queries) in
-    let seals = one (λ h. h.counts.seals) in
+counts_together-one : (a : TableCounts) → counts_together (a ∷ []) ≡ a
+counts_together-one a =
+    let one : (f : TableCounts → ℕ) → 0 + f a ≡ f a = λ f. omega arith in
+    let runs = one (λ counts. counts.runs) in
+    let files = one (λ counts. counts.files) in
+    let unread = one (λ counts. counts.unread) in
+    let accepted = one (λ counts. counts.entries.accepted) in
+    let refused = one (λ counts. counts.entries.refused) in
+    let skipped = one (λ counts. counts.entries.skipped) in
+    let queries = one (λ counts. counts.entries.queries) in
+    let seals = one (λ counts. counts.entries.seals) in
     λ i. record {
       runs = runs i;
       files = files i;
       unread = unread i;
-      counts = record { accepted = accepted i; refused = refused i; skipped = skipped i; queries = queries i; seals = seals i };
+      entries = record { accepted = accepted i; refused = refused i; skipped = skipped i; queries = queries i; seals = seals i };
     }
 
 -- a table, by what is kept of it
-abbrev pub table_kept : Of → List Column → Head → SumsByKey → SpanTable
-table_kept of columns head kept = record { of = of; columns = columns; head = head; rows = map row_of kept }
+abbrev pub table_kept : Of → List Column → TableCounts → SumsByKey → SpanTable
+table_kept of columns counts kept = record { of = of; columns = columns; counts = counts; rows = map row_of kept }
 
 -- sums of a run that are taken make the table with this run
-pub with_run-taken : (of : Of) (columns : List Column) (head : Head) (old new : SumsByKey) (run : Run) → RowsRise (map row_of old) → Takes old new (run_sums of columns run) →
-    table_kept of columns (heads_together (head ∷ head_of run ∷ [])) new ≡ with_run (table_kept of columns head old) run
-with_run-taken of columns head old new run rise takes = λ i. record { of = of; columns = columns; head = heads i; rows = rows i }
+pub with_run-taken : (of : Of) (columns : List Column) (counts : TableCounts) (old new : SumsByKey) (run : Run) → RowsRise (map row_of old) → Takes old new (run_sums of columns run) →
+    table_kept of columns (counts_together (counts ∷ counts_of run ∷ [])) new ≡ with_run (table_kept of columns counts old) run
+with_run-taken of columns counts old new run rise takes = λ i. record { of = of; columns = columns; counts = all_counts i; rows = rows i }
   where
-    heads : heads_together (head ∷ head_of run ∷ []) ≡ heads_together (head ∷ heads_together (head_of run ∷ []) ∷ [])
-    heads = ap (λ (h : Head). heads_together (head ∷ h ∷ [])) (sym (heads_together-one (head_of run)))
+    all_counts : counts_together (counts ∷ counts_of run ∷ []) ≡ counts_together (counts ∷ counts_together (counts_of run ∷ []) ∷ [])
+    all_counts = ap (λ (more : TableCounts). counts_together (counts ∷ more ∷ [])) (sym (counts_together-one (counts_of run)))
 
     rows : map row_of new ≡ rows_of (keyed_rows (map row_of old) ++ (keyed_rows (rows_of (run_sums of columns run ++ [])) ++ []))
     rows =
@@ -124,9 +124,9 @@ with_run-taken of columns head old new run rise takes = λ i. record { of = of; 
         ∙ ap (λ l. rows_of (es ++ l)) (sym (append-nil back))
 
 -- sums of another table that are taken make the table of both
-pub add_tables-taken : (of second : Of) (columns : List Column) (head more : Head) (old new other : SumsByKey) (others : List Column) → RowsRise (map row_of old) → Takes old new (keyed_rows (map row_of other)) →
-    table_kept of columns (heads_together (head ∷ more ∷ [])) new ≡ add_tables of columns (table_kept of columns head old ∷ table_kept second others more other ∷ [])
-add_tables-taken of second columns head more old new other others rise takes = λ i. record { of = of; columns = columns; head = heads_together (head ∷ more ∷ []); rows = rows i }
+pub add_tables-taken : (of second : Of) (columns : List Column) (counts more : TableCounts) (old new other : SumsByKey) (others : List Column) → RowsRise (map row_of old) → Takes old new (keyed_rows (map row_of other)) →
+    table_kept of columns (counts_together (counts ∷ more ∷ [])) new ≡ add_tables of columns (table_kept of columns counts old ∷ table_kept second others more other ∷ [])
+add_tables-taken of second columns counts more old new other others rise takes = λ i. record { of = of; columns = columns; counts = counts_together (counts ∷ more ∷ []); rows = rows i }
   where
     rows : map row_of new ≡ rows_of (keyed_rows (map row_of old) ++ (keyed_rows (map row_of other) ++ []))
     rows = rows-taken old new (keyed_rows (map row_of other)) rise takes ∙ ap (λ l. rows_of (keyed_rows (map row_of old) ++ l)) (sym (append-nil (keyed_rows (map row_of other))))
@@ -140,29 +140,29 @@ pub add_tables-runs : (one other : SpanTable) → JoinsRuns one other (add_table
 add_tables-runs one other = λ of columns runs others first second.
     ap₂ (λ (a b : SpanTable). add_tables a.of a.columns (a ∷ b ∷ [])) first second ∙ add_tables-parts of columns (runs ∷ others ∷ []) ∙ ap (λ l. table_of of columns (runs ++ l)) (append-nil others)
 
-heads_together-within : (m n : ℕ) (a b : Head) → IsHeadWithin m a → IsHeadWithin n b → IsHeadWithin (m + n) (heads_together (a ∷ b ∷ []))
-heads_together-within m n a b first second = record {
+counts_together-within : (m n : ℕ) (a b : TableCounts) → AreCountsWithin m a → AreCountsWithin n b → AreCountsWithin (m + n) (counts_together (a ∷ b ∷ []))
+counts_together-within m n a b first second = record {
   runs = omega (arith, first.runs, second.runs);
   files = omega (arith, first.files, second.files);
   unread = omega (arith, first.unread, second.unread);
-  counts = record {
-    accepted = omega (arith, first.counts.accepted, second.counts.accepted);
-    refused = omega (arith, first.counts.refused, second.counts.refused);
-    skipped = omega (arith, first.counts.skipped, second.counts.skipped);
-    queries = omega (arith, first.counts.queries, second.counts.queries);
-    seals = omega (arith, first.counts.seals, second.counts.seals);
+  entries = record {
+    accepted = omega (arith, first.entries.accepted, second.entries.accepted);
+    refused = omega (arith, first.entries.refused, second.entries.refused);
+    skipped = omega (arith, first.entries.skipped, second.entries.skipped);
+    queries = omega (arith, first.entries.queries, second.entries.queries);
+    seals = omega (arith, first.entries.seals, second.entries.seals);
   };
 }
 
--- what is kept stays within its bounds with more sums, and a head of so many runs
-pub IsKept-taken : (head more : Head) (old new : SumsByKey) (taken : KeyedSums) → head.runs + more.runs < 2 ^ 32 → IsKept head old → IsHeadWithin (more.runs * 2 ^ 64) more → Takes old new taken →
-    AllWithin (head.runs * 2 ^ 160 + more.runs * 2 ^ 160) new → IsKept (heads_together (head ∷ more ∷ [])) new
-IsKept-taken head more old new taken few kept numbers takes within =
-    let runs : head.runs * 2 ^ 64 + more.runs * 2 ^ 64 ≡ (0 + head.runs + more.runs) * 2 ^ 64 = omega arith in
-    let sums : head.runs * 2 ^ 160 + more.runs * 2 ^ 160 ≡ (0 + head.runs + more.runs) * 2 ^ 160 = omega arith in
+-- what is kept stays within its bounds with more sums, and the counts of so many runs
+pub IsKept-taken : (counts more : TableCounts) (old new : SumsByKey) (taken : KeyedSums) → counts.runs + more.runs < 2 ^ 32 → IsKept counts old → AreCountsWithin (more.runs * 2 ^ 64) more → Takes old new taken →
+    AllWithin (counts.runs * 2 ^ 160 + more.runs * 2 ^ 160) new → IsKept (counts_together (counts ∷ more ∷ [])) new
+IsKept-taken counts more old new taken few kept numbers takes within =
+    let runs : counts.runs * 2 ^ 64 + more.runs * 2 ^ 64 ≡ (0 + counts.runs + more.runs) * 2 ^ 64 = omega arith in
+    let sums : counts.runs * 2 ^ 160 + more.runs * 2 ^ 160 ≡ (0 + counts.runs + more.runs) * 2 ^ 160 = omega arith in
     record {
       few = omega (arith, few);
-      numbers = subst (λ n. IsHeadWithin n (heads_together (head ∷ more ∷ []))) runs (heads_together-within (head.runs * 2 ^ 64) (more.runs * 2 ^ 64) head more kept.numbers numbers);
+      numbers = subst (λ n. AreCountsWithin n (counts_together (counts ∷ more ∷ []))) runs (counts_together-within (counts.runs * 2 ^ 64) (more.runs * 2 ^ 64) counts more kept.numbers numbers);
       rise = rise-taken old new taken kept.rise takes;
       within = subst (λ n. AllWithin n new) sums within;
     }
@@ -173,7 +173,7 @@ OnOk-alike (Ok done) old new es fs alike takes = Takes-alike old new es fs alike
 OnOk-alike (Err error) old new es fs alike takes = tt
 
 -- nothing is kept of no runs
-pub IsKept-none : IsKept (heads_together []) []
+pub IsKept-none : IsKept (counts_together []) []
 unfolding IsStrictlySortedBy
 IsKept-none = record {
   few = omega arith;
@@ -181,14 +181,14 @@ IsKept-none = record {
     runs = omega arith;
     files = omega arith;
     unread = omega arith;
-    counts = record { accepted = omega arith; refused = omega arith; skipped = omega arith; queries = omega arith; seals = omega arith };
+    entries = record { accepted = omega arith; refused = omega arith; skipped = omega arith; queries = omega arith; seals = omega arith };
   };
   rise = tt;
   within = All-nil (IsWithin (0 * 2 ^ 160));
 }
 
 -- nothing is kept of no tables
-pub IsAdded-none : IsAdded 0 0 (heads_together []) []
+pub IsAdded-none : IsAdded 0 0 (counts_together []) []
 IsAdded-none = record { few = omega arith; numbers = IsKept-none.numbers; rise = IsKept-none.rise; within = All-nil (IsWithin (0 * 2 ^ 64)) }
 
 -- sums that have 64 bits
@@ -204,9 +204,9 @@ fit-within sums fits =
     }
 
 -- what is kept stays within its bounds with one more row
-pub IsAdded-row : (heads rows : ℕ) (head : Head) (old new : SumsByKey) (row : Row) → fit row.sums ≡ true → IsAdded heads rows head old → Takes old new (keyed_row row ∷ []) →
-    ((n : ℕ) → IsWithin n row.sums → GrowsBy n old new) → IsAdded heads (rows + 1) head new
-IsAdded-row heads rows head old new row fits kept takes grows =
+pub IsAdded-row : (tables rows : ℕ) (counts : TableCounts) (old new : SumsByKey) (row : Row) → fit row.sums ≡ true → IsAdded tables rows counts old → Takes old new (keyed_row row ∷ []) →
+    ((n : ℕ) → IsWithin n row.sums → GrowsBy n old new) → IsAdded tables (rows + 1) counts new
+IsAdded-row tables rows counts old new row fits kept takes grows =
     let more : rows * 2 ^ 64 + 2 ^ 64 ≡ (rows + 1) * 2 ^ 64 = omega arith in
     record {
       few = kept.few;
@@ -216,6 +216,6 @@ IsAdded-row heads rows head old new row fits kept takes grows =
     }
 
 -- a row that is taken makes the table with this row
-pub with_row-taken : (of : Of) (columns : List Column) (head : Head) (old new : SumsByKey) (row : Row) → RowsRise (map row_of old) → Takes old new (keyed_row row ∷ []) →
-    table_kept of columns head new ≡ with_row (table_kept of columns head old) row
-with_row-taken of columns head old new row rise takes = λ i. record { of = of; columns = columns; head = head; rows = rows-taken old new (keyed_row row ∷ []) rise takes i }
+pub with_row-taken : (of : Of) (columns : List Column) (counts : TableCounts) (old new : SumsByKey) (row : Row) → RowsRise (map row_of old) → Takes old new (keyed_row row ∷ []) →
+    table_kept of columns counts new ≡ with_row (table_kept of columns counts old) row
+with_row-taken of columns counts old new row rise takes = λ i. record { of = of; columns = columns; counts = counts; rows = rows-taken old new (keyed_row row ∷ []) rise takes i }

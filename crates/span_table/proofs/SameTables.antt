@@ -32,7 +32,7 @@ use Rattle.span_table.specs.declared.of.Of.{Of}
 use Rattle.span_table.specs.declared.of.Of.TheVariants.{Spans, Async}
 use Rattle.span_table.specs.Columns.{async_value_at, value_at}
 use Rattle.span_table.specs.Laws.{AreAlikeRuns, AreAllAlike, TablesFollowFromActs}
-use Rattle.span_table.specs.Tables.{Run, head_of, heads_together, keyed_span, rows_of, run_sums, sums_of_async, thread_sums}
+use Rattle.span_table.specs.Tables.{Run, counts_of, counts_together, keyed_span, rows_of, run_sums, sums_of_async, thread_sums}
 
 module _ (run other : Run) (alike : AreAlikeRuns run other) where
   value_at-alike : (thread : Thread) (name : Bytes) (args : Arguments) (column : Column) → value_at run thread name args column ≡ value_at other thread name args column
@@ -96,14 +96,14 @@ module _ (run other : Run) (alike : AreAlikeRuns run other) where
         let rows = (rows-follow run.journal other.journal alike.journals).asynchronous in
         λ i. map (λ (row : AsyncRow). record { key = map (λ column. async_value_at-alike row.key column i) columns; step = sums_of_async row }) (rows i)
 
-head_of-alike : (run other : Run) → AreAlikeRuns run other → head_of run ≡ head_of other
-head_of-alike run other alike = λ i. record { runs = 1; files = alike.files i; unread = alike.unread i; counts = alike.journals.counts i }
+counts_of-alike : (run other : Run) → AreAlikeRuns run other → counts_of run ≡ counts_of other
+counts_of-alike run other alike = λ i. record { runs = 1; files = alike.files i; unread = alike.unread i; entries = alike.journals.counts i }
 
-heads-alike : (runs others : List Run) → AreAllAlike runs others → map head_of runs ≡ map head_of others
-heads-alike [] [] alike = refl
-heads-alike [] (other ∷ others) alike = elim alike [ ]
-heads-alike (run ∷ runs) [] alike = elim alike [ ]
-heads-alike (run ∷ runs) (other ∷ others) alike = λ i. head_of-alike run other alike.0 i ∷ heads-alike runs others alike.1 i
+counts-alike : (runs others : List Run) → AreAllAlike runs others → map counts_of runs ≡ map counts_of others
+counts-alike [] [] alike = refl
+counts-alike [] (other ∷ others) alike = elim alike [ ]
+counts-alike (run ∷ runs) [] alike = elim alike [ ]
+counts-alike (run ∷ runs) (other ∷ others) alike = λ i. counts_of-alike run other alike.0 i ∷ counts-alike runs others alike.1 i
 
 sums-alike : (of : Of) (columns : List Column) (runs others : List Run) → AreAllAlike runs others → flat_map (run_sums of columns) runs ≡ flat_map (run_sums of columns) others
 sums-alike of columns [] [] alike = refl
@@ -117,6 +117,6 @@ pub table_of-alike : TablesFollowFromActs
 table_of-alike of columns runs others alike = λ i. record {
   of = of;
   columns = columns;
-  head = heads_together (heads-alike runs others alike i);
+  counts = counts_together (counts-alike runs others alike i);
   rows = rows_of (sums-alike of columns runs others alike i);
 }

@@ -3,12 +3,12 @@ use Rattle.std.specs.Prelude.{◌≡◌, ℕ, List, [], ◌∷◌, ◌++◌, map
 use Rattle.std.specs.List.Sorted.{IsPermutation}
 use Rattle.span_keyed_tracks.specs.Keyed.{Keyed}
 use Rattle.span_table.specs.declared.column.Column.{Column}
-use Rattle.span_table.specs.declared.heads.Head.{Head}
+use Rattle.span_table.specs.declared.counts.TableCounts.{TableCounts}
 use Rattle.span_table.specs.declared.of.Of.{Of}
 use Rattle.span_table.specs.declared.sums.Sums.{Sums}
 use Rattle.span_table.specs.declared.table.Row.{Row}
 use Rattle.span_table.specs.Keys.{TableKey}
-use Rattle.span_table.specs.Tables.{KeyedSums, Run, SpanTable, heads_together, rows_of, table_of}
+use Rattle.span_table.specs.Tables.{KeyedSums, Run, SpanTable, counts_together, rows_of, table_of}
 
 -- the sums of a row, under its key
 abbrev pub keyed_row : Row → Keyed TableKey Sums
@@ -17,22 +17,22 @@ keyed_row row = record { key = row.key; step = row.sums }
 abbrev pub keyed_rows : List Row → KeyedSums
 keyed_rows rows = map keyed_row rows
 
--- tables of the same columns, that sum the same, added: heads added, and for each key that one of them has its sums
+-- tables of the same columns, that sum the same, added: counts added, and for each key that one of them has its sums
 abbrev pub add_tables : Of → List Column → List SpanTable → SpanTable
 add_tables of columns tables = record {
   of = of;
   columns = columns;
-  head = heads_together (map (λ (table : SpanTable). table.head) tables);
+  counts = counts_together (map (λ (table : SpanTable). table.counts) tables);
   rows = rows_of (flat_map (λ (table : SpanTable). keyed_rows table.rows) tables);
 }
 
--- a table with the head of another added, and none of its rows
-abbrev pub with_head : SpanTable → Head → SpanTable
-with_head table head = record { of = table.of; columns = table.columns; head = heads_together (table.head ∷ head ∷ []); rows = table.rows }
+-- a table with the counts of another added, and none of its rows
+abbrev pub with_counts : SpanTable → TableCounts → SpanTable
+with_counts table counts = record { of = table.of; columns = table.columns; counts = counts_together (table.counts ∷ counts ∷ []); rows = table.rows }
 
 -- a table with a row of another added
 abbrev pub with_row : SpanTable → Row → SpanTable
-with_row table row = record { of = table.of; columns = table.columns; head = table.head; rows = rows_of (keyed_rows table.rows ++ keyed_row row ∷ []) }
+with_row table row = record { of = table.of; columns = table.columns; counts = table.counts; rows = rows_of (keyed_rows table.rows ++ keyed_row row ∷ []) }
 
 -- a table with a run added
 abbrev pub with_run : SpanTable → Run → SpanTable
@@ -64,7 +64,7 @@ keyed_by places row = record { key = picked places row.key; step = row.sums }
 
 -- a table with fewer columns, or in another order: rows whose keys are then the same are added
 abbrev pub with_columns : List ℕ → SpanTable → SpanTable
-with_columns places table = record { of = table.of; columns = picked places table.columns; head = table.head; rows = rows_of (map (keyed_by places) table.rows) }
+with_columns places table = record { of = table.of; columns = picked places table.columns; counts = table.counts; rows = rows_of (map (keyed_by places) table.rows) }
 
 -- a table by fewer columns is the table by more, with the others dropped
 abbrev pub DroppingAdds : Type 0

@@ -1,7 +1,7 @@
 pub mod Adding
 pub mod Collected
 pub mod Columns
-pub mod Heads
+pub mod Counts
 pub mod Kept
 pub mod KeyLaws
 pub mod KeyWrites

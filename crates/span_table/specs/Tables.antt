@@ -13,7 +13,7 @@ use Rattle.span_table.specs.declared.column.Column.{Column}
 use Rattle.span_table.specs.declared.of.Of.{Of}
 use Rattle.span_table.specs.declared.of.Of.TheVariants.{Spans, Async}
 use Rattle.span_table.specs.declared.sums.Sums.{Sums}
-use Rattle.span_table.specs.declared.heads.Head.{Head}
+use Rattle.span_table.specs.declared.counts.TableCounts.{TableCounts}
 use Rattle.span_table.specs.declared.table.Row.{Row}
 use Rattle.span_table.specs.Columns.{async_value_at, value_at}
 pub use Rattle.span_table.specs.Columns.{Run}
@@ -84,9 +84,9 @@ rows_of sums = map row_of (summed sums)
 abbrev pub RowsRise : List Row → Type 0
 RowsRise rows = IsStrictlySortedBy (λ (a b : Row). key_cmp a.key b.key) rows
 
--- the counts of runs added
-abbrev pub counts_together : List CountRow → CountRow
-counts_together rows = record {
+-- the counts of the entries of runs added
+abbrev pub entry_counts_together : List CountRow → CountRow
+entry_counts_together rows = record {
   accepted = sum_by (λ (row : CountRow). row.accepted) rows;
   refused = sum_by (λ (row : CountRow). row.refused) rows;
   skipped = sum_by (λ (row : CountRow). row.skipped) rows;
@@ -94,24 +94,24 @@ counts_together rows = record {
   seals = sum_by (λ (row : CountRow). row.seals) rows;
 }
 
--- heads added
-abbrev pub heads_together : List Head → Head
-heads_together heads = record {
-  runs = sum_by (λ (head : Head). head.runs) heads;
-  files = sum_by (λ (head : Head). head.files) heads;
-  unread = sum_by (λ (head : Head). head.unread) heads;
-  counts = counts_together (map (λ (head : Head). head.counts) heads);
+-- the counts of tables added
+abbrev pub counts_together : List TableCounts → TableCounts
+counts_together all = record {
+  runs = sum_by (λ (counts : TableCounts). counts.runs) all;
+  files = sum_by (λ (counts : TableCounts). counts.files) all;
+  unread = sum_by (λ (counts : TableCounts). counts.unread) all;
+  entries = entry_counts_together (map (λ (counts : TableCounts). counts.entries) all);
 }
 
--- the head of one run
-abbrev pub head_of : Run → Head
-head_of run = record { runs = 1; files = run.files; unread = run.unread; counts = count_row run.journal }
+-- the counts of one run
+abbrev pub counts_of : Run → TableCounts
+counts_of run = record { runs = 1; files = run.files; unread = run.unread; entries = count_row run.journal }
 
 -- spans summed by columns
 pub record SpanTable : Type 0 where
   pub of : Of
   pub columns : List Column
-  pub head : Head
+  pub counts : TableCounts
   pub rows : List Row
 
 -- the table of some runs by columns
@@ -119,6 +119,6 @@ abbrev pub table_of : Of → List Column → List Run → SpanTable
 table_of of columns runs = record {
   of = of;
   columns = columns;
-  head = heads_together (map head_of runs);
+  counts = counts_together (map counts_of runs);
   rows = rows_of (flat_map (run_sums of columns) runs);
 }

@@ -1,13 +1,13 @@
 //! Tables that are added as their rows come.
 ghost use Rattle.std.specs.Prelude.{◌≡◌, ◌+◌, ◌^◌, ◌≤◌, [], true, IfErr, IfOk, OnErr, OnOk};
 ghost use Rattle.span_table.specs.declared.table_sum.SumFault.TheVariants.{TooMany};
-ghost use Rattle.span_table.specs.Adding.{add_tables, with_head, with_row};
-ghost use Rattle.span_table.specs.Heads.{head_fits};
+ghost use Rattle.span_table.specs.Adding.{add_tables, with_counts, with_row};
+ghost use Rattle.span_table.specs.Counts.{counts_fit};
 ghost use Rattle.span_table.specs.Sums.{fit};
 
 use crate::column::{Column, copies_of};
+use crate::counts::TableCounts;
 use crate::groups::Groups;
-use crate::heads::Head;
 use crate::of::Of;
 use crate::table::{Row, Table, table_of_groups};
 use crate::table_sum::SumFault;
@@ -15,18 +15,18 @@ use span_names::HashKeys;
 use std::alloc::{AllocError, Global};
 use std::marker::Model;
 
-// A sum has fewer heads than this, so that no number of it is too great.
-const HEADS: u64 = 1 << 32;
+// A sum has fewer tables than this, so that no number of it is too great.
+const TABLES: u64 = 1 << 32;
 
 /// The sum of tables of the same by the same columns. A row costs a look-up, however many there were before.
 #[derive(Drop)]
 pub struct Addition {
     of: Of,
     columns: Vec<Column>,
-    head: Head,
+    counts: TableCounts,
     groups: Groups,
-    // How many heads and how many rows were added.
-    heads: u64,
+    // Of how many tables the counts were added, and how many rows.
+    tables: u64,
     rows: u64,
 }
 
@@ -37,9 +37,9 @@ impl Model for Addition {
 
     ghost Value = { SpanTable };
 
-    ghost view = { λ s. record { of = s.of; columns = s.columns.items; head = s.head; rows = map row_of s.groups } };
+    ghost view = { λ s. record { of = s.of; columns = s.columns.items; counts = s.counts; rows = map row_of s.groups } };
 
-    ghost invariant = { λ s. IsAdded s.heads s.rows s.head s.groups };
+    ghost invariant = { λ s. IsAdded s.tables s.rows s.counts s.groups };
 }
 
 impl Addition {
@@ -55,9 +55,9 @@ impl Addition {
         Ok(Addition {
             of,
             columns: copies_of(alloc, columns)?,
-            head: Head::of_none(),
+            counts: TableCounts::of_none(),
             groups: Groups::new(alloc, keys),
-            heads: 0,
+            tables: 0,
             rows: 0,
         })
     }
@@ -68,30 +68,30 @@ impl Addition {
         &self.columns
     }
 
-    /// With the head of a table. Fewer than 2^32 of them are added.
-    pub fn add_head(self, head: &Head) -> Result<Addition, SumFault>
-        requires { head_fits head.now ≡ true }
-        ensures added { IfOk result (λ sum. sum ≡ with_head self head.now) }
+    /// With the counts of a table. Those of fewer than 2^32 tables are added.
+    pub fn add_counts(self, counts: &TableCounts) -> Result<Addition, SumFault>
+        requires { counts_fit counts.now ≡ true }
+        ensures added { IfOk result (λ sum. sum ≡ with_counts self counts.now) }
         ensures fault { IfErr result (λ fault. fault ≡ TooMany) }
     {
-        if self.heads + 1 >= HEADS {
+        if self.tables + 1 >= TABLES {
             return Err(SumFault::TooMany);
         }
         let Addition {
             of,
             columns,
-            head: mut sum,
+            counts: mut sum,
             groups,
-            heads,
+            tables,
             rows,
         } = self;
-        sum.add(head);
+        sum.add(counts);
         Ok(Addition {
             of,
             columns,
-            head: sum,
+            counts: sum,
             groups,
-            heads: heads + 1,
+            tables: tables + 1,
             rows,
         })
     }
@@ -121,10 +121,10 @@ impl Addition {
         let Addition {
             of,
             columns,
-            head,
+            counts,
             groups,
             ..
         } = self;
-        table_of_groups(of, columns, head, groups)
+        table_of_groups(of, columns, counts, groups)
     }
 }

@@ -4,8 +4,8 @@
 mod addition;
 mod collected;
 mod column;
+mod counts;
 mod groups;
-mod heads;
 mod key;
 pub mod laws;
 mod of;
@@ -18,7 +18,7 @@ mod table_sum;
 
 pub use addition::Addition;
 pub use column::{Column, copies_of};
-pub use heads::{Head, HeadCounts, head_fits};
+pub use counts::{EntryCounts, TableCounts, counts_fit};
 pub use key::Key;
 pub use of::Of;
 pub use row_search::{row_at, sums_at};

@@ -1,13 +1,13 @@
 //! A table of spans.
 ghost use Rattle.std.specs.Prelude.{◌≡◌, ◌^◌, ◌∷◌, [], map, option_copied, IfOk};
 ghost use Rattle.span_table.specs.Columns.{run_of};
-ghost use Rattle.span_table.specs.Heads.{IsHeadWithin};
+ghost use Rattle.span_table.specs.Counts.{AreCountsWithin};
 ghost use Rattle.span_table.specs.Kept.{IsTabled};
 ghost use Rattle.span_table.specs.Tables.{RowsRise, row_of, table_of};
 
 use crate::column::Column;
+use crate::counts::TableCounts;
 use crate::groups::Groups;
-use crate::heads::Head;
 use crate::key::Key;
 use crate::of::Of;
 use crate::run::LedgerRun;
@@ -31,7 +31,7 @@ pub struct Row {
 pub struct Table {
     of: Of,
     columns: Vec<Column>,
-    head: Head,
+    counts: TableCounts,
     rows: Vec<Row>,
 }
 
@@ -41,9 +41,9 @@ impl Model for Table {
 
     ghost Value = { SpanTable };
 
-    ghost view = { λ t. record { of = t.of; columns = t.columns.items; head = t.head; rows = t.rows.items } };
+    ghost view = { λ t. record { of = t.of; columns = t.columns.items; counts = t.counts; rows = t.rows.items } };
 
-    ghost invariant = { λ t. IsTabled t.head t.rows.items };
+    ghost invariant = { λ t. IsTabled t.counts t.rows.items };
 }
 
 impl Table {
@@ -72,15 +72,20 @@ impl Table {
         sum.with_run(&run)?.into_table()
     }
 
-    pub(crate) fn from_rows(of: Of, columns: Vec<Column>, head: Head, rows: Vec<Row>) -> Table
-        requires { IsTabled head rows.items }
+    pub(crate) fn from_rows(
+        of: Of,
+        columns: Vec<Column>,
+        counts: TableCounts,
+        rows: Vec<Row>,
+    ) -> Table
+        requires { IsTabled counts rows.items }
         ensures { result
-            ≡ record { of = of; columns = columns.items; head = head; rows = rows.items } }
+            ≡ record { of = of; columns = columns.items; counts = counts; rows = rows.items } }
     {
         Table {
             of,
             columns,
-            head,
+            counts,
             rows,
         }
     }
@@ -98,11 +103,11 @@ impl Table {
         &self.columns
     }
 
-    pub fn head(&self) -> Head
-        ensures value { result ≡ self.now.head }
-        ensures bound { IsHeadWithin (2 ^ 96) self.now.head }
+    pub fn counts(&self) -> TableCounts
+        ensures value { result ≡ self.now.counts }
+        ensures bound { AreCountsWithin (2 ^ 96) self.now.counts }
     {
-        self.head
+        self.counts
     }
 
     /// In ascending order of keys.
@@ -118,16 +123,16 @@ impl Table {
 pub(crate) fn table_of_groups(
     of: Of,
     columns: Vec<Column>,
-    head: Head,
+    counts: TableCounts,
     groups: Groups,
 ) -> Result<Table, AllocError>
-    requires { IsTabled head (map row_of groups) }
+    requires { IsTabled counts (map row_of groups) }
     ensures { IfOk result (λ table. table
-        ≡ record { of = of; columns = columns.items; head = head; rows = map row_of groups }) }
+        ≡ record { of = of; columns = columns.items; counts = counts; rows = map row_of groups }) }
 {
     let alloc = groups.allocator();
     let rows = rows_of(alloc, groups.into_entries()?)?;
-    Ok(Table::from_rows(of, columns, head, rows))
+    Ok(Table::from_rows(of, columns, counts, rows))
 }
 
 // The rows of keys with their sums.

@@ -7,8 +7,8 @@ ghost use Rattle.span_table.specs.Tables.{table_of};
 
 use crate::collected::{add_entries, add_run};
 use crate::column::{Column, copies_of};
+use crate::counts::TableCounts;
 use crate::groups::Groups;
-use crate::heads::Head;
 use crate::of::Of;
 use crate::run::LedgerRun;
 use crate::table::{Table, table_of_groups};
@@ -35,7 +35,7 @@ pub enum SumFault {
 pub struct TableSum {
     of: Of,
     columns: Vec<Column>,
-    head: Head,
+    counts: TableCounts,
     groups: Groups,
 }
 
@@ -46,9 +46,9 @@ impl Model for TableSum {
 
     ghost Value = { SpanTable };
 
-    ghost view = { λ s. record { of = s.of; columns = s.columns.items; head = s.head; rows = map row_of s.groups } };
+    ghost view = { λ s. record { of = s.of; columns = s.columns.items; counts = s.counts; rows = map row_of s.groups } };
 
-    ghost invariant = { λ s. IsKept s.head s.groups };
+    ghost invariant = { λ s. IsKept s.counts s.groups };
 }
 
 impl TableSum {
@@ -64,7 +64,7 @@ impl TableSum {
         Ok(TableSum {
             of,
             columns: copies_of(alloc, columns)?,
-            head: Head::of_none(),
+            counts: TableCounts::of_none(),
             groups: Groups::new(alloc, keys),
         })
     }
@@ -82,10 +82,10 @@ impl TableSum {
             ≡ with_run self (run_of ledger.now.journal files unread (option_copied file.entry))) }
         ensures runs { IfOk result (λ sum. TakesRuns self
             (run_of ledger.now.journal files unread (option_copied file.entry) ∷ []) sum) }
-        ensures few { OnOk result (self.head.runs + 1 < 2 ^ 32) }
-        ensures too_many { IfErr result (λ fault. fault ≡ TooMany → 2 ^ 32 ≤ self.head.runs + 1) }
+        ensures few { OnOk result (self.counts.runs + 1 < 2 ^ 32) }
+        ensures too_many { IfErr result (λ fault. fault ≡ TooMany → 2 ^ 32 ≤ self.counts.runs + 1) }
     {
-        if self.head.runs + 1 >= RUNS {
+        if self.counts.runs + 1 >= RUNS {
             return Err(SumFault::TooMany);
         }
         let run = LedgerRun {
@@ -102,22 +102,22 @@ impl TableSum {
 
     /// With a run, where it is one of fewer than 2^32.
     pub(crate) fn with_run(self, run: &LedgerRun) -> Result<TableSum, AllocError>
-        requires { self.head.runs + 1 < 2 ^ 32 }
+        requires { self.counts.runs + 1 < 2 ^ 32 }
         ensures { IfOk result (λ sum. sum ≡ with_run self run.now) }
     {
         let TableSum {
             of,
             columns,
-            mut head,
+            mut counts,
             mut groups,
         } = self;
         let alloc = groups.allocator();
         add_run(alloc, &mut groups, run, of, &columns)?;
-        head.add(&Head::of(run));
+        counts.add(&TableCounts::of(run));
         Ok(TableSum {
             of,
             columns,
-            head,
+            counts,
             groups,
         })
     }
@@ -127,11 +127,11 @@ impl TableSum {
         ensures added { IfOk result (λ sum.
             sum ≡ add_tables self.of self.columns (self ∷ other ∷ [])) }
         ensures runs { IfOk result (λ sum. JoinsRuns self other sum) }
-        ensures few { OnOk result (self.head.runs + other.head.runs < 2 ^ 32) }
+        ensures few { OnOk result (self.counts.runs + other.counts.runs < 2 ^ 32) }
         ensures too_many { IfErr result (λ fault. fault ≡ TooMany
-            → 2 ^ 32 ≤ self.head.runs + other.head.runs) }
+            → 2 ^ 32 ≤ self.counts.runs + other.counts.runs) }
     {
-        if self.head.runs + other.head.runs >= RUNS {
+        if self.counts.runs + other.counts.runs >= RUNS {
             return Err(SumFault::TooMany);
         }
         match self.joined(other) {
@@ -141,27 +141,27 @@ impl TableSum {
     }
 
     fn joined(self, other: TableSum) -> Result<TableSum, AllocError>
-        requires { self.head.runs + other.head.runs < 2 ^ 32 }
+        requires { self.counts.runs + other.counts.runs < 2 ^ 32 }
         ensures { IfOk result (λ sum. sum ≡ add_tables self.of self.columns (self ∷ other ∷ [])) }
     {
         let TableSum {
             of,
             columns,
-            mut head,
+            mut counts,
             mut groups,
         } = self;
         let TableSum {
             of: _,
             columns: _,
-            head: more,
+            counts: more,
             groups: others,
         } = other;
         add_entries(&mut groups, others.into_entries()?)?;
-        head.add(&more);
+        counts.add(&more);
         Ok(TableSum {
             of,
             columns,
-            head,
+            counts,
             groups,
         })
     }
@@ -173,9 +173,9 @@ impl TableSum {
         let TableSum {
             of,
             columns,
-            head,
+            counts,
             groups,
         } = self;
-        table_of_groups(of, columns, head, groups)
+        table_of_groups(of, columns, counts, groups)
     }
 }

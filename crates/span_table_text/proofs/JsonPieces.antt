@@ -4,12 +4,12 @@ use Rattle.std.specs.Prelude.{codes, decimal}
 use Rattle.span_event.specs.Text.{Bytes}
 use Rattle.span_event.specs.declared.unit.Unit.{Unit}
 use Rattle.span_table.specs.declared.column.Column.{Column}
-use Rattle.span_table.specs.declared.heads.Head.{Head}
+use Rattle.span_table.specs.declared.counts.TableCounts.{TableCounts}
 use Rattle.span_table.specs.declared.of.Of.{Of}
 use Rattle.span_table.specs.declared.of.Of.TheVariants.{Spans, Async}
 use Rattle.span_table.specs.declared.table.Row.{Row}
-use Rattle.span_table_text.specs.Json.{columns_json, head_members, json_head, json_line, member_of, number_member, sums_members, value_member, value_members, version_member, with_commas}
-use Rattle.span_table_text.specs.JsonPieces.{count_text, end_text, events_text, files_text, head_text, others_text, members_text, start_text, sums_text}
+use Rattle.span_table_text.specs.Json.{columns_json, counts_members, json_head, json_line, member_of, number_member, sums_members, value_member, value_members, version_member, with_commas}
+use Rattle.span_table_text.specs.JsonPieces.{count_text, end_text, events_text, files_text, counts_text, others_text, members_text, start_text, sums_text}
 use Rattle.span_table.specs.Keys.{TableKey}
 
 -- the members of a key, and then some more
@@ -40,9 +40,9 @@ json_line_pieces Async columns row =
     (number_member (codes "total") row.sums.total ∷ number_member (codes "open") row.sums.unclosed ∷ number_member (codes "points") row.sums.points ∷ []))
     ∙ ended (members_text columns row.key) (with_commas (sums_members Async row.sums))
 
-pub head_members-text : (head : Head) → with_commas (head_members head) ≡ head_text head
+pub counts_members-text : (counts : TableCounts) → with_commas (counts_members counts) ≡ counts_text counts
 unfolding files_text events_text others_text
-head_members-text head = simp append_assoc refl
+counts_members-text counts = simp append_assoc refl
 
 three-then : (a b c d : Bytes) → 123 ∷ ((a ++ 44 ∷ (b ++ 44 ∷ (c ++ 44 ∷ d))) ++ 125 ∷ []) ++ 10 ∷ [] ≡ 123 ∷ (a ++ 44 ∷ (b ++ 44 ∷ (c ++ 44 ∷ (d ++ 125 ∷ 10 ∷ []))))
 three-then a b c d = simp append_assoc refl
@@ -52,9 +52,9 @@ unfolding start_text end_text
 columns-then of unit c n h = simp append_assoc refl
 
 -- the first line, from its pieces
-pub json_head_pieces : (of : Of) (unit : Unit) (columns : List Column) (rows : ℕ) (head : Head) → json_head of unit columns rows head ≡ start_text of unit ++ (columns_json columns ++ (count_text rows ++ (head_text head ++ end_text)))
+pub json_head_pieces : (of : Of) (unit : Unit) (columns : List Column) (rows : ℕ) (counts : TableCounts) → json_head of unit columns rows counts ≡ start_text of unit ++ (columns_json columns ++ (count_text rows ++ (counts_text counts ++ end_text)))
 unfolding json_head count_text
-json_head_pieces of unit columns rows head =
-    three-then (version_member of unit) (member_of (codes "columns") (columns_json columns)) (number_member (codes "rows") rows) (with_commas (head_members head))
-    ∙ ap (λ h. 123 ∷ (version_member of unit ++ 44 ∷ (member_of (codes "columns") (columns_json columns) ++ 44 ∷ (number_member (codes "rows") rows ++ 44 ∷ (h ++ 125 ∷ 10 ∷ []))))) (head_members-text head)
-    ∙ columns-then of unit (columns_json columns) (decimal rows) (head_text head)
+json_head_pieces of unit columns rows counts =
+    three-then (version_member of unit) (member_of (codes "columns") (columns_json columns)) (number_member (codes "rows") rows) (with_commas (counts_members counts))
+    ∙ ap (λ h. 123 ∷ (version_member of unit ++ 44 ∷ (member_of (codes "columns") (columns_json columns) ++ 44 ∷ (number_member (codes "rows") rows ++ 44 ∷ (h ++ 125 ∷ 10 ∷ []))))) (counts_members-text counts)
+    ∙ columns-then of unit (columns_json columns) (decimal rows) (counts_text counts)

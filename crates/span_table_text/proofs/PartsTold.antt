@@ -12,13 +12,13 @@ use Rattle.span_event.specs.declared.unit.Unit.{Unit}
 use Rattle.span_event.specs.declared.unit.Unit.TheVariants.{Microseconds, Nanoseconds}
 use Rattle.span_table.specs.declared.column.Column.{Column}
 use Rattle.span_table.specs.declared.column.Column.TheVariants.{Pid, Tid, Process, Thread, Name, File, Cat, Scope, Id, Argument}
-use Rattle.span_table.specs.declared.heads.Head.{Head}
+use Rattle.span_table.specs.declared.counts.TableCounts.{TableCounts}
 use Rattle.span_table.specs.declared.of.Of.{Of}
 use Rattle.span_table.specs.declared.of.Of.TheVariants.{Spans, Async}
 use Rattle.span_table.specs.declared.sums.Sums.{Sums}
 use Rattle.span_table.specs.declared.table.Row.{Row}
 use Rattle.span_table.specs.Columns.{column_name}
-use Rattle.span_table.specs.Heads.{head_fits}
+use Rattle.span_table.specs.Counts.{counts_fit}
 use Rattle.span_table.specs.Sums.{fit}
 use Rattle.span_table_text.specs.Json.{json_line, text_of}
 use Rattle.span_table.specs.Keys.{TableKey}
@@ -27,7 +27,7 @@ use Rattle.span_table.specs.Tables.{SpanTable}
 use Rattle.span_table_text.specs.Tokens.{columns_tokens, head_tokens, key_tokens, name_tokens, numbers_tokens, of_tokens, row_tokens, sums_tokens, unit_tokens, value_tokens}
 use Rattle.span_table_text.proofs.Printed.{json_head-print, json_line-print}
 use Rattle.span_table.proofs.Summing.{sums_small}
-use Rattle.span_table_text.proofs.PrintedLines.{AreSmall, IsLine, IsRowOf-told, IsTold, IsToldKey, head_small, numbers_fit-each, print_head-IsLine, print_row-IsLine, tokens-head, tokens-row}
+use Rattle.span_table_text.proofs.PrintedLines.{AreSmall, IsLine, IsRowOf-told, IsTold, IsToldKey, counts_small, numbers_fit-each, print_head-IsLine, print_row-IsLine, tokens-head, tokens-row}
 
 -- two texts are the same if their first lines are, and what follows these
 line-told : (a b r s : Bytes) → IsLine a → IsLine b → a ++ 10 ∷ r ≡ b ++ 10 ∷ s → (a ≡ b) × (r ≡ s)
@@ -207,24 +207,24 @@ rows-with of second columns more rows others o p d h k l e =
     let told = subst (λ c. All (IsTold of c) others) (sym p) (subst (λ s. All (IsTold s more) others) (sym o) k) in
     rows-told of columns rows others d h told l (e ∙ (λ i. flat_map (json_line (sym o i) (sym p i)) others))
 
-numbers-told : (rows more : ℕ) (head other : Head) → rows < 2 ^ 64 → more < 2 ^ 64 → AreSmall head → AreSmall other
-    → numbers_tokens rows head ++ end_object ∷ [] ≡ numbers_tokens more other ++ end_object ∷ [] → (rows ≡ more) × (head ≡ other)
-numbers-told rows more head other few little small low e =
+numbers-told : (rows more : ℕ) (counts other : TableCounts) → rows < 2 ^ 64 → more < 2 ^ 64 → AreSmall counts → AreSmall other
+    → numbers_tokens rows counts ++ end_object ∷ [] ≡ numbers_tokens more other ++ end_object ∷ [] → (rows ≡ more) × (counts ≡ other)
+numbers-told rows more counts other few little small low e =
     let count : rows ≡ more = decimal_injective rows more few little (cc e) in
-    let runs : head.runs ≡ other.runs = decimal_injective _ _ small.runs low.runs (cc e) in
-    let files : head.files ≡ other.files = decimal_injective _ _ small.files low.files (cc e) in
-    let unread : head.unread ≡ other.unread = decimal_injective _ _ small.unread low.unread (cc e) in
-    let accepted : head.counts.accepted ≡ other.counts.accepted = decimal_injective _ _ small.accepted low.accepted (cc e) in
-    let refused : head.counts.refused ≡ other.counts.refused = decimal_injective _ _ small.refused low.refused (cc e) in
-    let skipped : head.counts.skipped ≡ other.counts.skipped = decimal_injective _ _ small.skipped low.skipped (cc e) in
-    let queries : head.counts.queries ≡ other.counts.queries = decimal_injective _ _ small.queries low.queries (cc e) in
-    let seals : head.counts.seals ≡ other.counts.seals = decimal_injective _ _ small.seals low.seals (cc e) in (
+    let runs : counts.runs ≡ other.runs = decimal_injective _ _ small.runs low.runs (cc e) in
+    let files : counts.files ≡ other.files = decimal_injective _ _ small.files low.files (cc e) in
+    let unread : counts.unread ≡ other.unread = decimal_injective _ _ small.unread low.unread (cc e) in
+    let accepted : counts.entries.accepted ≡ other.entries.accepted = decimal_injective _ _ small.accepted low.accepted (cc e) in
+    let refused : counts.entries.refused ≡ other.entries.refused = decimal_injective _ _ small.refused low.refused (cc e) in
+    let skipped : counts.entries.skipped ≡ other.entries.skipped = decimal_injective _ _ small.skipped low.skipped (cc e) in
+    let queries : counts.entries.queries ≡ other.entries.queries = decimal_injective _ _ small.queries low.queries (cc e) in
+    let seals : counts.entries.seals ≡ other.entries.seals = decimal_injective _ _ small.seals low.seals (cc e) in (
       count,
       λ i. record {
         runs = runs i;
         files = files i;
         unread = unread i;
-        counts = record { accepted = accepted i; refused = refused i; skipped = skipped i; queries = queries i; seals = seals i };
+        entries = record { accepted = accepted i; refused = refused i; skipped = skipped i; queries = queries i; seals = seals i };
       },
     )
 
@@ -244,15 +244,15 @@ unit-told Nanoseconds Microseconds ts us e = let same : codes "unit" ≡ codes "
 unit-told Nanoseconds Nanoseconds ts us e = (refl, ap (drop 3) e)
 
 -- the first line, and what follows it
-head-first : (unit : Unit) (table : SpanTable) → text_of unit table ≡ print (head_tokens table.of unit table.columns (length table.rows) table.head) ++ 10 ∷ flat_map (json_line table.of table.columns) table.rows
+head-first : (unit : Unit) (table : SpanTable) → text_of unit table ≡ print (head_tokens table.of unit table.columns (length table.rows) table.counts) ++ 10 ∷ flat_map (json_line table.of table.columns) table.rows
 head-first unit table =
     let rest = flat_map (json_line table.of table.columns) table.rows in
-    ap (λ l. l ++ rest) (json_head-print table.of unit table.columns (length table.rows) table.head)
-    ∙ append_assoc (print (head_tokens table.of unit table.columns (length table.rows) table.head)) (10 ∷ []) rest
+    ap (λ l. l ++ rest) (json_head-print table.of unit table.columns (length table.rows) table.counts)
+    ∙ append_assoc (print (head_tokens table.of unit table.columns (length table.rows) table.counts)) (10 ∷ []) rest
 
 -- a table that its text tells
 record IsToldTable (table : SpanTable) : Type 0 where
-  pub head : head_fits table.head ≡ true
+  pub counts : counts_fit table.counts ≡ true
   pub few : length table.rows < 2 ^ 64
   pub rows : All (IsTold table.of table.columns) table.rows
 
@@ -261,22 +261,22 @@ tables-told : (unit second : Unit) (one other : SpanTable) → AreDistinct (map 
 tables-told unit second one other distinct is its e =
     let many = length one.rows in
     let more = length other.rows in
-    let lines = line-told (print (head_tokens one.of unit one.columns many one.head)) (print (head_tokens other.of second other.columns more other.head))
+    let lines = line-told (print (head_tokens one.of unit one.columns many one.counts)) (print (head_tokens other.of second other.columns more other.counts))
     (flat_map (json_line one.of one.columns) one.rows) (flat_map (json_line other.of other.columns) other.rows)
-    (print_head-IsLine one.of unit one.columns many one.head is.few is.head) (print_head-IsLine other.of second other.columns more other.head its.few its.head)
+    (print_head-IsLine one.of unit one.columns many one.counts is.few is.counts) (print_head-IsLine other.of second other.columns more other.counts its.few its.counts)
     (sym (head-first unit one) ∙ e ∙ head-first second other) in
-    let heads = sym (tokens-head one.of unit one.columns many one.head is.few is.head) ∙ ap tokens lines.0 ∙ tokens-head other.of second other.columns more other.head its.few its.head in
-    let mine = drop 1 (columns_tokens one.columns many one.head) in
-    let theirs = drop 1 (columns_tokens other.columns more other.head) in
+    let heads = sym (tokens-head one.of unit one.columns many one.counts is.few is.counts) ∙ ap tokens lines.0 ∙ tokens-head other.of second other.columns more other.counts its.few its.counts in
+    let mine = drop 1 (columns_tokens one.columns many one.counts) in
+    let theirs = drop 1 (columns_tokens other.columns more other.counts) in
     let kinds = of-told one.of other.of unit second mine theirs (ap (drop 3) heads) in
     let units = unit-told unit second mine theirs kinds.1 in
-    let columns = names-told one.columns other.columns (numbers_tokens many one.head ++ end_object ∷ []) (numbers_tokens more other.head ++ end_object ∷ []) (ap (drop 1) units.1) in
-    let numbers = numbers-told many more one.head other.head is.few its.few (head_small one.head is.head) (head_small other.head its.head) columns.1 in
+    let columns = names-told one.columns other.columns (numbers_tokens many one.counts ++ end_object ∷ []) (numbers_tokens more other.counts ++ end_object ∷ []) (ap (drop 1) units.1) in
+    let numbers = numbers-told many more one.counts other.counts is.few its.few (counts_small one.counts is.counts) (counts_small other.counts its.counts) columns.1 in
     let rows = rows-with one.of other.of one.columns other.columns one.rows other.rows kinds.0 columns.0 distinct is.rows its.rows numbers.0 lines.1 in
-    (units.0, λ i. record { of = kinds.0 i; columns = columns.0 i; head = numbers.1 i; rows = rows i })
+    (units.0, λ i. record { of = kinds.0 i; columns = columns.0 i; counts = numbers.1 i; rows = rows i })
 
 part-told : (table : SpanTable) → IsTable table → IsToldTable table
-part-told table is = record { head = is.head; few = is.few; rows = All-weaker (IsRowOf table.of table.columns) (IsTold table.of table.columns) (IsRowOf-told table.of table.columns) table.rows is.rows }
+part-told table is = record { counts = is.counts; few = is.few; rows = All-weaker (IsRowOf table.of table.columns) (IsTold table.of table.columns) (IsRowOf-told table.of table.columns) table.rows is.rows }
 
 -- each key of the table has a value for each column
 abbrev pub HasWholeKeys : SpanTable → Type 0
@@ -289,7 +289,7 @@ HasOwnNumbers table = All (λ row. HasOwn table.of row.sums) table.rows
 print-told : (table : SpanTable) → AllFit table → HasWholeKeys table → HasOwnNumbers table → IsToldTable table
 print-told table fits whole own =
     let numbers = numbers_fit-each table fits.numbers in
-    record { head = numbers.0; few = fits.few; rows = λ k d low. record { key = (whole k d low, fits.keys k d low); own = own k d low; sums = numbers.1 k d low } }
+    record { counts = numbers.0; few = fits.few; rows = λ k d low. record { key = (whole k d low, fits.keys k d low); own = own k d low; sums = numbers.1 k d low } }
 
 -- a table that was read of the text that is printed of another is this one
 pub prints-told : (unit second : Unit) (text : Bytes) (part table : SpanTable) → IsPart unit text part → IsPrint second text table → HasWholeKeys table → HasOwnNumbers table → (unit ≡ second) × (part ≡ table)

@@ -9,7 +9,7 @@ use Rattle.span_event.specs.declared.unit.Unit.{Unit}
 use Rattle.span_event.specs.declared.unit.Unit.TheVariants.{Microseconds, Nanoseconds}
 use Rattle.span_report.specs.Lines.{json_text_of}
 use Rattle.span_table.specs.declared.column.Column.{Column}
-use Rattle.span_table.specs.declared.heads.Head.{Head}
+use Rattle.span_table.specs.declared.counts.TableCounts.{TableCounts}
 use Rattle.span_table.specs.declared.of.Of.{Of}
 use Rattle.span_table.specs.declared.of.Of.TheVariants.{Spans, Async}
 use Rattle.span_table.specs.declared.sums.Sums.{Sums}
@@ -17,7 +17,7 @@ use Rattle.span_table.specs.declared.table.Row.{Row}
 use Rattle.span_table.specs.Columns.{column_name}
 use Rattle.span_table_text.specs.Json.{column_json, json_head, json_line, of_member, unit_member, with_commas}
 use Rattle.span_table_text.specs.Lines.{value_json}
-use Rattle.span_table_text.specs.JsonPieces.{count_text, end_text, events_text, files_text, head_text, members_text, others_text, start_text, sums_text}
+use Rattle.span_table_text.specs.JsonPieces.{count_text, counts_text, end_text, events_text, files_text, members_text, others_text, start_text, sums_text}
 use Rattle.span_table.specs.Keys.{TableKey}
 use Rattle.span_table_text.specs.Tokens.{head_tokens, key_tokens, name_tokens, numbers_tokens, of_tokens, row_tokens, sums_tokens, unit_tokens, value_tokens}
 use Rattle.span_table_text.proofs.JsonPieces.{json_head_pieces, json_line_pieces}
@@ -92,9 +92,9 @@ names-print (column ∷ next ∷ columns) ts =
     ap (λ l. quoted (column_name column) ++ 44 ∷ l) (names-print (next ∷ columns) ts)
     ∙ sym (append_assoc (quoted (column_name column)) (44 ∷ with_commas (map column_json (next ∷ columns))) (93 ∷ print_from true ts))
 
-numbers-print : (rows : ℕ) (head : Head) → print_from true (numbers_tokens rows head ++ end_object ∷ []) ++ 10 ∷ [] ≡ count_text rows ++ (head_text head ++ end_text)
+numbers-print : (rows : ℕ) (counts : TableCounts) → print_from true (numbers_tokens rows counts ++ end_object ∷ []) ++ 10 ∷ [] ≡ count_text rows ++ (counts_text counts ++ end_text)
 unfolding print_from escape_byte count_text files_text events_text others_text end_text
-numbers-print rows head = simp append_assoc refl
+numbers-print rows counts = simp append_assoc refl
 
 -- what is in front of the names of columns, and then some more
 start-print : (of : Of) (unit : Unit) (ts : List Token) →
@@ -107,12 +107,12 @@ start-print Async Microseconds ts = refl
 start-print Async Nanoseconds ts = refl
 
 -- the first line is its tokens, printed
-pub json_head-print : (of : Of) (unit : Unit) (columns : List Column) (rows : ℕ) (head : Head) → json_head of unit columns rows head ≡ print (head_tokens of unit columns rows head) ++ 10 ∷ []
-json_head-print of unit columns rows head =
+pub json_head-print : (of : Of) (unit : Unit) (columns : List Column) (rows : ℕ) (counts : TableCounts) → json_head of unit columns rows counts ≡ print (head_tokens of unit columns rows counts) ++ 10 ∷ []
+json_head-print of unit columns rows counts =
     let names = with_commas (map column_json columns) in
-    let numbers = print_from true (numbers_tokens rows head ++ end_object ∷ []) in
-    json_head_pieces of unit columns rows head
-    ∙ sym (start-print of unit (name_tokens columns ++ end_array ∷ (numbers_tokens rows head ++ end_object ∷ []))
-    ∙ ap (λ l. start_text of unit ++ 91 ∷ (l ++ 10 ∷ [])) (names-print columns (numbers_tokens rows head ++ end_object ∷ []))
-    ∙ ap (λ l. start_text of unit ++ 91 ∷ l) (append_assoc names (93 ∷ numbers) (10 ∷ []) ∙ ap (λ l. names ++ 93 ∷ l) (numbers-print rows head)
-    ∙ sym (append_assoc names (93 ∷ []) (count_text rows ++ (head_text head ++ end_text)))))
+    let numbers = print_from true (numbers_tokens rows counts ++ end_object ∷ []) in
+    json_head_pieces of unit columns rows counts
+    ∙ sym (start-print of unit (name_tokens columns ++ end_array ∷ (numbers_tokens rows counts ++ end_object ∷ []))
+    ∙ ap (λ l. start_text of unit ++ 91 ∷ (l ++ 10 ∷ [])) (names-print columns (numbers_tokens rows counts ++ end_object ∷ []))
+    ∙ ap (λ l. start_text of unit ++ 91 ∷ l) (append_assoc names (93 ∷ numbers) (10 ∷ []) ∙ ap (λ l. names ++ 93 ∷ l) (numbers-print rows counts)
+    ∙ sym (append_assoc names (93 ∷ []) (count_text rows ++ (counts_text counts ++ end_text)))))

@@ -24,19 +24,19 @@ use Rattle.span_event.specs.declared.unit.Unit.{Unit}
 use Rattle.span_event.specs.declared.unit.Unit.TheVariants.{Microseconds, Nanoseconds}
 use Rattle.span_table.specs.declared.column.Column.{Column}
 use Rattle.span_table.specs.declared.column.Column.TheVariants.{Pid, Tid, Process, Thread, Name, File, Cat, Scope, Id, Argument}
-use Rattle.span_table.specs.declared.heads.Head.{Head}
+use Rattle.span_table.specs.declared.counts.TableCounts.{TableCounts}
 use Rattle.span_table.specs.declared.of.Of.{Of}
 use Rattle.span_table.specs.declared.of.Of.TheVariants.{Spans, Async}
 use Rattle.span_table.specs.declared.sums.Sums.{Sums}
 use Rattle.span_table.specs.declared.table.Row.{Row}
 use Rattle.span_table.specs.Columns.{Value}
-use Rattle.span_table.specs.Heads.{head_fits}
+use Rattle.span_table.specs.Counts.{counts_fit}
 use Rattle.span_table.specs.Sums.{fit}
 use Rattle.span_table_text.specs.Json.{numbers_fit}
 use Rattle.span_table.specs.Keys.{TableKey}
 use Rattle.span_table_text.specs.Printed.{HasOwn, IsKeyOf, IsOfArgument, IsRowOf, KeyFits, MayHave}
 use Rattle.span_table.specs.Tables.{SpanTable}
-use Rattle.span_table_text.specs.Tokens.{columns_tokens, counts_tokens, head_tokens, key_tokens, name_tokens, numbers_tokens, of_tokens, row_tokens, sums_tokens, unit_tokens, value_tokens}
+use Rattle.span_table_text.specs.Tokens.{columns_tokens, entry_counts_tokens, head_tokens, key_tokens, name_tokens, numbers_tokens, of_tokens, row_tokens, sums_tokens, unit_tokens, value_tokens}
 use Rattle.span_table.proofs.Summing.{sums_small}
 
 -- no line feed is among the bytes
@@ -160,10 +160,10 @@ signed_decimal-in_line (negsuc n) h =
     (IsNumber-signed_decimal (negsuc n) h.sfits, ((λ e. omega arith), digits-line (decimal (suc n)) (decimal_is_IsNumeral (suc n) small).0.1))
 
 -- the numbers of a table, where all of them fit
-pub numbers_fit-each : (table : SpanTable) → numbers_fit table ≡ true → (head_fits table.head ≡ true) × All (λ row. fit row.sums ≡ true) table.rows
+pub numbers_fit-each : (table : SpanTable) → numbers_fit table ≡ true → (counts_fit table.counts ≡ true) × All (λ row. fit row.sums ≡ true) table.rows
 numbers_fit-each table h =
     let fits = λ (row : Row). fit row.sums in
-    let parts = and_parts (head_fits table.head) (list_all fits table.rows) h in
+    let parts = and_parts (counts_fit table.counts) (list_all fits table.rows) h in
     (parts.0, AllPass-from_list_all fits table.rows parts.1)
 
 sums-in_line : (of : Of) (sums : Sums) → fit sums ≡ true → AreInLine (sums_tokens of sums)
@@ -174,26 +174,26 @@ sums-in_line Spans sums h =
     let small = sums_small sums h in
     (tt, (decimal-in_line sums.count small.0, (tt, (decimal-in_line sums.total small.1, (tt, (decimal-in_line sums.self_time small.2, tt))))))
 
--- the numbers of a head
-pub record AreSmall (head : Head) : Type 0 where
-  pub runs : head.runs < 2 ^ 64
-  pub files : head.files < 2 ^ 64
-  pub unread : head.unread < 2 ^ 64
-  pub accepted : head.counts.accepted < 2 ^ 64
-  pub refused : head.counts.refused < 2 ^ 64
-  pub skipped : head.counts.skipped < 2 ^ 64
-  pub queries : head.counts.queries < 2 ^ 64
-  pub seals : head.counts.seals < 2 ^ 64
+-- the numbers of counts
+pub record AreSmall (counts : TableCounts) : Type 0 where
+  pub runs : counts.runs < 2 ^ 64
+  pub files : counts.files < 2 ^ 64
+  pub unread : counts.unread < 2 ^ 64
+  pub accepted : counts.entries.accepted < 2 ^ 64
+  pub refused : counts.entries.refused < 2 ^ 64
+  pub skipped : counts.entries.skipped < 2 ^ 64
+  pub queries : counts.entries.queries < 2 ^ 64
+  pub seals : counts.entries.seals < 2 ^ 64
 
-pub head_small : (head : Head) → head_fits head ≡ true → AreSmall head
-head_small head h =
-    let runs = and_parts (nat_lt head.runs (2 ^ 64)) _ h in
-    let files = and_parts (nat_lt head.files (2 ^ 64)) _ runs.1 in
-    let unread = and_parts (nat_lt head.unread (2 ^ 64)) _ files.1 in
-    let accepted = and_parts (nat_lt head.counts.accepted (2 ^ 64)) _ unread.1 in
-    let refused = and_parts (nat_lt head.counts.refused (2 ^ 64)) _ accepted.1 in
-    let skipped = and_parts (nat_lt head.counts.skipped (2 ^ 64)) _ refused.1 in
-    let queries = and_parts (nat_lt head.counts.queries (2 ^ 64)) _ skipped.1 in
+pub counts_small : (counts : TableCounts) → counts_fit counts ≡ true → AreSmall counts
+counts_small counts h =
+    let runs = and_parts (nat_lt counts.runs (2 ^ 64)) _ h in
+    let files = and_parts (nat_lt counts.files (2 ^ 64)) _ runs.1 in
+    let unread = and_parts (nat_lt counts.unread (2 ^ 64)) _ files.1 in
+    let accepted = and_parts (nat_lt counts.entries.accepted (2 ^ 64)) _ unread.1 in
+    let refused = and_parts (nat_lt counts.entries.refused (2 ^ 64)) _ accepted.1 in
+    let skipped = and_parts (nat_lt counts.entries.skipped (2 ^ 64)) _ refused.1 in
+    let queries = and_parts (nat_lt counts.entries.queries (2 ^ 64)) _ skipped.1 in
     record {
       runs = ltb-true _ _ runs.0;
       files = ltb-true _ _ files.0;
@@ -205,21 +205,21 @@ head_small head h =
       seals = ltb-true _ _ queries.1;
     }
 
-counts-in_line : (head : Head) → AreSmall head → AreInLine (counts_tokens head.counts)
-counts-in_line head small =
-    let seals = decimal-in_line head.counts.seals small.seals in
-    let queries = decimal-in_line head.counts.queries small.queries in
-    let skipped = decimal-in_line head.counts.skipped small.skipped in
-    let refused = decimal-in_line head.counts.refused small.refused in
-    let accepted = decimal-in_line head.counts.accepted small.accepted in
+entry_counts-in_line : (counts : TableCounts) → AreSmall counts → AreInLine (entry_counts_tokens counts.entries)
+entry_counts-in_line counts small =
+    let seals = decimal-in_line counts.entries.seals small.seals in
+    let queries = decimal-in_line counts.entries.queries small.queries in
+    let skipped = decimal-in_line counts.entries.skipped small.skipped in
+    let refused = decimal-in_line counts.entries.refused small.refused in
+    let accepted = decimal-in_line counts.entries.accepted small.accepted in
     (tt, (accepted, (tt, (refused, (tt, (skipped, (tt, (queries, (tt, (seals, tt))))))))))
 
-numbers-in_line : (rows : ℕ) (head : Head) → rows < 2 ^ 64 → AreSmall head → AreInLine (numbers_tokens rows head)
-numbers-in_line rows head few small =
-    let unread = decimal-in_line head.unread small.unread in
-    let files = decimal-in_line head.files small.files in
-    let runs = decimal-in_line head.runs small.runs in
-    (tt, (decimal-in_line rows few, (tt, (runs, (tt, (files, (tt, (unread, counts-in_line head small))))))))
+numbers-in_line : (rows : ℕ) (counts : TableCounts) → rows < 2 ^ 64 → AreSmall counts → AreInLine (numbers_tokens rows counts)
+numbers-in_line rows counts few small =
+    let unread = decimal-in_line counts.unread small.unread in
+    let files = decimal-in_line counts.files small.files in
+    let runs = decimal-in_line counts.runs small.runs in
+    (tt, (decimal-in_line rows few, (tt, (runs, (tt, (files, (tt, (unread, entry_counts-in_line counts small))))))))
 
 -- a number that a column has fits
 whole_fits : (column : Column) (whole : ℤ) → MayHave column (Some (Whole whole)) → FitsSigned w64 whole
@@ -297,35 +297,35 @@ unit-in_line : (unit : Unit) → AreInLine (unit_tokens unit)
 unit-in_line Microseconds = tt
 unit-in_line Nanoseconds = (tt, (tt, tt))
 
-head-in_line : (of : Of) (unit : Unit) (columns : List Column) (rows : ℕ) (head : Head) → rows < 2 ^ 64 → AreSmall head → AreInLine (head_tokens of unit columns rows head)
-head-in_line of unit columns rows head few small =
-    let numbers = AreInLine-append (numbers_tokens rows head) (end_object ∷ []) (numbers-in_line rows head few small) (tt, tt) in
-    let names : AreInLine (columns_tokens columns rows head) = (tt, (tt, AreInLine-append (name_tokens columns) _ (names-in_line columns) (tt, numbers))) in
-    let more = AreInLine-append (unit_tokens unit) (columns_tokens columns rows head) (unit-in_line unit) names in
-    (tt, (tt, (one-in_line, AreInLine-append (of_tokens of) (unit_tokens unit ++ columns_tokens columns rows head) (of-in_line of) more)))
+head-in_line : (of : Of) (unit : Unit) (columns : List Column) (rows : ℕ) (counts : TableCounts) → rows < 2 ^ 64 → AreSmall counts → AreInLine (head_tokens of unit columns rows counts)
+head-in_line of unit columns rows counts few small =
+    let numbers = AreInLine-append (numbers_tokens rows counts) (end_object ∷ []) (numbers-in_line rows counts few small) (tt, tt) in
+    let names : AreInLine (columns_tokens columns rows counts) = (tt, (tt, AreInLine-append (name_tokens columns) _ (names-in_line columns) (tt, numbers))) in
+    let more = AreInLine-append (unit_tokens unit) (columns_tokens columns rows counts) (unit-in_line unit) names in
+    (tt, (tt, (one-in_line, AreInLine-append (of_tokens of) (unit_tokens unit ++ columns_tokens columns rows counts) (of-in_line of) more)))
 
 -- the tokens of a row are read back
 pub tokens-row : (of : Of) (columns : List Column) (row : Row) → IsTold of columns row → tokens (print (row_tokens of columns row)) ≡ row_tokens of columns row
 tokens-row of columns row is = tokens-print (row_tokens of columns row) (all_printable (row_tokens of columns row) (row-in_line of columns row is))
 
 -- those of the first line are read back
-pub tokens-head : (of : Of) (unit : Unit) (columns : List Column) (rows : ℕ) (head : Head) → rows < 2 ^ 64 → head_fits head ≡ true →
-    tokens (print (head_tokens of unit columns rows head)) ≡ head_tokens of unit columns rows head
-tokens-head of unit columns rows head few fits =
-    tokens-print (head_tokens of unit columns rows head) (all_printable (head_tokens of unit columns rows head) (head-in_line of unit columns rows head few (head_small head fits)))
+pub tokens-head : (of : Of) (unit : Unit) (columns : List Column) (rows : ℕ) (counts : TableCounts) → rows < 2 ^ 64 → counts_fit counts ≡ true →
+    tokens (print (head_tokens of unit columns rows counts)) ≡ head_tokens of unit columns rows counts
+tokens-head of unit columns rows counts few fits =
+    tokens-print (head_tokens of unit columns rows counts) (all_printable (head_tokens of unit columns rows counts) (head-in_line of unit columns rows counts few (counts_small counts fits)))
 
 -- the line of a row is one line
 pub print_row-IsLine : (of : Of) (columns : List Column) (row : Row) → IsTold of columns row → IsLine (print (row_tokens of columns row))
 print_row-IsLine of columns row is = print-line false (row_tokens of columns row) (row-in_line of columns row is)
 
 -- the first line is one line
-pub print_head-IsLine : (of : Of) (unit : Unit) (columns : List Column) (rows : ℕ) (head : Head) → rows < 2 ^ 64 → head_fits head ≡ true → IsLine (print (head_tokens of unit columns rows head))
-print_head-IsLine of unit columns rows head few fits = print-line false (head_tokens of unit columns rows head) (head-in_line of unit columns rows head few (head_small head fits))
+pub print_head-IsLine : (of : Of) (unit : Unit) (columns : List Column) (rows : ℕ) (counts : TableCounts) → rows < 2 ^ 64 → counts_fit counts ≡ true → IsLine (print (head_tokens of unit columns rows counts))
+print_head-IsLine of unit columns rows counts few fits = print-line false (head_tokens of unit columns rows counts) (head-in_line of unit columns rows counts few (counts_small counts fits))
 
 -- no line feed stands in the line of a row
 pub print_row-line : (of : Of) (columns : List Column) (row : Row) → IsTold of columns row → All (λ byte. byte ≢ 10) (print (row_tokens of columns row))
 print_row-line of columns row is = All-from_recursion (λ byte. byte ≢ 10) (print (row_tokens of columns row)) (print_row-IsLine of columns row is)
 
 -- no line feed stands in the first line
-pub print_head-line : (of : Of) (unit : Unit) (columns : List Column) (rows : ℕ) (head : Head) → rows < 2 ^ 64 → head_fits head ≡ true → All (λ byte. byte ≢ 10) (print (head_tokens of unit columns rows head))
-print_head-line of unit columns rows head few fits = All-from_recursion (λ byte. byte ≢ 10) (print (head_tokens of unit columns rows head)) (print_head-IsLine of unit columns rows head few fits)
+pub print_head-line : (of : Of) (unit : Unit) (columns : List Column) (rows : ℕ) (counts : TableCounts) → rows < 2 ^ 64 → counts_fit counts ≡ true → All (λ byte. byte ≢ 10) (print (head_tokens of unit columns rows counts))
+print_head-line of unit columns rows counts few fits = All-from_recursion (λ byte. byte ≢ 10) (print (head_tokens of unit columns rows counts)) (print_head-IsLine of unit columns rows counts few fits)

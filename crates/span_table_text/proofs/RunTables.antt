@@ -232,7 +232,7 @@ module _ (of : Of) (columns : List Column) (runs : List Run) where
       let some = table_of-HasSome columns runs of in
       record {
         columns = are;
-        head = numbers.0;
+        counts = numbers.0;
         few = fits.few;
         rows = λ k d low. record { key = keys k d low (fits.keys k d low); own = own k d low; some = some k d low; fits = numbers.1 k d low };
         rise = RowsRise-rows_of (flat_map (run_sums of columns) runs);
@@ -248,7 +248,7 @@ filter-every p each (x ∷ xs) = ap (λ b. cond b (x ∷ filter p xs) (filter p 
 
 -- where all rows are wanted, what is shown of a table is the whole table
 pub shown_table-all : (wanted : Wanted) (table : SpanTable) → wants_all wanted ≡ true → shown_table wanted table ≡ table
-shown_table-all wanted table all = λ i. record { of = table.of; columns = table.columns; head = table.head; rows = filter-every (λ (row : Row). is_wanted wanted row.key) (λ row. each row.key) table.rows i }
+shown_table-all wanted table all = λ i. record { of = table.of; columns = table.columns; counts = table.counts; rows = filter-every (λ (row : Row). is_wanted wanted row.key) (λ row. each row.key) table.rows i }
   where
     none : (texts : List Bytes) → (length texts == 0) ≡ true → texts ≡ []
     none [] e = refl

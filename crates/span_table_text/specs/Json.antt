@@ -10,14 +10,14 @@ use Rattle.span_table.specs.declared.column.Column.{Column}
 use Rattle.span_table.specs.declared.of.Of.{Of}
 use Rattle.span_table.specs.declared.of.Of.TheVariants.{Spans, Async}
 use Rattle.span_table.specs.declared.sums.Sums.{Sums}
-use Rattle.span_table.specs.declared.heads.Head.{Head}
+use Rattle.span_table.specs.declared.counts.TableCounts.{TableCounts}
 use Rattle.span_table.specs.declared.table.Row.{Row}
 use Rattle.span_table.specs.Columns.{column_name}
 use Rattle.span_table.specs.Keys.{TableKey}
 use Rattle.span_table_text.specs.Lines.{value_json}
 use Rattle.span_table_text.specs.Shown.{Wanted, shown_rows}
 use Rattle.span_table.specs.Tables.{SpanTable}
-use Rattle.span_table.specs.Heads.{head_fits}
+use Rattle.span_table.specs.Counts.{counts_fit}
 use Rattle.span_table.specs.Sums.{fit}
 
 -- the parts with a comma between them
@@ -43,12 +43,12 @@ column_json column = json_text_of (column_name column)
 abbrev pub columns_json : List Column → Bytes
 columns_json columns = 91 ∷ (with_commas (map column_json columns) ++ 93 ∷ [])
 
--- the members of a head
-abbrev pub head_members : Head → List Bytes
-head_members head =
-    number_member (codes "runs") head.runs ∷ number_member (codes "files") head.files ∷ number_member (codes "unread") head.unread ∷
-    number_member (codes "events") head.counts.accepted ∷ number_member (codes "refused") head.counts.refused ∷ number_member (codes "skipped") head.counts.skipped ∷
-    number_member (codes "queries") head.counts.queries ∷ number_member (codes "seals") head.counts.seals ∷ []
+-- the members of counts
+abbrev pub counts_members : TableCounts → List Bytes
+counts_members counts =
+    number_member (codes "runs") counts.runs ∷ number_member (codes "files") counts.files ∷ number_member (codes "unread") counts.unread ∷
+    number_member (codes "events") counts.entries.accepted ∷ number_member (codes "refused") counts.entries.refused ∷ number_member (codes "skipped") counts.entries.skipped ∷
+    number_member (codes "queries") counts.entries.queries ∷ number_member (codes "seals") counts.entries.seals ∷ []
 
 -- a column with its value, of what isn't kept an empty object
 abbrev pub value_member : Column → ArgValue → Bytes
@@ -85,24 +85,24 @@ unfoldable pub json_line : Of → List Column → Row → Bytes
 json_line of columns row = object_of (value_members columns row.key ++ sums_members of row.sums) ++ 10 ∷ []
 
 -- the first line
-unfoldable pub json_head : Of → Unit → List Column → ℕ → Head → Bytes
-json_head of unit columns rows head =
-    object_of (version_member of unit ∷ member_of (codes "columns") (columns_json columns) ∷ number_member (codes "rows") rows ∷ head_members head) ++ 10 ∷ []
+unfoldable pub json_head : Of → Unit → List Column → ℕ → TableCounts → Bytes
+json_head of unit columns rows counts =
+    object_of (version_member of unit ∷ member_of (codes "columns") (columns_json columns) ∷ number_member (codes "rows") rows ∷ counts_members counts) ++ 10 ∷ []
 
 -- the first line, and then one for each row
 abbrev pub text_of : Unit → SpanTable → Bytes
-text_of unit table = json_head table.of unit table.columns (length table.rows) table.head ++ flat_map (json_line table.of table.columns) table.rows
+text_of unit table = json_head table.of unit table.columns (length table.rows) table.counts ++ flat_map (json_line table.of table.columns) table.rows
 
 -- the table without the rows that aren't shown
 abbrev pub shown_table : Wanted → SpanTable → SpanTable
-shown_table wanted table = record { of = table.of; columns = table.columns; head = table.head; rows = shown_rows wanted table.rows }
+shown_table wanted table = record { of = table.of; columns = table.columns; counts = table.counts; rows = shown_rows wanted table.rows }
 
 abbrev pub json_of : Unit → Wanted → SpanTable → Bytes
 json_of unit wanted table = text_of unit (shown_table wanted table)
 
--- the head and all sums have 64 bits
+-- the counts and all sums have 64 bits
 abbrev pub numbers_fit : SpanTable → Bool
-numbers_fit table = head_fits table.head && list_all (λ (row : Row). fit row.sums) table.rows
+numbers_fit table = counts_fit table.counts && list_all (λ (row : Row). fit row.sums) table.rows
 
 abbrev pub json_fits : Wanted → SpanTable → Bool
 json_fits wanted table = numbers_fit (shown_table wanted table)

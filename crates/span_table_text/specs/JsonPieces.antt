@@ -7,7 +7,7 @@ use Rattle.span_table.specs.declared.of.Of.{Of}
 use Rattle.span_table.specs.Columns.{Value}
 use Rattle.span_journal.specs.declared.rows.CountRow.{CountRow}
 use Rattle.span_table.specs.declared.sums.Sums.{Sums}
-use Rattle.span_table.specs.declared.heads.Head.{Head}
+use Rattle.span_table.specs.declared.counts.TableCounts.{TableCounts}
 use Rattle.span_table_text.specs.Json.{of_member, sums_members, unit_member, value_member, with_commas}
 use Rattle.span_table.specs.Keys.{TableKey}
 
@@ -22,20 +22,20 @@ members_text [] key = []
 members_text (column ∷ columns) [] = []
 members_text (column ∷ columns) (value ∷ key) = member_text column value ++ members_text columns key
 
--- the members of a head: of files, of events, and of what stands between them
-unfoldable pub files_text : Head → Bytes
-files_text head = codes "\"runs\":" ++ (decimal head.runs ++ (codes ",\"files\":" ++ (decimal head.files ++ (codes ",\"unread\":" ++ (decimal head.unread ++ codes ",")))))
+-- the members of counts: of files, of events, and of what stands between them
+unfoldable pub files_text : TableCounts → Bytes
+files_text counts = codes "\"runs\":" ++ (decimal counts.runs ++ (codes ",\"files\":" ++ (decimal counts.files ++ (codes ",\"unread\":" ++ (decimal counts.unread ++ codes ",")))))
 
 unfoldable pub events_text : CountRow → Bytes
-events_text counts = codes "\"events\":" ++ (decimal counts.accepted ++ (codes ",\"refused\":" ++ (decimal counts.refused ++ (codes ",\"skipped\":" ++ (decimal counts.skipped ++ codes ",")))))
+events_text entries = codes "\"events\":" ++ (decimal entries.accepted ++ (codes ",\"refused\":" ++ (decimal entries.refused ++ (codes ",\"skipped\":" ++ (decimal entries.skipped ++ codes ",")))))
 
 unfoldable pub others_text : CountRow → Bytes
-others_text counts = codes "\"queries\":" ++ (decimal counts.queries ++ (codes ",\"seals\":" ++ decimal counts.seals))
+others_text entries = codes "\"queries\":" ++ (decimal entries.queries ++ (codes ",\"seals\":" ++ decimal entries.seals))
 
-abbrev pub head_text : Head → Bytes
-head_text head = files_text head ++ (events_text head.counts ++ others_text head.counts)
+abbrev pub counts_text : TableCounts → Bytes
+counts_text counts = files_text counts ++ (events_text counts.entries ++ others_text counts.entries)
 
--- the first line up to its columns, from them to the members of the head, and its end
+-- the first line up to its columns, from them to the members of the counts, and its end
 unfoldable pub start_text : Of → Unit → Bytes
 start_text of unit = codes "{\"tracebook\":1" ++ (of_member of ++ (unit_member unit ++ codes ",\"columns\":"))
 

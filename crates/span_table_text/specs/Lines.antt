@@ -7,7 +7,7 @@ use Rattle.span_event.specs.declared.args.ArgValue.TheVariants.{Nil, Flag, Whole
 use Rattle.span_event.specs.Text.{Bytes}
 use Rattle.span_report.specs.Lines.{json_text_of, line_of, or_dash}
 use Rattle.span_table.specs.declared.column.Column.{Column}
-use Rattle.span_table.specs.declared.heads.Head.{Head}
+use Rattle.span_table.specs.declared.counts.TableCounts.{TableCounts}
 use Rattle.span_table.specs.Columns.{Value, column_name}
 use Rattle.span_table_text.specs.Shown.{Wanted, wants_all}
 
@@ -32,9 +32,9 @@ unfoldable pub column_title : Column → Bytes
 column_title column = escape (column_name column)
 
 -- how many runs there are, and how many files, where the head is to tell it
-unfoldable pub runs_line : Bool → Head → Bytes
-runs_line tells_runs head =
-    if tells_runs then line_of (codes "runs" ∷ decimal head.runs ∷ codes "files" ∷ decimal head.files ∷ codes "unread" ∷ decimal head.unread ∷ []) else []
+unfoldable pub runs_line : Bool → TableCounts → Bytes
+runs_line tells_runs counts =
+    if tells_runs then line_of (codes "runs" ∷ decimal counts.runs ∷ codes "files" ∷ decimal counts.files ∷ codes "unread" ∷ decimal counts.unread ∷ []) else []
 
 -- how many keys are shown of how many, where not all are wanted
 unfoldable pub shown_line : Wanted → ℕ → ℕ → Bytes

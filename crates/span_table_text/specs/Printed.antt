@@ -12,7 +12,7 @@ use Rattle.span_table.specs.declared.of.Of.TheVariants.{Spans, Async}
 use Rattle.span_table.specs.declared.sums.Sums.{Sums}
 use Rattle.span_table.specs.declared.table.Row.{Row}
 use Rattle.span_table.specs.Columns.{Run, Value, column_name, goes_with, is_column}
-use Rattle.span_table.specs.Heads.{head_fits}
+use Rattle.span_table.specs.Counts.{counts_fit}
 use Rattle.span_table.specs.Sums.{fit}
 use Rattle.span_table_text.specs.Json.{json_of, numbers_fit, shown_table, text_of}
 use Rattle.span_table.specs.Keys.{TableKey}
@@ -116,7 +116,7 @@ pub record AreColumns (of : Of) (columns : List Column) : Type 0 where
 -- a table whose text can be read back
 pub record IsTable (table : SpanTable) : Type 0 where
   pub columns : AreColumns table.of table.columns
-  pub head : head_fits table.head ≡ true
+  pub counts : counts_fit table.counts ≡ true
   pub few : length table.rows < 2 ^ 64
   pub rows : All (IsRowOf table.of table.columns) table.rows
   pub rise : RowsRise table.rows

@@ -8,7 +8,7 @@ use Rattle.span_event.specs.declared.unit.Unit.{Unit}
 use Rattle.span_event.specs.declared.unit.Unit.TheVariants.{Microseconds, Nanoseconds}
 use Rattle.span_journal.specs.declared.rows.CountRow.{CountRow}
 use Rattle.span_table.specs.declared.column.Column.{Column}
-use Rattle.span_table.specs.declared.heads.Head.{Head}
+use Rattle.span_table.specs.declared.counts.TableCounts.{TableCounts}
 use Rattle.span_table.specs.declared.of.Of.{Of}
 use Rattle.span_table.specs.declared.of.Of.TheVariants.{Spans, Async}
 use Rattle.span_table.specs.declared.sums.Sums.{Sums}
@@ -45,16 +45,16 @@ row_tokens of columns row = begin_object ∷ (key_tokens columns row.key ++ (sum
 abbrev pub name_tokens : List Column → List Token
 name_tokens columns = map (λ column. string (column_name column)) columns
 
-abbrev pub counts_tokens : CountRow → List Token
-counts_tokens counts =
-    number_tokens (codes "events") counts.accepted ++ (number_tokens (codes "refused") counts.refused ++ (number_tokens (codes "skipped") counts.skipped
-    ++ (number_tokens (codes "queries") counts.queries ++ number_tokens (codes "seals") counts.seals)))
+abbrev pub entry_counts_tokens : CountRow → List Token
+entry_counts_tokens entries =
+    number_tokens (codes "events") entries.accepted ++ (number_tokens (codes "refused") entries.refused ++ (number_tokens (codes "skipped") entries.skipped
+    ++ (number_tokens (codes "queries") entries.queries ++ number_tokens (codes "seals") entries.seals)))
 
 -- the numbers of the first line
-abbrev pub numbers_tokens : ℕ → Head → List Token
-numbers_tokens rows head =
-    number_tokens (codes "rows") rows ++ (number_tokens (codes "runs") head.runs ++ (number_tokens (codes "files") head.files
-    ++ (number_tokens (codes "unread") head.unread ++ counts_tokens head.counts)))
+abbrev pub numbers_tokens : ℕ → TableCounts → List Token
+numbers_tokens rows counts =
+    number_tokens (codes "rows") rows ++ (number_tokens (codes "runs") counts.runs ++ (number_tokens (codes "files") counts.files
+    ++ (number_tokens (codes "unread") counts.unread ++ entry_counts_tokens counts.entries)))
 
 -- what a table sums, where that isn't the spans of threads
 abbrev pub of_tokens : Of → List Token
@@ -67,11 +67,11 @@ unit_tokens Microseconds = []
 unit_tokens Nanoseconds = key (codes "unit") ∷ string (codes "ns") ∷ []
 
 -- what is in the first line behind its unit
-abbrev pub columns_tokens : List Column → ℕ → Head → List Token
-columns_tokens columns rows head =
-    key (codes "columns") ∷ begin_array ∷ (name_tokens columns ++ (end_array ∷ (numbers_tokens rows head ++ end_object ∷ [])))
+abbrev pub columns_tokens : List Column → ℕ → TableCounts → List Token
+columns_tokens columns rows counts =
+    key (codes "columns") ∷ begin_array ∷ (name_tokens columns ++ (end_array ∷ (numbers_tokens rows counts ++ end_object ∷ [])))
 
 -- the first line
-abbrev pub head_tokens : Of → Unit → List Column → ℕ → Head → List Token
-head_tokens of unit columns rows head =
-    begin_object ∷ key (codes "tracebook") ∷ number (codes "1") ∷ (of_tokens of ++ (unit_tokens unit ++ columns_tokens columns rows head))
+abbrev pub head_tokens : Of → Unit → List Column → ℕ → TableCounts → List Token
+head_tokens of unit columns rows counts =
+    begin_object ∷ key (codes "tracebook") ∷ number (codes "1") ∷ (of_tokens of ++ (unit_tokens unit ++ columns_tokens columns rows counts))

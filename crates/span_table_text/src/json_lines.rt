@@ -5,14 +5,14 @@ ghost use Rattle.span_table_text.specs.declared.json_lines.JsonFault.TheVariants
 ghost use Rattle.span_table.specs.Sums.{fit};
 ghost use Rattle.span_table_text.specs.Json.{column_json, columns_json, json_fits, json_head, json_line, json_of, of_member, shown_table, unit_member};
 ghost use Rattle.span_table_text.specs.Printed.{AllFit, KeyFits};
-ghost use Rattle.span_table_text.specs.JsonPieces.{count_text, end_text, events_text, files_text, head_text, member_text, members_text, others_text, start_text};
+ghost use Rattle.span_table_text.specs.JsonPieces.{count_text, counts_text, end_text, events_text, files_text, member_text, members_text, others_text, start_text};
 
 use crate::json_rows::{column_names, with_json_row};
 use crate::lines::put_arg;
 use crate::shown::{Shown, ShownRow};
 use span_event::{ArgValue, Unit};
 use span_report::json_text;
-use span_table::{Column, Head, HeadCounts, Of, Table, fits, head_fits};
+use span_table::{Column, EntryCounts, Of, Table, TableCounts, counts_fit, fits};
 use std::alloc::{AllocError, Global};
 
 /// Why rows were not told to a machine.
@@ -20,7 +20,7 @@ use std::alloc::{AllocError, Global};
 pub enum JsonFault {
     /// 31: memory was refused.
     Memory,
-    /// 55: a sum, or a number of a head, has more than 64 bits.
+    /// 55: a sum, or a count beside the rows, has more than 64 bits.
     TooGreat,
 }
 
@@ -50,7 +50,7 @@ pub fn json_table(
     let Ok(rows) = shown.rows(alloc, table.rows()) else {
         return Err(JsonFault::Memory);
     };
-    if !head_fits(&table.head()) || !all_fit(&rows) {
+    if !counts_fit(&table.counts()) || !all_fit(&rows) {
         return Err(JsonFault::TooGreat);
     }
     match text_of(alloc, unit, table, &rows) {
@@ -73,7 +73,7 @@ fn text_of(
 ) -> Result<Vec<u8>, AllocError>
     requires { list_all (λ row. fit row.sums) rows.now ≡ true }
     ensures text { IfOk result (λ text. text.items
-        ≡ json_head table.now.of unit table.now.columns (length rows.now) table.now.head
+        ≡ json_head table.now.of unit table.now.columns (length rows.now) table.now.counts
         ++ flat_map (json_line table.now.of table.now.columns) rows.now) }
     ensures few { OnOk result (length rows.now < 2 ^ 64) }
     ensures keys { OnOk result (All (λ row. KeyFits table.now.columns row.key) rows.now) }
@@ -87,7 +87,7 @@ fn text_of(
         unit,
         table.columns(),
         rows.len(),
-        table.head(),
+        table.counts(),
     )?;
     let columns = table.columns();
     let names = column_names(alloc, columns)?;
@@ -111,15 +111,15 @@ pub fn put_json_head(
     unit: Unit,
     columns: &[Column],
     rows: usize,
-    head: Head,
+    counts: TableCounts,
 ) -> Result<(), AllocError>
     ensures { OnOk result (string_bytes out.new
-        ≡ string_bytes out.old ++ json_head of unit columns.now rows head) }
+        ≡ string_bytes out.old ++ json_head of unit columns.now rows counts) }
 {
     put_start(out, of, unit)?;
     put_columns(alloc, out, columns)?;
     put_count(out, rows)?;
-    put_head(out, head)?;
+    put_table_counts(out, counts)?;
     put_end(out)
 }
 
@@ -201,21 +201,21 @@ fn put_name(alloc: Global, out: &mut String, column: &Column) -> Result<(), Allo
     out.push_str(json_text(alloc, &name)?.as_str())
 }
 
-/// Appends the members of a head.
+/// Appends the members of counts.
 #[tactic(auto, using(std::proofs::Common::append_assoc))]
-pub fn put_head(out: &mut String, head: Head) -> Result<(), AllocError>
-    ensures { OnOk result (string_bytes out.new ≡ string_bytes out.old ++ head_text head) }
+pub fn put_table_counts(out: &mut String, counts: TableCounts) -> Result<(), AllocError>
+    ensures { OnOk result (string_bytes out.new ≡ string_bytes out.old ++ counts_text counts) }
 {
-    put_files(out, head)?;
-    put_events(out, &head.counts)?;
-    put_others(out, &head.counts)
+    put_files(out, counts)?;
+    put_events(out, &counts.entries)?;
+    put_others(out, &counts.entries)
 }
 
 #[tactic(auto, unfolding(crate::specs::JsonPieces::files_text))]
-fn put_files(out: &mut String, head: Head) -> Result<(), AllocError>
-    ensures { OnOk result (string_bytes out.new ≡ string_bytes out.old ++ files_text head) }
+fn put_files(out: &mut String, counts: TableCounts) -> Result<(), AllocError>
+    ensures { OnOk result (string_bytes out.new ≡ string_bytes out.old ++ files_text counts) }
 {
-    let (runs, files, unread) = (head.runs, head.files, head.unread);
+    let (runs, files, unread) = (counts.runs, counts.files, counts.unread);
     write!(
         out,
         "\"runs\":{runs},\"files\":{files},\"unread\":{unread},"
@@ -223,10 +223,10 @@ fn put_files(out: &mut String, head: Head) -> Result<(), AllocError>
 }
 
 #[tactic(auto, unfolding(crate::specs::JsonPieces::events_text))]
-fn put_events(out: &mut String, counts: &HeadCounts) -> Result<(), AllocError>
-    ensures { OnOk result (string_bytes out.new ≡ string_bytes out.old ++ events_text counts.now) }
+fn put_events(out: &mut String, entries: &EntryCounts) -> Result<(), AllocError>
+    ensures { OnOk result (string_bytes out.new ≡ string_bytes out.old ++ events_text entries.now) }
 {
-    let (events, refused, skipped) = (counts.accepted, counts.refused, counts.skipped);
+    let (events, refused, skipped) = (entries.accepted, entries.refused, entries.skipped);
     write!(
         out,
         "\"events\":{events},\"refused\":{refused},\"skipped\":{skipped},"
@@ -234,10 +234,10 @@ fn put_events(out: &mut String, counts: &HeadCounts) -> Result<(), AllocError>
 }
 
 #[tactic(auto, unfolding(crate::specs::JsonPieces::others_text))]
-fn put_others(out: &mut String, counts: &HeadCounts) -> Result<(), AllocError>
-    ensures { OnOk result (string_bytes out.new ≡ string_bytes out.old ++ others_text counts.now) }
+fn put_others(out: &mut String, entries: &EntryCounts) -> Result<(), AllocError>
+    ensures { OnOk result (string_bytes out.new ≡ string_bytes out.old ++ others_text entries.now) }
 {
-    let (queries, seals) = (counts.queries, counts.seals);
+    let (queries, seals) = (entries.queries, entries.seals);
     write!(out, "\"queries\":{queries},\"seals\":{seals}")
 }
 

@@ -9,16 +9,16 @@ ghost use Rattle.span_event.specs.Text.{Bytes};
 use crate::shown::Shown;
 use span_event::{ArgValue, Text};
 use span_report::json_text;
-use span_table::{Column, Head, HeadCounts, Sum};
+use span_table::{Column, EntryCounts, Sum, TableCounts};
 use std::alloc::{AllocError, Global};
 
 /// Appends the line that counts the entries of runs.
 #[tactic(auto, unfolding(span_report::specs::Lines::count_line))]
-pub fn put_counts(out: &mut String, counts: &HeadCounts) -> Result<(), AllocError>
-    ensures { OnOk result (string_bytes out.new ≡ string_bytes out.old ++ count_line counts.now) }
+pub fn put_counts(out: &mut String, entries: &EntryCounts) -> Result<(), AllocError>
+    ensures { OnOk result (string_bytes out.new ≡ string_bytes out.old ++ count_line entries.now) }
 {
-    let (accepted, refused) = (counts.accepted, counts.refused);
-    let (skipped, queries) = (counts.skipped, counts.queries);
+    let (accepted, refused) = (entries.accepted, entries.refused);
+    let (skipped, queries) = (entries.skipped, entries.queries);
     writeln!(
         out,
         "events {accepted} refused {refused} skipped {skipped} queries {queries}"
@@ -38,14 +38,14 @@ pub fn put_seals(out: &mut String, seals: u128) -> Result<(), AllocError>
 
 /// Appends the line of runs, where it is told.
 #[tactic(auto, unfolding(crate::specs::Lines::runs_line))]
-pub fn put_runs(out: &mut String, head: &Head, tells_runs: bool) -> Result<(), AllocError>
+pub fn put_runs(out: &mut String, counts: &TableCounts, tells_runs: bool) -> Result<(), AllocError>
     ensures { OnOk result (string_bytes out.new
-        ≡ string_bytes out.old ++ runs_line tells_runs head.now) }
+        ≡ string_bytes out.old ++ runs_line tells_runs counts.now) }
 {
     if !tells_runs {
         return Ok(());
     }
-    let (runs, files, unread) = (head.runs, head.files, head.unread);
+    let (runs, files, unread) = (counts.runs, counts.files, counts.unread);
     writeln!(out, "runs {runs} files {files} unread {unread}")
 }
 

@@ -14,7 +14,7 @@ use crate::lines::{
 use crate::shown::{Shown, ShownRow};
 use span_event::Unit;
 use span_report::{first_line, put_unit};
-use span_table::{By, Column, HeadCounts, Of, Row, Sums, Table};
+use span_table::{By, Column, EntryCounts, Of, Row, Sums, Table};
 use std::alloc::{AllocError, Global};
 use std::cmp::Ordering;
 
@@ -31,8 +31,8 @@ pub fn ranking(
     ensures { IfOk result (λ text. text.items
         ≡ ranking_of unit most by shown.now tells_runs table.now) }
 {
-    let mut out = head(alloc, unit, &table.head().counts)?;
-    put_runs(&mut out, &table.head(), tells_runs)?;
+    let mut out = head(alloc, unit, &table.counts().entries)?;
+    put_runs(&mut out, &table.counts(), tells_runs)?;
     let rows = shown.rows(alloc, table.rows())?;
     put_shown(
         &mut out,
@@ -48,13 +48,13 @@ pub fn ranking(
 }
 
 // The lines that every report begins with.
-fn head(alloc: Global, unit: Unit, counts: &HeadCounts) -> Result<String, AllocError>
-    ensures { IfOk result (λ text. string_bytes text ≡ head_lines unit counts.now) }
+fn head(alloc: Global, unit: Unit, entries: &EntryCounts) -> Result<String, AllocError>
+    ensures { IfOk result (λ text. string_bytes text ≡ head_lines unit entries.now) }
 {
     let mut out = first_line(alloc)?;
     put_unit(&mut out, unit)?;
-    put_counts(&mut out, counts)?;
-    put_seals(&mut out, counts.seals)?;
+    put_counts(&mut out, entries)?;
+    put_seals(&mut out, entries.seals)?;
     Ok(out)
 }
 

@@ -1,10 +1,10 @@
-//! The columns, the head and the rows of a table.
+//! The columns, the counts and the rows of a table.
 
 use super::tabled::{columns_of, tabled};
 use span_event::Text;
 use span_ledger::Ledger;
 use span_names::HashKeys;
-use span_table::{Head, HeadCounts, Key, Of, Row, Sum, Table};
+use span_table::{EntryCounts, Key, Of, Row, Sum, Table, TableCounts};
 use span_test_support::told;
 use std::alloc::{AllocError, AllocGlobal, Global};
 use std::process::Abort;
@@ -69,21 +69,21 @@ fn names_of(alloc: Global, table: &Table) -> Result<String, AllocError> {
     Ok(names)
 }
 
-fn expect_head(rt: &impl Abort, table: &Table) {
-    let counts = HeadCounts {
+fn expect_counts(rt: &impl Abort, table: &Table) {
+    let entries = EntryCounts {
         accepted: 6,
         refused: 1,
         skipped: 0,
         queries: 0,
         seals: 0,
     };
-    let head = Head {
+    let counts = TableCounts {
         runs: 1,
         files: 3,
         unread: 1,
-        counts,
+        entries,
     };
-    assert_eq!(rt; table.head(), head);
+    assert_eq!(rt; table.counts(), counts);
 }
 
 fn expect_rows(
@@ -107,7 +107,7 @@ fn each_column_has_its_value(rt: HostRuntime) -> Result<(), Fail> {
         names_of(alloc, &table)?.as_str(),
         "pid\ntid\nprocess\nthread\nname\nfile\nargs.k\n"
     );
-    expect_head(&rt, &table);
+    expect_counts(&rt, &table);
     Ok(())
 }
 

@@ -110,7 +110,7 @@ fn twenty_thousand_runs(rt: HostRuntime) -> Result<(), Fail> {
     let sum = of_many(alloc, &ledger, 20_000);
     drop(ledger);
     let table = sum.ok_or("no sum")?.into_table()?;
-    assert!(rt; table.head().runs == 20_000 && table.head().files == 20_000);
+    assert!(rt; table.counts().runs == 20_000 && table.counts().files == 20_000);
     let text = ranking(
         alloc,
         Unit::Microseconds,

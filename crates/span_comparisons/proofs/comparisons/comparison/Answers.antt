@@ -27,13 +27,13 @@ returns c =
     let others = c.rows-2.ensures.rows in
     let found = c.in_ok-found.ensures in
     let columns = c.columns.ensures in
-    let head = c.head.ensures.value in
-    let other_head = c.head-2.ensures.value in
+    let counts = c.counts.ensures.value in
+    let other_counts = c.counts-2.ensures.value in
     let shown = found.shown ∙ ap₂ (λ (b o : List Row). length (shown_changes wanted (compared b o))) rows others in
     let all = found.all ∙ ap₂ (λ (b o : List Row). length (compared b o)) rows others in
     let same = found.same ∙ ap₂ (λ (b o : List Row). same_count (shown_changes wanted (compared b o))) rows others in
     let changes = c.deref.ensures.value ∙ found.changes ∙ (λ i. changes_of (of i) c.args.by (shown_changes wanted (compared (rows i) (others i)))) in
     (λ i. (c.into_bytes.ensures.value i).items)
     ∙ appended _ _ _ _ _ _ _ _ _ _ _ _ _ _ c.in_ok-out.ensures c.in_ok-put_unit.ensures c.in_ok-put_heads.ensures c.in_ok-put_shown.ensures c.in_ok-put_columns.ensures c.in_ok-put_changes.ensures c.in_ok-put_same.ensures
-    ∙ (λ i. first_line ++ (unit_line c.args.unit ++ (compared_heads c.args.tells_runs (head i) (other_head i) ++ (shown_line wanted (shown i) (all i) ++
+    ∙ (λ i. first_line ++ (unit_line c.args.unit ++ (compared_heads c.args.tells_runs (counts i) (other_counts i) ++ (shown_line wanted (shown i) (all i) ++
     (change_columns (of i) (columns i) ++ (flat_map (change_line (of i)) (changes i) ++ same_line (same i)))))))

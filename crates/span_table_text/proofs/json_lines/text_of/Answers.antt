@@ -23,7 +23,7 @@ loop-shown-preserved c =
     subst (λ (cs : List Column). KeyFits cs row.key) c.columns-columns.ensures
     (subst (λ (r : Row). KeyFits c.columns-columns.result.now r.key) c.shown.view_is c.in_ok-line.ensures.key_fits) in
     let f : Row → Bytes = json_line of columns in
-    let head = json_head of c.args.unit columns (length rows) c.args.table.now.head in
+    let head = json_head of c.args.unit columns (length rows) c.args.table.now.counts in
     let printed : c.in_ok-line.line.items ≡ c.clear.new.self.items ++ f row =
     subst (λ (o : Of). c.in_ok-line.line.items ≡ c.clear.new.self.items ++ json_line o columns row) c.kind-of.ensures
     (subst (λ (cs : List Column). c.in_ok-line.line.items ≡ c.clear.new.self.items ++ json_line c.kind-of.result cs row) c.columns-columns.ensures

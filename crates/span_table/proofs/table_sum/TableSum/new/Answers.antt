@@ -4,4 +4,4 @@ use Rattle.span_table.proofs.Kept.{IsKept-none}
 use Rattle.span_table.proofs.table_sum.TableSum.new.Goals as goal
 
 pub invariant_of-result : goal.invariant_of-result
-invariant_of-result c = subst (IsKept c.of_none.result) (sym c.new.ensures) (subst (λ head. IsKept head []) (sym c.of_none.ensures) IsKept-none)
+invariant_of-result c = subst (IsKept c.of_none.result) (sym c.new.ensures) (subst (λ counts. IsKept counts []) (sym c.of_none.ensures) IsKept-none)

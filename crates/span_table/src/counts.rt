@@ -1,7 +1,7 @@
-//! What a table counts beside its spans. A head has no bound of its own: its numbers are those of fewer than 2^32 runs.
+//! What a table counts beside its spans. The counts have no bound of their own: they are those of fewer than 2^32 runs.
 ghost use Rattle.std.specs.Prelude.{◌≡◌, ◌^◌, ◌∷◌, [], nat_lt};
-ghost use Rattle.span_table.specs.Heads.{AreCountsWithin, IsHeadWithin, counts_fit, head_fits};
-ghost use Rattle.span_table.specs.Tables.{counts_together, head_of, heads_together};
+ghost use Rattle.span_table.specs.Counts.{AreCountsWithin, AreEntryCountsWithin, counts_fit, entry_counts_fit};
+ghost use Rattle.span_table.specs.Tables.{counts_of, counts_together, entry_counts_together};
 
 use crate::run::LedgerRun;
 use span_journal::CountRow;
@@ -9,7 +9,7 @@ use std::marker::Model;
 
 /// How many entries of each kind the journals of runs hold.
 #[derive(Clone, Copy, Debug, PartialEq, Eq)]
-pub struct HeadCounts {
+pub struct EntryCounts {
     /// Events that are taken into account.
     pub accepted: u128,
     /// Elements that were refused, with whatever number.
@@ -22,7 +22,7 @@ pub struct HeadCounts {
     pub seals: u128,
 }
 
-impl Model for HeadCounts {
+impl Model for EntryCounts {
     ghost use Rattle.span_journal.specs.declared.rows.CountRow.{CountRow};
 
     ghost Value = { CountRow };
@@ -32,12 +32,12 @@ impl Model for HeadCounts {
     ghost inverse = { λ n. record { accepted = n.accepted; refused = n.refused; skipped = n.skipped; queries = n.queries; seals = n.seals } };
 }
 
-impl HeadCounts {
-    fn of(row: CountRow) -> HeadCounts
+impl EntryCounts {
+    fn of(row: CountRow) -> EntryCounts
         ensures value { result ≡ row }
-        ensures bound { AreCountsWithin (2 ^ 64) result }
+        ensures bound { AreEntryCountsWithin (2 ^ 64) result }
     {
-        HeadCounts {
+        EntryCounts {
             accepted: u128::from(row.accepted),
             refused: u128::from(row.refused),
             skipped: u128::from(row.skipped),
@@ -46,10 +46,10 @@ impl HeadCounts {
         }
     }
 
-    fn add(&mut self, more: &HeadCounts)
-        requires mine { AreCountsWithin (2 ^ 120) self.old }
-        requires its { AreCountsWithin (2 ^ 120) more.now }
-        ensures { self.new ≡ counts_together (self.old ∷ more.now ∷ []) }
+    fn add(&mut self, more: &EntryCounts)
+        requires mine { AreEntryCountsWithin (2 ^ 120) self.old }
+        requires its { AreEntryCountsWithin (2 ^ 120) more.now }
+        ensures { self.new ≡ entry_counts_together (self.old ∷ more.now ∷ []) }
     {
         self.accepted += more.accepted;
         self.refused += more.refused;
@@ -61,24 +61,24 @@ impl HeadCounts {
 
 /// What a table counts beside its spans, over its runs.
 #[derive(Clone, Copy, Debug, PartialEq, Eq)]
-pub struct Head {
+pub struct TableCounts {
     pub runs: u128,
     pub files: u128,
     /// Files that were refused as a whole.
     pub unread: u128,
-    pub counts: HeadCounts,
+    pub entries: EntryCounts,
 }
 
-impl Head {
-    /// The head of no runs.
-    pub fn of_none() -> Head
-        ensures { result ≡ heads_together [] }
+impl TableCounts {
+    /// The counts of no runs.
+    pub fn of_none() -> TableCounts
+        ensures { result ≡ counts_together [] }
     {
-        Head {
+        TableCounts {
             runs: 0,
             files: 0,
             unread: 0,
-            counts: HeadCounts {
+            entries: EntryCounts {
                 accepted: 0,
                 refused: 0,
                 skipped: 0,
@@ -88,43 +88,43 @@ impl Head {
         }
     }
 
-    pub(crate) fn of(run: &LedgerRun) -> Head
-        ensures value { result ≡ head_of run.now }
-        ensures bound { IsHeadWithin (2 ^ 64) result }
+    pub(crate) fn of(run: &LedgerRun) -> TableCounts
+        ensures value { result ≡ counts_of run.now }
+        ensures bound { AreCountsWithin (2 ^ 64) result }
     {
-        Head {
+        TableCounts {
             runs: 1,
             files: u128::from(run.files),
             unread: u128::from(run.unread),
-            counts: HeadCounts::of(run.ledger.counts()),
+            entries: EntryCounts::of(run.ledger.counts()),
         }
     }
 
-    /// Adds what another head counts.
-    pub fn add(&mut self, more: &Head)
-        requires mine { IsHeadWithin (2 ^ 120) self.old }
-        requires its { IsHeadWithin (2 ^ 120) more.now }
-        ensures { self.new ≡ heads_together (self.old ∷ more.now ∷ []) }
+    /// Adds what another table counts.
+    pub fn add(&mut self, more: &TableCounts)
+        requires mine { AreCountsWithin (2 ^ 120) self.old }
+        requires its { AreCountsWithin (2 ^ 120) more.now }
+        ensures { self.new ≡ counts_together (self.old ∷ more.now ∷ []) }
     {
         self.runs += more.runs;
         self.files += more.files;
         self.unread += more.unread;
-        self.counts.add(&more.counts);
+        self.entries.add(&more.entries);
     }
 }
 
-/// Whether the numbers of the head have 64 bits.
-pub fn head_fits(head: &Head) -> bool
-    ensures { result ≡ head_fits head.now }
+/// Whether the counts have 64 bits.
+pub fn counts_fit(counts: &TableCounts) -> bool
+    ensures { result ≡ counts_fit counts.now }
 {
-    is_narrow(head.runs)
-        && is_narrow(head.files)
-        && is_narrow(head.unread)
-        && counts_fit(&head.counts)
+    is_narrow(counts.runs)
+        && is_narrow(counts.files)
+        && is_narrow(counts.unread)
+        && entry_counts_fit(&counts.entries)
 }
 
-fn counts_fit(counts: &HeadCounts) -> bool
-    ensures { result ≡ counts_fit counts.now }
+fn entry_counts_fit(counts: &EntryCounts) -> bool
+    ensures { result ≡ entry_counts_fit counts.now }
 {
     is_narrow(counts.accepted)
         && is_narrow(counts.refused)
