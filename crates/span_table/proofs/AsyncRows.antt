@@ -1,4 +1,4 @@
--- By category, scope, id and name a table has the asynchronous rows of its run, if their texts tell them apart; by whatever columns it
+-- By category, scope, id and name a table has the asynchronous rows of its run, if their texts distinguish them; by whatever columns it
 -- has in all what these have.
 use Rattle.std.proofs.Common.{◌≡◌, ℕ, Bool, false, cond, List, [], ◌∷◌, ◌++◌, map, refl, sym, ap, ap₂, subst, ◌∙◌}
 use Rattle.std.specs.Prelude.{filter, sum_by}
@@ -81,11 +81,11 @@ module _ (es : KeyedSums) where
 
 -- by category, scope, id and name a table of one run has its asynchronous rows
 pub rows-are_async_rows : RowsAreAsyncRows
-rows-are_async_rows run told =
+rows-are_async_rows run distinguished =
     let rows = async_rows run.journal in
     let sums = async_sums async_columns run in
     let make = keyed_async async_columns run in
-    let distinct = subst (IsDistinct (eq_by_cmp key_cmp)) (sym (map-map (λ (e : Entry). e.key) make rows)) told in
+    let distinct = subst (IsDistinct (eq_by_cmp key_cmp)) (sym (map-map (λ (e : Entry). e.key) make rows)) distinguished in
     subst (IsPermutation (map of_async_row rows)) (ap rows_of (sym (append-nil sums)))
     (subst (λ l. IsPermutation l (rows_of sums)) (map-map (own sums) make rows) (rows_of-distinct sums distinct))
 

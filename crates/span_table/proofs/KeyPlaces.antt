@@ -21,7 +21,7 @@ use Rattle.span_table.specs.Keys.{TableKey, key_cmp}
 use Rattle.span_table.specs.Tables.{SumsByKey, sums_together}
 
 module _ (kept : SumsByKey) (key : TableKey) where
-  -- the first place of a key that is told apart by its order
+  -- the first place of a key that its order distinguishes
   pub found-place : (place : ℕ) → position (eq_by_cmp key_cmp key) (keys_of kept) ≡ Some place →
       slice_get (values_of kept) place ≡ lookup (eq_by_cmp key_cmp key) kept → IsPlaceOf kept key place
   found-place place found value = by (slice_get kept place) refl
@@ -51,17 +51,17 @@ module _ (kept : SumsByKey) (key : TableKey) where
       by : (entry : Option (TableKey × Sums)) → slice_get kept place ≡ entry → IsKeptAs kept key entry →
           (slice_get kept place ≡ Some (key, value)) × (lookup (eq_by_cmp key_cmp key) kept ≡ Some value)
       by None at none = absurd (none-some _ (sym (slice_get-map (λ (e : TableKey × Sums). e.1) kept place ∙ ap (option_map (λ (e : TableKey × Sums). e.1)) at) ∙ found))
-      by (Some entry) at told =
+      by (Some entry) at is_kept =
           let same : entry.1 ≡ value = same_Some _ _ (sym (slice_get-map (λ (e : TableKey × Sums). e.1) kept place ∙ ap (option_map (λ (e : TableKey × Sums). e.1)) at) ∙ found) in
-          (at ∙ ap₂ (λ k v. Some (k, v)) told.0 same, told.1 ∙ ap Some same)
+          (at ∙ ap₂ (λ k v. Some (k, v)) is_kept.0 same, is_kept.1 ∙ ap Some same)
 
   -- where nothing stands, nothing is kept
   pub place-none : (place : ℕ) → IsPlaceOf kept key place → (place < length kept → ⊥) → lookup (eq_by_cmp key_cmp key) kept ≡ None
   place-none place is beyond = by (slice_get kept place) refl is
     where
       by : (entry : Option (TableKey × Sums)) → slice_get kept place ≡ entry → IsKeptAs kept key entry → lookup (eq_by_cmp key_cmp key) kept ≡ None
-      by None at told = told
-      by (Some entry) at told = absurd (beyond (slice_get_within kept place entry at))
+      by None at is_kept = is_kept
+      by (Some entry) at is_kept = absurd (beyond (slice_get_within kept place entry at))
 
 -- what the map finds for a key is what is kept there
 pub kept-found : (es kept : SumsByKey) (key : TableKey) (found : Option Sums) → AreDistinct key_cmp es → in_key_order key_cmp es ≡ kept → found ≡ lookup (eq_by_cmp key_cmp key) es →

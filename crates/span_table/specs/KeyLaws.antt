@@ -1,4 +1,4 @@
--- The order of keys is total, and keys that it does not tell apart are the same.
+-- The order of keys is total, and keys that it does not distinguish are the same.
 use Rattle.std.specs.Prelude.{◌≡◌, true, false, [], ◌∷◌, Some, None, refl}
 use Rattle.std.specs.declared.cmp.Ordering.TheVariants.{Less, Equal, Greater}
 use Rattle.std.specs.declared.cmp.Ordering.{Ordering}
@@ -56,7 +56,7 @@ option_cmp-same None (Some b) e = cc
 option_cmp-same (Some a) None e = cc
 option_cmp-same (Some a) (Some b) e = ap Some (value_cmp-same a b e)
 
--- keys that the order does not tell apart are the same
+-- keys that the order does not distinguish are the same
 pub key_cmp-same : (a b : TableKey) → key_cmp a b ≡ Equal → a ≡ b
 key_cmp-same [] [] e = refl
 key_cmp-same [] (y ∷ ys) e = cc

@@ -5,7 +5,7 @@ use Rattle.span_event.specs.declared.args.ArgValue.TheVariants.{Nil, Flag, Whole
 use Rattle.span_table.specs.Columns.{Value}
 use Rattle.span_table.specs.Keys.{TableKey}
 
--- a byte that no text has, which tells the kind, and then the value
+-- a byte that no text has, which gives the kind, and then the value
 abbrev pub value_writes : Value → HashWrites
 value_writes None = u8 248
 value_writes (Some Nil) = u8 249

@@ -1,4 +1,4 @@
--- By what the rows of a table are told apart: a value for each column.
+-- By what the rows of a table are distinguished: a value for each column.
 use Rattle.std.specs.Prelude.{List}
 use Rattle.std.specs.declared.cmp.Ordering.{Ordering}
 use Rattle.std.specs.Cmp.Lexicographic.{slice_cmp}

@@ -81,12 +81,12 @@ of_async_row row = record {
 }
 
 -- no two of the rows have the same texts, as an id that is known everywhere may have those of one that belongs to a process
-abbrev pub AreToldByTexts : List AsyncRow → Type 0
-AreToldByTexts rows = IsDistinct (eq_by_cmp key_cmp) (map (λ (row : AsyncRow). (of_async_row row).key) rows)
+abbrev pub HaveDistinctTexts : List AsyncRow → Type 0
+HaveDistinctTexts rows = IsDistinct (eq_by_cmp key_cmp) (map (λ (row : AsyncRow). (of_async_row row).key) rows)
 
--- by category, scope, id and name a table of one run has its asynchronous rows, in the order of their texts, if these tell them apart
+-- by category, scope, id and name a table of one run has its asynchronous rows, in the order of their texts, if these distinguish them
 abbrev pub RowsAreAsyncRows : Type 0
-RowsAreAsyncRows = (run : Run) → AreToldByTexts (async_rows run.journal) → IsPermutation (map of_async_row (async_rows run.journal)) (table_of Async async_columns (run ∷ [])).rows
+RowsAreAsyncRows = (run : Run) → HaveDistinctTexts (async_rows run.journal) → IsPermutation (map of_async_row (async_rows run.journal)) (table_of Async async_columns (run ∷ [])).rows
 
 -- by whatever columns, the rows of a table of one run have in all what its asynchronous rows have
 pub record AddUpToAsync (columns : List Column) (run : Run) : Type 0 where

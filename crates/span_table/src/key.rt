@@ -1,4 +1,4 @@
-//! By what the rows of a table are told apart.
+//! By what the rows of a table are distinguished.
 ghost use Rattle.std.specs.Prelude.{◌≡◌, Some, refl, fold, IfOk};
 ghost use Rattle.std.specs.Cmp.{eq_by_cmp_equiv, partial_equiv_from_equiv, partial_order_from_total};
 ghost use Rattle.std.specs.Ordering.{eq_by_cmp};
@@ -103,7 +103,7 @@ impl Hash for Key {
 }
 
 // A value begins with a byte that no text has, so different keys give the hasher different bytes, though neither how many values there
-// are nor where a text ends is told.
+// are nor where a text ends is written.
 fn hash_value<H: Hasher>(value: &Option<ArgValue>, state: &mut H)
     ensures { state.new ≡ fold H.write state.old (value_writes value.now) }
 {

@@ -20,7 +20,7 @@ pub fn row_law()
 {}
 
 /// By category, scope, id and name a table of one run has the asynchronous rows of the report, in the order of their texts, if these
-/// tell them apart; and by whatever columns its rows have in all what those have. The function does nothing: its contract is the law.
+/// distinguish them; and by whatever columns its rows have in all what those have. The function does nothing: its contract is the law.
 pub fn async_law()
     ensures rows { RowsAreAsyncRows }
     ensures totals { RowsAddUpToAsync }

@@ -15,7 +15,7 @@ use Rattle.span_table.proofs.Summing.{found-within, sums-added}
 use Rattle.span_table.proofs.groups.Groups.add_known.Goals as goal
 
 pub returns-in_default-clause-new : goal.returns-in_default-clause-new
-returns-in_default-clause-new c = λ told.
+returns-in_default-clause-new c = λ known.
     let es = c.self.inside.kept.entries in
     let key = c.args.key.now in
     found-in_key_order key_cmp_total key_cmp-same (λ a b. refl) es key None c.self.invariant
@@ -35,7 +35,7 @@ invariant_of-self-2 c =
     subst (λ keys. IsDistinct (eq_by_cmp key_cmp) keys) (sym (keys-with_value_at c.self.inside.kept c.place_of-at.result c.add.new.self)) c.self.invariant
 
 pub returns-clause-takes : goal.returns-clause-takes
-returns-clause-takes c = λ told.
+returns-clause-takes c = λ known.
     let kept = c.self.inside.kept in
     let key = c.args.key.now in
     let place = c.place_of-at.result in
@@ -48,7 +48,7 @@ returns-clause-takes c = λ told.
     (written ∙ ap (λ (kept : SumsByKey). insert_entry key_cmp kept key now) c.self.view_is)).0
 
 pub returns-clause-bound : goal.returns-clause-bound
-returns-clause-bound c = λ told.
+returns-clause-bound c = λ known.
     let kept = c.self.inside.kept in
     let key = c.args.key.now in
     let place = c.place_of-at.result in
