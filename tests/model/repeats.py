@@ -32,7 +32,7 @@ def spread_of(values):
 
 @dataclass
 class Sides:
-    """The tables of the repetitions of both sides, all of one kind, unit and columns, and the number whose values are told."""
+    """The tables of the repetitions of both sides, all of one kind, unit and columns, and the number whose values are printed."""
 
     base: list
     other: list

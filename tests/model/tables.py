@@ -53,7 +53,7 @@ class Table:
     columns: list
     counts: dict
     rows: dict  # the numbers of each key
-    tells_runs: bool = True
+    says_runs: bool = True
     unit: str = MICROSECONDS
     of: Of = SPANS
 
@@ -62,13 +62,13 @@ class Table:
         yield "events {events} refused {refused} skipped {skipped} queries {queries}".format(**self.counts)
         if self.counts["seals"]:
             yield "seals {seals}".format(**self.counts)
-        if self.tells_runs:
+        if self.says_runs:
             yield "runs {runs} files {files} unread {unread}".format(**self.counts)
 
 
-def table_of(columns, runs, tells_runs=False, of=SPANS):
+def table_of(columns, runs, says_runs=False, of=SPANS):
     rows = added(entry for run in runs for entry in SUMS[of](columns, run))
-    return Table(columns, all_counts([counts_of(run) for run in runs]), rows, tells_runs, runs[0].ledger.unit, of)
+    return Table(columns, all_counts([counts_of(run) for run in runs]), rows, says_runs, runs[0].ledger.unit, of)
 
 
 def rows_by(columns, table):
@@ -98,7 +98,7 @@ class Wanted:
         )
 
     def line(self, keys):
-        """How many of these keys are shown, where it is told."""
+        """How many of these keys are shown, where it is said."""
         if self.only or self.skip:
             yield f"shown {sum(map(self.shows, keys))} of {len(keys)}"
 

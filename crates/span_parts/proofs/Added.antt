@@ -27,7 +27,7 @@ use Rattle.span_parts.specs.declared.fault.PartFault.TheVariants.{NotTable, Othe
 use Rattle.span_parts.specs.Rows.{AllAdded, AreAdded, AreNoRows, AreRows, IsNextRow, IsOfSum, RowFails, RowsFail, comes_after, last_row, row_at}
 use Rattle.span_table_text.specs.Tokens.{row_tokens}
 use Rattle.span_table_text.proofs.Printed.{json_line-print}
-use Rattle.span_table_text.proofs.PrintedLines.{IsRowOf-told, print_row-line}
+use Rattle.span_table_text.proofs.PrintedLines.{IsRowOf-determined, print_row-line}
 use Rattle.span_parts.proofs.Lists.{All-at}
 use Rattle.span_parts.proofs.Summing.{with_rows-push}
 
@@ -101,7 +101,7 @@ module _ (of : Of) (columns : List Column) (places : List ℕ) (text rest : Byte
           let fits : IsRowOf of columns row = All-at (IsRowOf of columns) added.rows row more (subst (All (IsRowOf of columns)) whole are.each) in
           let cut = ends (print (row_tokens of columns row)) (flat_map (json_line of columns) more)
           (lines ∙ ap (λ l. l ++ flat_map (json_line of columns) more) (json_line-print of columns row) ∙ append_assoc (print (row_tokens of columns row)) (10 ∷ []) (flat_map (json_line of columns) more))
-          (print_row-line of columns row (IsRowOf-told of columns row fits)) in
+          (print_row-line of columns row (IsRowOf-determined of columns row fits)) in
           record {
             row = row;
             more = more;

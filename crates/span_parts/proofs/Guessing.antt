@@ -15,7 +15,7 @@ use Rattle.span_table.specs.Columns.{Value, column_name, is_column}
 use Rattle.span_table.specs.Keys.{TableKey}
 use Rattle.span_table_text.specs.Printed.{AreDistinct, IsKeyOf, IsOfArgument}
 use Rattle.span_table_text.specs.Tokens.{key_tokens, name_tokens, sums_tokens, value_tokens}
-use Rattle.span_table_text.proofs.PartsTold.{column_name-not_first_number, first_number}
+use Rattle.span_table_text.proofs.Determined.{column_name-not_first_number, first_number}
 use Rattle.span_table_text.proofs.PrintedLines.{IsOfArgument-any}
 use Rattle.span_parts.specs.Guess.{Found, MayFollow}
 use Rattle.std.proofs.lemmas.List.{length-append}

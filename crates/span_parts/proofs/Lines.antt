@@ -12,7 +12,7 @@ use Rattle.span_table.specs.declared.table.Row.{Row}
 use Rattle.span_table_text.specs.Json.{json_head}
 use Rattle.span_table_text.specs.Tokens.{head_tokens, row_tokens}
 use Rattle.span_table_text.proofs.Printed.{json_head-print, json_line-print}
-use Rattle.span_table_text.proofs.PrintedLines.{IsRowOf-told, tokens-head, tokens-row}
+use Rattle.span_table_text.proofs.PrintedLines.{IsRowOf-determined, tokens-head, tokens-row}
 use Rattle.span_parts.specs.First.{MayBegin}
 use Rattle.span_parts.specs.Rows.{IsRowLine}
 
@@ -22,4 +22,4 @@ tokens-first of unit columns rows counts line may is = ap tokens (append_cancel_
 
 -- and those of the line of a row
 pub tokens-line : (of : Of) (columns : List Column) (row : Row) (line : Bytes) → IsRowLine of columns line row → tokens line ≡ row_tokens of columns row
-tokens-line of columns row line is = ap tokens (append_cancel_right line (print (row_tokens of columns row)) (10 ∷ []) (is.printed ∙ json_line-print of columns row)) ∙ tokens-row of columns row (IsRowOf-told of columns row is.fits)
+tokens-line of columns row line is = ap tokens (append_cancel_right line (print (row_tokens of columns row)) (10 ∷ []) (is.printed ∙ json_line-print of columns row)) ∙ tokens-row of columns row (IsRowOf-determined of columns row is.fits)

@@ -59,5 +59,5 @@ mutual
 
 -- so two trees of the same runs are printed alike
 pub trees-print_alike : TreesPrintAlike
-trees-print_alike of unit columns one other text told moved first second =
-    (trees-lose_nothing of unit columns one text first).printed ∙ ap (text_of unit) (table_of-moved of columns (runs_in one) (runs_in other) moved) ∙ sym (trees-lose_nothing of unit columns other told second).printed
+trees-print_alike of unit columns one other text other_text moved first second =
+    (trees-lose_nothing of unit columns one text first).printed ∙ ap (text_of unit) (table_of-moved of columns (runs_in one) (runs_in other) moved) ∙ sym (trees-lose_nothing of unit columns other other_text second).printed

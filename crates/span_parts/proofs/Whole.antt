@@ -29,19 +29,19 @@ begins_so unit text part is = record { columns_fit = is.is.columns; few = is.is.
 -- a text without a line that ends is none
 pub no_line-part : (text : Bytes) → ((xs ys : Bytes) → text ≡ xs ++ 10 ∷ ys → All (λ byte. byte ≢ 10) xs → ⊥) → IsNoPart text
 no_line-part text none unit part is =
-    let told = print (head_tokens part.of unit part.columns (length part.rows) part.counts) in
+    let head = print (head_tokens part.of unit part.columns (length part.rows) part.counts) in
     let lines = flat_map (json_line part.of part.columns) part.rows in
-    none told lines
-    (is.printed ∙ ap (λ l. l ++ lines) (json_head-print part.of unit part.columns (length part.rows) part.counts) ∙ append_assoc told (10 ∷ []) lines)
+    none head lines
+    (is.printed ∙ ap (λ l. l ++ lines) (json_head-print part.of unit part.columns (length part.rows) part.counts) ∙ append_assoc head (10 ∷ []) lines)
     (print_head-line part.of unit part.columns (length part.rows) part.counts is.is.few is.is.counts)
 
 module _ (text line rest : Bytes) (ends : EndsLine text line rest) (unit : TimeUnit) (part : SpanTable) (is : IsPart unit text part) where
   cut : (line ≡ print (head_tokens part.of unit part.columns (length part.rows) part.counts)) × (rest ≡ flat_map (json_line part.of part.columns) part.rows)
   cut =
-      let told = print (head_tokens part.of unit part.columns (length part.rows) part.counts) in
+      let head = print (head_tokens part.of unit part.columns (length part.rows) part.counts) in
       let lines = flat_map (json_line part.of part.columns) part.rows in
-      ends told lines
-      (is.printed ∙ ap (λ l. l ++ lines) (json_head-print part.of unit part.columns (length part.rows) part.counts) ∙ append_assoc told (10 ∷ []) lines)
+      ends head lines
+      (is.printed ∙ ap (λ l. l ++ lines) (json_head-print part.of unit part.columns (length part.rows) part.counts) ∙ append_assoc head (10 ∷ []) lines)
       (print_head-line part.of unit part.columns (length part.rows) part.counts is.is.few is.is.counts)
 
   -- its first line

@@ -50,5 +50,5 @@ TreesLoseNothing = (of : Of) (unit : TimeUnit) (columns : List Column) (whole : 
 
 -- two trees of the same runs, in whatever order, are printed alike
 abbrev pub TreesPrintAlike : Type 0
-TreesPrintAlike = (of : Of) (unit : TimeUnit) (columns : List Column) (one other : Tree) (text told : Bytes) → IsPermutation (runs_in one) (runs_in other) →
-    IsPrinted of unit columns one text → IsPrinted of unit columns other told → text ≡ told
+TreesPrintAlike = (of : Of) (unit : TimeUnit) (columns : List Column) (one other : Tree) (text other_text : Bytes) → IsPermutation (runs_in one) (runs_in other) →
+    IsPrinted of unit columns one text → IsPrinted of unit columns other other_text → text ≡ other_text

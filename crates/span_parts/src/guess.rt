@@ -4,7 +4,7 @@ ghost use Rattle.std.specs.Prelude.{◌≡◌, ◌≢◌, ◌<◌, ◌^◌, ◌+
 ghost use Rattle.std.specs.Fmt.{signed_decimal};
 ghost use Rattle.std.specs.Int.{w64};
 ghost use Rattle.json.specs.Reads.{token_of};
-ghost use Rattle.json.specs.Token.{Token as Told, end_array, key};
+ghost use Rattle.json.specs.Token.{Token as TheToken, end_array, key};
 ghost use Rattle.span_event.specs.Text.{Bytes};
 ghost use Rattle.span_event.specs.declared.args.ArgValue.{ArgValue as TheValue};
 ghost use Rattle.span_event.specs.declared.args.ArgValue.TheVariants.{Whole};
@@ -78,7 +78,7 @@ pub(crate) fn first_line_of(
 
 // What is summed, as is said behind `{"tracebook":1`, and what is behind that.
 fn of_after<'t, 'a>(tokens: &'t [Token<'a>]) -> Option<(Of, &'t [Token<'a>])>
-    ensures { (of : TheOf) (unit : TheUnit) (a b c : Told) (rest : List Told)
+    ensures { (of : TheOf) (unit : TheUnit) (a b c : TheToken) (rest : List TheToken)
         → map token_of tokens.now
         ≡ a ∷ b ∷ c ∷ (of_tokens of ++ (unit_tokens unit ++ key (codes "columns") ∷ rest))
         → Finds of (unit_tokens unit ++ key (codes "columns") ∷ rest) result }
@@ -92,7 +92,7 @@ fn of_after<'t, 'a>(tokens: &'t [Token<'a>]) -> Option<(Of, &'t [Token<'a>])>
 
 // The unit that is said next, and what is behind `"columns":[`.
 fn unit_after<'t, 'a>(tokens: &'t [Token<'a>]) -> Option<(Unit, &'t [Token<'a>])>
-    ensures { (unit : TheUnit) (array : Told) (rest : List Told)
+    ensures { (unit : TheUnit) (array : TheToken) (rest : List TheToken)
         → map token_of tokens.now ≡ unit_tokens unit ++ key (codes "columns") ∷ array ∷ rest
         → Finds unit rest result }
 {
@@ -109,7 +109,7 @@ fn put_columns<'t, 'a>(
     tokens: &'t [Token<'a>],
     columns: &mut Vec<Column>,
 ) -> Result<Option<&'t [Token<'a>]>, AllocError>
-    ensures { IfOk result (λ left. (later : List TheColumn) (rest : List Told)
+    ensures { IfOk result (λ left. (later : List TheColumn) (rest : List TheToken)
         → MayFollow columns.old.items later
         → map token_of tokens.now ≡ name_tokens later ++ end_array ∷ rest
         → Leaves (end_array ∷ rest) left × (columns.new.items ≡ columns.old.items ++ later)) }
@@ -131,7 +131,7 @@ fn put_columns<'t, 'a>(
 }
 
 fn numbers_of(tokens: &[Token]) -> Option<(u64, TableCounts)>
-    ensures { (rows : ℕ) (counts : TheCounts) (rest : List Told)
+    ensures { (rows : ℕ) (counts : TheCounts) (rest : List TheToken)
         → rows < 2 ^ 64 → counts_fit counts ≡ true
         → map token_of tokens.now ≡ numbers_tokens rows counts ++ rest
         → result ≡ Some (rows, counts) }
@@ -150,7 +150,7 @@ fn numbers_of(tokens: &[Token]) -> Option<(u64, TableCounts)>
 }
 
 fn entry_counts_of(tokens: &[Token]) -> Option<EntryCounts>
-    ensures { (counts : TheCounts) (rest : List Told) → counts_fit counts ≡ true
+    ensures { (counts : TheCounts) (rest : List TheToken) → counts_fit counts ≡ true
         → map token_of tokens.now ≡ entry_counts_tokens counts.entries ++ rest
         → result ≡ Some counts.entries }
 {
@@ -196,7 +196,7 @@ fn key_of<'t, 'a>(
     tokens: &'t [Token<'a>],
 ) -> Result<(Key, &'t [Token<'a>]), AllocError>
     ensures { IfOk result (λ found. (of : TheOf) (columns : List TheColumn)
-        (values : TableKey) (sums : TheSums) (rest : List Told)
+        (values : TableKey) (sums : TheSums) (rest : List TheToken)
         → AreDistinct names.now → IsKeyOf columns values → names.now ≡ map column_name columns
         → map token_of tokens.now ≡ key_tokens columns values ++ (sums_tokens of sums ++ rest)
         → Found values (sums_tokens of sums ++ rest) found) }
@@ -213,7 +213,7 @@ fn put_values<'t, 'a>(
     values: &mut Vec<Option<ArgValue>>,
 ) -> Result<&'t [Token<'a>], AllocError>
     ensures { IfOk result (λ left. (of : TheOf) (columns : List TheColumn)
-        (more : TableKey) (sums : TheSums) (rest : List Told)
+        (more : TableKey) (sums : TheSums) (rest : List TheToken)
         → AreDistinct names.now → IsKeyOf columns more → names.now ≡ map column_name columns
         → map token_of tokens.now ≡ key_tokens columns more ++ (sums_tokens of sums ++ rest)
         → Found (values.old.items ++ more) (sums_tokens of sums ++ rest) (values.new.items, left)) }
@@ -230,7 +230,7 @@ fn put_values<'t, 'a>(
 }
 
 fn sums_of(of: Of, tokens: &[Token]) -> Option<Sums>
-    ensures { (sums : TheSums) (rest : List Told) → HasOwn of sums → fit sums ≡ true
+    ensures { (sums : TheSums) (rest : List TheToken) → HasOwn of sums → fit sums ≡ true
         → map token_of tokens.now ≡ sums_tokens of sums ++ rest → result ≡ Some sums }
 {
     match of {
@@ -240,7 +240,7 @@ fn sums_of(of: Of, tokens: &[Token]) -> Option<Sums>
 }
 
 fn span_sums_of(tokens: &[Token]) -> Option<Sums>
-    ensures { (sums : TheSums) (rest : List Told) → HasOwn Spans sums → fit sums ≡ true
+    ensures { (sums : TheSums) (rest : List TheToken) → HasOwn Spans sums → fit sums ≡ true
         → map token_of tokens.now ≡ sums_tokens Spans sums ++ rest → result ≡ Some sums }
 {
     let (count, rest) = number_after(tokens, "count")?;
@@ -256,7 +256,7 @@ fn span_sums_of(tokens: &[Token]) -> Option<Sums>
 }
 
 fn async_sums_of(tokens: &[Token]) -> Option<Sums>
-    ensures { (sums : TheSums) (rest : List Told) → HasOwn Async sums → fit sums ≡ true
+    ensures { (sums : TheSums) (rest : List TheToken) → HasOwn Async sums → fit sums ≡ true
         → map token_of tokens.now ≡ sums_tokens Async sums ++ rest → result ≡ Some sums }
 {
     let (closed, rest) = number_after(tokens, "closed")?;
@@ -278,11 +278,12 @@ fn value_after<'t, 'a>(
     tokens: &'t [Token<'a>],
     name: &str,
 ) -> Result<(Option<ArgValue>, &'t [Token<'a>]), AllocError>
-    ensures there { IfOk result (λ found. (value : TheValue) (rest : List Told)
+    ensures there { IfOk result (λ found. (value : TheValue) (rest : List TheToken)
         → IsOfArgument (Some value)
         → map token_of tokens.now ≡ key name.now ∷ (value_tokens value ++ rest)
         → Found (Some value) rest found) }
-    ensures missing { IfOk result (λ found. (other : Bytes) (rest : List Told) → other ≢ name.now
+    ensures missing { IfOk result (λ found. (other : Bytes) (rest : List TheToken)
+        → other ≢ name.now
         → map token_of tokens.now ≡ key other ∷ rest → Found None (key other ∷ rest) found) }
 {
     match key_after(tokens, name) {
@@ -295,7 +296,7 @@ fn value_of<'t, 'a>(
     alloc: Global,
     tokens: &'t [Token<'a>],
 ) -> Result<(Option<ArgValue>, &'t [Token<'a>]), AllocError>
-    ensures { IfOk result (λ found. (value : TheValue) (rest : List Told)
+    ensures { IfOk result (λ found. (value : TheValue) (rest : List TheToken)
         → IsOfArgument (Some value)
         → map token_of tokens.now ≡ value_tokens value ++ rest → Found (Some value) rest found) }
 {

@@ -2,7 +2,7 @@
 ghost use Rattle.std.specs.Prelude.{◌≡◌, ◌≢◌, ◌<◌, ◌^◌, ◌++◌, ◌∷◌, ℕ, List, Some, decimal, map, IfNone, IfOk, IfSome, IsNone};
 ghost use Rattle.json.specs.Lex.{tokens};
 ghost use Rattle.json.specs.Reads.{token_of};
-ghost use Rattle.json.specs.Token.{Token as Told, key, string};
+ghost use Rattle.json.specs.Token.{Token as TheToken, key, string};
 ghost use Rattle.span_event.specs.Text.{Bytes};
 ghost use Rattle.span_table_text.specs.Tokens.{number_tokens};
 ghost use Rattle.span_parts.specs.Guess.{Finds, Leaves};
@@ -31,9 +31,9 @@ pub(crate) fn tokens_of<'a>(
 
 /// What is behind this key, if it is next.
 pub(crate) fn key_after<'t, 'a>(tokens: &'t [Token<'a>], name: &str) -> Option<&'t [Token<'a>]>
-    ensures there { (rest : List Told) → map token_of tokens.now ≡ key name.now ∷ rest
+    ensures there { (rest : List TheToken) → map token_of tokens.now ≡ key name.now ∷ rest
         → Leaves rest result }
-    ensures missing { (other : Bytes) (rest : List Told) → other ≢ name.now
+    ensures missing { (other : Bytes) (rest : List TheToken) → other ≢ name.now
         → map token_of tokens.now ≡ key other ∷ rest → IsNone result }
 {
     let (first, rest) = tokens.split_first()?;
@@ -47,7 +47,7 @@ pub(crate) fn key_after<'t, 'a>(tokens: &'t [Token<'a>], name: &str) -> Option<&
 pub(crate) fn text_after<'t, 'a>(tokens: &'t [Token<'a>]) -> Option<(&'t str, &'t [Token<'a>])>
     ensures text { IfSome result (λ found. map token_of tokens.now
         ≡ string found.0.now ∷ map token_of found.1.now) }
-    ensures none { IfNone result ((text : Bytes) (rest : List Told)
+    ensures none { IfNone result ((text : Bytes) (rest : List TheToken)
         → map token_of tokens.now ≢ string text ∷ rest) }
 {
     let (first, rest) = tokens.split_first()?;
@@ -62,7 +62,7 @@ pub(crate) fn number_after<'t, 'a>(
     tokens: &'t [Token<'a>],
     name: &str,
 ) -> Option<(u64, &'t [Token<'a>])>
-    ensures { (number : ℕ) (rest : List Told) → number < 2 ^ 64
+    ensures { (number : ℕ) (rest : List TheToken) → number < 2 ^ 64
         → map token_of tokens.now ≡ number_tokens name.now number ++ rest
         → Finds number rest result }
 {
@@ -84,7 +84,7 @@ fn number_of(text: &str) -> Option<u64>
 
 /// What is behind one token, whatever it is.
 pub(crate) fn after_one<'t, 'a>(tokens: &'t [Token<'a>]) -> Option<&'t [Token<'a>]>
-    ensures { (token : Told) (rest : List Told) → map token_of tokens.now ≡ token ∷ rest
+    ensures { (token : TheToken) (rest : List TheToken) → map token_of tokens.now ≡ token ∷ rest
         → Leaves rest result }
 {
     let (_, rest) = tokens.split_first()?;

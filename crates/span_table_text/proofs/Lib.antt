@@ -1,5 +1,5 @@
+pub mod Determined
 pub mod JsonPieces
-pub mod PartsTold
 pub mod Pieces
 pub mod Printed
 pub mod PrintedLines

@@ -243,25 +243,25 @@ IsOfArgument-any column (Some (Whole whole)) may = whole_fits column whole may
 IsOfArgument-any column (Some (Words text)) may = tt
 IsOfArgument-any column (Some Other) may = tt
 
--- a key that a line tells: a value for each column, whose numbers have 64 bits
-abbrev pub IsToldKey : List Column → TableKey → Type 0
-IsToldKey columns values = (length values ≡ length columns) × KeyFits columns values
+-- a key that its line determines: a value for each column, whose numbers have 64 bits
+abbrev pub IsDeterminedKey : List Column → TableKey → Type 0
+IsDeterminedKey columns values = (length values ≡ length columns) × KeyFits columns values
 
-IsKeyOf-told : (columns : List Column) (values : TableKey) → IsKeyOf columns values → IsToldKey columns values
-IsKeyOf-told [] [] h = (refl, tt)
-IsKeyOf-told [] (value ∷ values) h = absurd h
-IsKeyOf-told (column ∷ columns) [] h = absurd h
-IsKeyOf-told (column ∷ columns) (value ∷ values) h = let rest = IsKeyOf-told columns values h.1 in (ap suc rest.0, (IsOfArgument-any column value h.0, rest.1))
+IsKeyOf-determined : (columns : List Column) (values : TableKey) → IsKeyOf columns values → IsDeterminedKey columns values
+IsKeyOf-determined [] [] h = (refl, tt)
+IsKeyOf-determined [] (value ∷ values) h = absurd h
+IsKeyOf-determined (column ∷ columns) [] h = absurd h
+IsKeyOf-determined (column ∷ columns) (value ∷ values) h = let rest = IsKeyOf-determined columns values h.1 in (ap suc rest.0, (IsOfArgument-any column value h.0, rest.1))
 
--- a row that a line tells
-pub record IsTold (of : Of) (columns : List Column) (row : Row) : Type 0 where
-  pub key : IsToldKey columns row.key
+-- a row that its line determines
+pub record IsDetermined (of : Of) (columns : List Column) (row : Row) : Type 0 where
+  pub key : IsDeterminedKey columns row.key
   pub own : HasOwn of row.sums
   pub sums : fit row.sums ≡ true
 
 -- so is each that a table may have
-pub IsRowOf-told : (of : Of) (columns : List Column) (row : Row) → IsRowOf of columns row → IsTold of columns row
-IsRowOf-told of columns row is = record { key = IsKeyOf-told columns row.key is.key; own = is.own; sums = is.fits }
+pub IsRowOf-determined : (of : Of) (columns : List Column) (row : Row) → IsRowOf of columns row → IsDetermined of columns row
+IsRowOf-determined of columns row is = record { key = IsKeyOf-determined columns row.key is.key; own = is.own; sums = is.fits }
 
 value-in_line : (value : ArgValue) → IsOfArgument (Some value) → AreInLine (value_tokens value)
 value-in_line Nil h = (tt, tt)
@@ -276,7 +276,7 @@ key-in_line (column ∷ columns) [] h = tt
 key-in_line (column ∷ columns) (None ∷ values) h = key-in_line columns values h.1
 key-in_line (column ∷ columns) (Some value ∷ values) h = (tt, AreInLine-append (value_tokens value) _ (value-in_line value h.0) (key-in_line columns values h.1))
 
-row-in_line : (of : Of) (columns : List Column) (row : Row) → IsTold of columns row → AreInLine (row_tokens of columns row)
+row-in_line : (of : Of) (columns : List Column) (row : Row) → IsDetermined of columns row → AreInLine (row_tokens of columns row)
 row-in_line of columns row is =
     let sums = AreInLine-append (sums_tokens of row.sums) (end_object ∷ []) (sums-in_line of row.sums is.sums) (tt, tt) in
     (tt, AreInLine-append (key_tokens columns row.key) (sums_tokens of row.sums ++ end_object ∷ []) (key-in_line columns row.key is.key.1) sums)
@@ -305,7 +305,7 @@ head-in_line of unit columns rows counts few small =
     (tt, (tt, (one-in_line, AreInLine-append (of_tokens of) (unit_tokens unit ++ columns_tokens columns rows counts) (of-in_line of) more)))
 
 -- the tokens of a row are read back
-pub tokens-row : (of : Of) (columns : List Column) (row : Row) → IsTold of columns row → tokens (print (row_tokens of columns row)) ≡ row_tokens of columns row
+pub tokens-row : (of : Of) (columns : List Column) (row : Row) → IsDetermined of columns row → tokens (print (row_tokens of columns row)) ≡ row_tokens of columns row
 tokens-row of columns row is = tokens-print (row_tokens of columns row) (all_printable (row_tokens of columns row) (row-in_line of columns row is))
 
 -- those of the first line are read back
@@ -315,7 +315,7 @@ tokens-head of unit columns rows counts few fits =
     tokens-print (head_tokens of unit columns rows counts) (all_printable (head_tokens of unit columns rows counts) (head-in_line of unit columns rows counts few (counts_small counts fits)))
 
 -- the line of a row is one line
-pub print_row-IsLine : (of : Of) (columns : List Column) (row : Row) → IsTold of columns row → IsLine (print (row_tokens of columns row))
+pub print_row-IsLine : (of : Of) (columns : List Column) (row : Row) → IsDetermined of columns row → IsLine (print (row_tokens of columns row))
 print_row-IsLine of columns row is = print-line false (row_tokens of columns row) (row-in_line of columns row is)
 
 -- the first line is one line
@@ -323,7 +323,7 @@ pub print_head-IsLine : (of : Of) (unit : Unit) (columns : List Column) (rows : 
 print_head-IsLine of unit columns rows counts few fits = print-line false (head_tokens of unit columns rows counts) (head-in_line of unit columns rows counts few (counts_small counts fits))
 
 -- no line feed stands in the line of a row
-pub print_row-line : (of : Of) (columns : List Column) (row : Row) → IsTold of columns row → All (λ byte. byte ≢ 10) (print (row_tokens of columns row))
+pub print_row-line : (of : Of) (columns : List Column) (row : Row) → IsDetermined of columns row → All (λ byte. byte ≢ 10) (print (row_tokens of columns row))
 print_row-line of columns row is = All-from_recursion (λ byte. byte ≢ 10) (print (row_tokens of columns row)) (print_row-IsLine of columns row is)
 
 -- no line feed stands in the first line

@@ -35,7 +35,7 @@ use Rattle.span_table.specs.Keys.{TableKey, key_cmp}
 use Rattle.span_table_text.specs.Printed.{AllFit, AllIsPrinted, AreColumns, HasFile, HasSome, HaveFiles, IsKeyOf, IsName, IsOfArgument, IsPart, IsPrint, IsTable, IsWords, KeyFits, MayHave, PrintsAreParts}
 use Rattle.span_table_text.specs.Shown.{Wanted, is_wanted, key_has, wants_all}
 use Rattle.span_table.specs.Tables.{KeyedSums, SpanTable, keyed_async, keyed_span, row_of, rows_of, run_sums, sums_together, table_of, thread_sums}
-use Rattle.span_table_text.proofs.PartsTold.{HasOwnNumbers, HasWholeKeys, prints-told}
+use Rattle.span_table_text.proofs.Determined.{HasOwnNumbers, HasWholeKeys, prints-determined}
 use Rattle.span_table_text.proofs.PrintedLines.{numbers_fit-each}
 use Rattle.span_table.proofs.Rows.{RowsRise-rows_of}
 use Rattle.span_table.proofs.Tallies.{tally, tally-cons}
@@ -221,7 +221,7 @@ module _ (of : Of) (columns : List Column) (runs : List Run) where
   pub part-table_of : (unit second : Unit) (text : Bytes) (part : SpanTable) → IsPart unit text part → IsPrint second text (table_of of columns runs)
       → (unit ≡ second) × (part ≡ table_of of columns runs)
   part-table_of unit second text part is print =
-      prints-told unit second text part (table_of of columns runs) is print (table_of-HasWholeKeys columns runs of) (table_of-HasOwnNumbers columns runs of)
+      prints-determined unit second text part (table_of of columns runs) is print (table_of-HasWholeKeys columns runs of) (table_of-HasOwnNumbers columns runs of)
 
   -- the table of runs that have their files, if its numbers have 64 bits, is one that can be read back
   pub IsTable-table_of : AreColumns of columns → HaveFiles columns runs → AllFit (table_of of columns runs) → IsTable (table_of of columns runs)

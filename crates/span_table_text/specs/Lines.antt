@@ -31,10 +31,10 @@ value_text value = or_dash (value_json (codes "...")) value
 unfoldable pub column_title : Column → Bytes
 column_title column = escape (column_name column)
 
--- how many runs there are, and how many files, where the head is to tell it
+-- how many runs there are, and how many files, where the head is to say so
 unfoldable pub runs_line : Bool → TableCounts → Bytes
-runs_line tells_runs counts =
-    if tells_runs then line_of (codes "runs" ∷ decimal counts.runs ∷ codes "files" ∷ decimal counts.files ∷ codes "unread" ∷ decimal counts.unread ∷ []) else []
+runs_line says_runs counts =
+    if says_runs then line_of (codes "runs" ∷ decimal counts.runs ∷ codes "files" ∷ decimal counts.files ∷ codes "unread" ∷ decimal counts.unread ∷ []) else []
 
 -- how many keys are shown of how many, where not all are wanted
 unfoldable pub shown_line : Wanted → ℕ → ℕ → Bytes

@@ -128,8 +128,8 @@ pub record IsPart (unit : Unit) (text : Bytes) (table : SpanTable) : Type 0 wher
   pub printed : text ≡ text_of unit table
 
 -- a text is that of one table, in one unit
-abbrev pub PartsAreTold : Type 0
-PartsAreTold = (unit second : Unit) (text : Bytes) (one other : SpanTable) → IsPart unit text one → IsPart second text other → (unit ≡ second) × (one ≡ other)
+abbrev pub PartsAreDetermined : Type 0
+PartsAreDetermined = (unit second : Unit) (text : Bytes) (one other : SpanTable) → IsPart unit text one → IsPart second text other → (unit ≡ second) × (one ≡ other)
 
 -- where all rows are wanted, what JSON Lines have of a table is its print
 abbrev pub AllIsPrinted : Type 0

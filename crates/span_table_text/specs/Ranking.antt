@@ -27,7 +27,7 @@ ranked_line Async row =
     line_of (right_in 16 (decimal row.sums.total) ∷ right_in 8 (decimal row.sums.count) ∷ right_in 8 (decimal row.sums.unclosed) ∷ right_in 8 (decimal row.sums.points) ∷
     map value_text row.key)
 
--- the head of the report, how many runs there are where that is told, how many rows are shown, the names of the columns, and then a line for each of the first rows
+-- the head of the report, how many runs there are where that is said, how many rows are shown, the names of the columns, and then a line for each of the first rows
 abbrev pub ranking_of : Unit → ℕ → By → Wanted → Bool → SpanTable → Bytes
-ranking_of unit most by wanted tells_runs table = let shown = shown_rows wanted table.rows in
-    head_lines unit table.counts.entries ++ (runs_line tells_runs table.counts ++ (shown_line wanted (length shown) (length table.rows) ++ (column_line table.of table.columns ++ flat_map (ranked_line table.of) (take most (ranked by shown)))))
+ranking_of unit most by wanted says_runs table = let shown = shown_rows wanted table.rows in
+    head_lines unit table.counts.entries ++ (runs_line says_runs table.counts ++ (shown_line wanted (length shown) (length table.rows) ++ (column_line table.of table.columns ++ flat_map (ranked_line table.of) (take most (ranked by shown)))))

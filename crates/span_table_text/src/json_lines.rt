@@ -15,7 +15,7 @@ use span_report::json_text;
 use span_table::{Column, EntryCounts, Of, Table, TableCounts, counts_fit, fits};
 use std::alloc::{AllocError, Global};
 
-/// Why rows were not told to a machine.
+/// Why rows were not printed for a machine.
 #[derive(Clone, Copy, Debug, PartialEq, Eq)]
 pub enum JsonFault {
     /// 31: memory was refused.

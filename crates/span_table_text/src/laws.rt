@@ -1,5 +1,5 @@
 //! The facts that hold of every ranking, and of every table that is printed.
-ghost use Rattle.span_table_text.specs.Printed.{AllIsPrinted, PartsAreTold, PrintsAreParts};
+ghost use Rattle.span_table_text.specs.Printed.{AllIsPrinted, PartsAreDetermined, PrintsAreParts};
 ghost use Rattle.span_table_text.specs.Ranks.{RankingsHaveEachRow};
 
 /// A ranking has each row that is shown, once, and no two rows rank alike. The function does nothing: its contract is the law.
@@ -9,7 +9,7 @@ pub fn ranking_law()
 
 /// Two tables that are printed alike are the same. The function does nothing: its contract is the law.
 pub fn part_law()
-    ensures { PartsAreTold }
+    ensures { PartsAreDetermined }
 {}
 
 /// Where all rows are wanted, what is written of a table is its print; and what is printed of runs is a part, so it may be read back:

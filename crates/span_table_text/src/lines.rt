@@ -36,13 +36,13 @@ pub fn put_seals(out: &mut String, seals: u128) -> Result<(), AllocError>
     writeln!(out, "seals {seals}")
 }
 
-/// Appends the line of runs, where it is told.
+/// Appends the line of runs, where the head says how many there are.
 #[tactic(auto, unfolding(crate::specs::Lines::runs_line))]
-pub fn put_runs(out: &mut String, counts: &TableCounts, tells_runs: bool) -> Result<(), AllocError>
+pub fn put_runs(out: &mut String, counts: &TableCounts, says_runs: bool) -> Result<(), AllocError>
     ensures { OnOk result (string_bytes out.new
-        ≡ string_bytes out.old ++ runs_line tells_runs counts.now) }
+        ≡ string_bytes out.old ++ runs_line says_runs counts.now) }
 {
-    if !tells_runs {
+    if !says_runs {
         return Ok(());
     }
     let (runs, files, unread) = (counts.runs, counts.files, counts.unread);

@@ -18,7 +18,7 @@ use span_table::{By, Column, EntryCounts, Of, Row, Sums, Table};
 use std::alloc::{AllocError, Global};
 use std::cmp::Ordering;
 
-/// The text of the ranking of a table in a unit, with at most so many of the rows that are shown. Its head tells of runs or doesn't.
+/// The text of the ranking of a table in a unit, with at most so many of the rows that are shown. Its head says how many runs there are or doesn't.
 pub fn ranking(
     alloc: Global,
     unit: Unit,
@@ -26,13 +26,13 @@ pub fn ranking(
     shown: &Shown,
     most: u32,
     by: By,
-    tells_runs: bool,
+    says_runs: bool,
 ) -> Result<Vec<u8>, AllocError>
     ensures { IfOk result (λ text. text.items
-        ≡ ranking_of unit most by shown.now tells_runs table.now) }
+        ≡ ranking_of unit most by shown.now says_runs table.now) }
 {
     let mut out = head(alloc, unit, &table.counts().entries)?;
-    put_runs(&mut out, &table.counts(), tells_runs)?;
+    put_runs(&mut out, &table.counts(), says_runs)?;
     let rows = shown.rows(alloc, table.rows())?;
     put_shown(
         &mut out,

@@ -20,18 +20,18 @@ returns-in-Ok-Some-clause-begins c =
     let text = c.in-Ok.text.now in
     let line = c.in-Some.line.now in
     let rest = c.in-Some.rest.now in
-    let told = c.in-Ok.ensures.cases in
+    let cases = c.in-Ok.ensures.cases in
     let first : IsFirstLine line c.in-Ok-Some.first = subst (λ o. IfSome o (IsFirstLine line)) c.in-Ok-Some.field-0-is c.in-Ok-Some.ensures.is in
     let parts = split_parts 10 text (Some (c.in-Some.line, c.in-Some.rest)) c.in-Some.ensures.cases (omega arith) in
     let ends : EndsLine text line rest = λ xs ys whole free. split_after 10 text xs ys (Some (c.in-Some.line, c.in-Some.rest)) c.in-Some.ensures.cases (omega arith) whole (λ i lt. free i 0 lt) in
     let said : (unit : TimeUnit) (part : SpanTable) → IsPart unit c.args.text.now part → Says part.of unit part.columns (length part.rows) part.counts (Some c.in-Ok-Some.first) × (rest ≡ flat_map (json_line part.of part.columns) part.rows) = λ unit part is.
-    let own = subst (λ t. IsPart unit t part) (sym told.0) is in
+    let own = subst (λ t. IsPart unit t part) (sym cases.0) is in
     let found = c.in-Ok-Some.ensures.found part.of unit part.columns (length part.rows) part.counts (begins_so unit text part own) (line-part text line rest ends unit part own) in
     (subst (Says part.of unit part.columns (length part.rows) part.counts) c.in-Ok-Some.field-0-is found, rest-part text line rest ends unit part own) in
     record {
-      utf8 = told.1;
+      utf8 = cases.1;
       may = first.may;
-      printed = sym told.0 ∙ parts.0 ∙ sym (append_assoc line (10 ∷ []) rest) ∙ ap (λ l. l ++ rest) first.printed;
+      printed = sym cases.0 ∙ parts.0 ∙ sym (append_assoc line (10 ∷ []) rest) ∙ ap (λ l. l ++ rest) first.printed;
       of = λ unit part is. sym (said unit part is).0.0;
       unit = λ unit part is. sym (said unit part is).0.1;
       columns = λ unit part is. sym (said unit part is).0.2;

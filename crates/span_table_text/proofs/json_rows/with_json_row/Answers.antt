@@ -10,6 +10,6 @@ returns-in-Ok-with_line_feed-clause-line c =
     let columns = c.args.columns.now in
     let row = c.args.row.now in
     let before = c.in-Ok.ensures.before ∙ c.new-writer.ensures.before in
-    let told = c.in-Ok.ensures.tokens ∙ ap (λ l. l ++ row_tokens c.args.of columns row) c.new-writer.ensures.tokens in
-    c.in-Ok-with_line_feed.ensures ∙ ap (λ l. l ++ 10 ∷ []) (c.into_inner.ensures.items ∙ ap₂ (λ b t. b ++ print t) before told)
+    let all = c.in-Ok.ensures.tokens ∙ ap (λ l. l ++ row_tokens c.args.of columns row) c.new-writer.ensures.tokens in
+    c.in-Ok-with_line_feed.ensures ∙ ap (λ l. l ++ 10 ∷ []) (c.into_inner.ensures.items ∙ ap₂ (λ b t. b ++ print t) before all)
     ∙ append_assoc old (print (row_tokens c.args.of columns row)) (10 ∷ []) ∙ ap (λ l. old ++ l) (sym (json_line-print c.args.of columns row))

@@ -22,21 +22,21 @@ use Rattle.span_table.specs.Counts.{counts_fit}
 use Rattle.span_table.specs.Sums.{fit}
 use Rattle.span_table_text.specs.Json.{json_line, text_of}
 use Rattle.span_table.specs.Keys.{TableKey}
-use Rattle.span_table_text.specs.Printed.{AllFit, AreDistinct, HasOwn, IsOfArgument, IsPart, IsPrint, IsRowOf, IsTable, PartsAreTold}
+use Rattle.span_table_text.specs.Printed.{AllFit, AreDistinct, HasOwn, IsOfArgument, IsPart, IsPrint, IsRowOf, IsTable, PartsAreDetermined}
 use Rattle.span_table.specs.Tables.{SpanTable}
 use Rattle.span_table_text.specs.Tokens.{columns_tokens, head_tokens, key_tokens, name_tokens, numbers_tokens, of_tokens, row_tokens, sums_tokens, unit_tokens, value_tokens}
 use Rattle.span_table_text.proofs.Printed.{json_head-print, json_line-print}
 use Rattle.span_table.proofs.Summing.{sums_small}
-use Rattle.span_table_text.proofs.PrintedLines.{AreSmall, IsLine, IsRowOf-told, IsTold, IsToldKey, counts_small, numbers_fit-each, print_head-IsLine, print_row-IsLine, tokens-head, tokens-row}
+use Rattle.span_table_text.proofs.PrintedLines.{AreSmall, IsDetermined, IsDeterminedKey, IsLine, IsRowOf-determined, counts_small, numbers_fit-each, print_head-IsLine, print_row-IsLine, tokens-head, tokens-row}
 
 -- two texts are the same if their first lines are, and what follows these
-line-told : (a b r s : Bytes) → IsLine a → IsLine b → a ++ 10 ∷ r ≡ b ++ 10 ∷ s → (a ≡ b) × (r ≡ s)
-line-told [] [] r s h k e = (refl, ap (drop 1) e)
-line-told [] (y ∷ b) r s h k e = absurd (k.0 (sym (ap (λ l. get_or l 0 0) e)))
-line-told (x ∷ a) [] r s h k e = absurd (h.0 (ap (λ l. get_or l 0 0) e))
-line-told (x ∷ a) (y ∷ b) r s h k e =
+line-determined : (a b r s : Bytes) → IsLine a → IsLine b → a ++ 10 ∷ r ≡ b ++ 10 ∷ s → (a ≡ b) × (r ≡ s)
+line-determined [] [] r s h k e = (refl, ap (drop 1) e)
+line-determined [] (y ∷ b) r s h k e = absurd (k.0 (sym (ap (λ l. get_or l 0 0) e)))
+line-determined (x ∷ a) [] r s h k e = absurd (h.0 (ap (λ l. get_or l 0 0) e))
+line-determined (x ∷ a) (y ∷ b) r s h k e =
     let same : x ≡ y = ap (λ l. get_or l 0 0) e in
-    let rest = line-told a b r s h.1 k.1 (ap (drop 1) e) in
+    let rest = line-determined a b r s h.1 k.1 (ap (drop 1) e) in
     (λ i. same i ∷ rest.0 i, rest.1)
 
 -- the column that is called so
@@ -95,55 +95,55 @@ column_name-not_first_number Async Scope e = omega (arith, ap (λ l. get_or l 0 
 column_name-not_first_number Async Id e = omega (arith, ap (λ l. get_or l 0 0) e)
 column_name-not_first_number Async (Argument name) e = omega (arith, ap (λ l. get_or l 0 0) e)
 
-names-told : (columns others : List Column) (ts us : List Token) → name_tokens columns ++ end_array ∷ ts ≡ name_tokens others ++ end_array ∷ us → (columns ≡ others) × (ts ≡ us)
-names-told [] [] ts us e = (refl, ap (drop 1) e)
-names-told [] (other ∷ others) ts us e = absurd (cc e)
-names-told (column ∷ columns) [] ts us e = absurd (cc e)
-names-told (column ∷ columns) (other ∷ others) ts us e =
+names-determined : (columns others : List Column) (ts us : List Token) → name_tokens columns ++ end_array ∷ ts ≡ name_tokens others ++ end_array ∷ us → (columns ≡ others) × (ts ≡ us)
+names-determined [] [] ts us e = (refl, ap (drop 1) e)
+names-determined [] (other ∷ others) ts us e = absurd (cc e)
+names-determined (column ∷ columns) [] ts us e = absurd (cc e)
+names-determined (column ∷ columns) (other ∷ others) ts us e =
     let called : column_name column ≡ column_name other = cc e in
     let same = column_name-injective column other called in
-    let rest = names-told columns others ts us (ap (drop 1) e) in
+    let rest = names-determined columns others ts us (ap (drop 1) e) in
     (λ i. same i ∷ rest.0 i, rest.1)
 
-value-told : (value second : ArgValue) (ts us : List Token) → IsOfArgument (Some value) → IsOfArgument (Some second) → value_tokens value ++ ts ≡ value_tokens second ++ us → (value ≡ second) × (ts ≡ us)
-value-told Nil Nil ts us h k e = (refl, ap (drop 1) e)
-value-told (Flag flag) (Flag other) ts us h k e = let same : flag ≡ other = cc e in (ap Flag same, ap (drop 1) e)
-value-told (Whole whole) (Whole other) ts us h k e = (ap Whole (signed_decimal_injective whole other h.sfits k.sfits (cc e)), ap (drop 1) e)
-value-told (Words text) (Words other) ts us h k e = let same : text ≡ other = cc e in (ap Words same, ap (drop 1) e)
-value-told Other Other ts us h k e = (refl, ap (drop 2) e)
-value-told value second ts us h k e = absurd (cc e)
+value-determined : (value second : ArgValue) (ts us : List Token) → IsOfArgument (Some value) → IsOfArgument (Some second) → value_tokens value ++ ts ≡ value_tokens second ++ us → (value ≡ second) × (ts ≡ us)
+value-determined Nil Nil ts us h k e = (refl, ap (drop 1) e)
+value-determined (Flag flag) (Flag other) ts us h k e = let same : flag ≡ other = cc e in (ap Flag same, ap (drop 1) e)
+value-determined (Whole whole) (Whole other) ts us h k e = (ap Whole (signed_decimal_injective whole other h.sfits k.sfits (cc e)), ap (drop 1) e)
+value-determined (Words text) (Words other) ts us h k e = let same : text ≡ other = cc e in (ap Words same, ap (drop 1) e)
+value-determined Other Other ts us h k e = (refl, ap (drop 2) e)
+value-determined value second ts us h k e = absurd (cc e)
 
 -- where a column that none of these is has a value, it stands first
-missing-told : (first : Bytes) (columns : List Column) (values : TableKey) (name : Bytes) (ts us : List Token) → All (λ other. name ≢ other) (map column_name columns) → name ≢ first
+missing-determined : (first : Bytes) (columns : List Column) (values : TableKey) (name : Bytes) (ts us : List Token) → All (λ other. name ≢ other) (map column_name columns) → name ≢ first
     → key_tokens columns values ++ key first ∷ ts ≡ key name ∷ us → ⊥
-missing-told first [] values name ts us h k e = k (let same : name ≡ first = cc e in same)
-missing-told first (column ∷ columns) [] name ts us h k e = k (let same : name ≡ first = cc e in same)
-missing-told first (column ∷ columns) (None ∷ values) name ts us h k e = missing-told first columns values name ts us (All-tail (λ other. name ≢ other) (column_name column) (map column_name columns) h) k e
-missing-told first (column ∷ columns) (Some value ∷ values) name ts us h k e =
+missing-determined first [] values name ts us h k e = k (let same : name ≡ first = cc e in same)
+missing-determined first (column ∷ columns) [] name ts us h k e = k (let same : name ≡ first = cc e in same)
+missing-determined first (column ∷ columns) (None ∷ values) name ts us h k e = missing-determined first columns values name ts us (All-tail (λ other. name ≢ other) (column_name column) (map column_name columns) h) k e
+missing-determined first (column ∷ columns) (Some value ∷ values) name ts us h k e =
     All-head (λ other. name ≢ other) (column_name column) (map column_name columns) h (let same : name ≡ column_name column = cc e in same)
 
-key-told : (of : Of) (columns : List Column) (values others : TableKey) (ts us : List Token) → AreDistinct (map column_name columns) → IsToldKey columns values → IsToldKey columns others
+key-determined : (of : Of) (columns : List Column) (values others : TableKey) (ts us : List Token) → AreDistinct (map column_name columns) → IsDeterminedKey columns values → IsDeterminedKey columns others
     → key_tokens columns values ++ key (first_number of) ∷ ts ≡ key_tokens columns others ++ key (first_number of) ∷ us → (values ≡ others) × (ts ≡ us)
-key-told of [] [] [] ts us d h k e = (refl, ap (drop 1) e)
-key-told of [] [] (other ∷ others) ts us d h k e = absurd (omega (arith, k.0))
-key-told of [] (value ∷ values) others ts us d h k e = absurd (omega (arith, h.0))
-key-told of (column ∷ columns) [] others ts us d h k e = absurd (omega (arith, h.0))
-key-told of (column ∷ columns) (value ∷ values) [] ts us d h k e = absurd (omega (arith, k.0))
-key-told of (column ∷ columns) (None ∷ values) (None ∷ others) ts us d h k e =
-    let rest = key-told of columns values others ts us d.1 (omega (arith, h.0), h.1.1) (omega (arith, k.0), k.1.1) e in
+key-determined of [] [] [] ts us d h k e = (refl, ap (drop 1) e)
+key-determined of [] [] (other ∷ others) ts us d h k e = absurd (omega (arith, k.0))
+key-determined of [] (value ∷ values) others ts us d h k e = absurd (omega (arith, h.0))
+key-determined of (column ∷ columns) [] others ts us d h k e = absurd (omega (arith, h.0))
+key-determined of (column ∷ columns) (value ∷ values) [] ts us d h k e = absurd (omega (arith, k.0))
+key-determined of (column ∷ columns) (None ∷ values) (None ∷ others) ts us d h k e =
+    let rest = key-determined of columns values others ts us d.1 (omega (arith, h.0), h.1.1) (omega (arith, k.0), k.1.1) e in
     (λ i. None ∷ rest.0 i, rest.1)
-key-told of (column ∷ columns) (None ∷ values) (Some second ∷ others) ts us d h k e = absurd (missing-told (first_number of) columns values (column_name column) ts _ d.0 (column_name-not_first_number of column) e)
-key-told of (column ∷ columns) (Some value ∷ values) (None ∷ others) ts us d h k e = absurd (missing-told (first_number of) columns others (column_name column) us _ d.0 (column_name-not_first_number of column) (sym e))
-key-told of (column ∷ columns) (Some value ∷ values) (Some second ∷ others) ts us d h k e =
+key-determined of (column ∷ columns) (None ∷ values) (Some second ∷ others) ts us d h k e = absurd (missing-determined (first_number of) columns values (column_name column) ts _ d.0 (column_name-not_first_number of column) e)
+key-determined of (column ∷ columns) (Some value ∷ values) (None ∷ others) ts us d h k e = absurd (missing-determined (first_number of) columns others (column_name column) us _ d.0 (column_name-not_first_number of column) (sym e))
+key-determined of (column ∷ columns) (Some value ∷ values) (Some second ∷ others) ts us d h k e =
     let there = append_assoc (value_tokens value) (key_tokens columns values) (key (first_number of) ∷ ts) in
     let back = append_assoc (value_tokens second) (key_tokens columns others) (key (first_number of) ∷ us) in
-    let same = value-told value second (key_tokens columns values ++ key (first_number of) ∷ ts) (key_tokens columns others ++ key (first_number of) ∷ us) h.1.0 k.1.0 (sym there ∙ ap (drop 1) e ∙ back) in
-    let rest = key-told of columns values others ts us d.1 (omega (arith, h.0), h.1.1) (omega (arith, k.0), k.1.1) same.1 in
+    let same = value-determined value second (key_tokens columns values ++ key (first_number of) ∷ ts) (key_tokens columns others ++ key (first_number of) ∷ us) h.1.0 k.1.0 (sym there ∙ ap (drop 1) e ∙ back) in
+    let rest = key-determined of columns values others ts us d.1 (omega (arith, h.0), h.1.1) (omega (arith, k.0), k.1.1) same.1 in
     (λ i. Some (same.0 i) ∷ rest.0 i, rest.1)
 
-sums-told : (of : Of) (sums others : Sums) → HasOwn of sums → HasOwn of others → fit sums ≡ true → fit others ≡ true
+sums-determined : (of : Of) (sums others : Sums) → HasOwn of sums → HasOwn of others → fit sums ≡ true → fit others ≡ true
     → sums_tokens of sums ++ end_object ∷ [] ≡ sums_tokens of others ++ end_object ∷ [] → sums ≡ others
-sums-told Async sums others own its h k e =
+sums-determined Async sums others own its h k e =
     let a = sums_small sums h in
     let b = sums_small others k in
     let count : sums.count ≡ others.count = decimal_injective sums.count others.count a.0 b.0 (cc e) in
@@ -152,7 +152,7 @@ sums-told Async sums others own its h k e =
     let points : sums.points ≡ others.points = decimal_injective sums.points others.points a.4 b.4 (cc e) in
     let self : sums.self_time ≡ others.self_time = own ∙ sym its in
     λ i. record { count = count i; total = total i; self_time = self i; unclosed = unclosed i; points = points i }
-sums-told Spans sums others own its h k e =
+sums-determined Spans sums others own its h k e =
     let a = sums_small sums h in
     let b = sums_small others k in
     let count : sums.count ≡ others.count = decimal_injective sums.count others.count a.0 b.0 (cc e) in
@@ -171,45 +171,45 @@ unfolding later_numbers
 sums-first Spans sums = refl
 sums-first Async sums = refl
 
-row-told : (of : Of) (columns : List Column) (row other : Row) → AreDistinct (map column_name columns) → IsTold of columns row → IsTold of columns other
+row-determined : (of : Of) (columns : List Column) (row other : Row) → AreDistinct (map column_name columns) → IsDetermined of columns row → IsDetermined of columns other
     → row_tokens of columns row ≡ row_tokens of columns other → row ≡ other
-row-told of columns row other d h k e =
+row-determined of columns row other d h k e =
     let mine = ap (λ l. key_tokens columns row.key ++ l) (sums-first of row.sums) in
     let its = ap (λ l. key_tokens columns other.key ++ l) (sums-first of other.sums) in
-    let same = key-told of columns row.key other.key (later_numbers of row.sums) (later_numbers of other.sums) d h.key k.key (sym mine ∙ ap (drop 1) e ∙ its) in
-    let sums = sums-told of row.sums other.sums h.own k.own h.sums k.sums (sums-first of row.sums ∙ ap (λ l. key (first_number of) ∷ l) same.1 ∙ sym (sums-first of other.sums)) in
+    let same = key-determined of columns row.key other.key (later_numbers of row.sums) (later_numbers of other.sums) d h.key k.key (sym mine ∙ ap (drop 1) e ∙ its) in
+    let sums = sums-determined of row.sums other.sums h.own k.own h.sums k.sums (sums-first of row.sums ∙ ap (λ l. key (first_number of) ∷ l) same.1 ∙ sym (sums-first of other.sums)) in
     λ i. record { key = same.0 i; sums = sums i }
 
 -- a line of a row, and what follows it
 row-first : (of : Of) (columns : List Column) (row : Row) (rest : Bytes) → json_line of columns row ++ rest ≡ print (row_tokens of columns row) ++ 10 ∷ rest
 row-first of columns row rest = ap (λ l. l ++ rest) (json_line-print of columns row) ∙ append_assoc (print (row_tokens of columns row)) (10 ∷ []) rest
 
-rows-told : (of : Of) (columns : List Column) (rows others : List Row) → AreDistinct (map column_name columns) → All (IsTold of columns) rows → All (IsTold of columns) others → length rows ≡ length others
+rows-determined : (of : Of) (columns : List Column) (rows others : List Row) → AreDistinct (map column_name columns) → All (IsDetermined of columns) rows → All (IsDetermined of columns) others → length rows ≡ length others
     → flat_map (json_line of columns) rows ≡ flat_map (json_line of columns) others → rows ≡ others
-rows-told of columns [] [] d h k l e = refl
-rows-told of columns [] (other ∷ others) d h k l e = absurd (omega arith)
-rows-told of columns (row ∷ rows) [] d h k l e = absurd (omega arith)
-rows-told of columns (row ∷ rows) (other ∷ others) d h k l e =
-    let is = All-head (IsTold of columns) row rows h in
-    let its = All-head (IsTold of columns) other others k in
+rows-determined of columns [] [] d h k l e = refl
+rows-determined of columns [] (other ∷ others) d h k l e = absurd (omega arith)
+rows-determined of columns (row ∷ rows) [] d h k l e = absurd (omega arith)
+rows-determined of columns (row ∷ rows) (other ∷ others) d h k l e =
+    let is = All-head (IsDetermined of columns) row rows h in
+    let its = All-head (IsDetermined of columns) other others k in
     let more = flat_map (json_line of columns) rows in
     let rest = flat_map (json_line of columns) others in
-    let lines = line-told (print (row_tokens of columns row)) (print (row_tokens of columns other)) more rest (print_row-IsLine of columns row is) (print_row-IsLine of columns other its)
+    let lines = line-determined (print (row_tokens of columns row)) (print (row_tokens of columns other)) more rest (print_row-IsLine of columns row is) (print_row-IsLine of columns other its)
     (sym (row-first of columns row more) ∙ e ∙ row-first of columns other rest) in
-    let same = row-told of columns row other d is its (sym (tokens-row of columns row is) ∙ ap tokens lines.0 ∙ tokens-row of columns other its) in
-    let all = rows-told of columns rows others d (All-tail (IsTold of columns) row rows h) (All-tail (IsTold of columns) other others k) (omega arith) lines.1 in
+    let same = row-determined of columns row other d is its (sym (tokens-row of columns row is) ∙ ap tokens lines.0 ∙ tokens-row of columns other its) in
+    let all = rows-determined of columns rows others d (All-tail (IsDetermined of columns) row rows h) (All-tail (IsDetermined of columns) other others k) (omega arith) lines.1 in
     λ i. same i ∷ all i
 
 -- rows of columns that are the same, of what is the same
-rows-with : (of second : Of) (columns more : List Column) (rows others : List Row) → of ≡ second → columns ≡ more → AreDistinct (map column_name columns) → All (IsTold of columns) rows
-    → All (IsTold second more) others → length rows ≡ length others → flat_map (json_line of columns) rows ≡ flat_map (json_line second more) others → rows ≡ others
+rows-with : (of second : Of) (columns more : List Column) (rows others : List Row) → of ≡ second → columns ≡ more → AreDistinct (map column_name columns) → All (IsDetermined of columns) rows
+    → All (IsDetermined second more) others → length rows ≡ length others → flat_map (json_line of columns) rows ≡ flat_map (json_line second more) others → rows ≡ others
 rows-with of second columns more rows others o p d h k l e =
-    let told = subst (λ c. All (IsTold of c) others) (sym p) (subst (λ s. All (IsTold s more) others) (sym o) k) in
-    rows-told of columns rows others d h told l (e ∙ (λ i. flat_map (json_line (sym o i) (sym p i)) others))
+    let its = subst (λ c. All (IsDetermined of c) others) (sym p) (subst (λ s. All (IsDetermined s more) others) (sym o) k) in
+    rows-determined of columns rows others d h its l (e ∙ (λ i. flat_map (json_line (sym o i) (sym p i)) others))
 
-numbers-told : (rows more : ℕ) (counts other : TableCounts) → rows < 2 ^ 64 → more < 2 ^ 64 → AreSmall counts → AreSmall other
+numbers-determined : (rows more : ℕ) (counts other : TableCounts) → rows < 2 ^ 64 → more < 2 ^ 64 → AreSmall counts → AreSmall other
     → numbers_tokens rows counts ++ end_object ∷ [] ≡ numbers_tokens more other ++ end_object ∷ [] → (rows ≡ more) × (counts ≡ other)
-numbers-told rows more counts other few little small low e =
+numbers-determined rows more counts other few little small low e =
     let count : rows ≡ more = decimal_injective rows more few little (cc e) in
     let runs : counts.runs ≡ other.runs = decimal_injective _ _ small.runs low.runs (cc e) in
     let files : counts.files ≡ other.files = decimal_injective _ _ small.files low.files (cc e) in
@@ -228,20 +228,20 @@ numbers-told rows more counts other few little small low e =
       },
     )
 
-of-told : (of second : Of) (unit more : Unit) (ts us : List Token) → of_tokens of ++ (unit_tokens unit ++ key (codes "columns") ∷ ts) ≡ of_tokens second ++ (unit_tokens more ++ key (codes "columns") ∷ us)
+of-determined : (of second : Of) (unit more : Unit) (ts us : List Token) → of_tokens of ++ (unit_tokens unit ++ key (codes "columns") ∷ ts) ≡ of_tokens second ++ (unit_tokens more ++ key (codes "columns") ∷ us)
     → (of ≡ second) × (unit_tokens unit ++ key (codes "columns") ∷ ts ≡ unit_tokens more ++ key (codes "columns") ∷ us)
-of-told Spans Spans unit more ts us e = (refl, e)
-of-told Async Async unit more ts us e = (refl, ap (drop 2) e)
-of-told Spans Async Microseconds more ts us e = let same : codes "columns" ≡ codes "of" = cc e in absurd (omega (arith, ap (λ l. get_or l 0 0) same))
-of-told Spans Async Nanoseconds more ts us e = let same : codes "unit" ≡ codes "of" = cc e in absurd (omega (arith, ap (λ l. get_or l 0 0) same))
-of-told Async Spans unit Microseconds ts us e = let same : codes "of" ≡ codes "columns" = cc e in absurd (omega (arith, ap (λ l. get_or l 0 0) same))
-of-told Async Spans unit Nanoseconds ts us e = let same : codes "of" ≡ codes "unit" = cc e in absurd (omega (arith, ap (λ l. get_or l 0 0) same))
+of-determined Spans Spans unit more ts us e = (refl, e)
+of-determined Async Async unit more ts us e = (refl, ap (drop 2) e)
+of-determined Spans Async Microseconds more ts us e = let same : codes "columns" ≡ codes "of" = cc e in absurd (omega (arith, ap (λ l. get_or l 0 0) same))
+of-determined Spans Async Nanoseconds more ts us e = let same : codes "unit" ≡ codes "of" = cc e in absurd (omega (arith, ap (λ l. get_or l 0 0) same))
+of-determined Async Spans unit Microseconds ts us e = let same : codes "of" ≡ codes "columns" = cc e in absurd (omega (arith, ap (λ l. get_or l 0 0) same))
+of-determined Async Spans unit Nanoseconds ts us e = let same : codes "of" ≡ codes "unit" = cc e in absurd (omega (arith, ap (λ l. get_or l 0 0) same))
 
-unit-told : (unit second : Unit) (ts us : List Token) → unit_tokens unit ++ key (codes "columns") ∷ ts ≡ unit_tokens second ++ key (codes "columns") ∷ us → (unit ≡ second) × (ts ≡ us)
-unit-told Microseconds Microseconds ts us e = (refl, ap (drop 1) e)
-unit-told Microseconds Nanoseconds ts us e = let same : codes "columns" ≡ codes "unit" = cc e in absurd (omega (arith, ap (λ l. get_or l 0 0) same))
-unit-told Nanoseconds Microseconds ts us e = let same : codes "unit" ≡ codes "columns" = cc e in absurd (omega (arith, ap (λ l. get_or l 0 0) same))
-unit-told Nanoseconds Nanoseconds ts us e = (refl, ap (drop 3) e)
+unit-determined : (unit second : Unit) (ts us : List Token) → unit_tokens unit ++ key (codes "columns") ∷ ts ≡ unit_tokens second ++ key (codes "columns") ∷ us → (unit ≡ second) × (ts ≡ us)
+unit-determined Microseconds Microseconds ts us e = (refl, ap (drop 1) e)
+unit-determined Microseconds Nanoseconds ts us e = let same : codes "columns" ≡ codes "unit" = cc e in absurd (omega (arith, ap (λ l. get_or l 0 0) same))
+unit-determined Nanoseconds Microseconds ts us e = let same : codes "unit" ≡ codes "columns" = cc e in absurd (omega (arith, ap (λ l. get_or l 0 0) same))
+unit-determined Nanoseconds Nanoseconds ts us e = (refl, ap (drop 3) e)
 
 -- the first line, and what follows it
 head-first : (unit : Unit) (table : SpanTable) → text_of unit table ≡ print (head_tokens table.of unit table.columns (length table.rows) table.counts) ++ 10 ∷ flat_map (json_line table.of table.columns) table.rows
@@ -250,33 +250,33 @@ head-first unit table =
     ap (λ l. l ++ rest) (json_head-print table.of unit table.columns (length table.rows) table.counts)
     ∙ append_assoc (print (head_tokens table.of unit table.columns (length table.rows) table.counts)) (10 ∷ []) rest
 
--- a table that its text tells
-record IsToldTable (table : SpanTable) : Type 0 where
+-- a table that its text determines
+record IsDeterminedTable (table : SpanTable) : Type 0 where
   pub counts : counts_fit table.counts ≡ true
   pub few : length table.rows < 2 ^ 64
-  pub rows : All (IsTold table.of table.columns) table.rows
+  pub rows : All (IsDetermined table.of table.columns) table.rows
 
-tables-told : (unit second : Unit) (one other : SpanTable) → AreDistinct (map column_name one.columns) → IsToldTable one → IsToldTable other
+tables-determined : (unit second : Unit) (one other : SpanTable) → AreDistinct (map column_name one.columns) → IsDeterminedTable one → IsDeterminedTable other
     → text_of unit one ≡ text_of second other → (unit ≡ second) × (one ≡ other)
-tables-told unit second one other distinct is its e =
+tables-determined unit second one other distinct is its e =
     let many = length one.rows in
     let more = length other.rows in
-    let lines = line-told (print (head_tokens one.of unit one.columns many one.counts)) (print (head_tokens other.of second other.columns more other.counts))
+    let lines = line-determined (print (head_tokens one.of unit one.columns many one.counts)) (print (head_tokens other.of second other.columns more other.counts))
     (flat_map (json_line one.of one.columns) one.rows) (flat_map (json_line other.of other.columns) other.rows)
     (print_head-IsLine one.of unit one.columns many one.counts is.few is.counts) (print_head-IsLine other.of second other.columns more other.counts its.few its.counts)
     (sym (head-first unit one) ∙ e ∙ head-first second other) in
     let heads = sym (tokens-head one.of unit one.columns many one.counts is.few is.counts) ∙ ap tokens lines.0 ∙ tokens-head other.of second other.columns more other.counts its.few its.counts in
     let mine = drop 1 (columns_tokens one.columns many one.counts) in
     let theirs = drop 1 (columns_tokens other.columns more other.counts) in
-    let kinds = of-told one.of other.of unit second mine theirs (ap (drop 3) heads) in
-    let units = unit-told unit second mine theirs kinds.1 in
-    let columns = names-told one.columns other.columns (numbers_tokens many one.counts ++ end_object ∷ []) (numbers_tokens more other.counts ++ end_object ∷ []) (ap (drop 1) units.1) in
-    let numbers = numbers-told many more one.counts other.counts is.few its.few (counts_small one.counts is.counts) (counts_small other.counts its.counts) columns.1 in
+    let kinds = of-determined one.of other.of unit second mine theirs (ap (drop 3) heads) in
+    let units = unit-determined unit second mine theirs kinds.1 in
+    let columns = names-determined one.columns other.columns (numbers_tokens many one.counts ++ end_object ∷ []) (numbers_tokens more other.counts ++ end_object ∷ []) (ap (drop 1) units.1) in
+    let numbers = numbers-determined many more one.counts other.counts is.few its.few (counts_small one.counts is.counts) (counts_small other.counts its.counts) columns.1 in
     let rows = rows-with one.of other.of one.columns other.columns one.rows other.rows kinds.0 columns.0 distinct is.rows its.rows numbers.0 lines.1 in
     (units.0, λ i. record { of = kinds.0 i; columns = columns.0 i; counts = numbers.1 i; rows = rows i })
 
-part-told : (table : SpanTable) → IsTable table → IsToldTable table
-part-told table is = record { counts = is.counts; few = is.few; rows = All-weaker (IsRowOf table.of table.columns) (IsTold table.of table.columns) (IsRowOf-told table.of table.columns) table.rows is.rows }
+IsTable-determined : (table : SpanTable) → IsTable table → IsDeterminedTable table
+IsTable-determined table is = record { counts = is.counts; few = is.few; rows = All-weaker (IsRowOf table.of table.columns) (IsDetermined table.of table.columns) (IsRowOf-determined table.of table.columns) table.rows is.rows }
 
 -- each key of the table has a value for each column
 abbrev pub HasWholeKeys : SpanTable → Type 0
@@ -286,17 +286,17 @@ HasWholeKeys table = All (λ row. length row.key ≡ length table.columns) table
 abbrev pub HasOwnNumbers : SpanTable → Type 0
 HasOwnNumbers table = All (λ row. HasOwn table.of row.sums) table.rows
 
-print-told : (table : SpanTable) → AllFit table → HasWholeKeys table → HasOwnNumbers table → IsToldTable table
-print-told table fits whole own =
+AllFit-determined : (table : SpanTable) → AllFit table → HasWholeKeys table → HasOwnNumbers table → IsDeterminedTable table
+AllFit-determined table fits whole own =
     let numbers = numbers_fit-each table fits.numbers in
     record { counts = numbers.0; few = fits.few; rows = λ k d low. record { key = (whole k d low, fits.keys k d low); own = own k d low; sums = numbers.1 k d low } }
 
 -- a table that was read of the text that is printed of another is this one
-pub prints-told : (unit second : Unit) (text : Bytes) (part table : SpanTable) → IsPart unit text part → IsPrint second text table → HasWholeKeys table → HasOwnNumbers table → (unit ≡ second) × (part ≡ table)
-prints-told unit second text part table is print whole own =
-    tables-told unit second part table is.is.columns.distinct (part-told part is.is) (print-told table print.fits whole own) (sym is.printed ∙ print.printed)
+pub prints-determined : (unit second : Unit) (text : Bytes) (part table : SpanTable) → IsPart unit text part → IsPrint second text table → HasWholeKeys table → HasOwnNumbers table → (unit ≡ second) × (part ≡ table)
+prints-determined unit second text part table is print whole own =
+    tables-determined unit second part table is.is.columns.distinct (IsTable-determined part is.is) (AllFit-determined table print.fits whole own) (sym is.printed ∙ print.printed)
 
 -- a text is that of one table, in one unit
-pub parts-told : PartsAreTold
-parts-told unit second text one other is its =
-    tables-told unit second one other is.is.columns.distinct (part-told one is.is) (part-told other its.is) (sym is.printed ∙ its.printed)
+pub parts-determined : PartsAreDetermined
+parts-determined unit second text one other is its =
+    tables-determined unit second one other is.is.columns.distinct (IsTable-determined one is.is) (IsTable-determined other its.is) (sym is.printed ∙ its.printed)
