@@ -1,4 +1,4 @@
--- What is told of the keys of two tables is what is compared.
+-- What is found of the keys of two tables is what is compared.
 use Rattle.std.proofs.Common.{[], ◌≡◌, ◌≤◌, ◌<◌, ℕ, ◌+◌, true, List, Option, Some, None, get_or, length, refl, sym, ap, ◌∙◌, arith}
 use Rattle.std.specs.Prelude.{filter, is_none, unwrap_or}
 use Rattle.std.specs.Option.{option_map}
@@ -11,7 +11,7 @@ use Rattle.span_table.specs.declared.of.Of.TheVariants.{Spans, Async}
 use Rattle.span_table.specs.declared.sums.By.{By}
 use Rattle.span_table.specs.declared.sums.By.TheVariants.{SelfTime, Total, Closed, Open}
 use Rattle.span_table.specs.declared.table.Row.{Row}
-use Rattle.span_comparisons.specs.Changed.{Tells, from_other, is_new}
+use Rattle.span_comparisons.specs.Changed.{Classifies, from_other, is_new}
 use Rattle.span_table.specs.RowSearch.{found_at, sums_at}
 use Rattle.span_comparisons.specs.Changes.{Change, by_gap, change_order, compared_at, gap_by, is_changed, is_same, same_count, shown_changes, usual_order}
 use Rattle.span_table.specs.KeyLaws.{key_cmp_total}
@@ -32,12 +32,12 @@ pub change_order-total : (of : Of) (by : By) → IsTotalOrder (change_order of b
 change_order-total of by = then_total (by_gap-total by) (usual_order-total of)
 
 -- no more keys are the same than there are
-pub Tells-few : (wanted : Wanted) (keys told : List Change) (unchanged count : ℕ) → Tells wanted keys told unchanged count → unchanged ≤ count
-Tells-few wanted keys told unchanged count tells =
+pub Classifies-few : (wanted : Wanted) (keys found : List Change) (unchanged count : ℕ) → Classifies wanted keys found unchanged count → unchanged ≤ count
+Classifies-few wanted keys found unchanged count classifies =
     let few = count_by-le-length (λ (c : Change). is_same c.both) (shown_changes wanted keys) in
     let shown = length-filter (λ (c : Change). is_wanted wanted c.key) keys in
     let all = count_by-le-length (λ (c : Change). is_wanted wanted c.key) keys in
-    omega (arith, tells.same, tells.all, few, shown, all)
+    omega (arith, classifies.same, classifies.all, few, shown, all)
 
 -- a key that only the other has is compared so
 pub from_other-is : (base other : List Row) → RowsRise base → RowsRise other → (row : Row) (k : ℕ) → k < length other → get_or other k row ≡ row → is_new base row ≡ true → from_other row ≡ compared_at base other row.key

@@ -61,7 +61,7 @@ module _ (rows : List Row) where
 
 -- nothing changed between a table and itself
 pub comparison_of-itself : TablesCompareWithThemselves
-comparison_of-itself unit by wanted tells_runs table rise =
+comparison_of-itself unit by wanted says_runs table rise =
     let rows = table.rows in
     let all = compared rows rows in
     let shown = shown_changes wanted all in
@@ -70,5 +70,5 @@ comparison_of-itself unit by wanted tells_runs table rise =
     let many : length shown ≡ length (shown_rows wanted rows) = ap length are ∙ length-map (shown_rows wanted rows) (made rows) in
     let every : length all ≡ length rows = ap length (compared-itself rows rise) ∙ length-map rows (made rows) in
     let same : same_count shown ≡ length (shown_rows wanted rows) = omega (arith, length-changes shown, ap length none, many) in
-    λ i. first_line ++ (unit_line unit ++ (compared_heads tells_runs table.counts table.counts ++ (shown_line wanted (many i) (every i) ++ (change_columns table.of table.columns ++
+    λ i. first_line ++ (unit_line unit ++ (compared_heads says_runs table.counts table.counts ++ (shown_line wanted (many i) (every i) ++ (change_columns table.of table.columns ++
     (flat_map (change_line table.of) (ascending (change_order table.of by) (none i)) ++ same_line (same i))))))

@@ -1,4 +1,4 @@
--- Lines for machines that tell what differs, from the pieces of which they are made.
+-- Lines for machines that say what differs, from the pieces of which they are made.
 use Rattle.std.proofs.Common.{◌≡◌, ℕ, List, [], ◌∷◌, ◌++◌, refl, ap, ◌∙◌, append_assoc}
 use Rattle.std.specs.Prelude.{codes, decimal}
 use Rattle.span_event.specs.Text.{Bytes}

@@ -103,8 +103,8 @@ IsDistinct-both (k ∷ ks) ls first second apart = (
 )
 
 module _ (base other : List Row) where
-  abbrev told_keys : List TableKey
-  told_keys = map key_of base ++ map key_of (filter (is_new base) other)
+  abbrev classified_keys : List TableKey
+  classified_keys = map key_of base ++ map key_of (filter (is_new base) other)
 
   abbrev all_keys : List TableKey
   all_keys = ascending key_cmp (map key_of (base ++ other))
@@ -138,8 +138,8 @@ module _ (base other : List Row) where
           either_way true = ap (λ b. b || has_key key_cmp k (map key_of (filter (is_new base) rows))) e
           either_way false = refl
 
-  has-told : (k : TableKey) → has_key key_cmp k told_keys ≡ has_key key_cmp k (map key_of (base ++ other))
-  has-told k =
+  has_key-classified : (k : TableKey) → has_key key_cmp k classified_keys ≡ has_key key_cmp k (map key_of (base ++ other))
+  has_key-classified k =
       has_key-append key_cmp k (map key_of base) (map key_of (filter (is_new base) other)) ∙ by (has_key key_cmp k (map key_of base)) refl
       ∙ sym (ap (has_key key_cmp k) (map-append key_of base other) ∙ has_key-append key_cmp k (map key_of base) (map key_of other))
     where
@@ -148,22 +148,22 @@ module _ (base other : List Row) where
       by false e = has-new k e other
 
   -- those of either that pass a test are the same, in another order
-  picked : RowsRise base → RowsRise other → (q : TableKey → Bool) → IsPermutation (filter q all_keys) (filter q told_keys)
+  picked : RowsRise base → RowsRise other → (q : TableKey → Bool) → IsPermutation (filter q all_keys) (filter q classified_keys)
   picked base_rises other_rises q =
-      let distinct = IsDistinct-filter q told_keys (IsDistinct-both (map key_of base) (map key_of (filter (is_new base) other)) (IsDistinct-keys base base_rises)
+      let distinct = IsDistinct-filter q classified_keys (IsDistinct-both (map key_of base) (map key_of (filter (is_new base) other)) (IsDistinct-keys base base_rises)
       (IsDistinct-keys (filter (is_new base) other) (filter-sorted (λ (a b : Row). key_cmp a.key b.key) (is_new base) other other_rises)) (new_apart other)) in
-      let has : (k : TableKey) → has_key key_cmp k (filter q told_keys) ≡ has_key key_cmp k (filter q (map key_of (base ++ other))) =
-      λ k. has-filter q k told_keys ∙ ap (λ b. q k && b) (has-told k) ∙ sym (has-filter q k (map key_of (base ++ other))) in
-      let same : ascending key_cmp (filter q told_keys) ≡ filter q all_keys =
-      same_keys (filter q told_keys) (filter q (map key_of (base ++ other))) (λ k h. sym (has k) ∙ h) (λ k h. has k ∙ h)
+      let has : (k : TableKey) → has_key key_cmp k (filter q classified_keys) ≡ has_key key_cmp k (filter q (map key_of (base ++ other))) =
+      λ k. has-filter q k classified_keys ∙ ap (λ b. q k && b) (has_key-classified k) ∙ sym (has-filter q k (map key_of (base ++ other))) in
+      let same : ascending key_cmp (filter q classified_keys) ≡ filter q all_keys =
+      same_keys (filter q classified_keys) (filter q (map key_of (base ++ other))) (λ k h. sym (has k) ∙ h) (λ k h. has k ∙ h)
       ∙ sym (filter-ascending key_cmp_total q (λ (a b : TableKey) (e : key_cmp a b ≡ Equal). ap q (key_cmp-same a b e)) (map key_of (base ++ other))) in
-      IsPermutation-sym (filter q told_keys) (filter q all_keys) (subst (IsPermutation (filter q told_keys)) same (ascending-permutation key_cmp_total (filter q told_keys) distinct))
+      IsPermutation-sym (filter q classified_keys) (filter q all_keys) (subst (IsPermutation (filter q classified_keys)) same (ascending-permutation key_cmp_total (filter q classified_keys) distinct))
 
   abbrev make : TableKey → Change
   make = compared_at base other
 
-  told-made : base_keys base other ++ new_keys base other ≡ map make told_keys
-  told-made =
+  keys-made : base_keys base other ++ new_keys base other ≡ map make classified_keys
+  keys-made =
       ap₂ (λ a b. a ++ b) (sym (map-map make key_of base)) (sym (map-map make key_of (filter (is_new base) other)))
       ∙ sym (map-append make (map key_of base) (map key_of (filter (is_new base) other)))
 
@@ -187,17 +187,17 @@ module _ (base other : List Row) where
         by false rest = rest
 
     module _ (base_rises : RowsRise base) (other_rises : RowsRise other) where
-      -- what is told of the keys that are shown and pass a test is what is compared, in another order
+      -- what is found of the keys that are shown and pass a test is what is compared, in another order
       pub shown-permuted : (p : Change → Bool) → IsPermutation (filter p (shown_changes wanted (compared base other))) (filter p (shown_changes wanted (base_keys base other ++ new_keys base other)))
       shown-permuted p =
-          let told = ap (λ changes. filter p (shown_changes wanted changes)) told-made ∙ filter-made p told_keys in
-          subst (IsPermutation (filter p (shown_changes wanted (compared base other)))) (sym told)
-          (subst (λ l. IsPermutation l (map make (filter (passes p) told_keys))) (sym (filter-made p all_keys))
-          (IsPermutation-map make (filter (passes p) all_keys) (filter (passes p) told_keys) (picked base_rises other_rises (passes p))))
+          let found = ap (λ changes. filter p (shown_changes wanted changes)) keys-made ∙ filter-made p classified_keys in
+          subst (IsPermutation (filter p (shown_changes wanted (compared base other)))) (sym found)
+          (subst (λ l. IsPermutation l (map make (filter (passes p) classified_keys))) (sym (filter-made p all_keys))
+          (IsPermutation-map make (filter (passes p) all_keys) (filter (passes p) classified_keys) (picked base_rises other_rises (passes p))))
 
       -- as many are the same
-      pub same_count-told : same_count (shown_changes wanted (base_keys base other ++ new_keys base other)) ≡ same_count (shown_changes wanted (compared base other))
-      same_count-told =
+      pub same_count-classified : same_count (shown_changes wanted (base_keys base other ++ new_keys base other)) ≡ same_count (shown_changes wanted (compared base other))
+      same_count-classified =
           let p = λ (c : Change). is_same c.both in
           sym (length-filter p (shown_changes wanted (base_keys base other ++ new_keys base other)))
           ∙ length_permutation (filter p (shown_changes wanted (compared base other))) (filter p (shown_changes wanted (base_keys base other ++ new_keys base other))) (shown-permuted p)
@@ -208,17 +208,17 @@ module _ (base other : List Row) where
   filter-true (k ∷ ks) = ap (λ l. k ∷ l) (filter-true ks)
 
   -- there are as many keys
-  pub length-told : RowsRise base → RowsRise other → length (base_keys base other ++ new_keys base other) ≡ length (compared base other)
-  length-told base_rises other_rises =
-      ap length told-made ∙ length-map told_keys make ∙ sym (ap length (filter-true told_keys))
-      ∙ length_permutation (filter (λ k. true) all_keys) (filter (λ k. true) told_keys) (picked base_rises other_rises (λ k. true))
+  pub length-classified : RowsRise base → RowsRise other → length (base_keys base other ++ new_keys base other) ≡ length (compared base other)
+  length-classified base_rises other_rises =
+      ap length keys-made ∙ length-map classified_keys make ∙ sym (ap length (filter-true classified_keys))
+      ∙ length_permutation (filter (λ k. true) all_keys) (filter (λ k. true) classified_keys) (picked base_rises other_rises (λ k. true))
       ∙ ap length (filter-true all_keys) ∙ sym (length-map all_keys make)
 
--- where the later of two orders tells things apart, both do
+-- where the later of two orders distinguishes things, both do
 pub apart : (p q : Ordering) → is_eq q ≡ false → is_eq (ordering_then p q) ≡ false
-apart Less q told = refl
-apart Greater q told = refl
-apart Equal q told = told
+apart Less q differ = refl
+apart Greater q differ = refl
+apart Equal q differ = differ
 
 usual_order-apart : (of : Of) (x y : Change) → key_cmp x.key y.key ≡ Less → is_eq (usual_order of x y) ≡ false
 usual_order-apart Spans x y below = apart (by_gap SelfTime x y) _ (apart (by_gap Total x y) (key_cmp x.key y.key) (ap is_eq below))

@@ -1,4 +1,4 @@
--- Lines that tell what differs, from the pieces of which they are made.
+-- Lines that say what differs, from the pieces of which they are made.
 use Rattle.std.proofs.Common.{◌≡◌, ℕ, ◌-◌, List, [], ◌∷◌, ◌++◌, map, refl, ap, ◌∙◌, append_assoc, arith}
 use Rattle.std.specs.Prelude.{codes, decimal, flat_map}
 use Rattle.std.specs.Ordering.{match_ordering, nat_cmp}

@@ -12,7 +12,7 @@ use Rattle.span_table.specs.declared.sums.By.{By}
 use Rattle.span_table.specs.KeyLaws.{key_cmp_total}
 use Rattle.span_table.specs.Keys.{TableKey, key_cmp}
 use Rattle.span_table_text.specs.Shown.{Wanted, is_wanted}
-use Rattle.span_comparisons.specs.Sides.{TellsSpreads}
+use Rattle.span_comparisons.specs.Sides.{ClassifiesSpreads}
 use Rattle.span_comparisons.specs.Spreads.{Spreads, all_keys, is_apart, keys_of, median_gap, shown_keys, shown_spreads, spread_order, spreads_at}
 use Rattle.span_table.specs.Tables.{SpanTable}
 use Rattle.span_comparisons.proofs.Permuted.{apart}
@@ -41,9 +41,9 @@ spreads-distinct by wanted base other =
     (map-sorted key_cmp (λ (s : Spreads). s.key) (spreads_at by base other) (λ key. refl) (shown_keys wanted tables)
     (filter-sorted key_cmp (is_wanted wanted) (all_keys tables) (ascending-sorted key_cmp_total (keys_of tables)))))
 
--- what is told of the keys that are shown, whatever stands for them, is told of these with their spreads
-pub told-shown : {A : Type 0} (at : A → TableKey) (by : By) (wanted : Wanted) (base other : List SpanTable) (keys : List A) (told : List Spreads) (overlap same : ℕ) →
-    map at keys ≡ shown_keys wanted (base ++ other) → TellsSpreads (map (λ key. spreads_at by base other (at key)) keys) told overlap same →
-    TellsSpreads (shown_spreads by wanted base other) told overlap same
-told-shown at by wanted base other keys told overlap same shown tells =
-    subst (λ spreads. TellsSpreads spreads told overlap same) (sym (map-map (spreads_at by base other) at keys) ∙ ap (map (spreads_at by base other)) shown) tells
+-- what classifies the keys that are shown, whatever stands for them, classifies these with their spreads
+pub ClassifiesSpreads-shown : {A : Type 0} (at : A → TableKey) (by : By) (wanted : Wanted) (base other : List SpanTable) (keys : List A) (found : List Spreads) (overlap same : ℕ) →
+    map at keys ≡ shown_keys wanted (base ++ other) → ClassifiesSpreads (map (λ key. spreads_at by base other (at key)) keys) found overlap same →
+    ClassifiesSpreads (shown_spreads by wanted base other) found overlap same
+ClassifiesSpreads-shown at by wanted base other keys found overlap same shown classifies =
+    subst (λ spreads. ClassifiesSpreads spreads found overlap same) (sym (map-map (spreads_at by base other) at keys) ∙ ap (map (spreads_at by base other)) shown) classifies

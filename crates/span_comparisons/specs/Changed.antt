@@ -26,8 +26,8 @@ new_key base row = if is_new base row then from_other row ∷ [] else []
 abbrev pub new_keys : List Row → List Row → List Change
 new_keys base other = map (λ (row : Row). compared_at base other row.key) (filter (is_new base) other)
 
--- what is told of so many keys: those that are shown and changed, how many that are shown did not, and how many keys there are
-pub record Tells (wanted : Wanted) (keys : List Change) (told : List Change) (unchanged count : ℕ) : Type 0 where
-  pub changes : told ≡ filter is_changed (shown_changes wanted keys)
+-- so many keys: those that are shown and changed, how many that are shown did not, and how many keys there are
+pub record Classifies (wanted : Wanted) (keys found : List Change) (unchanged count : ℕ) : Type 0 where
+  pub changes : found ≡ filter is_changed (shown_changes wanted keys)
   pub same : unchanged ≡ same_count (shown_changes wanted keys)
   pub all : count ≡ length keys

@@ -23,14 +23,14 @@ base_lines entries = codes "base " ++ (count_line entries ++ (if entries.seals =
 abbrev pub other_lines : CountRow → Bytes
 other_lines entries = count_line entries ++ seals_line entries.seals
 
--- how many runs the base has, where that is told
+-- how many runs the base has, where that is said
 abbrev pub base_runs_line : Bool → TableCounts → Bytes
-base_runs_line tells_runs counts = if tells_runs then codes "base " ++ runs_line true counts else []
+base_runs_line says_runs counts = if says_runs then codes "base " ++ runs_line true counts else []
 
 -- both heads but for their first line
 unfoldable pub compared_heads : Bool → TableCounts → TableCounts → Bytes
-compared_heads tells_runs base other =
-    base_lines base.entries ++ (base_runs_line tells_runs base ++ (other_lines other.entries ++ runs_line tells_runs other))
+compared_heads says_runs base other =
+    base_lines base.entries ++ (base_runs_line says_runs base ++ (other_lines other.entries ++ runs_line says_runs other))
 
 -- the names of the columns
 unfoldable pub change_columns : Of → List Column → Bytes
@@ -61,8 +61,8 @@ same_line count = line_of (codes "same" ∷ decimal count ∷ [])
 
 -- the unit where it isn't microseconds, both heads, how many keys are shown, the names of the columns, a line for each change, and then how many keys did not change
 abbrev pub comparison_of : Unit → By → Wanted → Bool → SpanTable → SpanTable → Bytes
-comparison_of unit by wanted tells_runs base other =
+comparison_of unit by wanted says_runs base other =
     let all = compared base.rows other.rows in
     let shown = shown_changes wanted all in
-    first_line ++ (unit_line unit ++ (compared_heads tells_runs base.counts other.counts ++ (shown_line wanted (length shown) (length all) ++
+    first_line ++ (unit_line unit ++ (compared_heads says_runs base.counts other.counts ++ (shown_line wanted (length shown) (length all) ++
     (change_columns other.of other.columns ++ (flat_map (change_line other.of) (changes_of other.of by shown) ++ same_line (same_count shown))))))

@@ -1,4 +1,4 @@
--- The pieces of lines for machines that tell what differs, in the order in which they are appended.
+-- The pieces of lines for machines that say what differs, in the order in which they are appended.
 use Rattle.std.specs.Prelude.{ℕ, List, ◌++◌, codes, decimal}
 use Rattle.span_event.specs.Text.{Bytes}
 use Rattle.span_comparisons.specs.declared.changes.Both.{Both}

@@ -17,14 +17,14 @@ use Rattle.span_table.specs.Tables.{RowsRise, SpanTable}
 
 -- between a table and itself nothing changed: below the names of the columns is how many keys are shown
 abbrev pub ComparesWithItself : Unit → By → Wanted → Bool → SpanTable → Type 0
-ComparesWithItself unit by wanted tells_runs table = let shown = length (shown_rows wanted table.rows) in
-    comparison_of unit by wanted tells_runs table table
-    ≡ first_line ++ (unit_line unit ++ (compared_heads tells_runs table.counts table.counts ++
+ComparesWithItself unit by wanted says_runs table = let shown = length (shown_rows wanted table.rows) in
+    comparison_of unit by wanted says_runs table table
+    ≡ first_line ++ (unit_line unit ++ (compared_heads says_runs table.counts table.counts ++
     (shown_line wanted shown (length table.rows) ++ (change_columns table.of table.columns ++ same_line shown))))
 
 -- this holds of each table, in whatever unit and order
 abbrev pub TablesCompareWithThemselves : Type 0
-TablesCompareWithThemselves = (unit : Unit) (by : By) (wanted : Wanted) (tells_runs : Bool) (table : SpanTable) → RowsRise table.rows → ComparesWithItself unit by wanted tells_runs table
+TablesCompareWithThemselves = (unit : Unit) (by : By) (wanted : Wanted) (says_runs : Bool) (table : SpanTable) → RowsRise table.rows → ComparesWithItself unit by wanted says_runs table
 
 -- a change the other way round
 abbrev pub turned : Change → Change
@@ -34,7 +34,7 @@ turned change = record { key = change.key; both = record { base = change.both.ot
 abbrev pub shown_between : Wanted → List Row → List Row → List Change
 shown_between wanted base other = shown_changes wanted (compared base other)
 
--- the other way round the same keys changed, told in the same order, and as many did not
+-- the other way round the same keys changed, printed in the same order, and as many did not
 pub record TurnsEachChange (of : Of) (by : By) (wanted : Wanted) (base other : List Row) : Type 0 where
   pub changes : changes_of of by (shown_between wanted other base) ≡ map turned (changes_of of by (shown_between wanted base other))
   pub same : same_count (shown_between wanted other base) ≡ same_count (shown_between wanted base other)
@@ -43,7 +43,7 @@ pub record TurnsEachChange (of : Of) (by : By) (wanted : Wanted) (base other : L
 abbrev pub ComparisonsTurn : Type 0
 ComparisonsTurn = (of : Of) (by : By) (wanted : Wanted) (base other : List Row) → TurnsEachChange of by wanted base other
 
--- where one number is less than another, the difference is told with `+` to the greater and with `-` back, and is as great
+-- where one number is less than another, the difference is printed with `+` to the greater and with `-` back, and is as great
 abbrev pub DifferencesTurn : Type 0
 DifferencesTurn = (m n : ℕ) → m < n → (difference_text m n ≡ codes "+" ++ decimal (n - m)) × (difference_text n m ≡ codes "-" ++ decimal (n - m))
 

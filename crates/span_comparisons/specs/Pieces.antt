@@ -1,4 +1,4 @@
--- The pieces of lines that tell what differs, in the order in which they are appended.
+-- The pieces of lines that say what differs, in the order in which they are appended.
 use Rattle.std.specs.Prelude.{ℕ, ◌∷◌, ◌++◌, codes, decimal}
 use Rattle.span_event.specs.Text.{Bytes}
 use Rattle.span_report.specs.Lines.{right_in}

@@ -8,8 +8,8 @@ pub record SideValues : Type 0 where
   pub tables : List SpanTable
   pub values : List ℕ
 
--- what is told of so many keys: those whose sides are apart, how many overlap, and how many are spread the same
-pub record TellsSpreads (spreads told : List Spreads) (overlap same : ℕ) : Type 0 where
-  pub apart : told ≡ filter is_apart spreads
+-- so many keys: those whose sides are apart, how many overlap, and how many are spread the same
+pub record ClassifiesSpreads (spreads found : List Spreads) (overlap same : ℕ) : Type 0 where
+  pub apart : found ≡ filter is_apart spreads
   pub overlaps : overlap ≡ overlap_count spreads
   pub sames : same ≡ same_spread_count spreads

@@ -1,6 +1,6 @@
 //! What changed between two tables of the same columns.
 ghost use Rattle.std.specs.Prelude.{◌≡◌, ◌++◌, ◌∷◌, [], ◌<◌, ◌≤◌, ◌+◌, ◌-◌, ◌^◌, List, length, IfOk, OnOk};
-ghost use Rattle.span_comparisons.specs.Changed.{Tells, base_keys, new_key, new_keys};
+ghost use Rattle.span_comparisons.specs.Changed.{Classifies, base_keys, new_key, new_keys};
 ghost use Rattle.span_comparisons.specs.Changes.{Change, by_gap, change_order, changes_of, compared, gap_by, is_changed, same_count, shown_changes, usual_order};
 ghost use Rattle.span_table.specs.Tables.{RowsRise};
 
@@ -89,9 +89,9 @@ pub(crate) struct ComparedTables<'a> {
     pub(crate) all: u128,
 }
 
-// What is told of the keys so far.
+// The keys so far: those shown that changed, how many others are shown, and how many there are.
 #[derive(Drop)]
-struct Told<'a> {
+struct Classified<'a> {
     changes: Vec<Changed<'a>>,
     same: u128,
     all: u128,
@@ -116,14 +116,14 @@ pub(crate) fn differences<'a>(
         ≡ length (shown_changes shown.now (compared base.now other.now))) }
     ensures all { IfOk result (λ found. found.all ≡ length (compared base.now other.now)) }
 {
-    let mut found = Told {
+    let mut found = Classified {
         changes: Vec::new(alloc),
         same: 0,
         all: 0,
     };
-    tell_base(&mut found, base, other, shown)?;
-    tell_new(&mut found, base, other, shown)?;
-    let Told {
+    classify_base(&mut found, base, other, shown)?;
+    classify_new(&mut found, base, other, shown)?;
+    let Classified {
         mut changes,
         same,
         all,
@@ -138,17 +138,18 @@ pub(crate) fn differences<'a>(
     })
 }
 
-// Tells of each key of the base.
-fn tell_base<'a>(
-    found: &mut Told<'a>,
+// Classifies each key of the base.
+fn classify_base<'a>(
+    found: &mut Classified<'a>,
     base: &'a [Row],
     other: &[Row],
     shown: &Shown,
 ) -> Result<(), AllocError>
     requires base { RowsRise base.now }
     requires other { RowsRise other.now }
-    requires nothing { Tells shown.now [] found.old.changes.items found.old.same found.old.all }
-    ensures told { OnOk result (Tells shown.now (base_keys base.now other.now)
+    requires nothing { Classifies shown.now []
+        found.old.changes.items found.old.same found.old.all }
+    ensures classified { OnOk result (Classifies shown.now (base_keys base.now other.now)
         found.new.changes.items found.new.same found.new.all) }
     ensures few { OnOk result (found.new.all < 2 ^ 64) }
 {
@@ -159,37 +160,37 @@ fn tell_base<'a>(
             other: sums_at(other, &mut place, &row.key),
         };
         let key = &row.key;
-        tell(found, Changed { key, both }, shown)?;
+        classify(found, Changed { key, both }, shown)?;
     }
     Ok(())
 }
 
-// Tells of each key of the other that the base lacks.
-fn tell_new<'a>(
-    found: &mut Told<'a>,
+// Classifies each key of the other that the base lacks.
+fn classify_new<'a>(
+    found: &mut Classified<'a>,
     base: &[Row],
     other: &'a [Row],
     shown: &Shown,
 ) -> Result<(), AllocError>
     requires base { RowsRise base.now }
     requires other { RowsRise other.now }
-    requires told { Tells shown.now (base_keys base.now other.now)
+    requires classified { Classifies shown.now (base_keys base.now other.now)
         found.old.changes.items found.old.same found.old.all }
     requires few { found.old.all < 2 ^ 64 }
-    ensures told { OnOk result (Tells shown.now
+    ensures classified { OnOk result (Classifies shown.now
         (base_keys base.now other.now ++ new_keys base.now other.now)
         found.new.changes.items found.new.same found.new.all) }
     ensures few { OnOk result (found.new.all < 2 ^ 65) }
 {
     let mut place = 0;
     for row in other {
-        tell_if_new(found, base, &mut place, row, shown)?;
+        classify_if_new(found, base, &mut place, row, shown)?;
     }
     Ok(())
 }
 
-fn tell_if_new<'a>(
-    found: &mut Told<'a>,
+fn classify_if_new<'a>(
+    found: &mut Classified<'a>,
     base: &[Row],
     place: &mut usize,
     row: &'a Row,
@@ -199,9 +200,9 @@ fn tell_if_new<'a>(
     requires same { found.old.same < 2 ^ 128 - 1 }
     requires all { found.old.all < 2 ^ 128 - 1 }
     ensures few { OnOk result (found.new.all ≤ found.old.all + 1) }
-    ensures told { OnOk result ((keys : List Change)
-        → Tells shown.now keys found.old.changes.items found.old.same found.old.all
-        → Tells shown.now (keys ++ new_key base.now row.now)
+    ensures classified { OnOk result ((keys : List Change)
+        → Classifies shown.now keys found.old.changes.items found.old.same found.old.all
+        → Classifies shown.now (keys ++ new_key base.now row.now)
         found.new.changes.items found.new.same found.new.all) }
 {
     if row_at(base, place, &row.key).is_some() {
@@ -212,16 +213,20 @@ fn tell_if_new<'a>(
         other: row.sums,
     };
     let key = &row.key;
-    tell(found, Changed { key, both }, shown)
+    classify(found, Changed { key, both }, shown)
 }
 
-fn tell<'a>(found: &mut Told<'a>, changed: Changed<'a>, shown: &Shown) -> Result<(), AllocError>
+fn classify<'a>(
+    found: &mut Classified<'a>,
+    changed: Changed<'a>,
+    shown: &Shown,
+) -> Result<(), AllocError>
     requires same { found.old.same < 2 ^ 128 - 1 }
     requires all { found.old.all < 2 ^ 128 - 1 }
     ensures few { OnOk result (found.new.all ≤ found.old.all + 1) }
-    ensures told { OnOk result ((keys : List Change)
-        → Tells shown.now keys found.old.changes.items found.old.same found.old.all
-        → Tells shown.now (keys ++ changed.entry ∷ [])
+    ensures classified { OnOk result ((keys : List Change)
+        → Classifies shown.now keys found.old.changes.items found.old.same found.old.all
+        → Classifies shown.now (keys ++ changed.entry ∷ [])
         found.new.changes.items found.new.same found.new.all) }
 {
     found.all += 1;

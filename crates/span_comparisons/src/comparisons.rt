@@ -16,7 +16,7 @@ use std::alloc::{AllocError, Global};
 use std::cmp::Ordering;
 
 /// The text of the comparison of two tables, of the same by the same columns, in a unit: of the keys that are shown those of which a number differs, the greatest
-/// change of this number first. The heads tell of runs or don't.
+/// change of this number first. The heads say how many runs there are or don't.
 pub fn comparison(
     alloc: Global,
     unit: Unit,
@@ -24,14 +24,14 @@ pub fn comparison(
     other: &Table,
     shown: &Shown,
     by: By,
-    tells_runs: bool,
+    says_runs: bool,
 ) -> Result<Vec<u8>, AllocError>
     ensures { IfOk result (λ text. text.items
-        ≡ comparison_of unit by shown.now tells_runs base.now other.now) }
+        ≡ comparison_of unit by shown.now says_runs base.now other.now) }
 {
     let mut out = first_line(alloc)?;
     put_unit(&mut out, unit)?;
-    put_heads(&mut out, &base.counts(), &other.counts(), tells_runs)?;
+    put_heads(&mut out, &base.counts(), &other.counts(), says_runs)?;
     let of = other.kind();
     let found = differences(alloc, of, base.rows(), other.rows(), shown, by)?;
     put_shown(&mut out, shown, found.shown, found.all)?;
@@ -47,15 +47,15 @@ pub(crate) fn put_heads(
     out: &mut String,
     base: &TableCounts,
     other: &TableCounts,
-    tells_runs: bool,
+    says_runs: bool,
 ) -> Result<(), AllocError>
     ensures { OnOk result (string_bytes out.new
-        ≡ string_bytes out.old ++ compared_heads tells_runs base.now other.now) }
+        ≡ string_bytes out.old ++ compared_heads says_runs base.now other.now) }
 {
     put_base(out, &base.entries)?;
-    put_base_runs(out, base, tells_runs)?;
+    put_base_runs(out, base, says_runs)?;
     put_other(out, &other.entries)?;
-    put_runs(out, other, tells_runs)
+    put_runs(out, other, says_runs)
 }
 
 fn put_base(out: &mut String, entries: &EntryCounts) -> Result<(), AllocError>
@@ -70,11 +70,11 @@ fn put_base(out: &mut String, entries: &EntryCounts) -> Result<(), AllocError>
     put_seals(out, entries.seals)
 }
 
-fn put_base_runs(out: &mut String, counts: &TableCounts, tells_runs: bool) -> Result<(), AllocError>
+fn put_base_runs(out: &mut String, counts: &TableCounts, says_runs: bool) -> Result<(), AllocError>
     ensures { OnOk result (string_bytes out.new
-        ≡ string_bytes out.old ++ base_runs_line tells_runs counts.now) }
+        ≡ string_bytes out.old ++ base_runs_line says_runs counts.now) }
 {
-    if !tells_runs {
+    if !says_runs {
         return Ok(());
     }
     out.push_str("base ")?;

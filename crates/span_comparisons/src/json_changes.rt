@@ -84,7 +84,7 @@ fn text_of(
     Ok(out.into_bytes())
 }
 
-/// What the first line of a comparison tells.
+/// What the first line of a comparison says.
 #[derive(Drop)]
 pub(crate) struct FirstLine<'a> {
     pub(crate) of: Of,

@@ -1,4 +1,4 @@
-//! What differs between two tables, or between repeated runs of two sides, and the texts that tell it.
+//! What differs between two tables, or between repeated runs of two sides, and the texts of it.
 #![tactic(auto)]
 
 mod changes;

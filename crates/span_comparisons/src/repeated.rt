@@ -1,7 +1,7 @@
 //! Which keys of repeated runs are shown, and of which of them the sides are apart.
 ghost use Rattle.std.specs.Prelude.{◌≡◌, ◌++◌, ◌∷◌, ◌<◌, ◌≤◌, ◌+◌, ◌-◌, ◌^◌, [], List, length, map, IfOk, OnOk};
 ghost use Rattle.span_table.specs.Keys.{TableKey};
-ghost use Rattle.span_comparisons.specs.Sides.{TellsSpreads};
+ghost use Rattle.span_comparisons.specs.Sides.{ClassifiesSpreads};
 ghost use Rattle.span_comparisons.specs.Spreads.{Spreads, all_keys, apart_spreads, keys_of, overlap_count, same_spread_count, shown_keys, shown_spreads, spreads_at};
 
 use crate::sides::Side;
@@ -21,9 +21,9 @@ pub(crate) struct RepeatedRuns<'a> {
     pub(crate) all: usize,
 }
 
-// What is told of the keys so far.
+// The keys so far: those whose sides are apart, how many overlap, and how many are spread the same.
 #[derive(Drop)]
-struct Told<'a> {
+struct Classified<'a> {
     apart: Vec<Spreads<'a>>,
     overlap: u128,
     same: u128,
@@ -50,11 +50,11 @@ pub(crate) fn repeated<'a>(
     let mut keys = all_keys(alloc, base, other)?;
     let all = keys.len();
     keys.retain(|key| shown.has(key));
-    let Told {
+    let Classified {
         mut apart,
         overlap,
         same,
-    } = told_of(alloc, base, other, &keys, by)?;
+    } = classify_all(alloc, base, other, &keys, by)?;
     apart.sort_unstable_by(|a, b| a.compare(b));
     Ok(RepeatedRuns {
         keys,
@@ -102,18 +102,18 @@ fn push_row_keys<'a>(keys: &mut Vec<&'a Key>, rows: &'a [Row]) -> Result<(), All
     Ok(())
 }
 
-fn told_of<'a>(
+fn classify_all<'a>(
     alloc: Global,
     base: &[Table],
     other: &[Table],
     keys: &[&'a Key],
     by: By,
-) -> Result<Told<'a>, AllocError>
-    ensures { IfOk result (λ told. TellsSpreads
+) -> Result<Classified<'a>, AllocError>
+    ensures { IfOk result (λ found. ClassifiesSpreads
         (map (λ key. spreads_at by base.now other.now key.now) keys.now)
-        told.apart.items told.overlap told.same) }
+        found.apart.items found.overlap found.same) }
 {
-    let mut told = Told {
+    let mut found = Classified {
         apart: Vec::new(alloc),
         overlap: 0,
         same: 0,
@@ -122,9 +122,9 @@ fn told_of<'a>(
     let mut other = Side::of(alloc, other)?;
     for key in keys {
         let spreads = spreads_at(&mut base, &mut other, key, by)?;
-        tell(&mut told, spreads)?;
+        classify(&mut found, spreads)?;
     }
-    Ok(told)
+    Ok(found)
 }
 
 fn spreads_at<'a>(
@@ -148,23 +148,23 @@ fn spreads_at<'a>(
     })
 }
 
-fn tell<'a>(told: &mut Told<'a>, spreads: Spreads<'a>) -> Result<(), AllocError>
+fn classify<'a>(found: &mut Classified<'a>, spreads: Spreads<'a>) -> Result<(), AllocError>
     requires order { spreads.base.least ≤ spreads.base.greatest }
-    requires overlap { told.old.overlap < 2 ^ 128 - 1 }
-    requires same { told.old.same < 2 ^ 128 - 1 }
-    ensures overlap { OnOk result (told.new.overlap ≤ told.old.overlap + 1) }
-    ensures same { OnOk result (told.new.same ≤ told.old.same + 1) }
-    ensures told { OnOk result ((all : List Spreads)
-        → TellsSpreads all told.old.apart.items told.old.overlap told.old.same
-        → TellsSpreads (all ++ spreads.entry ∷ [])
-        told.new.apart.items told.new.overlap told.new.same) }
+    requires overlap { found.old.overlap < 2 ^ 128 - 1 }
+    requires same { found.old.same < 2 ^ 128 - 1 }
+    ensures overlap { OnOk result (found.new.overlap ≤ found.old.overlap + 1) }
+    ensures same { OnOk result (found.new.same ≤ found.old.same + 1) }
+    ensures classified { OnOk result ((all : List Spreads)
+        → ClassifiesSpreads all found.old.apart.items found.old.overlap found.old.same
+        → ClassifiesSpreads (all ++ spreads.entry ∷ [])
+        found.new.apart.items found.new.overlap found.new.same) }
 {
     if spreads.is_same() {
-        told.same += 1;
+        found.same += 1;
     } else if spreads.is_apart() {
-        told.apart.push(spreads)?;
+        found.apart.push(spreads)?;
     } else {
-        told.overlap += 1;
+        found.overlap += 1;
     }
     Ok(())
 }

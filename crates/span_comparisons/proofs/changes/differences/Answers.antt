@@ -5,15 +5,15 @@ use Rattle.std.proofs.lemmas.List.Sorted.{IsPermutation-trans, length_permutatio
 use Rattle.span_keyed_tracks.proofs.Sorting.{IsSorted-from_sort_by, sorted-ascending}
 use Rattle.span_comparisons.specs.Changed.{base_keys, new_keys}
 use Rattle.span_comparisons.specs.Changes.{compared, is_changed, shown_changes}
-use Rattle.span_comparisons.proofs.Comparing.{Tells-few, change_order-total, length-changes}
-use Rattle.span_comparisons.proofs.Permuted.{changes-distinct, length-told, same_count-told, shown-permuted}
+use Rattle.span_comparisons.proofs.Comparing.{Classifies-few, change_order-total, length-changes}
+use Rattle.span_comparisons.proofs.Permuted.{changes-distinct, length-classified, same_count-classified, shown-permuted}
 use Rattle.span_comparisons.proofs.changes.differences.Goals as goal
 
 pub overflow_add-shown : goal.overflow_add-shown
 overflow_add-shown c =
     let keys = base_keys c.args.base.now c.args.other.now ++ new_keys c.args.base.now c.args.other.now in
-    let few = Tells-few c.args.shown.now keys c.tell_new.new.found.changes.items c.tell_new.new.found.same c.tell_new.new.found.all c.in_ok-tell_new.ensures.told in
-    omega (arith, few, c.in_ok-tell_new.ensures.few)
+    let few = Classifies-few c.args.shown.now keys c.classify_new.new.found.changes.items c.classify_new.new.found.same c.classify_new.new.found.all c.in_ok-classify_new.ensures.classified in
+    omega (arith, few, c.in_ok-classify_new.ensures.few)
 
 pub returns-clause-changes : goal.returns-clause-changes
 returns-clause-changes c =
@@ -22,17 +22,17 @@ returns-clause-changes c =
     let wanted = c.args.shown.now in
     let total = change_order-total c.args.of c.args.by in
     let sorted = c.sort_unstable_by.new.self.items in
-    let found = c.tell_new.new.found.changes.items in
+    let found = c.classify_new.new.found.changes.items in
     let rows = filter is_changed (shown_changes wanted (compared base other)) in
-    let told = subst (IsPermutation rows) (sym c.in_ok-tell_new.ensures.told.changes) (shown-permuted base other wanted c.requires.base c.requires.other is_changed) in
-    sorted-ascending total rows sorted (changes-distinct c.args.of c.args.by wanted base other) (IsPermutation-trans rows found sorted told c.sort_unstable_by.ensures.permutation)
+    let among = subst (IsPermutation rows) (sym c.in_ok-classify_new.ensures.classified.changes) (shown-permuted base other wanted c.requires.base c.requires.other is_changed) in
+    sorted-ascending total rows sorted (changes-distinct c.args.of c.args.by wanted base other) (IsPermutation-trans rows found sorted among c.sort_unstable_by.ensures.permutation)
     (IsSorted-from_sort_by total sorted c.sort_unstable_by.ensures.sorted (λ a r f' call. search rules))
 
 pub returns-clause-same : goal.returns-clause-same
-returns-clause-same c = c.in_ok-tell_new.ensures.told.same ∙ same_count-told c.args.base.now c.args.other.now c.args.shown.now c.requires.base c.requires.other
+returns-clause-same c = c.in_ok-classify_new.ensures.classified.same ∙ same_count-classified c.args.base.now c.args.other.now c.args.shown.now c.requires.base c.requires.other
 
 pub returns-clause-all : goal.returns-clause-all
-returns-clause-all c = c.in_ok-tell_new.ensures.told.all ∙ length-told c.args.base.now c.args.other.now c.requires.base c.requires.other
+returns-clause-all c = c.in_ok-classify_new.ensures.classified.all ∙ length-classified c.args.base.now c.args.other.now c.requires.base c.requires.other
 
 pub returns-clause-shown : goal.returns-clause-shown
 returns-clause-shown c =
@@ -40,7 +40,7 @@ returns-clause-shown c =
     let other = c.args.other.now in
     let wanted = c.args.shown.now in
     let shown = shown_changes wanted (compared base other) in
-    let found = c.tell_new.new.found.changes.items in
-    let moved = length_permutation (filter is_changed shown) found (subst (IsPermutation (filter is_changed shown)) (sym c.in_ok-tell_new.ensures.told.changes) (shown-permuted base other wanted c.requires.base c.requires.other is_changed)) in
-    let same = c.in_ok-tell_new.ensures.told.same ∙ same_count-told base other wanted c.requires.base c.requires.other in
+    let found = c.classify_new.new.found.changes.items in
+    let moved = length_permutation (filter is_changed shown) found (subst (IsPermutation (filter is_changed shown)) (sym c.in_ok-classify_new.ensures.classified.changes) (shown-permuted base other wanted c.requires.base c.requires.other is_changed)) in
+    let same = c.in_ok-classify_new.ensures.classified.same ∙ same_count-classified base other wanted c.requires.base c.requires.other in
     omega (arith, moved, same, length-changes shown, c.len.ensures)

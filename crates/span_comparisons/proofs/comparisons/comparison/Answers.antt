@@ -35,5 +35,5 @@ returns c =
     let changes = c.deref.ensures.value ∙ found.changes ∙ (λ i. changes_of (of i) c.args.by (shown_changes wanted (compared (rows i) (others i)))) in
     (λ i. (c.into_bytes.ensures.value i).items)
     ∙ appended _ _ _ _ _ _ _ _ _ _ _ _ _ _ c.in_ok-out.ensures c.in_ok-put_unit.ensures c.in_ok-put_heads.ensures c.in_ok-put_shown.ensures c.in_ok-put_columns.ensures c.in_ok-put_changes.ensures c.in_ok-put_same.ensures
-    ∙ (λ i. first_line ++ (unit_line c.args.unit ++ (compared_heads c.args.tells_runs (counts i) (other_counts i) ++ (shown_line wanted (shown i) (all i) ++
+    ∙ (λ i. first_line ++ (unit_line c.args.unit ++ (compared_heads c.args.says_runs (counts i) (other_counts i) ++ (shown_line wanted (shown i) (all i) ++
     (change_columns (of i) (columns i) ++ (flat_map (change_line (of i)) (changes i) ++ same_line (same i)))))))

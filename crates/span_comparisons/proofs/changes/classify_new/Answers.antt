@@ -3,19 +3,19 @@ use Rattle.std.specs.Prelude.{filter}
 use Rattle.std.proofs.lemmas.List.{map-append, take_all, take_more}
 use Rattle.std.proofs.lemmas.List.Elements.{filter-append}
 use Rattle.span_table.specs.declared.table.Row.{Row}
-use Rattle.span_comparisons.specs.Changed.{Tells, base_keys, from_other, is_new, new_key}
+use Rattle.span_comparisons.specs.Changed.{Classifies, base_keys, from_other, is_new, new_key}
 use Rattle.span_comparisons.specs.Changes.{Change, compared_at}
-use Rattle.span_comparisons.proofs.Comparing.{Tells-few, from_other-is}
-use Rattle.span_comparisons.proofs.changes.tell_new.Goals as goal
+use Rattle.span_comparisons.proofs.Comparing.{Classifies-few, from_other-is}
+use Rattle.span_comparisons.proofs.changes.classify_new.Goals as goal
 
-pub tell_if_new-requires-clause-same : goal.tell_if_new-requires-clause-same
-tell_if_new-requires-clause-same c =
+pub classify_if_new-requires-clause-same : goal.classify_if_new-requires-clause-same
+classify_if_new-requires-clause-same c =
     let keys = base_keys c.args.base.now c.args.other.now ++ map (λ (row : Row). compared_at c.args.base.now c.args.other.now row.key) (filter (is_new c.args.base.now) (take c.loop-row.row-index c.args.other.now)) in
-    let few = Tells-few c.args.shown.now keys c.loop-row.found.changes.items c.loop-row.found.same c.loop-row.found.all c.loop-row.invariant.told in
+    let few = Classifies-few c.args.shown.now keys c.loop-row.found.changes.items c.loop-row.found.same c.loop-row.found.all c.loop-row.invariant.classified in
     omega (arith, few, c.loop-row.invariant.few)
 
-pub tell_if_new-requires-clause-all : goal.tell_if_new-requires-clause-all
-tell_if_new-requires-clause-all c = omega (arith, c.loop-row.invariant.few)
+pub classify_if_new-requires-clause-all : goal.classify_if_new-requires-clause-all
+classify_if_new-requires-clause-all c = omega (arith, c.loop-row.invariant.few)
 
 pub loop-row-preserved : goal.loop-row-preserved
 loop-row-preserved c =
@@ -31,20 +31,20 @@ loop-row-preserved c =
     let passed : news (take (at + 1) other) ≡ news (take at other) ++ news (row ∷ []) =
     ap news more ∙ ap (map make) (filter-append (is_new base) (take at other) (row ∷ [])) ∙ map-append make (filter (is_new base) (take at other)) (filter (is_new base) (row ∷ [])) in
     record {
-      few = omega (arith, c.in_ok-tell_if_new.ensures.few, c.loop-row.invariant.few);
-      told = subst (λ keys. Tells c.args.shown.now keys c.tell_if_new.new.found.changes.items c.tell_if_new.new.found.same c.tell_if_new.new.found.all)
+      few = omega (arith, c.in_ok-classify_if_new.ensures.few, c.loop-row.invariant.few);
+      classified = subst (λ keys. Classifies c.args.shown.now keys c.classify_if_new.new.found.changes.items c.classify_if_new.new.found.same c.classify_if_new.new.found.all)
           (append_assoc (base_keys base other) (news (take at other)) (new_key base row) ∙ ap (λ l. base_keys base other ++ (news (take at other) ++ l)) one ∙ ap (λ l. base_keys base other ++ l) (sym passed))
-          (c.in_ok-tell_if_new.ensures.told (base_keys base other ++ news (take at other)) c.loop-row.invariant.told);
+          (c.in_ok-classify_if_new.ensures.classified (base_keys base other ++ news (take at other)) c.loop-row.invariant.classified);
     }
   where
     by : (make : Row → Change) (row : Row) (b : Bool) → (b ≡ true → from_other row ≡ make row) → cond b (from_other row ∷ []) [] ≡ map make (cond b (row ∷ []) [])
     by make row true is = ap (λ c. c ∷ []) (is refl)
     by make row false is = refl
 
-pub returns-clause-told : goal.returns-clause-told
-returns-clause-told c =
+pub returns-clause-classified : goal.returns-clause-classified
+returns-clause-classified c =
     let base = c.args.base.now in
     let other = c.args.other.now in
     let keys = λ (rows : List Row). base_keys base other ++ map (λ (row : Row). compared_at base other row.key) (filter (is_new base) rows) in
     let passed = take_all c.loop-row.row-index other c.loop-row-test.false in
-    subst (λ (rows : List Row). Tells c.args.shown.now (keys rows) c.loop-row.found.changes.items c.loop-row.found.same c.loop-row.found.all) passed c.loop-row.invariant.told
+    subst (λ (rows : List Row). Classifies c.args.shown.now (keys rows) c.loop-row.found.changes.items c.loop-row.found.same c.loop-row.found.all) passed c.loop-row.invariant.classified

@@ -1,0 +1,13 @@
+use Rattle.std.proofs.Common.{◌++◌, ◌+◌, ◌^◌, ◌≤◌, map, take}
+use Rattle.std.specs.Prelude.{filter}
+use Rattle.span_table.specs.declared.table.Row.{Row}
+use Rattle.span_comparisons.specs.Changed.{Classifies, base_keys, is_new}
+use Rattle.span_comparisons.specs.Changes.{compared_at}
+use Rattle.span_comparisons.proofs.changes.classify_new.Given as goal
+
+-- the keys of the base, and those so far that it lacks, are classified
+abbrev pub invariant-loop-row : goal.invariant-loop-row
+invariant-loop-row l = record {
+  classified : Classifies l.shown (base_keys l.base l.other ++ map (λ (row : Row). compared_at l.base l.other row.key) (filter (is_new l.base) (take l.row-index l.other))) l.found.changes.items l.found.same l.found.all;
+  few : l.found.all ≤ 2 ^ 64 + l.row-index;
+}
