@@ -13,8 +13,8 @@ pub Reports-status : {files : List Input} {run : RunEnd} {status : ℕ} {old new
 Reports-status {run = run} {status = status} reports = dite (ℕ_discrete run.status 0)
     (λ (none : run.status ≡ 0). inl ((reports.silent none).0 ∙ sym none))
     (λ (some : ¬ (run.status ≡ 0)). elim (reports.said some) [
-      | inl told ↦ inl told.0
-      | inr told ↦ inr told.0
+      | inl all ↦ inl all.0
+      | inr memory ↦ inr memory.0
     ])
 
 -- no more than 2 is given

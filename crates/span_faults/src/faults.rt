@@ -212,6 +212,6 @@ fn hint_line(alloc: Global, name: &Text, hint: Hint) -> Result<String, AllocErro
     ensures { IfOk result (λ line. IsHint (string_bytes line)) }
 {
     let name = json_text(alloc, name)?;
-    let told = format!(in alloc; "{name}: {hint}\n")?;
-    format!(in alloc; "hint: {told}")
+    let rest = format!(in alloc; "{name}: {hint}\n")?;
+    format!(in alloc; "hint: {rest}")
 }

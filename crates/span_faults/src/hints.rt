@@ -182,7 +182,7 @@ impl RefusalCounts {
         }
     }
 
-    /// The number that refused more than half of a caller's items, if there is one; but for what `fractions_of` tells of.
+    /// The number that refused more than half of a caller's items, if there is one; but for what `fractions_of` gives.
     pub(crate) fn most_of(&self, caller: u32, items: u32) -> Option<Hint> {
         for (key, count) in &self.counts {
             if key.0 == caller && *count > items / 2 && !self.may_be_fractions(key.1) {

@@ -55,7 +55,7 @@ module _ (file : Input) (settings : Settings) (ends : List FileEnd) (asked : Ask
 abbrev pub AddsFile-run : {T : Type 0} (known : List ℕ → Option (List ℕ)) (name : List ℕ) (settings : Settings) (ComeTo : List Run → T → Type 0) (run : FileRun) (old new : Gathered T) → IsFileRun known name settings run →
     TakesAlike ComeTo old.runs (run_of run) new.runs →
     new.lines.items ≡ old.lines.items ++ end_lines (run.file ∷ []) run.collected.end.ends.items → AddsFile known name settings ComeTo old new
-AddsFile-run known name settings ComeTo run old new is takes told =
+AddsFile-run known name settings ComeTo run old new is takes more =
     let end = run.collected.end in
     let journal = run.collected.ledger.journal in record {
       file = run.file;
@@ -63,5 +63,5 @@ AddsFile-run known name settings ComeTo run old new is takes told =
       held = is.held;
       accounted = IsAccounted-alone run.file settings end.ends.items end.asked end.sealing journal is.account is.status;
       runs = λ runs. takes runs (run_alone settings run.file) (AreAlikeRuns-alone run.file settings end.ends.items end.asked end.sealing journal is.account is.status);
-      lines = told ∙ ap (λ (line : Bytes). old.lines.items ++ line) (end_lines-alone run.file settings end.ends.items end.asked end.sealing journal is.account is.status);
+      lines = more ∙ ap (λ (line : Bytes). old.lines.items ++ line) (end_lines-alone run.file settings end.ends.items end.asked end.sealing journal is.account is.status);
     }

@@ -20,7 +20,7 @@ AreGathered-none known settings ComeTo lines is none = record {
   read = record { named = refl; held = All-nil (λ input. AreFirst most_read (known input.name) input.bytes.items) };
   accounted = All-nil (IsAccounted settings);
   runs = is;
-  told = none;
+  said = none;
 }
 
 -- one more file, behind the others
@@ -37,7 +37,7 @@ AreGathered-push known names name settings ComeTo old new gathered adds = record
   read = AreFiles-push known names gathered.files name adds.file gathered.read adds.named adds.held;
   accounted = All-push (IsAccounted settings) gathered.files adds.file gathered.accounted adds.accounted;
   runs = subst (λ (runs : List Run). ComeTo runs new.runs) (sym (map_push (run_alone settings) gathered.files adds.file)) (adds.runs (map (run_alone settings) gathered.files) gathered.runs);
-  told = adds.lines ∙ (λ i. gathered.told i ++ refusal_line settings.unit adds.file) ∙ sym (flat_map-append (refusal_line settings.unit) gathered.files (adds.file ∷ []) ∙ (λ i. flat_map (refusal_line settings.unit) gathered.files ++ append-nil (refusal_line settings.unit adds.file) i));
+  said = adds.lines ∙ (λ i. gathered.said i ++ refusal_line settings.unit adds.file) ∙ sym (flat_map-append (refusal_line settings.unit) gathered.files (adds.file ∷ []) ∙ (λ i. flat_map (refusal_line settings.unit) gathered.files ++ append-nil (refusal_line settings.unit adds.file) i));
 }
 
 -- those of two groups
@@ -56,5 +56,5 @@ AreGathered-append known names more settings ComeTo first second both one other 
   read = AreFiles-append known names more one.files other.files one.read other.read;
   accounted = All-append (IsAccounted settings) one.files other.files one.accounted other.accounted;
   runs = subst (λ (runs : List Run). ComeTo runs both.runs) (sym (map-append (run_alone settings) one.files other.files)) (joins (map (run_alone settings) one.files) (map (run_alone settings) other.files) one.runs other.runs);
-  told = lines ∙ ap₂ (λ (xs ys : Bytes). xs ++ ys) one.told other.told ∙ sym (flat_map-append (refusal_line settings.unit) one.files other.files);
+  said = lines ∙ ap₂ (λ (xs ys : Bytes). xs ++ ys) one.said other.said ∙ sym (flat_map-append (refusal_line settings.unit) one.files other.files);
 }

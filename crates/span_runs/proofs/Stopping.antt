@@ -34,7 +34,7 @@ module _ (known : Bytes → Option Bytes) (settings : Settings) where
   StopsAt-cut name lines (NotOpened named reason) cut says = absurd says
   StopsAt-cut name lines Memory cut says = tt
   StopsAt-cut name lines (Run error) cut says = absurd says
-  StopsAt-cut name lines (Cut told) cut says = subst (IsCut known settings name) (sym says) cut
+  StopsAt-cut name lines (Cut own) cut says = subst (IsCut known settings name) (sym says) cut
   StopsAt-cut name lines TooMany cut says = absurd says
 
   StopsBefore-append : (later more : List Bytes) (cause : StopCause) → StopsBefore known settings later cause → StopsBefore known settings (later ++ more) cause
@@ -50,7 +50,7 @@ module _ (known : Bytes → Option Bytes) (settings : Settings) where
     files = [];
     read = record { named = refl; held = All-nil (λ input. AreFirst most_read (known input.name) input.bytes.items) };
     accounted = All-nil (IsAccounted settings);
-    told = of_sum.0;
+    said = of_sum.0;
     cause = StopsBefore-of_sum names stop.cause of_sum.1;
   }
 
@@ -64,7 +64,7 @@ module _ (known : Bytes → Option Bytes) (settings : Settings) where
     files = summed.files;
     read = summed.read;
     accounted = summed.accounted;
-    told = same ∙ summed.told;
+    said = same ∙ summed.said;
     cause = cause;
   }
 
@@ -86,7 +86,7 @@ module _ (known : Bytes → Option Bytes) (settings : Settings) where
     files = stops.files;
     read = stops.read;
     accounted = stops.accounted;
-    told = stops.told;
+    said = stops.said;
     cause = StopsBefore-append stops.later more stop.cause stops.cause;
   }
 
@@ -97,14 +97,14 @@ module _ (known : Bytes → Option Bytes) (settings : Settings) where
   -- with files before them that were gathered
   StopsAmong-after : (names more : List Bytes) (ComeTo : List TableRun → Type 0) (lines : Bytes) (old new : Stop) → AreGathered known names settings ComeTo lines →
       StopsAmong known settings more old → ComesAfter lines old new → StopsAmong known settings (names ++ more) new
-  StopsAmong-after names more ComeTo lines old new summed stops (inl (told, cause)) = record {
+  StopsAmong-after names more ComeTo lines old new summed stops (inl (behind, cause)) = record {
     done = names ++ stops.done;
     later = stops.later;
     split = ap (λ (ns : List Bytes). names ++ ns) stops.split ∙ sym (append_assoc names stops.done stops.later);
     files = summed.files ++ stops.files;
     read = AreFiles-append known names stops.done summed.files stops.files summed.read stops.read;
     accounted = All-append (IsAccounted settings) summed.files stops.files summed.accounted stops.accounted;
-    told = told ∙ ap₂ (λ (xs ys : Bytes). xs ++ ys) summed.told stops.told ∙ sym (flat_map-append (refusal_line settings.unit) summed.files stops.files);
+    said = behind ∙ ap₂ (λ (xs ys : Bytes). xs ++ ys) summed.said stops.said ∙ sym (flat_map-append (refusal_line settings.unit) summed.files stops.files);
     cause = rw cause stops.cause;
   }
   StopsAmong-after names more ComeTo lines old new summed stops (inr of_sum) =

@@ -58,7 +58,7 @@ pub record AreGathered (known : List ℕ → Option (List ℕ)) (names : List (L
   pub read : AreFiles known names files
   pub accounted : All (IsAccounted settings) files
   pub runs : ComeTo (map (run_alone settings) files)
-  pub told : lines ≡ flat_map (refusal_line settings.unit) files
+  pub said : lines ≡ flat_map (refusal_line settings.unit) files
 
 -- this is what files of these names come to
 abbrev pub GathersFiles : {T : Type 0} → (List ℕ → Option (List ℕ)) → List (List ℕ) → Settings → (List Run → T → Type 0) → Gathered T → Type 0

@@ -43,7 +43,7 @@ IsUnread name cause = ⊥
 
 -- these are the lines of a run that ended with 2, or memory for them was refused
 abbrev pub SaysCut : Bytes → StopCause → Type 0
-SaysCut lines (Cut told) = told.items ≡ lines
+SaysCut lines (Cut own) = own.items ≡ lines
 SaysCut lines Memory = Unit {0}
 SaysCut lines cause = ⊥
 
@@ -72,7 +72,7 @@ module _ (known : Bytes → Option Bytes) (settings : Settings) where
     pub journal : List Entry
     pub account : SealedAccount (file ∷ []) [] settings ends asked sealing journal
     pub status : status_of ends asked sealing ≡ 2
-    pub told : lines ≡ cut_lines file ends sealing
+    pub said : lines ≡ cut_lines file ends sealing
 
   -- this stopped at the file of this name
   abbrev pub StopsAt : Bytes → StopCause → Type 0
@@ -95,7 +95,7 @@ module _ (known : Bytes → Option Bytes) (settings : Settings) where
     pub files : List Input
     pub read : AreFiles known done files
     pub accounted : All (IsAccounted settings) files
-    pub told : stop.lines.items ≡ flat_map (refusal_line settings.unit) files
+    pub said : stop.lines.items ≡ flat_map (refusal_line settings.unit) files
     pub cause : StopsBefore later stop.cause
 
   -- of a job the same, unless it gave up since another had stopped

@@ -70,11 +70,11 @@ impl<T: Gathering> Gathered<T> {
         ensures stop { IfErr result (IsStopOfSum self.lines.items) }
     {
         let Gathered { runs, lines } = self;
-        let Ok(told) = fault_lines(alloc, from_ref(&run.file), &run.collected.end.ends) else {
+        let Ok(more) = fault_lines(alloc, from_ref(&run.file), &run.collected.end.ends) else {
             return Err(memory_after(lines));
         };
         match runs.with_run(alloc, keys, of, columns, run) {
-            Ok(runs) => with_lines(runs, lines, told.as_bytes()),
+            Ok(runs) => with_lines(runs, lines, more.as_bytes()),
             Err(fault) => Err(Stop {
                 lines,
                 cause: StopCause::of_sum(fault),
@@ -94,11 +94,11 @@ impl<T: Gathering> Gathered<T> {
     {
         let Gathered { runs, lines } = self;
         let Gathered {
-            runs: more,
-            lines: told,
+            runs: more_runs,
+            lines: more_lines,
         } = other;
-        match runs.joined(more) {
-            Ok(runs) => with_lines(runs, lines, &told),
+        match runs.joined(more_runs) {
+            Ok(runs) => with_lines(runs, lines, &more_lines),
             Err(fault) => Err(Stop {
                 lines,
                 cause: StopCause::of_sum(fault),

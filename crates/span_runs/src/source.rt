@@ -37,7 +37,7 @@ pub enum SourceFault {
     Memory,
 }
 
-/// Standard input and the files that a command line names. Contracts see their bytes, where it tells them. Files may be read in
+/// Standard input and the files that a command line names. Contracts see their bytes, where it gives them. Files may be read in
 /// several threads at once.
 pub trait Source {
     ghost bytes: { Self → SourceBytes };

@@ -43,5 +43,5 @@ returns-then-collected-eq2-clause-stop g c =
       journal = collected.ledger.journal;
       account = ensures.account;
       status = sym ensures.status ∙ c.if-collected-eq2.true;
-      told = refl;
+      said = refl;
     }) c.cut_of.ensures
