@@ -68,12 +68,12 @@ ComparisonPart-ended view base_run run base inputs settings old new is failed = 
 
 module _ (a b s t : ℕ) where
   -- where each of two numbers is a status or 2, and the greater is below 2, it is the greater status
-  pub greater-told : (s ≡ a) ⊎ (s ≡ 2) → (t ≡ b) ⊎ (t ≡ 2) → greater s t < 2 → greater a b ≡ greater s t
-  greater-told (inl first) (inl second) below = ap₂ greater (sym first) (sym second)
-  greater-told (inr two) second below = absurd (omega (arith, two, below, (greater-is s t).0))
-  greater-told (inl first) (inr two) below = absurd (omega (arith, two, below, (greater-is s t).1))
+  pub greater-statuses : (s ≡ a) ⊎ (s ≡ 2) → (t ≡ b) ⊎ (t ≡ 2) → greater s t < 2 → greater a b ≡ greater s t
+  greater-statuses (inl first) (inl second) below = ap₂ greater (sym first) (sym second)
+  greater-statuses (inr two) second below = absurd (omega (arith, two, below, (greater-is s t).0))
+  greater-statuses (inl first) (inr two) below = absurd (omega (arith, two, below, (greater-is s t).1))
 
-  -- two statuses 0 are told as 0
+  -- two statuses 0 are reported as 0
   pub greater-none : greater a b ≡ 0 → (a ≡ 0 → s ≡ 0) → (b ≡ 0 → t ≡ 0) → greater s t ≡ 2 → ⊥
   greater-none none first second two =
       let a_none : a ≡ 0 = omega (arith, none, (greater-is a b).0) in

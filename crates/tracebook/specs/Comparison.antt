@@ -29,17 +29,17 @@ use Rattle.tracebook.specs.Tables.{asked_by}
 
 -- what changed between two tables whose times are in this unit, in a form
 abbrev pub changes_formed : Unit → ComparisonForm → Wanted → Bool → SpanTable → SpanTable → Bytes
-changes_formed unit (Text by) shown tells_runs base other = comparison_of unit (asked_by other.of by) shown tells_runs base other
-changes_formed unit Json shown tells_runs base other = json_comparison_of unit shown base other
+changes_formed unit (Text by) shown says_runs base other = comparison_of unit (asked_by other.of by) shown says_runs base other
+changes_formed unit Json shown says_runs base other = json_comparison_of unit shown base other
 
 -- it is for other programs, and a number has more than 64 bits
 abbrev pub FormHasTooGreat : ComparisonForm → Wanted → SpanTable → SpanTable → Type 0
 FormHasTooGreat (Text by) shown base other = ⊥
 FormHasTooGreat Json shown base other = json_changes_fit shown base other ≡ false
 
--- what is printed of what changed, under heads that tell of runs or don't
+-- what is printed of what changed, under heads that say how many runs there are or don't
 abbrev pub changes_text : Unit → ComparisonView → Bool → SpanTable → SpanTable → Bytes
-changes_text unit view tells_runs base other = changes_formed unit view.form view.options.shown tells_runs base other
+changes_text unit view says_runs base other = changes_formed unit view.form view.options.shown says_runs base other
 
 abbrev pub HasTooGreat : ComparisonView → SpanTable → SpanTable → Type 0
 HasTooGreat view base other = FormHasTooGreat view.form view.options.shown base other

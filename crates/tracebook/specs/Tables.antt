@@ -23,8 +23,8 @@ asked_by of (Some by) = by
 
 -- a table in this form, whose times are in this unit
 abbrev pub formed : Unit → TableForm → Wanted → Bool → SpanTable → Bytes
-formed unit (Ranking most by) shown tells_runs table = ranking_of unit most (asked_by table.of by) shown tells_runs table
-formed unit Json shown tells_runs table = json_of unit shown table
+formed unit (Ranking most by) shown says_runs table = ranking_of unit most (asked_by table.of by) shown says_runs table
+formed unit Json shown says_runs table = json_of unit shown table
 
 -- numbers for other programs have 64 bits; for people they have no bound
 abbrev pub FormFits : TableForm → Wanted → SpanTable → Type 0
@@ -36,9 +36,9 @@ abbrev pub FormExceeds : TableForm → Wanted → SpanTable → Type 0
 FormExceeds (Ranking most by) shown table = ⊥
 FormExceeds Json shown table = json_fits shown table ≡ false
 
--- what is printed of a table, whose head tells of runs or doesn't
+-- what is printed of a table, whose head says how many runs there are or doesn't
 abbrev pub table_text : Unit → TableView → Bool → SpanTable → Bytes
-table_text unit view tells_runs table = formed unit view.form view.options.shown tells_runs table
+table_text unit view says_runs table = formed unit view.form view.options.shown says_runs table
 
 abbrev pub TableFits : TableView → SpanTable → Type 0
 TableFits view table = FormFits view.form view.options.shown table

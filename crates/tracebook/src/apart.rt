@@ -5,7 +5,7 @@ ghost use Rattle.tracebook.specs.Comparison.{changes_text};
 ghost use Rattle.tracebook.specs.Sums.{ComparesSums, ComparesSumsPart, GathersInputs, Sums, SumsPart, WritesAll, WritesPart};
 ghost use Rattle.tracebook.specs.Tables.{TableFits, table_text};
 
-use crate::sides::{Sides, ToldSides, gather_sides};
+use crate::sides::{JoinedSides, Sides, gather_sides};
 use crate::standard::Standard;
 use crate::sums::{write_runs_changes, write_runs_table};
 use span_collect::Settings;
@@ -210,7 +210,7 @@ fn write_comparison<O: Sink, F: Faults>(
     ensures said { result < 2 → Says (sides.base.lines.items ++ sides.other.lines.items)
         (F.state faults.old) (F.state faults.new) }
 {
-    let Ok(ToldSides { base, other, lines }) = sides.told() else {
+    let Ok(JoinedSides { base, other, lines }) = sides.joined() else {
         return fail(alloc, Fault::Memory.code(), faults);
     };
     match (base.into_table(), other.into_table()) {

@@ -154,17 +154,17 @@ fn changes_of<R: RandomSource>(
     text
 }
 
-/// What changed between two tables in a unit, whose heads tell of runs or don't.
+/// What changed between two tables in a unit, whose heads say how many runs there are or don't.
 pub(crate) fn changes_text(
     alloc: Global,
     unit: Unit,
     base: &Table,
     other: &Table,
     view: &ComparisonView,
-    tells_runs: bool,
+    says_runs: bool,
 ) -> Result<Vec<u8>, JsonFault>
     ensures text { IfOk result (λ text. text.items
-        ≡ changes_text unit view.now tells_runs base.now other.now) }
+        ≡ changes_text unit view.now says_runs base.now other.now) }
     ensures too_great { IfErr result (λ fault. fault ≡ TooGreat
         → HasTooGreat view.now base.now other.now) }
 {
@@ -172,7 +172,7 @@ pub(crate) fn changes_text(
     match view.form {
         ComparisonForm::Text { by } => {
             let by = asked_by(other.kind(), by);
-            match comparison(alloc, unit, base, other, shown, by, tells_runs) {
+            match comparison(alloc, unit, base, other, shown, by, says_runs) {
                 Ok(text) => Ok(text),
                 Err(_) => Err(JsonFault::Memory),
             }

@@ -8,7 +8,7 @@ ghost use Rattle.tracebook.specs.Tables.{TableFits, table_text};
 
 use crate::apart::jobs_of;
 use crate::standard::Standard;
-use crate::sums::write_told;
+use crate::sums::write_and_say;
 use crate::tables::{string_of, table_text};
 use span_collect::Settings;
 use span_event::{Fault, Text, Unit};
@@ -263,7 +263,7 @@ fn write_shown<O: Sink, F: Faults>(
         return fail(alloc, Fault::Memory.code(), faults);
     };
     let text = page_text(alloc, unit, table, page, view);
-    write_told(alloc, text, &lines, out, faults)
+    write_and_say(alloc, text, &lines, out, faults)
 }
 
 fn page_text(

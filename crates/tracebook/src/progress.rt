@@ -1,4 +1,4 @@
-//! A line on a terminal that tells what a run is doing.
+//! A line on a terminal that says what a run is doing.
 
 use std::io;
 use std::io::{Read, Write};
@@ -122,7 +122,7 @@ impl<'a> Progress<'a> {
     }
 }
 
-/// A reader that tells how many bytes come of it.
+/// A reader that says how many bytes come of it.
 #[derive(Drop)]
 pub(crate) struct Watched<'p, 'a, R: Read> {
     pub(crate) inner: R,

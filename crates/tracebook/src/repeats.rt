@@ -4,8 +4,8 @@ ghost use Rattle.span_table_text.specs.declared.json_lines.JsonFault.TheVariants
 ghost use Rattle.tracebook.specs.Repeats.{AreFew, RepeatsExceed, RepeatsFit, Repeats, RepeatsPart, gathered_text, repeats_text};
 ghost use Rattle.tracebook.specs.Sums.{WritesAll, WritesPart};
 
-use crate::sides::{Sides, ToldSides, gather_sides};
-use crate::sums::write_told;
+use crate::sides::{JoinedSides, Sides, gather_sides};
+use crate::sums::write_and_say;
 use crate::tables::asked_by;
 use span_comparisons::{json_repeats, repeats};
 use span_event::{Fault, Text, Unit};
@@ -84,7 +84,7 @@ fn write_gathered<O: Sink, F: Faults>(
     ensures failed { result ≡ 2 → WritesPart (gathered_text unit view.now sides.base sides.other)
         (O.state out.old) (O.state out.new) }
 {
-    let Ok(ToldSides { base, other, lines }) = sides.told() else {
+    let Ok(JoinedSides { base, other, lines }) = sides.joined() else {
         return fail(alloc, Fault::Memory.code(), faults);
     };
     let of = view.options.of;
@@ -122,7 +122,7 @@ pub(crate) fn write_tables<O: Sink, F: Faults>(
     // The program ends soon, and then the system frees all at once, where freeing one by one takes long.
     forget(base);
     forget(other);
-    write_told(alloc, text, lines, out, faults)
+    write_and_say(alloc, text, lines, out, faults)
 }
 
 fn repeats_text(

@@ -21,7 +21,7 @@ pub(crate) struct Sides<T> {
 
 /// What both sides come to, and the fault lines of both.
 #[derive(Drop)]
-pub(crate) struct ToldSides<T> {
+pub(crate) struct JoinedSides<T> {
     pub(crate) base: T,
     pub(crate) other: T,
     pub(crate) lines: Vec<u8>,
@@ -29,15 +29,16 @@ pub(crate) struct ToldSides<T> {
 
 impl<T: Drop> Sides<T> {
     /// With the lines of the base's files before those of the others.
-    pub(crate) fn told(self) -> Result<ToldSides<T>, AllocError>
-        ensures base { IfOk result (λ told. told.base ≡ self.base.runs) }
-        ensures other { IfOk result (λ told. told.other ≡ self.other.runs) }
-        ensures lines { IfOk result (λ told. told.lines.items ≡ self.base.lines.items ++ self.other.lines.items) }
+    pub(crate) fn joined(self) -> Result<JoinedSides<T>, AllocError>
+        ensures base { IfOk result (λ joined. joined.base ≡ self.base.runs) }
+        ensures other { IfOk result (λ joined. joined.other ≡ self.other.runs) }
+        ensures lines { IfOk result (λ joined. joined.lines.items
+            ≡ self.base.lines.items ++ self.other.lines.items) }
     {
         let Sides { base, other } = self;
         let mut lines = base.lines;
         lines.extend_from_slice(&other.lines)?;
-        Ok(ToldSides {
+        Ok(JoinedSides {
             base: base.runs,
             other: other.runs,
             lines,

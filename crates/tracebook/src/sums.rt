@@ -1,4 +1,4 @@
-//! Tables of several runs, as they are printed: their heads tell of the runs, and fault lines follow.
+//! Tables of several runs, as they are printed: their heads say how many runs there are, and fault lines follow.
 ghost use Rattle.std.specs.Prelude.{◌≡◌, ◌<◌, ◌≤◌, true, is_ok, IfOk, IfErr};
 ghost use Rattle.span_faults.specs.FaultLines.{Says};
 ghost use Rattle.tracebook.specs.Comparison.{changes_text};
@@ -37,7 +37,7 @@ pub(crate) fn write_runs_table<O: Sink, F: Faults>(
     let text = table_text(alloc, unit, &table, view, true);
     // The program ends soon, and then the system frees all at once, where freeing one by one takes long.
     forget(table);
-    write_told(alloc, text, lines, out, faults)
+    write_and_say(alloc, text, lines, out, faults)
 }
 
 /// Writes what changed between two tables in a unit, and then these fault lines.
@@ -62,11 +62,11 @@ pub(crate) fn write_runs_changes<O: Sink, F: Faults>(
     // The program ends soon, and then the system frees all at once, where freeing one by one takes long.
     forget(base);
     forget(other);
-    write_told(alloc, text, lines, out, faults)
+    write_and_say(alloc, text, lines, out, faults)
 }
 
 /// Writes a text, if it was made, and then these fault lines.
-pub(crate) fn write_told<O: Sink, F: Faults>(
+pub(crate) fn write_and_say<O: Sink, F: Faults>(
     alloc: Global,
     text: Result<Vec<u8>, JsonFault>,
     lines: &[u8],

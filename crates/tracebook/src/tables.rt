@@ -9,16 +9,16 @@ use span_table::{By, Of, Table};
 use span_table_text::{JsonFault, json_table, ranking};
 use std::alloc::Global;
 
-/// The text of a table in a unit, whose head tells of runs or doesn't.
+/// The text of a table in a unit, whose head says how many runs there are or doesn't.
 pub(crate) fn table_text(
     alloc: Global,
     unit: Unit,
     table: &Table,
     view: &TableView,
-    tells_runs: bool,
+    says_runs: bool,
 ) -> Result<Vec<u8>, JsonFault>
     ensures text { IfOk result (λ text. text.items
-        ≡ table_text unit view.now tells_runs table.now) }
+        ≡ table_text unit view.now says_runs table.now) }
     ensures fits { OnOk result (TableFits view.now table.now) }
     ensures too_great { IfErr result (λ fault. fault ≡ TooGreat → TableExceeds view.now table.now) }
 {
@@ -26,7 +26,7 @@ pub(crate) fn table_text(
     match view.form {
         TableForm::Ranking { most, by } => {
             let by = asked_by(table.kind(), by);
-            match ranking(alloc, unit, table, shown, most, by, tells_runs) {
+            match ranking(alloc, unit, table, shown, most, by, says_runs) {
                 Ok(text) => Ok(text),
                 Err(_) => Err(JsonFault::Memory),
             }

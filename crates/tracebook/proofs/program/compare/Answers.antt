@@ -1,6 +1,6 @@
 use Rattle.std.proofs.Common.{sym, ◌∙◌}
 use Rattle.std.proofs.lemmas.Slice.Zip.{AllZip-long}
-use Rattle.tracebook.proofs.RunPairs.{ComparisonPart-ended, HasEnded-le, greater-le, greater-none, greater-told}
+use Rattle.tracebook.proofs.RunPairs.{ComparisonPart-ended, HasEnded-le, greater-le, greater-none, greater-statuses}
 use Rattle.span_faults.proofs.FaultLines.{Reports-le, Reports-status}
 use Rattle.tracebook.proofs.program.compare.Goals as goal
 
@@ -33,7 +33,7 @@ returns-in-Ok-clause-done g c = λ below.
       base_run = base;
       run = other;
       is_comparison = c.in-Ok.ensures.run;
-      ended = greater-told base.status other.status c.report_faults-earlier.result c.report_faults-later.result (Reports-status c.report_faults-earlier.ensures) (Reports-status c.report_faults-later.ensures) (rw c.greater.ensures at below) ∙ sym c.greater.ensures;
+      ended = greater-statuses base.status other.status c.report_faults-earlier.result c.report_faults-later.result (Reports-status c.report_faults-earlier.ensures) (Reports-status c.report_faults-later.ensures) (rw c.greater.ensures at below) ∙ sym c.greater.ensures;
     }
 
 pub returns-in-Ok-clause-failed : goal.returns-in-Ok-clause-failed
