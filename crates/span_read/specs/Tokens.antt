@@ -7,8 +7,8 @@ use Rattle.serde_json.specs.Read.{of_json, of_items, of_members, converted}
 use Rattle.span_event.specs.declared.args.ArgValue.TheVariants as arg
 use Rattle.span_read.specs.declared.document.End.{End}
 use Rattle.span_read.specs.declared.document.End.TheVariants as end
-use Rattle.span_read.specs.declared.tokens.head.Head.{Head}
-use Rattle.span_read.specs.declared.tokens.head.Head.TheVariants.{Object, Array, Words, Whole, Float, Flag, Nil, Other}
+use Rattle.span_read.specs.declared.tokens.beginning.Beginning.{Beginning}
+use Rattle.span_read.specs.declared.tokens.beginning.Beginning.TheVariants.{Object, Array, Words, Whole, Float, Flag, Nil, Other}
 use Rattle.span_read.specs.declared.tokens.number.Number.{Number}
 use Rattle.span_read.specs.declared.tokens.number.Number.TheVariants as number
 use Rattle.span_read.specs.declared.error.stop.Stop.{Stop}
@@ -60,15 +60,15 @@ pub record TakesLeaf (v : FieldValue) (old new : List Token) : Type 0 where
   pub kind : field_value found ≡ v
 
 -- the beginning of a value was taken
-abbrev pub TakesHead : Head → List Token → List Token → Type 0
-TakesHead Object old new = old ≡ Token.begin_object ∷ new
-TakesHead Array old new = old ≡ Token.begin_array ∷ new
-TakesHead (Words s) old new = TakesLeaf (field.Plain (arg.Words s.now)) old new
-TakesHead (Whole n) old new = TakesLeaf (field.Plain (arg.Whole n)) old new
-TakesHead (Float x) old new = TakesLeaf (field.Float x) old new
-TakesHead (Flag b) old new = TakesLeaf (field.Plain (arg.Flag b)) old new
-TakesHead Nil old new = TakesLeaf (field.Plain arg.Nil) old new
-TakesHead Other old new = TakesLeaf (field.Plain arg.Other) old new
+abbrev pub TakesBeginning : Beginning → List Token → List Token → Type 0
+TakesBeginning Object old new = old ≡ Token.begin_object ∷ new
+TakesBeginning Array old new = old ≡ Token.begin_array ∷ new
+TakesBeginning (Words s) old new = TakesLeaf (field.Plain (arg.Words s.now)) old new
+TakesBeginning (Whole n) old new = TakesLeaf (field.Plain (arg.Whole n)) old new
+TakesBeginning (Float x) old new = TakesLeaf (field.Float x) old new
+TakesBeginning (Flag b) old new = TakesLeaf (field.Plain (arg.Flag b)) old new
+TakesBeginning Nil old new = TakesLeaf (field.Plain arg.Nil) old new
+TakesBeginning Other old new = TakesLeaf (field.Plain arg.Other) old new
 
 -- what a number is read as; nothing where it is too large for a float
 abbrev pub kind_of : Number → Option FieldValue

@@ -15,7 +15,7 @@ use crate::error::ReadError;
 use crate::error::stop::Stop;
 use crate::fields::Fields;
 use crate::tokens::Tokens;
-use crate::tokens::head::{Head, head_of, next_head};
+use crate::tokens::beginning::{Beginning, beginning_of, next_beginning};
 use crate::tokens::kept::read_members;
 use crate::tokens::pass::{pass_array, pass_begun, pass_object, pass_value};
 use json::{Invalid, Token};
@@ -80,9 +80,9 @@ fn read_document(tokens: &mut Tokens<'_>, unit: Unit, depth: usize) -> Result<Fo
         (λ d. found ≡ doc_of_elements unit (elements_of d))) }
     ensures refused { IsNotJson result → data_at depth tokens.old.reader ≡ None }
 {
-    match next_head(&mut tokens.reader)? {
-        Head::Object => read_object(tokens, unit, depth),
-        Head::Array => read_elements(tokens, unit, depth),
+    match next_beginning(&mut tokens.reader)? {
+        Beginning::Object => read_object(tokens, unit, depth),
+        Beginning::Array => read_elements(tokens, unit, depth),
         _ => Ok(Err(ReadError::NotTrace)),
     }
 }
@@ -113,12 +113,12 @@ fn read_trace_events(tokens: &mut Tokens<'_>, unit: Unit, depth: usize) -> Resul
         (λ d. found ≡ doc_of_elements unit (as_array d))) }
     ensures refused { IsNotJson result → data_at depth tokens.old.reader ≡ None }
 {
-    match next_head(&mut tokens.reader)? {
-        Head::Object => {
+    match next_beginning(&mut tokens.reader)? {
+        Beginning::Object => {
             pass_object(&mut tokens.reader, depth)?;
             Ok(Err(ReadError::NotTrace))
         }
-        Head::Array => read_elements(tokens, unit, depth),
+        Beginning::Array => read_elements(tokens, unit, depth),
         _ => Ok(Err(ReadError::NotTrace)),
     }
 }
@@ -195,13 +195,13 @@ fn read_item(
     ensures refused { IsNotJson result
         → data_at depth (token_of token.entry ∷ tokens.old.reader) ≡ None }
 {
-    match head_of(token)? {
-        Head::Object => {
+    match beginning_of(token)? {
+        Beginning::Object => {
             fields.clear();
             read_members(tokens, depth, fields)?;
             Ok(item_of_fields(tokens.alloc, unit, fields)?)
         }
-        Head::Array => {
+        Beginning::Array => {
             pass_array(&mut tokens.reader, depth)?;
             Ok(Item::Bad(ItemFault::NotObject))
         }

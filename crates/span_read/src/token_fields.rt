@@ -5,7 +5,7 @@ use crate::arg_map::ArgMap;
 use crate::error::stop::Stop;
 use crate::fields::{FieldValue, Fields};
 use crate::tokens::Tokens;
-use crate::tokens::head::{Head, next_head};
+use crate::tokens::beginning::{Beginning, next_beginning};
 use crate::tokens::kept::{KeptMembers, KeptValue, read_members};
 use crate::tokens::pass::{pass_array, pass_object};
 use span_event::ArgValue;
@@ -39,26 +39,26 @@ impl KeptValue for FieldValue {
 
     #[inline(always)]
     fn read(tokens: &mut Tokens<'_>, depth: usize) -> Result<FieldValue, Stop> {
-        match next_head(&mut tokens.reader)? {
-            Head::Object => {
+        match next_beginning(&mut tokens.reader)? {
+            Beginning::Object => {
                 let mut map = ArgMap::over(replace(&mut tokens.pairs, Vec::new(tokens.alloc)));
                 read_members(tokens, depth, &mut map)?;
                 let pairs = map.into_args(tokens.alloc, &mut tokens.pairs)?;
                 Ok(FieldValue::Pairs(pairs))
             }
-            Head::Array => {
+            Beginning::Array => {
                 pass_array(&mut tokens.reader, depth)?;
                 Ok(FieldValue::Plain(ArgValue::Other))
             }
-            Head::Words(text) => {
+            Beginning::Words(text) => {
                 let words = tokens.recent.text(tokens.alloc, text)?;
                 Ok(FieldValue::Plain(ArgValue::Words(words)))
             }
-            Head::Whole(number) => Ok(FieldValue::Plain(ArgValue::Whole(number))),
-            Head::Float(number) => Ok(FieldValue::Float(number)),
-            Head::Flag(flag) => Ok(FieldValue::Plain(ArgValue::Flag(flag))),
-            Head::Nil => Ok(FieldValue::Plain(ArgValue::Nil)),
-            Head::Other => Ok(FieldValue::Plain(ArgValue::Other)),
+            Beginning::Whole(number) => Ok(FieldValue::Plain(ArgValue::Whole(number))),
+            Beginning::Float(number) => Ok(FieldValue::Float(number)),
+            Beginning::Flag(flag) => Ok(FieldValue::Plain(ArgValue::Flag(flag))),
+            Beginning::Nil => Ok(FieldValue::Plain(ArgValue::Nil)),
+            Beginning::Other => Ok(FieldValue::Plain(ArgValue::Other)),
         }
     }
 }
@@ -68,23 +68,23 @@ impl KeptValue for ArgValue {
 
     #[inline(always)]
     fn read(tokens: &mut Tokens<'_>, depth: usize) -> Result<ArgValue, Stop> {
-        match next_head(&mut tokens.reader)? {
-            Head::Object => {
+        match next_beginning(&mut tokens.reader)? {
+            Beginning::Object => {
                 pass_object(&mut tokens.reader, depth)?;
                 Ok(ArgValue::Other)
             }
-            Head::Array => {
+            Beginning::Array => {
                 pass_array(&mut tokens.reader, depth)?;
                 Ok(ArgValue::Other)
             }
-            Head::Words(text) => {
+            Beginning::Words(text) => {
                 let words = tokens.recent.text(tokens.alloc, text)?;
                 Ok(ArgValue::Words(words))
             }
-            Head::Whole(number) => Ok(ArgValue::Whole(number)),
-            Head::Flag(flag) => Ok(ArgValue::Flag(flag)),
-            Head::Nil => Ok(ArgValue::Nil),
-            Head::Float(_) | Head::Other => Ok(ArgValue::Other),
+            Beginning::Whole(number) => Ok(ArgValue::Whole(number)),
+            Beginning::Flag(flag) => Ok(ArgValue::Flag(flag)),
+            Beginning::Nil => Ok(ArgValue::Nil),
+            Beginning::Float(_) | Beginning::Other => Ok(ArgValue::Other),
         }
     }
 }

@@ -1,5 +1,5 @@
-//! The tokens of a text: the head of a value, its number, what is kept of values and objects, and values that are passed over.
-pub(crate) mod head;
+//! The tokens of a text: the beginning of a value, its number, what is kept of values and objects, and values that are passed over.
+pub(crate) mod beginning;
 pub(crate) mod kept;
 mod number;
 pub(crate) mod pass;

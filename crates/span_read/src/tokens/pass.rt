@@ -4,7 +4,7 @@ ghost use Rattle.json.specs.Reads.{token_of};
 ghost use Rattle.json.specs.Token as spec;
 ghost use Rattle.span_read.specs.Tokens.{data_at, TakesValue, TakesArray, TakesObject};
 
-use crate::tokens::head::{Head, head_of};
+use crate::tokens::beginning::{Beginning, beginning_of};
 use json::{Invalid, Reader, Token};
 
 #[cycle(pass)]
@@ -29,9 +29,9 @@ pub(crate) fn pass_begun(
         (TakesValue depth (token_of token.entry ∷ reader.old) reader.new (λ d. ⊤)) }
     ensures refused { OnErr result (data_at depth (token_of token.entry ∷ reader.old) ≡ None) }
 {
-    match head_of(token)? {
-        Head::Array => pass_array(reader, depth),
-        Head::Object => pass_object(reader, depth),
+    match beginning_of(token)? {
+        Beginning::Array => pass_array(reader, depth),
+        Beginning::Object => pass_object(reader, depth),
         _ => Ok(()),
     }
 }

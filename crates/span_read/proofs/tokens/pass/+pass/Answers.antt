@@ -62,29 +62,29 @@ pass_object-returns-clause-taken t c = members_finish c.args.depth (omega arith)
 pub pass_begun-returns-in-Array-clause-taken : goal.pass_begun-returns-in-Array-clause-taken
 pass_begun-returns-in-Array-clause-taken t c =
     let ts = c.args.reader.now in
-    let opened : token_of c.args.token ∷ ts ≡ Token.begin_array ∷ ts = grind (arith, c.in_ok-head_of.ensures.head ts) in
+    let opened : token_of c.args.token ∷ ts ≡ Token.begin_array ∷ ts = grind (arith, c.in_ok-beginning_of.ensures.beginning ts) in
     on_ok_weaker c.pass_array.result (array_value c.args.depth _ ts c.pass_array.new.reader (λ d. ⊤) (λ ds. ⊤) opened (λ ds h. tt)) c.pass_array.ensures.taken
 
 pub pass_begun-returns-in-Array-clause-refused : goal.pass_begun-returns-in-Array-clause-refused
 pass_begun-returns-in-Array-clause-refused t c =
     let ts = c.args.reader.now in
-    let opened : token_of c.args.token ∷ ts ≡ Token.begin_array ∷ ts = grind (arith, c.in_ok-head_of.ensures.head ts) in
+    let opened : token_of c.args.token ∷ ts ≡ Token.begin_array ∷ ts = grind (arith, c.in_ok-beginning_of.ensures.beginning ts) in
     rw opened c.pass_array.ensures.refused
 
 pub pass_begun-returns-in-Object-clause-taken : goal.pass_begun-returns-in-Object-clause-taken
 pass_begun-returns-in-Object-clause-taken t c =
     let ts = c.args.reader.now in
-    let opened : token_of c.args.token ∷ ts ≡ Token.begin_object ∷ ts = grind (arith, c.in_ok-head_of.ensures.head ts) in
+    let opened : token_of c.args.token ∷ ts ≡ Token.begin_object ∷ ts = grind (arith, c.in_ok-beginning_of.ensures.beginning ts) in
     on_ok_weaker c.pass_object.result (object_value c.args.depth _ ts c.pass_object.new.reader (λ d. ⊤) (λ ms. ⊤) opened (λ ms h. tt)) c.pass_object.ensures.taken
 
 pub pass_begun-returns-in-Object-clause-refused : goal.pass_begun-returns-in-Object-clause-refused
 pass_begun-returns-in-Object-clause-refused t c =
     let ts = c.args.reader.now in
-    let opened : token_of c.args.token ∷ ts ≡ Token.begin_object ∷ ts = grind (arith, c.in_ok-head_of.ensures.head ts) in
+    let opened : token_of c.args.token ∷ ts ≡ Token.begin_object ∷ ts = grind (arith, c.in_ok-beginning_of.ensures.beginning ts) in
     rw opened c.pass_object.ensures.refused
 
 pub pass_begun-returns-in_default : goal.pass_begun-returns-in_default
-pass_begun-returns-in_default t c = let begun = c.in_ok-head_of.ensures.head c.args.reader.now in grind (arith, begun)
+pass_begun-returns-in_default t c = let begun = c.in_ok-beginning_of.ensures.beginning c.args.reader.now in grind (arith, begun)
 
 pub pass_value-returns-in_err-token-clause-refused : goal.pass_value-returns-in_err-token-clause-refused
 pass_value-returns-in_err-token-clause-refused t c =
