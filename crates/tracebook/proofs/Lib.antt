@@ -2,8 +2,8 @@ mod Adding
 mod Changes
 mod FleetTrees
 mod InTurn
-mod Parts
 mod RepeatedSides
 mod RunPages
 mod RunPairs
 mod Views
+mod Written

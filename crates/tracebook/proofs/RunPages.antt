@@ -23,7 +23,7 @@ use Rattle.span_runs.proofs.GatheredFiles.{AreGathered-none, AreGathered-push}
 use Rattle.tracebook.specs.declared.pages.ShownFiles.{ShownFiles}
 use Rattle.span_request.specs.declared.views.PageView.{PageView}
 use Rattle.tracebook.specs.Tables.{TableFits}
-use Rattle.tracebook.specs.Pages.{AreHeld, AreShown, HoldsInputs, IsPageOf, Pages, PagesPart, ShowsFile, ShowsInputs, WritesPage, WritesPagePart, asked_for, shown_alone, shown_run, shown_runs}
+use Rattle.tracebook.specs.Pages.{AreHeld, AreShown, HoldsInputs, IsPageOf, Pages, PagesPartly, ShowsFile, ShowsInputs, WritesPage, WritesPagePartly, asked_for, shown_alone, shown_run, shown_runs}
 
 -- what was collected of a file may stand for the run in which its items stand in their order
 pub TakesRun-alone : (labels : List SpanColumn) (known : Bytes → Option Bytes) (name : Bytes) (settings : Settings) (run : FileRun) (old new : BegunPage) →
@@ -113,9 +113,9 @@ Pages-written source names settings view shown status old new held fits (text, i
   written = written;
 }
 
--- or a part of it is
-pub PagesPart-written : (source : SourceBytes) (names : List Bytes) (settings : Settings) (view : PageView) (shown : ShownFiles) (old new : SinkState) →
-    HoldsInputs source names settings view shown → WritesPagePart settings.unit view shown old new → PagesPart source names settings view old new
-PagesPart-written source names settings view shown old new held (inl silent) = inl silent
-PagesPart-written source names settings view shown old new held (inr (text, is, written)) =
+-- or first bytes of it are
+pub PagesPartly-written : (source : SourceBytes) (names : List Bytes) (settings : Settings) (view : PageView) (shown : ShownFiles) (old new : SinkState) →
+    HoldsInputs source names settings view shown → WritesPagePartly settings.unit view shown old new → PagesPartly source names settings view old new
+PagesPartly-written source names settings view shown old new held (inl silent) = inl silent
+PagesPartly-written source names settings view shown old new held (inr (text, is, written)) =
     inr (shown.summed, text, ShowsInputs-held source names settings view shown text held is, written)

@@ -16,7 +16,7 @@ use Rattle.span_collect.proofs.Statuses.{status_of-lt}
 use Rattle.tracebook.specs.declared.comparison.ComparisonFault.TheVariants.{Run}
 use Rattle.span_request.specs.declared.views.ComparisonView.{ComparisonView}
 use Rattle.tracebook.specs.Comparison.{ComparisonLeaves, HasEnded, IsComparisonOf, greater}
-use Rattle.tracebook.specs.Request.{ComparisonPart}
+use Rattle.tracebook.specs.Request.{ComparisonPartly}
 
 -- the greater is one of the two, and neither is above it
 pub greater-is : (a b : ℕ) → (a ≤ greater a b) × (b ≤ greater a b) × ((greater a b ≡ a) ⊎ (greater a b ≡ b))
@@ -50,9 +50,9 @@ greater-lt a b a_le b_le other = by (greater a b) (greater-is a b).2 other
     by n (inr is) other = omega (arith, is, b_le, other)
 
 -- two runs of which one didn't end with 0 wrote nothing, or all that changed
-pub ComparisonPart-ended : (view : ComparisonView) (base_run run : RunEnd) (base inputs : List Input) (settings : Settings) (old new : SinkState) →
-    IsComparisonOf view base inputs settings base_run run old new → greater base_run.status run.status ≢ 0 → ComparisonPart view base inputs settings old new
-ComparisonPart-ended view base_run run base inputs settings old new is failed = dite (ℕ_discrete (greater base_run.status run.status) 2)
+pub ComparisonPartly-ended : (view : ComparisonView) (base_run run : RunEnd) (base inputs : List Input) (settings : Settings) (old new : SinkState) →
+    IsComparisonOf view base inputs settings base_run run old new → greater base_run.status run.status ≢ 0 → ComparisonPartly view base inputs settings old new
+ComparisonPartly-ended view base_run run base inputs settings old new is failed = dite (ℕ_discrete (greater base_run.status run.status) 2)
     (λ (two : greater base_run.status run.status ≡ 2). inl (record { base_run = base_run; run = run; is_comparison = is; ended = two }))
     (λ (other : ¬ (greater base_run.status run.status ≡ 2)). inr (inr (record { base_run = base_run; run = run; is_comparison = is; ended = one (greater base_run.status run.status) (greater-is base_run.status run.status) other failed })))
   where

@@ -10,7 +10,7 @@ use Rattle.span_request.specs.declared.views.ComparisonView.{ComparisonView}
 use Rattle.span_request.specs.declared.views.TableView.{TableView}
 use Rattle.span_request.specs.Numbers.{compared_by, goes_by, named_by}
 use Rattle.tracebook.specs.Comparison.{changes_text}
-use Rattle.tracebook.specs.Sums.{WritesAll, WritesPart}
+use Rattle.tracebook.specs.Sums.{WritesAll, WritesPartly}
 use Rattle.tracebook.specs.Tables.{TableFits, table_text}
 
 -- what is known of the bytes under each name
@@ -53,9 +53,9 @@ pub record Adds (source : SourceBytes) (names : List Bytes) (view : TableView) (
   pub written : WritesAll (table_text sum.unit view true sum.sum) [] status old new
 
 -- nothing was written, or first bytes of that
-abbrev pub AddsPart : SourceBytes → List Bytes → TableView → SinkState → SinkState → Type 0
-AddsPart source names view old new = (new ≡ old)
-    ⊎ ((sum : PartSum) × OfInputs source names (AddsChosen view.options.columns.items sum) × WritesPart (table_text sum.unit view true sum.sum) old new)
+abbrev pub AddsPartly : SourceBytes → List Bytes → TableView → SinkState → SinkState → Type 0
+AddsPartly source names view old new = (new ≡ old)
+    ⊎ ((sum : PartSum) × OfInputs source names (AddsChosen view.options.columns.items sum) × WritesPartly (table_text sum.unit view true sum.sum) old new)
 
 -- the base's files were added, and the others, which sum the same, in the same unit and by the same columns, and what changed between the sums is written
 pub record ComparesAdded (source : SourceBytes) (base_names names : List Bytes) (view : ComparisonView) (status : ℕ) (old new : SinkState) : Type 0 where
@@ -67,7 +67,7 @@ pub record ComparesAdded (source : SourceBytes) (base_names names : List Bytes) 
   pub written : WritesAll (changes_text base.unit view true base.sum other.sum) [] status old new
 
 -- nothing was written, or first bytes of that
-abbrev pub ComparesAddedPart : SourceBytes → List Bytes → List Bytes → ComparisonView → SinkState → SinkState → Type 0
-ComparesAddedPart source base_names names view old new = (new ≡ old)
+abbrev pub ComparesAddedPartly : SourceBytes → List Bytes → List Bytes → ComparisonView → SinkState → SinkState → Type 0
+ComparesAddedPartly source base_names names view old new = (new ≡ old)
     ⊎ ((base : PartSum) × (other : PartSum) × AddsChosen view.options.columns.items base source.file base_names
-    × OfInputs source names (AddsBeside base other) × WritesPart (changes_text base.unit view true base.sum other.sum) old new)
+    × OfInputs source names (AddsBeside base other) × WritesPartly (changes_text base.unit view true base.sum other.sum) old new)

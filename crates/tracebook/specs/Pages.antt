@@ -15,7 +15,7 @@ use Rattle.tracebook.specs.declared.pages.ShownFiles.{ShownFiles}
 use Rattle.span_request.specs.declared.views.PageView.{PageView}
 use Rattle.span_table.specs.Columns.{Run}
 use Rattle.span_table.specs.Tables.{SpanTable}
-use Rattle.tracebook.specs.Sums.{Summed, WritesAll, WritesPart}
+use Rattle.tracebook.specs.Sums.{Summed, WritesAll, WritesPartly}
 use Rattle.tracebook.specs.Tables.{TableFits, table_text}
 
 -- the run of a file alone, in which its items stand in their order, as a page shows it
@@ -49,9 +49,9 @@ pub record Pages (source : SourceBytes) (names : List Bytes) (settings : Setting
   pub written : WritesAll text summed.lines.items status old new
 
 -- nothing was written, or first bytes of that
-abbrev pub PagesPart : SourceBytes → List Bytes → Settings → PageView → SinkState → SinkState → Type 0
-PagesPart source names settings view old new = (new ≡ old)
-    ⊎ ((summed : Summed) × (text : Bytes) × ShowsInputs source names settings view summed text × WritesPart text old new)
+abbrev pub PagesPartly : SourceBytes → List Bytes → Settings → PageView → SinkState → SinkState → Type 0
+PagesPartly source names settings view old new = (new ≡ old)
+    ⊎ ((summed : Summed) × (text : Bytes) × ShowsInputs source names settings view summed text × WritesPartly text old new)
 
 -- Each of the files of these names was collected alone, and is summed; the page has these runs of them so far.
 pub record AreHeld (runs_of : List Input → List ShownRun) (known : Bytes → Option Bytes) (names : List Bytes) (settings : Settings) (view : PageView) (shown : ShownFiles) : Type 0 where
@@ -73,8 +73,8 @@ abbrev pub WritesPage : Unit → PageView → ShownFiles → ℕ → SinkState �
 WritesPage unit view shown status old new = (text : Bytes) × IsPageOf unit view shown text × WritesAll text shown.summed.lines.items status old new
 
 -- nothing was written, or first bytes of it
-abbrev pub WritesPagePart : Unit → PageView → ShownFiles → SinkState → SinkState → Type 0
-WritesPagePart unit view shown old new = (new ≡ old) ⊎ ((text : Bytes) × IsPageOf unit view shown text × WritesPart text old new)
+abbrev pub WritesPagePartly : Unit → PageView → ShownFiles → SinkState → SinkState → Type 0
+WritesPagePartly unit view shown old new = (new ≡ old) ⊎ ((text : Bytes) × IsPageOf unit view shown text × WritesPartly text old new)
 
 -- what was collected of a file, as a page shows it
 abbrev pub shown_run : FileRun → ShownRun

@@ -23,7 +23,7 @@ use Rattle.span_request.specs.declared.views.RepeatsView.{RepeatsView}
 use Rattle.span_request.specs.Numbers.{goes_by}
 use Rattle.tracebook.specs.declared.repeated_tables.Tables.{Tables}
 use Rattle.tracebook.specs.Added.{AddsBeside, Known, OfInputs}
-use Rattle.tracebook.specs.Sums.{GathersBoth, WritesAll, WritesPart}
+use Rattle.tracebook.specs.Sums.{GathersBoth, WritesAll, WritesPartly}
 use Rattle.tracebook.specs.Tables.{asked_by}
 
 -- the text in a form, of tables that sum this by these columns, and whose times are in this unit
@@ -76,10 +76,10 @@ pub record Repeats (source : SourceBytes) (base_names names : List Bytes) (setti
   pub written : WritesAll (gathered_text settings.unit view base other) (base.lines.items ++ other.lines.items) status old new
 
 -- nothing was written, or first bytes of that
-abbrev pub RepeatsPart : SourceBytes → List Bytes → List Bytes → Settings → RepeatsView → SinkState → SinkState → Type 0
-RepeatsPart source base_names names settings view old new = (new ≡ old)
+abbrev pub RepeatsPartly : SourceBytes → List Bytes → List Bytes → Settings → RepeatsView → SinkState → SinkState → Type 0
+RepeatsPartly source base_names names settings view old new = (new ≡ old)
     ⊎ ((base : Gathered (Vec SpanTable)) × (other : Gathered (Vec SpanTable)) × RepeatsRuns source base_names names settings view base other
-    × WritesPart (gathered_text settings.unit view base other) old new)
+    × WritesPartly (gathered_text settings.unit view base other) old new)
 
 -- the table is that of the file of this name, which sums the same as another, in the same unit and by the same columns
 abbrev pub IsTableBeside : PartSum → Known → Bytes → SpanTable → Type 0
@@ -120,7 +120,7 @@ pub record RepeatsAdded (source : SourceBytes) (base_names names : List Bytes) (
   pub written : WritesAll (added_text view first base other) [] status old new
 
 -- nothing was written, or first bytes of that
-abbrev pub RepeatsAddedPart : SourceBytes → List Bytes → List Bytes → RepeatsView → SinkState → SinkState → Type 0
-RepeatsAddedPart source base_names names view old new = (new ≡ old)
+abbrev pub RepeatsAddedPartly : SourceBytes → List Bytes → List Bytes → RepeatsView → SinkState → SinkState → Type 0
+RepeatsAddedPartly source base_names names view old new = (new ≡ old)
     ⊎ ((first : PartSum) × (base : List SpanTable) × (other : List SpanTable) × AreTablesOfSides source base_names names view.options.columns.items first base other
-    × WritesPart (added_text view first base other) old new)
+    × WritesPartly (added_text view first base other) old new)

@@ -16,12 +16,12 @@ use Rattle.span_runs.specs.declared.names.Named.{Named}
 use Rattle.span_runs.specs.Names.{AreNamed}
 use Rattle.span_runs.specs.Source.{SourceBytes}
 use Rattle.span_request.specs.Request.{AsksFor}
-use Rattle.tracebook.specs.Added.{Adds, AddsPart, ComparesAdded, ComparesAddedPart}
+use Rattle.tracebook.specs.Added.{Adds, AddsPartly, ComparesAdded, ComparesAddedPartly}
 use Rattle.tracebook.specs.Comparison.{ComparisonLeaves, IsComparisonOf, greater}
 use Rattle.span_runs.specs.Inputs.{AreFiles, AreInputs}
-use Rattle.tracebook.specs.Pages.{Pages, PagesPart}
-use Rattle.tracebook.specs.Repeats.{Repeats, RepeatsAdded, RepeatsAddedPart, RepeatsPart}
-use Rattle.tracebook.specs.Sums.{ComparesSums, ComparesSumsPart, Sums, SumsPart}
+use Rattle.tracebook.specs.Pages.{Pages, PagesPartly}
+use Rattle.tracebook.specs.Repeats.{Repeats, RepeatsAdded, RepeatsAddedPartly, RepeatsPartly}
+use Rattle.tracebook.specs.Sums.{ComparesSums, ComparesSumsPartly, Sums, SumsPartly}
 use Rattle.tracebook.specs.View.{Prints, ViewLeaves}
 
 -- this holds of a request that the words ask for
@@ -37,8 +37,8 @@ pub record EndsWith (inputs : List Input) (settings : Settings) (view : View) (s
 -- What a run of these inputs left where the program ended with 2. The run ended with 2, and wrote nothing; or it was refused, or its
 -- text is too large, and it wrote nothing unless the output failed; or a file was refused, the view of the run is written, and memory
 -- for the file's line was refused.
-abbrev pub LeavesPart : List Input → Settings → View → SinkState → SinkState → Type 0
-LeavesPart inputs settings view old new =
+abbrev pub LeavesPartly : List Input → Settings → View → SinkState → SinkState → Type 0
+LeavesPartly inputs settings view old new =
     EndsWith inputs settings view 2 old new ⊎ (((fault : ViewFault) × ViewLeaves view fault inputs settings old new) ⊎ EndsWith inputs settings view 1 old new)
 
 -- the files of these names were collected, and this view of them is written
@@ -48,8 +48,8 @@ pub record Collects (source : SourceBytes) (names : List (List ℕ)) (settings :
   pub ended : EndsWith inputs settings view status old new
 
 -- not all files were read, and nothing was written; or a run of them left this
-abbrev pub CollectsPart : SourceBytes → List (List ℕ) → Settings → View → SinkState → SinkState → Type 0
-CollectsPart source names settings view old new = (new ≡ old) ⊎ ((inputs : List Input) × AreInputs source names inputs × LeavesPart inputs settings view old new)
+abbrev pub CollectsPartly : SourceBytes → List (List ℕ) → Settings → View → SinkState → SinkState → Type 0
+CollectsPartly source names settings view old new = (new ≡ old) ⊎ ((inputs : List Input) × AreInputs source names inputs × LeavesPartly inputs settings view old new)
 
 -- two runs of these inputs were compared, and the greater of their statuses is this
 pub record ComparesWith (view : ComparisonView) (base inputs : List Input) (settings : Settings) (status : ℕ) (old new : SinkState) : Type 0 where
@@ -61,8 +61,8 @@ pub record ComparesWith (view : ComparisonView) (base inputs : List Input) (sett
 -- What comparing these inputs left where the program ended with 2. A run ended with 2, and nothing was written; or the runs were not
 -- compared, and nothing was written unless the output failed; or a file was refused, what changed is written, and memory for the file's
 -- line was refused.
-abbrev pub ComparisonPart : ComparisonView → List Input → List Input → Settings → SinkState → SinkState → Type 0
-ComparisonPart view base inputs settings old new = ComparesWith view base inputs settings 2 old new
+abbrev pub ComparisonPartly : ComparisonView → List Input → List Input → Settings → SinkState → SinkState → Type 0
+ComparisonPartly view base inputs settings old new = ComparesWith view base inputs settings 2 old new
     ⊎ (((fault : ComparisonFault) × ComparisonLeaves view fault base inputs settings old new) ⊎ ComparesWith view base inputs settings 1 old new)
 
 -- the files of these names were collected, the base's in one run and the others in another, and what changed is written
@@ -74,9 +74,9 @@ pub record Compares (source : SourceBytes) (base_names names : List (List ℕ)) 
   pub ended : ComparesWith view base inputs settings status old new
 
 -- not all files were read, and nothing was written; or two runs of them left this
-abbrev pub ComparesPart : SourceBytes → List (List ℕ) → List (List ℕ) → Settings → ComparisonView → SinkState → SinkState → Type 0
-ComparesPart source base_names names settings view old new = (new ≡ old)
-    ⊎ ((base : List Input) × (inputs : List Input) × AreFiles source.file base_names base × AreInputs source names inputs × ComparisonPart view base inputs settings old new)
+abbrev pub ComparesPartly : SourceBytes → List (List ℕ) → List (List ℕ) → Settings → ComparisonView → SinkState → SinkState → Type 0
+ComparesPartly source base_names names settings view old new = (new ≡ old)
+    ⊎ ((base : List Input) × (inputs : List Input) × AreFiles source.file base_names base × AreInputs source names inputs × ComparisonPartly view base inputs settings old new)
 
 -- what was done with the files of these names, ending with status 0 or 1
 abbrev pub Does : SourceBytes → Task → List (List ℕ) → ℕ → SinkState → SinkState → Type 0
@@ -91,16 +91,16 @@ Does source (CompareAdded view base) names status old new = ComparesAdded source
 Does source (RepeatAdded view base) names status old new = RepeatsAdded source base.items names view status old new
 
 -- what was left where that ended with status 2
-abbrev pub DoesPart : SourceBytes → Task → List (List ℕ) → SinkState → SinkState → Type 0
-DoesPart source (Collect settings view) names old new = CollectsPart source names settings view old new
-DoesPart source (Compare settings view base) names old new = ComparesPart source base.items names settings view old new
-DoesPart source (Sum apart view) names old new = SumsPart source names apart.settings view old new
-DoesPart source (PagesTask apart view) names old new = PagesPart source names apart.settings view old new
-DoesPart source (CompareSums apart view base) names old new = ComparesSumsPart source base.items names apart.settings view old new
-DoesPart source (Repeat apart view base) names old new = RepeatsPart source base.items names apart.settings view old new
-DoesPart source (Add view) names old new = AddsPart source names view old new
-DoesPart source (CompareAdded view base) names old new = ComparesAddedPart source base.items names view old new
-DoesPart source (RepeatAdded view base) names old new = RepeatsAddedPart source base.items names view old new
+abbrev pub DoesPartly : SourceBytes → Task → List (List ℕ) → SinkState → SinkState → Type 0
+DoesPartly source (Collect settings view) names old new = CollectsPartly source names settings view old new
+DoesPartly source (Compare settings view base) names old new = ComparesPartly source base.items names settings view old new
+DoesPartly source (Sum apart view) names old new = SumsPartly source names apart.settings view old new
+DoesPartly source (PagesTask apart view) names old new = PagesPartly source names apart.settings view old new
+DoesPartly source (CompareSums apart view base) names old new = ComparesSumsPartly source base.items names apart.settings view old new
+DoesPartly source (Repeat apart view base) names old new = RepeatsPartly source base.items names apart.settings view old new
+DoesPartly source (Add view) names old new = AddsPartly source names view old new
+DoesPartly source (CompareAdded view base) names old new = ComparesAddedPartly source base.items names view old new
+DoesPartly source (RepeatAdded view base) names old new = RepeatsAddedPartly source base.items names view old new
 
 -- this holds of the names that are given, with those of a list
 abbrev pub WithNames : SourceBytes → Named → (List (List ℕ) → Type 0) → Type 0
@@ -114,6 +114,6 @@ Performs source (Refuse text) status old new = ⊥
 
 -- what a request did that ended with status 2: it wrote nothing, or first bytes of what it would have written
 abbrev pub GivesUp : SourceBytes → Request → SinkState → SinkState → Type 0
-GivesUp source (Run task files) old new = (new ≡ old) ⊎ WithNames source files (λ names. DoesPart source task names old new)
+GivesUp source (Run task files) old new = (new ≡ old) ⊎ WithNames source files (λ names. DoesPartly source task names old new)
 GivesUp source (Show text) old new = (written : ℕ) × Fails old new (take written (string_bytes text))
 GivesUp source (Refuse text) old new = new ≡ old

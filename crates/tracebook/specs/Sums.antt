@@ -39,8 +39,8 @@ pub record WritesAll (text lines : Bytes) (status : ℕ) (old new : SinkState) :
   pub ended : status ≡ (if length lines == 0 then 0 else 1)
 
 -- nothing was written, or the output failed after first bytes of the text
-abbrev pub WritesPart : Bytes → SinkState → SinkState → Type 0
-WritesPart text old new = (new ≡ old) ⊎ ((written : ℕ) × (written ≤ length text) × Fails old new (take written text))
+abbrev pub WritesPartly : Bytes → SinkState → SinkState → Type 0
+WritesPartly text old new = (new ≡ old) ⊎ ((written : ℕ) × (written ≤ length text) × Fails old new (take written text))
 
 -- the files of these names were summed, and this view of the sum is written
 pub record Sums (source : SourceBytes) (names : List (List ℕ)) (settings : Settings) (view : TableView) (status : ℕ) (old new : SinkState) : Type 0 where
@@ -50,9 +50,9 @@ pub record Sums (source : SourceBytes) (names : List (List ℕ)) (settings : Set
   pub written : WritesAll (table_text settings.unit view true summed.runs) summed.lines.items status old new
 
 -- nothing was written, or first bytes of that
-abbrev pub SumsPart : SourceBytes → List (List ℕ) → Settings → TableView → SinkState → SinkState → Type 0
-SumsPart source names settings view old new = (new ≡ old)
-    ⊎ ((summed : Summed) × SumsInputs source names settings view.options.of view.options.columns.items summed × WritesPart (table_text settings.unit view true summed.runs) old new)
+abbrev pub SumsPartly : SourceBytes → List (List ℕ) → Settings → TableView → SinkState → SinkState → Type 0
+SumsPartly source names settings view old new = (new ≡ old)
+    ⊎ ((summed : Summed) × SumsInputs source names settings view.options.of view.options.columns.items summed × WritesPartly (table_text settings.unit view true summed.runs) old new)
 
 -- the base's files were summed, and the others, and what changed between the sums is written
 pub record ComparesSums (source : SourceBytes) (base_names names : List (List ℕ)) (settings : Settings) (view : ComparisonView) (status : ℕ) (old new : SinkState) : Type 0 where
@@ -62,7 +62,7 @@ pub record ComparesSums (source : SourceBytes) (base_names names : List (List �
   pub written : WritesAll (changes_text settings.unit view true base.runs other.runs) (base.lines.items ++ other.lines.items) status old new
 
 -- nothing was written, or first bytes of that
-abbrev pub ComparesSumsPart : SourceBytes → List (List ℕ) → List (List ℕ) → Settings → ComparisonView → SinkState → SinkState → Type 0
-ComparesSumsPart source base_names names settings view old new = (new ≡ old)
+abbrev pub ComparesSumsPartly : SourceBytes → List (List ℕ) → List (List ℕ) → Settings → ComparisonView → SinkState → SinkState → Type 0
+ComparesSumsPartly source base_names names settings view old new = (new ≡ old)
     ⊎ ((base : Summed) × (other : Summed) × GathersBoth source base_names names settings (IsTableOf view.options.of view.options.columns.items) base other
-    × WritesPart (changes_text settings.unit view true base.runs other.runs) old new)
+    × WritesPartly (changes_text settings.unit view true base.runs other.runs) old new)

@@ -4,7 +4,7 @@ ghost use Rattle.span_parts.specs.Sum.{HasOtherColumns};
 ghost use Rattle.span_faults.specs.FaultLines.{SaysAndHints};
 ghost use Rattle.span_request.specs.Numbers.{goes_by};
 ghost use Rattle.tracebook.specs.AddStops.{AddsFile, AddsMore, BeginsWith, IsOfPart, IsUnread, LacksAsked, Stops, StopsAt, StopsBeside, StopsMore, stop_text};
-ghost use Rattle.tracebook.specs.Added.{Adds, AddsBeside, AddsChosen, AddsPart, ComparesAdded, ComparesAddedPart, IsText, OfInputs};
+ghost use Rattle.tracebook.specs.Added.{Adds, AddsBeside, AddsChosen, AddsPartly, ComparesAdded, ComparesAddedPartly, IsText, OfInputs};
 
 use crate::standard::Standard;
 use crate::sums::{write_runs_changes, write_runs_table};
@@ -79,7 +79,7 @@ pub(crate) fn add_files<R: RandomSource, S: Source, O: Sink, F: Faults>(
     ensures done { result < 2 → Adds (S.bytes source.now) names.items view.now result
         (O.state out.old) (O.state out.new) }
     ensures failed { result ≡ 2
-        → AddsPart (S.bytes source.now) names.items view.now (O.state out.old) (O.state out.new) }
+        → AddsPartly (S.bytes source.now) names.items view.now (O.state out.old) (O.state out.new) }
 {
     source.begin_apart(names.len() as u64);
     let keys = HashKeys::random(rt);
@@ -110,7 +110,7 @@ pub(crate) fn compare_added<R: RandomSource, S: Source, O: Sink, F: Faults>(
     ensures status { result ≤ 2 }
     ensures done { result < 2 → ComparesAdded (S.bytes source.now) base.items names.items view.now
         result (O.state out.old) (O.state out.new) }
-    ensures failed { result ≡ 2 → ComparesAddedPart (S.bytes source.now) base.items names.items
+    ensures failed { result ≡ 2 → ComparesAddedPartly (S.bytes source.now) base.items names.items
         view.now (O.state out.old) (O.state out.new) }
 {
     let files = (base.len() as u64).saturating_add(names.len() as u64);

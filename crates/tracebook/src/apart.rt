@@ -2,7 +2,7 @@
 ghost use Rattle.std.specs.Prelude.{◌≡◌, ◌<◌, ◌≤◌, ◌++◌, [], true, IfOk};
 ghost use Rattle.span_faults.specs.FaultLines.{Says};
 ghost use Rattle.tracebook.specs.Comparison.{changes_text};
-ghost use Rattle.tracebook.specs.Sums.{ComparesSums, ComparesSumsPart, GathersInputs, Sums, SumsPart, WritesAll, WritesPart};
+ghost use Rattle.tracebook.specs.Sums.{ComparesSums, ComparesSumsPartly, GathersInputs, Sums, SumsPartly, WritesAll, WritesPartly};
 ghost use Rattle.tracebook.specs.Tables.{TableFits, table_text};
 
 use crate::sides::{JoinedSides, Sides, gather_sides};
@@ -43,7 +43,7 @@ pub(crate) fn sum_files<
     ensures status { result ≤ 2 }
     ensures done { result < 2 → Sums (S.bytes source.now) names.items apart.now.settings view.now
         result (O.state out.old) (O.state out.new) }
-    ensures failed { result ≡ 2 → SumsPart (S.bytes source.now) names.items apart.now.settings
+    ensures failed { result ≡ 2 → SumsPartly (S.bytes source.now) names.items apart.now.settings
         view.now (O.state out.old) (O.state out.new) }
 {
     source.begin_apart(names.len() as u64);
@@ -84,7 +84,7 @@ pub(crate) fn compare_sums<
     ensures status { result ≤ 2 }
     ensures done { result < 2 → ComparesSums (S.bytes source.now) base.items names.items
         apart.now.settings view.now result (O.state out.old) (O.state out.new) }
-    ensures failed { result ≡ 2 → ComparesSumsPart (S.bytes source.now) base.items names.items
+    ensures failed { result ≡ 2 → ComparesSumsPartly (S.bytes source.now) base.items names.items
         apart.now.settings view.now (O.state out.old) (O.state out.new) }
 {
     let options = &view.options;
@@ -180,7 +180,7 @@ fn write_sum<O: Sink, F: Faults>(
     ensures fits { result < 2 → TableFits view.now summed.runs }
     ensures done { result < 2 → WritesAll (table_text unit view.now true summed.runs)
         summed.lines.items result (O.state out.old) (O.state out.new) }
-    ensures failed { result ≡ 2 → WritesPart (table_text unit view.now true summed.runs)
+    ensures failed { result ≡ 2 → WritesPartly (table_text unit view.now true summed.runs)
         (O.state out.old) (O.state out.new) }
     ensures said { result < 2 → Says summed.lines.items (F.state faults.old) (F.state faults.new) }
 {
@@ -204,7 +204,7 @@ fn write_comparison<O: Sink, F: Faults>(
         (changes_text unit view.now true sides.base.runs sides.other.runs)
         (sides.base.lines.items ++ sides.other.lines.items)
         result (O.state out.old) (O.state out.new) }
-    ensures failed { result ≡ 2 → WritesPart
+    ensures failed { result ≡ 2 → WritesPartly
         (changes_text unit view.now true sides.base.runs sides.other.runs)
         (O.state out.old) (O.state out.new) }
     ensures said { result < 2 → Says (sides.base.lines.items ++ sides.other.lines.items)

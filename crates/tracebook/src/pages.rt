@@ -3,7 +3,7 @@ ghost use Rattle.std.specs.Prelude.{◌≡◌, ◌<◌, ◌≤◌, [], List, tru
 ghost use Rattle.span_page.specs.Runs.{Holds, ShownRun, TakesRun, page_of_runs};
 ghost use Rattle.span_table.specs.Tables.{table_of};
 ghost use Rattle.span_faults.specs.FaultLines.{Says};
-ghost use Rattle.tracebook.specs.Pages.{AreHeld, HoldsInputs, Pages, PagesPart, ShowsFile, WritesPage, WritesPagePart, shown_alone, shown_run, shown_runs};
+ghost use Rattle.tracebook.specs.Pages.{AreHeld, HoldsInputs, Pages, PagesPartly, ShowsFile, WritesPage, WritesPagePartly, shown_alone, shown_run, shown_runs};
 ghost use Rattle.tracebook.specs.Tables.{TableFits, table_text};
 
 use crate::apart::jobs_of;
@@ -58,7 +58,7 @@ pub(crate) fn page_files<
     ensures status { result ≤ 2 }
     ensures done { result < 2 → Pages (S.bytes source.now) names.items apart.now.settings view.now
         result (O.state out.old) (O.state out.new) }
-    ensures failed { result ≡ 2 → PagesPart (S.bytes source.now) names.items apart.now.settings
+    ensures failed { result ≡ 2 → PagesPartly (S.bytes source.now) names.items apart.now.settings
         view.now (O.state out.old) (O.state out.new) }
 {
     source.begin_apart(names.len() as u64);
@@ -253,7 +253,7 @@ fn write_shown<O: Sink, F: Faults>(
     ensures done { result < 2
         → WritesPage unit view.now shown result (O.state out.old) (O.state out.new) }
     ensures failed { result ≡ 2
-        → WritesPagePart unit view.now shown (O.state out.old) (O.state out.new) }
+        → WritesPagePartly unit view.now shown (O.state out.old) (O.state out.new) }
     ensures said { result < 2
         → Says shown.summed.lines.items (F.state faults.old) (F.state faults.new) }
 {

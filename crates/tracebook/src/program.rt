@@ -1,6 +1,6 @@
 //! The program, over whatever files and outputs it is given.
 ghost use Rattle.std.specs.Prelude.{◌≡◌, ◌<◌, ◌≤◌, ◌⊎◌, length};
-ghost use Rattle.tracebook.specs.Request.{Asked, Does, DoesPart, EndsWith, LeavesPart, Collects, CollectsPart, Compares, ComparesPart, ComparesWith, ComparisonPart, Performs, GivesUp};
+ghost use Rattle.tracebook.specs.Request.{Asked, Does, DoesPartly, EndsWith, LeavesPartly, Collects, CollectsPartly, Compares, ComparesPartly, ComparesWith, ComparisonPartly, Performs, GivesUp};
 
 use crate::added::{add_files, compare_added};
 use crate::apart::{compare_sums, sum_files};
@@ -90,7 +90,7 @@ fn perform_task<R: Threads + Wait + RandomSource + Sync, S: Source + Sync, O: Si
     ensures done { result < 2
         → Does (S.bytes source.now) task names.items result (O.state out.old) (O.state out.new) }
     ensures failed { result ≡ 2
-        → DoesPart (S.bytes source.now) task names.items (O.state out.old) (O.state out.new) }
+        → DoesPartly (S.bytes source.now) task names.items (O.state out.old) (O.state out.new) }
 {
     match task {
         Task::Collect { settings, view } => {
@@ -138,7 +138,7 @@ fn collect_files<R: Threads + Wait + RandomSource + Sync, S: Source + Sync, O: S
     ensures status { result ≤ 2 }
     ensures done { result < 2 → Collects (S.bytes source.now) names.items settings.now view.now
         result (O.state out.old) (O.state out.new) }
-    ensures failed { result ≡ 2 → CollectsPart (S.bytes source.now) names.items settings.now
+    ensures failed { result ≡ 2 → CollectsPartly (S.bytes source.now) names.items settings.now
         view.now (O.state out.old) (O.state out.new) }
 {
     match inputs_of(alloc, names, source) {
@@ -166,7 +166,7 @@ fn compare_files<R: Threads + Wait + RandomSource + Sync, S: Source + Sync, O: S
     ensures status { result ≤ 2 }
     ensures done { result < 2 → Compares (S.bytes source.now) base.items names.items settings.now
         view.now result (O.state out.old) (O.state out.new) }
-    ensures failed { result ≡ 2 → ComparesPart (S.bytes source.now) base.items names.items
+    ensures failed { result ≡ 2 → ComparesPartly (S.bytes source.now) base.items names.items
         settings.now view.now (O.state out.old) (O.state out.new) }
 {
     match pair_of(alloc, base, names, source) {
@@ -202,7 +202,7 @@ fn compare<R: Threads + Wait + RandomSource + Sync, O: Sink, F: Faults>(
     ensures status { result ≤ 2 }
     ensures done { result < 2 → ComparesWith view.now base.now files.now settings.now result
         (O.state out.old) (O.state out.new) }
-    ensures failed { result ≡ 2 → ComparisonPart view.now base.now files.now settings.now
+    ensures failed { result ≡ 2 → ComparisonPartly view.now base.now files.now settings.now
         (O.state out.old) (O.state out.new) }
 {
     match run_comparison(rt, alloc, base, files, settings, view, out) {
@@ -232,7 +232,7 @@ fn collect<R: Threads + Wait + RandomSource + Sync, O: Sink, F: Faults>(
     ensures done { result < 2
         → EndsWith files.now settings.now view.now result (O.state out.old) (O.state out.new) }
     ensures failed { result ≡ 2
-        → LeavesPart files.now settings.now view.now (O.state out.old) (O.state out.new) }
+        → LeavesPartly files.now settings.now view.now (O.state out.old) (O.state out.new) }
 {
     match run_view(rt, alloc, files, settings, view, out) {
         Ok(collected) => {

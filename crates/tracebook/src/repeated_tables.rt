@@ -1,7 +1,7 @@
 //! Tables that were printed, each of one of the runs that were repeated on two sides.
 ghost use Rattle.std.specs.Prelude.{◌≡◌, ◌<◌, ◌≤◌, ◌∷◌, IfOk};
 ghost use Rattle.tracebook.specs.Added.{OfInputs};
-ghost use Rattle.tracebook.specs.Repeats.{AreOfSides, AreTablesBeside, IsTableBeside, RepeatsAdded, RepeatsAddedPart};
+ghost use Rattle.tracebook.specs.Repeats.{AreOfSides, AreTablesBeside, IsTableBeside, RepeatsAdded, RepeatsAddedPartly};
 
 use crate::added::{AddStop, fail_add, sum_beside, sum_names};
 use crate::repeats::{are_few, write_tables};
@@ -42,7 +42,7 @@ pub(crate) fn repeat_added<R: RandomSource, S: Source, O: Sink, F: Faults>(
     ensures status { result ≤ 2 }
     ensures done { result < 2 → RepeatsAdded (S.bytes source.now) base.items names.items view.now
         result (O.state out.old) (O.state out.new) }
-    ensures failed { result ≡ 2 → RepeatsAddedPart (S.bytes source.now) base.items names.items
+    ensures failed { result ≡ 2 → RepeatsAddedPartly (S.bytes source.now) base.items names.items
         view.now (O.state out.old) (O.state out.new) }
 {
     if !are_few(&base, &names) {

@@ -1,8 +1,8 @@
 //! Repeated runs, on each of two sides: how their numbers are spread, of traces or of tables that were printed.
 ghost use Rattle.std.specs.Prelude.{◌≡◌, ◌<◌, ◌≤◌, ◌++◌, true, ◌↔◌, IfErr, IfOk, IsTrue, OnOk, length};
 ghost use Rattle.span_table_text.specs.declared.json_lines.JsonFault.TheVariants.{TooGreat};
-ghost use Rattle.tracebook.specs.Repeats.{AreFew, RepeatsExceed, RepeatsFit, Repeats, RepeatsPart, gathered_text, repeats_text};
-ghost use Rattle.tracebook.specs.Sums.{WritesAll, WritesPart};
+ghost use Rattle.tracebook.specs.Repeats.{AreFew, RepeatsExceed, RepeatsFit, Repeats, RepeatsPartly, gathered_text, repeats_text};
+ghost use Rattle.tracebook.specs.Sums.{WritesAll, WritesPartly};
 
 use crate::sides::{JoinedSides, Sides, gather_sides};
 use crate::sums::write_and_say;
@@ -44,7 +44,7 @@ pub(crate) fn repeat_runs<
     ensures status { result ≤ 2 }
     ensures done { result < 2 → Repeats (S.bytes source.now) base.items names.items
         apart.now.settings view.now result (O.state out.old) (O.state out.new) }
-    ensures failed { result ≡ 2 → RepeatsPart (S.bytes source.now) base.items names.items
+    ensures failed { result ≡ 2 → RepeatsPartly (S.bytes source.now) base.items names.items
         apart.now.settings view.now (O.state out.old) (O.state out.new) }
 {
     if !are_few(&base, &names) {
@@ -81,7 +81,7 @@ fn write_gathered<O: Sink, F: Faults>(
     ensures done { result < 2 → WritesAll (gathered_text unit view.now sides.base sides.other)
         (sides.base.lines.items ++ sides.other.lines.items)
         result (O.state out.old) (O.state out.new) }
-    ensures failed { result ≡ 2 → WritesPart (gathered_text unit view.now sides.base sides.other)
+    ensures failed { result ≡ 2 → WritesPartly (gathered_text unit view.now sides.base sides.other)
         (O.state out.old) (O.state out.new) }
 {
     let Ok(JoinedSides { base, other, lines }) = sides.joined() else {
@@ -115,7 +115,7 @@ pub(crate) fn write_tables<O: Sink, F: Faults>(
         → WritesAll (repeats_text unit of columns.now view.now base.items other.items)
         lines.now result (O.state out.old) (O.state out.new) }
     ensures failed { result ≡ 2
-        → WritesPart (repeats_text unit of columns.now view.now base.items other.items)
+        → WritesPartly (repeats_text unit of columns.now view.now base.items other.items)
         (O.state out.old) (O.state out.new) }
 {
     let text = repeats_text(alloc, unit, of, columns, &base, &other, view);

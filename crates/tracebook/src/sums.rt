@@ -2,7 +2,7 @@
 ghost use Rattle.std.specs.Prelude.{◌≡◌, ◌<◌, ◌≤◌, true, is_ok, IfOk, IfErr};
 ghost use Rattle.span_faults.specs.FaultLines.{Says};
 ghost use Rattle.tracebook.specs.Comparison.{changes_text};
-ghost use Rattle.tracebook.specs.Sums.{WritesAll, WritesPart};
+ghost use Rattle.tracebook.specs.Sums.{WritesAll, WritesPartly};
 ghost use Rattle.tracebook.specs.Tables.{TableFits, table_text};
 
 use crate::comparison::changes_text;
@@ -31,7 +31,7 @@ pub(crate) fn write_runs_table<O: Sink, F: Faults>(
     ensures done { result < 2 → WritesAll (table_text unit view.now true table)
         lines.now result (O.state out.old) (O.state out.new) }
     ensures failed { result ≡ 2
-        → WritesPart (table_text unit view.now true table) (O.state out.old) (O.state out.new) }
+        → WritesPartly (table_text unit view.now true table) (O.state out.old) (O.state out.new) }
     ensures said { result < 2 → Says lines.now (F.state faults.old) (F.state faults.new) }
 {
     let text = table_text(alloc, unit, &table, view, true);
@@ -54,7 +54,7 @@ pub(crate) fn write_runs_changes<O: Sink, F: Faults>(
     ensures status { result ≤ 2 }
     ensures done { result < 2 → WritesAll (changes_text unit view.now true base other)
         lines.now result (O.state out.old) (O.state out.new) }
-    ensures failed { result ≡ 2 → WritesPart (changes_text unit view.now true base other)
+    ensures failed { result ≡ 2 → WritesPartly (changes_text unit view.now true base other)
         (O.state out.old) (O.state out.new) }
     ensures said { result < 2 → Says lines.now (F.state faults.old) (F.state faults.new) }
 {
@@ -78,7 +78,7 @@ pub(crate) fn write_and_say<O: Sink, F: Faults>(
     ensures done { IfOk text (λ made. result < 2
         → WritesAll made.items lines.now result (O.state out.old) (O.state out.new)) }
     ensures failed { IfOk text (λ made. result ≡ 2
-        → WritesPart made.items (O.state out.old) (O.state out.new)) }
+        → WritesPartly made.items (O.state out.old) (O.state out.new)) }
     ensures silent { IfErr text (λ fault. (result ≡ 2) × (O.state out.new ≡ O.state out.old)) }
     ensures said { result < 2 → Says lines.now (F.state faults.old) (F.state faults.new) }
 {

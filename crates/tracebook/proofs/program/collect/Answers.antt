@@ -1,7 +1,7 @@
 use Rattle.std.proofs.Common.{sym, arith, inl, inr}
 use Rattle.std.proofs.lemmas.Slice.Zip.{AllZip-long}
 use Rattle.span_faults.proofs.FaultLines.{Reports-status}
-use Rattle.tracebook.proofs.Parts.{LeavesPart-ended}
+use Rattle.tracebook.proofs.Written.{LeavesPartly-ended}
 use Rattle.tracebook.proofs.program.collect.Goals as goal
 
 -- there is one end for each file
@@ -18,7 +18,7 @@ returns-in-Ok-clause-done g c = λ below. elim (Reports-status c.report_faults-s
 
 pub returns-in-Ok-clause-failed : goal.returns-in-Ok-clause-failed
 returns-in-Ok-clause-failed g c = λ two.
-    LeavesPart-ended c.in-Ok.collected.end c.args.files.now c.args.settings.now c.args.view.now _ _ c.in-Ok.ensures.run (λ none. absurd (omega (arith, two, (c.report_faults-status.ensures.silent none).0)))
+    LeavesPartly-ended c.in-Ok.collected.end c.args.files.now c.args.settings.now c.args.view.now _ _ c.in-Ok.ensures.run (λ none. absurd (omega (arith, two, (c.report_faults-status.ensures.silent none).0)))
 
 -- the run was refused
 pub returns-in-Err-clause-failed : goal.returns-in-Err-clause-failed

@@ -1,6 +1,6 @@
 use Rattle.std.proofs.Common.{sym, ◌∙◌}
 use Rattle.std.proofs.lemmas.Slice.Zip.{AllZip-long}
-use Rattle.tracebook.proofs.RunPairs.{ComparisonPart-ended, HasEnded-le, greater-le, greater-none, greater-statuses}
+use Rattle.tracebook.proofs.RunPairs.{ComparisonPartly-ended, HasEnded-le, greater-le, greater-none, greater-statuses}
 use Rattle.span_faults.proofs.FaultLines.{Reports-le, Reports-status}
 use Rattle.tracebook.proofs.program.compare.Goals as goal
 
@@ -40,5 +40,5 @@ pub returns-in-Ok-clause-failed : goal.returns-in-Ok-clause-failed
 returns-in-Ok-clause-failed g c = λ two.
     let base = c.in-Ok.compared.base.end in
     let other = c.in-Ok.compared.other.end in
-    ComparisonPart-ended c.args.view.now base other c.args.base.now c.args.files.now c.args.settings.now _ _ c.in-Ok.ensures.run
+    ComparisonPartly-ended c.args.view.now base other c.args.base.now c.args.files.now c.args.settings.now _ _ c.in-Ok.ensures.run
     (λ none. greater-none base.status other.status c.report_faults-earlier.result c.report_faults-later.result none (λ none. (c.report_faults-earlier.ensures.silent none).0) (λ none. (c.report_faults-later.ensures.silent none).0) (sym c.greater.ensures ∙ two))

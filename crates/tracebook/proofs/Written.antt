@@ -9,12 +9,12 @@ use Rattle.span_collect.specs.declared.settings.Settings.{Settings}
 use Rattle.span_collect.specs.declared.runs.RunEnd.{RunEnd}
 use Rattle.span_collect.proofs.Statuses.{status_of-lt}
 use Rattle.span_request.specs.declared.views.View.{View}
-use Rattle.tracebook.specs.Request.{LeavesPart}
+use Rattle.tracebook.specs.Request.{LeavesPartly}
 use Rattle.tracebook.specs.View.{Prints}
 
 -- a run that didn't end with 0 wrote nothing, or its whole text
-pub LeavesPart-ended : (run : RunEnd) (inputs : List Input) (settings : Settings) (view : View) (old new : SinkState) → Prints view inputs settings run old new → run.status ≢ 0 → LeavesPart inputs settings view old new
-LeavesPart-ended run inputs settings view old new prints failed = dite (ℕ_discrete run.status 2)
+pub LeavesPartly-ended : (run : RunEnd) (inputs : List Input) (settings : Settings) (view : View) (old new : SinkState) → Prints view inputs settings run old new → run.status ≢ 0 → LeavesPartly inputs settings view old new
+LeavesPartly-ended run inputs settings view old new prints failed = dite (ℕ_discrete run.status 2)
     (λ (two : run.status ≡ 2). inl (record { run = run; prints = prints; ended = two }))
     (λ (other : ¬ (run.status ≡ 2)).
     let below : run.status < 2 = rw prints.is_run.status (status_of-lt run.ends.items run.asked run.sealing (λ two. other (prints.is_run.status ∙ two))) in
