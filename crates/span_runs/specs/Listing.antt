@@ -1,4 +1,4 @@
--- How the names in a list are found: byte by byte, with the part of a name so far.
+-- How the names in a list are found: byte by byte, with the bytes of a name so far.
 use Rattle.std.specs.Prelude.{ℕ, ◌==◌, if◌then◌else◌, List, [], ◌∷◌, ◌++◌}
 use Rattle.span_event.specs.Text.{Bytes}
 
@@ -7,8 +7,8 @@ abbrev pub kept : Bytes → List Bytes
 kept [] = []
 kept (byte ∷ name) = (byte ∷ name) ∷ []
 
--- the names in the rest of a list, whose first begins with this part
+-- the names in the rest of a list, whose first begins with these bytes
 abbrev pub names_from : ℕ → Bytes → Bytes → List Bytes
-names_from separator part [] = kept part
-names_from separator part (byte ∷ rest) =
-    if byte == separator then kept part ++ names_from separator [] rest else names_from separator (part ++ byte ∷ []) rest
+names_from separator begun [] = kept begun
+names_from separator begun (byte ∷ rest) =
+    if byte == separator then kept begun ++ names_from separator [] rest else names_from separator (begun ++ byte ∷ []) rest

@@ -18,7 +18,7 @@ abbrev pub is_name : Bytes → Bool
 is_name [] = false
 is_name (byte ∷ name) = true
 
--- the names in a list: the parts between its separators that are not empty
+-- the names in a list: what stands between its separators, unless it is empty
 abbrev pub names_in : Bytes → List Bytes
 names_in bytes = filter is_name (slice_split (λ byte. byte == separator_of bytes) bytes)
 

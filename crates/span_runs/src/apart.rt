@@ -40,7 +40,7 @@ impl<'a, S> Work<'a, S> {
 
 // Some of the files, one after another, and how many jobs share them.
 #[derive(Clone, Copy)]
-struct Part<'a> {
+struct Batch<'a> {
     names: &'a [Text],
     sizes: &'a [u64],
     // How many files are before them.
@@ -75,7 +75,7 @@ pub fn gather_apart<T: Gathering, S: Source + Sync, R: Threads + Wait + RandomSo
         columns,
         stopped: &stopped,
     };
-    let all = Part {
+    let all = Batch {
         names,
         sizes: &sizes,
         place: 0,
@@ -106,43 +106,43 @@ fn gather_in_jobs<T: Gathering, S: Source + Sync, R: Threads + Wait + RandomSour
     rt: &R,
     alloc: Global,
     work: &Work<S>,
-    part: Part,
+    batch: Batch,
 ) -> Result<Gathered<T>, Halt>
-    requires { length part.sizes.now ≡ length part.names.now }
-    ensures { GathersOrHalts (S.bytes work.now.source.now).file part.entry.names.now
+    requires { length batch.sizes.now ≡ length batch.names.now }
+    ensures { GathersOrHalts (S.bytes work.now.source.now).file batch.entry.names.now
         work.now.settings (T.come_to work.now.of work.now.columns.now) result }
 {
-    if part.jobs < 2 || part.names.len() < 2 {
-        return gather_in_job(rt, alloc, work, part.names, part.place);
+    if batch.jobs < 2 || batch.names.len() < 2 {
+        return gather_in_job(rt, alloc, work, batch.names, batch.place);
     }
-    let half = part.jobs / 2;
-    let at = cut(part.sizes, half, part.jobs);
-    let (names, later_names) = part.names.split_at(at);
-    let (sizes, later_sizes) = part.sizes.split_at(at);
-    let front = Part {
+    let half = batch.jobs / 2;
+    let at = cut(batch.sizes, half, batch.jobs);
+    let (names, later_names) = batch.names.split_at(at);
+    let (sizes, later_sizes) = batch.sizes.split_at(at);
+    let front = Batch {
         names,
         sizes,
-        place: part.place,
+        place: batch.place,
         jobs: half,
     };
-    let back = Part {
+    let back = Batch {
         names: later_names,
         sizes: later_sizes,
-        place: part.place.saturating_add(at as u64),
-        jobs: part.jobs - half,
+        place: batch.place.saturating_add(at as u64),
+        jobs: batch.jobs - half,
     };
     let (first, second) = gather_both(rt, alloc, work, front, back);
     joined(first, second)
 }
 
-// Gathers two parts at once.
+// Gathers two batches at once.
 #[cycle(jobs)]
 fn gather_both<T: Gathering, S: Source + Sync, R: Threads + Wait + RandomSource + Sync>(
     rt: &R,
     alloc: Global,
     work: &Work<S>,
-    front: Part,
-    back: Part,
+    front: Batch,
+    back: Batch,
 ) -> (Result<Gathered<T>, Halt>, Result<Gathered<T>, Halt>)
     requires front { length front.sizes.now ≡ length front.names.now }
     requires back { length back.sizes.now ≡ length back.names.now }

@@ -9,8 +9,8 @@ pub(crate) fn cut(sizes: &[u64], jobs: u32, all: u32) -> usize
     requires { 0 < all }
     ensures { result ≤ length sizes.now }
 {
-    let part = weight_of(sizes) / u128::from(all);
-    let wanted = part.saturating_mul(u128::from(jobs));
+    let each = weight_of(sizes) / u128::from(all);
+    let wanted = each.saturating_mul(u128::from(jobs));
     let mut before: u128 = 0;
     for (place, size) in sizes.iter().enumerate() {
         if before >= wanted {

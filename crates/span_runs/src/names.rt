@@ -29,7 +29,7 @@ enum ListFault {
     NotText,
 }
 
-/// The names of the files. Of a list each line is one, or where it holds a NUL each part between such; an empty one is none. A list
+/// The names of the files. Of a list each line is one, or where it holds a NUL what stands between such; an empty one is none. A list
 /// must be UTF-8 text, and where there is one there must be a name.
 pub fn names_of<S: Source>(alloc: Global, named: Named, source: &S) -> Result<Vec<Text>, StopCause>
     ensures { IfOk result (λ names. AreNamed (S.bytes source.now) named names.items) }
@@ -81,11 +81,11 @@ fn with_names(alloc: Global, given: Vec<Text>, bytes: &[u8]) -> Result<Vec<Text>
 {
     let separator = separator_of(bytes);
     let mut names = given;
-    let mut part = Vec::new(alloc);
+    let mut begun = Vec::new(alloc);
     for byte in bytes {
-        take_byte(alloc, &mut names, &mut part, *byte, separator)?;
+        take_byte(alloc, &mut names, &mut begun, *byte, separator)?;
     }
-    add_name(alloc, &mut names, &part)?;
+    add_name(alloc, &mut names, &begun)?;
     Ok(names)
 }
 
@@ -101,47 +101,47 @@ fn has_nul(bytes: &[u8]) -> bool
     bytes.iter().any(|byte| *byte == 0)
 }
 
-// One more byte of a list, of which the names so far and a part of the next are read.
+// One more byte of a list, of which the names so far are read and the next is begun.
 fn take_byte(
     alloc: Global,
     names: &mut Vec<Text>,
-    part: &mut Vec<u8>,
+    begun: &mut Vec<u8>,
     byte: u8,
     separator: u8,
 ) -> Result<(), ListFault>
     ensures { OnOk result ((rest : List ℕ)
-        → names.new.items ++ names_from separator part.new.items rest
-        ≡ names.old.items ++ names_from separator part.old.items (byte ∷ rest)) }
+        → names.new.items ++ names_from separator begun.new.items rest
+        ≡ names.old.items ++ names_from separator begun.old.items (byte ∷ rest)) }
 {
     if byte == separator {
-        add_name(alloc, names, part)?;
-        part.clear();
+        add_name(alloc, names, begun)?;
+        begun.clear();
         return Ok(());
     }
-    match part.push(byte) {
+    match begun.push(byte) {
         Ok(()) => Ok(()),
         Err(_) => Err(ListFault::Memory),
     }
 }
 
 // Adds a name, unless it is empty.
-fn add_name(alloc: Global, names: &mut Vec<Text>, part: &[u8]) -> Result<(), ListFault>
-    ensures { OnOk result (names.new.items ≡ names.old.items ++ kept part.now) }
+fn add_name(alloc: Global, names: &mut Vec<Text>, bytes: &[u8]) -> Result<(), ListFault>
+    ensures { OnOk result (names.new.items ≡ names.old.items ++ kept bytes.now) }
 {
-    if part.is_empty() {
+    if bytes.is_empty() {
         return Ok(());
     }
-    let name = name_of(alloc, part)?;
+    let name = name_of(alloc, bytes)?;
     match names.push(name) {
         Ok(()) => Ok(()),
         Err(_) => Err(ListFault::Memory),
     }
 }
 
-fn name_of(alloc: Global, part: &[u8]) -> Result<Text, ListFault>
-    ensures { IfOk result (λ name. name ≡ part.now) }
+fn name_of(alloc: Global, bytes: &[u8]) -> Result<Text, ListFault>
+    ensures { IfOk result (λ name. name ≡ bytes.now) }
 {
-    let Ok(text) = str::from_utf8(part) else {
+    let Ok(text) = str::from_utf8(bytes) else {
         return Err(ListFault::NotText);
     };
     match Text::of(alloc, text) {

@@ -5,4 +5,4 @@ use Rattle.span_runs.proofs.names.with_names.Goals as goal
 
 -- no byte is taken
 pub loop-byte-init : goal.loop-byte-init
-loop-byte-init c = rw (c.separator_of-separator.ensures, c.new-part.ensures.items) (ap (λ (names : List Bytes). c.args.given.items ++ names) (names_from-names_in c.args.bytes.now))
+loop-byte-init c = rw (c.separator_of-separator.ensures, c.new-begun.ensures.items) (ap (λ (names : List Bytes). c.args.given.items ++ names) (names_from-names_in c.args.bytes.now))

@@ -3,6 +3,6 @@ use Rattle.span_runs.specs.Listing.{names_from}
 use Rattle.span_runs.specs.Names.{names_in}
 use Rattle.span_runs.proofs.names.with_names.Given as goal
 
--- the names so far, and those of the part and the rest, are all
+-- the names so far, and those of the one begun and the rest, are all
 abbrev pub invariant-loop-byte : goal.invariant-loop-byte
-invariant-loop-byte l = l.names.items ++ names_from l.separator l.part.items (drop l.byte-index l.bytes) ≡ l.fn.given.items ++ names_in l.bytes
+invariant-loop-byte l = l.names.items ++ names_from l.separator l.begun.items (drop l.byte-index l.bytes) ≡ l.fn.given.items ++ names_in l.bytes
