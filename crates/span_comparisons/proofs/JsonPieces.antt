@@ -53,7 +53,7 @@ both-then : (h k : Bytes) → (h ++ 125 ∷ []) ++ 44 ∷ (codes "\"other\":{" +
 unfolding other_text ends_text
 both-then h k = simp append_assoc refl
 
--- the first line of a comparison, of whatever its parts are
+-- the first line of a comparison, of whatever its members are
 heads-then : (of : Of) (unit : Unit) (c n s h k : Bytes) →
     object_of (version_member of unit ∷ member_of (codes "columns") c ∷ member_of (codes "rows") n ∷ member_of (codes "same") s ∷
     member_of (codes "base") (123 ∷ (h ++ 125 ∷ [])) ∷ member_of (codes "other") (123 ∷ (k ++ 125 ∷ [])) ∷ []) ++ 10 ∷ []

@@ -9,8 +9,8 @@ use Rattle.span_table.specs.Adding.{add_tables, picked, with_columns}
 use Rattle.span_table_text.specs.Json.{text_of}
 use Rattle.span_table_text.specs.Printed.{IsPrint}
 use Rattle.span_table.specs.Tables.{Run, SpanTable, table_of}
-use Rattle.span_table.proofs.AddedTables.{add_tables-parts, table_of-moved, table_of-picked}
-use Rattle.span_table_text.proofs.RunTables.{part-table_of}
+use Rattle.span_table.proofs.AddedTables.{add_tables-table_of, table_of-moved, table_of-picked}
+use Rattle.span_table_text.proofs.RunTables.{IsPart-table_of}
 use Rattle.span_parts.proofs.Places.{picked-at}
 use Rattle.span_parts.specs.Sum.{AreAt, AreParts}
 use Rattle.span_parts.specs.Trees.{Trees, of_runs, of_parts, no_trees, tree, runs_in, runs_in_all, ArePrinted, TreesLoseNothing, TreesPrintAlike}
@@ -28,7 +28,7 @@ runs_each-all (tree part parts) = ap (λ l. runs_in part ++ l) (runs_each-all pa
 sum-runs : (of : Of) (columns own : List Column) (places : List ℕ) (runs : List (List Run)) → AreAt places columns own →
     add_tables of (picked places own) (map (with_columns places) (map (table_of of own) runs)) ≡ table_of of columns (flat_map (λ part. part) runs)
 sum-runs of columns own places runs at =
-    ap (add_tables of (picked places own)) (each runs) ∙ add_tables-parts of (picked places own) runs ∙ ap (λ l. table_of of l (flat_map (λ part. part) runs)) (picked-at places columns own at)
+    ap (add_tables of (picked places own)) (each runs) ∙ add_tables-table_of of (picked places own) runs ∙ ap (λ l. table_of of l (flat_map (λ part. part) runs)) (picked-at places columns own at)
   where
     each : (runs : List (List Run)) → map (with_columns places) (map (table_of of own) runs) ≡ map (table_of of (picked places own)) runs
     each [] = refl
@@ -54,7 +54,7 @@ mutual
   parts-runs of unit second columns (tree part parts) (text ∷ texts) [] printed are = absurd are
   parts-runs of unit second columns (tree part parts) (text ∷ texts) (table ∷ tables) printed are =
       ap₂ (λ (t : SpanTable) l. t ∷ l)
-      (part-table_of of columns (runs_in part) second unit text table are.0 (trees-lose_nothing of unit columns part text printed.0)).1
+      (IsPart-table_of of columns (runs_in part) second unit text table are.0 (trees-lose_nothing of unit columns part text printed.0)).1
       (parts-runs of unit second columns parts texts tables printed.1 are.1)
 
 -- so two trees of the same runs are printed alike

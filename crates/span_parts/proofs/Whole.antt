@@ -27,8 +27,8 @@ pub begins_so : (unit : TimeUnit) (text : Bytes) (part : SpanTable) → IsPart u
 begins_so unit text part is = record { columns_fit = is.is.columns; few = is.is.few; counts_fit = is.is.counts }
 
 -- a text without a line that ends is none
-pub no_line-part : (text : Bytes) → ((xs ys : Bytes) → text ≡ xs ++ 10 ∷ ys → All (λ byte. byte ≢ 10) xs → ⊥) → IsNoPart text
-no_line-part text none unit part is =
+pub IsNoPart-no_line : (text : Bytes) → ((xs ys : Bytes) → text ≡ xs ++ 10 ∷ ys → All (λ byte. byte ≢ 10) xs → ⊥) → IsNoPart text
+IsNoPart-no_line text none unit part is =
     let head = print (head_tokens part.of unit part.columns (length part.rows) part.counts) in
     let lines = flat_map (json_line part.of part.columns) part.rows in
     none head lines

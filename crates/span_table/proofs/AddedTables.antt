@@ -70,15 +70,15 @@ rows-back es =
 
 -- a number of counts that are added is that of these together
 module _ (f : TableCounts → ℕ) (adds : (all : List TableCounts) → f (counts_together all) ≡ sum_by f all) where
-  number-parts : (parts : List (List Run)) → f (counts_together (map (λ part. counts_together (map counts_of part)) parts)) ≡ f (counts_together (map counts_of (flat_map (λ part. part) parts)))
-  number-parts parts = adds (map (λ part. counts_together (map counts_of part)) parts) ∙ each parts ∙ sym (adds (map counts_of (flat_map (λ part. part) parts)))
+  number-lists : (lists : List (List Run)) → f (counts_together (map (λ list. counts_together (map counts_of list)) lists)) ≡ f (counts_together (map counts_of (flat_map (λ list. list) lists)))
+  number-lists lists = adds (map (λ list. counts_together (map counts_of list)) lists) ∙ each lists ∙ sym (adds (map counts_of (flat_map (λ list. list) lists)))
     where
-      each : (parts : List (List Run)) → sum_by f (map (λ part. counts_together (map counts_of part)) parts) ≡ sum_by f (map counts_of (flat_map (λ part. part) parts))
+      each : (lists : List (List Run)) → sum_by f (map (λ list. counts_together (map counts_of list)) lists) ≡ sum_by f (map counts_of (flat_map (λ list. list) lists))
       each [] = refl
-      each (part ∷ parts) =
-          sum_by-cons f (counts_together (map counts_of part)) (map (λ part. counts_together (map counts_of part)) parts)
-          ∙ ap₂ (λ a b. a + b) (adds (map counts_of part)) (each parts)
-          ∙ sym (ap (sum_by f) (map-append counts_of part (flat_map (λ part. part) parts)) ∙ sum_by-append f (map counts_of part) (map counts_of (flat_map (λ part. part) parts)))
+      each (list ∷ lists) =
+          sum_by-cons f (counts_together (map counts_of list)) (map (λ list. counts_together (map counts_of list)) lists)
+          ∙ ap₂ (λ a b. a + b) (adds (map counts_of list)) (each lists)
+          ∙ sym (ap (sum_by f) (map-append counts_of list (flat_map (λ list. list) lists)) ∙ sum_by-append f (map counts_of list) (map counts_of (flat_map (λ list. list) lists)))
 
 -- counts, where each number of them is the same
 pub counts-same : (a b : TableCounts) → ((f : TableCounts → ℕ) → ((all : List TableCounts) → f (counts_together all) ≡ sum_by f all) → f a ≡ f b) → a ≡ b
@@ -99,18 +99,18 @@ counts-same a b same =
     }
 
 -- the tables of lists of runs, added, are the table of all these runs together
-pub add_tables-parts : AddingLosesNothing
-add_tables-parts of columns parts = λ i. record { of = of; columns = columns; counts = all_counts i; rows = rows i }
+pub add_tables-table_of : AddingLosesNothing
+add_tables-table_of of columns lists = λ i. record { of = of; columns = columns; counts = all_counts i; rows = rows i }
   where
-    all_counts : counts_together (map (λ (table : SpanTable). table.counts) (map (table_of of columns) parts)) ≡ counts_together (map counts_of (flat_map (λ part. part) parts))
-    all_counts = ap counts_together (map-map (λ (table : SpanTable). table.counts) (table_of of columns) parts)
-        ∙ counts-same (counts_together (map (λ part. counts_together (map counts_of part)) parts)) (counts_together (map counts_of (flat_map (λ part. part) parts))) (λ f adds. number-parts f adds parts)
+    all_counts : counts_together (map (λ (table : SpanTable). table.counts) (map (table_of of columns) lists)) ≡ counts_together (map counts_of (flat_map (λ list. list) lists))
+    all_counts = ap counts_together (map-map (λ (table : SpanTable). table.counts) (table_of of columns) lists)
+        ∙ counts-same (counts_together (map (λ list. counts_together (map counts_of list)) lists)) (counts_together (map counts_of (flat_map (λ list. list) lists))) (λ f adds. number-lists f adds lists)
 
-    rows : rows_of (flat_map (λ (table : SpanTable). keyed_rows table.rows) (map (table_of of columns) parts)) ≡ rows_of (flat_map (run_sums of columns) (flat_map (λ part. part) parts))
-    rows = ap rows_of (flat_map-map (λ (table : SpanTable). keyed_rows table.rows) (table_of of columns) parts)
-        ∙ rows_of-alike (flat_map (λ part. keyed_rows (rows_of (flat_map (run_sums of columns) part))) parts) (flat_map (λ part. flat_map (run_sums of columns) part) parts)
-        (AddUpAlike-flat_map (λ part. keyed_rows (rows_of (flat_map (run_sums of columns) part))) (λ part. flat_map (run_sums of columns) part) (λ part. rows-back (flat_map (run_sums of columns) part)) parts)
-        ∙ ap rows_of (sym (flat_map-flat_map (run_sums of columns) (λ part. part) parts))
+    rows : rows_of (flat_map (λ (table : SpanTable). keyed_rows table.rows) (map (table_of of columns) lists)) ≡ rows_of (flat_map (run_sums of columns) (flat_map (λ list. list) lists))
+    rows = ap rows_of (flat_map-map (λ (table : SpanTable). keyed_rows table.rows) (table_of of columns) lists)
+        ∙ rows_of-alike (flat_map (λ list. keyed_rows (rows_of (flat_map (run_sums of columns) list))) lists) (flat_map (λ list. flat_map (run_sums of columns) list) lists)
+        (AddUpAlike-flat_map (λ list. keyed_rows (rows_of (flat_map (run_sums of columns) list))) (λ list. flat_map (run_sums of columns) list) (λ list. rows-back (flat_map (run_sums of columns) list)) lists)
+        ∙ ap rows_of (sym (flat_map-flat_map (run_sums of columns) (λ list. list) lists))
 
 picked-map : {A B : Type 0} (f : A → B) (xs : List A) (ps : List ℕ) → picked ps (map f xs) ≡ map f (picked ps xs)
 picked-map f xs [] = refl

@@ -86,7 +86,7 @@ Within-append es fs es' fs' first second k h =
     by true e h = ap (λ b. b || has_key key_cmp k (step_keys fs')) (first k e)
     by false e h = either (has_key key_cmp k (step_keys es')) (has_key key_cmp k (step_keys fs')) (second k h)
 
--- so do lists of which each part adds up alike
+-- so do lists appended that add up alike
 pub AddUpAlike-append : (es fs es' fs' : KeyedSums) → AddUpAlike es es' → AddUpAlike fs fs' → AddUpAlike (es ++ fs) (es' ++ fs')
 AddUpAlike-append es fs es' fs' first second = record {
   there = Within-append es fs es' fs' first.there second.there;

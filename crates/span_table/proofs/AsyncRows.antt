@@ -37,9 +37,9 @@ Entry = Keyed TableKey Sums
 steps-absent : (k : TableKey) (es : KeyedSums) → has_key key_cmp k (step_keys es) ≡ false → steps_at key_cmp k es ≡ []
 steps-absent k [] none = refl
 steps-absent k (e ∷ es) none =
-    let parts = neither (is_eq (key_cmp k e.key)) (has_key key_cmp k (step_keys es)) none in
+    let both = neither (is_eq (key_cmp k e.key)) (has_key key_cmp k (step_keys es)) none in
     let rest = filter (λ (x : Entry). is_eq (key_cmp x.key k)) es in
-    ap (λ (b : Bool). map (λ (x : Entry). x.step) (cond b (e ∷ rest) rest)) (is_eq-turned key_cmp_total e.key k ∙ parts.0) ∙ steps-absent k es parts.1
+    ap (λ (b : Bool). map (λ (x : Entry). x.step) (cond b (e ∷ rest) rest)) (is_eq-turned key_cmp_total e.key k ∙ both.0) ∙ steps-absent k es both.1
 
 -- where keys are apart, each has its own sums alone
 steps-own : (es : KeyedSums) → AreApart key_cmp_total (step_keys es) → AllByRecursion (λ (x : Entry). steps_at key_cmp x.key es ≡ x.step ∷ []) es
@@ -55,9 +55,9 @@ steps-own (e ∷ es) apart = (first, later es apart.0 (steps-own es apart.1))
         → AllByRecursion (λ (x : Entry). steps_at key_cmp x.key (e ∷ es) ≡ x.step ∷ []) fs
     later [] none all = tt
     later (f ∷ fs) none all =
-        let parts = neither (is_eq (key_cmp e.key f.key)) (has_key key_cmp e.key (step_keys fs)) none in
+        let both = neither (is_eq (key_cmp e.key f.key)) (has_key key_cmp e.key (step_keys fs)) none in
         let rest = filter (λ (x : Entry). is_eq (key_cmp x.key f.key)) es in
-        (ap (λ (b : Bool). map (λ (x : Entry). x.step) (cond b (e ∷ rest) rest)) parts.0 ∙ all.0, later fs parts.1 all.1)
+        (ap (λ (b : Bool). map (λ (x : Entry). x.step) (cond b (e ∷ rest) rest)) both.0 ∙ all.0, later fs both.1 all.1)
 
 module _ (es : KeyedSums) where
   abbrev made : TableKey → Row

@@ -77,8 +77,8 @@ module _ (run : Run) (thread : Thread) where
   filter-others : (ts : List Thread) → has_key thread_cmp thread ts ≡ false → filter mine (flat_map rows_of ts) ≡ []
   filter-others [] none = refl
   filter-others (t ∷ ts) none =
-      let parts = neither (is_eq (thread_cmp thread t)) (has_key thread_cmp thread ts) none in
-      filter-append mine (rows_of t) (flat_map rows_of ts) ∙ ap₂ (λ a b. a ++ b) (filter-rows_of t false parts.0) (filter-others ts parts.1)
+      let both = neither (is_eq (thread_cmp thread t)) (has_key thread_cmp thread ts) none in
+      filter-append mine (rows_of t) (flat_map rows_of ts) ∙ ap₂ (λ a b. a ++ b) (filter-rows_of t false both.0) (filter-others ts both.1)
 
   not_later : (ts : List Thread) → AllByRecursion (λ t. thread_cmp thread t ≡ Less) ts → has_key thread_cmp thread ts ≡ false
   not_later [] below = refl

@@ -44,8 +44,8 @@ value_at-no_argument run thread name args (Argument key) h = cc
 key-no_argument : (run : Run) (thread : Thread) (name : Bytes) (args : Arguments) (columns : List Column) → list_any is_argument columns ≡ false → map (value_at run thread name args) columns ≡ map (value_at run thread name []) columns
 key-no_argument run thread name args [] h = refl
 key-no_argument run thread name args (column ∷ columns) h =
-    let parts = both_false (is_argument column) (list_any is_argument columns) h in
-    ap₂ (λ (v : Value) l. v ∷ l) (value_at-no_argument run thread name args column parts.0) (key-no_argument run thread name args columns parts.1)
+    let both = both_false (is_argument column) (list_any is_argument columns) h in
+    ap₂ (λ (v : Value) l. v ∷ l) (value_at-no_argument run thread name args column both.0) (key-no_argument run thread name args columns both.1)
   where
     both_false : (a b : Bool) → (a || b) ≡ false → (a ≡ false) × (b ≡ false)
     both_false true b h = cc

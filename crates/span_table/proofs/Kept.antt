@@ -21,7 +21,7 @@ use Rattle.span_table.specs.Sums.{fit}
 use Rattle.span_table.specs.Kept.{IsAdded, IsKept}
 use Rattle.span_table.specs.Keys.{TableKey, key_cmp}
 use Rattle.span_table.specs.Tables.{KeyedSums, RowsRise, SpanTable, SumsByKey, counts_of, counts_together, row_of, rows_of, run_sums, summed, sums_together, table_of}
-use Rattle.span_table.proofs.AddedTables.{add_tables-parts, rows-back, rows_of-alike}
+use Rattle.span_table.proofs.AddedTables.{add_tables-table_of, rows-back, rows_of-alike}
 use Rattle.span_table.proofs.Alike.{AddUpAlike, AddUpAlike-append, AddUpAlike-refl, AddUpAlike-sym, sums_at-append, summed-alike}
 use Rattle.span_table.proofs.OwnRows.{rows_of-own}
 use Rattle.span_table.proofs.Summing.{found-within, sums_small, with_sums-within}
@@ -56,8 +56,8 @@ AllWithin-summed n es within = each (keys_in key_cmp es)
     each [] = All-nil (IsWithin n)
     each (k ∷ ks) = All-cons (IsWithin n) (found k es) (values_of (map (entry_of (λ k. found k es)) ks)) (within k) (each ks)
 
-part-within : (n : ℕ) (a b : Sums) → IsWithin n (with_sums a b) → IsWithin n a
-part-within n a b within = record {
+IsWithin-with_sums : (n : ℕ) (a b : Sums) → IsWithin n (with_sums a b) → IsWithin n a
+IsWithin-with_sums n a b within = record {
   count = omega (arith, within.count);
   total = omega (arith, within.total);
   self_time = omega (arith, within.self_time);
@@ -65,17 +65,17 @@ part-within n a b within = record {
   points = omega (arith, within.points);
 }
 
--- what was kept, with a part of sums that are kept elsewhere: no key has more of the part than of all of these
-pub AllWithin-part : (m n : ℕ) (old new other : SumsByKey) (done left : KeyedSums) → RowsRise (map row_of old) → RowsRise (map row_of other) → AllWithin m old → AllWithin n other →
+-- what was kept, with some of the sums that are kept elsewhere: no key has more of some than of all of these
+pub AllWithin-done : (m n : ℕ) (old new other : SumsByKey) (done left : KeyedSums) → RowsRise (map row_of old) → RowsRise (map row_of other) → AllWithin m old → AllWithin n other →
     Takes old new done → done ++ left ≡ keyed_rows (map row_of other) → AllWithin (m + n) new
-AllWithin-part m n old new other done left rise other_rises within other_within takes parts =
+AllWithin-done m n old new other done left rise other_rises within other_within takes split =
     let es = keyed_rows (map row_of old) in
     let own = summed-own old rise in
     let mine = found-kept m es (subst (AllWithin m) own within) in
     let its = found-kept n (keyed_rows (map row_of other)) (subst (AllWithin n) (summed-own other other_rises) other_within) in
-    let of_part = λ (k : TableKey). part-within n (found k done) (found k left) (subst (IsWithin n) (ap (found k) (sym parts) ∙ sums_at-append k done left) (its k)) in
+    let of_done = λ (k : TableKey). IsWithin-with_sums n (found k done) (found k left) (subst (IsWithin n) (ap (found k) (sym split) ∙ sums_at-append k done left) (its k)) in
     subst (AllWithin (m + n)) (sym (takes es own))
-    (AllWithin-summed (m + n) (es ++ done) (λ k. subst (IsWithin (m + n)) (sym (sums_at-append k es done)) (with_sums-within m n (found k es) (found k done) (mine k) (of_part k))))
+    (AllWithin-summed (m + n) (es ++ done) (λ k. subst (IsWithin (m + n)) (sym (sums_at-append k es done)) (with_sums-within m n (found k es) (found k done) (mine k) (of_done k))))
 
 -- the rows of what is kept once sums are taken
 rows-taken : (old new : SumsByKey) (more : KeyedSums) → RowsRise (map row_of old) → Takes old new more → map row_of new ≡ rows_of (keyed_rows (map row_of old) ++ more)
@@ -133,12 +133,12 @@ add_tables-taken of second columns counts more old new other others rise takes =
 
 -- a table of some runs, with one more
 pub with_run-runs : (table : SpanTable) (run : Run) → TakesRuns table (run ∷ []) (with_run table run)
-with_run-runs table run = λ of columns runs is. ap (λ t. with_run t run) is ∙ add_tables-parts of columns (runs ∷ (run ∷ []) ∷ [])
+with_run-runs table run = λ of columns runs is. ap (λ t. with_run t run) is ∙ add_tables-table_of of columns (runs ∷ (run ∷ []) ∷ [])
 
 -- tables of some runs each, added
 pub add_tables-runs : (one other : SpanTable) → JoinsRuns one other (add_tables one.of one.columns (one ∷ other ∷ []))
 add_tables-runs one other = λ of columns runs others first second.
-    ap₂ (λ (a b : SpanTable). add_tables a.of a.columns (a ∷ b ∷ [])) first second ∙ add_tables-parts of columns (runs ∷ others ∷ []) ∙ ap (λ l. table_of of columns (runs ++ l)) (append-nil others)
+    ap₂ (λ (a b : SpanTable). add_tables a.of a.columns (a ∷ b ∷ [])) first second ∙ add_tables-table_of of columns (runs ∷ others ∷ []) ∙ ap (λ l. table_of of columns (runs ++ l)) (append-nil others)
 
 counts_together-within : (m n : ℕ) (a b : TableCounts) → AreCountsWithin m a → AreCountsWithin n b → AreCountsWithin (m + n) (counts_together (a ∷ b ∷ []))
 counts_together-within m n a b first second = record {

@@ -87,7 +87,7 @@ padded_integral_zeros width digits =
     simp append-nil (ap (λ (n : ℕ). replicate n 48 ++ digits) same)
 
 -- the digits of a sum: of its front, and of its last 38 places with zeros in front
-pub decimal_parts : (high low : ℕ) → (high ≡ 0 → ⊥) → high < 10 ^ 26 → low < 10 ^ 38 → decimal high ++ padded_integral (format_spec 32 0 4 38 (2 ^ 64 - 1)) false [] (decimal low) ≡ decimal (high * 10 ^ 38 + low)
-decimal_parts high low some front back =
+pub decimal_high_low : (high low : ℕ) → (high ≡ 0 → ⊥) → high < 10 ^ 26 → low < 10 ^ 38 → decimal high ++ padded_integral (format_spec 32 0 4 38 (2 ^ 64 - 1)) false [] (decimal low) ≡ decimal (high * 10 ^ 38 + low)
+decimal_high_low high low some front back =
     ap (λ l. decimal high ++ l) (padded_integral_zeros 38 (decimal low) ∙ zeros-before 37 low back (omega arith))
     ∙ sym (front-places 38 high low (omega arith) back (omega arith))

@@ -48,7 +48,7 @@ JoinsRuns one other both = (of : Of) (columns : List Column) (runs others : List
 
 -- the tables of lists of runs, added, are the table of all these runs together
 abbrev pub AddingLosesNothing : Type 0
-AddingLosesNothing = (of : Of) (columns : List Column) (parts : List (List Run)) → add_tables of columns (map (table_of of columns) parts) ≡ table_of of columns (flat_map (λ part. part) parts)
+AddingLosesNothing = (of : Of) (columns : List Column) (lists : List (List Run)) → add_tables of columns (map (table_of of columns) lists) ≡ table_of of columns (flat_map (λ list. list) lists)
 
 -- a table is the same for runs in whatever order
 abbrev pub OrderIsNothing : Type 0

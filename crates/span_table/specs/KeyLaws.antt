@@ -61,7 +61,7 @@ pub key_cmp-same : (a b : TableKey) → key_cmp a b ≡ Equal → a ≡ b
 key_cmp-same [] [] e = refl
 key_cmp-same [] (y ∷ ys) e = cc
 key_cmp-same (x ∷ xs) [] e = cc
-key_cmp-same (x ∷ xs) (y ∷ ys) e = let parts = both_equal (option_cmp value_cmp x y) (key_cmp xs ys) e in ap₂ (λ v l. v ∷ l) (option_cmp-same x y parts.0) (key_cmp-same xs ys parts.1)
+key_cmp-same (x ∷ xs) (y ∷ ys) e = let both = both_equal (option_cmp value_cmp x y) (key_cmp xs ys) e in ap₂ (λ v l. v ∷ l) (option_cmp-same x y both.0) (key_cmp-same xs ys both.1)
 
 -- what holds of one of two equal keys holds of the other
 pub key_eq-same : (a b : TableKey) → eq_by_cmp key_cmp a b ≡ true → a ≡ b

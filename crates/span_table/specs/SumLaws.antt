@@ -1,4 +1,4 @@
--- What a sum's two parts come to gives them back.
+-- What a sum's two numbers come to gives them back.
 use Rattle.std.specs.Prelude.{◌≡◌, ℕ, ◌+◌, ◌*◌, ◌/◌, ◌%◌, ◌<◌, ◌^◌}
 use Rattle.std.proofs.Common.{arith}
 

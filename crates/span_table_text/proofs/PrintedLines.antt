@@ -163,8 +163,8 @@ signed_decimal-in_line (negsuc n) h =
 pub numbers_fit-each : (table : SpanTable) → numbers_fit table ≡ true → (counts_fit table.counts ≡ true) × All (λ row. fit row.sums ≡ true) table.rows
 numbers_fit-each table h =
     let fits = λ (row : Row). fit row.sums in
-    let parts = and_parts (counts_fit table.counts) (list_all fits table.rows) h in
-    (parts.0, AllPass-from_list_all fits table.rows parts.1)
+    let both = and_parts (counts_fit table.counts) (list_all fits table.rows) h in
+    (both.0, AllPass-from_list_all fits table.rows both.1)
 
 sums-in_line : (of : Of) (sums : Sums) → fit sums ≡ true → AreInLine (sums_tokens of sums)
 sums-in_line Async sums h =

@@ -218,9 +218,9 @@ module _ (columns : List Column) where
 
 module _ (of : Of) (columns : List Column) (runs : List Run) where
   -- a table that was read of what is printed of runs is the table of these
-  pub part-table_of : (unit second : Unit) (text : Bytes) (part : SpanTable) → IsPart unit text part → IsPrint second text (table_of of columns runs)
+  pub IsPart-table_of : (unit second : Unit) (text : Bytes) (part : SpanTable) → IsPart unit text part → IsPrint second text (table_of of columns runs)
       → (unit ≡ second) × (part ≡ table_of of columns runs)
-  part-table_of unit second text part is print =
+  IsPart-table_of unit second text part is print =
       prints-determined unit second text part (table_of of columns runs) is print (table_of-HasWholeKeys columns runs of) (table_of-HasOwnNumbers columns runs of)
 
   -- the table of runs that have their files, if its numbers have 64 bits, is one that can be read back
@@ -256,8 +256,8 @@ shown_table-all wanted table all = λ i. record { of = table.of; columns = table
 
     each : (key : TableKey) → is_wanted wanted key ≡ true
     each key =
-        let parts = and_parts (length wanted.only == 0) (length wanted.skip == 0) all in
-        ap₂ (λ (only skip : List Bytes). list_all (key_has key) only && not (list_any (key_has key) skip)) (none wanted.only parts.0) (none wanted.skip parts.1)
+        let both = and_parts (length wanted.only == 0) (length wanted.skip == 0) all in
+        ap₂ (λ (only skip : List Bytes). list_all (key_has key) only && not (list_any (key_has key) skip)) (none wanted.only both.0) (none wanted.skip both.1)
 
 -- so what JSON Lines have of it is its print
 pub json_of-print : AllIsPrinted

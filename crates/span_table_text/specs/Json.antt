@@ -20,9 +20,9 @@ use Rattle.span_table.specs.Tables.{SpanTable}
 use Rattle.span_table.specs.Counts.{counts_fit}
 use Rattle.span_table.specs.Sums.{fit}
 
--- the parts with a comma between them
+-- the texts with a comma between them
 abbrev pub with_commas : List Bytes → Bytes
-with_commas parts = join_with_byte 44 parts
+with_commas texts = join_with_byte 44 texts
 
 -- a member of an object, whose name is of letters and digits alone
 abbrev pub member_of : Bytes → Bytes → Bytes

@@ -7,12 +7,12 @@ use Rattle.span_table_text.specs.Printed.{IsPart}
 use Rattle.span_table.specs.Tables.{SpanTable}
 use Rattle.span_parts.specs.First.{IsFirstLine, Says}
 use Rattle.span_parts.proofs.Added.{EndsLine}
-use Rattle.span_parts.proofs.Whole.{begins_so, line-part, no_line-part, rest-part}
+use Rattle.span_parts.proofs.Whole.{IsNoPart-no_line, begins_so, line-part, rest-part}
 use Rattle.span_parts.proofs.heads.begin.Goals as goal
 
 pub returns-in_default-split_once-clause-fault : goal.returns-in_default-split_once-clause-fault
 returns-in_default-split_once-clause-fault c = λ unit part is.
-    no_line-part c.in-Ok.text.now (λ xs ys whole free. split_after 10 c.in-Ok.text.now xs ys None c.in_default-split_once.ensures.cases (omega arith) whole (λ i lt. free i 0 lt)) unit part
+    IsNoPart-no_line c.in-Ok.text.now (λ xs ys whole free. split_after 10 c.in-Ok.text.now xs ys None c.in_default-split_once.ensures.cases (omega arith) whole (λ i lt. free i 0 lt)) unit part
     (subst (λ t. IsPart unit t part) (sym c.in-Ok.ensures.cases.0) is)
 
 pub returns-in-Ok-Some-clause-begins : goal.returns-in-Ok-Some-clause-begins

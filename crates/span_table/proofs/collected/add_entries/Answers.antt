@@ -6,7 +6,7 @@ use Rattle.span_table.specs.Adding.{keyed_rows}
 use Rattle.span_table.specs.Collected.{AllWithin}
 use Rattle.span_table.specs.Keys.{TableKey}
 use Rattle.span_table.specs.Tables.{SumsByKey, row_of, summed}
-use Rattle.span_table.proofs.Kept.{AllWithin-part}
+use Rattle.span_table.proofs.Kept.{AllWithin-done}
 use Rattle.span_table.proofs.Summing.{AllWithin-le, IsWithin-le}
 use Rattle.span_table.proofs.collected.add_entries.Goals as goal
 
@@ -15,7 +15,7 @@ loop-key-init c =
     let gives : into_iter_items c.into_iter-key-iterator.result ≡ c.args.entries.items = c.into_iter-key-iterator.ensures.into_iter_gives.0 in
     record {
       done = [];
-      parts = refl;
+      split = refl;
       kept = λ sums old. old ∙ ap summed (sym (append-nil sums));
       left = subst (AllWithin (2 ^ 198)) (sym gives) c.requires.its;
     }
@@ -26,8 +26,8 @@ add-requires-clause-all c =
     let gives : into_iter_items c.into_iter-key-iterator.result ≡ c.args.entries.items = c.into_iter-key-iterator.ensures.into_iter_gives.0 in
     let left = keyed_rows (map row_of (into_iter_items c.loop-key.key-iterator)) in
     AllWithin-le (2 ^ 198 + 2 ^ 198) (2 ^ 200) c.loop-key.groups (omega arith)
-    (AllWithin-part (2 ^ 198) (2 ^ 198) c.args.groups.now c.loop-key.groups c.args.entries.items at.done left c.requires.rise c.requires.others c.requires.mine c.requires.its at.kept
-    (at.parts ∙ ap (λ (es : SumsByKey). keyed_rows (map row_of es)) gives))
+    (AllWithin-done (2 ^ 198) (2 ^ 198) c.args.groups.now c.loop-key.groups c.args.entries.items at.done left c.requires.rise c.requires.others c.requires.mine c.requires.its at.kept
+    (at.split ∙ ap (λ (es : SumsByKey). keyed_rows (map row_of es)) gives))
 
 pub add-requires-clause-more : goal.add-requires-clause-more
 add-requires-clause-more c =
@@ -42,7 +42,7 @@ loop-key-preserved c =
     let rest = keyed_rows (map row_of (into_iter_items c.next.new.self)) in
     record {
       done = at.done ++ e ∷ [];
-      parts = append_assoc at.done (e ∷ []) rest ∙ ap (λ (es : SumsByKey). at.done ++ keyed_rows (map row_of es)) (sym steps) ∙ at.parts;
+      split = append_assoc at.done (e ∷ []) rest ∙ ap (λ (es : SumsByKey). at.done ++ keyed_rows (map row_of es)) (sym steps) ∙ at.split;
       kept = λ sums old. c.in_ok-add.ensures.takes (sums ++ at.done) (at.kept sums old) ∙ ap summed (append_assoc sums at.done (e ∷ []));
       left = λ k d low. (subst (AllWithin (2 ^ 198)) steps at.left) (suc k) d (omega (arith, low));
     }
@@ -52,4 +52,4 @@ returns-clause-bound c = λ n its most mine.
     let at = c.loop-key.invariant in
     let gives : into_iter_items c.into_iter-key-iterator.result ≡ c.args.entries.items = c.into_iter-key-iterator.ensures.into_iter_gives.0 in
     let left = keyed_rows (map row_of (into_iter_items c.loop-key.key-iterator)) in
-    AllWithin-part most n c.args.groups.now c.loop-key.groups c.args.entries.items at.done left c.requires.rise c.requires.others mine its at.kept (at.parts ∙ ap (λ (es : SumsByKey). keyed_rows (map row_of es)) gives)
+    AllWithin-done most n c.args.groups.now c.loop-key.groups c.args.entries.items at.done left c.requires.rise c.requires.others mine its at.kept (at.split ∙ ap (λ (es : SumsByKey). keyed_rows (map row_of es)) gives)

@@ -9,7 +9,7 @@ use Rattle.span_table.proofs.collected.add_entries.Given as goal
 abbrev pub invariant-loop-key : goal.invariant-loop-key
 invariant-loop-key l = record {
   done : KeyedSums;
-  parts : done ++ keyed_rows (map row_of (into_iter_items l.key-iterator)) ≡ keyed_rows (map row_of (into_iter_items l.initial.key-iterator));
+  split : done ++ keyed_rows (map row_of (into_iter_items l.key-iterator)) ≡ keyed_rows (map row_of (into_iter_items l.initial.key-iterator));
   kept : Takes l.fn.groups l.groups done;
   left : AllWithin (2 ^ 198) (into_iter_items l.key-iterator);
 }

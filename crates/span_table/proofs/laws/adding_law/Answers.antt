@@ -1,8 +1,8 @@
-use Rattle.span_table.proofs.AddedTables.{add_tables-parts, table_of-moved, table_of-picked}
+use Rattle.span_table.proofs.AddedTables.{add_tables-table_of, table_of-moved, table_of-picked}
 use Rattle.span_table.proofs.laws.adding_law.Goals as goal
 
 pub returns-clause-together : goal.returns-clause-together
-returns-clause-together c = add_tables-parts
+returns-clause-together c = add_tables-table_of
 
 pub returns-clause-order : goal.returns-clause-order
 returns-clause-order c = table_of-moved
