@@ -1,5 +1,5 @@
 -- That a descent stays ready, and what is left of each stack, from its start on and as frames are visited.
-use Rattle.std.proofs.Common.{◌≡◌, ℕ, ◌+◌, ◌<◌, ◌^◌, ◌&&◌, cond, List, [], ◌∷◌, ◌++◌, length, map, take, drop, refl, sym, ap, ap₂, subst, ◌∙◌, arith, append_assoc}
+use Rattle.std.proofs.Common.{◌≡◌, ℕ, ◌+◌, ◌<◌, ◌^◌, ◌≤ℤ◌, ◌&&◌, cond, List, [], ◌∷◌, ◌++◌, length, map, take, drop, refl, sym, ap, ap₂, subst, ◌∙◌, arith, append_assoc}
 use Rattle.std.specs.List.{AllByRecursion, count_by}
 use Rattle.std.specs.List.Sorted.{IsPermutation, IsSorted}
 use Rattle.std.specs.declared.cmp.Ordering.TheVariants.{Less, Greater}
@@ -10,6 +10,7 @@ use Rattle.std.proofs.lemmas.List.Sums.{sum_by-append, sum_by_push}
 use Rattle.span_event.specs.Text.{Bytes}
 use Rattle.span_event.specs.Time.{distance}
 use Rattle.span_journal.proofs.Sorted.{AllByRecursion-append, AllByRecursion-map}
+use Rattle.span_self_time.specs.Laws.{AreSpans}
 use Rattle.span_self_time.specs.Spans.{Span, earliest, latest}
 use Rattle.span_self_time.proofs.Counts.{count_from-le, count_from-same}
 use Rattle.span_report.specs.declared.stacks.descent.Descent.{Descent}
@@ -20,7 +21,7 @@ use Rattle.span_report.specs.Stacks.Ticks.{Stack, has_frames, names_at, ranked, 
 use Rattle.span_report.specs.Stacks.Pending.{IsAhead, IsSound, IsSplit, Near, left, nearness, pending_stack, times_on}
 use Rattle.span_report.proofs.StackLemmas.Nearing.{AllByRecursion-front, AllByRecursion-last, IsAhead-on, Near-append, Near-front, Near-last, Near-sorted, ahead-next, deeper-near, farther, left-next, no_deeper}
 use Rattle.span_report.proofs.StackLemmas.Splitting.{times_on-own}
-use Rattle.span_report.proofs.StackLemmas.Times.{count_by-stacks_of}
+use Rattle.span_report.proofs.StackLemmas.Times.{count_from-around}
 
 AllByRecursion-permutation : (P : PendingFrame → Type 0) (xs ys : List PendingFrame) → IsPermutation xs ys → AllByRecursion P xs → AllByRecursion P ys
 AllByRecursion-permutation P xs ys moved all = recursion_from_All P ys (All-permutation P xs ys moved (All-from_recursion P xs all))
@@ -56,16 +57,14 @@ module _ (d : Descent) (s : Stretch) (time : ℕ) (found : List PendingFrame) (s
     none = none;
   }
 
-  pub StartsWith-new : (spans : List (Span Bytes)) → d.spans ≡ ranked spans → s.from ≡ earliest spans → s.until ≡ latest spans → s.next ≡ 0 → StartsWith spans d
-  StartsWith-new spans is from until next = record { last = last-empty; left = all }
+  pub StartsWith-new : (spans : List (Span Bytes)) → AreSpans spans → d.spans ≡ ranked spans → s.from ≤ℤ earliest spans → latest spans ≤ℤ s.until → s.next ≡ 0 → StartsWith spans d
+  StartsWith-new spans are is from until next = record { last = last-empty; left = all }
     where
       all : (name : Bytes) (names : Stack) → left_of d (name ∷ names) ≡ count_by (same_stack (name ∷ names)) (stacks_of spans)
       all name names =
           let whole = ap₂ (λ (l : List (Span Bytes)) (n : ℕ). times_on l [] (record { from = s.from; until = s.until; next = n }) (name ∷ names)) is next in
-          let bounds = ap₂ (λ a b. times_on (ranked spans) [] (record { from = a; until = b; next = 0 }) (name ∷ names)) from until in
-          let counted = count_by-stacks_of (same_stack (name ∷ names)) spans
-          ∙ count_from-same (λ u. has_frames (stack_at spans u) && same_stack (name ∷ names) (stack_at spans u)) (λ u. same_stack (name ∷ names) (stack_at spans u)) (earliest spans) (distance (earliest spans) (latest spans)) (λ u since before. same-framed name names (stack_at spans u)) in
-          omega (arith, left-found (name ∷ names)) ∙ whole ∙ bounds ∙ sym counted
+          let framed = count_from-same (λ u. has_frames (stack_at spans u) && same_stack (name ∷ names) (stack_at spans u)) (λ u. same_stack (name ∷ names) (stack_at spans u)) s.from (distance s.from s.until) (λ u since before. same-framed name names (stack_at spans u)) in
+          omega (arith, left-found (name ∷ names)) ∙ whole ∙ sym framed ∙ count_from-around (same_stack (name ∷ names)) spans are s.from s.until from until
 
 -- the next frame is visited: the pending ones of its stack are split, and those that are found come next
 module _ (old mid new : Descent) (first : PendingFrame) (others near : List PendingFrame) (time : ℕ) (ready : IsReady old) (whole : old.pending.items ≡ others ++ first ∷ []) (split : IsNextSplit first time old mid)

@@ -1,11 +1,13 @@
 -- How many of the stacks of spans pass a test, and what the times of folded stacks add up to.
-use Rattle.std.proofs.Common.{◌≡◌, ℕ, zero, suc, ◌+◌, ℤ, pos, ◌+ℤ◌, Bool, true, false, ◌&&◌, ◌||◌, cond, List, [], ◌∷◌, map, refl, sym, ap, ◌∙◌, zero-add}
+use Rattle.std.proofs.Common.{◌≡◌, ℕ, zero, suc, ◌+◌, ℤ, pos, ◌+ℤ◌, ◌≤ℤ◌, ◌<ℤ◌, Bool, true, false, ◌&&◌, ◌||◌, cond, List, [], ◌∷◌, map, refl, sym, ap, ap₂, ◌∙◌, arith, zero-add}
 use Rattle.std.specs.Prelude.{filter}
 use Rattle.std.specs.Cmp.{IsTotalOrder}
 use Rattle.std.specs.FinMap.{slice_cmp-IsAntisymmetric}
 use Rattle.std.specs.List.{count_by, list_any, sum_by}
 use Rattle.std.specs.declared.cmp.Ordering.TheVariants.{Equal}
+use Rattle.std.proofs.lemmas.Bool.{and_left}
 use Rattle.std.proofs.lemmas.Cmp.{lists_total, nat_list_cmp_total}
+use Rattle.std.proofs.lemmas.Int.{clamps, ints}
 use Rattle.std.proofs.lemmas.List.Sorted.{list_any-IsPermutation}
 use Rattle.std.proofs.lemmas.List.Sums.{sum_by-cons}
 use Rattle.span_event.specs.Text.{Bytes}
@@ -13,7 +15,8 @@ use Rattle.span_event.specs.Time.{distance}
 use Rattle.span_event.proofs.Orders.{text_same}
 use Rattle.span_self_time.specs.Laws.{AreSpans}
 use Rattle.span_self_time.specs.Spans.{Span, busy_time, count_from, covers, earliest, is_covered, latest}
-use Rattle.span_self_time.proofs.Counts.{count_from-same}
+use Rattle.span_self_time.proofs.Counts.{add-distance, count_from-add, count_from-none, count_from-same, count_from-unbroken, covers-after, covers-before, distance-add}
+use Rattle.span_closed_spans.proofs.Unbroken.{earliest-le, le-latest}
 use Rattle.span_keyed_tracks.specs.Keyed.{ascending}
 use Rattle.span_journal.proofs.Sorted.{ascending-sorted}
 use Rattle.span_report.specs.Stacks.Ticks.{Folded, Stack, folded, folded_stacks, has_frames, ticks, names_at, ranked, same_stack, stack_at, stack_order, stacks_of}
@@ -74,6 +77,34 @@ has_frames-names_at (s ∷ spans) u = by (covers s u) (has_frames-names_at spans
 
 pub has_frames-stack_at : {N : Type 0} (spans : List (Span N)) → AreSpans spans → (u : ℤ) → has_frames (stack_at spans u) ≡ is_covered spans u
 has_frames-stack_at spans are u = has_frames-names_at (ranked spans) u ∙ sym (list_any-IsPermutation (λ s. covers s u) spans (ranked spans) (ranked-permutation spans are))
+
+module _ {N : Type 0} where
+  -- no span covers a tick before the earliest time, or from the latest on
+  is_covered-before : (spans : List (Span N)) (u : ℤ) → u <ℤ earliest spans → is_covered spans u ≡ false
+  is_covered-before [] u early = refl
+  is_covered-before (s ∷ spans) u early =
+      ap₂ ◌||◌ (covers-before s u (omega (arith, ints, clamps, early))) (is_covered-before spans u (omega (arith, ints, clamps, early)))
+
+  is_covered-after : (spans : List (Span N)) (u : ℤ) → latest spans ≤ℤ u → is_covered spans u ≡ false
+  is_covered-after [] u late = refl
+  is_covered-after (s ∷ spans) u late =
+      ap₂ ◌||◌ (covers-after s u (omega (arith, ints, clamps, late))) (is_covered-after spans u (omega (arith, ints, clamps, late)))
+
+  -- so counting through a longer time counts the same stacks
+  pub count_from-around : (p : List N → Bool) (spans : List (Span N)) → AreSpans spans → (a b : ℤ) → a ≤ℤ earliest spans → latest spans ≤ℤ b →
+      count_from a (distance a b) (λ u. has_frames (stack_at spans u) && p (stack_at spans u)) ≡ count_by p (stacks_of spans)
+  count_from-around p spans are a b first last =
+      let from = earliest spans in
+      let until = latest spans in
+      let passes = λ (u : ℤ). has_frames (stack_at spans u) && p (stack_at spans u) in
+      let forward : from ≤ℤ until = omega (arith, ints, earliest-le spans, le-latest spans) in
+      let end = add-distance from until forward in
+      let none = λ (u : ℤ) (free : is_covered spans u ≡ false). and_left (has_frames (stack_at spans u)) (p (stack_at spans u)) (has_frames-stack_at spans are u ∙ free) in
+      let before : count_from a (distance a b) passes ≡ 0 + count_from from (distance from b) passes =
+      count_from-unbroken passes false a from b first (omega (arith, ints, forward, last)) (λ u since sooner. none u (is_covered-before spans u sooner)) in
+      let rest = ap (λ n. count_from from n passes) (distance-add from until b forward last) ∙ count_from-add passes from (distance from until) (distance until b) in
+      let behind = count_from-none passes (from +ℤ pos (distance from until)) (distance until b) (λ u since sooner. none u (is_covered-after spans u (omega (arith, ints, since, end)))) in
+      omega (arith, before, rest, behind, count_by-stacks_of p spans)
 
 all-kept : (xs : List Folded) → filter (λ f. true) xs ≡ xs
 all-kept [] = refl

@@ -3,12 +3,17 @@ ghost use Rattle.std.specs.Prelude.{◌≤◌, length, IfOk, OnOk};
 ghost use Rattle.span_ledger.specs.Named.{AreThreadSpans};
 ghost use Rattle.span_report.specs.Stacks.Descent.{IsNextSplit, IsPopped, IsReady, StartsWith, Visits};
 
-use super::ends::{RankedSpans, bounds};
+use super::ends::RankedSpans;
 use super::framed::StackFrame;
 use super::pending::{PendingFrame, Stretch, compare_nearness, split};
 use span_event::Text;
 use span_ledger::NamedSpan;
 use std::alloc::{AllocError, Global};
+
+// The times between which all spans lie.
+const LEAST_TIME: i64 = -4_611_686_018_427_387_903;
+
+const GREATEST_UNTIL: i64 = 9_223_372_036_854_775_806;
 
 // A frame at a time, the least stack first. Frames become pending when the one that they stand on is visited, so they are no more
 // than the spans have stretches.
@@ -29,11 +34,14 @@ impl<'a> Descent<'a> {
         ensures ready { IfOk result (λ descent. IsReady descent) }
         ensures starts { IfOk result (λ descent. StartsWith spans.entry.items descent) }
     {
-        let (from, until) = bounds(&spans);
         let spans = RankedSpans::new(alloc, spans)?;
+        let whole = Stretch {
+            from: LEAST_TIME,
+            until: GREATEST_UNTIL,
+            next: 0,
+        };
         let mut pending = Vec::new(alloc);
-        let next = 0;
-        split(&spans, 0, &Stretch { from, until, next }, &mut pending)?;
+        split(&spans, 0, &whole, &mut pending)?;
         pending.sort_unstable_by(compare_nearness);
         Ok(Descent {
             spans,

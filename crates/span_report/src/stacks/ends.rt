@@ -2,7 +2,6 @@
 ghost use Rattle.std.specs.Prelude.{◌≡◌, ◌<◌, ◌≤◌, All, None, int_le, length, IfOk, IfSome};
 ghost use Rattle.std.specs.Int.{int_max};
 ghost use Rattle.span_self_time.specs.Laws.{AreSpans};
-ghost use Rattle.span_self_time.specs.Spans.{earliest, latest};
 ghost use Rattle.span_report.specs.Stacks.Ticks.{ranked};
 ghost use Rattle.span_report.specs.Stacks.Pending.{AreLinks, IsBare, IsFirstBeyond, IsFirstPending, IsLinkTo, IsOnward, Rise};
 
@@ -79,20 +78,6 @@ impl<'a> RankedSpans<'a> {
             over,
         })
     }
-}
-
-// The time from which on all spans lie, or 0 where they start later, and that before which all end, or 0 where they end sooner.
-pub(crate) fn bounds(spans: &[NamedSpan]) -> (i64, i64)
-    ensures from { result.0 ≡ earliest spans.now }
-    ensures until { result.1 ≡ latest spans.now }
-{
-    let mut from = 0i64;
-    let mut until = 0i64;
-    for named in spans {
-        from = from.min(named.span.start);
-        until = until.max(named.span.until);
-    }
-    (from, until)
 }
 
 // The first of the spans from `next` on that covers a tick from this time on.
