@@ -8,11 +8,11 @@ ghost use Rattle.span_page.specs.Data.{all_stacks_json, data_of, graph_json, gra
 ghost use Rattle.span_page.specs.Safe.{safe};
 
 use crate::safe::put_safe;
-use crate::stacks::put_stacks;
+use crate::stacks::{put_names, put_stacks};
 use serde_json::Value;
 use span_collect::refusals::refusals_text;
 use span_collect::{FileEnd, Input, fault_lines};
-use span_event::{Thread, Unit};
+use span_event::{Text, Thread, Unit};
 use span_ledger::{Ledger, ProcessRows};
 use span_report::report_text;
 use span_report::stacks::{LabelledSpans, SpanColumn, StacksFault, framed_stacks};
@@ -103,31 +103,26 @@ pub(crate) fn put_rest(
     Ok(rest)
 }
 
-// The names of files.
-#[tactic(auto, unfolding(crate::specs::Data::names_json), using(std::proofs::Common::append_assoc))]
+// The names of files, as a JSON text.
 fn names_text(alloc: Global, files: &[Input]) -> Result<String, AllocError>
     ensures { IfOk result (λ text. string_bytes text ≡ names_json files.now) }
 {
+    let names = names_of(alloc, files)?;
     let mut out = String::from_str(alloc, "[")?;
-    put_file_names(alloc, &mut out, files)?;
+    put_names(alloc, &mut out, &names)?;
     out.push(']')?;
     Ok(out)
 }
 
-// Appends the names of files, separated by commas.
-fn put_file_names(alloc: Global, out: &mut String, files: &[Input]) -> Result<(), AllocError>
-    ensures { OnOk result (string_bytes out.new ≡ string_bytes out.old
-        ++ join_with_byte 44 (map (λ (file : Input). json_text_of file.name) files.now)) }
+fn names_of(alloc: Global, files: &[Input]) -> Result<Vec<&Text>, AllocError>
+    ensures { IfOk result (λ names.
+        map (λ name. name.now) names.items ≡ map (λ (file : Input). file.name) files.now) }
 {
-    let Some((first, later)) = files.split_first() else {
-        return Ok(());
-    };
-    put_string(alloc, out, first.name.as_str())?;
-    for file in later {
-        out.push(',')?;
-        put_string(alloc, out, file.name.as_str())?;
+    let mut names = Vec::new(alloc);
+    for file in files {
+        names.push(&file.name)?;
     }
-    Ok(())
+    Ok(names)
 }
 
 // The report, and its threads in its order.
@@ -186,15 +181,6 @@ fn stacks_text(
     let rest = put_threads(alloc, &mut out, ledger, labels, threads, left)?;
     out.push(']')?;
     Ok((out, rest))
-}
-
-// Appends the text as a JSON text.
-#[tactic(auto, unfolding(span_report::specs::Lines::json_text_of))]
-pub(crate) fn put_string(alloc: Global, out: &mut String, text: &str) -> Result<(), AllocError>
-    ensures { OnOk result (string_bytes out.new ≡ string_bytes out.old ++ json_text_of text.now) }
-{
-    let json = Value::try_from_str(alloc, text)?.to_string(alloc)?;
-    out.push_str(json.as_str())
 }
 
 // The threads of the report, in its order.

@@ -6,8 +6,8 @@ ghost use Rattle.span_report.specs.Stacks.Framed.{AreAscending, folded_after};
 ghost use Rattle.span_page.specs.Coded.{coded_after};
 ghost use Rattle.span_page.specs.Data.{stack_json, stacks_json};
 
-use crate::data::put_string;
 use span_event::Text;
+use span_report::json_text;
 use span_report::stacks::StackFrame;
 use std::alloc::{AllocError, Global};
 
@@ -66,18 +66,18 @@ fn put_coded(
     write!(out, "],\"{time}\"]")
 }
 
-// Appends the names, separated by commas.
-fn put_names(alloc: Global, out: &mut String, names: &[&Text]) -> Result<(), AllocError>
+// Appends the names as JSON texts, separated by commas.
+pub(crate) fn put_names(alloc: Global, out: &mut String, names: &[&Text]) -> Result<(), AllocError>
     ensures { OnOk result (string_bytes out.new ≡ string_bytes out.old
         ++ join_with_byte 44 (map json_text_of (map (λ name. name.now) names.now))) }
 {
     let Some((first, later)) = names.split_first() else {
         return Ok(());
     };
-    put_string(alloc, out, first.as_str())?;
+    out.push_str(json_text(alloc, first)?.as_str())?;
     for name in later {
         out.push(',')?;
-        put_string(alloc, out, name.as_str())?;
+        out.push_str(json_text(alloc, name)?.as_str())?;
     }
     Ok(())
 }

@@ -14,7 +14,7 @@ returns c =
     let first = json_text_of c.in-Some.first.now.now in
     let commas = flat_map (λ text. 44 ∷ text) (map json_text_of (map (λ name. name.now) later)) in
     (rw (take_all c.loop-name.name-index later c.loop-name-test.false) at c.loop-name.invariant)
-    ∙ ap (λ text. text ++ commas) (c.in_ok-put_string.ensures ∙ ap (λ text. before ++ json_text_of text) c.as_str.ensures)
+    ∙ ap (λ text. text ++ commas) (c.in_ok-push_str.ensures.bytes ∙ ap (λ text. before ++ text) (c.as_str.ensures.value ∙ c.in_ok-json_text.ensures))
     ∙ append_assoc before first commas
     ∙ ap (λ text. before ++ text) (sym (join_with_byte_cons first (map json_text_of (map (λ name. name.now) later))))
     ∙ ap (λ (names : List (Bor Bytes)). before ++ join_with_byte 44 (map json_text_of (map (λ name. name.now) names))) (sym c.in-Some.ensures.cases.0)
