@@ -1,6 +1,7 @@
 -- Files that are shown, one after another.
 use Rattle.std.proofs.Common.{◌≡◌, ℕ, ◌<◌, ◌≤◌, true, false, cond, List, [], ◌∷◌, ◌++◌, length, Option, inl, inr, sym, ap, subst, ◌∙◌, arith}
-use Rattle.std.specs.Prelude.{map, nat_le}
+use Rattle.std.specs.Prelude.{map, nat_le, is_ok, Result, Ok, Err, IfErr, IfOk, OnOk}
+use Rattle.std.specs.Global.{Vec}
 use Rattle.std.proofs.lemmas.Bool.Decides.{nat_tests}
 use Rattle.std.proofs.lemmas.List.{map_push, length-map}
 use Rattle.span_event.specs.Text.{Bytes}
@@ -22,8 +23,10 @@ use Rattle.span_runs.specs.Source.{SourceBytes}
 use Rattle.span_runs.proofs.GatheredFiles.{AreGathered-none, AreGathered-push}
 use Rattle.tracebook.specs.declared.pages.ShownFiles.{ShownFiles}
 use Rattle.span_request.specs.declared.views.PageView.{PageView}
+use Rattle.span_table_text.specs.declared.json_lines.JsonFault.{JsonFault}
+use Rattle.tracebook.specs.Sums.{WritesAll, WritesPartly}
 use Rattle.tracebook.specs.Tables.{TableFits}
-use Rattle.tracebook.specs.Pages.{AreHeld, AreShown, HoldsInputs, IsPageOf, Pages, PagesPartly, ShowsFile, ShowsInputs, WritesPage, WritesPagePartly, asked_for, shown_alone, shown_run, shown_runs}
+use Rattle.tracebook.specs.Pages.{AreHeld, AreShown, HoldsInputs, IsPageOf, Pages, PagesPartly, ShowsFile, ShowsInputs, asked_for, shown_alone, shown_run, shown_runs}
 
 -- what was collected of a file may stand for the run in which its items stand in their order
 pub TakesRun-alone : (labels : List SpanColumn) (known : Bytes → Option Bytes) (name : Bytes) (settings : Settings) (run : FileRun) (old new : BegunPage) →
@@ -102,20 +105,23 @@ pub ShowsInputs-held : (source : SourceBytes) (names : List Bytes) (settings : S
 ShowsInputs-held source [] settings view shown text = AreShown-held (λ name. source.standard) _ settings view shown text
 ShowsInputs-held source (name ∷ names) settings view shown text = AreShown-held source.file (name ∷ names) settings view shown text
 
--- what was held is written as a page
-pub Pages-written : (source : SourceBytes) (names : List Bytes) (settings : Settings) (view : PageView) (shown : ShownFiles) (status : ℕ) (old new : SinkState) →
-    HoldsInputs source names settings view shown → TableFits view.table shown.summed.runs → WritesPage settings.unit view shown status old new → Pages source names settings view status old new
-Pages-written source names settings view shown status old new held fits (text, is, written) = record {
+-- what was held is written as a page, where its text was made
+pub Pages-written : (source : SourceBytes) (names : List Bytes) (settings : Settings) (view : PageView) (shown : ShownFiles) (made : Result (Vec ℕ) JsonFault) (status : ℕ) (old new : SinkState) →
+    HoldsInputs source names settings view shown → OnOk made (TableFits view.table shown.summed.runs) → IfOk made (λ text. IsPageOf settings.unit view shown text.items) → is_ok made ≡ true → status < 2 →
+    IfOk made (λ text. status < 2 → WritesAll text.items shown.summed.lines.items status old new) → Pages source names settings view status old new
+Pages-written source names settings view shown (Ok text) status old new held fits is some below written = record {
   summed = shown.summed;
-  text = text;
-  shows = ShowsInputs-held source names settings view shown text held is;
+  text = text.items;
+  shows = ShowsInputs-held source names settings view shown text.items held is;
   fits = fits;
-  written = written;
+  written = written below;
 }
+Pages-written source names settings view shown (Err fault) status old new held fits is some below written = cc
 
--- or first bytes of it are
-pub PagesPartly-written : (source : SourceBytes) (names : List Bytes) (settings : Settings) (view : PageView) (shown : ShownFiles) (old new : SinkState) →
-    HoldsInputs source names settings view shown → WritesPagePartly settings.unit view shown old new → PagesPartly source names settings view old new
-PagesPartly-written source names settings view shown old new held (inl silent) = inl silent
-PagesPartly-written source names settings view shown old new held (inr (text, is, written)) =
-    inr (shown.summed, text, ShowsInputs-held source names settings view shown text held is, written)
+-- or nothing is, or first bytes
+pub PagesPartly-written : (source : SourceBytes) (names : List Bytes) (settings : Settings) (view : PageView) (shown : ShownFiles) (made : Result (Vec ℕ) JsonFault) (status : ℕ) (old new : SinkState) →
+    HoldsInputs source names settings view shown → IfOk made (λ text. IsPageOf settings.unit view shown text.items) → status ≡ 2 → IfOk made (λ text. status ≡ 2 → WritesPartly text.items old new) →
+    IfErr made (λ fault. (status ≡ 2) × (new ≡ old)) → PagesPartly source names settings view old new
+PagesPartly-written source names settings view shown (Ok text) status old new held is two written silent =
+    inr (shown.summed, text.items, ShowsInputs-held source names settings view shown text.items held is, written two)
+PagesPartly-written source names settings view shown (Err fault) status old new held is two written silent = inl silent.1

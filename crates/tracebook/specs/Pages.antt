@@ -68,14 +68,6 @@ abbrev pub IsPageOf : Unit → PageView → ShownFiles → Bytes → Type 0
 IsPageOf unit view shown text = (runs : List ShownRun) → Holds unit view.labels.items runs shown.page →
     text ≡ page_of_runs unit view.labels.items (table_text unit view.table true shown.summed.runs) runs
 
--- that text is written
-abbrev pub WritesPage : Unit → PageView → ShownFiles → ℕ → SinkState → SinkState → Type 0
-WritesPage unit view shown status old new = (text : Bytes) × IsPageOf unit view shown text × WritesAll text shown.summed.lines.items status old new
-
--- nothing was written, or first bytes of it
-abbrev pub WritesPagePartly : Unit → PageView → ShownFiles → SinkState → SinkState → Type 0
-WritesPagePartly unit view shown old new = (new ≡ old) ⊎ ((text : Bytes) × IsPageOf unit view shown text × WritesPartly text old new)
-
 -- what was collected of a file, as a page shows it
 abbrev pub shown_run : FileRun → ShownRun
 shown_run run = record { files = run.file ∷ []; ends = run.collected.end.ends.items; journal = run.collected.ledger.journal }

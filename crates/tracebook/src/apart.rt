@@ -1,15 +1,11 @@
 //! Files each of which is a run of its own: their tables, summed and printed.
-ghost use Rattle.std.specs.Prelude.{◌≡◌, ◌<◌, ◌≤◌, ◌++◌, [], true, IfOk};
-ghost use Rattle.span_faults.specs.FaultLines.{Says};
-ghost use Rattle.tracebook.specs.Comparison.{changes_text};
-ghost use Rattle.tracebook.specs.Sums.{ComparesSums, ComparesSumsPartly, GathersInputs, Sums, SumsPartly, WritesAll, WritesPartly};
-ghost use Rattle.tracebook.specs.Tables.{TableFits, table_text};
+ghost use Rattle.std.specs.Prelude.{◌≡◌, ◌<◌, ◌≤◌, IfOk};
+ghost use Rattle.tracebook.specs.Sums.{ComparesSums, ComparesSumsPartly, GathersInputs, Sums, SumsPartly};
 
 use crate::sides::{JoinedSides, Sides, gather_sides};
 use crate::standard::Standard;
 use crate::sums::{write_runs_changes, write_runs_table};
-use span_collect::Settings;
-use span_event::{Fault, Text, Unit};
+use span_event::{Fault, Text};
 use span_faults::{Faults, fail, fail_stop};
 use span_report::Sink;
 use span_request::{Apart, ComparisonView, TableView};
@@ -47,20 +43,19 @@ pub(crate) fn sum_files<
         view.now (O.state out.old) (O.state out.new) }
 {
     source.begin_apart(names.len() as u64);
-    match gather_inputs(
-        rt,
-        alloc,
-        apart,
-        view.options.of,
-        &view.options.columns,
-        &names,
-        source,
+    let (of, columns) = (view.options.of, &view.options.columns);
+    let summed: Gathered<TableSum> = match gather_inputs(
+        rt, alloc, apart, of, columns, &names, source,
     ) {
-        Ok(summed) => {
-            source.end();
-            write_sum(alloc, apart.settings.unit, summed, view, out, faults)
-        }
-        Err(stop) => fail_stop(alloc, stop, faults),
+        Ok(summed) => summed,
+        Err(stop) => return fail_stop(alloc, stop, faults),
+    };
+    source.end();
+    let Gathered { runs: sum, lines } = summed;
+    let unit = apart.settings.unit;
+    match sum.into_table() {
+        Ok(table) => write_runs_table(alloc, unit, table, view, &lines, out, faults),
+        Err(_) => fail(alloc, Fault::Memory.code(), faults),
     }
 }
 
@@ -88,12 +83,21 @@ pub(crate) fn compare_sums<
         apart.now.settings view.now (O.state out.old) (O.state out.new) }
 {
     let options = &view.options;
-    match gather_sides(rt, alloc, apart, options, &base, &names, source, faults) {
-        Ok(sides) => {
-            let unit = apart.settings.unit;
-            write_comparison(alloc, unit, sides, view, out, faults)
+    let sides: Sides<TableSum> = match gather_sides(
+        rt, alloc, apart, options, &base, &names, source, faults,
+    ) {
+        Ok(sides) => sides,
+        Err(status) => return status,
+    };
+    let Ok(JoinedSides { base, other, lines }) = sides.joined() else {
+        return fail(alloc, Fault::Memory.code(), faults);
+    };
+    let unit = apart.settings.unit;
+    match (base.into_table(), other.into_table()) {
+        (Ok(base), Ok(other)) => {
+            write_runs_changes(alloc, unit, base, other, view, &lines, out, faults)
         }
-        Err(status) => status,
+        _ => fail(alloc, Fault::Memory.code(), faults),
     }
 }
 
@@ -126,30 +130,15 @@ pub(crate) fn gather_inputs<
             jobs_of(rt, apart),
         );
     }
-    gather_standard(rt, alloc, &apart.settings, of, columns, source)
-}
-
-fn gather_standard<T: Gathering, R: Threads + Wait + RandomSource + Sync, S: Source + Sync>(
-    rt: &R,
-    alloc: Global,
-    settings: &Settings,
-    of: Of,
-    columns: &[Column],
-    source: &S,
-) -> Result<Gathered<T>, Stop>
-    ensures { IfOk result
-        (GathersInputs (S.bytes source.now) [] settings.now (T.come_to of columns.now)) }
-{
     let Ok(name) = Text::of(alloc, "-") else {
         return Err(Stop::of_memory(alloc));
     };
-    let standard = Standard { source };
     gather_apart(
         rt,
         alloc,
-        &standard,
+        &Standard { source },
         from_ref(&name),
-        settings,
+        &apart.settings,
         of,
         columns,
         1,
@@ -164,59 +153,5 @@ pub(crate) fn jobs_of<R: Threads>(rt: &R, apart: &Apart) -> u32 {
     match thread::available_parallelism(rt) {
         Ok(count) => count.get().min(MOST_JOBS) as u32,
         Err(_) => 1,
-    }
-}
-
-// Writes a sum, and then the fault lines of files that are no trace.
-fn write_sum<O: Sink, F: Faults>(
-    alloc: Global,
-    unit: Unit,
-    summed: Gathered<TableSum>,
-    view: &TableView,
-    out: &mut O,
-    faults: &mut F,
-) -> u8
-    ensures status { result ≤ 2 }
-    ensures fits { result < 2 → TableFits view.now summed.runs }
-    ensures done { result < 2 → WritesAll (table_text unit view.now true summed.runs)
-        summed.lines.items result (O.state out.old) (O.state out.new) }
-    ensures failed { result ≡ 2 → WritesPartly (table_text unit view.now true summed.runs)
-        (O.state out.old) (O.state out.new) }
-    ensures said { result < 2 → Says summed.lines.items (F.state faults.old) (F.state faults.new) }
-{
-    let Gathered { runs: sum, lines } = summed;
-    match sum.into_table() {
-        Ok(table) => write_runs_table(alloc, unit, table, view, &lines, out, faults),
-        Err(_) => fail(alloc, Fault::Memory.code(), faults),
-    }
-}
-
-fn write_comparison<O: Sink, F: Faults>(
-    alloc: Global,
-    unit: Unit,
-    sides: Sides<TableSum>,
-    view: &ComparisonView,
-    out: &mut O,
-    faults: &mut F,
-) -> u8
-    ensures status { result ≤ 2 }
-    ensures done { result < 2 → WritesAll
-        (changes_text unit view.now true sides.base.runs sides.other.runs)
-        (sides.base.lines.items ++ sides.other.lines.items)
-        result (O.state out.old) (O.state out.new) }
-    ensures failed { result ≡ 2 → WritesPartly
-        (changes_text unit view.now true sides.base.runs sides.other.runs)
-        (O.state out.old) (O.state out.new) }
-    ensures said { result < 2 → Says (sides.base.lines.items ++ sides.other.lines.items)
-        (F.state faults.old) (F.state faults.new) }
-{
-    let Ok(JoinedSides { base, other, lines }) = sides.joined() else {
-        return fail(alloc, Fault::Memory.code(), faults);
-    };
-    match (base.into_table(), other.into_table()) {
-        (Ok(base), Ok(other)) => {
-            write_runs_changes(alloc, unit, base, other, view, &lines, out, faults)
-        }
-        _ => fail(alloc, Fault::Memory.code(), faults),
     }
 }

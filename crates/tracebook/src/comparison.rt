@@ -3,7 +3,7 @@ ghost use Rattle.std.specs.Prelude.{◌≡◌, IfOk, IfErr, OnOk};
 ghost use Rattle.span_report.specs.Sink.{TakesBytes};
 ghost use Rattle.span_runs.specs.Runs.{run_of_files};
 ghost use Rattle.span_table_text.specs.declared.json_lines.JsonFault.TheVariants.{TooGreat};
-ghost use Rattle.tracebook.specs.Comparison.{AreTooGreat, ChangesLeave, ComparisonLeaves, HasTooGreat, IsComparisonOf, changes_of_runs, changes_text, comparison_code, greater};
+ghost use Rattle.tracebook.specs.Comparison.{ChangesLeave, ComparisonLeaves, HasTooGreat, IsComparisonOf, changes_of_runs, changes_text, comparison_code, greater};
 
 use crate::tables::asked_by;
 use span_collect::{Collected, Input, RunError, Settings, collect_to_ledger};
@@ -111,47 +111,25 @@ fn write_changes<O: Sink, R: RandomSource>(
         (run_of_files files.now compared.now.other.end.ends.items compared.now.other.ledger.journal)
         (O.state out.old) (O.state out.new)) }
 {
-    let text = match changes_of(rt, alloc, unit, base, files, compared, view) {
+    let of = view.options.of;
+    let columns = &view.options.columns;
+    let Ok(earlier) = table_of_run(rt, alloc, of, columns, base, &compared.base) else {
+        return Err(ComparisonFault::Run(RunError::Memory));
+    };
+    let Ok(later) = table_of_run(rt, alloc, of, columns, files, &compared.other) else {
+        drop(earlier);
+        return Err(ComparisonFault::Run(RunError::Memory));
+    };
+    let made = changes_text(alloc, unit, &earlier, &later, view, false);
+    // The program ends soon, and then the system frees all at once, where freeing one by one takes long.
+    forget(earlier);
+    forget(later);
+    let text = match made {
         Ok(text) => text,
         Err(JsonFault::Memory) => return Err(ComparisonFault::Run(RunError::Memory)),
         Err(JsonFault::TooGreat) => return Err(ComparisonFault::TooGreat),
     };
     write_bytes(&text, out).map_err(|written| ComparisonFault::Run(RunError::Output { written }))
-}
-
-// What changed between two runs.
-fn changes_of<R: RandomSource>(
-    rt: &R,
-    alloc: Global,
-    unit: Unit,
-    base: &[Input],
-    files: &[Input],
-    compared: &RunPair,
-    view: &ComparisonView,
-) -> Result<Vec<u8>, JsonFault>
-    ensures text { IfOk result (λ text. text.items ≡ changes_of_runs unit view.now
-        (run_of_files base.now compared.now.base.end.ends.items compared.now.base.ledger.journal)
-        (run_of_files files.now compared.now.other.end.ends.items
-        compared.now.other.ledger.journal)) }
-    ensures too_great { IfErr result (λ fault. fault ≡ TooGreat → AreTooGreat view.now
-        (run_of_files base.now compared.now.base.end.ends.items compared.now.base.ledger.journal)
-        (run_of_files files.now compared.now.other.end.ends.items
-        compared.now.other.ledger.journal)) }
-{
-    let of = view.options.of;
-    let columns = &view.options.columns;
-    let Ok(earlier) = table_of_run(rt, alloc, of, columns, base, &compared.base) else {
-        return Err(JsonFault::Memory);
-    };
-    let Ok(later) = table_of_run(rt, alloc, of, columns, files, &compared.other) else {
-        drop(earlier);
-        return Err(JsonFault::Memory);
-    };
-    let text = changes_text(alloc, unit, &earlier, &later, view, false);
-    // The program ends soon, and then the system frees all at once, where freeing one by one takes long.
-    forget(earlier);
-    forget(later);
-    text
 }
 
 /// What changed between two tables in a unit, whose heads say how many runs there are or don't.

@@ -2,8 +2,7 @@
 ghost use Rattle.std.specs.Prelude.{◌≡◌, ◌<◌, ◌≤◌, [], List, true, length, map, IfOk, OnOk};
 ghost use Rattle.span_page.specs.Runs.{Holds, ShownRun, TakesRun, page_of_runs};
 ghost use Rattle.span_table.specs.Tables.{table_of};
-ghost use Rattle.span_faults.specs.FaultLines.{Says};
-ghost use Rattle.tracebook.specs.Pages.{AreHeld, HoldsInputs, Pages, PagesPartly, ShowsFile, WritesPage, WritesPagePartly, shown_alone, shown_run, shown_runs};
+ghost use Rattle.tracebook.specs.Pages.{AreHeld, HoldsInputs, Pages, PagesPartly, ShowsFile, shown_alone, shown_run, shown_runs};
 ghost use Rattle.tracebook.specs.Tables.{TableFits, table_text};
 
 use crate::apart::jobs_of;
@@ -62,13 +61,18 @@ pub(crate) fn page_files<
         view.now (O.state out.old) (O.state out.new) }
 {
     source.begin_apart(names.len() as u64);
-    match show_inputs(rt, alloc, apart, view, &names, source) {
-        Ok(shown) => {
-            source.end();
-            write_shown(alloc, apart.settings.unit, shown, view, out, faults)
-        }
-        Err(stop) => fail_stop(alloc, stop, faults),
-    }
+    let shown = match show_inputs(rt, alloc, apart, view, &names, source) {
+        Ok(shown) => shown,
+        Err(stop) => return fail_stop(alloc, stop, faults),
+    };
+    source.end();
+    let ShownFiles { summed, page } = shown;
+    let Gathered { runs: sum, lines } = summed;
+    let Ok(table) = sum.into_table() else {
+        return fail(alloc, Fault::Memory.code(), faults);
+    };
+    let text = page_text(alloc, apart.settings.unit, table, page, view);
+    write_and_say(alloc, text, &lines, out, faults)
 }
 
 // The files of these names, or standard input, as the file `-`, where there are none.
@@ -85,23 +89,17 @@ fn show_inputs<R: Threads + Wait + RandomSource + Sync, S: Source + Sync>(
     if !names.is_empty() {
         return show_files(rt, alloc, apart, view, names, source);
     }
-    show_standard(rt, alloc, apart, view, source)
-}
-
-fn show_standard<R: Threads + Wait + RandomSource + Sync, S: Source + Sync>(
-    rt: &R,
-    alloc: Global,
-    apart: &Apart,
-    view: &PageView,
-    source: &S,
-) -> Result<ShownFiles, Stop>
-    ensures { IfOk result (HoldsInputs (S.bytes source.now) [] apart.now.settings view.now) }
-{
     let Ok(name) = Text::of(alloc, "-") else {
         return Err(Stop::of_memory(alloc));
     };
-    let standard = Standard { source };
-    show_files(rt, alloc, apart, view, from_ref(&name), &standard)
+    show_files(
+        rt,
+        alloc,
+        apart,
+        view,
+        from_ref(&name),
+        &Standard { source },
+    )
 }
 
 fn show_files<R: Threads + Wait + RandomSource + Sync, S: Source + Sync>(
@@ -237,33 +235,6 @@ fn with_run(
         &collected.end.ends,
         labels,
     )
-}
-
-// Writes the page, and then the fault lines of files that are no trace.
-fn write_shown<O: Sink, F: Faults>(
-    alloc: Global,
-    unit: Unit,
-    shown: ShownFiles,
-    view: &PageView,
-    out: &mut O,
-    faults: &mut F,
-) -> u8
-    ensures status { result ≤ 2 }
-    ensures fits { result < 2 → TableFits view.now.table shown.summed.runs }
-    ensures done { result < 2
-        → WritesPage unit view.now shown result (O.state out.old) (O.state out.new) }
-    ensures failed { result ≡ 2
-        → WritesPagePartly unit view.now shown (O.state out.old) (O.state out.new) }
-    ensures said { result < 2
-        → Says shown.summed.lines.items (F.state faults.old) (F.state faults.new) }
-{
-    let ShownFiles { summed, page } = shown;
-    let Gathered { runs: sum, lines } = summed;
-    let Ok(table) = sum.into_table() else {
-        return fail(alloc, Fault::Memory.code(), faults);
-    };
-    let text = page_text(alloc, unit, table, page, view);
-    write_and_say(alloc, text, &lines, out, faults)
 }
 
 fn page_text(

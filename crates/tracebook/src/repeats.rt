@@ -1,7 +1,7 @@
 //! Repeated runs, on each of two sides: how their numbers are spread, of traces or of tables that were printed.
-ghost use Rattle.std.specs.Prelude.{◌≡◌, ◌<◌, ◌≤◌, ◌++◌, true, ◌↔◌, IfErr, IfOk, IsTrue, OnOk, length};
+ghost use Rattle.std.specs.Prelude.{◌≡◌, ◌<◌, ◌≤◌, ◌↔◌, IfErr, IfOk, IsTrue, OnOk, length};
 ghost use Rattle.span_table_text.specs.declared.json_lines.JsonFault.TheVariants.{TooGreat};
-ghost use Rattle.tracebook.specs.Repeats.{AreFew, RepeatsExceed, RepeatsFit, Repeats, RepeatsPartly, gathered_text, repeats_text};
+ghost use Rattle.tracebook.specs.Repeats.{AreFew, RepeatsExceed, RepeatsFit, Repeats, RepeatsPartly, repeats_text};
 ghost use Rattle.tracebook.specs.Sums.{WritesAll, WritesPartly};
 
 use crate::sides::{JoinedSides, Sides, gather_sides};
@@ -51,10 +51,19 @@ pub(crate) fn repeat_runs<
         return fail(alloc, Fault::FileCount.code(), faults);
     }
     let options = &view.options;
-    match gather_sides(rt, alloc, apart, options, &base, &names, source, faults) {
-        Ok(sides) => write_gathered(alloc, apart.settings.unit, sides, view, out, faults),
-        Err(status) => status,
-    }
+    let sides: Sides<Vec<Table>> = match gather_sides(
+        rt, alloc, apart, options, &base, &names, source, faults,
+    ) {
+        Ok(sides) => sides,
+        Err(status) => return status,
+    };
+    let Ok(JoinedSides { base, other, lines }) = sides.joined() else {
+        return fail(alloc, Fault::Memory.code(), faults);
+    };
+    let (unit, of, columns) = (apart.settings.unit, options.of, &options.columns);
+    write_tables(
+        alloc, unit, of, columns, base, other, view, &lines, out, faults,
+    )
 }
 
 /// Whether each side has a repetition, and not too many; where no other file is named, standard input is one.
@@ -62,36 +71,6 @@ pub(crate) fn are_few(base: &[Text], names: &[Text]) -> bool
     ensures { IsTrue result ↔ AreFew base.now names.now }
 {
     !base.is_empty() && base.len() <= MOST_REPETITIONS && names.len() <= MOST_REPETITIONS
-}
-
-// Writes what was gathered, and then the fault lines of files that are no trace.
-fn write_gathered<O: Sink, F: Faults>(
-    alloc: Global,
-    unit: Unit,
-    sides: Sides<Vec<Table>>,
-    view: &RepeatsView,
-    out: &mut O,
-    faults: &mut F,
-) -> u8
-    requires base { length sides.base.runs.items ≤ 64 }
-    requires other { length sides.other.runs.items ≤ 64 }
-    ensures status { result ≤ 2 }
-    ensures fits { result < 2
-        → RepeatsFit view.now.options.of view.now sides.base.runs.items sides.other.runs.items }
-    ensures done { result < 2 → WritesAll (gathered_text unit view.now sides.base sides.other)
-        (sides.base.lines.items ++ sides.other.lines.items)
-        result (O.state out.old) (O.state out.new) }
-    ensures failed { result ≡ 2 → WritesPartly (gathered_text unit view.now sides.base sides.other)
-        (O.state out.old) (O.state out.new) }
-{
-    let Ok(JoinedSides { base, other, lines }) = sides.joined() else {
-        return fail(alloc, Fault::Memory.code(), faults);
-    };
-    let of = view.options.of;
-    let columns = &view.options.columns;
-    write_tables(
-        alloc, unit, of, columns, base, other, view, &lines, out, faults,
-    )
 }
 
 /// Writes how the numbers of these tables are spread, and then these fault lines.
