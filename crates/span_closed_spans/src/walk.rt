@@ -1,5 +1,5 @@
 //! Self and busy times of a list of spans, found by walking from each start or end to the next.
-ghost use Rattle.std.specs.Prelude.{◌≡◌, ◌⊎◌, ℤ, ◌≤ℤ◌, ◌<ℤ◌, nat_eq, map, All, IfOk};
+ghost use Rattle.std.specs.Prelude.{◌≡◌, ◌⊎◌, ℤ, ◌≤ℤ◌, ◌<ℤ◌, nat_eq, map, All};
 ghost use Rattle.span_event.specs.Event.{least_time};
 ghost use Rattle.span_event.specs.Time.{distance};
 ghost use Rattle.span_self_time.specs.Spans.{covers, is_outranked, is_covered, count_from, earliest, latest, self_time, busy_time, self_of};
@@ -8,7 +8,6 @@ ghost use Rattle.span_closed_spans.specs.Walk.{IsUnbroken, counts};
 
 use span_event::distance;
 use span_self_time::ClosedSpan;
-use std::alloc::{AllocError, Global};
 
 /// Which ticks a walk counts.
 #[derive(Clone, Copy)]
@@ -101,7 +100,7 @@ fn time_counted(spans: &[ClosedSpan], counted: Counted<'_>, from: i64, until: i6
 }
 
 // The ticks of the span that no span above it covers.
-fn self_time(spans: &[ClosedSpan], span: &ClosedSpan) -> u64
+pub(crate) fn self_time(spans: &[ClosedSpan], span: &ClosedSpan) -> u64
     requires lasts { span.now.start ≤ℤ span.now.until }
     requires in_time { IsInTime (span_of span.now) }
     ensures { result ≡ self_time (map span_of spans.now) (span_of span.now) }
@@ -144,17 +143,4 @@ pub fn self_of(spans: &[ClosedSpan], name: u32) -> u64
         }
     }
     own
-}
-
-/// The self time of each span, in ticks, found by walking through each of them.
-pub fn self_times(spans: &[ClosedSpan], alloc: Global) -> Result<Vec<u64>, AllocError>
-    requires { AreClosed (map span_of spans.now) }
-    ensures { IfOk result (λ times. times.items
-        ≡ map (self_time (map span_of spans.now)) (map span_of spans.now)) }
-{
-    let mut times = Vec::with_capacity(alloc, spans.len())?;
-    for span in spans {
-        times.push(self_time(spans, span))?;
-    }
-    Ok(times)
 }

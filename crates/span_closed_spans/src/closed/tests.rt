@@ -1,8 +1,8 @@
 ghost use Rattle.std.specs.Prelude.{◌≢◌, map, All, IsTrue, IfOk, OnOk};
-ghost use Rattle.span_self_time.specs.Closed.{span_of, CanJoin};
+ghost use Rattle.span_self_time.specs.Closed.{span_of, AreClosed, CanJoin};
 
 use super::ClosedSpans;
-use crate::walk::{busy_time, self_of, self_times};
+use crate::walk::{busy_time, self_of, self_time};
 use span_event::Args;
 use span_self_time::{ClosedSpan, Division};
 use std::alloc::Global;
@@ -91,6 +91,19 @@ fn gather_all(
     Ok(gathered)
 }
 
+// Each of the spans has the time that a walk through it finds.
+fn expect_self_times(rt: &impl Abort, spans: &[ClosedSpan], times: &[u64])
+    requires { AreClosed (map span_of spans.now) }
+{
+    let mut i = 0usize;
+    for span in spans {
+        let own = self_time(spans, span);
+        assert_eq!(rt; times.get(i).copied(), Some(own));
+        i = i.saturating_add(1);
+    }
+    assert_eq!(rt; times.len(), i);
+}
+
 impl Both {
     fn new(alloc: Global) -> Both {
         let mut searched = ClosedSpans::new(alloc);
@@ -147,8 +160,8 @@ impl Both {
             );
         }
         assert_eq!(rt; self.searched.segment(count), None);
-        let own = self_times(spans, self.alloc)?;
-        assert_eq!(rt; self.searched.self_times(self.alloc)?, own);
+        let own = self.searched.self_times(self.alloc)?;
+        expect_self_times(rt, spans, &own);
         assert_eq!(rt; self.stacked.self_times(self.alloc)?, own, "in stacks");
         Ok(())
     }
