@@ -3,10 +3,9 @@
 #![tactic(auto)]
 
 mod answer_pair;
-mod async_events;
 mod by_process;
 mod counter_events;
-mod flow_events;
+mod keyed_events;
 mod ledger;
 mod listed;
 mod meta_events;

@@ -9,9 +9,8 @@ ghost use Rattle.span_ledger.specs.Telling.{accepted_at, TellsPhase};
 ghost use Rattle.span_track.specs.Thread.{IsSealTime, any_name};
 
 use crate::answer_pair::AnswerPair;
-use crate::async_events::tell_async;
 use crate::counter_events::tell_counter;
-use crate::flow_events::tell_flow;
+use crate::keyed_events::{tell_async, tell_flow};
 use crate::meta_events::{tell_instant, tell_meta};
 use crate::thread_tracks::ThreadTracks;
 use span_event::{Event, Phase, Thread};
