@@ -52,7 +52,7 @@ class Trace:
 
 @dataclass(frozen=True)
 class Work:
-    """What every task is told: the folder in which names begin, one for what isn't kept, the flags that tables follow from, the program
+    """What every task is given: the folder in which names begin, one for what isn't kept, the flags that tables follow from, the program
     that all are to run, and the folder of parts, if they are kept."""
 
     place: str
@@ -213,7 +213,7 @@ def sum_parts(work, traces):
 
 
 def program_digest():
-    """What tells the program that the path gives from all others."""
+    """What distinguishes the program that the path gives from all others."""
     path = shutil.which(PROGRAM)
     if path is None:
         raise NoText(f"{NAME}: there is no command {PROGRAM} on the path of {os.uname().nodename}\n")

@@ -1,5 +1,5 @@
 #!/usr/bin/env python3
-"""Turns a trace into one that tracebook takes whole, and tells on standard error what was changed.
+"""Turns a trace into one that tracebook takes whole, and says on standard error what was changed.
 
 usage: convert_trace.py [--unit s|ms|us|ns] [--whole] [--cut] < trace.json > converted.json
 
@@ -249,11 +249,11 @@ def main():
         out.flush()
     except (NoTrace, UnicodeError, OSError) as error:
         sys.exit(f"convert_trace: {error}")
-    for line in told(converter, cut):
+    for line in notes(converter, cut):
         print(f"convert_trace: {line}", file=sys.stderr)
 
 
-def told(converter, cut):
+def notes(converter, cut):
     """What was changed, line by line."""
     for change, count in sorted(converter.changes.items()):
         yield f"{count} {change}"

@@ -3,8 +3,8 @@
 
 usage: split_by_process.py [--bytes N] [--elements N] FILE FOLDER
 
-Writes FOLDER/part_01.json, part_02.json and on, each of at most so many bytes and elements (67,108,864 and 4,194,304 unless
-told otherwise, which is what tracebook reads of one file), and prints their names. Each part has whole processes, with their
+Writes FOLDER/part_01.json, part_02.json and on, each of at most so many bytes and elements (without these flags 67,108,864 and
+4,194,304, which is what tracebook reads of one file), and prints their names. Each part has whole processes, with their
 elements in their order and as they are written; processes that share the id of an async span or of a flow stay together. So
 tracebook's report of the parts is that of the whole.
 
@@ -137,7 +137,7 @@ def write_parts(path, folder, places):
 
 
 def named(members):
-    """The processes of a group, of which the first ten are told."""
+    """The processes of a group, of which the first ten are named."""
     first = ", ".join(str(process) for process in members[:10])
     others = f" and {len(members) - 10} more that share ids with them" if len(members) > 10 else ""
     return ("process " if len(members) == 1 else "processes ") + first + others

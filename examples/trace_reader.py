@@ -33,25 +33,25 @@ class Source:
 
     def __init__(self, file, put=lambda text: None, parse_float=None):
         self.file, self.put = file, put
-        self.text, self.at, self.told, self.ended = "", 0, 0, False
+        self.text, self.at, self.put_to, self.ended = "", 0, 0, False
         # What was passed since `hold`, until `release`, and how many bytes were read.
         self.held, self.read = None, 0
         # What closes the text where it stands, once its elements have begun.
         self.closers = None
         self.decode = json.JSONDecoder(parse_constant=refuse_constant, parse_float=parse_float).raw_decode
 
-    def tell(self):
+    def put_passed(self):
         """Puts what was passed since the last time, or holds it."""
-        passed = self.text[self.told : self.at]
+        passed = self.text[self.put_to : self.at]
         if self.held is None:
             self.put(passed)
         else:
             self.held.append(passed)
-        self.told = self.at
+        self.put_to = self.at
 
     def hold(self):
         """From here on nothing is put, until it is known that more comes whole."""
-        self.tell()
+        self.put_passed()
         self.held = []
 
     def release(self):
@@ -62,18 +62,18 @@ class Source:
 
     def cut(self):
         """The text ends where more is meant."""
-        return Cut(self.read - size("".join(self.held or []) + self.text[self.told :]))
+        return Cut(self.read - size("".join(self.held or []) + self.text[self.put_to :]))
 
     def close(self):
         """Closes the text behind what was put."""
-        self.held, self.told = None, self.at
+        self.held, self.put_to = None, self.at
         self.put(self.closers)
 
     def fill(self):
         """Reads on, as much as is still in hand, or a block; false at the end."""
-        self.tell()
+        self.put_passed()
         self.text = self.text[self.at :]
-        self.at = self.told = 0
+        self.at = self.put_to = 0
         more = self.file.read(max(BLOCK, len(self.text)))
         self.read += size(more)
         self.text += more
@@ -103,7 +103,7 @@ class Source:
 
     def value(self):
         """The value that begins at the character last peeked at, and its text."""
-        self.tell()
+        self.put_passed()
         while True:
             try:
                 value, end = self.decode(self.text, self.at)
@@ -120,7 +120,7 @@ class Source:
     def replace(self, text):
         """Puts this in the place of the value that was passed last."""
         self.put(text)
-        self.told = self.at
+        self.put_to = self.at
 
     def skip(self):
         """Passes over the next value, however long."""
@@ -186,7 +186,7 @@ def is_open(text, at):
 def elements_of_array(source, closers):
     """The elements of an array whose bracket was passed, each with its text. One that stands alone need not be closed."""
     source.closers = closers
-    source.tell()
+    source.put_passed()
     if source.take("]"):
         return
     separator = ","
@@ -239,7 +239,7 @@ def elements_of(source):
         raise NoTrace("neither an array nor an object")
     if source.peek():
         raise NoTrace("not JSON: more stands behind its end")
-    source.tell()
+    source.put_passed()
 
 
 def is_whole(value):

@@ -127,7 +127,7 @@ def check_all_files(page):
     expect("threads to choose", options(page, "thread"), ["all threads", "worker (3) in two.json", "main (1) in one.json", "2 in one.json",
            "1 in two.json", "1 in two.json"])
     expect("lines of graphs", lines_of_graphs(page), LINES)
-    expect("threads that are told", page.text("#graphs-shown"), "4 of 4 threads shown; in 1 more no span covers a microsecond")
+    expect("threads that are counted", page.text("#graphs-shown"), "4 of 4 threads shown; in 1 more no span covers a microsecond")
     both = {title: [*FIRST_OTHERS[title], *SECOND_OTHERS[title]] for title in FIRST_OTHERS}
     by_first_number = {title: sorted(rows, key=lambda row: -int(row[1]) if row[1].isdigit() else 0) for title, rows in both.items()}
     expect("the other tables", others(page), by_first_number)
@@ -256,7 +256,7 @@ def try_one_apart(driver, program, folder):
 
 
 def try_together(driver, program, folder):
-    """Files of one run stand in the head, and nothing else tells them apart."""
+    """Files of one run stand in the head, and nothing else distinguishes them."""
     put_traces(folder, THREADS)
     page = Page(driver, program, list(THREADS), status=1, folder=folder)
     expect("counts of files together", page.text("#counts").split()[:2], ["3", "files"])
@@ -330,8 +330,8 @@ def check_marks_of_files(page):
     for row, place, marked in [(2, 0, "100 \u00b5s, 100.0 %"), (1, 1, "300 \u00b5s, 100.0 %"), (4, 0, "10 \u00b5s, 10.0 %")]:
         page.run("scrollTo(0, 0)")
         page.click(f"#names tbody tr:nth-child({row}) button")
-        told = Graph(page, place).text(".graph > .status")
-        expect(f"what row {row} marks", told, f"1 frame marked, {marked} of the thread's busy time")
+        said = Graph(page, place).text(".graph > .status")
+        expect(f"what row {row} marks", said, f"1 frame marked, {marked} of the thread's busy time")
         expect(f"the focus after row {row}", page.run("return document.activeElement.closest('details').id"), f"thread-{place}")
 
 
@@ -423,8 +423,8 @@ def try_many(driver, program, folder):
     put_traces(folder, many)
     page = Page(driver, program, ["--apart", "--group-by", "file,pid,tid,name", *many], folder=folder)
     ready = ready_of(page, "the page of 64 files")
-    told = page.text("#names .status")
-    expect("rows of 64 files", told.split(";")[0], f"20 of {64 * names:,} rows shown")
+    said = page.text("#names .status")
+    expect("rows of 64 files", said.split(";")[0], f"20 of {64 * names:,} rows shown")
     expect("files to choose", options(page, "file"), ["all files", *many])
     page.click("#files summary")
     expect("names of 64 files", names_of_files(page), list(many))
@@ -465,7 +465,7 @@ def check_without_runs(page, spans):
     offers = "#file, #process, #thread, #order, #files, #more-graphs, #left-out, #over-files"
     shown = "return [...document.querySelectorAll(arguments[0])].filter(one => one.checkVisibility()).map(one => one.id)"
     expect("what is offered without runs", page.run(shown, offers), [])
-    expect("what else is told", (page.run("return others.children.length"), page.text("#names-title + .hint")),
+    expect("what else is said", (page.run("return others.children.length"), page.text("#names-title + .hint")),
            (0, "Times are whole microseconds. A click on a column sorts. The address shows the view again."))
     page.write("last")
     expect("rows without runs", page.rows("#names"), [["last", "5", "5", "1", "7", "1"]])

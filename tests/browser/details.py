@@ -53,11 +53,11 @@ def check_details_table(page):
 
 
 def check_details_graph(page):
-    """Frames have labels, which a row marks wherever it is clicked, and their lines tell name and detail apart."""
+    """Frames have labels, which a row marks wherever it is clicked, and their lines keep name and detail apart."""
     graph = Graph(page, 0)
     labels = [[(name, int(total)) for name, _, _, total in level] for level in graph.boxes()]
     expect("labels", labels, [[("thread 1", 94)], LABELS, [("Source b.h", 10)]])
-    for x, level, told in [
+    for x, level, said in [
         (0.05, 2, "Source\nargs.detail b.h\nself 10 \u00b5s, total 10 \u00b5s, 10.6 %"),
         (0.05, 1, "Source a.h\nself 40 \u00b5s, total 50 \u00b5s, 53.2 %"),  # A name, or a name and a detail: both have this label.
         (0.7, 1, "Odd\nargs.detail false\nself 8 \u00b5s, total 8 \u00b5s, 8.5 %"),
@@ -65,7 +65,7 @@ def check_details_graph(page):
     ]:
         graph.pointer(x, level).perform()
         for place in [".told", ".tip"]:
-            expect(f"what {place} says of a label", graph.text(place), f"{told} of the thread's busy time")
+            expect(f"what {place} says of a label", graph.text(place), f"{said} of the thread's busy time")
     other = Graph(page, 1)
     other.pointer(0.5, 1).perform()
     expect("the whole of a long detail", other.text(".told").split("\n")[:2], ["Read", f"args.detail {LONG}"])

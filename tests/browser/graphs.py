@@ -1,10 +1,10 @@
-"""Flame graphs: widths and order of frames, what the pointer is told, zooming by clicks, and marks."""
+"""Flame graphs: widths and order of frames, what is said at the pointer, zooming by clicks, and marks."""
 from pages import Graph, expect
 from typed import IN_BETA, IN_GAMMA, WHOLE, typed_page
 
 
 def check_graph(page):
-    """Widths, order, what the pointer is told, and zooming by clicks."""
+    """Widths, order, what is said at the pointer, and zooming by clicks."""
     expect("the graph that is open at first", page.run("return [...document.querySelectorAll('#graphs > details')].map(d => d.open)"),
            [True, False, False])
     graph = Graph(page, 0)
@@ -12,13 +12,13 @@ def check_graph(page):
     page.choose("order", "by name")
     graph.expect("the graph by name", 120, [*WHOLE[:2], [("aside", 0, 5), ("beta", 5, 50)], [("gamma", 5, 10)]])
     page.choose("order", "widest first")
-    for x, level, told in [
+    for x, level, said in [
         (0.2, 2, "beta\nself 40 \u00b5s, total 50 \u00b5s, 41.7 % of the thread's busy time"),
         (0.9, 1, "gamma\nself 20 \u00b5s, total 20 \u00b5s, 16.7 % of the thread's busy time"),
         (0.7, 3, "thread main (1)\nself 0 \u00b5s, total 120 \u00b5s, 100.0 % of the thread's busy time"),
     ]:
         graph.pointer(x, level).perform()
-        expect("what the pointer is told", graph.text(".told"), told)
+        expect("what is said at the pointer", graph.text(".told"), said)
     graph.pointer(0.2, 2).click().perform()
     graph.expect("the graph of beta", 120, IN_BETA)
     graph.click(".under > summary")
@@ -41,16 +41,16 @@ def check_marks(page):
         ("", "", "3 of 3 threads shown"),
     ]:
         page.write(words)
-        expect(f"what is told of marks of {words!r}", graph.text(".graph > .status"), marked)
+        expect(f"what is said of marks of {words!r}", graph.text(".graph > .status"), marked)
         expect(f"threads with {words!r}", page.text("#graphs-shown"), f"{threads}; in 1 more no span covers a microsecond")
     page.click("#names tbody tr:nth-child(3) button")
-    told = "1 frame marked, 50 \u00b5s, 41.7 % of the thread's busy time"
-    expect("what is told of a name", graph.text(".graph > .status"), told)
+    said = "1 frame marked, 50 \u00b5s, 41.7 % of the thread's busy time"
+    expect("what is said of a name", graph.text(".graph > .status"), said)
     expect("the focus after a name", page.run("return document.activeElement.role"), "tree")
 
 
 def check_marks_in_zoom(page):
-    """What is marked outside of a zoom is told, and a click on a name shows its frames whatever is zoomed into."""
+    """What is marked outside of a zoom is said, and a click on a name shows its frames whatever is zoomed into."""
     graph = Graph(page, 0)
     graph.pointer(0.2, 2).click().perform()
     page.write("aside")
@@ -65,8 +65,8 @@ def check_marks_in_zoom(page):
         page.run("scrollTo(0, 0)")
         page.click(f"#names tbody tr:nth-child({row}) button")
         graph.expect(f"the graph after a click on {name}", 120, levels)
-        told = f"{marked} of the thread's busy time{outside if name == 'gamma' else ''}"
-        expect(f"what is told of {name}", graph.text(".graph > .status"), told)
+        said = f"{marked} of the thread's busy time{outside if name == 'gamma' else ''}"
+        expect(f"what is said of {name}", graph.text(".graph > .status"), said)
         expect(f"the frame that is shown of {name}", graph.text("[role=treeitem]").split(":")[0], name)
     graph.click(".steps button:nth-child(1)")
     graph.expect("the graph before it was left", 120, IN_BETA)

@@ -59,10 +59,10 @@ def try_largest(driver, program, folder):
         fail(f"a trace of {trace.size} bytes and {trace.stacks} stacks is not as large as it is meant to be")
     page = Page(driver, program, [path])
     ready = ready_of(page, "the page of the largest trace")
-    told = page.text("#names .status")
+    said = page.text("#names .status")
     wanted = f"20 of {trace.names:,} rows shown; sum of self {trace.self_time:,} \u00b5s"
-    if not told.startswith(wanted) or not told.endswith(f"; sum of count {trace.spans:,}"):
-        fail(f"{told!r} of the largest trace, and not {wanted!r} and {trace.spans:,}")
+    if not said.startswith(wanted) or not said.endswith(f"; sum of count {trace.spans:,}"):
+        fail(f"{said!r} of the largest trace, and not {wanted!r} and {trace.spans:,}")
     page.click("#names .table > button")
     expect("rows after more are asked for", len(page.rows("#names")), 220)
     slowest = max([

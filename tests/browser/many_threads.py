@@ -12,8 +12,8 @@ def try_listed(driver, program, folder):
     put_traces(folder, {"threads.json": [span(1, thread, f"name {thread}", 0, length) for thread, length in busy.items()]})
     page = Page(driver, program, ["threads.json"], folder=folder)
     lines = "return [...document.querySelectorAll('#graphs summary')].map(e => e.innerText.trim()).filter(line => line.startsWith('busy'))"
-    told = [re.match(r"busy ([\d,]+) .*thread (\d+) of process 1$", line.replace("\n", " ")) for line in page.run(lines)]
-    expect("the threads that are listed", [(line[2], line[1]) for line in told], [(str(at), f"{busy[at]:,}") for at in ranked[:50]])
+    said = [re.match(r"busy ([\d,]+) .*thread (\d+) of process 1$", line.replace("\n", " ")) for line in page.run(lines)]
+    expect("the threads that are listed", [(line[2], line[1]) for line in said], [(str(at), f"{busy[at]:,}") for at in ranked[:50]])
     expect("the threads to choose", page.run("return [...thread.options].map(option => option.innerText)"), ["all threads", *map(str, ranked)])
     page.click("#more-graphs")
     expect("threads after more are asked for", len(page.run(lines)), 250)

@@ -13,7 +13,7 @@ def check_odd_names(page):
     for x, level, name in [(0.5, 1, MARKUP), (0.1, 2, LONG), (0.4, 2, TURNED_SHOWN), (0.97, 1, RIGHT)]:
         graph.pointer(x, level).perform()
         line = graph.text(".told").split("\n")[0]
-        expect(f"what is told of {name[:20]}", (line, page.run("return arguments[0].title", page.element(f"{graph.section} .told bdi"))), (name, name))
+        expect(f"what is said of {name[:20]}", (line, page.run("return arguments[0].title", page.element(f"{graph.section} .told bdi"))), (name, name))
     direction = "const style = getComputedStyle(arguments[0]); return [style.unicodeBidi, arguments[0].matches(':dir(rtl)')]"
     expect("the direction of a name from right to left", page.run(direction, page.element(f"{graph.section} .told bdi")), ["isolate", True])
     titles = "return [...document.querySelectorAll('#names td.name bdi')].map(name => name.title)"

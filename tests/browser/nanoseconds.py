@@ -1,4 +1,4 @@
-"""Views of pages whose times are nanoseconds, and of times beside which a longer unit is told."""
+"""Views of pages whose times are nanoseconds, and of times beside which a longer unit is said."""
 from apart import choose, lines_of_graphs
 from pages import Graph, Keys, Page, expect
 from views import check_narrow, check_odd_elements, named, order_of, others, put_traces, refusals, span
@@ -56,22 +56,22 @@ def check_texts(page):
     expect("counts", page.text("#counts").split()[2:], "17 events 2 refused 0 skipped 0 queries 2 processes 4 threads".split())
     expect("why events were refused", reasons(page),
            ["2 \u00d7 14 NotWhole: its time or length isn't a number, or is out of range; first at element 17"])
-    expect("threads that are told", page.text("#graphs-shown"), "3 of 3 threads shown; in 1 more no span covers a nanosecond")
+    expect("threads that are counted", page.text("#graphs-shown"), "3 of 3 threads shown; in 1 more no span covers a nanosecond")
     expect("busy times", busy_times(page), ["busy 18,014,398,509,482,000 ns (208 d)", f"busy 105,500 ns (106 {US})", "busy 1 ns"])
     whole = page.run("return document.body.innerText")
-    expect("whether microseconds are told", "microsecond" in whole, False)
+    expect("whether microseconds are said", "microsecond" in whole, False)
 
 
 def check_rows(page):
     """Rows, their sums, and their order, which the address has without a unit."""
     expect("titles", page.titles("#names"), ["name", "self, ns", "of busy", "total, ns", "count", "process", "thread"])
     expect("rows", page.rows("#names"), BY_SELF)
-    for words, rows, told in [("", BY_SELF, "7 of 7 rows shown; sum of self 18,014,398,509,587,501 ns (208 d); sum of count 8"),
+    for words, rows, said in [("", BY_SELF, "7 of 7 rows shown; sum of self 18,014,398,509,587,501 ns (208 d); sum of count 8"),
                               ("alp", [ALPHA], f"1 of 1 rows shown, narrowed from 7; sum of self 70,370 ns (70.4 {US}); sum of count 1"),
                               ("tick", [TICK], "1 of 1 rows shown, narrowed from 7; sum of self 5 ns; sum of count 1")]:
         page.write(words)
         expect(f"rows with {words!r}", page.rows("#names"), rows)
-        expect(f"what is told with {words!r}", page.text("#names .status"), told)
+        expect(f"what is said with {words!r}", page.text("#names .status"), said)
     page.write("")
     page.click("#names th:nth-child(4) button")
     expect("the address by total", page.fragment(), "#sort=-total")
@@ -94,12 +94,12 @@ def check_other_tables(page):
 
 
 def check_graph(page):
-    """Widths, what is told of frames, marks, zooming, and the address of a zoom."""
+    """Widths, what is said of frames, marks, zooming, and the address of a zoom."""
     graph = Graph(page, 0)
     top = ("thread main (1)", 0, 105_500)
     graph.expect("the graph", 105_500, [[top], [("alpha", 0, 100_500), ("gamma", 100_500, 5_000)], [("beta", 0, 30_125)]])
     alpha = f"self 70,370 ns (70.4 {US}), total 100,500 ns (101 {US}), 95.3 %"
-    for x, level, told in [
+    for x, level, said in [
         (0.1, 2, f"beta\nself 30,125 ns (30.1 {US}), total 30,125 ns (30.1 {US}), 28.6 %"),
         (0.5, 1, f"alpha\n{alpha}"),
         (0.98, 1, f"gamma\nself 5,000 ns (5.00 {US}), total 5,000 ns (5.00 {US}), 4.7 %"),
@@ -107,11 +107,11 @@ def check_graph(page):
     ]:
         graph.pointer(x, level).perform()
         for place in [".told", ".tip"]:
-            expect(f"what {place} says", graph.text(place), f"{told} of the thread's busy time")
+            expect(f"what {place} says", graph.text(place), f"{said} of the thread's busy time")
     for words, marked in [("beta", f"1 frame marked, 30,125 ns (30.1 {US}), 28.6 %"), ("tick", "1 frame marked, 5 ns, < 0.1 %"),
                           ("t -gamma", f"2 frames marked, together 30,130 ns (30.1 {US}), 28.6 %")]:
         page.write(words)
-        expect(f"what is told of marks of {words!r}", graph.text(".graph > .status"), f"{marked} of the thread's busy time")
+        expect(f"what is said of marks of {words!r}", graph.text(".graph > .status"), f"{marked} of the thread's busy time")
     page.write("")
     graph.pointer(0.5, 1).click().perform()
     expect("the address of a zoom", page.fragment(), "#zoom=7.1.1")
@@ -132,7 +132,7 @@ def try_fractions(driver, program, folder):
     page.expect_silence()
 
 
-# What is told of times, the longest first, by lengths in microseconds
+# What is said of times, the longest first, by lengths in microseconds
 
 LADDERS = {
     ("--nanoseconds",): {
@@ -182,7 +182,7 @@ def try_files(driver, program, folder):
     expect("the graph of a file", (lines_of_graphs(page), busy_times(page)), (["1 of process 7 in two.json"], ["busy 750 ns"]))
     graph = Graph(page, 1)
     graph.pointer(0.5, 1).perform()
-    expect("what is told of a frame of a file", graph.text(".told"), "alpha\nself 750 ns, total 750 ns, 100.0 % of the thread's busy time")
+    expect("what is said of a frame of a file", graph.text(".told"), "alpha\nself 750 ns, total 750 ns, 100.0 % of the thread's busy time")
     page.expect_silence()
 
     many = {f"{at:02}.json": [span(7, 1, "alpha", 0, 0.5)] for at in range(65)}

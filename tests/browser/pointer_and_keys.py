@@ -1,4 +1,4 @@
-"""The frame that keys or the pointer lead to: which it is, and where what is told of it stands."""
+"""The frame that keys or the pointer lead to: which it is, and where what is said of it stands."""
 from pages import LEVEL, Graph, Keys, expect, fail
 from typed import IN_BETA, IN_GAMMA, WHOLE, typed_page
 
@@ -23,7 +23,7 @@ def check_keys(page):
     """Through the frames of the graph that has the focus, in and out."""
     graph = Graph(page, 0)
     item = page.element(f"{graph.section} [role=treeitem]")
-    for keys, told, level in [
+    for keys, said, level in [
         ([], "thread main (1): self 0 \u00b5s, total 120 \u00b5s, 100.0 %, 2 under it", "1"),
         ([Keys.DOWN, Keys.DOWN], "beta: self 40 \u00b5s, total 50 \u00b5s, 41.7 %, 1 under it", "3"),
         ([Keys.RIGHT], "aside: self 5 \u00b5s, total 5 \u00b5s, 4.2 %, 0 under it", "3"),
@@ -34,7 +34,7 @@ def check_keys(page):
     ]:
         page.press(*keys)
         seen = page.run("return [arguments[0].textContent, arguments[0].ariaLevel]", item)
-        expect(f"the focused frame after {len(keys)} keys", seen, [told, level])
+        expect(f"the focused frame after {len(keys)} keys", seen, [said, level])
     graph.expect("the graph of beta by keys", 120, IN_BETA)
     page.press(Keys.DOWN, Keys.ENTER)
     graph.expect("the graph of gamma by keys", 120, IN_GAMMA)
@@ -50,11 +50,11 @@ BETA = "beta\nself 40 \u00b5s, total 50 \u00b5s, 41.7 % of the thread's busy tim
 GAMMA = "gamma\nself 20 \u00b5s, total 20 \u00b5s, 16.7 % of the thread's busy time"
 
 
-def expect_beside(graph, what, told, left, top, bottom):
+def expect_beside(graph, what, said, left, top, bottom):
     """It overlaps this place of the graph's width from left to right, and reaches up to or down from these of its height."""
     graph.page.wait()
     canvas, tip, _ = graph.page.run(PLACES, graph.section)
-    expect(what, graph.text(".tip"), told)
+    expect(what, graph.text(".tip"), said)
     x, above, below = canvas["x"] + left, canvas["y"] + top - tip["bottom"], tip["top"] - canvas["y"] - bottom
     if not (tip["left"] - 20 <= x <= tip["right"] + 20 and 0 <= (above if above > 0 else below) <= 20):
         fail(f"{what} stands at {tip}, and not beside {x} in {canvas}")
@@ -69,30 +69,30 @@ def is_line_covered(graph):
 
 
 def check_beside_pointer(graph, block, is_covered):
-    for x, level, told in [(0.2, 2, BETA), (0.95, 1, GAMMA)]:
+    for x, level, said in [(0.2, 2, BETA), (0.95, 1, GAMMA)]:
         graph.pointer(x, level).perform()
         middle = LEVEL * (level + 0.5)
-        expect_beside(graph, "what is told beside the pointer", told, x * graph.width(), middle, middle)
+        expect_beside(graph, "what is said beside the pointer", said, x * graph.width(), middle, middle)
         expect(f"whether the line is covered at the {block}", is_line_covered(graph), is_covered)
 
 
 def check_beside_focus(graph):
     page = graph.page
     page.run("arguments[0].focus({ preventScroll: true })", page.element(f"{graph.section} .view"))
-    for keys, told, left, level in [([Keys.DOWN, Keys.DOWN], BETA, 0, 2), ([Keys.UP, Keys.RIGHT], GAMMA, 100, 1)]:
+    for keys, said, left, level in [([Keys.DOWN, Keys.DOWN], BETA, 0, 2), ([Keys.UP, Keys.RIGHT], GAMMA, 100, 1)]:
         page.press(*keys)
-        expect_beside(graph, "what is told beside the focused frame", told, left * graph.width() / 120, LEVEL * level, LEVEL * (level + 1))
+        expect_beside(graph, "what is said beside the focused frame", said, left * graph.width() / 120, LEVEL * level, LEVEL * (level + 1))
     page.press(Keys.HOME)
     page.run("document.activeElement.blur()")
-    expect("what is told without a focus", page.run("return arguments[0].hidden", page.element(f"{graph.section} .tip")), True)
+    expect("what is said without a focus", page.run("return arguments[0].hidden", page.element(f"{graph.section} .tip")), True)
 
 
 def check_told(page):
-    """What is told of a frame stands beside the pointer and beside the frame that keys lead to, within the window, wherever the page is
+    """What is said of a frame stands beside the pointer and beside the frame that keys lead to, within the window, wherever the page is
     scrolled to and the line above the graph with it."""
     graph = Graph(page, 0)
     page.run("scrollTo(0, 0)")
-    page.click("#names tbody tr:nth-child(3) button")  # What is told of marks stands between the line and the graph.
+    page.click("#names tbody tr:nth-child(3) button")  # What is said of marks stands between the line and the graph.
     page.press(Keys.HOME)
     page.run("document.body.style.paddingBottom = '900px'")
     for block, is_covered in [("end", False), ("start", True)]:

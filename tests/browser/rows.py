@@ -24,14 +24,14 @@ def check_table(page):
     expect("sums", page.text("#names .status"), whole)
     page.click("#names th:nth-child(5) button")
     expect("the most frequent", {row[0] for row in page.rows("#names")[:3]}, {"beta", "gamma", "far"})
-    expect("order that is told", page.run("return document.querySelector('#names th:nth-child(5)').ariaSort"), "descending")
+    expect("order that is said", page.run("return document.querySelector('#names th:nth-child(5)').ariaSort"), "descending")
     page.click("#names th:nth-child(3) button")
     expect("rows by share", [row[2] for row in page.rows("#names")], [row[2] for row in BY_SHARE])
     page.click("#names th:nth-child(1) button")
     expect("rows by name", page.rows("#names"), BY_NAME)
     page.press(Keys.ENTER)
     expect("rows by name turned by a key", page.rows("#names"), BY_NAME[::-1])
-    expect("order that is told of names", page.run("return document.querySelector('#names th:nth-child(1)').ariaSort"), "descending")
+    expect("order that is said of names", page.run("return document.querySelector('#names th:nth-child(1)').ariaSort"), "descending")
     page.click("#names th:nth-child(2) button")
     expect("rows by self time again", page.rows("#names"), BY_SELF)
 
@@ -52,8 +52,8 @@ def check_narrowing(page):
         page.choose("thread", thread)
         page.write(words)
         expect(f"rows of {words!r}, {process} and {thread}", page.rows("#names"), rows)
-        told = f"{len(rows)} of {len(rows)} rows shown, narrowed from 11; sum of self {self_time}; sum of count {count}"
-        expect(f"what is told of {words!r}, {process} and {thread}", page.text("#names .status"), told)
+        said = f"{len(rows)} of {len(rows)} rows shown, narrowed from 11; sum of self {self_time}; sum of count {count}"
+        expect(f"what is said of {words!r}, {process} and {thread}", page.text("#names .status"), said)
     page.write("")
     page.choose("process", "all processes")
     expect("rows that are narrowed no more", page.rows("#names"), BY_SELF)

@@ -64,7 +64,7 @@ CELLS = """
 
 def check_narrow(page, count):
     """On a phone and in print each row stands within the width, with its name above or before all else, and nothing is cut off, even if
-    something was told at the right edge of a wide window."""
+    something was said at the right edge of a wide window."""
     page.run("arguments[0].focus()", page.element("#thread-0 .view"))
     page.press(Keys.DOWN, *[Keys.RIGHT] * 20)
     for what, width, media, is_above in [("a phone", 360, "screen", True), ("a tablet", 900, "screen", True), ("print", 718, "print", False)]:

@@ -23,7 +23,7 @@ tr '\\n' '\\0' < '{control}'/"$names" | '{program}' "$@"
 
 
 class Watched:
-    """The program in a folder of its own, with what it noted and is told beside it."""
+    """The program in a folder of its own, with what it noted and what it is given beside it."""
 
     def __init__(self, program, folder):
         self.folder = folder
