@@ -1,5 +1,5 @@
 -- What the program prints of files apart, and of tables that are added, is what is printed of trees of the files' runs.
-use Rattle.std.proofs.Common.{◌≡◌, true, List, [], ◌∷◌, map, refl, sym, ap, subst}
+use Rattle.std.proofs.Common.{true, List, [], ◌∷◌, map, refl, sym, ap, subst}
 use Rattle.span_event.specs.Text.{Bytes}
 use Rattle.span_collect.specs.declared.settings.Settings.{Settings}
 use Rattle.span_runs.specs.Apart.{run_alone}

@@ -1,5 +1,5 @@
 -- What comparing two runs leaves.
-use Rattle.std.proofs.Common.{◌≡◌, ℕ, ◌<◌, ◌≤◌, ◌⊎◌, List, [], Bool, true, false, cond, refl, sym, ap₂, ◌∙◌, inl, inr, arith}
+use Rattle.std.proofs.Common.{◌≡◌, ℕ, ◌<◌, ◌≤◌, ◌⊎◌, List, Bool, true, false, cond, refl, sym, ap₂, ◌∙◌, inl, inr, arith}
 use Rattle.std.specs.Prelude.{◌≢◌, nat_lt}
 use mathlib.Core.Logic.{dite}
 use native.Mathlib.Decide.{ℕ_discrete}
@@ -9,13 +9,9 @@ use Rattle.span_report.specs.Sink.{SinkState}
 use Rattle.span_collect.specs.declared.files.Input.{Input}
 use Rattle.span_collect.specs.declared.settings.Settings.{Settings}
 use Rattle.span_collect.specs.declared.runs.RunEnd.{RunEnd}
-use Rattle.span_collect.specs.declared.runs.RunError.{RunError}
-use Rattle.span_collect.specs.declared.runs.RunError.TheVariants.{FileCount, Memory, Unaccounted, Output}
-use Rattle.span_collect.specs.Run.{IsNotCollected}
 use Rattle.span_collect.proofs.Statuses.{status_of-lt}
-use Rattle.tracebook.specs.declared.comparison.ComparisonFault.TheVariants.{Run}
 use Rattle.span_request.specs.declared.views.ComparisonView.{ComparisonView}
-use Rattle.tracebook.specs.Comparison.{ComparisonLeaves, HasEnded, IsComparisonOf, greater}
+use Rattle.tracebook.specs.Comparison.{HasEnded, IsComparisonOf, greater}
 use Rattle.tracebook.specs.Request.{ComparisonPartly}
 
 -- the greater is one of the two, and neither is above it

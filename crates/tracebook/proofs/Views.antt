@@ -1,17 +1,7 @@
 -- What is left of a view that was not written whole.
 use Rattle.std.proofs.Common.{◌≡◌, ◌<◌, List, [], ◌∙◌}
-use Rattle.std.specs.Global.{Vec}
-use Rattle.span_event.specs.declared.unit.Unit.{Unit}
 use Rattle.span_journal.specs.declared.entry.Entry.{Entry}
-use Rattle.span_report.specs.declared.output.WriteFault.{WriteFault}
-use Rattle.span_report.specs.declared.output.WriteFault.TheVariants.{Memory, Output}
-use Rattle.span_report.specs.declared.stacks.label.SpanColumn.{SpanColumn}
-use Rattle.span_report.specs.declared.stacks.output.FoldedFault.{FoldedFault}
-use Rattle.span_report.specs.declared.stacks.output.FoldedFault.TheVariants.{Memory as Unfolded, TooLarge, Output as FoldedCut}
-use Rattle.span_report.specs.Output.{WriteLeaves}
 use Rattle.span_report.specs.Sink.{SinkState}
-use Rattle.span_report.specs.Stacks.Faults.{FoldedLeaves}
-use Rattle.span_collect.specs.declared.files.FileEnd.{FileEnd}
 use Rattle.span_collect.specs.declared.files.Input.{Input}
 use Rattle.span_collect.specs.declared.runs.RunEnd.{RunEnd}
 use Rattle.span_collect.specs.declared.runs.RunError.TheVariants.{FileCount, Memory as NoMemory, Unaccounted, Output as Failed}
@@ -23,10 +13,9 @@ use Rattle.span_collect.proofs.CutShort.{IsCutShort-failed}
 use Rattle.span_collect.proofs.InTurn.Texts.{FailsAsInTurn-same}
 use Rattle.span_collect.proofs.Statuses.{status_of-lt}
 use Rattle.span_request.specs.declared.views.View.{View}
-use Rattle.span_request.specs.declared.views.View.TheVariants.{Folded}
 use Rattle.tracebook.specs.declared.view.ViewFault.{ViewFault}
 use Rattle.tracebook.specs.declared.view.ViewFault.TheVariants.{Run, TooGreat, StacksTooLarge}
-use Rattle.tracebook.specs.View.{ExceedsBits, ExceedsNames, IsUnwritten, OfEnds, TextLeaves, ViewLeaves, of_folded, of_written, text_of}
+use Rattle.tracebook.specs.View.{ExceedsBits, ExceedsNames, IsUnwritten, OfEnds, TextLeaves, ViewLeaves, text_of}
 use Rattle.tracebook.proofs.InTurn.{ExceedsBits-in_turn, ExceedsNames-in_turn, text_of-in_turn}
 
 -- a run of these inputs ended, not with 2, and this is left of its view
