@@ -1,4 +1,4 @@
--- The orders of ids, threads and texts are total, and what they don't tell apart is the same.
+-- The orders of ids, threads and texts are total, and what they don't distinguish is the same.
 use Rattle.std.proofs.Common.{◌≡◌, Ordering, Less, Equal, Greater, Option, Some, None, ap, refl}
 use Rattle.std.specs.Option.{option_cmp}
 use Rattle.std.specs.Ordering.{int_cmp, ordering_then}

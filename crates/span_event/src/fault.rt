@@ -67,7 +67,7 @@ pub enum Fault {
     NotTable = 53,
     /// 54: a part to be added has other columns than the first one, or lacks one that is asked for.
     OtherColumns = 54,
-    /// 55: a sum of a table that is told to a machine has more than 64 bits.
+    /// 55: a sum of a table that is printed for a machine has more than 64 bits.
     TooGreat = 55,
     /// 56: the folded stacks have more names than they may.
     StacksTooLarge = 56,

@@ -73,7 +73,7 @@ impl Fields {
         self.args = None;
     }
 
-    // Inlined, it would have all the fields copied at each member. By its length a name is told from most others at once.
+    // Inlined, it would have all the fields copied at each member. By its length a name differs from most others at once.
     #[inline(never)]
     pub(crate) fn put(&mut self, name: &str, value: FieldValue)
         ensures { slots self.new
