@@ -32,8 +32,8 @@ pub struct Division {
     moves: u64,
 }
 
-// A single span takes no memory of its own. Of more, two stacks of segments are the quicker where each comes near the last one, and slow
-// down with the segments in between; a map, in which each span's place is searched for, doesn't.
+// A single span takes no memory of its own. Of more, two stacks of segments are the quicker where each comes near the last one, and
+// slow down with the segments in between; a map, in which each span's place is searched for, doesn't.
 #[derive(Drop)]
 pub(crate) enum Way {
     Lone(Option<OwnedSegment>),

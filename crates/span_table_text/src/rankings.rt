@@ -18,7 +18,8 @@ use span_table::{By, Column, EntryCounts, Of, Row, Sums, Table};
 use std::alloc::{AllocError, Global};
 use std::cmp::Ordering;
 
-/// The text of the ranking of a table in a unit, with at most so many of the rows that are shown. Its head says how many runs there are or doesn't.
+/// The text of the ranking of a table in a unit, with at most so many of the rows that are shown. Its head says how many runs there
+/// are or doesn't.
 pub fn ranking(
     alloc: Global,
     unit: Unit,

@@ -17,7 +17,8 @@ use std::alloc::{AllocError, Global};
 // Up to so many segments the cursor passes without being asked how many.
 const FEW: usize = 64;
 
-/// The segments of the time in order, with a cursor in between, so that a span that lies near the last one costs no more than what it covers.
+/// The segments of the time in order, with a cursor in between, so that a span that lies near the last one costs no more than what
+/// it covers.
 #[derive(Clone, Drop)]
 pub(crate) struct SegmentStacks {
     past: Vec<OwnedSegment>,
