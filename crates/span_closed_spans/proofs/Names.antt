@@ -1,10 +1,8 @@
 -- The names of spans: what they are once one more span is added, and how many they are at most.
-use Rattle.std.proofs.Common.{◌≡◌, ℕ, ◌+◌, ◌≤◌, Bool, true, false, cond, List, [], ◌∷◌, ◌++◌, length, nat_eq, arith}
 use Rattle.std.specs.List.{fold, list_any}
-use Rattle.std.proofs.lemmas.List.{length_push}
-use Rattle.std.proofs.lemmas.List.Sums.{fold_push}
+use Rattle.std.proofs.{Common.{◌≡◌, ℕ, ◌+◌, ◌≤◌, Bool, true, false, cond, List, [], ◌∷◌, ◌++◌, length, nat_eq, arith}, lemmas.List.{length_push, Sums.fold_push}}
 use Rattle.indexmap.specs.IndexSet.{insert_key}
-use Rattle.span_self_time.specs.Spans.{Span, names_of}
+use Rattle.span_closed_spans.specs.{Span, names_of}
 
 -- the names, once one more span comes after these
 abbrev with_span : List ℕ → Span ℕ → List ℕ

@@ -1,13 +1,8 @@
 -- The self times of one name, summed span by span.
-use Rattle.std.proofs.Common.{◌≡◌, ℕ, ◌+◌, ◌<◌, ◌^◌, cond, List, [], ◌∷◌, ◌++◌, length, take, map, get_or, nat_eq, sym, ap, ◌∙◌, arith}
 use Rattle.std.specs.List.{sum_by}
-use Rattle.std.proofs.lemmas.List.{take_more, take-map, map_push, get_or-map, length-map}
-use Rattle.std.proofs.lemmas.List.Sums.{sum_by_push, sum_by_more_le_part}
-use Rattle.span_self_time.specs.declared.span.ClosedSpan.{ClosedSpan}
-use Rattle.span_self_time.specs.Spans.{Span, self_time}
-use Rattle.span_self_time.specs.Closed.{span_of, AreClosed}
-use Rattle.span_self_time.proofs.SelfSums.{self_sum, cond-le}
-use Rattle.span_self_time.proofs.SelfTimes.{sum_by-self_time}
+use Rattle.std.proofs.{Common.{◌≡◌, ℕ, ◌+◌, ◌<◌, ◌^◌, cond, List, [], ◌∷◌, ◌++◌, length, take, map, get_or, nat_eq, sym, ap, ◌∙◌, arith}, lemmas.List.{take_more, take-map, map_push, get_or-map, length-map, Sums.{sum_by_push, sum_by_more_le_part}}}
+use Rattle.span_self_time.proofs.{SelfSums.{self_sum, cond-le}, SelfTimes.sum_by-self_time}
+use Rattle.span_closed_spans.specs.{ClosedSpan, Span, self_time, span_of, AreClosed}
 use Rattle.span_closed_spans.proofs.Unbroken.{busy_time-le}
 
 pub self_sum-more : (all : List (Span ℕ)) (name : ℕ) (spans : List ClosedSpan) (i : ℕ) (s : ClosedSpan) → i < length spans → s ≡ get_or spans i s → self_sum all name (map span_of (take (i + 1) spans)) ≡ self_sum all name (map span_of (take i spans)) + cond (nat_eq s.name name) (self_time all (span_of s)) 0

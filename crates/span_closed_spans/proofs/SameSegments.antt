@@ -1,13 +1,8 @@
 -- That spans make no other segments than these.
-use Rattle.std.proofs.Common.{◌≡◌, ℕ, nat_eq, Bool, true, ◌&&◌, ℤ, ◌≤ℤ◌, List, [], ◌∷◌, refl, sym, ap₂, ◌∙◌, subst, not, true≢false, arith, All, inl, inr}
 use Rattle.std.specs.List.{list_any}
-use Rattle.std.proofs.lemmas.Int.{ints, by_lt_z}
-use Rattle.std.proofs.lemmas.Bool.{eq-eqb, eqb-true, or_cases, or_right, and_parts}
-use Rattle.std.proofs.lemmas.List.Elements.{All-head, All-tail}
-use Rattle.span_self_time.specs.declared.segment.Segment.{Segment}
-use Rattle.span_self_time.specs.Spans.{Span, covers, is_outranked}
-use Rattle.span_self_time.specs.Segments.{lies_in, is_in_segment, is_on_top, AreInOrder, AreSegments}
+use Rattle.std.proofs.{Common.{◌≡◌, ℕ, nat_eq, Bool, true, ◌&&◌, ℤ, ◌≤ℤ◌, List, [], ◌∷◌, refl, sym, ap₂, ◌∙◌, subst, not, true≢false, arith, All, inl, inr}, lemmas.{Bool.{eq-eqb, eqb-true, or_cases, or_right, and_parts}, Int.{ints, by_lt_z}, List.Elements.{All-head, All-tail}}}
 use Rattle.span_self_time.proofs.Segments.{IsNamed, AreFrom-until, is_in_segment-before, is_in_segment-head, is_in_segment-tail, is_in_segment-until}
+use Rattle.span_closed_spans.specs.{Segment, Span, covers, is_outranked, lies_in, is_in_segment, is_on_top, AreInOrder, AreSegments}
 
 is_in_segment-start : (x : Segment) (xs : List Segment) → AreInOrder (x ∷ xs) → is_in_segment (x ∷ xs) x.at x.start ≡ true
 is_in_segment-start x xs order =

@@ -1,21 +1,8 @@
 -- That a segment starts and ends where spans do, and how many segments there can be.
-use Rattle.std.proofs.Common.{◌≡◌, ◌≢◌, ◌≤◌, ℕ, ◌*◌, nat_eq, Bool, true, false, ◌&&◌, ◌||◌, not, cond, ℤ, pos, ◌-ℤ◌, ◌-◌, ◌≤ℤ◌, ◌<ℤ◌, List, [], ◌∷◌, ◌++◌, map, length, slice_get, IfSome, refl, sym, ap, ap₂, subst, ◌∙◌, arith, length-append, All, true≢false, inl, inr}
-use Rattle.std.specs.List.{list_any, count_by, AllByRecursion, IsDistinct}
-use Rattle.std.specs.Ordering.{int_eq}
-use Rattle.std.proofs.lemmas.Int.{ints, by_lt_z}
-use Rattle.std.proofs.lemmas.Bool.{eq-eqb, ne_eqb, or_cases, or_parts}
-use Rattle.std.proofs.lemmas.Cmp.{int_eq_equiv}
-use Rattle.std.proofs.lemmas.List.{length-map}
-use Rattle.std.proofs.lemmas.List.Folds.{list_any-append}
-use Rattle.std.proofs.lemmas.List.Sums.{sum_by-cons}
-use Rattle.std.proofs.lemmas.Option.{slice_get_cases}
-use Rattle.std.proofs.lemmas.Map.Keys.{IsDistinct-cons}
-use Rattle.std.proofs.lemmas.Map.Made.{length-le_from_is_member}
-use Rattle.std.proofs.lemmas.List.Elements.{All-nil, All-cons, All-head, All-tail}
-use Rattle.span_self_time.specs.declared.segment.Segment.{Segment}
-use Rattle.span_self_time.specs.Spans.{Span, covers, outranks, is_outranked}
-use Rattle.span_self_time.specs.Segments.{is_in_segment, is_on_top, lasts, has_end, is_end, HasEnds, IsRightBefore, AreInOrder, AreSegments}
+use Rattle.std.specs.{List.{list_any, count_by, AllByRecursion, IsDistinct}, Ordering.int_eq}
+use Rattle.std.proofs.{Common.{◌≡◌, ◌≢◌, ◌≤◌, ℕ, ◌*◌, nat_eq, Bool, true, false, ◌&&◌, ◌||◌, not, cond, ℤ, pos, ◌-ℤ◌, ◌-◌, ◌≤ℤ◌, ◌<ℤ◌, List, [], ◌∷◌, ◌++◌, map, length, slice_get, IfSome, refl, sym, ap, ap₂, subst, ◌∙◌, arith, length-append, All, true≢false, inl, inr}, lemmas.{Bool.{eq-eqb, ne_eqb, or_cases, or_parts}, Cmp.int_eq_equiv, Int.{ints, by_lt_z}, List.{length-map, Elements.{All-nil, All-cons, All-head, All-tail}, Folds.list_any-append, Sums.sum_by-cons}, Map.{Keys.IsDistinct-cons, Made.length-le_from_is_member}, Option.slice_get_cases}}
 use Rattle.span_self_time.proofs.Segments.{AreFrom, AreFrom-until, is_in_segment-before, is_in_segment-head, is_in_segment-tail, is_in_segment-until}
+use Rattle.span_closed_spans.specs.{Segment, Span, covers, outranks, is_outranked, is_in_segment, is_on_top, lasts, has_end, is_end, HasEnds, IsRightBefore, AreInOrder, AreSegments}
 
 abbrev HasNoEnd : ℤ → Span ℕ → Type 0
 HasNoEnd u s = has_end u s ≡ false

@@ -1,19 +1,10 @@
 -- The totals of the names of closed spans.
-use Rattle.std.proofs.Common.{◌<◌, ◌≡◌, ℕ, ◌+◌, ◌*◌, ◌≤◌, ◌^◌, ◌==◌, Bool, true, false, cond, ◌≤ℤ◌, List, [], ◌∷◌, ◌++◌, length, nat_eq, refl, sym, ap, ◌∙◌, eqb-true, arith, All, append-nil}
-use Rattle.std.specs.List.{sum_by}
-use Rattle.std.proofs.lemmas.Int.{ints}
-use Rattle.std.proofs.lemmas.List.Sums.{sum_by_push, sum_by-cons, length-filter, count_by-le-length}
-use Rattle.std.proofs.lemmas.List.{length_push}
-use Rattle.std.proofs.lemmas.List.Elements.{All-head, All-tail, filter-append}
-use Rattle.span_closed_spans.specs.declared.name_totals.NameTotal.{NameTotal}
-use Rattle.span_self_time.specs.Spans.{Span, length_of, named}
-use Rattle.span_self_time.specs.Laws.{AreSpans}
-use Rattle.span_self_time.specs.Closed.{IsInTime}
-use Rattle.span_closed_spans.specs.Totals.{Totals, AreTotals, total_in, total_for}
-use Rattle.std.specs.Map.{keys_of}
+use Rattle.std.specs.{List.sum_by, Map.keys_of}
+use Rattle.std.proofs.{Common.{◌<◌, ◌≡◌, ℕ, ◌+◌, ◌*◌, ◌≤◌, ◌^◌, ◌==◌, Bool, true, false, cond, ◌≤ℤ◌, List, [], ◌∷◌, ◌++◌, length, nat_eq, refl, sym, ap, ◌∙◌, eqb-true, arith, All, append-nil}, lemmas.{Int.ints, List.{length_push, Elements.{All-head, All-tail, filter-append}, Sums.{sum_by_push, sum_by-cons, length-filter, count_by-le-length}}}}
 use Rattle.indexmap.specs.IndexSet.{insert_key}
-use Rattle.span_closed_spans.proofs.Names.{names_of-append}
 use Rattle.span_self_time.proofs.Counts.{add-distance}
+use Rattle.span_closed_spans.specs.{Span, length_of, named, AreSpans, IsInTime, Totals.{Totals, AreTotals, total_in, total_for}, declared.name_totals.NameTotal.NameTotal}
+use Rattle.span_closed_spans.proofs.Names.{names_of-append}
 
 abbrev sums_of : List (Span ℕ) → NameTotal
 sums_of spans = record { count = length spans; total = sum_by (λ s. length_of s) spans }

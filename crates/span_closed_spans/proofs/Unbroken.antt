@@ -1,16 +1,7 @@
 -- In a stretch of time in which no span starts or ends, what the spans cover stays.
-use Rattle.std.proofs.Common.{◌<◌, ◌≡◌, ℕ, ◌+◌, ℤ, pos, ◌≤ℤ◌, ◌<ℤ◌, Bool, not, cond, ◌&&◌, ◌||◌, ◌∙◌, sym, ◌^◌, arith, List, [], ◌∷◌, map, refl, ap, ap₂, All}
-use Rattle.std.proofs.lemmas.Int.{ints, clamps}
-use Rattle.std.proofs.lemmas.List.Elements.{All-head, All-tail}
-use Rattle.span_self_time.specs.declared.span.ClosedSpan.{ClosedSpan}
-use Rattle.span_event.specs.Event.{least_time}
-use Rattle.span_event.specs.Time.{distance}
-use Rattle.span_self_time.specs.Spans.{Span, count_from, outranks, is_outranked, is_covered, busy_time, earliest, latest}
-use Rattle.span_self_time.specs.Closed.{span_of, greatest_until, IsInTime}
-use Rattle.span_closed_spans.specs.declared.walk.Counted.{Counted}
-use Rattle.span_closed_spans.specs.declared.walk.Counted.TheVariants.{OwnOf, Covered}
-use Rattle.span_closed_spans.specs.Walk.{IsUnbroken, counts}
+use Rattle.std.proofs.{Common.{◌<◌, ◌≡◌, ℕ, ◌+◌, ℤ, pos, ◌≤ℤ◌, ◌<ℤ◌, Bool, not, cond, ◌&&◌, ◌||◌, ◌∙◌, sym, ◌^◌, arith, List, [], ◌∷◌, map, refl, ap, ap₂, All}, lemmas.{Int.{ints, clamps}, List.Elements.{All-head, All-tail}}}
 use Rattle.span_self_time.proofs.Counts.{count_from-unbroken, count_from-le, add-distance}
+use Rattle.span_closed_spans.specs.{ClosedSpan, least_time, distance, Span, count_from, outranks, is_outranked, is_covered, busy_time, earliest, latest, span_of, greatest_until, IsInTime, Walk.{IsUnbroken, counts}, declared.walk.Counted.{Counted, TheVariants.{OwnOf, Covered}}}
 
 pub is_covered-unbroken : (spans : List ClosedSpan) (u v : ℤ) → All (λ span. IsUnbroken (span_of span) u v) spans → (w : ℤ) → u ≤ℤ w → w <ℤ v → is_covered (map span_of spans) w ≡ is_covered (map span_of spans) u
 is_covered-unbroken [] u v unbroken w from before = refl

@@ -1,8 +1,6 @@
 -- The totals of the names of closed spans.
-use Rattle.std.specs.Prelude.{◌≡◌, ℕ, List, length, nat_eq, unwrap_or}
-use Rattle.std.specs.Map.{keys_of, lookup}
-use Rattle.span_self_time.specs.Spans.{Span, named, names_of, total_of}
-use Rattle.span_closed_spans.specs.declared.name_totals.NameTotal.{NameTotal}
+use Rattle.std.specs.{Map.{keys_of, lookup}, Prelude.{◌≡◌, ℕ, List, length, nat_eq, unwrap_or}}
+use Rattle.span_closed_spans.specs.{Span, named, names_of, total_of, declared.name_totals.NameTotal.NameTotal}
 
 -- names with their totals
 abbrev pub Totals : Type 0

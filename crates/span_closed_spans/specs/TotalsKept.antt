@@ -1,9 +1,7 @@
 -- How the totals of names are kept.
 use Rattle.std.specs.Prelude.{ℕ, ◌<◌, List, [], ◌∷◌}
 use Rattle.indexmap.specs.IndexMap.{spare}
-use Rattle.span_closed_spans.specs.declared.name_totals.NameTotal.{NameTotal}
-use Rattle.span_closed_spans.specs.declared.name_totals.NameTotals.{NameTotals}
-use Rattle.span_closed_spans.specs.declared.name_totals.NameTotals.TheVariants.{Empty, Single, Many}
+use Rattle.span_closed_spans.specs.declared.name_totals.{NameTotal.NameTotal, NameTotals.{NameTotals, TheVariants.{Empty, Single, Many}}}
 
 -- the names with their totals, in the order in which the names came
 abbrev pub entries_of : NameTotals → List (ℕ × NameTotal)

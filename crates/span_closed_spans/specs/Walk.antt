@@ -1,9 +1,6 @@
 -- What a walk counts, and stretches of time in which nothing changes.
 use Rattle.std.specs.Prelude.{◌≡◌, ℕ, ℤ, ◌≤ℤ◌, ◌<ℤ◌, Bool, not, List}
-use Rattle.span_closed_spans.specs.declared.walk.Counted.{Counted}
-use Rattle.span_closed_spans.specs.declared.walk.Counted.TheVariants.{OwnOf, Covered}
-use Rattle.span_self_time.specs.Spans.{Span, covers, is_outranked, is_covered}
-use Rattle.span_self_time.specs.Closed.{span_of}
+use Rattle.span_closed_spans.specs.{Span, covers, is_outranked, is_covered, span_of, declared.walk.Counted.{Counted, TheVariants.{OwnOf, Covered}}}
 
 -- from u to before v the span covers all or nothing
 abbrev pub IsUnbroken : {N : Type 0} → Span N → ℤ → ℤ → Type 0

@@ -1,11 +1,6 @@
 //! The closed spans of a thread, with the totals of their names and the division of time among them.
-ghost use Rattle.std.specs.Prelude.{◌≡◌, ◌≢◌, ◌+◌, ◌<◌, ◌≤◌, ◌*◌, ◌-◌, ◌^◌, ℕ, [], ◌∷◌, ◌++◌, ◌≤ℤ◌, List, length, map, take, nat_eq, slice_get, vec_len, vec_capacity, option_copied, All, IfSome, IfOk, OnOk, OnErr};
-ghost use Rattle.std.specs.List.{count_by};
-ghost use Rattle.span_event.specs.Given.{Gives};
-ghost use Rattle.span_self_time.specs.Spans.{self_of, self_time, busy_time, names_of};
-ghost use Rattle.span_self_time.specs.Closed.{span_of, CanJoin, IsInTime, AreClosed};
-ghost use Rattle.span_self_time.specs.Segments.{lasts, AreSegments, HasSegments, HasEnds};
-ghost use Rattle.span_closed_spans.specs.Totals.{total_for};
+ghost use Rattle.std.specs.{List.count_by, Prelude.{◌≡◌, ◌≢◌, ◌+◌, ◌<◌, ◌≤◌, ◌*◌, ◌-◌, ◌^◌, ℕ, [], ◌∷◌, ◌++◌, ◌≤ℤ◌, List, length, map, take, nat_eq, slice_get, vec_len, vec_capacity, option_copied, All, IfSome, IfOk, OnOk, OnErr}};
+ghost use Rattle.span_closed_spans.specs.{Gives, self_of, self_time, busy_time, names_of, span_of, CanJoin, IsInTime, AreClosed, lasts, AreSegments, HasSegments, HasEnds, Totals.total_for};
 
 use crate::name_totals::{NameTotal, NameTotals};
 use span_event::distance;
@@ -24,11 +19,7 @@ pub struct ClosedSpans {
 
 impl Model for ClosedSpans {
     ghost use Rattle.std.specs.Prelude.{List, map, ℕ};
-    ghost use Rattle.span_self_time.specs.Spans.{Span};
-    ghost use Rattle.span_self_time.specs.Closed.{span_of, AreClosed};
-    ghost use Rattle.span_self_time.specs.Division.Ways.{Divides};
-    ghost use Rattle.span_closed_spans.specs.Totals.{AreTotals};
-    ghost use Rattle.span_closed_spans.specs.TotalsKept.{entries_of};
+    ghost use Rattle.span_closed_spans.specs.{Span, span_of, AreClosed, Divides, Totals.AreTotals, TotalsKept.entries_of};
 
     ghost Value = { List (Span ℕ) };
 

@@ -1,10 +1,7 @@
 //! The totals of the names of a thread's closed spans.
-ghost use Rattle.std.specs.Prelude.{◌≡◌, ◌+◌, ◌<◌, ◌^◌, ◌==◌, ℕ, [], ◌∷◌, nat_eq, if◌then◌else◌, length, slice_get, OnOk, IfOk};
-ghost use Rattle.std.specs.Map.{keys_of};
-ghost use Rattle.indexmap.specs.IndexMap.{spare, keys};
-ghost use Rattle.indexmap.specs.IndexSet.{insert_key};
-ghost use Rattle.span_closed_spans.specs.Totals.{total_in};
-ghost use Rattle.span_closed_spans.specs.TotalsKept.{entries_of, HasRoom};
+ghost use Rattle.std.specs.{Map.keys_of, Prelude.{◌≡◌, ◌+◌, ◌<◌, ◌^◌, ◌==◌, ℕ, [], ◌∷◌, nat_eq, if◌then◌else◌, length, slice_get, OnOk, IfOk}};
+ghost use Rattle.indexmap.specs.{IndexMap.{spare, keys}, IndexSet.insert_key};
+ghost use Rattle.span_closed_spans.specs.{Totals.total_in, TotalsKept.{entries_of, HasRoom}};
 
 use indexmap::IndexMap;
 use std::alloc::{AllocError, Global};

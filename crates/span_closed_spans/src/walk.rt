@@ -1,10 +1,6 @@
 //! Self and busy times of a list of spans, found by walking from each start or end to the next.
 ghost use Rattle.std.specs.Prelude.{◌≡◌, ◌⊎◌, ℤ, ◌≤ℤ◌, ◌<ℤ◌, nat_eq, map, All};
-ghost use Rattle.span_event.specs.Event.{least_time};
-ghost use Rattle.span_event.specs.Time.{distance};
-ghost use Rattle.span_self_time.specs.Spans.{covers, is_outranked, is_covered, count_from, earliest, latest, self_time, busy_time, self_of};
-ghost use Rattle.span_self_time.specs.Closed.{span_of, greatest_until, IsInTime, AreClosed};
-ghost use Rattle.span_closed_spans.specs.Walk.{IsUnbroken, counts};
+ghost use Rattle.span_closed_spans.specs.{least_time, distance, covers, is_outranked, is_covered, count_from, earliest, latest, self_time, busy_time, self_of, span_of, greatest_until, IsInTime, AreClosed, Walk.{IsUnbroken, counts}};
 
 use span_event::distance;
 use span_self_time::ClosedSpan;

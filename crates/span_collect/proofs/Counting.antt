@@ -1,10 +1,7 @@
 -- How many entries a journal has of some callers.
-use Rattle.std.proofs.Common.{◌≡◌, ℕ, zero, suc, ◌+◌, ◌<◌, ◌≤◌, List, [], ◌∷◌, Bool, true, false, cond, eqb, eqb-true, eq-eqb, length, All, Contains, refl, sym, subst, arith}
-use Rattle.std.proofs.lemmas.List.Elements.{All-cons, All-head, All-tail}
-use Rattle.span_journal.specs.declared.entry.Entry.{Entry}
-use Rattle.span_share.specs.Callers.{calls, AreDistinct}
-use Rattle.span_share.specs.Entries.{caller_of}
+use Rattle.std.proofs.{Common.{◌≡◌, ℕ, zero, suc, ◌+◌, ◌<◌, ◌≤◌, List, [], ◌∷◌, Bool, true, false, cond, eqb, eqb-true, eq-eqb, length, All, Contains, refl, sym, subst, arith}, lemmas.List.Elements.{All-cons, All-head, All-tail}}
 use Rattle.span_share.proofs.CallersLists.{Contains-here, Contains-later}
+use Rattle.span_collect.specs.{Entry, calls, AreDistinct, caller_of}
 
 -- the entries of all these callers together
 abbrev pub total : List ℕ → List Entry → ℕ

@@ -1,16 +1,7 @@
 -- A run whose output failed.
-use Rattle.std.proofs.Common.{◌≡◌, ℕ, List, ◌∙◌}
 use Rattle.std.specs.Prelude.{◌≢◌}
-use Rattle.span_journal.specs.declared.entry.Entry.{Entry}
-use Rattle.span_journal.specs.declared.query.Query.{Query}
-use Rattle.span_report.specs.declared.output.WriteFault.TheVariants.{Output}
-use Rattle.span_report.specs.Output.{WriteLeaves}
-use Rattle.span_report.specs.Sink.{SinkState}
-use Rattle.span_collect.specs.declared.files.Input.{Input}
-use Rattle.span_collect.specs.declared.runs.RunEnd.{RunEnd}
-use Rattle.span_collect.specs.declared.settings.Settings.{Settings}
-use Rattle.span_collect.specs.Run.{IsCutShort, TextOf, status_of}
-use Rattle.span_collect.specs.Seals.{SealedAccount}
+use Rattle.std.proofs.Common.{◌≡◌, ℕ, List, ◌∙◌}
+use Rattle.span_collect.specs.{Entry, Query, Output, WriteLeaves, SinkState, Run.{IsCutShort, TextOf, status_of}, Seals.SealedAccount, declared.{files.Input.Input, runs.RunEnd.RunEnd, settings.Settings.Settings}}
 use Rattle.span_collect.proofs.Statuses.{status_of-lt}
 
 -- what the output took of the text of what was collected

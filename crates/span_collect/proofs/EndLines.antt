@@ -1,9 +1,6 @@
 -- The lines of the ends so far, with one more.
-use Rattle.std.proofs.Common.{◌≡◌, ℕ, zero, suc, ◌+◌, ◌<◌, List, [], ◌∷◌, ◌++◌, length, take, get_or, sym, ap, ◌∙◌, append_assoc, add-one, arith}
-use Rattle.std.proofs.lemmas.List.{append-nil}
-use Rattle.span_collect.specs.declared.files.FileEnd.{FileEnd}
-use Rattle.span_collect.specs.declared.files.Input.{Input}
-use Rattle.span_collect.specs.FaultLines.{lines_of_ends}
+use Rattle.std.proofs.{Common.{◌≡◌, ℕ, zero, suc, ◌+◌, ◌<◌, List, [], ◌∷◌, ◌++◌, length, take, get_or, sym, ap, ◌∙◌, append_assoc, add-one, arith}, lemmas.List.append-nil}
+use Rattle.span_collect.specs.{FaultLines.lines_of_ends, declared.files.{FileEnd.FileEnd, Input.Input}}
 
 module _ (lines : List ℕ → FileEnd → List ℕ) where
   lines_of_ends-take_suc : (files : List Input) (ends : List FileEnd) (i : ℕ) (f : Input) (e : FileEnd) → i < length files → i < length ends →

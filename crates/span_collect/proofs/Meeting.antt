@@ -1,22 +1,7 @@
 -- What the main seat has met, and the account of the journal that it closes.
-use Rattle.std.proofs.lemmas.Slice.Zip.{all_zipped_more}
-use Rattle.std.proofs.Common.{◌≡◌, ℕ, ◌≤◌, List, [], ◌∷◌, ◌++◌, length, map, take, Option, Some, None, Ok, Err, Contains, refl, sym, subst, ap, ap₂, ◌∙◌, append-nil, length-append, arith, inl, inr}
-use Rattle.std.proofs.lemmas.List.Elements.{filter_map-append}
-use Rattle.span_event.specs.declared.unit.Unit.{Unit}
-use Rattle.span_read.specs.Document.{doc}
-use Rattle.span_journal.specs.declared.entry.Entry.{Entry}
-use Rattle.span_journal.specs.declared.query.Query.{Query}
-use Rattle.span_journal.specs.declared.refusal.Cause.{Cause}
-use Rattle.span_journal.specs.declared.refusal.Cause.TheVariants.{Memory, Full, Busy}
-use Rattle.span_share.specs.Callers.{BeginsWith}
-use Rattle.span_share.specs.Seats.{ShareId, Seated, IsSeatOf, Gathers}
+use Rattle.std.proofs.{Common.{◌≡◌, ℕ, ◌≤◌, List, [], ◌∷◌, ◌++◌, length, map, take, Option, Some, None, Ok, Err, Contains, refl, sym, subst, ap, ap₂, ◌∙◌, append-nil, length-append, arith, inl, inr}, lemmas.{List.Elements.filter_map-append, Slice.Zip.all_zipped_more}}
 use Rattle.span_share.proofs.CallersLists.{Contains-here, Contains-later}
-use Rattle.span_collect.specs.declared.files.FileEnd.{FileEnd}
-use Rattle.span_collect.specs.declared.files.FileEnd.TheVariants.{Read, Refused, Stopped, NotStarted}
-use Rattle.span_collect.specs.declared.files.Input.{Input}
-use Rattle.span_collect.specs.declared.queries.Asked.{Asked}
-use Rattle.span_collect.specs.Account.{Document, IsCause, EndsAs, EachEndsAs, IsAsked, StopsAsking, asking, caller_named, callers_named, operations}
-use Rattle.span_collect.specs.Work.{HasRecorded, IsWorked, HasMet}
+use Rattle.span_collect.specs.{Unit, doc, Entry, Query, Cause, Memory, Full, Busy, BeginsWith, ShareId, Seated, IsSeatOf, Gathers, Account.{Document, IsCause, EndsAs, EachEndsAs, IsAsked, StopsAsking, asking, caller_named, callers_named, operations}, Work.{HasRecorded, IsWorked, HasMet}, declared.{files.{FileEnd.{FileEnd, TheVariants.{Read, Refused, Stopped, NotStarted}}, Input.Input}, queries.Asked.Asked}}
 
 pub BeginsWith-length : (new old : List Entry) → BeginsWith new old → length old ≤ length new
 BeginsWith-length new old begins = omega (arith, ap length begins.1, length-append old begins.0)

@@ -1,13 +1,6 @@
 -- Files that were not collected leave the output as it was.
 use Rattle.std.proofs.Common.{List, refl}
-use Rattle.span_journal.specs.declared.query.Query.{Query}
-use Rattle.span_report.specs.Sink.{SinkState}
-use Rattle.span_collect.specs.declared.files.Input.{Input}
-use Rattle.span_collect.specs.declared.runs.RunError.{RunError}
-use Rattle.span_collect.specs.declared.runs.RunError.TheVariants.{FileCount, Memory, Unaccounted, Output}
-use Rattle.span_collect.specs.declared.settings.Settings.{Settings}
-use Rattle.span_collect.specs.InTurn.{FailsAsInTurn}
-use Rattle.span_collect.specs.Run.{IsNotCollected, RunLeaves, TextOf}
+use Rattle.span_collect.specs.{Query, SinkState, InTurn.FailsAsInTurn, Run.{IsNotCollected, RunLeaves, TextOf}, declared.{files.Input.Input, runs.RunError.{RunError, TheVariants.{FileCount, Memory, Unaccounted, Output}}, settings.Settings.Settings}}
 
 pub RunLeaves-not_collected : (text : TextOf) (error : RunError) (files : List Input) (asks : List Query) (settings : Settings) (state : SinkState) →
     IsNotCollected error files asks settings → RunLeaves text error files asks settings state state

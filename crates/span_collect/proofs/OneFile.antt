@@ -1,18 +1,6 @@
 -- What one file gives alone is what it gives in turn.
 use Rattle.std.proofs.Common.{◌≡◌, ℕ, zero, suc, List, [], ◌∷◌, ◌++◌, Bool, false, cond, map, Ok, Err, refl, ap, subst, ◌∙◌, append-nil}
-use Rattle.span_event.specs.declared.unit.Unit.{Unit}
-use Rattle.span_read.specs.Document.{doc}
-use Rattle.span_journal.specs.declared.entry.Entry.{Entry}
-use Rattle.span_journal.specs.declared.entry.Op.{Op}
-use Rattle.span_journal.specs.declared.query.Query.{Query}
-use Rattle.span_journal.specs.Legal.{sequential}
-use Rattle.span_report.specs.Sink.{SinkState, TakesBytes}
-use Rattle.span_collect.specs.declared.files.Input.{Input}
-use Rattle.span_collect.specs.declared.settings.Settings.{Settings}
-use Rattle.span_collect.specs.Account.{Document, telling}
-use Rattle.span_collect.specs.InTurn.{AreSeparate, WritesAsInTurn, items_in, journal_in_turn, told_in_turn}
-use Rattle.span_collect.specs.Run.{TextOf, WritesOneFile, end_by, journal_by}
-use Rattle.span_collect.specs.Seals.{seals_of, with_seals}
+use Rattle.span_collect.specs.{Unit, doc, Entry, Op, Query, sequential, SinkState, TakesBytes, Account.{Document, telling}, InTurn.{AreSeparate, WritesAsInTurn, items_in, journal_in_turn, told_in_turn}, Run.{TextOf, WritesOneFile, end_by, journal_by}, Seals.{seals_of, with_seals}, declared.{files.Input.Input, settings.Settings.Settings}}
 
 -- one file has nothing in common with another
 pub AreSeparate-one : (unit : Unit) (file : Input) → AreSeparate unit (file ∷ [])

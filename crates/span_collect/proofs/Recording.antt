@@ -1,24 +1,7 @@
 -- What one seat has recorded, and how its file ended.
-use Rattle.std.proofs.Common.{◌≡◌, ℕ, ◌+◌, ◌<◌, ◌≤◌, ◌⊎◌, List, [], ◌∷◌, ◌++◌, length, map, take, get_or, eqb, Bool, Some, Ok, Err, sym, ap, ap₂, ◌∙◌, append-nil, length-append, arith, inl, inr}
-use Rattle.std.specs.Prelude.{Result, IfOk, IfSome}
-use Rattle.std.specs.Result.{result_ok}
-use Rattle.std.proofs.Math.Seq.{take-append_seam}
-use Rattle.std.proofs.lemmas.List.{map-append, length-map, take_more, length-take-le}
-use Rattle.std.proofs.lemmas.List.Sums.{length-filter, count_by-le-length}
-use Rattle.span_event.specs.declared.item.Item.{Item}
-use Rattle.span_journal.specs.declared.entry.Entry.{Entry}
-use Rattle.span_journal.specs.declared.entry.Op.{Op}
-use Rattle.span_journal.specs.declared.entry.Op.TheVariants.{One, Ask}
-use Rattle.span_journal.specs.declared.query.Query.{Query}
-use Rattle.span_journal.specs.declared.refusal.Cause.{Cause}
-use Rattle.span_journal.specs.declared.refusal.Cause.TheVariants.{Memory, Full, Busy}
-use Rattle.span_share.specs.declared.book.Receipt.{Receipt}
-use Rattle.span_share.specs.declared.share.ShareError.{ShareError}
-use Rattle.span_share.specs.Entries.{entry}
-use Rattle.span_share.specs.Seats.{ShareId, Seated, IsSeatOf, IsCauseAt, Keeps, Records, Enrols, mine}
-use Rattle.span_collect.specs.declared.files.FileEnd.TheVariants.{Read, Stopped}
-use Rattle.span_collect.specs.Account.{IsCause, operations, telling, asking}
-use Rattle.span_collect.specs.Work.{HasRecorded, IsNewSeat, IsWorked}
+use Rattle.std.specs.{Prelude.{Result, IfOk, IfSome}, Result.result_ok}
+use Rattle.std.proofs.{Common.{◌≡◌, ℕ, ◌+◌, ◌<◌, ◌≤◌, ◌⊎◌, List, [], ◌∷◌, ◌++◌, length, map, take, get_or, eqb, Bool, Some, Ok, Err, sym, ap, ap₂, ◌∙◌, append-nil, length-append, arith, inl, inr}, Math.Seq.take-append_seam, lemmas.List.{map-append, length-map, take_more, length-take-le, Sums.{length-filter, count_by-le-length}}}
+use Rattle.span_collect.specs.{Item, Entry, Op, One, Ask, Query, Cause, Memory, Full, Busy, Receipt, ShareError, entry, ShareId, Seated, IsSeatOf, IsCauseAt, Keeps, Records, Enrols, mine, Account.{IsCause, operations, telling, asking}, Work.{HasRecorded, IsNewSeat, IsWorked}, declared.files.FileEnd.TheVariants.{Read, Stopped}}
 
 -- a seat that was enrolled has recorded nothing
 pub HasRecorded-enrolled : (share : ShareId) (old new : Seated) → IsSeatOf share new → Enrols old new → IsNewSeat share new

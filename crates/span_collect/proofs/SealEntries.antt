@@ -1,10 +1,6 @@
 -- The seals that are told, from one to the next.
-use Rattle.std.proofs.Common.{◌≡◌, Bool, ℕ, List, [], ◌∷◌, ◌++◌, map, refl, ap, ◌∙◌}
-use Rattle.std.proofs.lemmas.List.{map-append}
-use Rattle.span_journal.specs.declared.entry.Entry.{Entry}
-use Rattle.span_journal.specs.declared.entry.Op.{Op}
-use Rattle.span_journal.specs.Legal.{journal_after, next_entry}
-use Rattle.span_collect.specs.Seals.{with_seals}
+use Rattle.std.proofs.{Common.{◌≡◌, Bool, ℕ, List, [], ◌∷◌, ◌++◌, map, refl, ap, ◌∙◌}, lemmas.List.map-append}
+use Rattle.span_collect.specs.{Entry, Op, journal_after, next_entry, Seals.with_seals}
 
 -- one more call is the last entry
 pub journal_after-push : (strict : Bool) (journal : List Entry) (calls : List (ℕ × Op)) (caller : ℕ) (op : Op) → journal_after strict journal (calls ++ (caller, op) ∷ []) ≡ journal_after strict journal calls ++ next_entry strict (journal_after strict journal calls) caller op ∷ []

@@ -1,29 +1,9 @@
 -- The account of a closed ledger, from what the callers say that they recorded.
-use Rattle.std.proofs.Common.{◌≡◌, ◌≢◌, ℕ, ◌+◌, ◌≤◌, List, [], ◌∷◌, length, map, take, Some, None, Ok, Err, Option, Contains, refl, sym, subst, ap, ap₂, ◌∙◌, arith, inl, inr}
 use Rattle.std.specs.Prelude.{sum_by}
-use Rattle.std.proofs.lemmas.List.{length-map, length-take-le}
-use Rattle.std.proofs.lemmas.List.Sums.{sum_by-cons}
-use Rattle.span_event.specs.declared.item.Item.{Item}
-use Rattle.span_event.specs.declared.unit.Unit.{Unit}
-use Rattle.span_read.specs.Document.{doc}
-use Rattle.span_journal.specs.declared.entry.Entry.{Entry}
-use Rattle.span_journal.specs.declared.entry.Op.{Op}
-use Rattle.span_journal.specs.declared.entry.Op.TheVariants.{One, Ask}
-use Rattle.span_journal.specs.declared.query.Query.{Query}
-use Rattle.span_journal.specs.Legal.{IsLegal, Kept}
-use Rattle.span_share.specs.declared.turn.Terms.{Terms}
-use Rattle.span_share.specs.Callers.{calls, AreDistinct}
-use Rattle.span_share.specs.Entries.{caller_of}
+use Rattle.std.proofs.{Common.{◌≡◌, ◌≢◌, ℕ, ◌+◌, ◌≤◌, List, [], ◌∷◌, length, map, take, Some, None, Ok, Err, Option, Contains, refl, sym, subst, ap, ap₂, ◌∙◌, arith, inl, inr}, lemmas.List.{length-map, length-take-le, Sums.sum_by-cons}}
 use Rattle.span_share.proofs.CallersLists.{Contains-here, Contains-later}
-use Rattle.span_collect.specs.declared.files.FileEnd.{FileEnd}
-use Rattle.span_collect.specs.declared.files.FileEnd.TheVariants.{Read, Refused, Stopped, NotStarted}
-use Rattle.span_collect.specs.declared.files.Input.{Input}
-use Rattle.span_collect.specs.declared.queries.Asked.{Asked}
-use Rattle.span_collect.specs.declared.settings.Settings.{Settings}
-use Rattle.span_collect.specs.Account.{Account, Document, EndsAs, EachEndsAs, IsAsked, StopsAsking, asking, callers_named, operations, telling}
-use Rattle.span_collect.specs.Collection.{HasMore, IsClosed, calls_told, told_by}
-use Rattle.span_collect.proofs.Counting.{total, total-le, total-all}
-use Rattle.span_collect.proofs.Meeting.{BeginsWith-length, EachEndsAs-later, IsAsked-later}
+use Rattle.span_collect.specs.{Item, Unit, doc, Entry, Op, One, Ask, Query, IsLegal, Kept, Terms, calls, AreDistinct, caller_of, Account.{Account, Document, EndsAs, EachEndsAs, IsAsked, StopsAsking, asking, callers_named, operations, telling}, Collection.{HasMore, IsClosed, calls_told, told_by}, declared.{files.{FileEnd.{FileEnd, TheVariants.{Read, Refused, Stopped, NotStarted}}, Input.Input}, queries.Asked.Asked, settings.Settings.Settings}}
+use Rattle.span_collect.proofs.{Counting.{total, total-le, total-all}, Meeting.{BeginsWith-length, EachEndsAs-later, IsAsked-later}}
 
 -- as many entries as operations
 calls-length : (journal : List Entry) (caller : ℕ) (ops : List Op) → operations journal caller ≡ ops → length (calls caller_of caller journal) ≡ length ops

@@ -1,12 +1,7 @@
 -- The statuses of runs.
+use Rattle.std.specs.{List.list_any, Option.is_some, Prelude.{if◌then◌else◌, ℕ}}
 use Rattle.std.proofs.Common.{◌≡◌, ◌<◌, List, Bool, true, false, ◌||◌, refl, arith}
-use Rattle.std.specs.Prelude.{if◌then◌else◌, ℕ}
-use Rattle.std.specs.List.{list_any}
-use Rattle.std.specs.Option.{is_some}
-use Rattle.span_collect.specs.declared.files.FileEnd.{FileEnd}
-use Rattle.span_collect.specs.declared.queries.Asked.{Asked}
-use Rattle.span_collect.specs.declared.sealing.Sealing.{Sealing}
-use Rattle.span_collect.specs.Run.{is_cut, is_refused, status_of}
+use Rattle.span_collect.specs.{Run.{is_cut, is_refused, status_of}, declared.{files.FileEnd.FileEnd, queries.Asked.Asked, sealing.Sealing.Sealing}}
 
 abbrev status : Bool → Bool → ℕ
 status cut refused = if cut then 2 else if refused then 1 else 0

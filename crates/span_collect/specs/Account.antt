@@ -1,25 +1,6 @@
 -- The account of a collection: how each file ended, what was asked, and what stands in the journal.
-use Rattle.std.specs.Prelude.{◌≡◌, ℕ, ◌<◌, ◌≤◌, ◌⊎◌, ⊤, List, [], ◌∷◌, length, map, take, filter_map, All, Contains, Option, Some, None, MatchOption, Result, IsOkAnd, IsErrAnd}
-use Rattle.std.specs.List.{AllZip}
-use Rattle.span_event.specs.declared.item.Item.{Item}
-use Rattle.span_event.specs.declared.unit.Unit.{Unit}
-use Rattle.span_read.specs.declared.error.ReadError.{ReadError}
-use Rattle.span_read.specs.Document.{doc}
-use Rattle.span_read.specs.ReadError.{code_of}
-use Rattle.span_journal.specs.declared.entry.Entry.{Entry}
-use Rattle.span_journal.specs.declared.entry.Op.{Op}
-use Rattle.span_journal.specs.declared.entry.Op.TheVariants.{One, Ask}
-use Rattle.span_journal.specs.declared.query.Query.{Query}
-use Rattle.span_journal.specs.declared.refusal.Cause.{Cause}
-use Rattle.span_journal.specs.declared.refusal.Cause.TheVariants.{Memory, Full, Busy}
-use Rattle.span_journal.specs.Legal.{IsLegal}
-use Rattle.span_share.specs.Callers.{calls, AreDistinct}
-use Rattle.span_share.specs.Entries.{caller_of}
-use Rattle.span_collect.specs.declared.files.FileEnd.{FileEnd}
-use Rattle.span_collect.specs.declared.files.FileEnd.TheVariants.{Read, Refused, Stopped, NotStarted}
-use Rattle.span_collect.specs.declared.files.Input.{Input}
-use Rattle.span_collect.specs.declared.queries.Asked.{Asked}
-use Rattle.span_collect.specs.declared.settings.Settings.{Settings}
+use Rattle.std.specs.{List.AllZip, Prelude.{◌≡◌, ℕ, ◌<◌, ◌≤◌, ◌⊎◌, ⊤, List, [], ◌∷◌, length, map, take, filter_map, All, Contains, Option, Some, None, MatchOption, Result, IsOkAnd, IsErrAnd}}
+use Rattle.span_collect.specs.{Item, Unit, ReadError, doc, code_of, Entry, Op, One, Ask, Query, Cause, Memory, Full, Busy, IsLegal, calls, AreDistinct, caller_of, declared.{files.{FileEnd.{FileEnd, TheVariants.{Read, Refused, Stopped, NotStarted}}, Input.Input}, queries.Asked.Asked, settings.Settings.Settings}}
 
 -- what a file gives: its items, or why it is refused
 abbrev pub Document : Type 0

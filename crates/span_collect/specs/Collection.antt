@@ -1,21 +1,7 @@
 -- What a collection gives, and its refusals.
 use Rattle.std.specs.Prelude.{◌≡◌, ℕ, ◌+◌, ◌<◌, ◌≤◌, ◌⊎◌, ⊤, List, ◌∷◌, length, sum_by}
-use Rattle.span_event.specs.declared.fault.Fault.TheVariants.{FileCount as FileCountFault, Memory as MemoryFault, Unaccounted as UnaccountedFault}
-use Rattle.span_event.specs.Fault.{number_of}
-use Rattle.span_journal.specs.declared.query.Query.{Query}
-use Rattle.span_journal.specs.declared.entry.Entry.{Entry}
-use Rattle.span_journal.specs.Legal.{IsLegal, Kept}
-use Rattle.span_share.specs.Callers.{AreDistinct}
-use Rattle.span_share.specs.Seats.{ShareId, Seated, Closes}
-use Rattle.span_collect.specs.declared.collection.CollectError.{CollectError}
-use Rattle.span_collect.specs.declared.collection.CollectError.TheVariants.{FileCount, Memory, Unaccounted}
-use Rattle.span_collect.specs.declared.files.FileEnd.{FileEnd}
-use Rattle.span_collect.specs.declared.files.FileEnd.TheVariants.{Read, Refused, Stopped, NotStarted}
-use Rattle.span_collect.specs.declared.files.Input.{Input}
-use Rattle.span_collect.specs.declared.queries.Asked.{Asked}
-use Rattle.span_collect.specs.declared.settings.Settings.{Settings}
-use Rattle.span_collect.specs.Account.{EachEndsAs, IsAsked, callers_named}
-use Rattle.span_collect.specs.Work.{HasMet}
+use Rattle.span_event.specs.declared.fault.Fault.TheVariants.{Memory as MemoryFault}
+use Rattle.span_collect.specs.{FileCount as FileCountFault, Unaccounted as UnaccountedFault, number_of, Query, Entry, IsLegal, Kept, AreDistinct, ShareId, Seated, Closes, Account.{EachEndsAs, IsAsked, callers_named}, Work.HasMet, declared.{collection.CollectError.{CollectError, TheVariants.{FileCount, Memory, Unaccounted}}, files.{FileEnd.{FileEnd, TheVariants.{Read, Refused, Stopped, NotStarted}}, Input.Input}, queries.Asked.Asked, settings.Settings.Settings}}
 
 abbrev pub collect_code : CollectError → ℕ
 collect_code FileCount = number_of FileCountFault

@@ -1,13 +1,7 @@
 -- The lines that say how files failed.
 use Rattle.std.specs.Prelude.{ℕ, List, [], ◌∷◌, ◌++◌, codes, decimal}
-use Rattle.span_event.specs.declared.fault.Fault.TheVariants.{NotStarted as NotStartedFault}
-use Rattle.span_event.specs.Fault.{number_of}
 use Rattle.span_journal.specs.Refusal.{code_of}
-use Rattle.span_collect.specs.declared.files.FileEnd.{FileEnd}
-use Rattle.span_collect.specs.declared.files.FileEnd.TheVariants.{Read, Refused, Stopped, NotStarted}
-use Rattle.span_collect.specs.declared.files.Input.{Input}
-use Rattle.span_report.specs.Lines.{line_of, json_text_of}
-use Rattle.span_collect.specs.Words.{numbered}
+use Rattle.span_collect.specs.{NotStarted as NotStartedFault, number_of, line_of, json_text_of, Words.numbered, declared.files.{FileEnd.{FileEnd, TheVariants.{Read, Refused, Stopped, NotStarted}}, Input.Input}}
 
 -- the program, and the file's name as JSON text
 abbrev pub about_file : List ℕ → List ℕ → List ℕ

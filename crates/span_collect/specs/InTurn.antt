@@ -1,29 +1,6 @@
 -- Files of which no two have a topic in common, and the journal in which they stand one after another.
-use Rattle.std.specs.Prelude.{◌≡◌, ◌≢◌, ℕ, ◌+◌, ◌<◌, ◌≤◌, Bool, true, false, if◌then◌else◌, List, [], ◌∷◌, ◌++◌, length, map, take, filter_map, slice_get, Contains, ⊤, Option, Some, None, Ok, Err}
-use Rattle.std.specs.List.{list_any, range_with_len}
-use Rattle.span_event.specs.declared.event.Event.{Event}
-use Rattle.span_event.specs.declared.item.Item.{Item}
-use Rattle.span_event.specs.declared.item.Item.TheVariants.{Good}
-use Rattle.span_event.specs.declared.unit.Unit.{Unit}
-use Rattle.span_read.specs.Document.{doc}
-use Rattle.span_journal.specs.declared.entry.Answer.{Answer}
-use Rattle.span_journal.specs.declared.entry.Entry.{Entry}
-use Rattle.span_journal.specs.declared.entry.Op.{Op}
-use Rattle.span_journal.specs.declared.query.Query.{Query}
-use Rattle.span_journal.specs.Journal.{an_event}
-use Rattle.span_journal.specs.Legal.{sequential}
-use Rattle.span_journal.specs.Topics.{AreAlike, Topic, concerns}
-use Rattle.span_report.specs.Sink.{SinkState, TakesBytes, Fails}
-use Rattle.span_share.specs.Callers.{calls}
-use Rattle.span_share.specs.Entries.{caller_of}
-use Rattle.span_collect.specs.declared.files.FileEnd.{FileEnd}
-use Rattle.span_collect.specs.declared.files.Input.{Input}
-use Rattle.span_collect.specs.declared.runs.RunError.{RunError}
-use Rattle.span_collect.specs.declared.runs.RunError.TheVariants.{Output}
-use Rattle.span_collect.specs.declared.settings.Settings.{Settings}
-use Rattle.span_collect.specs.Account.{Document, asking, callers_named, telling}
-use Rattle.span_collect.specs.Run.{TextOf, end_by, is_cut}
-use Rattle.span_collect.specs.Seals.{seals_of, with_seals}
+use Rattle.std.specs.{List.{list_any, range_with_len}, Prelude.{◌≡◌, ◌≢◌, ℕ, ◌+◌, ◌<◌, ◌≤◌, Bool, true, false, if◌then◌else◌, List, [], ◌∷◌, ◌++◌, length, map, take, filter_map, slice_get, Contains, ⊤, Option, Some, None, Ok, Err}}
+use Rattle.span_collect.specs.{Event, Item, Good, Unit, doc, Answer, Entry, Op, Query, an_event, sequential, AreAlike, Topic, concerns, SinkState, TakesBytes, Fails, calls, caller_of, Account.{Document, asking, callers_named, telling}, Run.{TextOf, end_by, is_cut}, Seals.{seals_of, with_seals}, declared.{files.{FileEnd.FileEnd, Input.Input}, runs.RunError.{RunError, TheVariants.Output}, settings.Settings.Settings}}
 
 -- the items of a document; none where it is refused
 abbrev pub items_in : Document → List Item

@@ -1,12 +1,8 @@
 -- Which numbers refused items, how many each, and which item first.
 pub mod Tallies
 pub mod Text
-use Rattle.std.specs.Prelude.{ℕ, ◌+◌, List, [], ◌∷◌, ◌++◌, length, Option, Some, None}
-use Rattle.std.specs.Ordering.{nat_cmp}
-use Rattle.span_keyed_tracks.specs.Keyed.{Keyed, entries_in}
-use Rattle.span_journal.specs.declared.entry.Answer.{Answer}
-use Rattle.span_journal.specs.declared.entry.Answer.TheVariants.{Refused}
-use Rattle.span_collect.specs.declared.refusals.tally.Refused.{Refused as RefusedRow}
+use Rattle.std.specs.{Ordering.nat_cmp, Prelude.{ℕ, ◌+◌, List, [], ◌∷◌, ◌++◌, length, Option, Some, None}}
+use Rattle.span_collect.specs.{Keyed, entries_in, Answer, Refused, declared.refusals.tally.Refused.Refused as RefusedRow}
 
 -- a number that refused an item, with the item's place among those of its caller
 abbrev pub Refusal : Type 0

@@ -1,28 +1,7 @@
 -- What a run does.
-use Rattle.std.specs.Prelude.{◌≡◌, ℕ, ◌<◌, ◌≤◌, Bool, true, false, ◌||◌, if◌then◌else◌, ⊤, List, [], ◌∷◌, filter, length, map, take, Ok, Err}
-use Rattle.std.specs.List.{list_any}
-use Rattle.std.specs.Option.{is_some}
-use Rattle.span_event.specs.declared.fault.Fault.TheVariants.{FileCount as FileCountFault, Memory as MemoryFault, Unaccounted as UnaccountedFault, Output as OutputFault}
-use Rattle.span_event.specs.Fault.{number_of}
-use Rattle.span_event.specs.declared.unit.Unit.{Unit}
-use Rattle.span_read.specs.Document.{doc}
-use Rattle.span_read.specs.ReadError.{code_of}
-use Rattle.span_journal.specs.declared.entry.Entry.{Entry}
-use Rattle.span_journal.specs.declared.query.Query.{Query}
-use Rattle.span_journal.specs.Legal.{sequential}
-use Rattle.span_report.specs.Sink.{SinkState, TakesBytes, Fails}
-use Rattle.span_collect.specs.declared.files.FileEnd.{FileEnd}
-use Rattle.span_collect.specs.declared.files.FileEnd.TheVariants.{Read, Refused, Stopped, NotStarted}
-use Rattle.span_collect.specs.declared.files.Input.{Input}
-use Rattle.span_collect.specs.declared.queries.Asked.{Asked}
-use Rattle.span_collect.specs.declared.sealing.Sealing.{Sealing}
-use Rattle.span_collect.specs.declared.settings.Settings.{Settings}
-use Rattle.span_collect.specs.declared.runs.RunEnd.{RunEnd}
-use Rattle.span_collect.specs.declared.runs.RunError.{RunError}
-use Rattle.span_collect.specs.declared.runs.RunError.TheVariants.{FileCount, Memory, Unaccounted, Output}
-use Rattle.span_collect.specs.Account.{Document, telling}
-use Rattle.span_collect.specs.Seals.{SealedAccount}
-use Rattle.span_collect.specs.Collection.{AreNoneOrTooMany, HasMore}
+use Rattle.std.specs.{List.list_any, Option.is_some, Prelude.{◌≡◌, ℕ, ◌<◌, ◌≤◌, Bool, true, false, ◌||◌, if◌then◌else◌, ⊤, List, [], ◌∷◌, filter, length, map, take, Ok, Err}}
+use Rattle.span_event.specs.declared.fault.Fault.TheVariants.{Memory as MemoryFault, Output as OutputFault}
+use Rattle.span_collect.specs.{FileCount as FileCountFault, Unaccounted as UnaccountedFault, number_of, Unit, doc, code_of, Entry, Query, sequential, SinkState, TakesBytes, Fails, Account.{Document, telling}, Collection.{AreNoneOrTooMany, HasMore}, Seals.SealedAccount, declared.{files.{FileEnd.{FileEnd, TheVariants.{Read, Refused, Stopped, NotStarted}}, Input.Input}, queries.Asked.Asked, runs.{RunEnd.RunEnd, RunError.{RunError, TheVariants.{FileCount, Memory, Unaccounted, Output}}}, sealing.Sealing.Sealing, settings.Settings.Settings}}
 
 abbrev pub run_code : RunError → ℕ
 run_code FileCount = number_of FileCountFault

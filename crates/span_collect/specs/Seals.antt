@@ -1,23 +1,6 @@
 -- The seals of a journal: what closes the spans that are still open once all is told.
-use Rattle.std.specs.Prelude.{◌≡◌, ◌⊎◌, ℕ, ◌<◌, ◌≤◌, ◌==◌, Bool, true, false, if◌then◌else◌, List, length, map, take, filter_map, Option, Some, None, MatchOption}
-use Rattle.std.specs.Option.{option_map}
-use Rattle.span_track.specs.Nesting.{latest_time}
-use Rattle.span_journal.specs.declared.entry.Entry.{Entry}
-use Rattle.span_journal.specs.declared.entry.Op.{Op}
-use Rattle.span_journal.specs.declared.entry.Op.TheVariants.{Seal}
-use Rattle.span_journal.specs.declared.refusal.Cause.TheVariants.{Memory}
-use Rattle.span_journal.specs.declared.rows.ThreadRow.{ThreadRow}
-use Rattle.span_journal.specs.declared.query.Query.{Query}
-use Rattle.span_journal.specs.Legal.{IsLegal, journal_after}
-use Rattle.span_journal.specs.Order.{thread_of_row}
-use Rattle.span_journal.specs.Rows.{thread_rows}
-use Rattle.span_journal.specs.Told.{thread_events}
-use Rattle.span_collect.specs.declared.sealing.Sealing.{Sealing}
-use Rattle.span_collect.specs.declared.files.FileEnd.{FileEnd}
-use Rattle.span_collect.specs.declared.files.Input.{Input}
-use Rattle.span_collect.specs.declared.queries.Asked.{Asked}
-use Rattle.span_collect.specs.declared.settings.Settings.{Settings}
-use Rattle.span_collect.specs.Account.{Account, IsCause}
+use Rattle.std.specs.{Option.option_map, Prelude.{◌≡◌, ◌⊎◌, ℕ, ◌<◌, ◌≤◌, ◌==◌, Bool, true, false, if◌then◌else◌, List, length, map, take, filter_map, Option, Some, None, MatchOption}}
+use Rattle.span_collect.specs.{latest_time, Entry, Op, Seal, Memory, ThreadRow, Query, IsLegal, journal_after, thread_of_row, thread_rows, thread_events, Account.{Account, IsCause}, declared.{files.{FileEnd.FileEnd, Input.Input}, queries.Asked.Asked, sealing.Sealing.Sealing, settings.Settings.Settings}}
 
 -- the seal of a thread that has an open span, at the latest time that the thread has seen
 abbrev pub seal_for : List Entry → ThreadRow → Option Op

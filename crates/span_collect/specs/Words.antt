@@ -1,7 +1,6 @@
 -- The words of faults, by their numbers.
-use Rattle.std.specs.Prelude.{ℕ, List, ◌∷◌, ◌++◌, Option, Some, None, decimal}
-use Rattle.std.specs.Option.{option_map}
-use Rattle.span_event.specs.Fault.{fault_of, word_of}
+use Rattle.std.specs.{Option.option_map, Prelude.{ℕ, List, ◌∷◌, ◌++◌, Option, Some, None, decimal}}
+use Rattle.span_collect.specs.{fault_of, word_of}
 
 -- the word of a fault's number
 abbrev pub word_of_number : ℕ → Option (List ℕ)

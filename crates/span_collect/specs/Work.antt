@@ -1,16 +1,6 @@
 -- What the seats of workers and the main seat stand for.
-use Rattle.std.specs.Prelude.{◌≡◌, ◌^◌, ◌<◌, ◌≤◌, List, [], ◌∷◌, length, All, Option, Some, IfSome, vec_capacity}
-use Rattle.std.specs.Global.{Vec}
-use Rattle.span_event.specs.declared.unit.Unit.{Unit}
-use Rattle.span_journal.specs.declared.entry.Op.{Op}
-use Rattle.span_journal.specs.declared.query.Query.{Query}
-use Rattle.span_share.specs.Seats.{ShareId, Seated, IsSeatOf}
-use Rattle.span_collect.specs.declared.files.FileEnd.{FileEnd}
-use Rattle.span_collect.specs.declared.files.Input.{Input}
-use Rattle.span_collect.specs.declared.queries.Asked.{Asked}
-use Rattle.span_collect.specs.declared.workers.Worker.{Worker}
-use Rattle.span_collect.specs.declared.workers.Worker.TheVariants.{Thread, Here}
-use Rattle.span_collect.specs.Account.{Document, EndsAs, EachEndsAs, IsAsked, caller_named, callers_named, operations}
+use Rattle.std.specs.{Global.Vec, Prelude.{◌≡◌, ◌^◌, ◌<◌, ◌≤◌, List, [], ◌∷◌, length, All, Option, Some, IfSome, vec_capacity}}
+use Rattle.span_collect.specs.{Unit, Op, Query, ShareId, Seated, IsSeatOf, Account.{Document, EndsAs, EachEndsAs, IsAsked, caller_named, callers_named, operations}, declared.{files.{FileEnd.FileEnd, Input.Input}, queries.Asked.Asked, workers.Worker.{Worker, TheVariants.{Thread, Here}}}}
 
 -- a seat that owns one number, under which just these operations are recorded
 pub record HasRecorded (share : ShareId) (ops : List Op) (seat : Seated) : Type 0 where

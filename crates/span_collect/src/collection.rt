@@ -1,8 +1,6 @@
 //! Collects files into one ledger, and accounts for each of them.
 ghost use Rattle.std.specs.Prelude.{◌≡◌, ◌+◌, ◌^◌, ◌<◌, ◌≤◌, ◌↔◌, Err, length, IfOk, IfErr};
-ghost use Rattle.span_collect.specs.InTurn.{AnswersAsInTurn};
-ghost use Rattle.span_collect.specs.Seals.{SealedAccount};
-ghost use Rattle.span_collect.specs.Collection.{AreNoneOrTooMany, IsClosed, IsRefused, collect_code, calls_told, told_by};
+ghost use Rattle.span_collect.specs.{Collection.{AreNoneOrTooMany, IsClosed, IsRefused, collect_code, calls_told, told_by}, InTurn.AnswersAsInTurn, Seals.SealedAccount};
 
 use crate::files::{FileEnd, Input};
 use crate::gate::Gate;

@@ -1,7 +1,6 @@
 //! The files of a collection, and how each of them ended.
 ghost use Rattle.std.specs.Prelude.{◌≡◌};
-ghost use Rattle.span_collect.specs.Account.{caller_named};
-ghost use Rattle.span_collect.specs.Run.{is_refused};
+ghost use Rattle.span_collect.specs.{Account.caller_named, Run.is_refused};
 
 use span_event::Text;
 use span_journal::Cause;

@@ -1,7 +1,6 @@
 //! What was asked while the files were told.
 ghost use Rattle.std.specs.Prelude.{◌≡◌, ◌^◌, ◌<◌, []};
-ghost use Rattle.span_event.specs.declared.unit.Unit.{Unit};
-ghost use Rattle.span_collect.specs.Work.{IsNewSeat, HasMet};
+ghost use Rattle.span_collect.specs.{Unit, Work.{IsNewSeat, HasMet}};
 
 use crate::gate::Gate;
 use span_journal::{Cause, Query};

@@ -1,6 +1,6 @@
 //! The items of a file that are still to be told.
 ghost use Rattle.std.specs.Prelude.{◌≡◌, List, [], ◌∷◌, reverse, IfSome, IfNone};
-ghost use Rattle.span_event.specs.declared.item.Item.{Item as TheItem};
+ghost use Rattle.span_collect.specs.{Item as TheItem};
 
 use span_event::{Item, Items};
 use std::marker::Model;

@@ -1,12 +1,6 @@
 //! A run: files are collected, and their report is written.
-ghost use Rattle.std.specs.Prelude.{◌≡◌, ◌<◌, ◌↔◌, Err, IfOk, IfErr};
-ghost use Rattle.std.specs.List.{list_any};
-ghost use Rattle.span_report.specs.Report.{report_of};
-ghost use Rattle.span_report.specs.Sink.{TakesBytes};
-ghost use Rattle.span_collect.specs.InTurn.{AnswersAsInTurn, FailsAsInTurn, StandsAsInTurn, WritesAsInTurn};
-ghost use Rattle.span_collect.specs.Seals.{SealedAccount};
-ghost use Rattle.span_collect.specs.Collection.{AreNoneOrTooMany};
-ghost use Rattle.span_collect.specs.Run.{run_code, is_cut, is_refused, of_journal, status_of, unread_of, IsNotCollected, IsRunOf, RunLeaves, WritesOneFile};
+ghost use Rattle.std.specs.{List.list_any, Prelude.{◌≡◌, ◌<◌, ◌↔◌, Err, IfOk, IfErr}};
+ghost use Rattle.span_collect.specs.{report_of, TakesBytes, Collection.AreNoneOrTooMany, InTurn.{AnswersAsInTurn, FailsAsInTurn, StandsAsInTurn, WritesAsInTurn}, Run.{run_code, is_cut, is_refused, of_journal, status_of, unread_of, IsNotCollected, IsRunOf, RunLeaves, WritesOneFile}, Seals.SealedAccount};
 
 use crate::collection::{CollectError, collect};
 use crate::files::{FileEnd, Input};

@@ -1,7 +1,6 @@
 //! The seals that close what is open once all files are told.
 ghost use Rattle.std.specs.Prelude.{◌≡◌, ◌<◌, ◌^◌, All, IfOk, IfSome};
-ghost use Rattle.span_journal.specs.Legal.{IsGoodOp, IsLawful};
-ghost use Rattle.span_collect.specs.Seals.{AddsSeals, SealsAfter, seal_for, seals_of};
+ghost use Rattle.span_collect.specs.{IsGoodOp, IsLawful, Seals.{AddsSeals, SealsAfter, seal_for, seals_of}};
 
 use span_journal::{Cause, Op, ThreadRow};
 use span_ledger::Ledger;

@@ -1,8 +1,6 @@
 //! What one worker does: it reads its file, and tells the items one by one.
 ghost use Rattle.std.specs.Prelude.{◌≤◌, length, All, Ok};
-ghost use Rattle.span_read.specs.Document.{doc, most_items};
-ghost use Rattle.span_event.specs.Item.{IsGoodItem};
-ghost use Rattle.span_collect.specs.Work.{IsNewSeat, IsWorked};
+ghost use Rattle.span_collect.specs.{doc, most_items, IsGoodItem, Work.{IsNewSeat, IsWorked}};
 
 use crate::files::{FileEnd, Input};
 use crate::gate::Gate;

@@ -1,8 +1,6 @@
 //! The threads of a collection: one worker for each file, and the main seat, which asks while they run.
 ghost use Rattle.std.specs.Prelude.{◌≡◌, length, vec_capacity, All, IfSome, IfOk};
-ghost use Rattle.span_read.specs.Document.{doc};
-ghost use Rattle.span_share.specs.Seats.{IsSeatOf};
-ghost use Rattle.span_collect.specs.Work.{IsNewSeat, IsWorked, IsWorkerOf, HasMet, IsReadyToWork};
+ghost use Rattle.span_collect.specs.{doc, IsSeatOf, Work.{IsNewSeat, IsWorked, IsWorkerOf, HasMet, IsReadyToWork}};
 
 use crate::files::{FileEnd, Input};
 use crate::gate::Gate;

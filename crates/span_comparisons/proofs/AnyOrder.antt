@@ -1,29 +1,10 @@
 -- Repeated runs with their repetitions in another order, and which keys are counted.
-use Rattle.std.proofs.Common.{◌≡◌, ℕ, ◌+◌, ◌-◌, ◌/◌, ◌≤◌, Bool, true, false, cond, ◌||◌, List, [], ◌∷◌, ◌++◌, length, get_or, map, refl, sym, ap, ◌∙◌, arith}
-use Rattle.std.specs.Prelude.{filter, flat_map, not, ◌&&◌}
-use Rattle.std.specs.List.{list_any, sum_by}
-use Rattle.std.specs.List.Sorted.{IsPermutation}
-use Rattle.std.proofs.lemmas.List.Sorted.{IsPermutation-append, IsPermutation-map, length_permutation, list_any-IsPermutation, sum_by-IsPermutation}
-use Rattle.std.proofs.lemmas.List.Sums.{length-filter, sum_by-cons}
-use Rattle.span_keyed_tracks.proofs.Keyed.{has_key}
-use Rattle.span_keyed_tracks.proofs.Sorting.{ascending-permutation}
-use Rattle.span_report.specs.Lines.{first_line, unit_line}
-use Rattle.span_table.specs.declared.sums.By.{By}
-use Rattle.span_table.specs.declared.table.Row.{Row}
-use Rattle.span_table.specs.RowSearch.{sums_at}
-use Rattle.span_comparisons.specs.Comparison.{compared_heads}
-use Rattle.span_table.specs.Keys.{TableKey, key_cmp}
-use Rattle.span_table_text.specs.Lines.{shown_line}
-use Rattle.span_table.specs.Sums.{number_by}
-use Rattle.span_comparisons.specs.Repeats.{overlap_line, side_counts, spread_columns, spread_line}
-use Rattle.span_table_text.specs.Shown.{is_wanted}
-use Rattle.span_comparisons.specs.Spreads.{Spreads, all_keys, apart_spreads, has_same_spread, is_apart, is_overlap, keys_of, overlap_count, same_spread_count, shown_keys, shown_spreads, spread_of, spreads_at, values_at}
-use Rattle.span_table.specs.Tables.{SpanTable}
-use Rattle.span_comparisons.specs.Laws.{EachKeyIsCounted, RepetitionsHaveNoOrder, ValuesAreSorted}
-use Rattle.span_table.proofs.AddedTables.{counts-same}
-use Rattle.span_table.proofs.Alike.{has_key-append, same_keys}
-use Rattle.span_comparisons.proofs.Sorts.{sorted-ends, sorted-moved, sorted-non_decreasing, sorted-permutation}
-use Rattle.span_comparisons.proofs.SpreadOrder.{spread_order-total, spreads-distinct}
+use Rattle.std.specs.{List.{list_any, sum_by, Sorted.IsPermutation}, Prelude.{filter, flat_map, not, ◌&&◌}}
+use Rattle.std.proofs.{Common.{◌≡◌, ℕ, ◌+◌, ◌-◌, ◌/◌, ◌≤◌, Bool, true, false, cond, ◌||◌, List, [], ◌∷◌, ◌++◌, length, get_or, map, refl, sym, ap, ◌∙◌, arith}, lemmas.List.{Sorted.{IsPermutation-append, IsPermutation-map, length_permutation, list_any-IsPermutation, sum_by-IsPermutation}, Sums.{length-filter, sum_by-cons}}}
+use Rattle.span_keyed_tracks.proofs.{Keyed.has_key, Sorting.ascending-permutation}
+use Rattle.span_table.proofs.{AddedTables.counts-same, Alike.{has_key-append, same_keys}}
+use Rattle.span_comparisons.specs.{first_line, unit_line, By, Row, sums_at, TableKey, key_cmp, shown_line, number_by, is_wanted, SpanTable, Comparison.compared_heads, Laws.{EachKeyIsCounted, RepetitionsHaveNoOrder, ValuesAreSorted}, Repeats.{overlap_line, side_counts, spread_columns, spread_line}, Spreads.{Spreads, all_keys, apart_spreads, has_same_spread, is_apart, is_overlap, keys_of, overlap_count, same_spread_count, shown_keys, shown_spreads, spread_of, spreads_at, values_at}}
+use Rattle.span_comparisons.proofs.{Sorts.{sorted-ends, sorted-moved, sorted-non_decreasing, sorted-permutation}, SpreadOrder.{spread_order-total, spreads-distinct}}
 
 -- sorted values are these values, and don't fall
 pub values-sorted : ValuesAreSorted

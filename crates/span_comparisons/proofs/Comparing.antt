@@ -1,23 +1,8 @@
 -- What is found of the keys of two tables is what is compared.
-use Rattle.std.proofs.Common.{[], ◌≡◌, ◌≤◌, ◌<◌, ℕ, ◌+◌, true, List, Option, Some, None, get_or, length, refl, sym, ap, ◌∙◌, arith}
-use Rattle.std.specs.Prelude.{filter, is_none, unwrap_or}
-use Rattle.std.specs.Option.{option_map}
-use Rattle.std.specs.Cmp.{IsTotalOrder}
-use Rattle.std.proofs.lemmas.Cmp.{back_total, nat_cmp_total, on_total, then_total}
-use Rattle.std.proofs.lemmas.List.Filters.{length-filter_both}
-use Rattle.std.proofs.lemmas.List.Sums.{count_by-le-length, length-filter}
-use Rattle.span_table.specs.declared.of.Of.{Of}
-use Rattle.span_table.specs.declared.of.Of.TheVariants.{Spans, Async}
-use Rattle.span_table.specs.declared.sums.By.{By}
-use Rattle.span_table.specs.declared.sums.By.TheVariants.{SelfTime, Total, Closed, Open}
-use Rattle.span_table.specs.declared.table.Row.{Row}
-use Rattle.span_comparisons.specs.Changed.{Classifies, from_other, is_new}
-use Rattle.span_table.specs.RowSearch.{found_at, sums_at}
-use Rattle.span_comparisons.specs.Changes.{Change, by_gap, change_order, compared_at, gap_by, is_changed, is_same, same_count, shown_changes, usual_order}
-use Rattle.span_table.specs.KeyLaws.{key_cmp_total}
-use Rattle.span_table_text.specs.Shown.{Wanted, is_wanted}
-use Rattle.span_table.specs.Tables.{RowsRise, sums_together}
+use Rattle.std.specs.{Cmp.IsTotalOrder, Option.option_map, Prelude.{filter, is_none, unwrap_or}}
+use Rattle.std.proofs.{Common.{[], ◌≡◌, ◌≤◌, ◌<◌, ℕ, ◌+◌, true, List, Option, Some, None, get_or, length, refl, sym, ap, ◌∙◌, arith}, lemmas.{Cmp.{back_total, nat_cmp_total, on_total, then_total}, List.{Filters.length-filter_both, Sums.{count_by-le-length, length-filter}}}}
 use Rattle.span_table.proofs.Searched.{sums_at-found, sums_at-own}
+use Rattle.span_comparisons.specs.{Of, Spans, Async, By, SelfTime, Total, Closed, Open, Row, found_at, sums_at, key_cmp_total, Wanted, is_wanted, RowsRise, sums_together, Changed.{Classifies, from_other, is_new}, Changes.{Change, by_gap, change_order, compared_at, gap_by, is_changed, is_same, same_count, shown_changes, usual_order}}
 
 by_gap-total : (by : By) → IsTotalOrder (by_gap by)
 by_gap-total by = on_total (gap_by by) (back_total nat_cmp_total)

@@ -1,27 +1,12 @@
 -- A table compared with itself.
-use Rattle.std.proofs.Common.{◌≡◌, Bool, true, false, cond, ◌&&◌, ◌||◌, ◌==◌, List, [], ◌∷◌, ◌++◌, length, map, refl, sym, ap, ap₂, ◌∙◌, arith, eq-eqb}
 use Rattle.std.specs.Prelude.{filter, flat_map, not}
-use Rattle.std.proofs.lemmas.List.{length-map, map-append}
-use Rattle.span_keyed_tracks.specs.Keyed.{ascending}
+use Rattle.std.proofs.{Common.{◌≡◌, Bool, true, false, cond, ◌&&◌, ◌||◌, ◌==◌, List, [], ◌∷◌, ◌++◌, length, map, refl, sym, ap, ap₂, ◌∙◌, arith, eq-eqb}, lemmas.List.{length-map, map-append}}
+use Rattle.span_self_time.proofs.Mapped.{filter-map}
 use Rattle.span_keyed_tracks.proofs.Keyed.{has_key}
 use Rattle.span_journal.proofs.Sorted.{map-map}
-use Rattle.span_report.specs.Lines.{first_line, unit_line}
-use Rattle.span_self_time.proofs.Mapped.{filter-map}
-use Rattle.span_table.specs.declared.sums.Sums.{Sums}
-use Rattle.span_table.specs.declared.table.Row.{Row}
-use Rattle.span_comparisons.specs.Changes.{Change, change_order, compared, compared_at, is_changed, is_same, same_count, shown_changes}
-use Rattle.span_table.specs.RowSearch.{sums_at}
-use Rattle.span_comparisons.specs.Comparison.{change_columns, change_line, compared_heads, same_line}
-use Rattle.span_table.specs.KeyLaws.{key_cmp_total}
-use Rattle.span_table.specs.Keys.{TableKey, key_cmp}
-use Rattle.span_table_text.specs.Lines.{shown_line}
-use Rattle.span_table_text.specs.Shown.{Wanted, is_wanted, shown_rows}
-use Rattle.span_table.specs.Tables.{RowsRise}
-use Rattle.span_comparisons.specs.Laws.{TablesCompareWithThemselves}
-use Rattle.span_table.proofs.Alike.{has_key-append, same_keys}
-use Rattle.span_comparisons.proofs.Comparing.{length-changes}
-use Rattle.span_table.proofs.OwnRows.{ascending-own, keys-sorted}
-use Rattle.span_comparisons.proofs.Permuted.{key_of}
+use Rattle.span_table.proofs.{Alike.{has_key-append, same_keys}, OwnRows.{ascending-own, keys-sorted}}
+use Rattle.span_comparisons.specs.{ascending, first_line, unit_line, Sums, Row, sums_at, key_cmp_total, TableKey, key_cmp, shown_line, Wanted, is_wanted, shown_rows, RowsRise, Changes.{Change, change_order, compared, compared_at, is_changed, is_same, same_count, shown_changes}, Comparison.{change_columns, change_line, compared_heads, same_line}, Laws.TablesCompareWithThemselves}
+use Rattle.span_comparisons.proofs.{Comparing.length-changes, Permuted.key_of}
 
 module _ (rows : List Row) where
   -- the keys of two lists of the same rows are those of one

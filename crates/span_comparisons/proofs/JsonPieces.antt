@@ -1,21 +1,8 @@
 -- Lines for machines that say what differs, from the pieces of which they are made.
-use Rattle.std.proofs.Common.{◌≡◌, ℕ, List, [], ◌∷◌, ◌++◌, refl, ap, ◌∙◌, append_assoc}
 use Rattle.std.specs.Prelude.{codes, decimal}
-use Rattle.span_event.specs.Text.{Bytes}
-use Rattle.span_event.specs.declared.unit.Unit.{Unit}
-use Rattle.span_comparisons.specs.declared.changes.Both.{Both}
-use Rattle.span_table.specs.declared.column.Column.{Column}
-use Rattle.span_table.specs.declared.counts.TableCounts.{TableCounts}
-use Rattle.span_table.specs.declared.of.Of.{Of}
-use Rattle.span_table.specs.declared.of.Of.TheVariants.{Spans, Async}
-use Rattle.span_comparisons.specs.JsonChanges.{both_members, json_change, json_heads}
-use Rattle.span_table_text.specs.Json.{columns_json, counts_members, object_of, member_of, number_member, version_member, with_commas}
-use Rattle.span_comparisons.specs.JsonPieces.{base_values_text, both_text, closed_text, row_counts_text, ends_text, open_text, other_text, points_text, selves_text, spans_text, totals_text, compared_counts_text, other_values_text}
-use Rattle.span_table_text.specs.JsonPieces.{end_text, members_text, start_text}
-use Rattle.span_comparisons.specs.Changes.{Change}
-use Rattle.span_table.specs.Keys.{TableKey}
-use Rattle.span_comparisons.specs.Repeats.{json_values, values_json}
+use Rattle.std.proofs.Common.{◌≡◌, ℕ, List, [], ◌∷◌, ◌++◌, refl, ap, ◌∙◌, append_assoc}
 use Rattle.span_table_text.proofs.JsonPieces.{counts_members-text, ended, members-then}
+use Rattle.span_comparisons.specs.{Bytes, Unit, Column, TableCounts, Of, Spans, Async, columns_json, counts_members, object_of, member_of, number_member, version_member, with_commas, end_text, members_text, start_text, TableKey, Changes.Change, JsonChanges.{both_members, json_change, json_heads}, JsonPieces.{base_values_text, both_text, closed_text, row_counts_text, ends_text, open_text, other_text, points_text, selves_text, spans_text, totals_text, compared_counts_text, other_values_text}, Repeats.{json_values, values_json}, declared.changes.Both.Both}
 
 both_members-text : (of : Of) (both : Both) → with_commas (both_members of both) ≡ both_text of both
 unfolding spans_text totals_text selves_text closed_text open_text points_text

@@ -1,34 +1,12 @@
 -- The keys of a base, and those of the other that it lacks, are the keys of both, in another order.
-use Rattle.std.proofs.Common.{◌≡◌, Bool, true, false, cond, ◌&&◌, ◌||◌, List, [], ◌∷◌, ◌++◌, Some, length, map, refl, sym, ap, ap₂, subst, ◌∙◌}
-use Rattle.std.specs.Prelude.{filter, is_none, not}
-use Rattle.std.specs.List.{AllByRecursion, IsDistinct}
-use Rattle.std.specs.List.Sorted.{IsPermutation, IsStrictlySortedBy}
-use Rattle.std.specs.Ordering.{eq_by_cmp, is_eq, ordering_then}
-use Rattle.std.specs.declared.cmp.Ordering.{Ordering}
-use Rattle.std.specs.declared.cmp.Ordering.TheVariants.{Less, Equal, Greater}
-use Rattle.std.proofs.lemmas.List.{length-map, map-append}
-use Rattle.std.proofs.lemmas.List.Sums.{length-filter}
-use Rattle.std.proofs.lemmas.List.Sorted.{IsPermutation-map, IsPermutation-sym, length_permutation}
-use Rattle.span_keyed_tracks.specs.Keyed.{ascending}
-use Rattle.span_keyed_tracks.proofs.Keyed.{has_key, neither, same_from_is_eq}
-use Rattle.span_keyed_tracks.proofs.Uses.{is_eq-turned}
-use Rattle.span_journal.proofs.Selected.{filter-ascending}
-use Rattle.span_journal.proofs.Sorted.{AllByRecursion-append, AllByRecursion-map, ascending-sorted, map-map, map-sorted}
+use Rattle.std.specs.{List.{AllByRecursion, IsDistinct, Sorted.{IsPermutation, IsStrictlySortedBy}}, Ordering.{eq_by_cmp, is_eq, ordering_then}, Prelude.{filter, is_none, not}, declared.cmp.Ordering.{Ordering, TheVariants.{Less, Equal, Greater}}}
+use Rattle.std.proofs.{Common.{◌≡◌, Bool, true, false, cond, ◌&&◌, ◌||◌, List, [], ◌∷◌, ◌++◌, Some, length, map, refl, sym, ap, ap₂, subst, ◌∙◌}, lemmas.List.{length-map, map-append, Sorted.{IsPermutation-map, IsPermutation-sym, length_permutation}, Sums.length-filter}}
+use Rattle.span_keyed_tracks.proofs.{Keyed.{has_key, neither, same_from_is_eq}, Uses.is_eq-turned}
+use Rattle.span_journal.proofs.{Selected.filter-ascending, Sorted.{AllByRecursion-append, AllByRecursion-map, ascending-sorted, map-map, map-sorted}}
 use Rattle.span_ledger.proofs.Sorting.{ascending-permutation}
-use Rattle.span_table.specs.declared.of.Of.{Of}
-use Rattle.span_table.specs.declared.of.Of.TheVariants.{Spans, Async}
-use Rattle.span_table.specs.declared.sums.By.{By}
-use Rattle.span_table.specs.declared.sums.By.TheVariants.{SelfTime, Total, Closed, Open}
-use Rattle.span_table.specs.declared.table.Row.{Row}
-use Rattle.span_comparisons.specs.Changed.{base_keys, is_new, new_keys}
-use Rattle.span_table.specs.RowSearch.{found_at}
-use Rattle.span_comparisons.specs.Changes.{Change, by_gap, change_order, compared, compared_at, is_changed, is_same, same_count, shown_changes, usual_order}
-use Rattle.span_table.specs.KeyLaws.{key_cmp_total, key_cmp-same}
-use Rattle.span_table.specs.Keys.{TableKey, key_cmp}
-use Rattle.span_table_text.specs.Shown.{Wanted, is_wanted}
-use Rattle.span_table.specs.Tables.{RowsRise}
 use Rattle.span_table.proofs.Alike.{has_key-append, same_keys}
 use Rattle.span_table_text.proofs.Ranked.{filter-sorted}
+use Rattle.span_comparisons.specs.{ascending, Of, Spans, Async, By, SelfTime, Total, Closed, Open, Row, found_at, key_cmp_total, key_cmp-same, TableKey, key_cmp, Wanted, is_wanted, RowsRise, Changed.{base_keys, is_new, new_keys}, Changes.{Change, by_gap, change_order, compared, compared_at, is_changed, is_same, same_count, shown_changes, usual_order}}
 
 abbrev pub key_of : Row → TableKey
 key_of row = row.key

@@ -1,25 +1,8 @@
 -- Lines that say what differs, from the pieces of which they are made.
-use Rattle.std.proofs.Common.{◌≡◌, ℕ, ◌-◌, List, [], ◌∷◌, ◌++◌, map, refl, ap, ◌∙◌, append_assoc, arith}
-use Rattle.std.specs.Prelude.{codes, decimal, flat_map}
-use Rattle.std.specs.Ordering.{match_ordering, nat_cmp}
-use Rattle.std.specs.declared.cmp.Ordering.{Ordering}
-use Rattle.std.specs.declared.cmp.Ordering.TheVariants.{Equal}
-use Rattle.std.proofs.lemmas.Cmp.{ranked}
-use Rattle.std.proofs.lemmas.Fmt.{decimal_digit}
-use Rattle.span_event.specs.Text.{Bytes}
-use Rattle.span_report.specs.Lines.{line_of, right_in}
-use Rattle.span_table.specs.declared.column.Column.{Column}
-use Rattle.span_table.specs.declared.of.Of.{Of}
-use Rattle.span_table.specs.declared.of.Of.TheVariants.{Spans, Async}
-use Rattle.span_table_text.specs.Lines.{column_title, value_text}
-use Rattle.span_comparisons.specs.Changes.{Change}
-use Rattle.span_table.specs.Sums.{gap}
-use Rattle.span_comparisons.specs.Comparison.{change_columns, change_line, difference_text}
-use Rattle.span_comparisons.specs.Pieces.{both_text, change_names, extent_text, spread_names, times_text}
-use Rattle.span_table_text.specs.Pieces.{then_title, then_value}
-use Rattle.span_comparisons.specs.Repeats.{spread_columns, spread_line}
-use Rattle.span_comparisons.specs.Spreads.{Spreads}
+use Rattle.std.specs.{Ordering.{match_ordering, nat_cmp}, Prelude.{codes, decimal, flat_map}, declared.cmp.Ordering.{Ordering, TheVariants.Equal}}
+use Rattle.std.proofs.{Common.{◌≡◌, ℕ, ◌-◌, List, [], ◌∷◌, ◌++◌, map, refl, ap, ◌∙◌, append_assoc, arith}, lemmas.{Cmp.ranked, Fmt.decimal_digit}}
 use Rattle.span_table_text.proofs.Pieces.{line_of-spaced, spaced-map}
+use Rattle.span_comparisons.specs.{Bytes, line_of, right_in, Column, Of, Spans, Async, column_title, value_text, gap, then_title, then_value, Changes.Change, Comparison.{change_columns, change_line, difference_text}, Pieces.{both_text, change_names, extent_text, spread_names, times_text}, Repeats.{spread_columns, spread_line}, Spreads.Spreads}
 
 -- a line of eight words and then some more
 eight : {A : Type 0} (a b c d e f g h : Bytes) (show : A → Bytes) (xs : List A) →

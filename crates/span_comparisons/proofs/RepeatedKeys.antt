@@ -1,18 +1,9 @@
 -- The keys of the tables of repeated runs.
-use Rattle.std.proofs.Common.{◌≡◌, Bool, true, false, cond, List, [], ◌∷◌, map, refl, sym, ap, ◌∙◌}
-use Rattle.std.specs.List.{AllByRecursion, dedup, dedup_from}
-use Rattle.std.specs.List.Sorted.{IsPermutation, IsSorted, IsStrictlySortedBy}
-use Rattle.std.specs.Cmp.{eq_by_cmp_equiv}
-use Rattle.std.specs.Ordering.{eq_by_cmp}
-use Rattle.std.specs.declared.cmp.Ordering.TheVariants.{Less}
-use Rattle.std.proofs.lemmas.Cmp.{on_total}
-use Rattle.std.proofs.lemmas.List.Kept.{Contains-dedup, Contains-from_dedup, IsStrictlySortedBy-dedup}
-use Rattle.std.proofs.lemmas.List.Sorted.{Contains-permutation, IsPermutation-map, IsPermutation-sym}
-use Rattle.span_keyed_tracks.specs.Keyed.{ascending}
+use Rattle.std.specs.{Cmp.eq_by_cmp_equiv, List.{AllByRecursion, dedup, dedup_from, Sorted.{IsPermutation, IsSorted, IsStrictlySortedBy}}, Ordering.eq_by_cmp, declared.cmp.Ordering.TheVariants.Less}
+use Rattle.std.proofs.{Common.{◌≡◌, Bool, true, false, cond, List, [], ◌∷◌, map, refl, sym, ap, ◌∙◌}, lemmas.{Cmp.on_total, List.{Kept.{Contains-dedup, Contains-from_dedup, IsStrictlySortedBy-dedup}, Sorted.{Contains-permutation, IsPermutation-map, IsPermutation-sym}}}}
 use Rattle.span_keyed_tracks.proofs.SameKeys.{ascending-members}
-use Rattle.span_table.specs.KeyLaws.{key_cmp_total, key_cmp-same, key_eq-same}
-use Rattle.span_table.specs.Keys.{TableKey, key_cmp}
 use Rattle.span_table.proofs.OwnRows.{ascending-own}
+use Rattle.span_comparisons.specs.{ascending, key_cmp_total, key_cmp-same, key_eq-same, TableKey, key_cmp}
 
 -- what stands for keys
 module _ {A : Type 0} (at : A → TableKey) where

@@ -1,22 +1,10 @@
 -- The keys of repeated runs in the order of their text.
-use Rattle.std.proofs.Common.{◌≡◌, ℕ, false, List, [], ◌∷◌, ◌++◌, map, refl, sym, ap, subst, ◌∙◌}
-use Rattle.std.specs.Prelude.{filter}
-use Rattle.std.specs.Cmp.{IsTotalOrder}
-use Rattle.std.specs.List.{IsDistinct}
-use Rattle.std.specs.List.Sorted.{IsStrictlySortedBy}
-use Rattle.std.specs.Ordering.{eq_by_cmp, is_eq, nat_cmp}
-use Rattle.std.specs.declared.cmp.Ordering.TheVariants.{Less}
-use Rattle.std.proofs.lemmas.Cmp.{back_total, nat_cmp_total, on_total, then_total}
+use Rattle.std.specs.{Cmp.IsTotalOrder, List.{IsDistinct, Sorted.IsStrictlySortedBy}, Ordering.{eq_by_cmp, is_eq, nat_cmp}, Prelude.filter, declared.cmp.Ordering.TheVariants.Less}
+use Rattle.std.proofs.{Common.{◌≡◌, ℕ, false, List, [], ◌∷◌, ◌++◌, map, refl, sym, ap, subst, ◌∙◌}, lemmas.Cmp.{back_total, nat_cmp_total, on_total, then_total}}
 use Rattle.span_journal.proofs.Sorted.{AllByRecursion-map, ascending-sorted, map-map, map-sorted}
-use Rattle.span_table.specs.declared.sums.By.{By}
-use Rattle.span_table.specs.KeyLaws.{key_cmp_total}
-use Rattle.span_table.specs.Keys.{TableKey, key_cmp}
-use Rattle.span_table_text.specs.Shown.{Wanted, is_wanted}
-use Rattle.span_comparisons.specs.Sides.{ClassifiesSpreads}
-use Rattle.span_comparisons.specs.Spreads.{Spreads, all_keys, is_apart, keys_of, median_gap, shown_keys, shown_spreads, spread_order, spreads_at}
-use Rattle.span_table.specs.Tables.{SpanTable}
-use Rattle.span_comparisons.proofs.Permuted.{apart}
 use Rattle.span_table_text.proofs.Ranked.{filter-sorted}
+use Rattle.span_comparisons.specs.{By, key_cmp_total, TableKey, key_cmp, Wanted, is_wanted, SpanTable, Sides.ClassifiesSpreads, Spreads.{Spreads, all_keys, is_apart, keys_of, median_gap, shown_keys, shown_spreads, spread_order, spreads_at}}
+use Rattle.span_comparisons.proofs.Permuted.{apart}
 
 -- the order of spreads is total
 pub spread_order-total : IsTotalOrder spread_order

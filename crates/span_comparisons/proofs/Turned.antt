@@ -1,32 +1,11 @@
 -- Two tables compared the other way round.
-use Rattle.std.proofs.Common.{◌≡◌, ℕ, ◌-◌, ◌&&◌, List, [], ◌∷◌, ◌++◌, length, map, refl, sym, ap, ap₂, ◌∙◌, add_comm, arith}
-use Rattle.std.specs.Prelude.{codes, filter, fold, not}
-use Rattle.std.specs.BTreeSet.{insert_key}
-use Rattle.std.specs.List.{Contains}
-use Rattle.std.specs.Cmp.{nat_cmp_is, nat_eq_equiv}
-use Rattle.std.specs.Fmt.{decimal}
-use Rattle.std.specs.Ordering.{match_ordering, nat_cmp, ordering_then}
-use Rattle.std.specs.declared.cmp.Ordering.{Ordering}
-use Rattle.std.specs.declared.cmp.Ordering.TheVariants.{Less, Equal, Greater}
-use Rattle.std.proofs.lemmas.List.{length-map}
-use Rattle.std.proofs.lemmas.List.Sorted.{Contains-permutation, IsPermutation-append_comm, IsPermutation-map}
-use Rattle.span_keyed_tracks.specs.Keyed.{ascending}
+use Rattle.std.specs.{BTreeSet.insert_key, Cmp.{nat_cmp_is, nat_eq_equiv}, Fmt.decimal, List.Contains, Ordering.{match_ordering, nat_cmp, ordering_then}, Prelude.{codes, filter, fold, not}, declared.cmp.Ordering.{Ordering, TheVariants.{Less, Equal, Greater}}}
+use Rattle.std.proofs.{Common.{◌≡◌, ℕ, ◌-◌, ◌&&◌, List, [], ◌∷◌, ◌++◌, length, map, refl, sym, ap, ap₂, ◌∙◌, add_comm, arith}, lemmas.List.{length-map, Sorted.{Contains-permutation, IsPermutation-append_comm, IsPermutation-map}}}
+use Rattle.span_self_time.proofs.Mapped.{filter-map}
 use Rattle.span_keyed_tracks.proofs.SameKeys.{ascending-members}
 use Rattle.span_journal.proofs.Sorted.{map-map}
-use Rattle.span_self_time.proofs.Mapped.{filter-map}
-use Rattle.span_table.specs.declared.of.Of.{Of}
-use Rattle.span_table.specs.declared.of.Of.TheVariants.{Spans, Async}
-use Rattle.span_table.specs.declared.sums.By.{By}
-use Rattle.span_table.specs.declared.sums.By.TheVariants.{SelfTime, Total, Closed, Open}
-use Rattle.span_table.specs.declared.table.Row.{Row}
-use Rattle.span_comparisons.specs.Changes.{Change, by_gap, change_order, changes_of, compared, compared_at, gap_by, is_changed, is_same, same_count, shown_changes, usual_order}
-use Rattle.span_table.specs.Sums.{gap, number_by}
-use Rattle.span_table.specs.KeyLaws.{key_cmp_total, key_cmp-same}
-use Rattle.span_table.specs.Keys.{TableKey, key_cmp}
-use Rattle.span_table_text.specs.Shown.{Wanted, is_wanted}
-use Rattle.span_comparisons.specs.Laws.{ComparisonsTurn, DifferencesTurn, turned}
-use Rattle.span_comparisons.proofs.Comparing.{length-changes}
-use Rattle.span_comparisons.proofs.Permuted.{key_of}
+use Rattle.span_comparisons.specs.{ascending, Of, Spans, Async, By, SelfTime, Total, Closed, Open, Row, gap, number_by, key_cmp_total, key_cmp-same, TableKey, key_cmp, Wanted, is_wanted, Changes.{Change, by_gap, change_order, changes_of, compared, compared_at, gap_by, is_changed, is_same, same_count, shown_changes, usual_order}, Laws.{ComparisonsTurn, DifferencesTurn, turned}}
+use Rattle.span_comparisons.proofs.{Comparing.length-changes, Permuted.key_of}
 
 keys-turned : (base other : List Row) → ascending key_cmp (map key_of (other ++ base)) ≡ ascending key_cmp (map key_of (base ++ other))
 keys-turned base other = ascending-members key_cmp_total key_cmp-same (map key_of (other ++ base)) (map key_of (base ++ other)) (moved other base) (moved base other)

@@ -1,10 +1,6 @@
 -- How what changed is found: key by key of the base, and then of the other where the base lacks it.
 use Rattle.std.specs.Prelude.{◌≡◌, ℕ, Bool, if◌then◌else◌, [], ◌∷◌, List, filter, is_none, length, map}
-use Rattle.span_table.specs.declared.table.Row.{Row}
-use Rattle.span_comparisons.specs.Changes.{Change, compared_at, is_changed, same_count, shown_changes}
-use Rattle.span_table_text.specs.Shown.{Wanted}
-use Rattle.span_table.specs.Tables.{sums_together}
-use Rattle.span_table.specs.RowSearch.{found_at}
+use Rattle.span_comparisons.specs.{Row, Wanted, sums_together, found_at, Changes.{Change, compared_at, is_changed, same_count, shown_changes}}
 
 -- the keys of the base
 abbrev pub base_keys : List Row → List Row → List Change

@@ -1,18 +1,6 @@
 -- What changed between two tables of the same columns.
-use Rattle.std.specs.Prelude.{ℕ, ◌+◌, ◌++◌, Bool, not, List, map, filter, count_by}
-use Rattle.std.specs.declared.cmp.Ordering.{Ordering}
-use Rattle.std.specs.Ordering.{nat_cmp, ordering_then}
-use Rattle.span_keyed_tracks.specs.Keyed.{ascending}
-use Rattle.span_comparisons.specs.declared.changes.Both.{Both}
-use Rattle.span_table.specs.declared.of.Of.{Of}
-use Rattle.span_table.specs.declared.of.Of.TheVariants.{Spans, Async}
-use Rattle.span_table.specs.declared.sums.By.{By}
-use Rattle.span_table.specs.declared.sums.By.TheVariants.{SelfTime, Total, Closed, Open}
-use Rattle.span_table.specs.declared.table.Row.{Row}
-use Rattle.span_table.specs.Keys.{TableKey, key_cmp}
-use Rattle.span_table.specs.Sums.{gap, number_by, same_sums}
-use Rattle.span_table_text.specs.Shown.{Wanted, is_wanted}
-use Rattle.span_table.specs.RowSearch.{sums_at}
+use Rattle.std.specs.{Ordering.{nat_cmp, ordering_then}, Prelude.{ℕ, ◌+◌, ◌++◌, Bool, not, List, map, filter, count_by}, declared.cmp.Ordering.Ordering}
+use Rattle.span_comparisons.specs.{ascending, Of, Spans, Async, By, SelfTime, Total, Closed, Open, Row, TableKey, key_cmp, gap, number_by, same_sums, Wanted, is_wanted, sums_at, declared.changes.Both.Both}
 
 -- a key with its sums in both
 pub record Change : Type 0 where

@@ -1,19 +1,6 @@
 -- The text of a comparison.
-use Rattle.std.specs.Prelude.{ℕ, ◌-◌, ◌==◌, if◌then◌else◌, Bool, true, List, [], ◌∷◌, ◌++◌, flat_map, length, map, codes, decimal}
-use Rattle.std.specs.Ordering.{match_ordering, nat_cmp}
-use Rattle.span_event.specs.Text.{Bytes}
-use Rattle.span_event.specs.declared.unit.Unit.{Unit}
-use Rattle.span_journal.specs.declared.rows.CountRow.{CountRow}
-use Rattle.span_report.specs.Lines.{count_line, first_line, line_of, right_in, seals_line, unit_line}
-use Rattle.span_table.specs.declared.column.Column.{Column}
-use Rattle.span_table.specs.declared.counts.TableCounts.{TableCounts}
-use Rattle.span_table.specs.declared.of.Of.{Of}
-use Rattle.span_table.specs.declared.of.Of.TheVariants.{Spans, Async}
-use Rattle.span_table.specs.declared.sums.By.{By}
-use Rattle.span_comparisons.specs.Changes.{Change, changes_of, compared, same_count, shown_changes}
-use Rattle.span_table_text.specs.Lines.{column_title, runs_line, shown_line, value_text}
-use Rattle.span_table_text.specs.Shown.{Wanted}
-use Rattle.span_table.specs.Tables.{SpanTable}
+use Rattle.std.specs.{Ordering.{match_ordering, nat_cmp}, Prelude.{ℕ, ◌-◌, ◌==◌, if◌then◌else◌, Bool, true, List, [], ◌∷◌, ◌++◌, flat_map, length, map, codes, decimal}}
+use Rattle.span_comparisons.specs.{Bytes, Unit, CountRow, count_line, first_line, line_of, right_in, seals_line, unit_line, Column, TableCounts, Of, Spans, Async, By, column_title, runs_line, shown_line, value_text, Wanted, SpanTable, Changes.{Change, changes_of, compared, same_count, shown_changes}}
 
 -- the head of the base but for its first line: each line has the word before it
 abbrev pub base_lines : CountRow → Bytes

@@ -1,19 +1,6 @@
 -- What differs between two tables for machines: JSON Lines.
-use Rattle.std.specs.Prelude.{ℕ, Bool, ◌&&◌, List, [], ◌∷◌, ◌++◌, flat_map, length, codes}
-use Rattle.std.specs.List.{list_all}
-use Rattle.span_event.specs.Text.{Bytes}
-use Rattle.span_event.specs.declared.unit.Unit.{Unit}
-use Rattle.span_comparisons.specs.declared.changes.Both.{Both}
-use Rattle.span_table.specs.declared.column.Column.{Column}
-use Rattle.span_table.specs.declared.of.Of.{Of}
-use Rattle.span_table.specs.declared.of.Of.TheVariants.{Spans, Async}
-use Rattle.span_table.specs.declared.counts.TableCounts.{TableCounts}
-use Rattle.span_comparisons.specs.Changes.{Change, changes_of, compared, same_count, shown_changes}
-use Rattle.span_table.specs.Sums.{fit, usual_by}
-use Rattle.span_table_text.specs.Shown.{Wanted}
-use Rattle.span_table.specs.Tables.{SpanTable}
-use Rattle.span_table.specs.Counts.{counts_fit}
-use Rattle.span_table_text.specs.Json.{columns_json, counts_members, member_of, number_member, object_of, value_members, version_member}
+use Rattle.std.specs.{List.list_all, Prelude.{ℕ, Bool, ◌&&◌, List, [], ◌∷◌, ◌++◌, flat_map, length, codes}}
+use Rattle.span_comparisons.specs.{Bytes, Unit, Column, Of, Spans, Async, TableCounts, fit, usual_by, Wanted, SpanTable, counts_fit, columns_json, counts_members, member_of, number_member, object_of, value_members, version_member, Changes.{Change, changes_of, compared, same_count, shown_changes}, declared.changes.Both.Both}
 
 -- the sums of both sides
 abbrev pub both_members : Of → Both → List Bytes

@@ -1,12 +1,6 @@
 -- The pieces of lines for machines that say what differs, in the order in which they are appended.
 use Rattle.std.specs.Prelude.{ℕ, List, ◌++◌, codes, decimal}
-use Rattle.span_event.specs.Text.{Bytes}
-use Rattle.span_comparisons.specs.declared.changes.Both.{Both}
-use Rattle.span_table.specs.declared.of.Of.{Of}
-use Rattle.span_table.specs.declared.of.Of.TheVariants.{Spans, Async}
-use Rattle.span_table.specs.declared.counts.TableCounts.{TableCounts}
-use Rattle.span_comparisons.specs.Repeats.{values_json}
-use Rattle.span_table_text.specs.JsonPieces.{counts_text}
+use Rattle.span_comparisons.specs.{Bytes, Of, Spans, Async, TableCounts, counts_text, Repeats.values_json, declared.changes.Both.Both}
 
 -- the first line of a comparison, from its columns to the counts of the base, from there to the counts of the other, and its end
 unfoldable pub row_counts_text : ℕ → ℕ → Bytes

@@ -1,19 +1,6 @@
 -- The facts that hold of every comparison and every text of repeated runs.
-use Rattle.std.specs.Prelude.{◌≡◌, ℕ, Bool, ◌+◌, ◌-◌, ◌<◌, List, ◌++◌, codes, decimal, length, map}
-use Rattle.std.specs.List.Sorted.{IsNonDecreasing, IsPermutation}
-use Rattle.span_event.specs.declared.unit.Unit.{Unit}
-use Rattle.span_report.specs.Lines.{first_line, unit_line}
-use Rattle.span_table.specs.declared.column.Column.{Column}
-use Rattle.span_table.specs.declared.of.Of.{Of}
-use Rattle.span_table.specs.declared.sums.By.{By}
-use Rattle.span_table.specs.declared.table.Row.{Row}
-use Rattle.span_comparisons.specs.Changes.{Change, changes_of, compared, same_count, shown_changes}
-use Rattle.span_comparisons.specs.Comparison.{change_columns, compared_heads, comparison_of, difference_text, same_line}
-use Rattle.span_table_text.specs.Lines.{shown_line}
-use Rattle.span_comparisons.specs.Repeats.{repeats_of}
-use Rattle.span_table_text.specs.Shown.{Wanted, shown_rows}
-use Rattle.span_comparisons.specs.Spreads.{apart_spreads, overlap_count, same_spread_count, shown_spreads, sorted}
-use Rattle.span_table.specs.Tables.{RowsRise, SpanTable}
+use Rattle.std.specs.{List.Sorted.{IsNonDecreasing, IsPermutation}, Prelude.{◌≡◌, ℕ, Bool, ◌+◌, ◌-◌, ◌<◌, List, ◌++◌, codes, decimal, length, map}}
+use Rattle.span_comparisons.specs.{Unit, first_line, unit_line, Column, Of, By, Row, shown_line, Wanted, shown_rows, RowsRise, SpanTable, Changes.{Change, changes_of, compared, same_count, shown_changes}, Comparison.{change_columns, compared_heads, comparison_of, difference_text, same_line}, Repeats.repeats_of, Spreads.{apart_spreads, overlap_count, same_spread_count, shown_spreads, sorted}}
 
 -- between a table and itself nothing changed: below the names of the columns is how many keys are shown
 abbrev pub ComparesWithItself : Unit → By → Wanted → Bool → SpanTable → Type 0

@@ -1,13 +1,6 @@
 -- The pieces of lines that say what differs, in the order in which they are appended.
 use Rattle.std.specs.Prelude.{ℕ, ◌∷◌, ◌++◌, codes, decimal}
-use Rattle.span_event.specs.Text.{Bytes}
-use Rattle.span_report.specs.Lines.{right_in}
-use Rattle.span_comparisons.specs.declared.changes.Both.{Both}
-use Rattle.span_table.specs.declared.of.Of.{Of}
-use Rattle.span_table.specs.declared.of.Of.TheVariants.{Spans, Async}
-use Rattle.span_comparisons.specs.declared.spreads.Spread.{Spread}
-use Rattle.span_comparisons.specs.Comparison.{difference_text}
-use Rattle.span_table_text.specs.Pieces.{then_right}
+use Rattle.span_comparisons.specs.{Bytes, right_in, Of, Spans, Async, then_right, Comparison.difference_text, declared.{changes.Both.Both, spreads.Spread.Spread}}
 
 -- two sums of times, after how they differ
 abbrev pub times_text : ℕ → ℕ → Bytes

@@ -1,22 +1,6 @@
 -- The texts of repeated runs: for people, and for machines.
-use Rattle.std.specs.Prelude.{ℕ, ◌^◌, nat_lt, Bool, true, ◌&&◌, List, [], ◌∷◌, ◌++◌, flat_map, length, map, codes, decimal}
-use Rattle.std.specs.List.{list_all}
-use Rattle.span_event.specs.Text.{Bytes}
-use Rattle.span_event.specs.declared.unit.Unit.{Unit}
-use Rattle.span_report.specs.Lines.{first_line, line_of, right_in, unit_line}
-use Rattle.span_table.specs.declared.column.Column.{Column}
-use Rattle.span_table.specs.declared.counts.TableCounts.{TableCounts}
-use Rattle.span_table.specs.declared.of.Of.{Of}
-use Rattle.span_table.specs.declared.sums.By.{By}
-use Rattle.span_comparisons.specs.Comparison.{compared_heads, difference_text}
-use Rattle.span_comparisons.specs.JsonChanges.{json_heads}
-use Rattle.span_table.specs.Counts.{counts_fit}
-use Rattle.span_table_text.specs.Json.{member_of, object_of, value_members, with_commas}
-use Rattle.span_table.specs.Keys.{TableKey}
-use Rattle.span_table_text.specs.Lines.{column_title, shown_line, value_text}
-use Rattle.span_table_text.specs.Shown.{Wanted}
-use Rattle.span_comparisons.specs.Spreads.{Spreads, all_keys, apart_spreads, overlap_count, same_spread_count, shown_keys, shown_spreads, values_at}
-use Rattle.span_table.specs.Tables.{SpanTable, counts_together}
+use Rattle.std.specs.{List.list_all, Prelude.{ℕ, ◌^◌, nat_lt, Bool, true, ◌&&◌, List, [], ◌∷◌, ◌++◌, flat_map, length, map, codes, decimal}}
+use Rattle.span_comparisons.specs.{Bytes, Unit, first_line, line_of, right_in, unit_line, Column, TableCounts, Of, By, counts_fit, member_of, object_of, value_members, with_commas, TableKey, column_title, shown_line, value_text, Wanted, SpanTable, counts_together, Comparison.{compared_heads, difference_text}, JsonChanges.json_heads, Spreads.{Spreads, all_keys, apart_spreads, overlap_count, same_spread_count, shown_keys, shown_spreads, values_at}}
 
 -- the counts of a side's repetitions added
 abbrev pub side_counts : List SpanTable → TableCounts

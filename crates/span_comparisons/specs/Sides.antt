@@ -1,7 +1,6 @@
 -- What is known of a side of repeated runs while its keys are looked up.
 use Rattle.std.specs.Prelude.{◌≡◌, ℕ, List, filter}
-use Rattle.span_comparisons.specs.Spreads.{Spreads, is_apart, overlap_count, same_spread_count}
-use Rattle.span_table.specs.Tables.{SpanTable}
+use Rattle.span_comparisons.specs.{SpanTable, Spreads.{Spreads, is_apart, overlap_count, same_spread_count}}
 
 -- the tables of a side, and the values that were found last
 pub record SideValues : Type 0 where

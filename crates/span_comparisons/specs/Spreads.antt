@@ -1,16 +1,6 @@
 -- What repeated runs have of each key: on each side a value for each repetition, and how these are spread.
-use Rattle.std.specs.Prelude.{ℕ, ◌-◌, ◌/◌, ◌==◌, nat_lt, if◌then◌else◌, Bool, not, ◌&&◌, ◌||◌, List, [], ◌∷◌, ◌++◌, map, flat_map, filter, length, get_or, count_by}
-use Rattle.std.specs.declared.cmp.Ordering.{Ordering}
-use Rattle.std.specs.Ordering.{nat_cmp, ordering_then}
-use Rattle.span_keyed_tracks.specs.Keyed.{ascending}
-use Rattle.span_comparisons.specs.declared.spreads.Spread.{Spread}
-use Rattle.span_table.specs.declared.sums.By.{By}
-use Rattle.span_table.specs.declared.table.Row.{Row}
-use Rattle.span_table.specs.RowSearch.{sums_at}
-use Rattle.span_table.specs.Sums.{gap, number_by}
-use Rattle.span_table.specs.Keys.{TableKey, key_cmp}
-use Rattle.span_table_text.specs.Shown.{Wanted, is_wanted}
-use Rattle.span_table.specs.Tables.{SpanTable}
+use Rattle.std.specs.{Ordering.{nat_cmp, ordering_then}, Prelude.{ℕ, ◌-◌, ◌/◌, ◌==◌, nat_lt, if◌then◌else◌, Bool, not, ◌&&◌, ◌||◌, List, [], ◌∷◌, ◌++◌, map, flat_map, filter, length, get_or, count_by}, declared.cmp.Ordering.Ordering}
+use Rattle.span_comparisons.specs.{ascending, By, Row, sums_at, gap, number_by, TableKey, key_cmp, Wanted, is_wanted, SpanTable, declared.spreads.Spread.Spread}
 
 -- a number put before the first that isn't less
 abbrev pub put_in_order : ℕ → List ℕ → List ℕ

@@ -1,8 +1,6 @@
 //! What changed between two tables of the same columns.
 ghost use Rattle.std.specs.Prelude.{◌≡◌, ◌++◌, ◌∷◌, [], ◌<◌, ◌≤◌, ◌+◌, ◌-◌, ◌^◌, List, length, IfOk, OnOk};
-ghost use Rattle.span_comparisons.specs.Changed.{Classifies, base_keys, new_key, new_keys};
-ghost use Rattle.span_comparisons.specs.Changes.{Change, by_gap, change_order, changes_of, compared, gap_by, is_changed, same_count, shown_changes, usual_order};
-ghost use Rattle.span_table.specs.Tables.{RowsRise};
+ghost use Rattle.span_comparisons.specs.{RowsRise, Changed.{Classifies, base_keys, new_key, new_keys}, Changes.{Change, by_gap, change_order, changes_of, compared, gap_by, is_changed, same_count, shown_changes, usual_order}};
 
 use span_table::{By, Key, Of, Row, Sum, Sums, row_at, sums_at};
 use span_table_text::Shown;

@@ -1,8 +1,6 @@
 //! The text of a comparison of two tables.
 ghost use Rattle.std.specs.Prelude.{◌≡◌, ◌++◌, string_bytes, flat_map, OnOk, IfOk};
-ghost use Rattle.span_table.specs.declared.of.Of.TheVariants.{Spans, Async};
-ghost use Rattle.span_comparisons.specs.Comparison.{base_lines, base_runs_line, change_columns, change_line, compared_heads, comparison_of, difference_text, other_lines, same_line};
-ghost use Rattle.span_comparisons.specs.Pieces.{both_text, change_names, times_text};
+ghost use Rattle.span_comparisons.specs.{Spans, Async, Comparison.{base_lines, base_runs_line, change_columns, change_line, compared_heads, comparison_of, difference_text, other_lines, same_line}, Pieces.{both_text, change_names, times_text}};
 
 use crate::changes::{Both, Changed, differences};
 use span_event::Unit;

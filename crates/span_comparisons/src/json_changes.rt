@@ -1,11 +1,6 @@
 //! What changed between two tables for machines: JSON Lines.
-ghost use Rattle.std.specs.Prelude.{◌≡◌, ◌++◌, ◌&&◌, true, false, flat_map, length, string_bytes, IfOk, IfErr, OnOk};
-ghost use Rattle.std.specs.List.{list_all};
-ghost use Rattle.span_table_text.specs.declared.json_lines.JsonFault.TheVariants.{TooGreat};
-ghost use Rattle.span_comparisons.specs.JsonChanges.{both_fit, json_change, json_changes_fit, json_comparison_of, json_heads};
-ghost use Rattle.span_table.specs.Counts.{counts_fit};
-ghost use Rattle.span_table.specs.declared.of.Of.TheVariants.{Spans, Async};
-ghost use Rattle.span_comparisons.specs.JsonPieces.{both_text, closed_text, compared_counts_text, ends_text, open_text, other_text, points_text, row_counts_text, selves_text, spans_text, totals_text};
+ghost use Rattle.std.specs.{List.list_all, Prelude.{◌≡◌, ◌++◌, ◌&&◌, true, false, flat_map, length, string_bytes, IfOk, IfErr, OnOk}};
+ghost use Rattle.span_comparisons.specs.{TooGreat, counts_fit, Spans, Async, JsonChanges.{both_fit, json_change, json_changes_fit, json_comparison_of, json_heads}, JsonPieces.{both_text, closed_text, compared_counts_text, ends_text, open_text, other_text, points_text, row_counts_text, selves_text, spans_text, totals_text}};
 
 use crate::changes::{Both, Changed, ComparedTables, differences};
 use span_event::Unit;

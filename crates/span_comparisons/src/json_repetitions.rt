@@ -1,9 +1,6 @@
 //! Repeated runs for machines: JSON Lines.
-ghost use Rattle.std.specs.Prelude.{◌≡◌, ◌≤◌, ◌++◌, ◌&&◌, true, false, decimal, flat_map, length, map, string_bytes, IfErr, IfOk, OnOk};
-ghost use Rattle.std.specs.List.{join_with_byte, list_all};
-ghost use Rattle.span_table_text.specs.declared.json_lines.JsonFault.TheVariants.{TooGreat};
-ghost use Rattle.span_comparisons.specs.JsonPieces.{base_values_text, other_values_text};
-ghost use Rattle.span_comparisons.specs.Repeats.{json_repeats_fit, json_repeats_of, json_values, json_values_at, key_fits, values_fit, values_json};
+ghost use Rattle.std.specs.{List.{join_with_byte, list_all}, Prelude.{◌≡◌, ◌≤◌, ◌++◌, ◌&&◌, true, false, decimal, flat_map, length, map, string_bytes, IfErr, IfOk, OnOk}};
+ghost use Rattle.span_comparisons.specs.{TooGreat, JsonPieces.{base_values_text, other_values_text}, Repeats.{json_repeats_fit, json_repeats_of, json_values, json_values_at, key_fits, values_fit, values_json}};
 
 use crate::json_changes::{FirstLine, put_first};
 use crate::repeated::repeated;

@@ -1,8 +1,6 @@
 //! Which keys of repeated runs are shown, and of which of them the sides are apart.
 ghost use Rattle.std.specs.Prelude.{◌≡◌, ◌++◌, ◌∷◌, ◌<◌, ◌≤◌, ◌+◌, ◌-◌, ◌^◌, [], List, length, map, IfOk, OnOk};
-ghost use Rattle.span_table.specs.Keys.{TableKey};
-ghost use Rattle.span_comparisons.specs.Sides.{ClassifiesSpreads};
-ghost use Rattle.span_comparisons.specs.Spreads.{Spreads, all_keys, apart_spreads, keys_of, overlap_count, same_spread_count, shown_keys, shown_spreads, spreads_at};
+ghost use Rattle.span_comparisons.specs.{TableKey, Sides.ClassifiesSpreads, Spreads.{Spreads, all_keys, apart_spreads, keys_of, overlap_count, same_spread_count, shown_keys, shown_spreads, spreads_at}};
 
 use crate::sides::Side;
 use crate::spreads::Spreads;

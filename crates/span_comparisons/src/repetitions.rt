@@ -1,7 +1,6 @@
 //! The text of repeated runs.
 ghost use Rattle.std.specs.Prelude.{◌≡◌, ◌≤◌, ◌++◌, flat_map, length, string_bytes, OnOk, IfOk};
-ghost use Rattle.span_comparisons.specs.Pieces.{extent_text, spread_names};
-ghost use Rattle.span_comparisons.specs.Repeats.{overlap_line, repeats_of, spread_columns, spread_line};
+ghost use Rattle.span_comparisons.specs.{Pieces.{extent_text, spread_names}, Repeats.{overlap_line, repeats_of, spread_columns, spread_line}};
 
 use crate::comparisons::{put_heads, put_times};
 use crate::repeated::repeated;

@@ -1,7 +1,6 @@
 //! A side of repeated runs: a table for each repetition.
 ghost use Rattle.std.specs.Prelude.{◌≡◌, ◌≤◌, map, length, OnOk, IfOk};
-ghost use Rattle.span_comparisons.specs.Repeats.{side_counts};
-ghost use Rattle.span_comparisons.specs.Spreads.{spread_of, values_at};
+ghost use Rattle.span_comparisons.specs.{Repeats.side_counts, Spreads.{spread_of, values_at}};
 
 use crate::spreads::Spread;
 use span_table::{By, Key, Sum, Table, TableCounts, sums_at};

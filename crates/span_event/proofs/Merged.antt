@@ -1,13 +1,7 @@
 -- The first pair of two lists of arguments merged, and the order of the whole.
-use Rattle.std.proofs.Common.{◌≡◌, ℕ, List, [], ◌∷◌, ◌++◌, length, Bool, true, false, cond, None, Ordering, Less, Equal, Greater, is_eq, filter, is_none, append-nil, refl, sym, ap, subst, ◌∙◌, arith}
-use Rattle.std.specs.Ordering.{ordering_reverse, match_ordering}
-use Rattle.std.specs.BTreeMap.{insert_entry}
-use Rattle.std.proofs.lemmas.Cmp.{nat_list_cmp_total}
-use Rattle.std.proofs.lemmas.Map.Text.{is_eq-slice_cmp}
-use Rattle.std.proofs.lemmas.Slice.Eq.{bytes_eq-Decides}
-use Rattle.span_event.specs.declared.args.ArgValue.{ArgValue}
-use Rattle.span_event.specs.Args.{IsBelowAll, IsInNameOrder, value_of, in_name_order, lacking, merged}
-use Rattle.span_event.specs.Text.{text_cmp, same_text}
+use Rattle.std.specs.{BTreeMap.insert_entry, Ordering.{ordering_reverse, match_ordering}}
+use Rattle.std.proofs.{Common.{◌≡◌, ℕ, List, [], ◌∷◌, ◌++◌, length, Bool, true, false, cond, None, Ordering, Less, Equal, Greater, is_eq, filter, is_none, append-nil, refl, sym, ap, subst, ◌∙◌, arith}, lemmas.{Cmp.nat_list_cmp_total, Map.Text.is_eq-slice_cmp, Slice.Eq.bytes_eq-Decides}}
+use Rattle.span_event.specs.{Args.{IsBelowAll, IsInNameOrder, value_of, in_name_order, lacking, merged}, Text.{text_cmp, same_text}, declared.args.ArgValue.ArgValue}
 
 abbrev Pair : Type 0
 Pair = List ℕ × ArgValue

@@ -1,15 +1,7 @@
 -- The orders of ids, threads and texts are total, and what they don't distinguish is the same.
-use Rattle.std.proofs.Common.{◌≡◌, Ordering, Less, Equal, Greater, Option, Some, None, ap, refl}
-use Rattle.std.specs.Option.{option_cmp}
-use Rattle.std.specs.Ordering.{int_cmp, ordering_then}
-use Rattle.std.specs.Cmp.{IsTotalOrder}
-use Rattle.std.specs.Cmp.Lexicographic.{options_total}
-use Rattle.std.specs.FinMap.{int_cmp-IsAntisymmetric, slice_cmp-IsAntisymmetric, nat_cmp-IsAntisymmetric}
-use Rattle.std.proofs.lemmas.Cmp.{then_total, on_total, int_cmp_total, nat_list_cmp_total}
-use Rattle.span_event.specs.declared.event.IdKey.{IdKey}
-use Rattle.span_event.specs.declared.thread.Thread.{Thread}
-use Rattle.span_event.specs.Orders.{id_cmp, thread_cmp}
-use Rattle.span_event.specs.Text.{Bytes, text_cmp}
+use Rattle.std.specs.{Cmp.{IsTotalOrder, Lexicographic.options_total}, FinMap.{int_cmp-IsAntisymmetric, slice_cmp-IsAntisymmetric, nat_cmp-IsAntisymmetric}, Option.option_cmp, Ordering.{int_cmp, ordering_then}}
+use Rattle.std.proofs.{Common.{◌≡◌, Ordering, Less, Equal, Greater, Option, Some, None, ap, refl}, lemmas.Cmp.{then_total, on_total, int_cmp_total, nat_list_cmp_total}}
+use Rattle.span_event.specs.{Orders.{id_cmp, thread_cmp}, Text.{Bytes, text_cmp}, declared.{event.IdKey.IdKey, thread.Thread.Thread}}
 
 pub both_equal : (r s : Ordering) → ordering_then r s ≡ Equal → (r ≡ Equal) × (s ≡ Equal)
 both_equal Less s e = cc

@@ -1,12 +1,8 @@
 -- The program compares the values of arguments by their order.
+use Rattle.std.specs.{Ordering.{bool_cmp, int_cmp, ordering_then}, declared.cmp.Ordering.{Ordering, TheVariants.{Less, Equal, Greater}}}
 use Rattle.std.proofs.Common.{◌≡◌, refl, sym}
-use Rattle.std.specs.Ordering.{bool_cmp, int_cmp, ordering_then}
-use Rattle.std.specs.declared.cmp.Ordering.{Ordering}
-use Rattle.std.specs.declared.cmp.Ordering.TheVariants.{Less, Equal, Greater}
+use Rattle.span_event.specs.{Orders.value_cmp, declared.args.ArgValue.{ArgValue, TheVariants.{Nil, Flag, Whole, Words, Other}}}
 use Rattle.span_event.specs.contracts.args.ArgValueOrd.TheImpl as derived
-use Rattle.span_event.specs.declared.args.ArgValue.{ArgValue}
-use Rattle.span_event.specs.declared.args.ArgValue.TheVariants.{Nil, Flag, Whole, Words, Other}
-use Rattle.span_event.specs.Orders.{value_cmp}
 
 ordering_then-Equal : (r : Ordering) → ordering_then r Equal ≡ r
 ordering_then-Equal Less = refl

@@ -1,11 +1,6 @@
 -- The arguments of an event, as a list of pairs of a name and a value.
-use Rattle.std.specs.Prelude.{◌≡◌, ℤ, Bool, List, [], ◌∷◌, ◌++◌, Option, Some, None, IsSome, is_some, is_none, filter, if◌then◌else◌}
-use Rattle.std.specs.declared.cmp.Ordering.TheVariants.{Less}
-use Rattle.std.specs.List.{list_all}
-use Rattle.std.specs.BTreeMap.{insert_entry}
-use Rattle.span_event.specs.declared.args.ArgValue.{ArgValue}
-use Rattle.span_event.specs.declared.args.ArgValue.TheVariants.{Whole, Words, Flag, Nil, Other}
-use Rattle.span_event.specs.Text.{Bytes, text_cmp, same_text}
+use Rattle.std.specs.{BTreeMap.insert_entry, List.list_all, Prelude.{◌≡◌, ℤ, Bool, List, [], ◌∷◌, ◌++◌, Option, Some, None, IsSome, is_some, is_none, filter, if◌then◌else◌}, declared.cmp.Ordering.TheVariants.Less}
+use Rattle.span_event.specs.{Text.{Bytes, text_cmp, same_text}, declared.args.ArgValue.{ArgValue, TheVariants.{Whole, Words, Flag, Nil, Other}}}
 
 abbrev pub Arguments : Type 0
 Arguments = List (Bytes × ArgValue)

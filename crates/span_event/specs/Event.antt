@@ -1,10 +1,6 @@
 -- When an event is one that the format's fields give.
 use Rattle.std.specs.Prelude.{◌≡◌, ℕ, [], ℤ, pos, negsuc, ◌≤ℤ◌, ◌≤◌, ◌⊎◌, IsSome, IfSome, Some, None}
-use Rattle.span_event.specs.declared.event.Event.{Event}
-use Rattle.span_event.specs.declared.event.IdKey.{IdKey}
-use Rattle.span_event.specs.declared.event.Phase.{Phase}
-use Rattle.span_event.specs.declared.event.Phase.TheVariants.{SpanBegin, SpanEnd, Complete, AsyncBegin, AsyncPoint, AsyncEnd, FlowStart, FlowStep, FlowEnd, Counter, Instant, Meta}
-use Rattle.span_event.specs.Args.{AllWhole}
+use Rattle.span_event.specs.{Args.AllWhole, declared.event.{Event.Event, IdKey.IdKey, Phase.{Phase, TheVariants.{SpanBegin, SpanEnd, Complete, AsyncBegin, AsyncPoint, AsyncEnd, FlowStart, FlowStep, FlowEnd, Counter, Instant, Meta}}}}
 
 -- the greatest time and length, in the unit of the run: 2^62 - 1, so that the end of an event stays below 2^63
 abbrev pub greatest_time : ℕ

@@ -1,7 +1,6 @@
 -- The faults, each with its number and its word.
 use Rattle.std.specs.Prelude.{ℕ, List, [], ◌∷◌, Option, ◌==◌, find, codes}
-use Rattle.span_event.specs.declared.fault.Fault.{Fault}
-use Rattle.span_event.specs.declared.fault.Fault.TheVariants.{NotJson, NotTrace, TooLarge, TooMany, NotObject, NoPhase, NoTime, NotWhole, NoDuration, BadField, NoId, BadReach, BadSeries, NoOpenSpan, TimeGoesBack, NoOpenAsync, EndBeforeBegin, FlowOpen, NoFlow, NameDiffers, Memory, Full, Busy, CallersFull, FileCount, NotStarted, Unaccounted, Output, NotOpened, NotTable, OtherColumns, TooGreat, StacksTooLarge}
+use Rattle.span_event.specs.declared.fault.Fault.{Fault, TheVariants.{NotJson, NotTrace, TooLarge, TooMany, NotObject, NoPhase, NoTime, NotWhole, NoDuration, BadField, NoId, BadReach, BadSeries, NoOpenSpan, TimeGoesBack, NoOpenAsync, EndBeforeBegin, FlowOpen, NoFlow, NameDiffers, Memory, Full, Busy, CallersFull, FileCount, NotStarted, Unaccounted, Output, NotOpened, NotTable, OtherColumns, TooGreat, StacksTooLarge}}
 
 abbrev pub number_of : Fault → ℕ
 number_of NotJson = 1

@@ -1,13 +1,7 @@
 -- The numbers of what is wrong with an element of a trace, and when an item is good.
 use Rattle.std.specs.Prelude.{ℕ}
-use Rattle.span_event.specs.declared.item.Item.{Item}
-use Rattle.span_event.specs.declared.item.Item.TheVariants.{Good, Bad, Other}
-use Rattle.span_event.specs.declared.item.ItemFault.{ItemFault}
-use Rattle.span_event.specs.declared.item.ItemFault.TheVariants.{NotObject, NoPhase, NoTime, NotWhole, NoDuration, BadField, NoId, BadReach, BadSeries}
-use Rattle.span_event.specs.declared.fault.Fault.{Fault}
+use Rattle.span_event.specs.{Event.IsGood, Fault.number_of, declared.{fault.Fault.Fault, item.{Item.{Item, TheVariants.{Good, Bad, Other}}, ItemFault.{ItemFault, TheVariants.{NotObject, NoPhase, NoTime, NotWhole, NoDuration, BadField, NoId, BadReach, BadSeries}}}}}
 use Rattle.span_event.specs.declared.fault.Fault.TheVariants as table
-use Rattle.span_event.specs.Event.{IsGood}
-use Rattle.span_event.specs.Fault.{number_of}
 
 -- the fault of the table
 abbrev pub as_fault : ItemFault → Fault

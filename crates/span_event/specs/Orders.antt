@@ -1,16 +1,6 @@
 -- The orders of ids, of reaches, of threads and of the values of arguments.
-use Rattle.std.specs.Prelude.{ℕ, Bool, ◌&&◌}
-use Rattle.std.specs.Option.{option_cmp, option_eq}
-use Rattle.std.specs.Ordering.{bool_cmp, nat_cmp, int_cmp, int_eq, on, ordering_then, then_cmp}
-use Rattle.std.specs.declared.cmp.Ordering.{Ordering}
-use Rattle.span_event.specs.declared.args.ArgValue.{ArgValue}
-use Rattle.span_event.specs.declared.args.ArgValue.TheVariants.{Nil, Flag, Whole, Words, Other}
-use Rattle.span_event.specs.declared.event.IdKey.{IdKey}
-use Rattle.span_event.specs.declared.event.Reach.{Reach}
-use Rattle.span_event.specs.declared.event.Reach.TheVariants.{Global, Process, Thread as OneThread}
-use Rattle.span_event.specs.declared.thread.Thread.{Thread}
-use Rattle.span_event.specs.Args.{as_flag, as_text, as_whole}
-use Rattle.span_event.specs.Text.{text_cmp, same_text}
+use Rattle.std.specs.{Option.{option_cmp, option_eq}, Ordering.{bool_cmp, nat_cmp, int_cmp, int_eq, on, ordering_then, then_cmp}, Prelude.{ℕ, Bool, ◌&&◌}, declared.cmp.Ordering.Ordering}
+use Rattle.span_event.specs.{Args.{as_flag, as_text, as_whole}, Text.{text_cmp, same_text}, declared.{args.ArgValue.{ArgValue, TheVariants.{Nil, Flag, Whole, Words, Other}}, event.{IdKey.IdKey, Reach.{Reach, TheVariants.{Global, Process, Thread as OneThread}}}, thread.Thread.Thread}}
 
 -- by home, none before any and then by number; and then by the bytes of the id
 abbrev pub id_cmp : IdKey → IdKey → Ordering

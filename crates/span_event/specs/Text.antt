@@ -1,11 +1,6 @@
 -- Texts as their bytes, and the bytes of a text, however it is held.
-use Rattle.std.specs.Prelude.{ℕ, List, Bool, nat_eq}
-use Rattle.std.specs.declared.cmp.Ordering.{Ordering}
-use Rattle.std.specs.Ordering.{nat_cmp}
-use Rattle.std.specs.Arc.{arc_str_bytes}
-use Rattle.std.specs.Cmp.Lexicographic.{pointwise, slice_cmp}
-use Rattle.span_event.specs.declared.text.Held.{Held}
-use Rattle.span_event.specs.declared.text.Held.TheVariants.{Short, Long}
+use Rattle.std.specs.{Arc.arc_str_bytes, Cmp.Lexicographic.{pointwise, slice_cmp}, Ordering.nat_cmp, Prelude.{ℕ, List, Bool, nat_eq}, declared.cmp.Ordering.Ordering}
+use Rattle.span_event.specs.declared.text.Held.{Held, TheVariants.{Short, Long}}
 
 -- a text, as its bytes
 abbrev pub Bytes : Type 0

@@ -1,8 +1,6 @@
 -- The thread that an event is on.
-use Rattle.std.specs.Prelude.{Bool, ◌&&◌}
-use Rattle.std.specs.Ordering.{int_eq}
-use Rattle.span_event.specs.declared.event.Event.{Event}
-use Rattle.span_event.specs.declared.thread.Thread.{Thread}
+use Rattle.std.specs.{Ordering.int_eq, Prelude.{Bool, ◌&&◌}}
+use Rattle.span_event.specs.declared.{event.Event.Event, thread.Thread.Thread}
 
 abbrev pub thread_of : Event → Thread
 thread_of event = record { pid = event.pid; tid = event.tid }

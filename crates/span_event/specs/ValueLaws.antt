@@ -1,8 +1,6 @@
 -- The order of the values of arguments is total, and is that by which the program compares them.
-use Rattle.std.specs.Cmp.{IsTotalOrder, bool_cmp_total, int_cmp_total, nat_cmp_total, on_total, then_total}
-use Rattle.std.specs.Cmp.Lexicographic.{nat_list_cmp_total, options_total}
-use Rattle.span_event.specs.Args.{as_flag, as_text, as_whole}
-use Rattle.span_event.specs.Orders.{kind_place, value_cmp}
+use Rattle.std.specs.Cmp.{IsTotalOrder, bool_cmp_total, int_cmp_total, nat_cmp_total, on_total, then_total, Lexicographic.{nat_list_cmp_total, options_total}}
+use Rattle.span_event.specs.{Args.{as_flag, as_text, as_whole}, Orders.{kind_place, value_cmp}}
 
 -- the order of values is total
 pub value_cmp_total : IsTotalOrder value_cmp

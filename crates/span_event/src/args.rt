@@ -1,7 +1,5 @@
 //! The arguments of an event.
-ghost use Rattle.std.specs.Prelude.{◌≡◌, [], ◌∷◌, option_copied, IfOk, IfSome, IfNone};
-ghost use Rattle.std.specs.Option.{option_map_or};
-ghost use Rattle.std.specs.Arc.{arc_slice_items};
+ghost use Rattle.std.specs.{Arc.arc_slice_items, Option.option_map_or, Prelude.{◌≡◌, [], ◌∷◌, option_copied, IfOk, IfSome, IfNone}};
 ghost use Rattle.span_event.specs.Args.{Arguments, IsInNameOrder, value_of, merged};
 
 use crate::text::Text;

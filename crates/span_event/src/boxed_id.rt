@@ -1,8 +1,5 @@
 //! An id behind a pointer.
-ghost use Rattle.std.specs.Prelude.{◌≡◌, ◌&&◌, ◌++◌, IfOk};
-ghost use Rattle.std.specs.Ordering.{as_partial_cmp};
-ghost use Rattle.std.specs.Cmp.{partial_order_from_own_ties};
-ghost use Rattle.std.specs.Cmp.Rules.{comparing, hashing};
+ghost use Rattle.std.specs.{Cmp.{partial_order_from_own_ties, Rules.{comparing, hashing}}, Ordering.as_partial_cmp, Prelude.{◌≡◌, ◌&&◌, ◌++◌, IfOk}};
 ghost use Rattle.std.proofs.Common.{rules};
 
 use crate::event::IdKey;

@@ -1,11 +1,8 @@
 //! A text of a trace.
-ghost use Rattle.std.specs.Prelude.{◌≡◌, [], IfOk, Some, refl};
-ghost use Rattle.std.specs.Hash as fed;
-ghost use Rattle.std.specs.Cmp.Lexicographic.{nat_list_eq_equiv, nat_list_cmp_total, texts_ties, texts_po};
-ghost use Rattle.std.specs.Cmp.{partial_equiv_from_equiv};
-ghost use Rattle.std.specs.Cmp.Rules.{hashing};
+ghost use Rattle.std.specs.{Cmp.{partial_equiv_from_equiv, Lexicographic.{nat_list_eq_equiv, nat_list_cmp_total, texts_ties, texts_po}, Rules.hashing}, Prelude.{◌≡◌, [], IfOk, Some, refl}};
 ghost use Rattle.std.proofs.Common.{rules};
 ghost use Rattle.span_event.specs.Text.{Bytes, held_bytes, same_text, text_cmp};
+ghost use Rattle.std.specs.Hash as fed;
 
 use crate::short::{SHORT, Short};
 use std::alloc::{AllocError, Global};

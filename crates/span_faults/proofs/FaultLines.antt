@@ -1,12 +1,9 @@
 -- What is said of runs that failed.
+use Rattle.std.specs.Io.KnownBytes.{Appends}
 use Rattle.std.proofs.Common.{◌≡◌, ◌≤◌, ℕ, ◌⊎◌, List, [], Option, Some, None, inl, inr, refl, sym, append-nil, ◌∙◌, arith}
+use Rattle.span_faults.specs.{SinkState, Input, RunEnd, FaultLines.{MayHint, Reports, SaysAndHints, SaysOrMemory}}
 use mathlib.Core.Logic.{dite}
 use native.Mathlib.Decide.{ℕ_discrete}
-use Rattle.span_report.specs.Sink.{SinkState}
-use Rattle.span_collect.specs.declared.files.Input.{Input}
-use Rattle.span_collect.specs.declared.runs.RunEnd.{RunEnd}
-use Rattle.std.specs.Io.KnownBytes.{Appends}
-use Rattle.span_faults.specs.FaultLines.{MayHint, Reports, SaysAndHints, SaysOrMemory}
 
 -- the status that is given is the run's, or 2
 pub Reports-status : {files : List Input} {run : RunEnd} {status : ℕ} {old new : SinkState} → Reports files run status old new → (status ≡ run.status) ⊎ (status ≡ 2)

@@ -1,17 +1,6 @@
 -- What is said where files or runs failed.
 use Rattle.std.specs.Prelude.{◌≡◌, ◌≢◌, ℕ, ◌≤◌, ◌⊎◌, List, [], ◌∷◌, ◌++◌, length, take, codes, Option, Some, None}
-use Rattle.span_event.specs.declared.fault.Fault.TheVariants.{FileCount, Memory, NotOpened}
-use Rattle.span_event.specs.Fault.{number_of}
-use Rattle.span_journal.specs.Refusal.{code_of}
-use Rattle.span_journal.specs.declared.refusal.Cause.{Cause}
-use Rattle.span_report.specs.Sink.{SinkState, TakesBytes, Fails}
-use Rattle.span_collect.specs.declared.files.Input.{Input}
-use Rattle.span_collect.specs.declared.runs.RunEnd.{RunEnd}
-use Rattle.span_collect.specs.FaultLines.{end_lines, fault_line}
-use Rattle.span_collect.specs.Run.{run_code}
-use Rattle.span_collect.specs.Words.{numbered}
-use Rattle.span_runs.specs.declared.stop.Stop.{Stop}
-use Rattle.span_runs.specs.declared.stop.StopCause.{StopCause}
+use Rattle.span_faults.specs.{FileCount, Memory, NotOpened, number_of, code_of, Cause, SinkState, TakesBytes, Fails, Input, RunEnd, end_lines, fault_line, run_code, numbered, Stop, StopCause}
 use Rattle.span_runs.specs.declared.stop.StopCause.TheVariants as cause
 
 -- the line of a run as a whole

@@ -1,10 +1,6 @@
 //! What is said of files and runs that failed.
 ghost use Rattle.std.specs.Prelude.{◌≡◌, ◌≤◌, ℕ, List, length, IfOk, string_bytes};
-ghost use Rattle.span_event.specs.declared.fault.Fault.TheVariants.{Memory};
-ghost use Rattle.span_event.specs.Fault.{number_of};
-ghost use Rattle.span_report.specs.Sink.{SinkState};
-ghost use Rattle.span_collect.specs.FaultLines.{fault_line};
-ghost use Rattle.span_faults.specs.FaultLines.{IsHint, MayHint, Reports, Says, SaysCause, SaysOrMemory, SaysStop, fault_text, run_line};
+ghost use Rattle.span_faults.specs.{Memory, number_of, SinkState, fault_line, FaultLines.{IsHint, MayHint, Reports, Says, SaysCause, SaysOrMemory, SaysStop, fault_text, run_line}};
 
 use crate::hints::{Hint, MANY_FILES, RefusalCounts, hint_of_bytes};
 use span_collect::{Collected, FileEnd, Input, RunEnd, fault_line_of, fault_lines, numbered_text};

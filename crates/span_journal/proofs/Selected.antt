@@ -1,14 +1,7 @@
 -- Selecting before or after keys are put in order.
+use Rattle.std.specs.{BTreeSet.insert_key, Cmp.IsTotalOrder, List.{AllByRecursion, Sorted.IsStrictlySortedBy}, Ordering.match_ordering, Prelude.{filter, fold}, declared.cmp.Ordering.{Ordering, TheVariants.{Less, Equal, Greater}}}
 use Rattle.std.proofs.Common.{◌≡◌, List, [], ◌∷◌, Bool, true, false, cond, refl, sym, ap, ◌∙◌}
-use Rattle.std.specs.Prelude.{filter, fold}
-use Rattle.std.specs.List.{AllByRecursion}
-use Rattle.std.specs.List.Sorted.{IsStrictlySortedBy}
-use Rattle.std.specs.declared.cmp.Ordering.{Ordering}
-use Rattle.std.specs.declared.cmp.Ordering.TheVariants.{Less, Equal, Greater}
-use Rattle.std.specs.Ordering.{match_ordering}
-use Rattle.std.specs.Cmp.{IsTotalOrder}
-use Rattle.std.specs.BTreeSet.{insert_key}
-use Rattle.span_keyed_tracks.specs.Keyed.{ascending}
+use Rattle.span_journal.specs.{ascending}
 use Rattle.span_journal.proofs.Sorted.{AllByRecursion-map, insert_key-sorted}
 
 -- what holds of all holds of those that are selected

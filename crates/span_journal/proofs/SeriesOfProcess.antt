@@ -1,21 +1,8 @@
 -- The series of one process are those of the counter events of that process.
-use Rattle.std.proofs.Common.{◌≡◌, ℤ, List, [], ◌∷◌, ◌++◌, map, Bool, true, false, cond, Option, Some, None, refl, sym, ap, ap₂, ◌∙◌}
-use Rattle.std.specs.Prelude.{filter, filter_map, flat_map, option_and_then, if◌then◌else◌}
-use Rattle.std.specs.List.{cons_option}
-use Rattle.std.specs.declared.cmp.Ordering.{Ordering}
-use Rattle.std.specs.declared.cmp.Ordering.TheVariants.{Less, Equal, Greater}
-use Rattle.std.specs.Ordering.{int_cmp, int_eq, is_eq, ordering_then}
-use Rattle.std.specs.Cmp.{int_cmp_total}
-use Rattle.std.specs.FinMap.{int_cmp-IsAntisymmetric}
-use Rattle.std.proofs.lemmas.List.Elements.{filter-append}
-use Rattle.span_event.specs.declared.event.Event.{Event}
-use Rattle.span_event.specs.Args.{value_of}
-use Rattle.span_keyed_tracks.specs.declared.counter_track.SeriesRow.{SeriesRow}
-use Rattle.span_keyed_tracks.specs.declared.keys.SeriesKey.{SeriesKey}
-use Rattle.span_keyed_tracks.specs.Counters.{Series, as_sample, sample_of, samples_of, series_cmp, series_from, series_key, series_keys, series_of, series_row, series_rows, series_rows_of}
-use Rattle.span_keyed_tracks.specs.Keyed.{ascending, entry_of}
-use Rattle.span_keyed_tracks.proofs.Keyed.{same_from_is_eq}
-use Rattle.span_keyed_tracks.proofs.Orders.{series_cmp-same, series_cmp-total}
+use Rattle.std.specs.{Cmp.int_cmp_total, FinMap.int_cmp-IsAntisymmetric, List.cons_option, Ordering.{int_cmp, int_eq, is_eq, ordering_then}, Prelude.{filter, filter_map, flat_map, option_and_then, if◌then◌else◌}, declared.cmp.Ordering.{Ordering, TheVariants.{Less, Equal, Greater}}}
+use Rattle.std.proofs.{Common.{◌≡◌, ℤ, List, [], ◌∷◌, ◌++◌, map, Bool, true, false, cond, Option, Some, None, refl, sym, ap, ap₂, ◌∙◌}, lemmas.List.Elements.filter-append}
+use Rattle.span_keyed_tracks.proofs.{Keyed.same_from_is_eq, Orders.{series_cmp-same, series_cmp-total}}
+use Rattle.span_journal.specs.{Event, value_of, SeriesRow, SeriesKey, Series, as_sample, sample_of, samples_of, series_cmp, series_from, series_key, series_keys, series_of, series_row, series_rows, series_rows_of, ascending, entry_of}
 use Rattle.span_journal.proofs.Selected.{filter-ascending}
 
 pub map-filter : {A B : Type 0} (p : A → Bool) (f g : A → B) → ((x : A) → p x ≡ true → f x ≡ g x) → (xs : List A) → map f (filter p xs) ≡ map g (filter p xs)

@@ -1,14 +1,8 @@
 -- Lists that are made of sorted keys are sorted.
+use Rattle.std.specs.{Cmp.{IsTotalOrder, tied_itself}, List.{AllByRecursion, cons_option, Sorted.IsStrictlySortedBy}, Ordering.ordering_then, Prelude.{flat_map, filter_map}, declared.cmp.Ordering.{Ordering, TheVariants.Less}}
 use Rattle.std.proofs.Common.{◌≡◌, List, [], ◌∷◌, ◌++◌, refl, ap, ap₂, ◌∙◌, map, Option, Some, None}
-use Rattle.std.specs.Prelude.{flat_map, filter_map}
-use Rattle.std.specs.List.{AllByRecursion, cons_option}
-use Rattle.std.specs.List.Sorted.{IsStrictlySortedBy}
-use Rattle.std.specs.declared.cmp.Ordering.{Ordering}
-use Rattle.std.specs.declared.cmp.Ordering.TheVariants.{Less}
-use Rattle.std.specs.Ordering.{ordering_then}
-use Rattle.std.specs.Cmp.{IsTotalOrder, tied_itself}
-use Rattle.span_keyed_tracks.specs.Keyed.{entry_of}
 pub use Rattle.span_keyed_tracks.proofs.Sorted.{AllByRecursion-map, insert_key-sorted, ascending-sorted}
+use Rattle.span_journal.specs.{entry_of}
 
 -- what holds of all of two lists holds of all of both together
 pub AllByRecursion-append : {A : Type 0} (P : A → Type 0) (xs ys : List A) → AllByRecursion P xs → AllByRecursion P ys → AllByRecursion P (xs ++ ys)

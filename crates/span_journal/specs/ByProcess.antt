@@ -1,20 +1,6 @@
 -- What a journal has of each process, and of each of its threads: a report says this, process by process.
-use Rattle.span_event.specs.Orders.{thread_cmp}
-use Rattle.std.specs.Prelude.{ℤ, List, map, filter, filter_map}
-use Rattle.std.specs.Ordering.{int_eq}
-use Rattle.span_keyed_tracks.specs.declared.counter_track.SeriesRow.{SeriesRow}
-use Rattle.span_keyed_tracks.specs.declared.meta_track.instants.InstantRow.{InstantRow}
-use Rattle.span_keyed_tracks.specs.Counters.{series_rows_of}
-use Rattle.span_keyed_tracks.specs.Instants.{instant_rows_of}
-use Rattle.span_keyed_tracks.specs.Keyed.{ascending}
-use Rattle.span_journal.specs.declared.entry.Entry.{Entry}
-use Rattle.span_journal.specs.declared.rows.ProcessRow.{ProcessRow}
-use Rattle.span_journal.specs.declared.rows.SpanRow.{SpanRow}
-use Rattle.span_journal.specs.declared.rows.ThreadRow.{ThreadRow}
-use Rattle.span_event.specs.declared.thread.Thread.{Thread}
-use Rattle.span_journal.specs.Journal.{Accepted, accepted}
-use Rattle.span_journal.specs.Rows.{process_keys, process_row, thread_row, thread_span_rows}
-use Rattle.span_journal.specs.Told.{listed_by, counter_events, meta_events}
+use Rattle.std.specs.{Ordering.int_eq, Prelude.{ℤ, List, map, filter, filter_map}}
+use Rattle.span_journal.specs.{thread_cmp, SeriesRow, InstantRow, series_rows_of, instant_rows_of, ascending, Thread, Journal.{Accepted, accepted}, Rows.{process_keys, process_row, thread_row, thread_span_rows}, Told.{listed_by, counter_events, meta_events}, declared.{entry.Entry.Entry, rows.{ProcessRow.ProcessRow, SpanRow.SpanRow, ThreadRow.ThreadRow}}}
 
 -- the rows of a thread: its own, one for each name of its closed spans, and one for each name and reach of its instants
 pub record ThreadRows : Type 0 where

@@ -1,19 +1,6 @@
 -- The order of rows.
-use Rattle.span_event.specs.Text.{text_cmp}
-use Rattle.std.specs.declared.cmp.Ordering.{Ordering}
-use Rattle.std.specs.Ordering.{int_cmp, ordering_then}
-use Rattle.span_event.specs.Orders.{reach_cmp, thread_cmp}
-use Rattle.span_keyed_tracks.specs.declared.async_track.AsyncRow.{AsyncRow}
-use Rattle.span_keyed_tracks.specs.declared.counter_track.SeriesRow.{SeriesRow}
-use Rattle.span_keyed_tracks.specs.declared.flow_track.FlowRow.{FlowRow}
-use Rattle.span_keyed_tracks.specs.declared.meta_track.instants.InstantRow.{InstantRow}
-use Rattle.span_keyed_tracks.specs.Async.{async_cmp}
-use Rattle.span_keyed_tracks.specs.Counters.{series_cmp}
-use Rattle.span_keyed_tracks.specs.Flow.{flow_cmp}
-use Rattle.span_event.specs.declared.thread.Thread.{Thread}
-use Rattle.span_journal.specs.declared.rows.ProcessRow.{ProcessRow}
-use Rattle.span_journal.specs.declared.rows.ThreadRow.{ThreadRow}
-use Rattle.span_journal.specs.declared.rows.SpanRow.{SpanRow}
+use Rattle.std.specs.{Ordering.{int_cmp, ordering_then}, declared.cmp.Ordering.Ordering}
+use Rattle.span_journal.specs.{text_cmp, reach_cmp, thread_cmp, AsyncRow, SeriesRow, FlowRow, InstantRow, async_cmp, series_cmp, flow_cmp, Thread, declared.rows.{ProcessRow.ProcessRow, SpanRow.SpanRow, ThreadRow.ThreadRow}}
 
 -- by process
 abbrev pub process_order : ProcessRow → ProcessRow → Ordering

@@ -1,32 +1,6 @@
 -- The rows of a journal, in the order in which a report prints them.
-use Rattle.span_event.specs.Text.{Bytes, same_text, text_cmp}
-use Rattle.std.specs.Prelude.{◌+◌, ◌<◌, ◌^◌, if◌then◌else◌, ℕ, ℤ, List, length, map, filter_map, flat_map, count_by, Some, None}
-use Rattle.std.specs.Ordering.{int_cmp}
-use Rattle.span_event.specs.Orders.{thread_cmp}
-use Rattle.span_self_time.specs.Spans.{Span, busy_time, named, total_of, self_of}
-use Rattle.span_keyed_tracks.specs.declared.async_track.AsyncRow.{AsyncRow}
-use Rattle.span_keyed_tracks.specs.declared.counter_track.SeriesRow.{SeriesRow}
-use Rattle.span_keyed_tracks.specs.declared.flow_track.FlowRow.{FlowRow}
-use Rattle.span_keyed_tracks.specs.declared.meta_track.instants.InstantRow.{InstantRow}
-use Rattle.span_keyed_tracks.specs.Async.{async_rows as track_async_rows}
-use Rattle.span_keyed_tracks.specs.Counters.{series_rows as track_series_rows}
-use Rattle.span_keyed_tracks.specs.Instants.{instant_rows as track_instant_rows}
-use Rattle.span_keyed_tracks.specs.Flow.{flow_rows as track_flow_rows}
-use Rattle.span_keyed_tracks.specs.Keyed.{ascending}
-use Rattle.span_keyed_tracks.specs.Meta.{Holder, Names, names_in}
-use Rattle.span_track.specs.Nesting.{depth_of, closed_spans}
-use Rattle.span_journal.specs.declared.entry.Answer.{Answer}
-use Rattle.span_journal.specs.declared.entry.Entry.{Entry}
-use Rattle.span_journal.specs.declared.kind.Kind.{Kind}
-use Rattle.span_journal.specs.declared.kind.Kind.TheVariants.{Accepted as accepted_kind, Refused as refused_kind, Skipped as skipped_kind, Replied as replied_kind, Sealed as sealed_kind}
-use Rattle.span_event.specs.declared.thread.Thread.{Thread}
-use Rattle.span_journal.specs.declared.rows.CountRow.{CountRow}
-use Rattle.span_journal.specs.declared.rows.ProcessRow.{ProcessRow}
-use Rattle.span_journal.specs.declared.rows.ThreadRow.{ThreadRow}
-use Rattle.span_journal.specs.declared.rows.SpanRow.{SpanRow}
-use Rattle.span_journal.specs.Kind.{is_of}
-use Rattle.span_journal.specs.Journal.{Accepted, accepted}
-use Rattle.span_journal.specs.Told.{listed_by, process_listed_by, thread_events, async_events, flow_events, counter_events, meta_events}
+use Rattle.std.specs.{Ordering.int_cmp, Prelude.{◌+◌, ◌<◌, ◌^◌, if◌then◌else◌, ℕ, ℤ, List, length, map, filter_map, flat_map, count_by, Some, None}}
+use Rattle.span_journal.specs.{Bytes, same_text, text_cmp, thread_cmp, Span, busy_time, named, total_of, self_of, AsyncRow, SeriesRow, FlowRow, InstantRow, async_rows as track_async_rows, series_rows as track_series_rows, instant_rows as track_instant_rows, flow_rows as track_flow_rows, ascending, Holder, Names, names_in, depth_of, closed_spans, Thread, Journal.{Accepted, accepted}, Kind.is_of, Told.{listed_by, process_listed_by, thread_events, async_events, flow_events, counter_events, meta_events}, declared.{entry.{Answer.Answer, Entry.Entry}, kind.Kind.{Kind, TheVariants.{Accepted as accepted_kind, Refused as refused_kind, Skipped as skipped_kind, Replied as replied_kind, Sealed as sealed_kind}}, rows.{CountRow.CountRow, ProcessRow.ProcessRow, SpanRow.SpanRow, ThreadRow.ThreadRow}}}
 
 -- how many entries have an answer of this kind
 abbrev pub count_of : Kind → List Entry → ℕ

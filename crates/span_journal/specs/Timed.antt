@@ -1,11 +1,6 @@
 -- The closed spans of a thread, each with its self time.
 use Rattle.std.specs.Prelude.{ℕ, List, map}
-use Rattle.span_event.specs.Text.{Bytes}
-use Rattle.span_event.specs.declared.thread.Thread.{Thread}
-use Rattle.span_self_time.specs.Spans.{Span, self_time}
-use Rattle.span_track.specs.Nesting.{closed_spans}
-use Rattle.span_journal.specs.declared.entry.Entry.{Entry}
-use Rattle.span_journal.specs.Told.{thread_events}
+use Rattle.span_journal.specs.{Bytes, Thread, Span, self_time, closed_spans, Told.thread_events, declared.entry.Entry.Entry}
 
 -- the times that the spans have among them
 abbrev pub self_times : List (Span Bytes) → List ℕ

@@ -1,13 +1,7 @@
 -- A track of few events has room for a step of any key.
 use Rattle.std.proofs.Common.{◌≡◌, ℕ, ◌+◌, ◌-◌, ◌<◌, ◌≤◌, ◌^◌, List, [], ◌∷◌, ◌++◌, length, refl, ap, ◌∙◌, arith, length-append}
-use Rattle.span_keyed_tracks.specs.declared.keys.AsyncKey.{AsyncKey}
-use Rattle.span_keyed_tracks.specs.Last.{last_of}
-use Rattle.span_keyed_tracks.specs.Matching.{opens, closes, closes_all, other, opener, open_of, closed_with}
-use Rattle.span_keyed_tracks.specs.Async.{AsyncStep, AsyncSpans, AsyncKept, AsyncEvent, AsyncStandsFor, HasAsyncRoom, async_cmp, async_spans, closed_lengths, length_between, never_sealed, no_length}
-use Rattle.span_keyed_tracks.proofs.Async.{async_spans-opens, async_spans-other, async_spans_at-StandsFor, count_by-closes}
-use Rattle.span_keyed_tracks.proofs.Keyed.{size-steps_at}
-use Rattle.span_keyed_tracks.proofs.Matching.Open.{opener-open_of, open_of-closes}
-use Rattle.span_keyed_tracks.proofs.Matching.Closed.{closed_of-append, length-closed_with}
+use Rattle.span_keyed_tracks.specs.{Async.{AsyncStep, AsyncSpans, AsyncKept, AsyncEvent, AsyncStandsFor, HasAsyncRoom, async_cmp, async_spans, closed_lengths, length_between, never_sealed, no_length}, Last.last_of, Matching.{opens, closes, closes_all, other, opener, open_of, closed_with}, declared.keys.AsyncKey.AsyncKey}
+use Rattle.span_keyed_tracks.proofs.{Async.{async_spans-opens, async_spans-other, async_spans_at-StandsFor, count_by-closes}, Keyed.size-steps_at, Matching.{Closed.{closed_of-append, length-closed_with}, Open.{opener-open_of, open_of-closes}}}
 
 -- how many steps they account for
 abbrev size : AsyncSpans → ℕ

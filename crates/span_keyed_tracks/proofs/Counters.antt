@@ -1,35 +1,9 @@
 -- What is kept of series, from one value of a counter event to the next.
-use Rattle.std.proofs.Common.{◌≡◌, ℕ, suc, ◌+◌, ◌≤◌, ℤ, pos, List, [], ◌∷◌, ◌++◌, length, Bool, true, false, ◌||◌, cond, Option, Some, None, refl, sym, ap, ap₂, ◌∙◌, arith, map, append-nil, append_assoc, length-append}
-use Rattle.std.specs.Prelude.{filter, flat_map, fold, int_lt, unwrap_or, option_and_then}
-use Rattle.std.specs.List.{cons_option}
-use Rattle.std.specs.Int.{int_min, int_max}
-use Rattle.std.specs.Ordering.{is_eq, int_eq, eq_by_cmp}
-use Rattle.std.specs.declared.cmp.Ordering.TheVariants.{Less, Equal}
-use Rattle.std.specs.Cmp.{tied_itself}
-use Rattle.std.specs.Cmp.Lexicographic.{bytes_decides, nat_list_eq_equiv}
-use Rattle.std.specs.Map.{lookup}
-use Rattle.std.specs.BTreeMap.{is_at}
+use Rattle.std.specs.{BTreeMap.is_at, Cmp.{tied_itself, Lexicographic.{bytes_decides, nat_list_eq_equiv}}, Int.{int_min, int_max}, List.cons_option, Map.lookup, Ordering.{is_eq, int_eq, eq_by_cmp}, Prelude.{filter, flat_map, fold, int_lt, unwrap_or, option_and_then}, declared.cmp.Ordering.TheVariants.{Less, Equal}}
+use Rattle.std.proofs.{Common.{◌≡◌, ℕ, suc, ◌+◌, ◌≤◌, ℤ, pos, List, [], ◌∷◌, ◌++◌, length, Bool, true, false, ◌||◌, cond, Option, Some, None, refl, sym, ap, ap₂, ◌∙◌, arith, map, append-nil, append_assoc, length-append}, lemmas.{Cmp.{nat_list_cmp_total, int_cmp_total}, Grind.flat_map-append, List.{map-append, Elements.{filter-append, filter_map-append}, Sums.fold-append}}}
 use Rattle.indexmap.specs.IndexMap.{insert_entry as put_entry}
-use Rattle.std.proofs.lemmas.Cmp.{nat_list_cmp_total, int_cmp_total}
-use Rattle.std.proofs.lemmas.List.{map-append}
-use Rattle.std.proofs.lemmas.List.Elements.{filter-append, filter_map-append}
-use Rattle.std.proofs.lemmas.List.Sums.{fold-append}
-use Rattle.std.proofs.lemmas.Grind.{flat_map-append}
-use Rattle.span_event.specs.declared.event.Event.{Event}
-use Rattle.span_event.specs.declared.args.ArgValue.{ArgValue}
-use Rattle.span_event.specs.declared.args.ArgValue.TheVariants.{Whole}
-use Rattle.span_event.specs.Args.{value_of, IsInNameOrder, IsBelowAll}
-use Rattle.span_keyed_tracks.specs.declared.keys.SeriesKey.{SeriesKey}
-use Rattle.span_keyed_tracks.specs.Last.{last_of}
-use Rattle.span_keyed_tracks.specs.Keyed.{entry_of, kept_at}
-use Rattle.span_keyed_tracks.specs.Uses.{first_uses, uses_in}
-use Rattle.span_keyed_tracks.specs.Counters.{Sample, Series, CountersKept, CounterStandsFor, series_cmp, series_key, series_keys, as_sample, sample_of, samples_of, latest_time, last_value_at, series_of, series_from}
-use Rattle.span_keyed_tracks.specs.CountersKept.{samples_before, with_sample}
-use Rattle.span_keyed_tracks.proofs.Keyed.{has_key, neither, lookup-made}
-use Rattle.span_keyed_tracks.proofs.Lists.Last.{last_of-append}
-use Rattle.span_keyed_tracks.proofs.Orders.{series_cmp-total, series_cmp-same}
-use Rattle.span_keyed_tracks.proofs.Uses.{first_uses-after, has_key-absent, is_eq-turned}
-use Rattle.span_event.specs.Text.{text_cmp, same_text}
+use Rattle.span_keyed_tracks.specs.{Event, ArgValue, Whole, value_of, IsInNameOrder, IsBelowAll, text_cmp, same_text, Counters.{Sample, Series, CountersKept, CounterStandsFor, series_cmp, series_key, series_keys, as_sample, sample_of, samples_of, latest_time, last_value_at, series_of, series_from}, CountersKept.{samples_before, with_sample}, Keyed.{entry_of, kept_at}, Last.last_of, Uses.{first_uses, uses_in}, declared.keys.SeriesKey.SeriesKey}
+use Rattle.span_keyed_tracks.proofs.{Keyed.{has_key, neither, lookup-made}, Lists.Last.last_of-append, Orders.{series_cmp-total, series_cmp-same}, Uses.{first_uses-after, has_key-absent, is_eq-turned}}
 
 latest_time-push : (first : Sample) (later : List Sample) (s : Sample) → latest_time first (later ++ s ∷ []) ≡ int_max (latest_time first later) s.ts
 latest_time-push first later s = ap (fold int_max first.ts) (map-append (λ (x : Sample). x.ts) later (s ∷ [])) ∙ fold-append int_max first.ts (map (λ (x : Sample). x.ts) later) (s.ts ∷ [])

@@ -1,17 +1,8 @@
 -- What is kept of the chains of a key, from one point to the next.
-use Rattle.std.proofs.Common.{◌≡◌, ℕ, ◌+◌, Bool, true, false, ◌||◌, cond, ℤ, List, [], ◌∷◌, ◌++◌, length, Option, Some, None, refl, sym, ap, ap₂, ◌∙◌, arith, append-nil, append_assoc, length-append}
-use Rattle.std.specs.Prelude.{sum, count_by}
-use Rattle.std.specs.Option.{option_map}
-use Rattle.std.specs.List.{list_any}
-use Rattle.std.proofs.lemmas.List.Sums.{sum_by-append}
-use Rattle.span_event.specs.Time.{distance}
-use Rattle.span_keyed_tracks.specs.declared.keys.FlowKey.{FlowKey}
-use Rattle.span_keyed_tracks.specs.declared.flow_track.FlowClosed.{FlowClosed}
-use Rattle.span_keyed_tracks.specs.Keyed.{steps_at}
-use Rattle.span_keyed_tracks.specs.Flow.{FlowPoint, started, stepped, finished, FlowEvent, FlowKept, FlowStandsFor, closed_at, time_of, is_start, is_finish, from_last_start, unless_finished, chain_of, start_of, length_from, length_ended_by, lengths_after, ended_lengths, latest, OpenChain, summary, flow_chains, flow_chains_at, flow_cmp}
-use Rattle.span_keyed_tracks.specs.FlowKept.{with_start, with_step, with_finish, longer, length_at}
-use Rattle.span_keyed_tracks.proofs.Keyed.{kept_at-entries_in}
-use Rattle.span_keyed_tracks.proofs.Orders.{flow_cmp-total, flow_cmp-same}
+use Rattle.std.specs.{List.list_any, Option.option_map, Prelude.{sum, count_by}}
+use Rattle.std.proofs.{Common.{◌≡◌, ℕ, ◌+◌, Bool, true, false, ◌||◌, cond, ℤ, List, [], ◌∷◌, ◌++◌, length, Option, Some, None, refl, sym, ap, ap₂, ◌∙◌, arith, append-nil, append_assoc, length-append}, lemmas.List.Sums.sum_by-append}
+use Rattle.span_keyed_tracks.specs.{distance, Flow.{FlowPoint, started, stepped, finished, FlowEvent, FlowKept, FlowStandsFor, closed_at, time_of, is_start, is_finish, from_last_start, unless_finished, chain_of, start_of, length_from, length_ended_by, lengths_after, ended_lengths, latest, OpenChain, summary, flow_chains, flow_chains_at, flow_cmp}, FlowKept.{with_start, with_step, with_finish, longer, length_at}, Keyed.steps_at, declared.{flow_track.FlowClosed.FlowClosed, keys.FlowKey.FlowKey}}
+use Rattle.span_keyed_tracks.proofs.{Keyed.kept_at-entries_in, Orders.{flow_cmp-total, flow_cmp-same}}
 
 list_any-push : {A : Type 0} (p : A → Bool) (xs : List A) (x : A) → list_any p (xs ++ x ∷ []) ≡ (list_any p xs || p x)
 list_any-push p [] x = elim (p x) as (λ b. (b || false) ≡ b) [ true ↦ refl | false ↦ refl ]

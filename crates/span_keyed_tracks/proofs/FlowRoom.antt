@@ -1,11 +1,8 @@
 -- A track of few events has room for a point of any key.
-use Rattle.std.proofs.Common.{refl, ℕ, ◌+◌, ◌-◌, ◌<◌, ◌≤◌, ◌^◌, ℤ, List, [], ◌∷◌, ◌++◌, length, Option, Some, None, ap, arith}
 use Rattle.std.specs.Option.{option_map}
-use Rattle.span_keyed_tracks.specs.declared.keys.FlowKey.{FlowKey}
-use Rattle.span_keyed_tracks.specs.Flow.{FlowPoint, started, stepped, finished, OpenChain, FlowChains, FlowKept, FlowEvent, FlowStandsFor, HasFlowRoom, chain_of, flow_chains, flow_cmp, points_of, summary}
-use Rattle.span_keyed_tracks.specs.FlowKept.{longer}
-use Rattle.span_keyed_tracks.proofs.Flow.{count-append, flow_chains-started, flow_chains-stepped, unclosed-finished, flow_chains_at-StandsFor}
-use Rattle.span_keyed_tracks.proofs.Keyed.{size-steps_at}
+use Rattle.std.proofs.Common.{refl, ℕ, ◌+◌, ◌-◌, ◌<◌, ◌≤◌, ◌^◌, ℤ, List, [], ◌∷◌, ◌++◌, length, Option, Some, None, ap, arith}
+use Rattle.span_keyed_tracks.specs.{Flow.{FlowPoint, started, stepped, finished, OpenChain, FlowChains, FlowKept, FlowEvent, FlowStandsFor, HasFlowRoom, chain_of, flow_chains, flow_cmp, points_of, summary}, FlowKept.longer, declared.keys.FlowKey.FlowKey}
+use Rattle.span_keyed_tracks.proofs.{Flow.{count-append, flow_chains-started, flow_chains-stepped, unclosed-finished, flow_chains_at-StandsFor}, Keyed.size-steps_at}
 
 -- how many points they account for
 abbrev size : FlowChains → ℕ

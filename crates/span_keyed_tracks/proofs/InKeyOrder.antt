@@ -1,25 +1,10 @@
 -- What is kept by hashes of keys, seen in the order of keys.
+use Rattle.std.specs.{BTreeMap.{is_at, insert_entry}, BTreeSet.insert_key, Cmp.{IsTotalOrder, tied_itself}, List.{AllByRecursion, IsDistinct, Sorted.IsStrictlySortedBy}, Map.{keys_of, lookup, set_value}, Ordering.{eq_by_cmp, is_eq}, Prelude.{fold, is_some, unwrap_or}, declared.cmp.Ordering.{Ordering, TheVariants.Equal}}
 use Rattle.std.proofs.Common.{◌≡◌, List, [], ◌∷◌, ◌++◌, Bool, true, false, ◌||◌, cond, Option, Some, None, refl, sym, ap, ap₂, subst, ◌∙◌, map}
-use Rattle.std.specs.Prelude.{fold, is_some, unwrap_or}
-use Rattle.std.specs.List.{AllByRecursion, IsDistinct}
-use Rattle.std.specs.List.Sorted.{IsStrictlySortedBy}
-use Rattle.std.specs.declared.cmp.Ordering.{Ordering}
-use Rattle.std.specs.declared.cmp.Ordering.TheVariants.{Equal}
-use Rattle.std.specs.Ordering.{eq_by_cmp, is_eq}
-use Rattle.std.specs.Cmp.{IsTotalOrder, tied_itself}
-use Rattle.std.specs.Map.{keys_of, lookup, set_value}
-use Rattle.std.specs.BTreeMap.{is_at, insert_entry}
-use Rattle.std.specs.BTreeSet.{insert_key}
-use Rattle.indexmap.specs.IndexMap.{insert_entry as put_entry}
-use Rattle.indexmap.specs.IndexSet.{insert_key as add_key}
+use Rattle.indexmap.specs.{IndexMap.insert_entry as put_entry, IndexSet.insert_key as add_key}
 use Rattle.indexmap.proofs.SetLemmas.{keys_insert_entry}
 use Rattle.span_keyed_tracks.specs.Keyed.{AreDistinct, ascending, entry_of, in_key_order, kept_at}
-use Rattle.span_keyed_tracks.proofs.Ascending.{ascending-add_key}
-use Rattle.span_keyed_tracks.proofs.Keyed.{has_key, neither, is_some-lookup, keys_of-made, lookup-made, made-insert_entry, same_from_is_eq}
-use Rattle.span_keyed_tracks.proofs.KeyChange.{insert_entry-found}
-use Rattle.span_keyed_tracks.proofs.KeyOrder.{has_key-insert_key}
-use Rattle.span_keyed_tracks.proofs.Sorted.{ascending-sorted}
-use Rattle.span_keyed_tracks.proofs.Uses.{AreApart, is_eq-turned, made-fold}
+use Rattle.span_keyed_tracks.proofs.{Ascending.ascending-add_key, KeyChange.insert_entry-found, KeyOrder.has_key-insert_key, Keyed.{has_key, neither, is_some-lookup, keys_of-made, lookup-made, made-insert_entry, same_from_is_eq}, Sorted.ascending-sorted, Uses.{AreApart, is_eq-turned, made-fold}}
 
 module _ {K : Type 0} {cmp : K → K → Ordering} (o : IsTotalOrder cmp) where
   has_key-none : (k : K) (ks : List K) → AllByRecursion (λ y. eq_by_cmp cmp k y ≡ false) ks → has_key cmp k ks ≡ false

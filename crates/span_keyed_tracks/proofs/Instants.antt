@@ -1,24 +1,10 @@
 -- What is kept of instants, from one instant to the next.
-use Rattle.std.proofs.Common.{◌≡◌, ◌+◌, ◌≤◌, ◌<◌, ◌^◌, ◌-◌, List, [], ◌∷◌, ◌++◌, length, cond, Option, Some, None, refl, sym, ap, ◌∙◌, arith, append-nil, append_assoc}
-use Rattle.std.specs.Prelude.{flat_map}
-use Rattle.std.specs.List.{cons_option}
-use Rattle.std.specs.Ordering.{is_eq}
-use Rattle.std.proofs.lemmas.Cmp.{nat_list_cmp_total}
-use Rattle.std.proofs.lemmas.List.Elements.{filter_map-append}
-use Rattle.std.proofs.lemmas.Grind.{flat_map-append}
-use Rattle.std.proofs.lemmas.List.Sums.{sum_by-append, count_by-le-length}
-use Rattle.span_event.specs.declared.event.Event.{Event}
-use Rattle.span_event.specs.declared.event.Phase.TheVariants.{Instant, Meta}
-use Rattle.span_event.specs.declared.event.Reach.{Reach}
-use Rattle.span_event.specs.declared.event.Reach.TheVariants.{Global, Process, Thread as OneThread}
-use Rattle.span_event.specs.declared.thread.Thread.{Thread}
-use Rattle.span_event.specs.Orders.{reach_cmp, thread_cmp}
-use Rattle.span_event.specs.Text.{Bytes, text_cmp}
+use Rattle.std.specs.{List.cons_option, Ordering.is_eq, Prelude.flat_map}
+use Rattle.std.proofs.{Common.{◌≡◌, ◌+◌, ◌≤◌, ◌<◌, ◌^◌, ◌-◌, List, [], ◌∷◌, ◌++◌, length, cond, Option, Some, None, refl, sym, ap, ◌∙◌, arith, append-nil, append_assoc}, lemmas.{Cmp.nat_list_cmp_total, Grind.flat_map-append, List.{Elements.filter_map-append, Sums.{sum_by-append, count_by-le-length}}}}
+use Rattle.span_event.specs.declared.event.{Phase.TheVariants.Meta, Reach.TheVariants.Thread as OneThread}
 use Rattle.span_event.proofs.Orders.{text_same, thread_cmp-same}
 pub use Rattle.span_event.proofs.Orders.{thread_cmp-total}
-use Rattle.span_keyed_tracks.specs.Keyed.{kept_at, steps_at}
-use Rattle.span_keyed_tracks.specs.Instants.{InstantStep, NamesCounted, InstantsKept, HasNameRoom, HasInstantRoom, names_counted, instants_counted, instant_of, instants_in, is_instant, instants_of, count_of, counts_of}
-use Rattle.span_keyed_tracks.specs.InstantsKept.{count_at, with_reach}
+use Rattle.span_keyed_tracks.specs.{Event, Instant, Reach, Global, Process, Thread, reach_cmp, thread_cmp, Bytes, text_cmp, Instants.{InstantStep, NamesCounted, InstantsKept, HasNameRoom, HasInstantRoom, names_counted, instants_counted, instant_of, instants_in, is_instant, instants_of, count_of, counts_of}, InstantsKept.{count_at, with_reach}, Keyed.{kept_at, steps_at}}
 use Rattle.span_keyed_tracks.proofs.Keyed.{kept_at-entries_in, length-steps_at}
 
 count_of-push : (reach : Reach) (rs : List Reach) (r : Reach) → count_of reach (rs ++ r ∷ []) ≡ count_of reach rs + cond (is_eq (reach_cmp r reach)) 1 0

@@ -1,17 +1,7 @@
 -- A change of what is kept at one key, and what the map stands for then.
+use Rattle.std.specs.{BTreeMap.{is_at, insert_entry}, Cmp.IsTotalOrder, List.Sorted.IsStrictlySortedBy, Map.{lookup, keys_of, set_value}, Ordering.{is_eq, match_ordering}, Prelude.{Result, Ok, Err, IfOk, IfErr, OnOk, OnErr, IsOk, is_some, unwrap_or}, declared.cmp.Ordering.{Ordering, TheVariants.{Less, Equal, Greater}}}
 use Rattle.std.proofs.Common.{◌≡◌, ◌⊎◌, ℕ, List, [], ◌∷◌, ◌++◌, true, false, cond, Option, Some, None, refl, sym, ap, ap₂, subst, ◌∙◌, inl, inr}
-use Rattle.std.specs.Prelude.{Result, Ok, Err, IfOk, IfErr, OnOk, OnErr, IsOk, is_some, unwrap_or}
-use Rattle.std.specs.List.Sorted.{IsStrictlySortedBy}
-use Rattle.std.specs.declared.cmp.Ordering.{Ordering}
-use Rattle.std.specs.declared.cmp.Ordering.TheVariants.{Less, Equal, Greater}
-use Rattle.std.specs.Ordering.{is_eq, match_ordering}
-use Rattle.std.specs.Cmp.{IsTotalOrder}
-use Rattle.std.specs.Map.{lookup, keys_of, set_value}
-use Rattle.std.specs.BTreeMap.{is_at, insert_entry}
-use Rattle.span_keyed_tracks.specs.declared.fault.TrackFault.{TrackFault}
-use Rattle.span_keyed_tracks.specs.Fault.{Answers}
-use Rattle.span_keyed_tracks.specs.Keyed.{Keyed, kept_at, entries_in, steps_at}
-use Rattle.span_keyed_tracks.specs.KeyedKept.{ChangesAt}
+use Rattle.span_keyed_tracks.specs.{Fault.Answers, Keyed.{Keyed, kept_at, entries_in, steps_at}, KeyedKept.ChangesAt, declared.fault.TrackFault.TrackFault}
 use Rattle.span_keyed_tracks.proofs.Keyed.{has_key-below, is_some-lookup, kept_at-found, kept_at-entries_in, set_value-stays, entries_in-insert_entry}
 
 module _ {K X : Type 0} {cmp : K → K → Ordering} (o : IsTotalOrder cmp) where

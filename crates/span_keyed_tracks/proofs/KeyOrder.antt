@@ -1,16 +1,7 @@
 -- Entries with distinct keys, and the same put in the order of keys.
+use Rattle.std.specs.{BTreeMap.insert_entry, BTreeSet.insert_key, Cmp.IsTotalOrder, List.{AllByRecursion, IsDistinct}, Map.keys_of, Ordering.{eq_by_cmp, is_eq, match_ordering}, Prelude.fold, declared.cmp.Ordering.{Ordering, TheVariants.{Less, Equal, Greater}}}
 use Rattle.std.proofs.Common.{◌≡◌, List, [], ◌∷◌, Bool, true, false, ◌||◌, refl, sym, ap, ap₂, ◌∙◌, map}
-use Rattle.std.specs.Prelude.{fold}
-use Rattle.std.specs.List.{AllByRecursion, IsDistinct}
-use Rattle.std.specs.declared.cmp.Ordering.{Ordering}
-use Rattle.std.specs.declared.cmp.Ordering.TheVariants.{Less, Equal, Greater}
-use Rattle.std.specs.Ordering.{eq_by_cmp, is_eq, match_ordering}
-use Rattle.std.specs.Cmp.{IsTotalOrder}
-use Rattle.std.specs.Map.{keys_of}
-use Rattle.std.specs.BTreeMap.{insert_entry}
-use Rattle.std.specs.BTreeSet.{insert_key}
-use Rattle.span_keyed_tracks.proofs.Keyed.{has_key, neither, keys_of-insert_entry}
-use Rattle.span_keyed_tracks.proofs.Uses.{AreApart, is_eq-turned}
+use Rattle.span_keyed_tracks.proofs.{Keyed.{has_key, neither, keys_of-insert_entry}, Uses.{AreApart, is_eq-turned}}
 
 module _ {K : Type 0} {cmp : K → K → Ordering} (o : IsTotalOrder cmp) (same : (a b : K) → cmp a b ≡ Equal → a ≡ b) where
   twice : (b r : Bool) → (b || r) ≡ (b || (b || r))

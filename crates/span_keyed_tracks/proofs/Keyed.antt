@@ -1,18 +1,6 @@
 -- How what is kept for many keys changes with a step of one of them.
-use Rattle.std.proofs.Common.{◌≡◌, ℕ, ◌+◌, ◌≤◌, length, arith, append_assoc, List, [], ◌∷◌, ◌++◌, Bool, true, false, ◌||◌, cond, Option, Some, None, refl, sym, ap, ap₂, subst, ◌∙◌, map, append-nil}
-use Rattle.std.specs.Prelude.{filter, fold, is_some, unwrap_or}
-use Rattle.std.specs.List.{list_any, AllByRecursion}
-use Rattle.std.specs.List.Sorted.{IsStrictlySortedBy}
-use Rattle.std.specs.declared.cmp.Ordering.{Ordering}
-use Rattle.std.specs.declared.cmp.Ordering.TheVariants.{Less, Equal, Greater}
-use Rattle.std.specs.Ordering.{is_eq, match_ordering, ordering_reverse}
-use Rattle.std.specs.Cmp.{IsTotalOrder, tied_itself}
-use Rattle.std.specs.Map.{lookup, keys_of, set_value}
-use Rattle.std.specs.BTreeMap.{is_at, insert_entry}
-use Rattle.std.specs.BTreeSet.{insert_key}
-use Rattle.std.proofs.lemmas.List.{map-append, length-map}
-use Rattle.std.proofs.lemmas.List.Elements.{filter-append}
-use Rattle.std.proofs.lemmas.List.Sums.{fold-append, length-filter, count_by-le-length}
+use Rattle.std.specs.{BTreeMap.{is_at, insert_entry}, BTreeSet.insert_key, Cmp.{IsTotalOrder, tied_itself}, List.{list_any, AllByRecursion, Sorted.IsStrictlySortedBy}, Map.{lookup, keys_of, set_value}, Ordering.{is_eq, match_ordering, ordering_reverse}, Prelude.{filter, fold, is_some, unwrap_or}, declared.cmp.Ordering.{Ordering, TheVariants.{Less, Equal, Greater}}}
+use Rattle.std.proofs.{Common.{◌≡◌, ℕ, ◌+◌, ◌≤◌, length, arith, append_assoc, List, [], ◌∷◌, ◌++◌, Bool, true, false, ◌||◌, cond, Option, Some, None, refl, sym, ap, ap₂, subst, ◌∙◌, map, append-nil}, lemmas.List.{map-append, length-map, Elements.filter-append, Sums.{fold-append, length-filter, count_by-le-length}}}
 use Rattle.span_keyed_tracks.specs.Keyed.{Keyed, steps_at, keys_in, entry_of, entries_in, kept_at}
 
 -- the key is among these

@@ -1,26 +1,10 @@
 -- What is kept of the names of a process or thread: from one setting to the next, and after all.
-use Rattle.std.proofs.Common.{◌≡◌, ℤ, List, [], ◌∷◌, ◌++◌, Bool, true, false, cond, is_some, codes, Option, Some, None, option_and_then, Equal, refl, sym, ap, ◌∙◌, append-nil}
-use Rattle.std.specs.Prelude.{filter_map}
-use Rattle.std.specs.List.{cons_option}
-use Rattle.std.specs.Map.{lookup}
-use Rattle.std.specs.BTreeMap.{is_at}
-use Rattle.std.specs.Option.{option_cmp, option_map}
-use Rattle.std.specs.Ordering.{int_cmp}
-use Rattle.std.specs.Cmp.{IsTotalOrder}
-use Rattle.std.specs.Cmp.Lexicographic.{options_total}
-use Rattle.std.specs.FinMap.{int_cmp-IsAntisymmetric}
-use Rattle.std.proofs.lemmas.Cmp.{then_total, on_total, int_cmp_total}
-use Rattle.std.proofs.lemmas.List.Elements.{filter_map-append}
-use Rattle.span_event.specs.declared.event.Event.{Event}
-use Rattle.span_event.specs.declared.event.Phase.TheVariants.{Instant, Meta}
-use Rattle.span_keyed_tracks.specs.Keyed.{Keyed, entries_in}
-use Rattle.span_keyed_tracks.specs.Last.{last_of}
-use Rattle.span_keyed_tracks.specs.Meta.{Holder, holder_cmp, MetaKept, MetaStandsFor, Names, NamesKept, Setting, set_name, set_labels, set_sort_index, names_in, names_of, as_name, as_labels, as_sort_index, text_at, whole_at, name_setting, labels_setting, sort_setting, setting_of, settings_in, is_meta}
-use Rattle.span_keyed_tracks.specs.MetaKept.{with_setting}
-use Rattle.span_keyed_tracks.proofs.Keyed.{lookup-entries_in, steps_at-absent}
-use Rattle.span_keyed_tracks.proofs.Lists.Last.{last_of-append}
+use Rattle.std.specs.{BTreeMap.is_at, Cmp.{IsTotalOrder, Lexicographic.options_total}, FinMap.int_cmp-IsAntisymmetric, List.cons_option, Map.lookup, Option.{option_cmp, option_map}, Ordering.int_cmp, Prelude.filter_map}
+use Rattle.std.proofs.{Common.{◌≡◌, ℤ, List, [], ◌∷◌, ◌++◌, Bool, true, false, cond, is_some, codes, Option, Some, None, option_and_then, Equal, refl, sym, ap, ◌∙◌, append-nil}, lemmas.{Cmp.{then_total, on_total, int_cmp_total}, List.Elements.filter_map-append}}
+use Rattle.span_event.specs.declared.event.Phase.TheVariants.{Meta}
 use Rattle.span_event.proofs.Orders.{both_equal, option_same}
-use Rattle.span_event.specs.Text.{same_text}
+use Rattle.span_keyed_tracks.specs.{Event, Instant, same_text, Keyed.{Keyed, entries_in}, Last.last_of, Meta.{Holder, holder_cmp, MetaKept, MetaStandsFor, Names, NamesKept, Setting, set_name, set_labels, set_sort_index, names_in, names_of, as_name, as_labels, as_sort_index, text_at, whole_at, name_setting, labels_setting, sort_setting, setting_of, settings_in, is_meta}, MetaKept.with_setting}
+use Rattle.span_keyed_tracks.proofs.{Keyed.{lookup-entries_in, steps_at-absent}, Lists.Last.last_of-append}
 
 -- the order of processes and threads is total
 pub holder_cmp-total : IsTotalOrder holder_cmp

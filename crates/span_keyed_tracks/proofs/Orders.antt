@@ -1,20 +1,8 @@
 -- The orders of keys are total, and equal keys are the same.
-use Rattle.std.proofs.Common.{◌≡◌, Equal}
-use Rattle.std.specs.Option.{option_cmp}
-use Rattle.std.specs.Ordering.{int_cmp, ordering_then}
-use Rattle.std.specs.Cmp.{IsTotalOrder}
-use Rattle.std.specs.Cmp.Lexicographic.{options_total}
-use Rattle.std.specs.FinMap.{int_cmp-IsAntisymmetric}
-use Rattle.std.proofs.lemmas.Cmp.{then_total, on_total, int_cmp_total, nat_list_cmp_total}
-use Rattle.span_event.specs.Orders.{id_cmp}
+use Rattle.std.specs.{Cmp.{IsTotalOrder, Lexicographic.options_total}, FinMap.int_cmp-IsAntisymmetric, Option.option_cmp, Ordering.{int_cmp, ordering_then}}
+use Rattle.std.proofs.{Common.{◌≡◌, Equal}, lemmas.Cmp.{then_total, on_total, int_cmp_total, nat_list_cmp_total}}
 use Rattle.span_event.proofs.Orders.{both_equal, id_cmp-total, id_cmp-same, option_same, text_same}
-use Rattle.span_keyed_tracks.specs.declared.keys.AsyncKey.{AsyncKey}
-use Rattle.span_keyed_tracks.specs.declared.keys.FlowKey.{FlowKey}
-use Rattle.span_keyed_tracks.specs.Async.{async_cmp}
-use Rattle.span_keyed_tracks.specs.declared.keys.SeriesKey.{SeriesKey}
-use Rattle.span_keyed_tracks.specs.Flow.{flow_cmp}
-use Rattle.span_keyed_tracks.specs.Counters.{series_cmp}
-use Rattle.span_event.specs.Text.{text_cmp}
+use Rattle.span_keyed_tracks.specs.{id_cmp, text_cmp, Async.async_cmp, Counters.series_cmp, Flow.flow_cmp, declared.keys.{AsyncKey.AsyncKey, FlowKey.FlowKey, SeriesKey.SeriesKey}}
 
 -- the order of asynchronous keys is total
 pub async_cmp-total : IsTotalOrder async_cmp

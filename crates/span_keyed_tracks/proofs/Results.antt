@@ -1,7 +1,6 @@
 -- What is said of a result where it is Ok, or an Err, from what was said of it before.
+use Rattle.std.specs.{Prelude.{Result, Ok, Err, IfOk, OnOk, OnErr}, Result.is_err}
 use Rattle.std.proofs.Common.{◌≡◌, false}
-use Rattle.std.specs.Prelude.{Result, Ok, Err, IfOk, OnOk, OnErr}
-use Rattle.std.specs.Result.{is_err}
 
 -- what follows from a fact that holds on Ok holds on Ok
 pub on_ok-map : {T E : Type 0} (r : Result T E) (P Q : Type 0) → (P → Q) → OnOk r P → OnOk r Q

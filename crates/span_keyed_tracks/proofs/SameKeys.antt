@@ -1,20 +1,9 @@
 -- What is kept for keys is decided by which keys there are, and by the steps of each.
-use Rattle.std.proofs.Common.{◌≡◌, List, [], ◌∷◌, ◌++◌, Bool, true, false, ◌||◌, cond, map, refl, sym, ap, ◌∙◌, All}
-use Rattle.std.specs.Prelude.{filter, fold}
-use Rattle.std.specs.List.{Contains}
-use Rattle.std.specs.declared.cmp.Ordering.{Ordering}
-use Rattle.std.specs.declared.cmp.Ordering.TheVariants.{Equal}
-use Rattle.std.specs.Ordering.{eq_by_cmp, is_eq}
-use Rattle.std.specs.Cmp.{IsTotalOrder, eq_by_cmp_equiv}
-use Rattle.std.specs.BTreeSet.{insert_key}
-use Rattle.std.proofs.lemmas.List.Elements.{All-head, All-tail, All-weaker, All-contains, All-contains_itself, All-nil}
-use Rattle.std.proofs.lemmas.Map.Views.{All-insert_key, list_any-from_Contains}
+use Rattle.std.specs.{BTreeSet.insert_key, Cmp.{IsTotalOrder, eq_by_cmp_equiv}, List.Contains, Ordering.{eq_by_cmp, is_eq}, Prelude.{filter, fold}, declared.cmp.Ordering.{Ordering, TheVariants.Equal}}
+use Rattle.std.proofs.{Common.{◌≡◌, List, [], ◌∷◌, ◌++◌, Bool, true, false, ◌||◌, cond, map, refl, sym, ap, ◌∙◌, All}, lemmas.{List.Elements.{All-head, All-tail, All-weaker, All-contains, All-contains_itself, All-nil}, Map.Views.{All-insert_key, list_any-from_Contains}}}
 use Rattle.indexmap.proofs.CallerLemmas.{Contains-list_any}
 use Rattle.span_keyed_tracks.specs.Keyed.{Keyed, ascending, entries_in, entry_of, keys_in, steps_at}
-use Rattle.span_keyed_tracks.proofs.Ascending.{ascending-add_key, insert_key-swap}
-use Rattle.span_keyed_tracks.proofs.Keyed.{has_key, same_from_is_eq, steps_at-none}
-use Rattle.span_keyed_tracks.proofs.Lists.Filters.{map-same}
-use Rattle.span_keyed_tracks.proofs.Uses.{is_eq-turned}
+use Rattle.span_keyed_tracks.proofs.{Ascending.{ascending-add_key, insert_key-swap}, Keyed.{has_key, same_from_is_eq, steps_at-none}, Lists.Filters.map-same, Uses.is_eq-turned}
 
 -- the keys of steps, as they come
 abbrev pub step_keys : {K A : Type 0} → List (Keyed K A) → List K

@@ -1,21 +1,7 @@
 -- What events give a key, a process or a thread is what those of them give that have to do with it.
-use Rattle.std.proofs.Common.{◌≡◌, ℤ, List, Bool, true, false, cond, codes, map, Option, Some, None, refl, sym, ap, subst, ◌∙◌}
-use Rattle.std.specs.Prelude.{filter, filter_map}
-use Rattle.std.specs.declared.cmp.Ordering.{Ordering}
-use Rattle.std.specs.declared.cmp.Ordering.TheVariants.{Less, Equal, Greater}
-use Rattle.std.specs.Ordering.{int_cmp, int_eq, is_eq, ordering_then}
-use Rattle.std.specs.Option.{option_cmp, option_map}
-use Rattle.std.proofs.lemmas.Option.{same_Some}
-use Rattle.span_event.specs.declared.event.Event.{Event}
-use Rattle.span_event.specs.declared.event.Reach.{Reach}
-use Rattle.span_event.specs.declared.thread.Thread.{Thread}
-use Rattle.span_event.specs.Orders.{thread_cmp}
-use Rattle.span_event.specs.Text.{same_text}
-use Rattle.span_event.specs.Thread.{thread_of}
-use Rattle.span_keyed_tracks.specs.Keyed.{Keyed, steps_at}
-use Rattle.span_keyed_tracks.specs.Counters.{series_rows, series_rows_of}
-use Rattle.span_keyed_tracks.specs.Instants.{InstantStep, instant_of, instant_rows_of, is_instant, names_counted, rows_of_thread}
-use Rattle.span_keyed_tracks.specs.Meta.{Holder, Setting, holder_cmp, is_meta, names_in, names_of, set_name, set_labels, set_sort_index, setting_of, text_at, whole_at}
+use Rattle.std.specs.{Option.{option_cmp, option_map}, Ordering.{int_cmp, int_eq, is_eq, ordering_then}, Prelude.{filter, filter_map}, declared.cmp.Ordering.{Ordering, TheVariants.{Less, Equal, Greater}}}
+use Rattle.std.proofs.{Common.{◌≡◌, ℤ, List, Bool, true, false, cond, codes, map, Option, Some, None, refl, sym, ap, subst, ◌∙◌}, lemmas.Option.same_Some}
+use Rattle.span_keyed_tracks.specs.{Event, Reach, Thread, thread_cmp, same_text, thread_of, Counters.{series_rows, series_rows_of}, Instants.{InstantStep, instant_of, instant_rows_of, is_instant, names_counted, rows_of_thread}, Keyed.{Keyed, steps_at}, Meta.{Holder, Setting, holder_cmp, is_meta, names_in, names_of, set_name, set_labels, set_sort_index, setting_of, text_at, whole_at}}
 use Rattle.span_keyed_tracks.proofs.Lists.Filters.{filter-filter, filter-filter_map}
 
 module _ {K A : Type 0} (cmp : K → K → Ordering) (key : K) where

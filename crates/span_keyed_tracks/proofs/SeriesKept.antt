@@ -1,32 +1,11 @@
 -- What is kept of series, and how it changes with a counter event.
+use Rattle.std.specs.{BTreeMap.{insert_entry, is_at}, Cmp.{both_tied, Lexicographic.texts_ties}, Map.{keys_of, lookup}, Option.{option_cmp, option_eq}, Ordering.{eq_by_cmp, int_cmp, int_eq, is_eq, match_ordering, ordering_then}, Prelude.{unwrap_or, fold, filter_map, flat_map}, declared.cmp.Ordering.{Ordering, TheVariants.{Less, Equal, Greater}}}
 use Rattle.std.proofs.Common.{ℕ, position, ◌≡◌, ◌-◌, ◌<◌, ◌^◌, ℤ, List, [], ◌∷◌, ◌++◌, Bool, true, false, cond, Option, Some, None, refl, sym, ap, subst, ◌∙◌, arith, map, append-nil, append_assoc}
-use Rattle.std.specs.Prelude.{unwrap_or, fold, filter_map, flat_map}
-use Rattle.std.specs.Cmp.{both_tied}
-use Rattle.std.specs.Cmp.Lexicographic.{texts_ties}
-use Rattle.std.specs.Option.{option_cmp, option_eq}
-use Rattle.std.specs.Ordering.{eq_by_cmp, int_cmp, int_eq, is_eq, match_ordering, ordering_then}
-use Rattle.std.specs.declared.cmp.Ordering.{Ordering}
-use Rattle.std.specs.declared.cmp.Ordering.TheVariants.{Less, Equal, Greater}
-use Rattle.std.specs.Map.{keys_of, lookup}
-use Rattle.std.specs.BTreeMap.{insert_entry, is_at}
-use Rattle.indexmap.proofs.MapLemmas.{Found-position, insert_entry-first}
 use Rattle.indexmap.specs.IndexMap.{insert_all, insert_entry as put_entry, set_value_at}
-use Rattle.span_event.specs.declared.event.Event.{Event}
-use Rattle.span_event.specs.declared.args.ArgValue.TheVariants.{Nil, Flag, Whole, Words, Other}
-use Rattle.span_event.specs.Args.{AllWhole, Arguments, IsInNameOrder}
-use Rattle.span_event.specs.declared.event.IdKey.{IdKey}
-use Rattle.span_event.specs.Orders.{id_cmp, same_id}
-use Rattle.span_event.specs.Text.{Bytes, text_cmp}
-use Rattle.span_keyed_tracks.specs.declared.keys.SeriesKey.{SeriesKey}
-use Rattle.span_keyed_tracks.specs.Keyed.{kept_at}
-use Rattle.span_keyed_tracks.specs.Uses.{first_uses}
-use Rattle.span_keyed_tracks.specs.Counters.{Sample, Series, CounterStandsFor, TakesCounter, HasCounterRoom, series_cmp, series_key, series_keys, series_from, series_of, samples_of, series_row, series_rows}
-use Rattle.span_keyed_tracks.specs.CountersKept.{ArePlaced, IsPlaced, found_at, kept_row, kept_series, next_entry, same_series, samples_before, with_sample}
-use Rattle.span_keyed_tracks.proofs.Counters.{with_args, kept_at-CounterStandsFor, samples-before, samples_before-series_of, length-samples_of, uses_in-member, uses_in-no_member, value_of-in_order}
-use Rattle.span_keyed_tracks.proofs.Keyed.{keys_of-made}
+use Rattle.indexmap.proofs.MapLemmas.{Found-position, insert_entry-first}
 use Rattle.span_names.proofs.Places.{position-front}
-use Rattle.span_keyed_tracks.proofs.Orders.{series_cmp-total, series_cmp-same}
-use Rattle.span_keyed_tracks.proofs.Uses.{AreApart, AreApart-fold, first_uses-ascending}
+use Rattle.span_keyed_tracks.specs.{Event, Nil, Flag, Whole, Words, Other, AllWhole, Arguments, IsInNameOrder, IdKey, id_cmp, same_id, Bytes, text_cmp, Counters.{Sample, Series, CounterStandsFor, TakesCounter, HasCounterRoom, series_cmp, series_key, series_keys, series_from, series_of, samples_of, series_row, series_rows}, CountersKept.{ArePlaced, IsPlaced, found_at, kept_row, kept_series, next_entry, same_series, samples_before, with_sample}, Keyed.kept_at, Uses.first_uses, declared.keys.SeriesKey.SeriesKey}
+use Rattle.span_keyed_tracks.proofs.{Counters.{with_args, kept_at-CounterStandsFor, samples-before, samples_before-series_of, length-samples_of, uses_in-member, uses_in-no_member, value_of-in_order}, Keyed.keys_of-made, Orders.{series_cmp-total, series_cmp-same}, Uses.{AreApart, AreApart-fold, first_uses-ascending}}
 
 option_eq-is_eq : {K : Type 0} (eq : K → K → Bool) (cmp : K → K → Ordering) → ((x y : K) → eq x y ≡ is_eq (cmp x y)) → (p q : Option K) → option_eq eq p q ≡ is_eq (option_cmp cmp p q)
 option_eq-is_eq eq cmp each None None = refl

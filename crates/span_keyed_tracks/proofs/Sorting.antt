@@ -1,24 +1,9 @@
 -- Distinct rows that a sort put in order, whatever its steps, are these rows in ascending order.
-use Rattle.std.proofs.Common.{◌≡◌, ℕ, zero, suc, ◌+◌, ◌<◌, Bool, true, false, List, [], ◌∷◌, ◌++◌, Bor, refl, sym, ap, ap₂, ◌∙◌, arith, length, get_or}
-use denote.Param.Members.{Mut}
-use Rattle.std.proofs.lemmas.Cmp.{tied_itself, tied_back}
-use Rattle.std.proofs.lemmas.Fn.{always_returns_same}
-use Rattle.std.proofs.lemmas.List.{append-nil}
-use Rattle.std.proofs.lemmas.List.Elements.{All-contains, All-from_recursion, All-head, All-tail, All-nil, recursion_from_All, Contains-get_or}
-use Rattle.std.proofs.lemmas.List.Sorted.{IsPermutation-append_right, IsPermutation-cons, IsPermutation-middle, IsPermutation-refl, IsPermutation-sym, IsPermutation-trans, Contains-permutation, ranks_by, sorted_far, sum_by-IsPermutation}
-use Rattle.std.proofs.lemmas.List.Sums.{sum_by-cons}
-use Rattle.std.proofs.lemmas.Map.Views.{All-insert_key}
-use Rattle.std.specs.BTreeSet.{insert_key}
-use Rattle.std.specs.Cmp.{IsTotalOrder}
-use Rattle.std.specs.Fn.{Called}
-use Rattle.std.specs.List.{All, AllByRecursion, Contains, IsDistinct, sum_by}
-use Rattle.std.specs.List.Sorted.{IsPermutation, IsSorted, IsSortedByClosure, IsStrictlySortedBy}
-use Rattle.std.specs.Ordering.{eq_by_cmp, is_eq, is_lt, match_ordering}
-use Rattle.std.specs.Prelude.{fold}
-use Rattle.std.specs.declared.cmp.Ordering.{Ordering}
-use Rattle.std.specs.declared.cmp.Ordering.TheVariants.{Less, Equal, Greater}
+use Rattle.std.specs.{BTreeSet.insert_key, Cmp.IsTotalOrder, Fn.Called, List.{All, AllByRecursion, Contains, IsDistinct, sum_by, Sorted.{IsPermutation, IsSorted, IsSortedByClosure, IsStrictlySortedBy}}, Ordering.{eq_by_cmp, is_eq, is_lt, match_ordering}, Prelude.fold, declared.cmp.Ordering.{Ordering, TheVariants.{Less, Equal, Greater}}}
+use Rattle.std.proofs.{Common.{◌≡◌, ℕ, zero, suc, ◌+◌, ◌<◌, Bool, true, false, List, [], ◌∷◌, ◌++◌, Bor, refl, sym, ap, ap₂, ◌∙◌, arith, length, get_or}, lemmas.{Cmp.{tied_itself, tied_back}, Fn.always_returns_same, List.{append-nil, Elements.{All-contains, All-from_recursion, All-head, All-tail, All-nil, recursion_from_All, Contains-get_or}, Sorted.{IsPermutation-append_right, IsPermutation-cons, IsPermutation-middle, IsPermutation-refl, IsPermutation-sym, IsPermutation-trans, Contains-permutation, ranks_by, sorted_far, sum_by-IsPermutation}, Sums.sum_by-cons}, Map.Views.All-insert_key}}
 use Rattle.span_keyed_tracks.specs.Keyed.{ascending}
 use Rattle.span_keyed_tracks.proofs.Sorted.{AllByRecursion-map, ascending-sorted}
+use denote.Param.Members.{Mut}
 
 module _ {K : Type 0} {R : K → K → Ordering} (o : IsTotalOrder R) where
   -- from the clause `sorted` of a sort whose calls compare by an order

@@ -1,20 +1,9 @@
 -- How what is kept for the keys that events use changes with one more use.
-use Rattle.std.proofs.Common.{◌≡◌, List, [], ◌∷◌, ◌++◌, Bool, true, false, ◌||◌, cond, None, refl, sym, ap, ap₂, ◌∙◌, map}
-use Rattle.std.specs.Prelude.{fold, is_some}
-use Rattle.std.specs.declared.cmp.Ordering.{Ordering}
-use Rattle.std.specs.declared.cmp.Ordering.TheVariants.{Less, Equal, Greater}
-use Rattle.std.specs.Ordering.{is_eq, eq_by_cmp, match_ordering, ordering_reverse}
-use Rattle.std.specs.Cmp.{IsTotalOrder}
-use Rattle.std.specs.Map.{lookup}
-use Rattle.std.specs.BTreeMap.{is_at, insert_entry}
-use Rattle.std.specs.BTreeSet.{insert_key}
-use Rattle.indexmap.specs.IndexMap.{insert_entry as put_entry}
-use Rattle.indexmap.specs.IndexSet.{insert_key as add_key}
-use Rattle.std.proofs.lemmas.List.Sums.{fold-append}
-use Rattle.span_keyed_tracks.specs.Keyed.{ascending, entry_of}
-use Rattle.span_keyed_tracks.specs.Uses.{first_uses}
-use Rattle.span_keyed_tracks.proofs.Ascending.{ascending-fold}
-use Rattle.span_keyed_tracks.proofs.Keyed.{has_key, neither, same_from_is_eq, is_some-lookup, keys_of-made}
+use Rattle.std.specs.{BTreeMap.{is_at, insert_entry}, BTreeSet.insert_key, Cmp.IsTotalOrder, Map.lookup, Ordering.{is_eq, eq_by_cmp, match_ordering, ordering_reverse}, Prelude.{fold, is_some}, declared.cmp.Ordering.{Ordering, TheVariants.{Less, Equal, Greater}}}
+use Rattle.std.proofs.{Common.{◌≡◌, List, [], ◌∷◌, ◌++◌, Bool, true, false, ◌||◌, cond, None, refl, sym, ap, ap₂, ◌∙◌, map}, lemmas.List.Sums.fold-append}
+use Rattle.indexmap.specs.{IndexMap.insert_entry as put_entry, IndexSet.insert_key as add_key}
+use Rattle.span_keyed_tracks.specs.{Keyed.{ascending, entry_of}, Uses.first_uses}
+use Rattle.span_keyed_tracks.proofs.{Ascending.ascending-fold, Keyed.{has_key, neither, same_from_is_eq, is_some-lookup, keys_of-made}}
 
 module _ {K : Type 0} {cmp : K → K → Ordering} (o : IsTotalOrder cmp) where
   -- which of two keys is asked about is all one

@@ -1,18 +1,7 @@
 -- Asynchronous spans: begins, ends and points of a key, which no thread holds together.
-use Rattle.std.specs.Prelude.{◌≡◌, ℕ, ◌+◌, ◌<◌, ◌^◌, ◌-◌, Bool, true, false, if◌then◌else◌, ℤ, int_lt, List, [], ◌∷◌, ◌++◌, length, map, sum, count_by, Option, Some, None, Result, Ok, Err}
-use Rattle.std.specs.declared.cmp.Ordering.{Ordering}
-use Rattle.std.specs.Ordering.{ordering_then}
+use Rattle.std.specs.{Ordering.ordering_then, Prelude.{◌≡◌, ℕ, ◌+◌, ◌<◌, ◌^◌, ◌-◌, Bool, true, false, if◌then◌else◌, ℤ, int_lt, List, [], ◌∷◌, ◌++◌, length, map, sum, count_by, Option, Some, None, Result, Ok, Err}, declared.cmp.Ordering.Ordering}
 use Rattle.span_event.specs.declared.fault.Fault.{Fault}
-use Rattle.span_event.specs.declared.fault.Fault.TheVariants.{NoOpenAsync, EndBeforeBegin}
-use Rattle.span_event.specs.Orders.{id_cmp}
-use Rattle.span_event.specs.Text.{text_cmp}
-use Rattle.span_event.specs.Time.{distance}
-use Rattle.span_keyed_tracks.specs.declared.keys.AsyncKey.{AsyncKey}
-use Rattle.span_keyed_tracks.specs.declared.async_track.AsyncRow.{AsyncRow}
-use Rattle.span_keyed_tracks.specs.declared.async_track.AsyncTotals.{AsyncTotals}
-use Rattle.span_keyed_tracks.specs.Fault.{refusal_of}
-use Rattle.span_keyed_tracks.specs.Matching.{Step, other, opener, open_of, closed_by, closed_of}
-use Rattle.span_keyed_tracks.specs.Keyed.{Keyed, entries_in, kept_at}
+use Rattle.span_keyed_tracks.specs.{NoOpenAsync, EndBeforeBegin, id_cmp, text_cmp, distance, Fault.refusal_of, Keyed.{Keyed, entries_in, kept_at}, Matching.{Step, other, opener, open_of, closed_by, closed_of}, declared.{async_track.{AsyncRow.AsyncRow, AsyncTotals.AsyncTotals}, keys.AsyncKey.AsyncKey}}
 
 -- by category, scope, id and name; texts by their bytes
 abbrev pub async_cmp : AsyncKey → AsyncKey → Ordering

@@ -1,9 +1,6 @@
 -- How what is kept of the asynchronous spans of one key changes, and how large it gets.
 use Rattle.std.specs.Prelude.{◌≡◌, ℕ, ◌+◌, ◌*◌, ◌<◌, ◌≤◌, ◌^◌, ℤ, [], ◌∷◌, ◌++◌, length, All, Some}
-use Rattle.span_event.specs.Event.{IsTime, greatest_time}
-use Rattle.span_event.specs.Time.{distance}
-use Rattle.span_keyed_tracks.specs.Last.{last_of, without_last}
-use Rattle.span_keyed_tracks.specs.Async.{AsyncSpans}
+use Rattle.span_keyed_tracks.specs.{IsTime, greatest_time, distance, Async.AsyncSpans, Last.{last_of, without_last}}
 
 -- times are in range, so that the sum of lengths is bounded, and the numbers are numbers of 32 bits
 pub record AreBounded (spans : AsyncSpans) : Type 0 where

@@ -1,20 +1,6 @@
 -- Counters: the samples of each series, and what they give.
-use Rattle.std.specs.Prelude.{◌≡◌, ℕ, ◌≤◌, ◌^◌, ◌-◌, ℤ, pos, List, [], ◌∷◌, ◌++◌, length, map, filter, filter_map, flat_map, fold, Option, Some, None, option_and_then, unwrap_or, if◌then◌else◌}
-use Rattle.std.specs.Option.{option_map, option_cmp}
-use Rattle.std.specs.Int.{int_min, int_max}
-use Rattle.std.specs.declared.cmp.Ordering.{Ordering}
-use Rattle.std.specs.Ordering.{int_cmp, int_eq, is_eq, ordering_then}
-use Rattle.span_event.specs.declared.event.Event.{Event}
-use Rattle.span_event.specs.declared.args.ArgValue.{ArgValue}
-use Rattle.span_event.specs.Args.{as_whole, value_of}
-use Rattle.span_event.specs.Orders.{id_cmp}
-use Rattle.span_event.specs.Text.{Bytes, text_cmp}
-use Rattle.span_keyed_tracks.specs.declared.keys.SeriesKey.{SeriesKey}
-use Rattle.span_keyed_tracks.specs.declared.counter_track.SeriesRow.{SeriesRow}
-use Rattle.span_keyed_tracks.specs.declared.counter_track.SeriesTotals.{SeriesTotals}
-use Rattle.span_keyed_tracks.specs.Last.{last_of}
-use Rattle.span_keyed_tracks.specs.Keyed.{ascending, entry_of}
-use Rattle.span_keyed_tracks.specs.Uses.{uses_in}
+use Rattle.std.specs.{Int.{int_min, int_max}, Option.{option_map, option_cmp}, Ordering.{int_cmp, int_eq, is_eq, ordering_then}, Prelude.{◌≡◌, ℕ, ◌≤◌, ◌^◌, ◌-◌, ℤ, pos, List, [], ◌∷◌, ◌++◌, length, map, filter, filter_map, flat_map, fold, Option, Some, None, option_and_then, unwrap_or, if◌then◌else◌}, declared.cmp.Ordering.Ordering}
+use Rattle.span_keyed_tracks.specs.{Event, ArgValue, as_whole, value_of, id_cmp, Bytes, text_cmp, Keyed.{ascending, entry_of}, Last.last_of, Uses.uses_in, declared.{counter_track.{SeriesRow.SeriesRow, SeriesTotals.SeriesTotals}, keys.SeriesKey.SeriesKey}}
 
 -- by process, name, id, no id before any, and series; texts by their bytes
 abbrev pub series_cmp : SeriesKey → SeriesKey → Ordering

@@ -1,23 +1,6 @@
 -- How series are kept, and how they change with one more event.
-use Rattle.std.specs.Prelude.{◌≡◌, IfSome, position, ℕ, ◌+◌, ◌&&◌, Bool, pos, List, map, int_lt, Option, Some, None, unwrap_or, if◌then◌else◌}
-use Rattle.std.specs.Int.{int_min, int_max}
-use Rattle.std.specs.List.{AllByRecursion}
-use Rattle.std.specs.Map.{keys_of, lookup}
-use Rattle.std.specs.Cmp.{IsEquivalence, and_equiv, int_eq_equiv, on_equiv}
-use Rattle.std.specs.Cmp.Lexicographic.{nat_list_eq_equiv, options_equiv}
-use Rattle.std.specs.Option.{option_eq}
-use Rattle.std.specs.Ordering.{int_eq}
-use Rattle.span_event.specs.declared.args.ArgValue.{ArgValue}
-use Rattle.span_event.specs.declared.event.Event.{Event}
-use Rattle.span_event.specs.Args.{as_whole}
-use Rattle.span_event.specs.Orders.{same_id}
-use Rattle.span_event.specs.Text.{Bytes, same_text}
-use Rattle.span_keyed_tracks.specs.declared.keys.SeriesKey.{SeriesKey}
-use Rattle.span_keyed_tracks.specs.declared.counter_track.SeriesRow.{SeriesRow}
-use Rattle.span_keyed_tracks.specs.declared.counter_track.running.Held.{Held}
-use Rattle.span_keyed_tracks.specs.declared.counter_track.running.Held.TheVariants.{One, Many}
-use Rattle.span_keyed_tracks.specs.declared.counter_track.running.Sums.{Sums}
-use Rattle.span_keyed_tracks.specs.Counters.{CountersKept, Sample, Series, series_key}
+use Rattle.std.specs.{Cmp.{IsEquivalence, and_equiv, int_eq_equiv, on_equiv, Lexicographic.{nat_list_eq_equiv, options_equiv}}, Int.{int_min, int_max}, List.AllByRecursion, Map.{keys_of, lookup}, Option.option_eq, Ordering.int_eq, Prelude.{◌≡◌, IfSome, position, ℕ, ◌+◌, ◌&&◌, Bool, pos, List, map, int_lt, Option, Some, None, unwrap_or, if◌then◌else◌}}
+use Rattle.span_keyed_tracks.specs.{ArgValue, Event, as_whole, same_id, Bytes, same_text, Counters.{CountersKept, Sample, Series, series_key}, declared.{counter_track.{SeriesRow.SeriesRow, running.{Held.{Held, TheVariants.{One, Many}}, Sums.Sums}}, keys.SeriesKey.SeriesKey}}
 
 -- how many samples there are
 abbrev pub samples_before : Option Series → ℕ

@@ -1,9 +1,7 @@
 -- What a track refuses.
 use Rattle.std.specs.Prelude.{◌≡◌, ◌≢◌, ℕ, Option, Some, None, Result, Ok, Err, IfErr}
 use Rattle.span_event.specs.declared.fault.Fault.{Fault}
-use Rattle.span_event.specs.Fault.{number_of}
-use Rattle.span_keyed_tracks.specs.declared.fault.TrackFault.{TrackFault}
-use Rattle.span_keyed_tracks.specs.declared.fault.TrackFault.TheVariants.{Refused, Memory}
+use Rattle.span_keyed_tracks.specs.{number_of, declared.fault.TrackFault.{TrackFault, TheVariants.{Refused, Memory}}}
 
 -- the number with which an event is refused, where what it comes to is a fault
 abbrev pub refusal_of : {A : Type 0} → Result A Fault → Option ℕ

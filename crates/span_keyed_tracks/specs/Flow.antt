@@ -1,19 +1,7 @@
 -- Flow chains: the points of a key, from a start to a finish.
-use Rattle.std.specs.Prelude.{◌≡◌, ℕ, ◌+◌, ◌<◌, ◌^◌, ◌-◌, Bool, true, false, if◌then◌else◌, ℤ, int_lt, List, [], ◌∷◌, ◌++◌, length, map, sum, count_by, Option, Some, None, Result, Ok, Err}
-use Rattle.std.specs.List.{list_any}
-use Rattle.std.specs.declared.cmp.Ordering.{Ordering}
-use Rattle.std.specs.Ordering.{ordering_then}
+use Rattle.std.specs.{List.list_any, Ordering.ordering_then, Prelude.{◌≡◌, ℕ, ◌+◌, ◌<◌, ◌^◌, ◌-◌, Bool, true, false, if◌then◌else◌, ℤ, int_lt, List, [], ◌∷◌, ◌++◌, length, map, sum, count_by, Option, Some, None, Result, Ok, Err}, declared.cmp.Ordering.Ordering}
 use Rattle.span_event.specs.declared.fault.Fault.{Fault}
-use Rattle.span_event.specs.declared.fault.Fault.TheVariants.{FlowOpen, NoFlow, TimeGoesBack}
-use Rattle.span_event.specs.Orders.{id_cmp}
-use Rattle.span_event.specs.Text.{text_cmp}
-use Rattle.span_event.specs.Time.{distance}
-use Rattle.span_keyed_tracks.specs.declared.keys.FlowKey.{FlowKey}
-use Rattle.span_keyed_tracks.specs.declared.flow_track.FlowRow.{FlowRow}
-use Rattle.span_keyed_tracks.specs.declared.flow_track.FlowTotals.{FlowTotals}
-use Rattle.span_keyed_tracks.specs.declared.flow_track.FlowClosed.{FlowClosed}
-use Rattle.span_keyed_tracks.specs.Fault.{refusal_of}
-use Rattle.span_keyed_tracks.specs.Keyed.{Keyed, entries_in, kept_at}
+use Rattle.span_keyed_tracks.specs.{FlowOpen, NoFlow, TimeGoesBack, id_cmp, text_cmp, distance, Fault.refusal_of, Keyed.{Keyed, entries_in, kept_at}, declared.{flow_track.{FlowClosed.FlowClosed, FlowRow.FlowRow, FlowTotals.FlowTotals}, keys.FlowKey.FlowKey}}
 
 -- by category, name and id; texts by their bytes
 abbrev pub flow_cmp : FlowKey → FlowKey → Ordering

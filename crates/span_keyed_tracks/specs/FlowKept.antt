@@ -1,9 +1,6 @@
 -- How what is kept of the chains of one key changes, and how large it gets.
-use Rattle.std.specs.Prelude.{ℕ, ◌+◌, ◌*◌, ◌<◌, ◌≤◌, ◌^◌, ℤ, ◌≤ℤ◌, Option, Some, None}
-use Rattle.std.specs.Option.{option_map}
-use Rattle.span_event.specs.Event.{IsTime, greatest_time}
-use Rattle.span_event.specs.Time.{distance}
-use Rattle.span_keyed_tracks.specs.Flow.{OpenChain, FlowChains, points_of}
+use Rattle.std.specs.{Option.option_map, Prelude.{ℕ, ◌+◌, ◌*◌, ◌<◌, ◌≤◌, ◌^◌, ℤ, ◌≤ℤ◌, Option, Some, None}}
+use Rattle.span_keyed_tracks.specs.{IsTime, greatest_time, distance, Flow.{OpenChain, FlowChains, points_of}}
 
 -- times of the chain are in range, and its last point is not before its first
 abbrev pub IsInTime : Option OpenChain → Type 0

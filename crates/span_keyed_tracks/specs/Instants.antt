@@ -1,21 +1,8 @@
 -- Instants: how many there are of each thread, name and reach.
-use Rattle.std.specs.Prelude.{◌≡◌, ℕ, ◌≤◌, ◌^◌, ◌-◌, Bool, true, false, nat_eq, List, [], ◌∷◌, ◌++◌, length, filter_map, flat_map, count_by, Option, None, if◌then◌else◌}
-use Rattle.std.specs.Option.{option_map}
-use Rattle.std.specs.Ordering.{is_eq}
-use Rattle.span_event.specs.declared.event.Event.{Event}
-use Rattle.span_event.specs.declared.event.Phase.{Phase}
-use Rattle.span_event.specs.declared.event.Phase.TheVariants.{Instant}
-use Rattle.span_event.specs.declared.event.Reach.{Reach}
-use Rattle.span_event.specs.declared.event.Reach.TheVariants.{Global, Process, Thread as OneThread}
-use Rattle.span_event.specs.declared.thread.Thread.{Thread}
-use Rattle.span_event.specs.Orders.{reach_cmp}
-pub use Rattle.span_event.specs.declared.thread.Thread.{Thread as ThreadKey}
-pub use Rattle.span_event.specs.Orders.{thread_cmp}
-pub use Rattle.span_event.specs.Text.{text_cmp as name_cmp}
-use Rattle.span_event.specs.Text.{Bytes, text_cmp}
-use Rattle.span_event.specs.Thread.{thread_of}
-use Rattle.span_keyed_tracks.specs.declared.meta_track.instants.InstantRow.{InstantRow}
-use Rattle.span_keyed_tracks.specs.Keyed.{Keyed, steps_at, entries_in}
+use Rattle.std.specs.{Option.option_map, Ordering.is_eq, Prelude.{◌≡◌, ℕ, ◌≤◌, ◌^◌, ◌-◌, Bool, true, false, nat_eq, List, [], ◌∷◌, ◌++◌, length, filter_map, flat_map, count_by, Option, None, if◌then◌else◌}}
+use Rattle.span_event.specs.declared.event.Reach.TheVariants.{Thread as OneThread}
+use Rattle.span_keyed_tracks.specs.{Event, Phase, Instant, Reach, Global, Process, Thread, reach_cmp, Bytes, text_cmp, thread_of, Keyed.{Keyed, steps_at, entries_in}, declared.meta_track.instants.InstantRow.InstantRow}
+pub use Rattle.span_keyed_tracks.specs.{Thread as ThreadKey, thread_cmp, text_cmp as name_cmp}
 
 -- the reach of an instant of a name; and the same of a thread
 abbrev pub NamedReach : Type 0

@@ -1,8 +1,7 @@
 -- How the counts of a name change.
 use Rattle.std.specs.Prelude.{ℕ, ◌+◌}
-use Rattle.span_event.specs.declared.event.Reach.{Reach}
-use Rattle.span_event.specs.declared.event.Reach.TheVariants.{Global, Process, Thread}
-use Rattle.span_keyed_tracks.specs.Instants.{ReachCounts}
+use Rattle.span_event.specs.declared.event.Reach.TheVariants.{Thread}
+use Rattle.span_keyed_tracks.specs.{Reach, Global, Process, Instants.ReachCounts}
 
 -- how many instants have this reach
 abbrev pub count_at : Reach → ReachCounts → ℕ

@@ -1,11 +1,5 @@
 -- Steps of many keys: those of one key, and what is kept for each key that has one.
-use Rattle.std.specs.Prelude.{List, [], map, filter, fold, unwrap_or}
-use Rattle.std.specs.declared.cmp.Ordering.{Ordering}
-use Rattle.std.specs.Ordering.{eq_by_cmp, is_eq}
-use Rattle.std.specs.List.{IsDistinct}
-use Rattle.std.specs.Map.{keys_of, lookup}
-use Rattle.std.specs.BTreeMap.{insert_entry, is_at}
-use Rattle.std.specs.BTreeSet.{insert_key}
+use Rattle.std.specs.{BTreeMap.{insert_entry, is_at}, BTreeSet.insert_key, List.IsDistinct, Map.{keys_of, lookup}, Ordering.{eq_by_cmp, is_eq}, Prelude.{List, [], map, filter, fold, unwrap_or}, declared.cmp.Ordering.Ordering}
 
 -- a step of a key
 pub record Keyed (K A : Type 0) : Type 0 where

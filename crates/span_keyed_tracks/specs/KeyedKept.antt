@@ -1,12 +1,6 @@
 -- How what is kept for many keys changes at one of them.
-use Rattle.std.specs.Prelude.{◌≡◌, ◌⊎◌, ℕ, List, Option, Result, Ok, Err, IfOk, IfErr, OnErr, IsOk}
-use Rattle.std.specs.declared.cmp.Ordering.{Ordering}
-use Rattle.std.specs.List.Sorted.{IsStrictlySortedBy}
-use Rattle.std.specs.Map.{keys_of}
-use Rattle.std.specs.BTreeMap.{insert_entry}
-use Rattle.span_keyed_tracks.specs.declared.fault.TrackFault.{TrackFault}
-use Rattle.span_keyed_tracks.specs.Fault.{Answers}
-use Rattle.span_keyed_tracks.specs.Keyed.{kept_at}
+use Rattle.std.specs.{BTreeMap.insert_entry, List.Sorted.IsStrictlySortedBy, Map.keys_of, Prelude.{◌≡◌, ◌⊎◌, ℕ, List, Option, Result, Ok, Err, IfOk, IfErr, OnErr, IsOk}, declared.cmp.Ordering.Ordering}
+use Rattle.span_keyed_tracks.specs.{Fault.Answers, Keyed.kept_at, declared.fault.TrackFault.TrackFault}
 
 -- a call was made on what is kept at a key, `none` where nothing is. What it left is kept there then; where it was refused, or there is
 -- no memory for the key, all stays. A fault is the call's own, unless it was taken at a key where nothing is kept

@@ -1,6 +1,5 @@
 -- The last element of a list, and the others.
-use Rattle.std.specs.Prelude.{List, [], ◌∷◌, Option, Some, None}
-use Rattle.std.specs.Option.{option_or}
+use Rattle.std.specs.{Option.option_or, Prelude.{List, [], ◌∷◌, Option, Some, None}}
 
 -- the last element, if there is one
 abbrev pub last_of : {A : Type 0} → List A → Option A

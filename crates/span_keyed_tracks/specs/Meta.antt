@@ -1,17 +1,7 @@
 -- Names, labels and sort indices of processes and threads, and instants: what metadata events and instants say.
-use Rattle.std.specs.Prelude.{◌≡◌, ℕ, ◌≤◌, ◌^◌, ◌-◌, ℤ, Bool, true, false, codes, is_some, List, [], ◌∷◌, ◌++◌, length, filter_map, Option, Some, None, option_and_then, if◌then◌else◌}
-use Rattle.std.specs.Option.{option_map, option_cmp}
-use Rattle.std.specs.declared.cmp.Ordering.{Ordering}
-use Rattle.std.specs.Ordering.{int_cmp, ordering_then}
-use Rattle.span_event.specs.declared.event.Event.{Event}
-use Rattle.span_event.specs.declared.event.Phase.{Phase}
+use Rattle.std.specs.{Option.{option_map, option_cmp}, Ordering.{int_cmp, ordering_then}, Prelude.{◌≡◌, ℕ, ◌≤◌, ◌^◌, ◌-◌, ℤ, Bool, true, false, codes, is_some, List, [], ◌∷◌, ◌++◌, length, filter_map, Option, Some, None, option_and_then, if◌then◌else◌}, declared.cmp.Ordering.Ordering}
 use Rattle.span_event.specs.declared.event.Phase.TheVariants.{Meta}
-use Rattle.span_event.specs.Args.{as_text, as_whole, value_of}
-use Rattle.span_event.specs.Given.{Gives}
-use Rattle.span_event.specs.Text.{Bytes, same_text}
-use Rattle.span_keyed_tracks.specs.Last.{last_of}
-use Rattle.span_keyed_tracks.specs.Keyed.{Keyed, steps_at, entries_in}
-use Rattle.span_keyed_tracks.specs.Instants.{InstantsKept, instants_counted, instants_in}
+use Rattle.span_keyed_tracks.specs.{Event, Phase, as_text, as_whole, value_of, Gives, Bytes, same_text, Instants.{InstantsKept, instants_counted, instants_in}, Keyed.{Keyed, steps_at, entries_in}, Last.last_of}
 
 -- a process; or one of its threads
 abbrev pub Holder : Type 0

@@ -1,9 +1,6 @@
 -- How the names of a process or thread change.
 use Rattle.std.specs.Prelude.{Some}
-use Rattle.span_keyed_tracks.specs.declared.meta_track.setting.Setting.{Setting as Kept}
-use Rattle.span_keyed_tracks.specs.declared.meta_track.setting.Setting.TheVariants.{Name, Labels, SortIndex}
-use Rattle.span_keyed_tracks.specs.Keyed.{Keyed}
-use Rattle.span_keyed_tracks.specs.Meta.{Holder, Names, Setting, set_name, set_labels, set_sort_index}
+use Rattle.span_keyed_tracks.specs.{Keyed.Keyed, Meta.{Holder, Names, Setting, set_name, set_labels, set_sort_index}, declared.meta_track.setting.Setting.{Setting as Kept, TheVariants.{Name, Labels, SortIndex}}}
 
 -- one more setting, which holds from now on
 abbrev pub with_setting : Names → Setting → Names

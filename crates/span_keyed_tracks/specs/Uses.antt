@@ -1,7 +1,5 @@
 -- What is kept for each key that events use, in the order of its first use.
-use Rattle.std.specs.Prelude.{List, [], map, fold, flat_map}
-use Rattle.std.specs.declared.cmp.Ordering.{Ordering}
-use Rattle.std.specs.Ordering.{eq_by_cmp}
+use Rattle.std.specs.{Ordering.eq_by_cmp, Prelude.{List, [], map, fold, flat_map}, declared.cmp.Ordering.Ordering}
 use Rattle.indexmap.specs.IndexSet.{insert_key}
 use Rattle.span_keyed_tracks.specs.Keyed.{entry_of}
 

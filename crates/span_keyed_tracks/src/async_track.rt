@@ -1,10 +1,6 @@
 //! The track of asynchronous spans.
 ghost use Rattle.std.specs.Prelude.{◌≡◌, [], ◌∷◌, List, map, None, IfOk, OnOk, OnErr};
-ghost use Rattle.span_event.specs.Event.{IsTime};
-ghost use Rattle.span_keyed_tracks.specs.Fault.{Answers, TakesNoMemory};
-ghost use Rattle.span_keyed_tracks.specs.Matching.{opens, closes, other};
-ghost use Rattle.span_keyed_tracks.specs.Keyed.{steps_at};
-ghost use Rattle.span_keyed_tracks.specs.Async.{AsyncEvent, AsyncStandsFor, HasAsyncRoom, TakesAsync, async_cmp, async_end_refusal, async_row, async_spans_at, async_totals, length_closed_by};
+ghost use Rattle.span_keyed_tracks.specs.{IsTime, Async.{AsyncEvent, AsyncStandsFor, HasAsyncRoom, TakesAsync, async_cmp, async_end_refusal, async_row, async_spans_at, async_totals, length_closed_by}, Fault.{Answers, TakesNoMemory}, Keyed.steps_at, Matching.{opens, closes, other}};
 
 mod key_spans;
 
@@ -45,8 +41,7 @@ pub struct AsyncTrack {
 }
 
 impl Model for AsyncTrack {
-    ghost use Rattle.span_keyed_tracks.specs.Async.{AsyncKept, async_cmp};
-    ghost use Rattle.span_keyed_tracks.specs.Keyed.{AreDistinct, in_key_order};
+    ghost use Rattle.span_keyed_tracks.specs.{Async.{AsyncKept, async_cmp}, Keyed.{AreDistinct, in_key_order}};
 
     ghost Value = { AsyncKept };
 

@@ -1,15 +1,7 @@
 //! The track of counters.
-ghost use Rattle.std.specs.Prelude.{◌≡◌, ◌+◌, ◌<◌, ◌≤◌, [], None, map, option_and_then, option_copied, slice_get, vec_len, IfOk, OnOk, OnErr};
-ghost use Rattle.std.specs.Map.{values_of};
+ghost use Rattle.std.specs.{Map.values_of, Prelude.{◌≡◌, ◌+◌, ◌<◌, ◌≤◌, [], None, map, option_and_then, option_copied, slice_get, vec_len, IfOk, OnOk, OnErr}};
 ghost use Rattle.indexmap.specs.IndexMap.{insert_all, insert_entry, spare};
-ghost use Rattle.span_event.specs.declared.event.Event.{Event};
-ghost use Rattle.span_event.specs.declared.event.Phase.TheVariants.{Counter as CounterPhase};
-ghost use Rattle.span_event.specs.Args.{AllWhole};
-ghost use Rattle.span_event.specs.Event.{IsGood};
-ghost use Rattle.span_event.specs.Given.{Gives};
-ghost use Rattle.span_keyed_tracks.specs.Fault.{Answers};
-ghost use Rattle.span_keyed_tracks.specs.Counters.{CounterStandsFor, HasCounterRoom, TakesCounter, series_rows, series_totals};
-ghost use Rattle.span_keyed_tracks.specs.CountersKept.{ArePlaced, IsPlaced, found_at, kept_row, kept_series, next_entry, same_series};
+ghost use Rattle.span_keyed_tracks.specs.{Event, Counter as CounterPhase, AllWhole, IsGood, Gives, Counters.{CounterStandsFor, HasCounterRoom, TakesCounter, series_rows, series_totals}, CountersKept.{ArePlaced, IsPlaced, found_at, kept_row, kept_series, next_entry, same_series}, Fault.Answers};
 
 mod running;
 mod shared_key;
@@ -79,8 +71,7 @@ pub struct CounterTrack {
 }
 
 impl Model for CounterTrack {
-    ghost use Rattle.span_keyed_tracks.specs.Counters.{CountersKept};
-    ghost use Rattle.span_keyed_tracks.specs.CountersKept.{kept_series};
+    ghost use Rattle.span_keyed_tracks.specs.{Counters.CountersKept, CountersKept.kept_series};
 
     ghost Value = { CountersKept };
 

@@ -1,9 +1,6 @@
 //! The track of flow chains.
 ghost use Rattle.std.specs.Prelude.{◌≡◌, [], map, Some, None, IfOk, OnOk, OnErr};
-ghost use Rattle.span_event.specs.Event.{IsTime};
-ghost use Rattle.span_keyed_tracks.specs.Fault.{Answers, TakesNoMemory};
-ghost use Rattle.span_keyed_tracks.specs.Flow.{FlowStandsFor, HasFlowRoom, TakesFlow, started, stepped, finished};
-ghost use Rattle.span_keyed_tracks.specs.Flow.{flow_closed, flow_cmp, flow_point_refusal, flow_row, flow_chains_at, flow_start_refusal, flow_totals};
+ghost use Rattle.span_keyed_tracks.specs.{IsTime, Fault.{Answers, TakesNoMemory}, Flow.{FlowStandsFor, HasFlowRoom, TakesFlow, started, stepped, finished, flow_closed, flow_cmp, flow_point_refusal, flow_row, flow_chains_at, flow_start_refusal, flow_totals}};
 
 mod key_chains;
 
@@ -51,8 +48,7 @@ pub struct FlowTrack {
 }
 
 impl Model for FlowTrack {
-    ghost use Rattle.span_keyed_tracks.specs.Flow.{FlowKept, flow_cmp};
-    ghost use Rattle.span_keyed_tracks.specs.Keyed.{AreDistinct, in_key_order};
+    ghost use Rattle.span_keyed_tracks.specs.{Flow.{FlowKept, flow_cmp}, Keyed.{AreDistinct, in_key_order}};
 
     ghost Value = { FlowKept };
 

@@ -1,13 +1,6 @@
 //! What is kept of the events of each key, by hashes of the keys.
-ghost use Rattle.std.specs.Prelude.{◌≡◌, Err, option_copied};
-ghost use Rattle.std.specs.Fn.{FnOnceReturnsAtMut};
-ghost use Rattle.std.specs.Borrow.{MutBor};
-ghost use Rattle.std.specs.BTreeMap.{is_at};
-ghost use Rattle.std.specs.Map.{lookup};
-ghost use Rattle.std.specs.declared.cmp.Ordering.TheVariants.{Equal};
-ghost use Rattle.span_keyed_tracks.specs.declared.fault.TrackFault.{TrackFault};
-ghost use Rattle.span_keyed_tracks.specs.Keyed.{AreDistinct, in_key_order, kept_at};
-ghost use Rattle.span_keyed_tracks.specs.KeyedKept.{ChangesAt};
+ghost use Rattle.std.specs.{BTreeMap.is_at, Borrow.MutBor, Fn.FnOnceReturnsAtMut, Map.lookup, Prelude.{◌≡◌, Err, option_copied}, declared.cmp.Ordering.TheVariants.Equal};
+ghost use Rattle.span_keyed_tracks.specs.{Keyed.{AreDistinct, in_key_order, kept_at}, KeyedKept.ChangesAt, declared.fault.TrackFault.TrackFault};
 
 use crate::fault::TrackFault;
 use crate::key_change::Key;

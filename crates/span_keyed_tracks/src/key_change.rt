@@ -1,10 +1,6 @@
 //! What is kept of the events of each key.
-ghost use Rattle.std.specs.Prelude.{◌≡◌, Err, IfOk};
-ghost use Rattle.std.specs.Fn.{FnOnceReturnsAtMut};
-ghost use Rattle.std.specs.Borrow.{MutBor};
-ghost use Rattle.span_keyed_tracks.specs.declared.fault.TrackFault.{TrackFault};
-ghost use Rattle.span_keyed_tracks.specs.Keyed.{kept_at};
-ghost use Rattle.span_keyed_tracks.specs.KeyedKept.{ChangesAt};
+ghost use Rattle.std.specs.{Borrow.MutBor, Fn.FnOnceReturnsAtMut, Prelude.{◌≡◌, Err, IfOk}};
+ghost use Rattle.span_keyed_tracks.specs.{Keyed.kept_at, KeyedKept.ChangesAt, declared.fault.TrackFault.TrackFault};
 
 use crate::fault::TrackFault;
 use std::alloc::{AllocError, Global};

@@ -1,13 +1,7 @@
 //! The track of metadata events.
 ghost use Rattle.std.specs.Prelude.{◌≡◌, [], Some, None, option_copied, IfOk, OnOk, OnErr};
-ghost use Rattle.span_event.specs.declared.event.Event.{Event};
-ghost use Rattle.span_event.specs.declared.event.Phase.TheVariants.{Instant, Meta};
-ghost use Rattle.span_event.specs.Event.{IsGood};
-ghost use Rattle.span_event.specs.Given.{Gives};
-ghost use Rattle.span_keyed_tracks.specs.Fault.{Answers, TakesNoMemory};
-ghost use Rattle.span_keyed_tracks.specs.Instants.{instant_rows, instant_rows_of, instants_of};
-ghost use Rattle.span_keyed_tracks.specs.Meta.{HasLabels, HasMetaRoom, HasName, HasSortIndex, MetaStandsFor, TakesMeta, TakesSetting, setting_of};
-ghost use Rattle.span_keyed_tracks.specs.MetaKept.{keyed_setting};
+ghost use Rattle.span_event.specs.declared.event.Phase.TheVariants.{Meta};
+ghost use Rattle.span_keyed_tracks.specs.{Event, Instant, IsGood, Gives, Fault.{Answers, TakesNoMemory}, Instants.{instant_rows, instant_rows_of, instants_of}, Meta.{HasLabels, HasMetaRoom, HasName, HasSortIndex, MetaStandsFor, TakesMeta, TakesSetting, setting_of}, MetaKept.keyed_setting};
 
 mod instants;
 mod named;

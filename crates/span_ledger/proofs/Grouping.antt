@@ -1,20 +1,8 @@
 -- What is grouped by process, once one process has more.
-use Rattle.std.proofs.Common.{◌≡◌, ℤ, List, [], ◌∷◌, ◌++◌, map, Bool, true, false, cond, Some, None, refl, sym, ap, ap₂, ◌∙◌, append-nil}
-use Rattle.std.specs.Prelude.{filter, if◌then◌else◌}
-use Rattle.std.specs.List.{AllByRecursion}
-use Rattle.std.specs.List.Sorted.{IsStrictlySortedBy}
-use Rattle.std.specs.Ordering.{int_cmp, int_eq, is_eq}
-use Rattle.std.specs.Cmp.{int_cmp_total, tied_itself}
-use Rattle.std.specs.FinMap.{int_cmp-IsAntisymmetric}
-use Rattle.std.specs.Map.{lookup, set_value}
-use Rattle.std.specs.BTreeMap.{is_at, insert_entry}
-use Rattle.std.specs.BTreeSet.{insert_key}
-use Rattle.std.proofs.lemmas.List.Elements.{filter-append}
-use Rattle.span_keyed_tracks.specs.declared.counter_track.SeriesRow.{SeriesRow}
-use Rattle.span_keyed_tracks.specs.Keyed.{entry_of}
+use Rattle.std.specs.{BTreeMap.{is_at, insert_entry}, BTreeSet.insert_key, Cmp.{int_cmp_total, tied_itself}, FinMap.int_cmp-IsAntisymmetric, List.{AllByRecursion, Sorted.IsStrictlySortedBy}, Map.{lookup, set_value}, Ordering.{int_cmp, int_eq, is_eq}, Prelude.{filter, if◌then◌else◌}}
+use Rattle.std.proofs.{Common.{◌≡◌, ℤ, List, [], ◌∷◌, ◌++◌, map, Bool, true, false, cond, Some, None, refl, sym, ap, ap₂, ◌∙◌, append-nil}, lemmas.List.Elements.filter-append}
 use Rattle.span_keyed_tracks.proofs.Keyed.{lookup-made, made-agree, made-insert_entry, made-set_value}
-use Rattle.span_event.specs.declared.thread.Thread.{Thread}
-use Rattle.span_ledger.specs.Grouped.{Grouped, GroupsGrow, group_of, groups_of, with_series, with_thread}
+use Rattle.span_ledger.specs.{SeriesRow, entry_of, Thread, Grouped.{Grouped, GroupsGrow, group_of, groups_of, with_series, with_thread}}
 use Rattle.span_ledger.proofs.TrackRows.{map-same}
 
 -- a key that isn't found is none of the keys

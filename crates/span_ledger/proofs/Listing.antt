@@ -1,19 +1,10 @@
 -- What is listed: the process of each listed thread is.
+use Rattle.std.specs.{BTreeSet.insert_key, Cmp.{int_cmp_total, signed_Decides}, List.{list_all, list_any}, Ordering.{int_cmp, int_eq, is_eq}, declared.cmp.Ordering.TheVariants.Equal}
 use Rattle.std.proofs.Common.{◌≡◌, ℤ, List, [], ◌∷◌, ◌++◌, Bool, true, false, ◌||◌, cond, refl, sym, ap, ◌∙◌}
-use Rattle.std.specs.List.{list_all, list_any}
-use Rattle.std.specs.Ordering.{int_cmp, int_eq, is_eq}
-use Rattle.std.specs.BTreeSet.{insert_key}
-use Rattle.std.specs.Cmp.{int_cmp_total, signed_Decides}
 use Rattle.indexmap.specs.IndexSet.{insert_key as add_key}
-use Rattle.std.specs.declared.cmp.Ordering.TheVariants.{Equal}
-use Rattle.span_event.specs.declared.thread.Thread.{Thread}
-use Rattle.span_event.specs.Orders.{thread_cmp}
-use Rattle.span_event.specs.Thread.{same_thread}
 use Rattle.span_event.proofs.Orders.{thread_cmp-same, thread_cmp-total}
-use Rattle.span_keyed_tracks.specs.Keyed.{ascending}
-use Rattle.span_keyed_tracks.proofs.Ascending.{ascending-add_key}
-use Rattle.span_keyed_tracks.proofs.Keyed.{same_from_is_eq}
-use Rattle.span_keyed_tracks.proofs.Matching.Closed.{both_true, and_true}
+use Rattle.span_keyed_tracks.proofs.{Ascending.ascending-add_key, Keyed.same_from_is_eq, Matching.Closed.{both_true, and_true}}
+use Rattle.span_ledger.specs.{Thread, thread_cmp, same_thread, ascending}
 use Rattle.span_ledger.proofs.Threads.{same_thread-cmp}
 
 -- a process added to those listed, in ascending order

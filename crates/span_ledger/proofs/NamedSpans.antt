@@ -1,30 +1,10 @@
 -- The numbered spans of a track with their texts again are the spans of its events.
-use Rattle.std.proofs.Common.{◌≡◌, ℕ, ◌+◌, ◌<◌, List, [], ◌∷◌, ◌++◌, map, true, Option, Some, None, refl, sym, ap, ap₂, ◌∙◌, subst, All, length, get_or, take}
-use Rattle.std.specs.Option.{option_map, option_to_list}
-use Rattle.std.specs.List.{list_all, cons_option}
-use Rattle.std.proofs.lemmas.List.{map_push, take_more}
-use Rattle.std.proofs.lemmas.Simd.{map-map}
-use Rattle.std.proofs.lemmas.List.Elements.{All-cons, All-head, All-nil, All-tail, filter_map-append}
-use Rattle.span_event.specs.Text.{Bytes}
-use Rattle.span_event.specs.declared.thread.Thread.{Thread}
-use Rattle.span_self_time.specs.declared.span.ClosedSpan.{ClosedSpan}
-use Rattle.span_self_time.specs.Closed.{AreClosed, IsInTime, span_of}
-use Rattle.span_self_time.specs.Laws.{IsApart, AreSpans}
-use Rattle.span_self_time.specs.Spans.{Span, self_time}
-use Rattle.span_keyed_tracks.proofs.Matching.Closed.{both_true}
+use Rattle.std.specs.{List.{list_all, cons_option}, Option.{option_map, option_to_list}}
+use Rattle.std.proofs.{Common.{◌≡◌, ℕ, ◌+◌, ◌<◌, List, [], ◌∷◌, ◌++◌, map, true, Option, Some, None, refl, sym, ap, ap₂, ◌∙◌, subst, All, length, get_or, take}, lemmas.{List.{map_push, take_more, Elements.{All-cons, All-head, All-nil, All-tail, filter_map-append}}, Simd.map-map}}
 use Rattle.span_names.proofs.Numbers.{slice_get-number_in}
-use Rattle.span_ledger.specs.Named.{AreThreadSpans, IsTimely, named_span, named_spans}
-use Rattle.span_ledger.specs.Numbered.{renamed_span}
-use Rattle.span_journal.specs.Timed.{self_times}
-use Rattle.span_track.specs.Nesting.{ThreadEvent, closed_spans}
-use Rattle.span_track.specs.Thread.{ThreadSpans}
-use Rattle.span_journal.specs.declared.entry.Entry.{Entry}
-use Rattle.span_journal.specs.Told.{thread_events}
-use Rattle.span_ledger.specs.Tracked.{FollowsJournal, SpansKept, TracksKept, number_for, track_at}
-use Rattle.span_ledger.proofs.Renaming.{self_time-renamed}
-use Rattle.span_ledger.proofs.ThreadTelling.{IsTrackOf, IsTrackOf-journal}
-use Rattle.span_ledger.proofs.Totals.{is_numbered_span, number_for-is}
-use Rattle.span_ledger.proofs.TrackRows.{closed-is, known}
+use Rattle.span_keyed_tracks.proofs.Matching.Closed.{both_true}
+use Rattle.span_ledger.specs.{Bytes, Thread, ClosedSpan, AreClosed, IsInTime, span_of, IsApart, AreSpans, Span, self_time, self_times, ThreadEvent, closed_spans, ThreadSpans, Entry, thread_events, Named.{AreThreadSpans, IsTimely, named_span, named_spans}, Numbered.renamed_span, Tracked.{FollowsJournal, SpansKept, TracksKept, number_for, track_at}}
+use Rattle.span_ledger.proofs.{Renaming.self_time-renamed, ThreadTelling.{IsTrackOf, IsTrackOf-journal}, Totals.{is_numbered_span, number_for-is}, TrackRows.{closed-is, known}}
 
 -- each text has its number, and each number its text
 pub named_spans-renamed : (names : List Bytes) (spans : List (Span Bytes)) → list_all (is_numbered_span names) spans ≡ true →

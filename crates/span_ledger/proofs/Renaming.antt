@@ -1,14 +1,9 @@
 -- What names there are changes no nesting and no time.
+use Rattle.std.specs.{Int.{int_min, int_max}, List.list_any, Prelude.{ℤ, pos, ◌+ℤ◌, option_map}}
 use Rattle.std.proofs.Common.{◌≡◌, ℕ, zero, suc, ◌+◌, List, [], ◌∷◌, map, Bool, cond, not, ◌&&◌, ◌||◌, refl, ap, ap₂, ◌∙◌}
-use Rattle.std.specs.Prelude.{ℤ, pos, ◌+ℤ◌, option_map}
-use Rattle.std.specs.List.{list_any}
-use Rattle.std.specs.Int.{int_min, int_max}
-use Rattle.span_event.specs.Time.{distance}
-use Rattle.span_self_time.specs.Spans.{Span, covers, outranks, is_outranked, is_covered, earliest, latest, count_from, self_time, busy_time}
-use Rattle.span_track.specs.Nesting.{ThreadEvent, span_between, span_sealed, whole_span, opener, open_spans, closed_spans, last_time, latest_time}
 use Rattle.span_keyed_tracks.proofs.Matching.Mapped.{opener-map_step, open_of-map_step, closed_of-map_step}
 use Rattle.span_track.proofs.Threads.Mapped.{last_time-map_step, latest_time-map_step}
-use Rattle.span_ledger.specs.Numbered.{renamed_begin, renamed_span, renamed}
+use Rattle.span_ledger.specs.{distance, Span, covers, outranks, is_outranked, is_covered, earliest, latest, count_from, self_time, busy_time, ThreadEvent, span_between, span_sealed, whole_span, opener, open_spans, closed_spans, last_time, latest_time, Numbered.{renamed_begin, renamed_span, renamed}}
 
 list_any-map : {A B : Type 0} (p : B → Bool) (f : A → B) (xs : List A) → list_any p (map f xs) ≡ list_any (λ x. p (f x)) xs
 list_any-map p f [] = refl

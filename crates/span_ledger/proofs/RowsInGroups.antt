@@ -1,23 +1,9 @@
 -- The rows that are made of what is grouped are those of the journal.
-use Rattle.span_event.specs.Orders.{thread_cmp}
+use Rattle.std.specs.{Ordering.int_eq, Prelude.filter_map, declared.cmp.Ordering.TheVariants.Equal}
 use Rattle.std.proofs.Common.{◌≡◌, ℤ, List, Bool, ap, ap₂, ◌∙◌, map}
-use Rattle.std.specs.Prelude.{filter_map}
-use Rattle.std.specs.declared.cmp.Ordering.TheVariants.{Equal}
-use Rattle.std.specs.Ordering.{int_eq}
-use Rattle.span_keyed_tracks.specs.declared.counter_track.SeriesRow.{SeriesRow}
-use Rattle.span_keyed_tracks.specs.Counters.{series_rows, series_rows_of}
-use Rattle.span_keyed_tracks.specs.Keyed.{entry_of}
-use Rattle.span_journal.specs.declared.entry.Entry.{Entry}
-use Rattle.span_event.specs.declared.thread.Thread.{Thread}
-use Rattle.span_ledger.specs.Grouped.{Grouped, group_of, rows_in_group, groups_of}
-use Rattle.span_journal.specs.Journal.{accepted}
-use Rattle.span_journal.specs.ByProcess.{rows_in_process, rows_by_process, threads_in}
-use Rattle.span_journal.specs.Rows.{process_keys, thread_keys}
-use Rattle.span_journal.specs.Told.{counter_events, listed_by}
-use Rattle.span_journal.proofs.Selected.{filter-ascending}
-use Rattle.span_journal.proofs.SeriesOfProcess.{filter-series_rows}
-use Rattle.span_journal.proofs.Sorted.{map-map}
 use Rattle.span_event.proofs.Orders.{thread_cmp-same, thread_cmp-total}
+use Rattle.span_journal.proofs.{Selected.filter-ascending, SeriesOfProcess.filter-series_rows, Sorted.map-map}
+use Rattle.span_ledger.specs.{thread_cmp, SeriesRow, series_rows, series_rows_of, entry_of, Entry, Thread, accepted, rows_in_process, rows_by_process, threads_in, process_keys, thread_keys, counter_events, listed_by, Grouped.{Grouped, group_of, rows_in_group, groups_of}}
 use Rattle.span_ledger.proofs.TrackRows.{map-same}
 
 module _ (journal : List Entry) where

@@ -1,19 +1,9 @@
 -- The totals of a name are those of its number.
-use Rattle.span_event.specs.Text.{Bytes, same_text}
-use Rattle.std.proofs.Common.{◌≡◌, ℕ, ◌+◌, ℤ, List, [], ◌∷◌, length, map, Bool, true, false, cond, Option, Some, None, refl, sym, ap, ap₂, ◌∙◌, nat_eq, eq-eqb, eqb-true}
-use Rattle.std.specs.Prelude.{is_some, unwrap_or, sum_by, slice_get}
-use Rattle.std.specs.List.{list_all}
-use Rattle.std.specs.Bool.{one_answer}
-use Rattle.std.specs.Cmp.Lexicographic.{bytes_decides}
-use Rattle.std.proofs.lemmas.List.{length-map}
-use Rattle.std.proofs.lemmas.List.Sums.{sum_by-cons}
-use Rattle.span_self_time.specs.Spans.{Span, length_of, self_time, named, total_of, self_of}
-use Rattle.span_track.specs.Nesting.{Begin, Ending, ThreadEvent, span_between, span_sealed, whole_span, closed_spans}
-use Rattle.span_keyed_tracks.proofs.Matching.Closed.{both_true, and_true, closed_of-passes}
-use Rattle.span_names.specs.Numbering.{number_in}
+use Rattle.std.specs.{Bool.one_answer, Cmp.Lexicographic.bytes_decides, List.list_all, Prelude.{is_some, unwrap_or, sum_by, slice_get}}
+use Rattle.std.proofs.{Common.{◌≡◌, ℕ, ◌+◌, ℤ, List, [], ◌∷◌, length, map, Bool, true, false, cond, Option, Some, None, refl, sym, ap, ap₂, ◌∙◌, nat_eq, eq-eqb, eqb-true}, lemmas.List.{length-map, Sums.sum_by-cons}}
 use Rattle.span_names.proofs.Numbers.{slice_get-number_in}
-use Rattle.span_ledger.specs.Numbered.{renamed_span}
-use Rattle.span_ledger.specs.Tracked.{number_for, is_numbered}
+use Rattle.span_keyed_tracks.proofs.Matching.Closed.{both_true, and_true, closed_of-passes}
+use Rattle.span_ledger.specs.{Bytes, same_text, Span, length_of, self_time, named, total_of, self_of, Begin, Ending, ThreadEvent, span_between, span_sealed, whole_span, closed_spans, number_in, Numbered.renamed_span, Tracked.{number_for, is_numbered}}
 use Rattle.span_ledger.proofs.Renaming.{self_time-renamed}
 
 -- the name of the span has a number

@@ -1,13 +1,6 @@
 -- The threads and series that are grouped by process.
-use Rattle.std.specs.Prelude.{◌≡◌, if◌then◌else◌, ℤ, List, [], ◌∷◌, ◌++◌, map, filter}
-use Rattle.std.specs.List.Sorted.{IsStrictlySortedBy}
-use Rattle.std.specs.Ordering.{int_cmp, int_eq}
-use Rattle.span_keyed_tracks.specs.declared.counter_track.SeriesRow.{SeriesRow}
-use Rattle.span_keyed_tracks.specs.Keyed.{entry_of}
-use Rattle.span_journal.specs.declared.entry.Entry.{Entry}
-use Rattle.span_event.specs.declared.thread.Thread.{Thread}
-use Rattle.span_journal.specs.ByProcess.{ProcessRows, rows_in_thread}
-use Rattle.span_journal.specs.Rows.{process_row}
+use Rattle.std.specs.{List.Sorted.IsStrictlySortedBy, Ordering.{int_cmp, int_eq}, Prelude.{◌≡◌, if◌then◌else◌, ℤ, List, [], ◌∷◌, ◌++◌, map, filter}}
+use Rattle.span_ledger.specs.{SeriesRow, entry_of, Entry, Thread, ProcessRows, rows_in_thread, process_row}
 
 -- threads and series of one process
 pub record Grouped : Type 0 where

@@ -1,12 +1,6 @@
 -- The closed spans of a thread, each with the text of its name.
-use Rattle.std.specs.Prelude.{ℕ, ◌≤ℤ◌, List, Option, All, filter_map, slice_get}
-use Rattle.std.specs.Option.{option_map}
-use Rattle.span_event.specs.Event.{least_time}
-use Rattle.span_event.specs.Text.{Bytes}
-use Rattle.span_self_time.specs.Closed.{greatest_until}
-use Rattle.span_self_time.specs.Laws.{AreSpans}
-use Rattle.span_self_time.specs.Spans.{Span}
-use Rattle.span_ledger.specs.Numbered.{renamed_span}
+use Rattle.std.specs.{Option.option_map, Prelude.{ℕ, ◌≤ℤ◌, List, Option, All, filter_map, slice_get}}
+use Rattle.span_ledger.specs.{least_time, Bytes, greatest_until, AreSpans, Span, Numbered.renamed_span}
 
 -- the span lies between the least and the greatest time that a thread can have seen
 abbrev pub IsTimely : Span Bytes → Type 0

@@ -1,8 +1,6 @@
 -- The events of a thread with each name in place of another, as a number in place of a text.
 use Rattle.std.specs.Prelude.{List, map}
-use Rattle.span_self_time.specs.Spans.{Span}
-use Rattle.span_keyed_tracks.specs.Matching.{map_step}
-use Rattle.span_track.specs.Nesting.{Begin, ThreadEvent}
+use Rattle.span_ledger.specs.{Span, map_step, Begin, ThreadEvent}
 
 module _ {N M : Type 0} (rename : N → M) where
   abbrev pub renamed_begin : Begin N → Begin M

@@ -1,13 +1,6 @@
 //! The processes of a ledger, each with its threads and series, in the order in which a report prints them.
-ghost use Rattle.std.specs.Prelude.{◌≡◌, [], ℤ, List, map, IfOk, OnOk};
-ghost use Rattle.std.specs.Ordering.{int_cmp};
-ghost use Rattle.std.specs.List.Sorted.{IsStrictlySortedBy};
-ghost use Rattle.span_event.specs.Given.{Gives};
-ghost use Rattle.span_keyed_tracks.specs.Counters.{CounterStandsFor, series_rows};
-ghost use Rattle.span_keyed_tracks.specs.Keyed.{ascending};
-ghost use Rattle.span_ledger.specs.Grouped.{GroupsGrow, group_of, rows_in_group, groups_of, with_series, with_thread};
-ghost use Rattle.span_journal.specs.ByProcess.{rows_by_process, rows_in_thread};
-ghost use Rattle.span_ledger.specs.Tracked.{FollowsJournal};
+ghost use Rattle.std.specs.{List.Sorted.IsStrictlySortedBy, Ordering.int_cmp, Prelude.{◌≡◌, [], ℤ, List, map, IfOk, OnOk}};
+ghost use Rattle.span_ledger.specs.{Gives, CounterStandsFor, series_rows, ascending, rows_by_process, rows_in_thread, Grouped.{GroupsGrow, group_of, rows_in_group, groups_of, with_series, with_thread}, Tracked.FollowsJournal};
 
 use crate::listed::Listed;
 use crate::track_rows::{process_row, thread_row, thread_span_rows};
@@ -30,7 +23,7 @@ pub struct ThreadRows {
 }
 
 impl Model for ThreadRows {
-    ghost use Rattle.span_journal.specs.ByProcess.{ThreadRows};
+    ghost use Rattle.span_ledger.specs.{ThreadRows};
 
     ghost Value = { ThreadRows };
 
@@ -49,7 +42,7 @@ pub struct ProcessRows {
 }
 
 impl Model for ProcessRows {
-    ghost use Rattle.span_journal.specs.ByProcess.{ProcessRows};
+    ghost use Rattle.span_ledger.specs.{ProcessRows};
 
     ghost Value = { ProcessRows };
 

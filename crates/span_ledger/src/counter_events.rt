@@ -1,10 +1,6 @@
 //! A counter event, told to the track of counters.
 ghost use Rattle.std.specs.Prelude.{◌≡◌};
-ghost use Rattle.span_event.specs.declared.event.Phase.TheVariants.{Counter};
-ghost use Rattle.span_event.specs.Event.{IsGood};
-ghost use Rattle.span_keyed_tracks.specs.Counters.{CounterStandsFor, HasCounterRoom};
-ghost use Rattle.span_journal.specs.Answers.{counter_answer};
-ghost use Rattle.span_ledger.specs.Telling.{Tells};
+ghost use Rattle.span_ledger.specs.{Counter, IsGood, CounterStandsFor, HasCounterRoom, counter_answer, Telling.Tells};
 
 use crate::answer_pair::{AnswerPair, twice};
 use span_event::Event;

@@ -1,10 +1,6 @@
 //! An event with a key, told to the track of asynchronous spans or to that of flow chains.
 ghost use Rattle.std.specs.Prelude.{◌≡◌, IsSome};
-ghost use Rattle.span_event.specs.Event.{IsGood};
-ghost use Rattle.span_keyed_tracks.specs.Async.{HasAsyncRoom};
-ghost use Rattle.span_keyed_tracks.specs.Flow.{HasFlowRoom};
-ghost use Rattle.span_journal.specs.Told.{async_event, flow_event};
-ghost use Rattle.span_ledger.specs.Telling.{TellsAsync, TellsFlow};
+ghost use Rattle.span_ledger.specs.{IsGood, HasAsyncRoom, HasFlowRoom, async_event, flow_event, Telling.{TellsAsync, TellsFlow}};
 
 use crate::answer_pair::{AnswerPair, twice};
 use span_event::{Event, Phase, Text};

@@ -1,9 +1,6 @@
 //! The processes and threads that a journal lists.
-ghost use Rattle.span_event.specs.Orders.{thread_cmp};
-ghost use Rattle.std.specs.Prelude.{◌≡◌, ◌<◌, [], IfOk, OnOk, IsTrue};
-ghost use Rattle.std.specs.Ordering.{int_cmp};
-ghost use Rattle.std.specs.BTreeSet.{insert_key};
-ghost use Rattle.span_keyed_tracks.specs.Keyed.{ascending};
+ghost use Rattle.std.specs.{BTreeSet.insert_key, Ordering.int_cmp, Prelude.{◌≡◌, ◌<◌, [], IfOk, OnOk, IsTrue}};
+ghost use Rattle.span_ledger.specs.{thread_cmp, ascending};
 
 use indexmap::IndexSet;
 use span_event::Thread;
@@ -26,9 +23,7 @@ pub(crate) struct Listed {
 }
 
 impl Model for Listed {
-    ghost use Rattle.std.specs.Prelude.{◌≡◌, true};
-    ghost use Rattle.std.specs.List.{list_all, list_any};
-    ghost use Rattle.std.specs.Ordering.{int_eq};
+    ghost use Rattle.std.specs.{List.{list_all, list_any}, Ordering.int_eq, Prelude.{◌≡◌, true}};
     ghost use Rattle.indexmap.specs.IndexSet.{spare};
     ghost use Rattle.span_ledger.specs.Tracked.{ListedKept};
 

@@ -1,10 +1,6 @@
 //! A metadata event or an instant, told to their track.
 ghost use Rattle.std.specs.Prelude.{◌≡◌};
-ghost use Rattle.span_event.specs.declared.event.Phase.TheVariants.{Meta, Instant};
-ghost use Rattle.span_event.specs.Event.{IsGood};
-ghost use Rattle.span_keyed_tracks.specs.Meta.{MetaStandsFor, HasMetaRoom};
-ghost use Rattle.span_journal.specs.Answers.{meta_answer};
-ghost use Rattle.span_ledger.specs.Telling.{Tells};
+ghost use Rattle.span_ledger.specs.{Meta, Instant, IsGood, MetaStandsFor, HasMetaRoom, meta_answer, Telling.Tells};
 
 use crate::answer_pair::{AnswerPair, twice};
 use span_event::Event;

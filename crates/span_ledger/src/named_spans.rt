@@ -1,11 +1,6 @@
 //! The closed spans of a thread, with the texts of their names, and with their self times.
 ghost use Rattle.std.specs.Prelude.{◌≡◌, map, IfOk};
-ghost use Rattle.span_self_time.specs.Closed.{AreClosed, span_of};
-ghost use Rattle.span_track.specs.Nesting.{closed_spans};
-ghost use Rattle.span_ledger.specs.Named.{AreThreadSpans, named_span, named_spans};
-ghost use Rattle.span_journal.specs.Timed.{self_times, timed_spans, with_self_times};
-ghost use Rattle.span_journal.specs.Told.{thread_events};
-ghost use Rattle.span_ledger.specs.Tracked.{FollowsJournal};
+ghost use Rattle.span_ledger.specs.{AreClosed, span_of, closed_spans, self_times, timed_spans, with_self_times, thread_events, Named.{AreThreadSpans, named_span, named_spans}, Tracked.FollowsJournal};
 
 use crate::tracks::Tracks;
 use span_event::{Text, Thread};
@@ -23,8 +18,7 @@ pub struct NamedSpan<'a> {
 }
 
 impl<'a> Model for NamedSpan<'a> {
-    ghost use Rattle.span_event.specs.Text.{Bytes};
-    ghost use Rattle.span_self_time.specs.Spans.{Span};
+    ghost use Rattle.span_ledger.specs.{Bytes, Span};
 
     ghost Value = { Span Bytes };
 
@@ -58,7 +52,7 @@ pub struct TimedSpan<'a> {
 }
 
 impl<'a> Model for TimedSpan<'a> {
-    ghost use Rattle.span_journal.specs.Timed.{Timed};
+    ghost use Rattle.span_ledger.specs.{Timed};
 
     ghost Value = { Timed };
 

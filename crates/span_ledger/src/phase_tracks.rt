@@ -1,12 +1,7 @@
 //! The tracks of a journal, each with the events of many keys: of threads, asynchronous spans, flow chains, counters, names and
 //! instants.
 ghost use Rattle.std.specs.Prelude.{◌≡◌, []};
-ghost use Rattle.span_event.specs.Event.{IsGood};
-ghost use Rattle.span_journal.specs.Journal.{an_event, a_seal};
-ghost use Rattle.span_journal.specs.Told.{suits_end};
-ghost use Rattle.span_ledger.specs.Tracked.{PhasesKept, FollowPhases, HasPhaseRoom};
-ghost use Rattle.span_ledger.specs.Telling.{accepted_at, TellsPhase};
-ghost use Rattle.span_track.specs.Thread.{IsSealTime, any_name};
+ghost use Rattle.span_ledger.specs.{IsGood, an_event, a_seal, suits_end, IsSealTime, any_name, Telling.{accepted_at, TellsPhase}, Tracked.{PhasesKept, FollowPhases, HasPhaseRoom}};
 
 use crate::answer_pair::AnswerPair;
 use crate::counter_events::tell_counter;

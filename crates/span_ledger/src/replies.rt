@@ -1,12 +1,6 @@
 //! The replies to queries, from the tracks and the counts of a journal.
 ghost use Rattle.std.specs.Prelude.{◌≡◌, Some, None, IfOk};
-ghost use Rattle.span_event.specs.Given.{Gives};
-ghost use Rattle.span_keyed_tracks.specs.Meta.{MetaStandsFor, names_in};
-ghost use Rattle.span_names.specs.Numbering.{number_in};
-ghost use Rattle.span_journal.specs.Replies.{reply_to, process_reply, thread_names_reply};
-ghost use Rattle.span_journal.specs.Rows.{count_row};
-ghost use Rattle.span_ledger.specs.Tracked.{FollowsJournal, track_at};
-ghost use Rattle.span_ledger.specs.TrackRows.{track_reply, number_reply};
+ghost use Rattle.span_ledger.specs.{Gives, MetaStandsFor, names_in, number_in, reply_to, process_reply, thread_names_reply, count_row, TrackRows.{track_reply, number_reply}, Tracked.{FollowsJournal, track_at}};
 
 use crate::thread_tracks::ThreadTracks;
 use crate::tracks::Tracks;

@@ -1,11 +1,6 @@
 //! The rows of processes, of threads and of their names, from the tracks.
-ghost use Rattle.span_event.specs.Text.{text_cmp};
 ghost use Rattle.std.specs.Prelude.{◌≡◌, ◌++◌, IfOk, OnOk, flat_map, nat_eq, option_copied, option_and_then, slice_get};
-ghost use Rattle.span_keyed_tracks.specs.Keyed.{ascending};
-ghost use Rattle.span_self_time.specs.Spans.{names_of};
-ghost use Rattle.span_journal.specs.Rows.{process_row, process_rows, thread_row, thread_rows, thread_span_rows};
-ghost use Rattle.span_ledger.specs.Tracked.{FollowsJournal};
-ghost use Rattle.span_ledger.specs.TrackRows.{track_row, track_span_row, span_rows_of_track, track_span_rows, closed_names};
+ghost use Rattle.span_ledger.specs.{text_cmp, ascending, names_of, process_row, process_rows, thread_row, thread_rows, thread_span_rows, TrackRows.{track_row, track_span_row, span_rows_of_track, track_span_rows, closed_names}, Tracked.FollowsJournal};
 
 use crate::thread_tracks::ThreadTracks;
 use crate::tracks::Tracks;

@@ -1,11 +1,8 @@
 -- What a name's number says, and that it stays.
-use Rattle.std.proofs.Common.{◌≡◌, ℕ, Bool, true, false, cond, List, [], ◌∷◌, ◌++◌, get_or, Some, is_some, slice_get, ap, ◌∙◌}
 use Rattle.std.specs.Cmp.Lexicographic.{bytes_decides}
-use Rattle.std.proofs.lemmas.List.Quantifiers.{position-Some}
-use Rattle.std.proofs.lemmas.Option.{slice_get-get_or}
-use Rattle.span_names.specs.Numbering.{number_in, with_name}
+use Rattle.std.proofs.{Common.{◌≡◌, ℕ, Bool, true, false, cond, List, [], ◌∷◌, ◌++◌, get_or, Some, is_some, slice_get, ap, ◌∙◌}, lemmas.{List.Quantifiers.position-Some, Option.slice_get-get_or}}
+use Rattle.span_names.specs.{same_text, Numbering.{number_in, with_name}}
 use Rattle.span_names.proofs.Places.{position-front}
-use Rattle.span_event.specs.Text.{same_text}
 
 -- the text at its number
 pub slice_get-number_in : (names : List (List ℕ)) (text : List ℕ) (n : ℕ) → number_in names text ≡ Some n → slice_get names n ≡ Some text

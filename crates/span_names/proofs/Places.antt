@@ -1,10 +1,6 @@
 -- The place of the first element that passes a test.
-use Rattle.std.proofs.Common.{◌≡◌, ℕ, zero, suc, ◌+◌, ◌<◌, get_or, Bool, true, false, not, cond, nat_lt, List, [], ◌∷◌, ◌++◌, length, Some, None, position, refl, sym, ap, ◌∙◌, arith, ltb-false, ltb-true, lt-ltb, length-append, ◌≢◌}
-use Rattle.std.specs.Cmp.{IsEquivalence}
-use Rattle.std.specs.List.{AllByRecursion, IsDistinct, position_or_len, list_any}
-use Rattle.std.proofs.lemmas.List.{length_push}
-use Rattle.std.proofs.lemmas.List.Sums.{position_or_len_is, prefix_len-le-length}
-use Rattle.std.proofs.lemmas.Map.Keys.{IsDistinct-head, IsDistinct-tail}
+use Rattle.std.specs.{Cmp.IsEquivalence, List.{AllByRecursion, IsDistinct, position_or_len, list_any}}
+use Rattle.std.proofs.{Common.{◌≡◌, ℕ, zero, suc, ◌+◌, ◌<◌, get_or, Bool, true, false, not, cond, nat_lt, List, [], ◌∷◌, ◌++◌, length, Some, None, position, refl, sym, ap, ◌∙◌, arith, ltb-false, ltb-true, lt-ltb, length-append, ◌≢◌}, lemmas.{List.{length_push, Sums.{position_or_len_is, prefix_len-le-length}}, Map.Keys.{IsDistinct-head, IsDistinct-tail}}}
 
 module _ {A : Type 0} (p : A → Bool) where
   -- where none passes, the place is the length

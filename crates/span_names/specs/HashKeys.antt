@@ -1,9 +1,5 @@
 -- How keys hash.
-use Rattle.std.specs.Prelude.{Option, Some, None}
-use Rattle.std.specs.Hash.DefaultHasher.{initial}
-use Rattle.std.specs.RandomState.{initial_hasher}
-use Rattle.std.specs.declared.hash.DefaultHasher.{DefaultHasher}
-use Rattle.std.specs.declared.hash.RandomState.{RandomState}
+use Rattle.std.specs.{Hash.DefaultHasher.initial, Prelude.{Option, Some, None}, RandomState.initial_hasher, declared.hash.{DefaultHasher.DefaultHasher, RandomState.RandomState}}
 use Rattle.span_names.specs.declared.hash_keys.HashKeys.{HashKeys}
 
 -- the hasher of random keys, where there are any; else that of the fixed ones

@@ -1,6 +1,6 @@
 -- Names and their numbers: each text of a list has the number of its place.
 use Rattle.std.specs.Prelude.{ℕ, List, [], ◌∷◌, ◌++◌, Option, is_some, position, if◌then◌else◌}
-use Rattle.span_event.specs.Text.{Bytes, same_text}
+use Rattle.span_names.specs.{Bytes, same_text}
 
 -- the place of a text, where it is in the list
 abbrev pub number_in : List Bytes → Bytes → Option ℕ

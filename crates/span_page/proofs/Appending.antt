@@ -1,12 +1,8 @@
 -- What is appended for the stacks of frames, one frame after the other.
-use Rattle.std.proofs.Common.{◌≡◌, ℕ, zero, suc, ◌<◌, List, [], ◌∷◌, ◌++◌, length, map, drop, refl, ap, ◌∙◌, arith}
 use Rattle.std.specs.Ordering.{nat_cmp, ord_min}
-use Rattle.span_report.specs.Stacks.Ticks.{Stack}
-use Rattle.span_report.specs.Stacks.Framed.{Framed, stack_after}
-use Rattle.span_page.specs.Coded.{Coded}
-use Rattle.span_page.specs.Data.{stack_json}
-use Rattle.span_page.proofs.Coding.{coded_frames, coded_if, shared_if}
-use Rattle.span_page.proofs.Joined.{joined_after, joined_after-cons}
+use Rattle.std.proofs.Common.{◌≡◌, ℕ, zero, suc, ◌<◌, List, [], ◌∷◌, ◌++◌, length, map, drop, refl, ap, ◌∙◌, arith}
+use Rattle.span_page.specs.{Stack, Framed, stack_after, Coded.Coded, Data.stack_json}
+use Rattle.span_page.proofs.{Coding.{coded_frames, coded_if, shared_if}, Joined.{joined_after, joined_after-cons}}
 
 -- some bytes, and then the stacks of frames after another stack, which begins with n frames like the last that was appended
 abbrev pub with_frames : List ℕ → List ℕ → ℕ → Stack → List Framed → List ℕ

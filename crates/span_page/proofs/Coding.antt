@@ -1,19 +1,9 @@
 -- Decoding gives back the stacks that were coded.
-use Rattle.std.proofs.Common.{◌≡◌, ℕ, zero, suc, ◌+◌, ◌≤◌, Bool, true, false, cond, List, [], ◌∷◌, ◌++◌, length, take, drop, refl, sym, ap, ap₂, ◌∙◌, arith}
-use Rattle.std.specs.Cmp.Lexicographic.{bytes_decides}
-use Rattle.std.specs.Ordering.{nat_cmp, ord_min, ordering_then}
-use Rattle.std.specs.declared.cmp.Ordering.{Ordering}
-use Rattle.std.specs.declared.cmp.Ordering.TheVariants.{Less, Equal, Greater}
-use Rattle.std.proofs.lemmas.Bool.Decides.{nat_tests}
-use Rattle.std.proofs.lemmas.Cmp.{nat_list_cmp_total, tied_itself}
-use Rattle.span_event.specs.Text.{Bytes, same_text, text_cmp}
+use Rattle.std.specs.{Cmp.Lexicographic.bytes_decides, Ordering.{nat_cmp, ord_min, ordering_then}, declared.cmp.Ordering.{Ordering, TheVariants.{Less, Equal, Greater}}}
+use Rattle.std.proofs.{Common.{◌≡◌, ℕ, zero, suc, ◌+◌, ◌≤◌, Bool, true, false, cond, List, [], ◌∷◌, ◌++◌, length, take, drop, refl, sym, ap, ap₂, ◌∙◌, arith}, lemmas.{Bool.Decides.nat_tests, Cmp.{nat_list_cmp_total, tied_itself}}}
 use Rattle.span_event.proofs.Orders.{text_same}
-use Rattle.span_report.specs.Stacks.Ticks.{Folded, Stack, stack_order}
-use Rattle.span_report.specs.Stacks.Framed.{AreAscending, Framed, folded_after, folded_if, stack_after}
-use Rattle.span_report.proofs.StackLemmas.StackOrders.{irreflexive, none-below-empty, turned-greater}
-use Rattle.span_report.proofs.StackLemmas.Times.{stack_order-total}
-use Rattle.span_page.specs.Coded.{Coded, coded_after, decoded_after, shared}
-use Rattle.span_page.specs.Laws.{StacksAreHadBack}
+use Rattle.span_report.proofs.StackLemmas.{StackOrders.{irreflexive, none-below-empty, turned-greater}, Times.stack_order-total}
+use Rattle.span_page.specs.{Bytes, same_text, text_cmp, Folded, Stack, stack_order, AreAscending, Framed, folded_after, folded_if, stack_after, Coded.{Coded, coded_after, decoded_after, shared}, Laws.StacksAreHadBack}
 
 -- the frames that a stack shares with another, and its others
 take-shared : (before stack : Stack) → take (shared before stack) before ++ drop (shared before stack) stack ≡ stack

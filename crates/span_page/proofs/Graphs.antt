@@ -1,12 +1,7 @@
 -- Which graphs stand among so many frames.
-use Rattle.std.proofs.Common.{◌≡◌, ℕ, ◌-◌, ◌<◌, ◌≤◌, true, false, cond, List, ap, arith}
 use Rattle.std.specs.Prelude.{codes, nat_lt}
-use Rattle.std.proofs.lemmas.Bool.Decides.{nat_tests}
-use Rattle.span_event.specs.declared.thread.Thread.{Thread}
-use Rattle.span_journal.specs.declared.entry.Entry.{Entry}
-use Rattle.span_report.specs.Stacks.Folded.{thread_frame_count}
-use Rattle.span_report.specs.declared.stacks.label.SpanColumn.{SpanColumn}
-use Rattle.span_page.specs.Data.{graph_json, left_after, thread_json}
+use Rattle.std.proofs.{Common.{◌≡◌, ℕ, ◌-◌, ◌<◌, ◌≤◌, true, false, cond, List, ap, arith}, lemmas.Bool.Decides.nat_tests}
+use Rattle.span_page.specs.{Thread, Entry, thread_frame_count, SpanColumn, Data.{graph_json, left_after, thread_json}}
 
 fits : (left frames : ℕ) → frames ≤ left → nat_lt left frames ≡ false
 fits left frames within = grind (arith, nat_tests)

@@ -1,13 +1,7 @@
 -- A page of runs, with one run more.
-use Rattle.std.proofs.Common.{◌≡◌, ℕ, zero, Bool, true, false, List, [], ◌∷◌, ◌++◌, codes, refl, sym, ap, ◌∙◌, append_assoc, append-nil, arith}
 use Rattle.std.specs.List.{join_with_byte}
-use Rattle.span_event.specs.declared.unit.Unit.{Unit}
-use Rattle.span_report.specs.declared.stacks.label.SpanColumn.{SpanColumn}
-use Rattle.span_page.specs.Data.{most_frames}
-use Rattle.span_report.specs.Lines.{json_text_of}
-use Rattle.span_page.specs.Page.{text_before, text_behind}
-use Rattle.span_page.specs.Runs.{BegunPage, Holds, ShownRun, are_some, begun_text, page_of_runs, left_behind_run, left_behind_runs, run_json, runs_json}
-use Rattle.span_page.specs.Safe.{safe, safe_byte}
+use Rattle.std.proofs.Common.{◌≡◌, ℕ, zero, Bool, true, false, List, [], ◌∷◌, ◌++◌, codes, refl, sym, ap, ◌∙◌, append_assoc, append-nil, arith}
+use Rattle.span_page.specs.{Unit, SpanColumn, json_text_of, Data.most_frames, Page.{text_before, text_behind}, Runs.{BegunPage, Holds, ShownRun, are_some, begun_text, page_of_runs, left_behind_run, left_behind_runs, run_json, runs_json}, Safe.{safe, safe_byte}}
 use Rattle.span_page.proofs.SafePieces.{safe_after-before, safe-runs}
 
 -- a comma stands for itself

@@ -1,20 +1,8 @@
 -- A text with escapes, piece by piece.
-use Rattle.std.proofs.Common.{◌≡◌, ◌≢◌, ℕ, zero, suc, ◌≤◌, Bool, true, false, ◌&&◌, cond, List, [], ◌∷◌, ◌++◌, length, nat_eq, refl, sym, ap, ap₂, ◌∙◌, append_assoc, append-nil, arith}
-use Rattle.std.specs.Prelude.{T, not, codes, map}
-use Rattle.std.proofs.Math.Facts.{no_eqb}
-use Rattle.std.specs.List.{join_with_byte, starts_with}
+use Rattle.std.specs.{List.{join_with_byte, starts_with}, Prelude.{T, not, codes, map}}
+use Rattle.std.proofs.{Common.{◌≡◌, ◌≢◌, ℕ, zero, suc, ◌≤◌, Bool, true, false, ◌&&◌, cond, List, [], ◌∷◌, ◌++◌, length, nat_eq, refl, sym, ap, ap₂, ◌∙◌, append_assoc, append-nil, arith}, Math.Facts.no_eqb}
 use Rattle.json.specs.Print.{escape}
-use Rattle.span_event.specs.declared.unit.Unit.{Unit}
-use Rattle.span_journal.specs.declared.entry.Entry.{Entry}
-use Rattle.span_report.specs.declared.stacks.label.SpanColumn.{SpanColumn}
-use Rattle.span_journal.specs.ByProcess.{rows_by_process}
-use Rattle.span_report.specs.Lines.{json_text_of}
-use Rattle.span_collect.specs.declared.files.FileEnd.{FileEnd}
-use Rattle.span_collect.specs.declared.files.Input.{Input}
-use Rattle.span_collect.specs.FaultLines.{end_lines}
-use Rattle.span_collect.specs.Refusals.Text.{refusals_of}
-use Rattle.span_page.specs.Data.{all_stacks_json, array_of, graphs_json, names_json, rest_of, threads_of}
-use Rattle.span_page.specs.Safe.{safe, safe_after, safe_byte}
+use Rattle.span_page.specs.{Unit, Entry, SpanColumn, rows_by_process, json_text_of, FileEnd, Input, end_lines, refusals_of, Data.{all_stacks_json, array_of, graphs_json, names_json, rest_of, threads_of}, Safe.{safe, safe_after, safe_byte}}
 
 -- what stands for a text that begins with a byte, by what it begins with
 abbrev begun : Bool → Bool → ℕ → List ℕ → List ℕ

@@ -1,10 +1,7 @@
 -- A text with escapes has no byte `<`.
-use Rattle.std.proofs.Common.{◌≡◌, ℕ, zero, suc, Bool, true, false, cond, List, [], ◌∷◌, ◌++◌, All, nat_eq, refl}
 use Rattle.std.specs.Prelude.{codes}
-use Rattle.std.proofs.lemmas.List.Elements.{All-nil, All-cons, All-append}
-use Rattle.span_page.specs.Data.{data_of}
-use Rattle.span_page.specs.Laws.{DataEndNoElement}
-use Rattle.span_page.specs.Safe.{begins_line, begins_paragraph, safe_after, safe_byte}
+use Rattle.std.proofs.{Common.{◌≡◌, ℕ, zero, suc, Bool, true, false, cond, List, [], ◌∷◌, ◌++◌, All, nat_eq, refl}, lemmas.List.Elements.{All-nil, All-cons, All-append}}
+use Rattle.span_page.specs.{Data.data_of, Laws.DataEndNoElement, Safe.{begins_line, begins_paragraph, safe_after, safe_byte}}
 
 abbrev Harmless : ℕ → Type 0
 Harmless byte = nat_eq byte 60 ≡ false

@@ -1,26 +1,8 @@
 -- The page of a journal follows from what was refused, and from the acts on each topic.
 use Rattle.std.proofs.Common.{◌≡◌, ℕ, ◌-◌, cond, nat_lt, List, [], ◌∷◌, ◌++◌, codes, refl, ap, ap₂, ◌∙◌}
-use Rattle.span_event.specs.declared.thread.Thread.{Thread}
-use Rattle.span_event.specs.declared.unit.Unit.{Unit}
-use Rattle.span_journal.specs.declared.entry.Entry.{Entry}
-use Rattle.span_journal.specs.ByProcess.{rows_by_process}
-use Rattle.span_journal.specs.Topics.{AreAlike}
 use Rattle.span_journal.proofs.Topics.Rows.{rows-follow}
-use Rattle.span_report.specs.Lines.{json_text_of}
-use Rattle.span_report.specs.declared.stacks.label.SpanColumn.{SpanColumn}
-use Rattle.span_report.specs.Stacks.Laws.{HaveSameStacks}
-use Rattle.span_report.specs.Stacks.Ticks.{Folded}
-use Rattle.span_report.proofs.SameReports.{report_of-alike}
-use Rattle.span_report.proofs.StackLemmas.SameStacks.{stacks-alike}
-use Rattle.span_collect.specs.declared.files.FileEnd.{FileEnd}
-use Rattle.span_collect.specs.declared.files.Input.{Input}
-use Rattle.span_collect.specs.FaultLines.{end_lines}
-use Rattle.span_collect.specs.Refusals.Text.{refusals_of}
-use Rattle.span_page.specs.Data.{all_stacks_json, array_of, data_of, graph_json, graphs_json, left_after, left_behind, most_frames, names_json, rest_of, stacks_json, threads_of}
-use Rattle.span_page.specs.Runs.{run_json}
-use Rattle.span_page.specs.Laws.{PagesFollowFromActs}
-use Rattle.span_page.specs.Page.{text_before, page_of, text_behind}
-use Rattle.span_page.specs.Safe.{safe}
+use Rattle.span_report.proofs.{SameReports.report_of-alike, StackLemmas.SameStacks.stacks-alike}
+use Rattle.span_page.specs.{Thread, Unit, Entry, rows_by_process, AreAlike, json_text_of, SpanColumn, HaveSameStacks, Folded, FileEnd, Input, end_lines, refusals_of, Data.{all_stacks_json, array_of, data_of, graph_json, graphs_json, left_after, left_behind, most_frames, names_json, rest_of, stacks_json, threads_of}, Laws.PagesFollowFromActs, Page.{text_before, page_of, text_behind}, Runs.run_json, Safe.safe}
 
 -- the same graphs fit into what is left
 module _ (labels : List SpanColumn) (journal other : List Entry) (same : HaveSameStacks journal other) where

@@ -1,8 +1,6 @@
 -- Folded stacks in order, each without the frames with which it begins as the one before it does.
-use Rattle.std.specs.Prelude.{ℕ, List, [], ◌∷◌, ◌++◌, take, drop}
-use Rattle.std.specs.List.{common_prefix_len}
-use Rattle.span_event.specs.Text.{same_text}
-use Rattle.span_report.specs.Stacks.Ticks.{Folded, Stack}
+use Rattle.std.specs.{List.common_prefix_len, Prelude.{ℕ, List, [], ◌∷◌, ◌++◌, take, drop}}
+use Rattle.span_page.specs.{same_text, Folded, Stack}
 
 -- with how many frames two stacks begin alike
 abbrev pub shared : Stack → Stack → ℕ

@@ -1,20 +1,6 @@
 -- The data of a page, as a JSON text.
-use Rattle.std.specs.Prelude.{ℕ, ◌-◌, nat_lt, if◌then◌else◌, List, [], ◌∷◌, ◌++◌, map, flat_map, codes, decimal}
-use Rattle.std.specs.List.{join_with_byte}
-use Rattle.span_event.specs.declared.thread.Thread.{Thread}
-use Rattle.span_event.specs.declared.unit.Unit.{Unit}
-use Rattle.span_journal.specs.declared.entry.Entry.{Entry}
-use Rattle.span_journal.specs.ByProcess.{ProcessRows, ThreadRows, rows_by_process}
-use Rattle.span_report.specs.Lines.{json_text_of}
-use Rattle.span_report.specs.Report.{report_of}
-use Rattle.span_report.specs.Stacks.Folded.{thread_frame_count, thread_stacks}
-use Rattle.span_report.specs.declared.stacks.label.SpanColumn.{SpanColumn}
-use Rattle.span_report.specs.Stacks.Ticks.{Folded}
-use Rattle.span_collect.specs.declared.files.FileEnd.{FileEnd}
-use Rattle.span_collect.specs.declared.files.Input.{Input}
-use Rattle.span_collect.specs.FaultLines.{end_lines}
-use Rattle.span_collect.specs.Refusals.Text.{refusals_of}
-use Rattle.span_page.specs.Coded.{Coded, coded_after}
+use Rattle.std.specs.{List.join_with_byte, Prelude.{ℕ, ◌-◌, nat_lt, if◌then◌else◌, List, [], ◌∷◌, ◌++◌, map, flat_map, codes, decimal}}
+use Rattle.span_page.specs.{Thread, Unit, Entry, ProcessRows, ThreadRows, rows_by_process, json_text_of, report_of, thread_frame_count, thread_stacks, SpanColumn, Folded, FileEnd, Input, end_lines, refusals_of, Coded.{Coded, coded_after}}
 
 -- texts of JSON as an array
 abbrev pub array_of : List (List ℕ) → List ℕ

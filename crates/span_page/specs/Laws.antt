@@ -1,18 +1,6 @@
 -- The facts that hold of every page.
 use Rattle.std.specs.Prelude.{◌≡◌, ℕ, nat_eq, false, List, [], All}
-use Rattle.span_event.specs.declared.unit.Unit.{Unit}
-use Rattle.span_journal.specs.declared.entry.Entry.{Entry}
-use Rattle.span_journal.specs.Topics.{AreAlike}
-use Rattle.span_collect.specs.declared.files.FileEnd.{FileEnd}
-use Rattle.span_collect.specs.declared.files.Input.{Input}
-use Rattle.span_collect.specs.FaultLines.{end_lines}
-use Rattle.span_collect.specs.Refusals.Text.{refusals_of}
-use Rattle.span_report.specs.declared.stacks.label.SpanColumn.{SpanColumn}
-use Rattle.span_report.specs.Stacks.Ticks.{Folded}
-use Rattle.span_page.specs.Coded.{coded_after, decoded_after}
-use Rattle.span_page.specs.Data.{data_of}
-use Rattle.span_page.specs.Page.{page_of}
-use Rattle.span_page.specs.Safe.{safe}
+use Rattle.span_page.specs.{Unit, Entry, AreAlike, FileEnd, Input, end_lines, refusals_of, SpanColumn, Folded, Coded.{coded_after, decoded_after}, Data.data_of, Page.page_of, Safe.safe}
 
 -- no byte of the data is `<`, so that nothing in them ends the element in which they stand
 abbrev pub DataEndNoElement : Type 0

@@ -1,13 +1,6 @@
 -- A page for a browser.
 use Rattle.std.specs.Prelude.{ℕ, List, ◌++◌}
-use Rattle.span_event.specs.declared.unit.Unit.{Unit}
-use Rattle.span_journal.specs.declared.entry.Entry.{Entry}
-use Rattle.span_collect.specs.declared.files.FileEnd.{FileEnd}
-use Rattle.span_collect.specs.declared.files.Input.{Input}
-use Rattle.span_report.specs.declared.stacks.label.SpanColumn.{SpanColumn}
-use Rattle.span_page.specs.declared.fixed.TheConstants.{BEFORE, BEHIND}
-use Rattle.span_page.specs.Data.{data_of}
-use Rattle.span_page.specs.Safe.{safe}
+use Rattle.span_page.specs.{Unit, Entry, FileEnd, Input, SpanColumn, Data.data_of, Safe.safe, declared.fixed.TheConstants.{BEFORE, BEHIND}}
 
 -- the fixed texts, which are too long for a proof to look into
 unfoldable pub text_before : List ℕ

@@ -1,17 +1,6 @@
 -- A page of several runs.
-use Rattle.std.specs.Prelude.{◌≡◌, ℕ, Bool, true, false, List, [], ◌∷◌, ◌++◌, codes}
-use Rattle.std.specs.List.{join_with_byte}
-use Rattle.span_event.specs.declared.unit.Unit.{Unit}
-use Rattle.span_journal.specs.declared.entry.Entry.{Entry}
-use Rattle.span_journal.specs.ByProcess.{rows_by_process}
-use Rattle.span_collect.specs.declared.files.FileEnd.{FileEnd}
-use Rattle.span_collect.specs.declared.files.Input.{Input}
-use Rattle.span_report.specs.Lines.{json_text_of}
-use Rattle.span_report.specs.Report.{report_of}
-use Rattle.span_report.specs.declared.stacks.label.SpanColumn.{SpanColumn}
-use Rattle.span_page.specs.Data.{array_of, left_behind, most_frames, rest_of, threads_of}
-use Rattle.span_page.specs.Page.{text_before, text_behind}
-use Rattle.span_page.specs.Safe.{safe}
+use Rattle.std.specs.{List.join_with_byte, Prelude.{◌≡◌, ℕ, Bool, true, false, List, [], ◌∷◌, ◌++◌, codes}}
+use Rattle.span_page.specs.{Unit, Entry, rows_by_process, FileEnd, Input, json_text_of, report_of, SpanColumn, Data.{array_of, left_behind, most_frames, rest_of, threads_of}, Page.{text_before, text_behind}, Safe.safe}
 
 -- a run as a page shows it: its files, how they ended, and the journal
 pub record ShownRun : Type 0 where

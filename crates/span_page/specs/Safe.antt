@@ -1,6 +1,5 @@
 -- A JSON text as it may stand in a page: what could end the element that it stands in, or a line of it, is written as an escape.
-use Rattle.std.specs.Prelude.{ℕ, zero, suc, Bool, nat_eq, if◌then◌else◌, List, [], ◌∷◌, ◌++◌, codes}
-use Rattle.std.specs.List.{starts_with}
+use Rattle.std.specs.{List.starts_with, Prelude.{ℕ, zero, suc, Bool, nat_eq, if◌then◌else◌, List, [], ◌∷◌, ◌++◌, codes}}
 
 -- what stands for a byte: an escape for `<`, `>` and `&`
 unfoldable pub safe_byte : ℕ → List ℕ

@@ -1,11 +1,6 @@
 //! The data of a page.
-ghost use Rattle.std.specs.Prelude.{◌≡◌, ◌++◌, codes, length, map, string_bytes, IfOk, OnOk};
-ghost use Rattle.std.specs.List.{join_with_byte};
-ghost use Rattle.span_journal.specs.ByProcess.{rows_by_process};
-ghost use Rattle.span_report.specs.Lines.{json_text_of};
-ghost use Rattle.span_report.specs.Report.{report_of};
-ghost use Rattle.span_page.specs.Data.{all_stacks_json, data_of, graph_json, graphs_json, left_after, left_behind, names_json, rest_of, threads_in, threads_of};
-ghost use Rattle.span_page.specs.Safe.{safe};
+ghost use Rattle.std.specs.{List.join_with_byte, Prelude.{◌≡◌, ◌++◌, codes, length, map, string_bytes, IfOk, OnOk}};
+ghost use Rattle.span_page.specs.{rows_by_process, json_text_of, report_of, Data.{all_stacks_json, data_of, graph_json, graphs_json, left_after, left_behind, names_json, rest_of, threads_in, threads_of}, Safe.safe};
 
 use crate::safe::put_safe;
 use crate::stacks::{put_names, put_stacks};

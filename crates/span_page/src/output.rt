@@ -1,8 +1,6 @@
 //! Writes the page of a run to a sink.
 ghost use Rattle.std.specs.Prelude.{◌≡◌, length, string_bytes, IfErr, OnOk};
-ghost use Rattle.span_report.specs.Sink.{TakesBytes};
-ghost use Rattle.span_report.specs.Output.{WriteLeaves};
-ghost use Rattle.span_page.specs.Page.{page_of};
+ghost use Rattle.span_page.specs.{TakesBytes, WriteLeaves, Page.page_of};
 
 use crate::text::page;
 use span_collect::{FileEnd, Input};

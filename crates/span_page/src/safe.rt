@@ -1,6 +1,5 @@
 //! JSON texts as they may stand in a page.
-ghost use Rattle.std.specs.Prelude.{◌≡◌, ◌<◌, ◌≤◌, ◌∷◌, ◌++◌, ℕ, List, drop, length, take, IfOk, OnOk};
-ghost use Rattle.std.specs.Bool.{OnTrue};
+ghost use Rattle.std.specs.{Bool.OnTrue, Prelude.{◌≡◌, ◌<◌, ◌≤◌, ◌∷◌, ◌++◌, ℕ, List, drop, length, take, IfOk, OnOk}};
 ghost use Rattle.span_page.specs.Safe.{safe, safe_byte};
 
 use std::alloc::AllocError;

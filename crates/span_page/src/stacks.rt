@@ -1,10 +1,6 @@
 //! Folded stacks as data.
-ghost use Rattle.std.specs.Prelude.{◌≡◌, ◌++◌, [], map, string_bytes, OnOk};
-ghost use Rattle.std.specs.List.{join_with_byte};
-ghost use Rattle.span_report.specs.Lines.{json_text_of};
-ghost use Rattle.span_report.specs.Stacks.Framed.{AreAscending, folded_after};
-ghost use Rattle.span_page.specs.Coded.{coded_after};
-ghost use Rattle.span_page.specs.Data.{stack_json, stacks_json};
+ghost use Rattle.std.specs.{List.join_with_byte, Prelude.{◌≡◌, ◌++◌, [], map, string_bytes, OnOk}};
+ghost use Rattle.span_page.specs.{json_text_of, AreAscending, folded_after, Coded.coded_after, Data.{stack_json, stacks_json}};
 
 use span_event::Text;
 use span_report::json_text;

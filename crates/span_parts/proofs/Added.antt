@@ -1,35 +1,11 @@
 -- Rows as they are read.
-use Rattle.std.proofs.Common.{◌≡◌, ◌≢◌, ℕ, ◌+◌, ◌<◌, true, true≢false, List, [], ◌∷◌, ◌++◌, Option, Some, None, length, get_or, refl, sym, ap, subst, ◌∙◌, append_assoc, append-nil, arith}
-use Rattle.std.specs.Prelude.{All, flat_map}
-use Rattle.std.proofs.Math.Seq.{get_or-append_seam}
-use Rattle.std.specs.Ordering.{is_lt}
-use Rattle.std.specs.List.{AllByRecursion}
-use Rattle.std.specs.List.Sorted.{IsStrictlySortedBy}
-use Rattle.std.specs.declared.cmp.Ordering.{Ordering}
-use Rattle.std.specs.declared.cmp.Ordering.TheVariants.{Less, Equal, Greater}
-use Rattle.std.proofs.lemmas.Grind.{flat_map-append}
-use Rattle.std.proofs.lemmas.List.{length-append}
-use Rattle.std.proofs.lemmas.List.Elements.{All-nil, All-push}
+use Rattle.std.specs.{List.{AllByRecursion, Sorted.IsStrictlySortedBy}, Ordering.is_lt, Prelude.{All, flat_map}, declared.cmp.Ordering.{Ordering, TheVariants.{Less, Equal, Greater}}}
+use Rattle.std.proofs.{Common.{◌≡◌, ◌≢◌, ℕ, ◌+◌, ◌<◌, true, true≢false, List, [], ◌∷◌, ◌++◌, Option, Some, None, length, get_or, refl, sym, ap, subst, ◌∙◌, append_assoc, append-nil, arith}, Math.Seq.get_or-append_seam, lemmas.{Grind.flat_map-append, List.{length-append, Elements.{All-nil, All-push}}}}
 use Rattle.json.specs.Print.{print}
-use Rattle.span_event.specs.Text.{Bytes}
 use Rattle.span_journal.proofs.Sorted.{AllByRecursion-append}
-use Rattle.span_table.specs.declared.column.Column.{Column}
-use Rattle.span_table.specs.declared.of.Of.{Of}
-use Rattle.span_table.specs.declared.table.Row.{Row}
-use Rattle.span_table.specs.Adding.{with_row}
-use Rattle.span_table_text.specs.Json.{json_line}
-use Rattle.span_table.specs.KeyLaws.{key_cmp_total}
-use Rattle.span_table.specs.Keys.{key_cmp}
-use Rattle.span_table_text.specs.Printed.{IsRowOf}
-use Rattle.span_table.specs.Tables.{RowsRise, SpanTable}
-use Rattle.span_parts.specs.declared.fault.PartFault.{PartFault}
-use Rattle.span_parts.specs.declared.fault.PartFault.TheVariants.{NotTable, OtherColumns, Memory, TooMany}
-use Rattle.span_parts.specs.Rows.{AllAdded, AreAdded, AreNoRows, AreRows, IsNextRow, IsOfSum, RowFails, RowsFail, comes_after, last_row, row_at}
-use Rattle.span_table_text.specs.Tokens.{row_tokens}
-use Rattle.span_table_text.proofs.Printed.{json_line-print}
-use Rattle.span_table_text.proofs.PrintedLines.{IsRowOf-determined, print_row-line}
-use Rattle.span_parts.proofs.Lists.{All-at}
-use Rattle.span_parts.proofs.Summing.{with_rows-push}
+use Rattle.span_table_text.proofs.{Printed.json_line-print, PrintedLines.{IsRowOf-determined, print_row-line}}
+use Rattle.span_parts.specs.{Bytes, Column, Of, Row, with_row, json_line, key_cmp_total, key_cmp, IsRowOf, RowsRise, SpanTable, row_tokens, Rows.{AllAdded, AreAdded, AreNoRows, AreRows, IsNextRow, IsOfSum, RowFails, RowsFail, comes_after, last_row, row_at}, declared.fault.PartFault.{PartFault, TheVariants.{NotTable, OtherColumns, Memory, TooMany}}}
+use Rattle.span_parts.proofs.{Lists.All-at, Summing.with_rows-push}
 
 less : (o : Ordering) → is_lt o ≡ true → o ≡ Less
 less Less is = refl

@@ -1,24 +1,9 @@
 -- What is found among the tokens of a line.
-use Rattle.std.proofs.Common.{◌≡◌, ◌≢◌, List, [], ◌∷◌, ◌++◌, true, map, refl, sym, ap, subst, ◌∙◌, append_assoc, codes, Some, None, arith, get_or}
-use Rattle.std.specs.Prelude.{All}
-use Rattle.std.specs.Borrow.{Bor}
-use Rattle.json.specs.Reads.{token_of}
-use Rattle.json.specs.Token.{Token, end_array, key, string}
-use Rattle.json.specs.declared.token.Token.{Token as Given}
-use Rattle.span_event.specs.Text.{Bytes}
-use Rattle.span_table.specs.declared.column.Column.{Column}
-use Rattle.span_table.specs.declared.of.Of.{Of}
-use Rattle.span_table.specs.declared.of.Of.TheVariants.{Spans, Async}
-use Rattle.span_table.specs.declared.sums.Sums.{Sums}
-use Rattle.span_event.specs.declared.args.ArgValue.{ArgValue}
-use Rattle.span_table.specs.Columns.{Value, column_name, is_column}
-use Rattle.span_table.specs.Keys.{TableKey}
-use Rattle.span_table_text.specs.Printed.{AreDistinct, IsKeyOf, IsOfArgument}
-use Rattle.span_table_text.specs.Tokens.{key_tokens, name_tokens, sums_tokens, value_tokens}
-use Rattle.span_table_text.proofs.Determined.{column_name-not_first_number, first_number}
-use Rattle.span_table_text.proofs.PrintedLines.{IsOfArgument-any}
-use Rattle.span_parts.specs.Guess.{Found, MayFollow}
-use Rattle.std.proofs.lemmas.List.{length-append}
+use Rattle.std.specs.{Borrow.Bor, Prelude.All}
+use Rattle.std.proofs.{Common.{◌≡◌, ◌≢◌, List, [], ◌∷◌, ◌++◌, true, map, refl, sym, ap, subst, ◌∙◌, append_assoc, codes, Some, None, arith, get_or}, lemmas.List.length-append}
+use Rattle.json.specs.{Reads.token_of, Token.{Token, end_array, key, string}, declared.token.Token.Token as Given}
+use Rattle.span_table_text.proofs.{Determined.{column_name-not_first_number, first_number}, PrintedLines.IsOfArgument-any}
+use Rattle.span_parts.specs.{Bytes, Column, Of, Spans, Async, Sums, ArgValue, Value, column_name, is_column, TableKey, AreDistinct, IsKeyOf, IsOfArgument, key_tokens, name_tokens, sums_tokens, value_tokens, Guess.{Found, MayFollow}}
 use Rattle.span_parts.proofs.Lists.{All-at, All-tail}
 
 -- a name that comes next is that of the first of some columns

@@ -1,20 +1,8 @@
 -- The lines of a part, as tokens.
-use Rattle.std.proofs.Common.{◌≡◌, ℕ, List, [], ◌∷◌, ◌++◌, ap, ◌∙◌}
-use Rattle.std.proofs.lemmas.List.{append_cancel_right}
-use Rattle.json.specs.Lex.{tokens}
-use Rattle.json.specs.Print.{print}
-use Rattle.span_event.specs.Text.{Bytes}
-use Rattle.span_event.specs.declared.unit.Unit.{Unit as TimeUnit}
-use Rattle.span_table.specs.declared.column.Column.{Column}
-use Rattle.span_table.specs.declared.counts.TableCounts.{TableCounts}
-use Rattle.span_table.specs.declared.of.Of.{Of}
-use Rattle.span_table.specs.declared.table.Row.{Row}
-use Rattle.span_table_text.specs.Json.{json_head}
-use Rattle.span_table_text.specs.Tokens.{head_tokens, row_tokens}
-use Rattle.span_table_text.proofs.Printed.{json_head-print, json_line-print}
-use Rattle.span_table_text.proofs.PrintedLines.{IsRowOf-determined, tokens-head, tokens-row}
-use Rattle.span_parts.specs.First.{MayBegin}
-use Rattle.span_parts.specs.Rows.{IsRowLine}
+use Rattle.std.proofs.{Common.{◌≡◌, ℕ, List, [], ◌∷◌, ◌++◌, ap, ◌∙◌}, lemmas.List.append_cancel_right}
+use Rattle.json.specs.{Lex.tokens, Print.print}
+use Rattle.span_table_text.proofs.{Printed.{json_head-print, json_line-print}, PrintedLines.{IsRowOf-determined, tokens-head, tokens-row}}
+use Rattle.span_parts.specs.{Bytes, Unit as TimeUnit, Column, TableCounts, Of, Row, json_head, head_tokens, row_tokens, First.MayBegin, Rows.IsRowLine}
 
 -- the tokens of a first line are those that were printed
 pub tokens-first : (of : Of) (unit : TimeUnit) (columns : List Column) (rows : ℕ) (counts : TableCounts) (line : Bytes) → MayBegin of columns rows counts → line ++ 10 ∷ [] ≡ json_head of unit columns rows counts → tokens line ≡ head_tokens of unit columns rows counts

@@ -1,9 +1,6 @@
 -- What holds of the elements of a list.
-use Rattle.std.proofs.Common.{◌≡◌, suc, Option, Some, List, [], ◌∷◌, ◌++◌, length, refl, ap, sym, ◌∙◌, ◌==◌, subst, arith, Bool, true, false, true≢false}
 use Rattle.std.specs.Prelude.{All, IsTrue}
-use Rattle.std.proofs.Math.Seq.{get_or-append_seam}
-use Rattle.std.proofs.lemmas.Bool.{ne_eqb}
-use Rattle.std.proofs.lemmas.List.{length-append}
+use Rattle.std.proofs.{Common.{◌≡◌, suc, Option, Some, List, [], ◌∷◌, ◌++◌, length, refl, ap, sym, ◌∙◌, ◌==◌, subst, arith, Bool, true, false, true≢false}, Math.Seq.get_or-append_seam, lemmas.{Bool.ne_eqb, List.length-append}}
 
 -- what holds of all holds of one among them
 pub All-at : {A : Type 0} (P : A → Type 0) (xs : List A) (x : A) (ys : List A) → All P (xs ++ x ∷ ys) → P x

@@ -1,9 +1,7 @@
 -- Values at some places.
-use Rattle.std.proofs.Common.{◌≡◌, ℕ, suc, ◌+◌, ◌<◌, List, [], ◌∷◌, ◌++◌, length, Option, Some, None, refl, sym, ap, ap₂, ◌∙◌, arith, append_assoc, length-append}
-use Rattle.std.specs.List.{cons_option}
-use Rattle.std.specs.Prelude.{slice_get}
-use Rattle.std.proofs.lemmas.Option.{same_Some}
-use Rattle.span_table.specs.Adding.{picked}
+use Rattle.std.specs.{List.cons_option, Prelude.slice_get}
+use Rattle.std.proofs.{Common.{◌≡◌, ℕ, suc, ◌+◌, ◌<◌, List, [], ◌∷◌, ◌++◌, length, Option, Some, None, refl, sym, ap, ap₂, ◌∙◌, arith, append_assoc, length-append}, lemmas.Option.same_Some}
+use Rattle.span_parts.specs.{picked}
 
 -- at more places
 pub picked-append : {A : Type 0} (xs : List A) (places more : List ℕ) → picked (places ++ more) xs ≡ picked places xs ++ picked more xs

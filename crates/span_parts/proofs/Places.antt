@@ -1,10 +1,7 @@
 -- Where some columns stand among others.
+use Rattle.std.specs.{List.cons_option, Prelude.slice_get}
 use Rattle.std.proofs.Common.{◌≡◌, ℕ, zero, suc, ◌<◌, List, [], ◌∷◌, map, get_or, Option, Some, length, refl, ap, ◌∙◌, arith}
-use Rattle.std.specs.Prelude.{slice_get}
-use Rattle.std.specs.List.{cons_option}
-use Rattle.span_table.specs.declared.column.Column.{Column}
-use Rattle.span_table.specs.Adding.{picked}
-use Rattle.span_parts.specs.Sum.{AreAt}
+use Rattle.span_parts.specs.{Column, picked, Sum.AreAt}
 
 -- what stands at the places of some columns are these
 pub picked-at : (places : List ℕ) (wanted columns : List Column) → AreAt places wanted columns → picked places columns ≡ wanted

@@ -1,19 +1,8 @@
 -- Rows that are added one by one, and the part that they make.
-use Rattle.std.proofs.Common.{◌≡◌, ℕ, ◌+◌, List, [], ◌∷◌, ◌++◌, map, refl, sym, ap, ◌∙◌, append_assoc, append-nil, arith}
-use Rattle.std.proofs.lemmas.List.{map-append}
 use Rattle.std.specs.Prelude.{flat_map, sum_by}
-use Rattle.std.proofs.lemmas.List.Sums.{sum_by-append}
-use Rattle.std.proofs.lemmas.Grind.{flat_map-append}
-use Rattle.span_table.specs.declared.column.Column.{Column}
-use Rattle.span_table.specs.declared.counts.TableCounts.{TableCounts}
-use Rattle.span_table.specs.declared.of.Of.{Of}
-use Rattle.span_table.specs.declared.table.Row.{Row}
-use Rattle.span_table.specs.Adding.{add_tables, keyed_by, keyed_rows, with_columns, with_counts, with_row}
-use Rattle.span_table.specs.Tables.{KeyedSums, RowsRise, SpanTable, counts_together, rows_of}
-use Rattle.span_table.proofs.AddedTables.{counts-same, rows-back, rows_of-alike}
-use Rattle.span_table.proofs.Alike.{AddUpAlike-append, AddUpAlike-refl, AddUpAlike-sym}
-use Rattle.span_table.proofs.OwnRows.{rows_of-own}
-use Rattle.span_parts.specs.Rows.{row_at, with_rows}
+use Rattle.std.proofs.{Common.{◌≡◌, ℕ, ◌+◌, List, [], ◌∷◌, ◌++◌, map, refl, sym, ap, ◌∙◌, append_assoc, append-nil, arith}, lemmas.{Grind.flat_map-append, List.{map-append, Sums.sum_by-append}}}
+use Rattle.span_table.proofs.{AddedTables.{counts-same, rows-back, rows_of-alike}, Alike.{AddUpAlike-append, AddUpAlike-refl, AddUpAlike-sym}, OwnRows.rows_of-own}
+use Rattle.span_parts.specs.{Column, TableCounts, Of, Row, add_tables, keyed_by, keyed_rows, with_columns, with_counts, with_row, KeyedSums, RowsRise, SpanTable, counts_together, rows_of, Rows.{row_at, with_rows}}
 
 -- rows of rows and of more are those of all
 rows-then : (sums more : KeyedSums) → rows_of (keyed_rows (rows_of sums) ++ more) ≡ rows_of (sums ++ more)

@@ -1,23 +1,9 @@
 -- A part that is added makes the sum of it and of those before.
-use Rattle.std.proofs.Common.{◌≡◌, ◌≢◌, ℕ, List, [], ◌∷◌, ◌++◌, map, refl, sym, ap, subst, ◌∙◌}
 use Rattle.std.specs.Prelude.{flat_map}
-use Rattle.std.proofs.lemmas.List.{map-append}
-use Rattle.std.proofs.lemmas.List.Elements.{All-cons, All-nil, All-push}
-use Rattle.span_event.specs.Text.{Bytes}
-use Rattle.span_event.specs.declared.unit.Unit.{Unit as TimeUnit}
-use Rattle.span_table.specs.declared.column.Column.{Column}
-use Rattle.span_table.specs.declared.of.Of.{Of}
-use Rattle.span_table.specs.declared.table.Row.{Row}
-use Rattle.span_table.specs.Adding.{add_tables, keyed_rows, picked, with_columns, with_counts, with_row}
-use Rattle.span_table_text.specs.Printed.{IsPart}
-use Rattle.span_table.specs.Tables.{RowsRise, SpanTable}
+use Rattle.std.proofs.{Common.{◌≡◌, ◌≢◌, ℕ, List, [], ◌∷◌, ◌++◌, map, refl, sym, ap, subst, ◌∙◌}, lemmas.List.{map-append, Elements.{All-cons, All-nil, All-push}}}
 use Rattle.span_table.proofs.Rows.{RowsRise-rows_of}
-use Rattle.span_parts.specs.declared.fault.PartFault.{PartFault}
-use Rattle.span_parts.specs.declared.fault.PartFault.TheVariants.{NotTable, OtherColumns, Memory, TooMany}
-use Rattle.span_parts.specs.Rows.{row_at, with_rows}
-use Rattle.span_parts.specs.Sum.{AreAt, AreParts, FailsToBegin, FirstFails, IsAdded, IsByThese, PartFails, PartSum, RefusesOthers, SumFails, TakesFirst, TakesPart, chosen}
-use Rattle.span_parts.proofs.Places.{picked-at}
-use Rattle.span_parts.proofs.Summing.{add_tables-more, with_rows-part}
+use Rattle.span_parts.specs.{Bytes, Unit as TimeUnit, Column, Of, Row, add_tables, keyed_rows, picked, with_columns, with_counts, with_row, IsPart, RowsRise, SpanTable, Rows.{row_at, with_rows}, Sum.{AreAt, AreParts, FailsToBegin, FirstFails, IsAdded, IsByThese, PartFails, PartSum, RefusesOthers, SumFails, TakesFirst, TakesPart, chosen}, declared.fault.PartFault.{PartFault, TheVariants.{NotTable, OtherColumns, Memory, TooMany}}}
+use Rattle.span_parts.proofs.{Places.picked-at, Summing.{add_tables-more, with_rows-part}}
 
 -- rows that are added leave the columns
 with_rows-columns : (places : List ℕ) (rows : List Row) (table : SpanTable) → (with_rows places rows table).columns ≡ table.columns

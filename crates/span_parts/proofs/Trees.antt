@@ -1,19 +1,10 @@
 -- Whatever the tree, what is printed of it is the table of its runs.
-use Rattle.std.proofs.Common.{◌≡◌, ℕ, List, [], ◌∷◌, ◌++◌, map, refl, sym, ap, ap₂, subst, ◌∙◌}
 use Rattle.std.specs.Prelude.{flat_map}
-use Rattle.span_event.specs.Text.{Bytes}
-use Rattle.span_event.specs.declared.unit.Unit.{Unit as TimeUnit}
-use Rattle.span_table.specs.declared.column.Column.{Column}
-use Rattle.span_table.specs.declared.of.Of.{Of}
-use Rattle.span_table.specs.Adding.{add_tables, picked, with_columns}
-use Rattle.span_table_text.specs.Json.{text_of}
-use Rattle.span_table_text.specs.Printed.{IsPrint}
-use Rattle.span_table.specs.Tables.{Run, SpanTable, table_of}
+use Rattle.std.proofs.Common.{◌≡◌, ℕ, List, [], ◌∷◌, ◌++◌, map, refl, sym, ap, ap₂, subst, ◌∙◌}
 use Rattle.span_table.proofs.AddedTables.{add_tables-table_of, table_of-moved, table_of-picked}
 use Rattle.span_table_text.proofs.RunTables.{IsPart-table_of}
+use Rattle.span_parts.specs.{Bytes, Unit as TimeUnit, Column, Of, add_tables, picked, with_columns, text_of, IsPrint, Run, SpanTable, table_of, Sum.{AreAt, AreParts}, Trees.{Trees, of_runs, of_parts, no_trees, tree, runs_in, runs_in_all, ArePrinted, TreesLoseNothing, TreesPrintAlike}}
 use Rattle.span_parts.proofs.Places.{picked-at}
-use Rattle.span_parts.specs.Sum.{AreAt, AreParts}
-use Rattle.span_parts.specs.Trees.{Trees, of_runs, of_parts, no_trees, tree, runs_in, runs_in_all, ArePrinted, TreesLoseNothing, TreesPrintAlike}
 
 -- the runs of each tree
 abbrev runs_each : Trees → List (List Run)

@@ -1,25 +1,9 @@
 -- A part, from its first line and its rows.
-use Rattle.std.proofs.Common.{◌≡◌, ◌≢◌, ℕ, List, [], ◌∷◌, ◌++◌, length, refl, sym, ap, subst, ◌∙◌, append_assoc, arith}
 use Rattle.std.specs.Prelude.{All, flat_map}
+use Rattle.std.proofs.Common.{◌≡◌, ◌≢◌, ℕ, List, [], ◌∷◌, ◌++◌, length, refl, sym, ap, subst, ◌∙◌, append_assoc, arith}
 use Rattle.json.specs.Print.{print}
-use Rattle.span_event.specs.Text.{Bytes}
-use Rattle.span_event.specs.declared.unit.Unit.{Unit as TimeUnit}
-use Rattle.span_table.specs.declared.column.Column.{Column}
-use Rattle.span_table.specs.declared.of.Of.{Of}
-use Rattle.span_table.specs.declared.table.Row.{Row}
-use Rattle.span_table.specs.Adding.{with_counts}
-use Rattle.span_table_text.specs.Json.{json_head, json_line}
-use Rattle.span_table_text.specs.Printed.{IsPart, IsRowOf}
-use Rattle.span_table.specs.Tables.{SpanTable}
-use Rattle.span_table_text.specs.Tokens.{head_tokens}
-use Rattle.span_table_text.proofs.Printed.{json_head-print}
-use Rattle.span_table_text.proofs.PrintedLines.{print_head-line}
-use Rattle.span_parts.specs.declared.fault.PartFault.{PartFault}
-use Rattle.span_parts.specs.declared.fault.PartFault.TheVariants.{NotTable, OtherColumns, Memory, TooMany}
-use Rattle.span_parts.specs.declared.guess.FirstLine.{FirstLine}
-use Rattle.span_parts.specs.First.{Begins, MayBegin}
-use Rattle.span_parts.specs.Rows.{AllAdded, AreRows, RowsFail}
-use Rattle.span_parts.specs.Sum.{IsAdded, IsNoPart, RefusesOthers, SumFails}
+use Rattle.span_table_text.proofs.{Printed.json_head-print, PrintedLines.print_head-line}
+use Rattle.span_parts.specs.{Bytes, Unit as TimeUnit, Column, Of, Row, with_counts, json_head, json_line, IsPart, IsRowOf, SpanTable, head_tokens, First.{Begins, MayBegin}, Rows.{AllAdded, AreRows, RowsFail}, Sum.{IsAdded, IsNoPart, RefusesOthers, SumFails}, declared.{fault.PartFault.{PartFault, TheVariants.{NotTable, OtherColumns, Memory, TooMany}}, guess.FirstLine.FirstLine}}
 use Rattle.span_parts.proofs.Added.{EndsLine}
 
 -- how a part begins

@@ -1,16 +1,6 @@
 -- The first line of a part.
-use Rattle.std.specs.Prelude.{◌≡◌, ℕ, ◌<◌, ◌^◌, true, List, [], ◌∷◌, ◌++◌, flat_map, length, Option, Some, None}
-use Rattle.std.specs.Str.{IsUtf8}
-use Rattle.span_event.specs.Text.{Bytes}
-use Rattle.span_event.specs.declared.unit.Unit.{Unit as TimeUnit}
-use Rattle.span_table.specs.declared.column.Column.{Column}
-use Rattle.span_table.specs.declared.counts.TableCounts.{TableCounts}
-use Rattle.span_table.specs.declared.of.Of.{Of}
-use Rattle.span_table.specs.Counts.{counts_fit}
-use Rattle.span_table_text.specs.Json.{json_head, json_line}
-use Rattle.span_table_text.specs.Printed.{AreColumns, IsPart}
-use Rattle.span_table.specs.Tables.{SpanTable}
-use Rattle.span_parts.specs.declared.guess.FirstLine.{FirstLine}
+use Rattle.std.specs.{Prelude.{◌≡◌, ℕ, ◌<◌, ◌^◌, true, List, [], ◌∷◌, ◌++◌, flat_map, length, Option, Some, None}, Str.IsUtf8}
+use Rattle.span_parts.specs.{Bytes, Unit as TimeUnit, Column, TableCounts, Of, counts_fit, json_head, json_line, AreColumns, IsPart, SpanTable, declared.guess.FirstLine.FirstLine}
 
 -- a first line that may be printed
 pub record MayBegin (of : Of) (columns : List Column) (rows : ℕ) (counts : TableCounts) : Type 0 where

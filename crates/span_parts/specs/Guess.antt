@@ -1,11 +1,8 @@
 -- What is found among the tokens of a line.
-use Rattle.std.specs.Prelude.{◌≡◌, ◌+◌, ◌≤◌, true, List, All, length, map, Option, Some, None}
-use Rattle.std.specs.Borrow.{Bor}
-use Rattle.json.specs.Reads.{token_of}
+use Rattle.std.specs.{Borrow.Bor, Prelude.{◌≡◌, ◌+◌, ◌≤◌, true, List, All, length, map, Option, Some, None}}
+use Rattle.json.specs.{Reads.token_of, declared.token.Token.Token}
+use Rattle.span_parts.specs.{Column, is_column}
 use Rattle.json.specs.Token as spec
-use Rattle.json.specs.declared.token.Token.{Token}
-use Rattle.span_table.specs.declared.column.Column.{Column}
-use Rattle.span_table.specs.Columns.{is_column}
 
 -- this was found, and these tokens are behind it
 abbrev pub Found : {A : Type 0} → A → List spec.Token → A × Bor (List Token) → Type 0

@@ -1,17 +1,6 @@
 -- Rows of a part as they are added.
-use Rattle.std.specs.Prelude.{◌≡◌, ℕ, Bool, true, List, [], ◌∷◌, ◌++◌, All, flat_map, fold, length, map, Option, Some, None}
-use Rattle.std.specs.Ordering.{is_lt}
-use Rattle.span_event.specs.Text.{Bytes}
-use Rattle.span_parts.specs.declared.fault.PartFault.{PartFault}
-use Rattle.span_parts.specs.declared.fault.PartFault.TheVariants.{NotTable, OtherColumns, Memory, TooMany}
-use Rattle.span_table.specs.declared.column.Column.{Column}
-use Rattle.span_table.specs.declared.of.Of.{Of}
-use Rattle.span_table.specs.declared.table.Row.{Row}
-use Rattle.span_table.specs.Adding.{picked, with_row}
-use Rattle.span_table_text.specs.Json.{json_line}
-use Rattle.span_table.specs.Keys.{key_cmp}
-use Rattle.span_table_text.specs.Printed.{IsRowOf}
-use Rattle.span_table.specs.Tables.{RowsRise, SpanTable}
+use Rattle.std.specs.{Ordering.is_lt, Prelude.{◌≡◌, ℕ, Bool, true, List, [], ◌∷◌, ◌++◌, All, flat_map, fold, length, map, Option, Some, None}}
+use Rattle.span_parts.specs.{Bytes, Column, Of, Row, picked, with_row, json_line, key_cmp, IsRowOf, RowsRise, SpanTable, declared.fault.PartFault.{PartFault, TheVariants.{NotTable, OtherColumns, Memory, TooMany}}}
 
 -- the line, without its end, is that of this row
 pub record IsRowLine (of : Of) (columns : List Column) (line : Bytes) (row : Row) : Type 0 where

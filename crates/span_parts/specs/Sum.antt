@@ -1,16 +1,6 @@
 -- Parts that are read and added.
-use Rattle.std.specs.Prelude.{◌≡◌, ◌≢◌, ℕ, List, [], ◌∷◌, ◌++◌, All, map, slice_get, Option, Some, None}
-use Rattle.std.specs.Global.{Vec}
-use Rattle.span_event.specs.Text.{Bytes}
-use Rattle.span_event.specs.declared.unit.Unit.{Unit as TimeUnit}
-use Rattle.span_parts.specs.declared.fault.PartFault.{PartFault}
-use Rattle.span_parts.specs.declared.fault.PartFault.TheVariants.{NotTable, OtherColumns, Memory, TooMany}
-use Rattle.span_table.specs.declared.column.Column.{Column}
-use Rattle.span_table.specs.declared.of.Of.{Of}
-use Rattle.span_table.specs.Adding.{add_tables, picked, with_columns, with_counts}
-use Rattle.span_table_text.specs.Printed.{AreColumns, IsPart}
-use Rattle.span_table.specs.Tables.{SpanTable}
-use Rattle.span_parts.specs.Rows.{with_rows}
+use Rattle.std.specs.{Global.Vec, Prelude.{◌≡◌, ◌≢◌, ℕ, List, [], ◌∷◌, ◌++◌, All, map, slice_get, Option, Some, None}}
+use Rattle.span_parts.specs.{Bytes, Unit as TimeUnit, Column, Of, add_tables, picked, with_columns, with_counts, AreColumns, IsPart, SpanTable, Rows.with_rows, declared.fault.PartFault.{PartFault, TheVariants.{NotTable, OtherColumns, Memory, TooMany}}}
 
 -- what a sum of parts is seen as: what each part sums, the unit and the columns of each, which of these the sum has, and the sum
 pub record PartSum : Type 0 where

@@ -1,13 +1,6 @@
 -- Runs that are divided, and whose tables are printed and added in any way.
-use Rattle.std.specs.Prelude.{◌≡◌, List, [], ◌∷◌, ◌++◌}
-use Rattle.std.specs.List.Sorted.{IsPermutation}
-use Rattle.span_event.specs.Text.{Bytes}
-use Rattle.span_event.specs.declared.unit.Unit.{Unit as TimeUnit}
-use Rattle.span_table.specs.declared.column.Column.{Column}
-use Rattle.span_table.specs.declared.of.Of.{Of}
-use Rattle.span_table_text.specs.Printed.{IsPrint}
-use Rattle.span_table.specs.Tables.{Run, table_of}
-use Rattle.span_parts.specs.Sum.{AreAt, PartSum, SumsParts}
+use Rattle.std.specs.{List.Sorted.IsPermutation, Prelude.{◌≡◌, List, [], ◌∷◌, ◌++◌}}
+use Rattle.span_parts.specs.{Bytes, Unit as TimeUnit, Column, Of, IsPrint, Run, table_of, Sum.{AreAt, PartSum, SumsParts}}
 
 mutual
   -- runs whose table is printed, or parts whose sum is

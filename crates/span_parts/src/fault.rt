@@ -16,8 +16,8 @@ pub enum PartFault {
 }
 
 impl From<AllocError> for PartFault {
-    ghost use Rattle.span_parts.specs.declared.fault.PartFault.TheVariants.{Memory};
     ghost use Rattle.std.specs.Prelude.{◌≡◌};
+    ghost use Rattle.span_parts.specs.declared.fault.PartFault.TheVariants.{Memory};
 
     ghost from_gives = { λ _ e. e ≡ Memory };
 

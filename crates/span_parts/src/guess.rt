@@ -1,28 +1,8 @@
 //! What a line would have to be, if a table was printed. It is printed again and compared, so an answer needs no trust; that none is
 //! missed is what the contracts say.
-ghost use Rattle.std.specs.Prelude.{◌≡◌, ◌≢◌, ◌<◌, ◌^◌, ◌++◌, ◌∷◌, ℕ, ℤ, FitsSigned, List, None, Some, true, codes, map, IfOk};
-ghost use Rattle.std.specs.Fmt.{signed_decimal};
-ghost use Rattle.std.specs.Int.{w64};
-ghost use Rattle.json.specs.Reads.{token_of};
-ghost use Rattle.json.specs.Token.{Token as TheToken, end_array, key};
-ghost use Rattle.span_event.specs.Text.{Bytes};
-ghost use Rattle.span_event.specs.declared.args.ArgValue.{ArgValue as TheValue};
-ghost use Rattle.span_event.specs.declared.args.ArgValue.TheVariants.{Whole};
-ghost use Rattle.span_event.specs.declared.unit.Unit.{Unit as TheUnit};
-ghost use Rattle.span_table.specs.declared.column.Column.{Column as TheColumn};
-ghost use Rattle.span_table.specs.declared.counts.TableCounts.{TableCounts as TheCounts};
-ghost use Rattle.span_table.specs.declared.of.Of.{Of as TheOf};
-ghost use Rattle.span_table.specs.declared.of.Of.TheVariants.{Async, Spans};
-ghost use Rattle.span_table.specs.declared.sums.Sums.{Sums as TheSums};
-ghost use Rattle.span_table.specs.declared.table.Row.{Row as TheRow};
-ghost use Rattle.span_table.specs.Columns.{column_name};
-ghost use Rattle.span_table.specs.Counts.{counts_fit};
-ghost use Rattle.span_table.specs.Sums.{fit};
-ghost use Rattle.span_table.specs.Keys.{TableKey};
-ghost use Rattle.span_table_text.specs.Printed.{AreColumns, AreDistinct, HasOwn, IsKeyOf, IsOfArgument, IsRowOf};
-ghost use Rattle.span_table_text.specs.Tokens.{entry_counts_tokens, head_tokens, key_tokens, name_tokens, number_tokens, numbers_tokens, of_tokens, row_tokens, sums_tokens, unit_tokens, value_tokens};
-ghost use Rattle.span_parts.specs.First.{MayBegin, Says};
-ghost use Rattle.span_parts.specs.Guess.{Finds, Found, Leaves, MayFollow};
+ghost use Rattle.std.specs.{Fmt.signed_decimal, Int.w64, Prelude.{◌≡◌, ◌≢◌, ◌<◌, ◌^◌, ◌++◌, ◌∷◌, ℕ, ℤ, FitsSigned, List, None, Some, true, codes, map, IfOk}};
+ghost use Rattle.json.specs.{Reads.token_of, Token.{Token as TheToken, end_array, key}};
+ghost use Rattle.span_parts.specs.{Bytes, ArgValue as TheValue, Whole, Unit as TheUnit, Column as TheColumn, TableCounts as TheCounts, Of as TheOf, Async, Spans, Sums as TheSums, Row as TheRow, column_name, counts_fit, fit, TableKey, AreColumns, AreDistinct, HasOwn, IsKeyOf, IsOfArgument, IsRowOf, entry_counts_tokens, head_tokens, key_tokens, name_tokens, number_tokens, numbers_tokens, of_tokens, row_tokens, sums_tokens, unit_tokens, value_tokens, First.{MayBegin, Says}, Guess.{Finds, Found, Leaves, MayFollow}};
 
 use crate::heads::MOST_COLUMNS;
 use crate::tokens::{after_one, key_after, number_after, text_after};

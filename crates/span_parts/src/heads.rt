@@ -1,17 +1,6 @@
 //! The first line of a part.
-ghost use Rattle.std.specs.Prelude.{◌≡◌, ◌↔◌, ◌==◌, ◌++◌, ◌∷◌, [], ℕ, List, map, IfErr, IfOk, IfSome, IsTrue};
-ghost use Rattle.std.specs.List.{list_any};
-ghost use Rattle.span_event.specs.Text.{Bytes};
-ghost use Rattle.span_event.specs.declared.unit.Unit.{Unit as TheUnit};
-ghost use Rattle.span_table.specs.declared.column.Column.{Column as TheColumn};
-ghost use Rattle.span_table.specs.declared.counts.TableCounts.{TableCounts as TheCounts};
-ghost use Rattle.span_table.specs.declared.of.Of.{Of as TheOf};
-ghost use Rattle.span_table.specs.Columns.{column_name};
-ghost use Rattle.span_table_text.specs.Json.{json_head};
-ghost use Rattle.span_table.specs.Columns.{is_column};
-ghost use Rattle.span_table_text.specs.Printed.{AreColumns, AreDistinct};
-ghost use Rattle.span_parts.specs.First.{Begins, IsFirstLine, MayBegin, Says};
-ghost use Rattle.span_parts.specs.Sum.{FailsToBegin};
+ghost use Rattle.std.specs.{List.list_any, Prelude.{◌≡◌, ◌↔◌, ◌==◌, ◌++◌, ◌∷◌, [], ℕ, List, map, IfErr, IfOk, IfSome, IsTrue}};
+ghost use Rattle.span_parts.specs.{Bytes, Unit as TheUnit, Column as TheColumn, TableCounts as TheCounts, Of as TheOf, column_name, json_head, is_column, AreColumns, AreDistinct, First.{Begins, IsFirstLine, MayBegin, Says}, Sum.FailsToBegin};
 
 use crate::fault::PartFault;
 use crate::guess::{FirstLine, first_line_of};

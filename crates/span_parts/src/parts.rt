@@ -1,8 +1,6 @@
 //! Parts that are added.
 ghost use Rattle.std.specs.Prelude.{◌↔◌, ◌≡◌, IfErr, IfOk, IsTrue};
-ghost use Rattle.span_event.specs.Text.{Bytes};
-ghost use Rattle.span_parts.specs.First.{Begins, MayBegin};
-ghost use Rattle.span_parts.specs.Sum.{FirstFails, PartFails, RefusesOthers, TakesFirst, TakesNone, TakesPart};
+ghost use Rattle.span_parts.specs.{Bytes, First.{Begins, MayBegin}, Sum.{FirstFails, PartFails, RefusesOthers, TakesFirst, TakesNone, TakesPart}};
 
 use crate::choice::{are_same, chosen, copy_of_places, places_of};
 use crate::fault::PartFault;

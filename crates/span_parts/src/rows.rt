@@ -1,12 +1,6 @@
 //! The rows of a part.
-ghost use Rattle.std.specs.Prelude.{◌≡◌, ◌↔◌, ◌++◌, ◌∷◌, [], true, FitsSigned, IfOk, IfSome, IsTrue, Some, map};
-ghost use Rattle.std.specs.Int.{w64};
-ghost use Rattle.span_table.specs.declared.table.Row.{Row as TheRow};
-ghost use Rattle.span_table.specs.Columns.{column_name};
-ghost use Rattle.span_table.specs.Sums.{fit};
-ghost use Rattle.span_table_text.specs.Json.{json_line};
-ghost use Rattle.span_table_text.specs.Printed.{AreColumns, HasOwn, HasSome, IsKeyOf, IsRowOf, IsWhole, MayHave};
-ghost use Rattle.span_parts.specs.Rows.{IsRowLine};
+ghost use Rattle.std.specs.{Int.w64, Prelude.{◌≡◌, ◌↔◌, ◌++◌, ◌∷◌, [], true, FitsSigned, IfOk, IfSome, IsTrue, Some, map}};
+ghost use Rattle.span_parts.specs.{Row as TheRow, column_name, fit, json_line, AreColumns, HasOwn, HasSome, IsKeyOf, IsRowOf, IsWhole, MayHave, Rows.IsRowLine};
 
 use crate::guess;
 use crate::room::{LineRoom, is_line};

@@ -1,14 +1,6 @@
 //! The rows of a part, which are added one after another.
 ghost use Rattle.std.specs.Prelude.{◌≡◌, ◌++◌, ◌∷◌, [], true, List, ℕ, map, IfErr, IfOk, IsTrue, OnErr, OnOk};
-ghost use Rattle.span_table.specs.declared.table.Row.{Row as TheRow};
-ghost use Rattle.span_table.specs.Adding.{picked, with_row};
-ghost use Rattle.span_table.specs.Columns.{column_name};
-ghost use Rattle.span_table.specs.Sums.{fit};
-ghost use Rattle.span_table_text.specs.Printed.{AreColumns};
-ghost use Rattle.span_event.specs.Text.{Bytes};
-ghost use Rattle.span_parts.specs.First.{Begins, MayBegin};
-ghost use Rattle.span_parts.specs.Sum.{HasColumns, IsAdded, SumFails};
-ghost use Rattle.span_parts.specs.Rows.{AllAdded, IsNextRow, IsOfSum, RowFails, RowsFail, comes_after, row_at};
+ghost use Rattle.span_parts.specs.{Row as TheRow, picked, with_row, column_name, fit, AreColumns, Bytes, First.{Begins, MayBegin}, Rows.{AllAdded, IsNextRow, IsOfSum, RowFails, RowsFail, comes_after, row_at}, Sum.{HasColumns, IsAdded, SumFails}};
 
 use crate::fault::PartFault;
 use crate::guess::FirstLine;

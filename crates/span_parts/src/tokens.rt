@@ -1,11 +1,7 @@
 //! The tokens of a line.
 ghost use Rattle.std.specs.Prelude.{◌≡◌, ◌≢◌, ◌<◌, ◌^◌, ◌++◌, ◌∷◌, ℕ, List, Some, decimal, map, IfNone, IfOk, IfSome, IsNone};
-ghost use Rattle.json.specs.Lex.{tokens};
-ghost use Rattle.json.specs.Reads.{token_of};
-ghost use Rattle.json.specs.Token.{Token as TheToken, key, string};
-ghost use Rattle.span_event.specs.Text.{Bytes};
-ghost use Rattle.span_table_text.specs.Tokens.{number_tokens};
-ghost use Rattle.span_parts.specs.Guess.{Finds, Leaves};
+ghost use Rattle.json.specs.{Lex.tokens, Reads.token_of, Token.{Token as TheToken, key, string}};
+ghost use Rattle.span_parts.specs.{Bytes, number_tokens, Guess.{Finds, Leaves}};
 
 use json::{Reader, Scratch, Token};
 use std::alloc::{AllocError, Global};

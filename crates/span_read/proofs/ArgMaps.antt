@@ -1,11 +1,8 @@
 -- Where a pair is put among pairs in the order of their names.
-use Rattle.std.proofs.Common.{◌≡◌, ℕ, ◌+◌, List, [], ◌∷◌, ◌++◌, length, set, Equal, Greater, append_assoc, length-append, refl, sym, ap, ◌∙◌, arith}
 use Rattle.std.specs.BTreeMap.{insert_entry}
-use Rattle.std.proofs.Math.Seq.{set-append_seam}
-use Rattle.span_event.specs.declared.args.ArgValue.{ArgValue}
-use Rattle.span_event.specs.Args.{IsBelowAll, IsInNameOrder}
+use Rattle.std.proofs.{Common.{◌≡◌, ℕ, ◌+◌, List, [], ◌∷◌, ◌++◌, length, set, Equal, Greater, append_assoc, length-append, refl, sym, ap, ◌∙◌, arith}, Math.Seq.set-append_seam}
 use Rattle.span_event.proofs.Merged.{same_name}
-use Rattle.span_event.specs.Text.{text_cmp}
+use Rattle.span_read.specs.{ArgValue, IsBelowAll, IsInNameOrder, text_cmp}
 
 abbrev pub Pair : Type 0
 Pair = List ℕ × ArgValue

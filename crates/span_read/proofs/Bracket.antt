@@ -5,13 +5,9 @@ pub mod Values
 pub mod Whole
 pub mod Words
 use Rattle.std.proofs.Common.{◌≡◌, ℕ, List, [], ◌∷◌, ◌++◌, Bool, true, false, refl, sym, ap, ◌∙◌, subst, subst₂}
-use Rattle.json.specs.Token.{Token, begin_object, end_object, begin_array, end_array, key, string, number, boolean, null, bad}
-use Rattle.json.specs.Text.{content, plain}
-use Rattle.json.specs.Word.{word}
-use Rattle.json.specs.Lex.{Lexeme, token, comma, colon, Class, quote, backslash, operator, space, other, class, Mode, between, in_word, in_string, in_escape, lex_byte, lex, operator_lexeme, string_token, Place, fresh, after_value, after_comma, after_key, begins_colon, may_begin, may_close, if_allowed, place_token, punctuate, tokens}
+use Rattle.json.specs.{Lex.{Lexeme, token, comma, colon, Class, quote, backslash, operator, space, other, class, Mode, between, in_word, in_string, in_escape, lex_byte, lex, operator_lexeme, string_token, Place, fresh, after_value, after_comma, after_key, begins_colon, may_begin, may_close, if_allowed, place_token, punctuate, tokens}, Text.{content, plain}, Token.{Token, begin_object, end_object, begin_array, end_array, key, string, number, boolean, null, bad}, Word.word}
 use Rattle.span_read.specs.Ending.{with_bracket}
-use Rattle.span_read.proofs.Bracket.Strings.{bracket, is_open, is_open_at, content-bracket, content-open}
-use Rattle.span_read.proofs.Bracket.Words.{word-bracket}
+use Rattle.span_read.proofs.Bracket.{Strings.{bracket, is_open, is_open_at, content-bracket, content-open}, Words.word-bracket}
 
 -- of the lexemes `ls` of a text, `closed` are those with the bracket behind it
 record Closes (ls closed : List Lexeme) : Type 0 where

@@ -1,5 +1,11 @@
 -- A decimal of at most three places is so near to its float that the nearest whole number of nanoseconds is its own.
+use Rattle.std.specs.{Float.float_is_finite, Str.Parse.digits_value}
 use Rattle.std.proofs.Common.{◌≡◌, ℕ, zero, suc, ◌+◌, ◌-◌, ◌*◌, ◌/◌, ◌%◌, ◌^◌, ◌≤◌, ◌<◌, ◌==◌, ℤ, Bool, true, false, ◌&&◌, List, [], length, drop, Option, Some, None, nat_lt, nat_le, get_or, option_and_then, if◌then◌else◌, refl, sym, ap, ◌∙◌, subst, arith, rules, tests}
+use Rattle.fast_float.specs.Text.{minus, Parts, scan, digits_of, nearest as nearest_float, with_sign}
+use Rattle.serde_json.specs.{Data.{Num, number, unsigned, negative, float}, Read.{is_integer, float_of, number_from, number_of}}
+use Rattle.fast_float.proofs.ExactLemmas.{ten_to_pos}
+use Rattle.span_read.specs.{Decimals.{ShortDecimalsAreExact, nanoseconds_of_text, own_nanoseconds, parts_of}, Fields.field_value, Time.{nanoseconds, nanoseconds_of}}
+use Rattle.span_read.proofs.Times.{compare-lt, compare-eq, compare-gt}
 use Prim.Native.Nat.{compare}
 use mathlib.Core.Logic.{inl, inr}
 use native.Mathlib.Nat.{pow-le-pow_right, eq-zero-or-pos, le_of_eq, lt_of_lt_of_le, lt_of_le_of_lt, mul_right_comm, mul_comm, mul_assoc, mul-one, mul-le-mul_right, mul-le-mul_left, mul-lt-mul_of_pos_right, lt_of_mul-lt-mul_right, div-lt_iff_lt-mul, div-add-mod', mod-lt, mul-pos}
@@ -11,16 +17,6 @@ use lib.Ieee.Digits.{size-le}
 use lib.Ieee.Exact.{HasValue, units_val}
 use lib.Ieee.Fits.{down_pos, round_is}
 use lib.Ieee.Nearest.{closest, closest_same}
-use Rattle.std.specs.Float.{float_is_finite}
-use Rattle.fast_float.proofs.ExactLemmas.{ten_to_pos}
-use Rattle.fast_float.specs.Text.{minus, Parts, scan, digits_of, nearest as nearest_float, with_sign}
-use Rattle.serde_json.specs.Data.{Num, number, unsigned, negative, float}
-use Rattle.serde_json.specs.Read.{is_integer, float_of, number_from, number_of}
-use Rattle.std.specs.Str.Parse.{digits_value}
-use Rattle.span_read.specs.Decimals.{ShortDecimalsAreExact, nanoseconds_of_text, own_nanoseconds, parts_of}
-use Rattle.span_read.specs.Fields.{field_value}
-use Rattle.span_read.specs.Time.{nanoseconds, nanoseconds_of}
-use Rattle.span_read.proofs.Times.{compare-lt, compare-eq, compare-gt}
 
 -- ---- the nearest whole number is no more than a half off
 

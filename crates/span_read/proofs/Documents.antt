@@ -1,17 +1,10 @@
 -- What a file is, from what its first candidate is that reads.
-use Rattle.std.proofs.Common.{◌≡◌, ℕ, ◌≤◌, List, length, refl, sym, ap, arith, Bool, true, false, Option, None, Some, Result, Ok, Err, IfOk, All, nat_lt, if◌then◌else◌, rules, tests}
-use borrow.Author.Tests.{ltb-false}
-use Rattle.std.specs.Prelude.{IfErr}
-use Rattle.std.specs.Str.{IsUtf8, is_utf8}
-use Rattle.std.proofs.lemmas.Str.{is_utf8-from_IsUtf8, IsUtf8-from_is_utf8}
-use Rattle.serde_json.specs.Data.{Data, Items, no_items, item}
-use Rattle.serde_json.specs.Events.{items_len}
-use Rattle.span_event.specs.declared.item.Item.{Item}
-use Rattle.span_event.specs.declared.unit.Unit.{Unit}
-use Rattle.span_read.specs.declared.error.ReadError.TheVariants.{TooLarge, NotJson, TooMany}
-use Rattle.span_read.specs.Document.{document, candidates, first_read, elements_of, doc, doc_of_document, doc_of_elements, items_of, most_bytes, most_items}
-use Rattle.span_event.specs.Item.{IsGoodItem}
+use Rattle.std.specs.{Prelude.IfErr, Str.{IsUtf8, is_utf8}}
+use Rattle.std.proofs.{Common.{◌≡◌, ℕ, ◌≤◌, List, length, refl, sym, ap, arith, Bool, true, false, Option, None, Some, Result, Ok, Err, IfOk, All, nat_lt, if◌then◌else◌, rules, tests}, lemmas.Str.{is_utf8-from_IsUtf8, IsUtf8-from_is_utf8}}
+use Rattle.serde_json.specs.{Data.{Data, Items, no_items, item}, Events.items_len}
+use Rattle.span_read.specs.{Item, Unit, IsGoodItem, Document.{document, candidates, first_read, elements_of, doc, doc_of_document, doc_of_elements, items_of, most_bytes, most_items}, declared.error.ReadError.TheVariants.{TooLarge, NotJson, TooMany}}
 use Rattle.span_read.proofs.Good.{All-good_items_of}
+use borrow.Author.Tests.{ltb-false}
 
 pub doc-of_utf8 : (unit : Unit) (bytes : List ℕ) → length bytes ≤ most_bytes → IsUtf8 bytes → doc unit bytes ≡ doc_of_document unit (first_read (candidates bytes))
 doc-of_utf8 unit bytes small is = let text = is_utf8-from_IsUtf8 bytes is in search (rules, tests)

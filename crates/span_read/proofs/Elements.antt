@@ -1,16 +1,8 @@
 -- The elements of a document, against the limit; and the member `traceEvents` as members are put into an object.
-use Rattle.std.proofs.Common.{◌≡◌, ℕ, ◌+◌, ◌<◌, ◌≤◌, List, [], ◌∷◌, ◌++◌, length, Bool, true, false, Some, Ok, Err, map, codes, option_and_then, if◌then◌else◌, refl, sym, ap, ◌∙◌, arith, rules, tests}
-use Rattle.std.proofs.lemmas.List.{length-append, length-map, map_push}
-use Rattle.serde_json.specs.Data.{Data, object, Items, no_items, Members, put}
-use Rattle.serde_json.specs.Events.{items_len}
-use Rattle.serde_json.specs.Find.{as_array, get_member}
+use Rattle.std.proofs.{Common.{◌≡◌, ℕ, ◌+◌, ◌<◌, ◌≤◌, List, [], ◌∷◌, ◌++◌, length, Bool, true, false, Some, Ok, Err, map, codes, option_and_then, if◌then◌else◌, refl, sym, ap, ◌∙◌, arith, rules, tests}, lemmas.List.{length-append, length-map, map_push}}
+use Rattle.serde_json.specs.{Data.{Data, object, Items, no_items, Members, put}, Events.items_len, Find.{as_array, get_member}}
 use Rattle.serde_json.proofs.Views.{get_member-put, get_member-put_other}
-use Rattle.span_event.specs.declared.item.Item.{Item}
-use Rattle.span_event.specs.declared.unit.Unit.{Unit}
-use Rattle.span_read.specs.declared.error.ReadError.TheVariants.{TooMany}
-use Rattle.span_read.specs.Document.{elements_of, items_of, doc_of_elements, most_items}
-use Rattle.span_read.specs.Element.{item_of_data}
-use Rattle.span_read.specs.Tokens.{items_before}
+use Rattle.span_read.specs.{Item, Unit, Document.{elements_of, items_of, doc_of_elements, most_items}, Element.item_of_data, Tokens.items_before, declared.error.ReadError.TheVariants.TooMany}
 
 items_len-items_before : (bs : List Data) (ds : Items) → items_len (items_before bs ds) ≡ length bs + items_len ds
 items_len-items_before [] ds = omega arith

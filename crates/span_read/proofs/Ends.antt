@@ -1,9 +1,8 @@
 -- A text that begins with an opening bracket and reads has a closing bracket as its last byte that is no blank.
 use Rattle.std.proofs.Common.{◌≡◌, ℕ, zero, suc, List, [], ◌∷◌, ◌++◌, length, Option, Some, None, option_and_then, append_assoc, refl, sym, ap, ◌∙◌}
-use Rattle.json.specs.Token.{Token, begin_object, end_object, begin_array, end_array, key, string, number, boolean, null, bad}
-use Rattle.json.specs.Json.{Json, Items, item, Members, member, Parse, parse_map, after_end_array, read_key, items_step, members_step, items, members, value_with, value}
-use Rattle.json.specs.Json as json
+use Rattle.json.specs.{Json.{Json, Items, item, Members, member, Parse, parse_map, after_end_array, read_key, items_step, members_step, items, members, value_with, value}, Token.{Token, begin_object, end_object, begin_array, end_array, key, string, number, boolean, null, bad}}
 use Rattle.json.proofs.Grammar.{left, left-parse_map, closed_array, read_key_is}
+use Rattle.json.specs.Json as json
 
 -- ---- what a call leaves is the end of what it was given
 

@@ -1,7 +1,6 @@
 -- The value of a finite float by its bit pattern, in units of 2 ^ -1074.
+use Rattle.std.specs.Float.{float_is_finite, MulAdd.units_of_bits}
 use Rattle.std.proofs.Common.{◌≡◌, ℕ, zero, suc, ◌+◌, ◌-◌, ◌*◌, ◌/◌, ◌%◌, ◌^◌, ◌≤◌, ◌<◌, ℤ, Bool, true, false, cond, refl, sym, ap, ◌∙◌, subst, arith}
-use Rattle.std.specs.Float.{float_is_finite}
-use Rattle.std.specs.Float.MulAdd.{units_of_bits}
 use mathlib.Core.Bool.{not}
 use native.Mathlib.Nat.{lt_of_not-le}
 use borrow.Author.Tests.{lt-ltb, le-ltb, ne_eqb}

@@ -1,10 +1,6 @@
 -- Where the tokens of a text end with a closing bracket, its last byte that is no blank is one.
 use Rattle.std.proofs.Common.{◌≡◌, ℕ, zero, suc, ◌<◌, List, [], ◌∷◌, ◌++◌, length, get_or, Option, Some, None, Bool, true, false, cond, ◌==◌, eqb-true, refl, ap, arith}
-use Rattle.json.specs.Token.{Token, begin_object, end_object, begin_array, end_array, key, string, number, boolean, null, bad}
-use Rattle.json.specs.Text.{content, plain}
-use Rattle.json.specs.Word.{is_space, word, literal, number_before, after_number, ends_word}
-use Rattle.json.specs.Ascii.{true_text, false_text, null_text}
-use Rattle.json.specs.Lex.{Lexeme, token, comma, colon, Class, quote, backslash, operator, space, other, class, Mode, between, in_word, in_string, in_escape, lex_byte, lex, operator_lexeme, string_token, Place, fresh, after_value, after_comma, after_key, begins_colon, may_begin, may_close, if_allowed, place_token, punctuate}
+use Rattle.json.specs.{Ascii.{true_text, false_text, null_text}, Lex.{Lexeme, token, comma, colon, Class, quote, backslash, operator, space, other, class, Mode, between, in_word, in_string, in_escape, lex_byte, lex, operator_lexeme, string_token, Place, fresh, after_value, after_comma, after_key, begins_colon, may_begin, may_close, if_allowed, place_token, punctuate}, Text.{content, plain}, Token.{Token, begin_object, end_object, begin_array, end_array, key, string, number, boolean, null, bad}, Word.{is_space, word, literal, number_before, after_number, ends_word}}
 use Rattle.span_read.specs.Document.{is_blank}
 use Rattle.span_read.proofs.Ends.{EndsWith}
 

@@ -1,12 +1,9 @@
 -- A number that was taken.
 use Rattle.std.proofs.Common.{◌≡◌, ℕ, List, ◌∷◌, Option, Some, None, Result, Ok, Err, OnErr, option_map, unwrap_or, refl, ap, ◌∙◌}
 use Rattle.json.specs.Token.{Token}
+use Rattle.serde_json.specs.{Data.{Data, number, Num}, Read.{of_json, number_of, converted}}
 use Rattle.json.proofs.Grammar.{value_is}
-use Rattle.serde_json.specs.Data.{Data, number, Num}
-use Rattle.serde_json.specs.Read.{of_json, number_of, converted}
-use Rattle.span_read.specs.declared.fields.FieldValue.{FieldValue}
-use Rattle.span_read.specs.Fields.{field_value}
-use Rattle.span_read.specs.Tokens.{data_at, TakesLeaf}
+use Rattle.span_read.specs.{Fields.field_value, Tokens.{data_at, TakesLeaf}, declared.fields.FieldValue.FieldValue}
 
 -- what holds anyway holds where a call fails
 pub on_err : {T E P : Type 0} (r : Result T E) → P → OnErr r P

@@ -1,18 +1,9 @@
 -- The pairs of an object's members are in the order of its keys.
+use Rattle.std.specs.{BTreeMap.insert_entry, List.{AllByRecursion, Sorted.IsStrictlySortedBy}, Map.keys_of, Ordering.match_ordering, String.string_cmp}
 use Rattle.std.proofs.Common.{◌≡◌, ℕ, List, [], ◌∷◌, Less, string_bytes, Ordering, Equal, Greater, refl, ap}
-use Rattle.std.specs.Ordering.{match_ordering}
-use Rattle.std.specs.BTreeMap.{insert_entry}
-use Rattle.serde_json.specs.Data.{Data, Members, no_members, member, put}
-use Rattle.span_event.specs.declared.args.ArgValue.{ArgValue}
-use Rattle.std.specs.List.{AllByRecursion}
-use Rattle.std.specs.List.Sorted.{IsStrictlySortedBy}
-use Rattle.std.specs.Map.{keys_of}
-use Rattle.std.specs.String.{string_cmp}
-use Rattle.serde_json.specs.View.{members_view}
+use Rattle.serde_json.specs.{Data.{Data, Members, no_members, member, put}, View.members_view}
 use Rattle.serde_json.proofs.Views.{Entry}
-use Rattle.span_event.specs.Args.{IsBelowAll, IsInNameOrder, Arguments}
-use Rattle.span_read.specs.Fields.{arg_value, pairs_of}
-use Rattle.span_event.specs.Text.{text_cmp}
+use Rattle.span_read.specs.{ArgValue, IsBelowAll, IsInNameOrder, Arguments, text_cmp, Fields.{arg_value, pairs_of}}
 
 IsBelowAll-pairs_of : (e : Entry) (es : List Entry) → AllByRecursion (λ k. string_cmp e.0 k ≡ Less) (keys_of es) → IsBelowAll (string_bytes e.0) (pairs_of (members_view es))
 IsBelowAll-pairs_of e [] below = tt

@@ -1,13 +1,8 @@
 -- How the places of the fields fill up as members are put into an object.
-use Rattle.std.proofs.Common.{◌≡◌, ℕ, List, [], ◌∷◌, Bool, true, false, Option, Some, None, get_or, true≢false, map, option_map, refl, sym, ap, ap₂, ◌∙◌, if◌then◌else◌}
-use Rattle.std.proofs.lemmas.Slice.Eq.{bytes_eq-Decides}
+use Rattle.std.proofs.{Common.{◌≡◌, ℕ, List, [], ◌∷◌, Bool, true, false, Option, Some, None, get_or, true≢false, map, option_map, refl, sym, ap, ap₂, ◌∙◌, if◌then◌else◌}, lemmas.Slice.Eq.bytes_eq-Decides}
 use Rattle.serde_json.specs.Data.{Data, Members, put}
 use Rattle.serde_json.proofs.Views.{get_member-put, get_member-put_other}
-use Rattle.span_read.specs.declared.fields.FieldValue.{FieldValue}
-use Rattle.span_read.specs.declared.fields.Fields.{Fields}
-use Rattle.span_read.specs.Fields.{field_value, field_at}
-use Rattle.span_read.specs.Slots.{slots, put_at}
-use Rattle.span_event.specs.Text.{same_text}
+use Rattle.span_read.specs.{same_text, Fields.{field_value, field_at}, Slots.{slots, put_at}, declared.fields.{FieldValue.FieldValue, Fields.Fields}}
 
 -- what the members have in each place
 abbrev pub places : List (List ℕ) → Members → List (Option FieldValue)

@@ -1,8 +1,9 @@
 -- A float of microseconds as nanoseconds: by its bit pattern, and by a shift that rounds.
-use Rattle.std.proofs.Common.{◌≡◌, ℕ, zero, suc, ◌+◌, ◌-◌, ◌*◌, ◌/◌, ◌%◌, ◌^◌, ◌≤◌, ◌<◌, ◌≤ℤ◌, ℤ, pos, neg_ℤ, Bool, true, false, Some, None, option_and_then, refl, sym, ap, ◌∙◌, arith, rules, tests}
-use Rattle.std.specs.Float.{float_is_finite, is_sign_negative}
-use Rattle.std.proofs.lemmas.Int.{ints}
+use Rattle.std.specs.Float.{float_is_finite, is_sign_negative, MulAdd.units_of_bits}
+use Rattle.std.proofs.{Common.{◌≡◌, ℕ, zero, suc, ◌+◌, ◌-◌, ◌*◌, ◌/◌, ◌%◌, ◌^◌, ◌≤◌, ◌<◌, ◌≤ℤ◌, ℤ, pos, neg_ℤ, Bool, true, false, Some, None, option_and_then, refl, sym, ap, ◌∙◌, arith, rules, tests}, lemmas.Int.ints}
 use Rattle.fast_float.specs.Text.{with_sign}
+use Rattle.span_read.specs.{greatest_time, Time.{nanoseconds, within}}
+use Rattle.span_read.proofs.FloatBits.{size_in_units, units_of_bits-low, units_of_bits-high}
 use Prim.Native.Nat.compare
 use Prim.Native.Nat.{compare, Ordering}
 use mathlib.Core.Logic.{inl, inr}
@@ -13,10 +14,6 @@ use lib.Bits.{bit_and, and_mask}
 use lib.Ieee.{Float, nan, inf, fin, binary64, fits, to_bits}
 use lib.Ieee.Nearest.{closest, closest_same, closest_mono}
 use lib.Ieee.Positive.{num, den, den_pos}
-use Rattle.std.specs.Float.MulAdd.{units_of_bits}
-use Rattle.span_event.specs.Event.{greatest_time}
-use Rattle.span_read.specs.Time.{nanoseconds, within}
-use Rattle.span_read.proofs.FloatBits.{size_in_units, units_of_bits-low, units_of_bits-high}
 
 -- ---- `1 << s` and the mask under it, at a `u64`
 

@@ -1,10 +1,8 @@
 -- The turns of a loop over items or members, from its start to its end.
 use Rattle.std.proofs.Common.{◌≡◌, ℕ, ◌-◌, ◌<◌, List, [], ◌∷◌, ◌++◌, length, Option, Some, None, refl, ap, ◌∙◌, arith}
-use Rattle.json.specs.Token.{Token}
-use Rattle.json.specs.Json.{parse_map, after_end_array, read_key, items, members, value}
+use Rattle.json.specs.{Json.{parse_map, after_end_array, read_key, items, members, value}, Token.Token}
+use Rattle.serde_json.specs.{Data.{Data, array, object, Items, no_items, item, Members, no_members, put}, Read.{of_items, of_members, converted}}
 use Rattle.json.proofs.Grammar.{read_key-shorter}
-use Rattle.serde_json.specs.Data.{Data, array, object, Items, no_items, item, Members, no_members, put}
-use Rattle.serde_json.specs.Read.{of_items, of_members, converted}
 use Rattle.span_read.specs.Tokens.{data_at, TakesValue, TakesArray, TakesObject, items_before, ItemsSoFar, MembersSoFar}
 use Rattle.span_read.proofs.Grammar.{data_at-begin_array, data_at-begin_object, data_at-shorter, item_read, item_refused, items_over, member_read, member_refused, key_refused, members_over}
 

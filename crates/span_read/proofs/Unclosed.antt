@@ -1,18 +1,11 @@
 -- An array whose closing bracket is missing doesn't read.
-use Rattle.std.proofs.Common.{◌≡◌, ℕ, ◌+◌, ◌-◌, ◌≤◌, List, [], ◌∷◌, length, take, get_or, Option, Some, None, option_and_then, Bool, true, false, ◌||◌, ◌==◌, eqb-true, refl, sym, ap, ◌∙◌, arith, if◌then◌else◌}
 use Rattle.std.specs.List.{suffix_len}
-use Rattle.std.proofs.lemmas.List.{get_or-take, length-take-le}
-use Rattle.std.proofs.lemmas.List.Sums.{suffix_len_is}
-use Rattle.json.specs.Token.{Token, begin_array}
-use Rattle.json.specs.Json.{Json, value, if_last}
-use Rattle.json.specs.Lex.{Lexeme, token, space, class, between, lex_byte, lex, fresh, punctuate, tokens}
+use Rattle.std.proofs.{Common.{◌≡◌, ℕ, ◌+◌, ◌-◌, ◌≤◌, List, [], ◌∷◌, length, take, get_or, Option, Some, None, option_and_then, Bool, true, false, ◌||◌, ◌==◌, eqb-true, refl, sym, ap, ◌∙◌, arith, if◌then◌else◌}, lemmas.List.{get_or-take, length-take-le, Sums.suffix_len_is}}
+use Rattle.json.specs.{Json.{Json, value, if_last}, Lex.{Lexeme, token, space, class, between, lex_byte, lex, fresh, punctuate, tokens}, Token.{Token, begin_array}}
+use Rattle.serde_json.specs.{Data.Data, Read.{read, of_json}}
 use Rattle.json.proofs.Grammar.{left}
-use Rattle.serde_json.specs.Data.{Data}
-use Rattle.serde_json.specs.Read.{read, of_json}
-use Rattle.span_read.specs.Document.{is_blank, opens_array, without_trailing_blanks}
-use Rattle.span_read.specs.Ending.{closes_array}
-use Rattle.span_read.proofs.Ends.{array_ends}
-use Rattle.span_read.proofs.LastByte.{ClosesAt, ClosesAt-tokens}
+use Rattle.span_read.specs.{Document.{is_blank, opens_array, without_trailing_blanks}, Ending.closes_array}
+use Rattle.span_read.proofs.{Ends.array_ends, LastByte.{ClosesAt, ClosesAt-tokens}}
 
 blank_class : (b : ℕ) (p q r s : Bool) → (b == 32) ≡ p → (b == 9) ≡ q → (b == 10) ≡ r → (b == 13) ≡ s → (p || q || r || s) ≡ true → class b ≡ space
 blank_class b true q r s is h i j e = ap class (eqb-true b 32 is)

@@ -1,7 +1,5 @@
 -- The pairs that are kept, few or many.
-use Rattle.span_event.specs.Args.{Arguments}
-use Rattle.span_read.specs.declared.arg_map.ArgPairs.{ArgPairs}
-use Rattle.span_read.specs.declared.arg_map.ArgPairs.TheVariants.{Few, Many}
+use Rattle.span_read.specs.{Arguments, declared.arg_map.ArgPairs.{ArgPairs, TheVariants.{Few, Many}}}
 
 abbrev pub pairs_in : ArgPairs → Arguments
 pairs_in (Few pairs) = pairs.items

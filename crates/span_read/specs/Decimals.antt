@@ -1,10 +1,8 @@
 -- That a decimal of few places is read as its own nanoseconds.
 use Rattle.std.specs.Prelude.{◌≡◌, ℕ, ◌-◌, ◌*◌, ◌^◌, ◌<◌, ◌≤◌, ◌==◌, ℤ, List, [], length, drop, slice_index, Option, Some, option_and_then, if◌then◌else◌}
 use Rattle.fast_float.specs.Text.{minus, Parts, scan, digits_of, with_sign}
-use Rattle.serde_json.specs.Data.{number}
-use Rattle.serde_json.specs.Read.{number_of}
-use Rattle.span_read.specs.Fields.{field_value}
-use Rattle.span_read.specs.Time.{nanoseconds_of}
+use Rattle.serde_json.specs.{Data.number, Read.number_of}
+use Rattle.span_read.specs.{Fields.field_value, Time.nanoseconds_of}
 
 -- the digits of a number's text, without its sign
 abbrev pub parts_of : List ℕ → Parts

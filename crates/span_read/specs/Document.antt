@@ -1,17 +1,7 @@
 -- What the bytes of a file are: the items of a trace, or why the file is refused.
-use Rattle.std.specs.Prelude.{ℕ, ◌-◌, ◌==◌, ◌||◌, List, [], ◌∷◌, ◌++◌, take, length, slice_index, Bool, false, Option, Some, None, option_and_then, Result, Ok, Err, nat_lt, codes, if◌then◌else◌}
-use Rattle.std.specs.Option.{option_or}
-use Rattle.std.specs.List.{suffix_len}
-use Rattle.std.specs.Str.{is_utf8}
-use Rattle.serde_json.specs.Data.{Data, array, object, Items, no_items, item}
-use Rattle.serde_json.specs.Events.{items_len}
-use Rattle.serde_json.specs.Find.{get_member, as_array}
-use Rattle.serde_json.specs.Read.{read}
-use Rattle.span_event.specs.declared.item.Item.{Item}
-use Rattle.span_event.specs.declared.unit.Unit.{Unit}
-use Rattle.span_read.specs.declared.error.ReadError.{ReadError}
-use Rattle.span_read.specs.declared.error.ReadError.TheVariants.{TooLarge, NotJson, NotTrace, TooMany}
-use Rattle.span_read.specs.Element.{item_of_data}
+use Rattle.std.specs.{List.suffix_len, Option.option_or, Prelude.{ℕ, ◌-◌, ◌==◌, ◌||◌, List, [], ◌∷◌, ◌++◌, take, length, slice_index, Bool, false, Option, Some, None, option_and_then, Result, Ok, Err, nat_lt, codes, if◌then◌else◌}, Str.is_utf8}
+use Rattle.serde_json.specs.{Data.{Data, array, object, Items, no_items, item}, Events.items_len, Find.{get_member, as_array}, Read.read}
+use Rattle.span_read.specs.{Item, Unit, Element.item_of_data, declared.error.ReadError.{ReadError, TheVariants.{TooLarge, NotJson, NotTrace, TooMany}}}
 
 -- the most bytes in one file, and the most items
 abbrev pub most_bytes : ℕ

@@ -1,24 +1,8 @@
 -- What one element of a trace is: a good event, its first fault, or an event of a phase that is not used.
-use Rattle.std.specs.Prelude.{ℕ, ℤ, pos, List, [], ◌∷◌, ◌||◌, Bool, true, false, Option, Some, None, is_some, option_map, option_and_then, unwrap_or, if◌then◌else◌}
-use Rattle.std.specs.Option.{option_or}
-use Rattle.std.specs.Int.RustNames.{int_le}
+use Rattle.std.specs.{Int.RustNames.int_le, Option.option_or, Prelude.{ℕ, ℤ, pos, List, [], ◌∷◌, ◌||◌, Bool, true, false, Option, Some, None, is_some, option_map, option_and_then, unwrap_or, if◌then◌else◌}}
 use Rattle.serde_json.specs.Data.{Data, object}
-use Rattle.span_event.specs.declared.event.Event.{Event}
-use Rattle.span_event.specs.declared.event.Phase.{Phase}
-use Rattle.span_read.specs.declared.fields.FieldValue.{FieldValue}
-use Rattle.span_event.specs.declared.item.Field.{Field}
-use Rattle.span_event.specs.declared.item.Field.TheVariants.{Pid, Tid, Name, Cat, Id, Scope}
-use Rattle.span_event.specs.declared.item.Item.{Item}
-use Rattle.span_event.specs.declared.item.Item.TheVariants.{Good, Bad, Other}
-use Rattle.span_event.specs.declared.item.ItemFault.{ItemFault}
-use Rattle.span_event.specs.declared.item.ItemFault.TheVariants.{NotObject, NoPhase, NoTime, NotWhole, NoDuration, BadField, NoId, BadReach, BadSeries}
-use Rattle.span_read.specs.Phase.{phase_of, reads_time, reads_duration, needs_id, reads_id, reads_scope, reads_reach, wants_whole_args}
-use Rattle.span_read.specs.declared.fields.Fields.{Fields}
-use Rattle.span_read.specs.Fields.{fields_of, whole, words, whole_or_zero, text_or_empty, key_of, reach_of, args_of}
-use Rattle.span_read.specs.Time.{time_in}
-use Rattle.span_event.specs.Args.{all_whole}
-use Rattle.span_event.specs.Time.{natural}
-use Rattle.span_event.specs.declared.unit.Unit.{Unit}
+use Rattle.span_event.specs.declared.{event.Phase.Phase, item.Item.TheVariants.Other}
+use Rattle.span_read.specs.{Event, Field, Pid, Tid, Name, Cat, Id, Scope, Item, Good, Bad, ItemFault, NotObject, NoPhase, NoTime, NotWhole, NoDuration, BadField, NoId, BadReach, BadSeries, all_whole, natural, Unit, Fields.{fields_of, whole, words, whole_or_zero, text_or_empty, key_of, reach_of, args_of}, Phase.{phase_of, reads_time, reads_duration, needs_id, reads_id, reads_scope, reads_reach, wants_whole_args}, Time.time_in, declared.fields.{FieldValue.FieldValue, Fields.Fields}}
 
 -- the fault where the test fails
 abbrev pub unless : Bool → ItemFault → Option ItemFault

@@ -1,20 +1,7 @@
 -- The fields of an event, each as a member of the element's object gives it. A member that is null is there.
-use Rattle.std.specs.Prelude.{ℤ, pos, List, [], ◌∷◌, Option, Some, None, option_map, option_and_then, unwrap_or, codes}
-use Rattle.std.specs.Option.{option_or}
-use Rattle.std.specs.Fmt.{signed_decimal}
-use Rattle.std.specs.Map.{lookup}
-use Rattle.serde_json.specs.Data.{Data, null, boolean, number, float, string, object, Members, no_members, member}
-use Rattle.serde_json.specs.Find.{get_member, as_i64}
-use Rattle.span_event.specs.declared.args.ArgValue.{ArgValue}
-use Rattle.span_event.specs.declared.args.ArgValue.TheVariants.{Whole, Words, Flag, Nil, Other}
-use Rattle.span_event.specs.declared.event.IdKey.{IdKey}
-use Rattle.span_event.specs.declared.event.Reach.{Reach}
-use Rattle.span_event.specs.declared.event.Reach.TheVariants.{Global, Process, Thread}
-use Rattle.span_read.specs.declared.fields.Fields.{Fields}
-use Rattle.span_read.specs.declared.fields.FieldValue.{FieldValue}
-use Rattle.span_read.specs.declared.fields.FieldValue.TheVariants.{Plain, Float, Pairs}
-use Rattle.span_event.specs.Args.{Arguments, as_text, as_whole, value_of}
-use Rattle.span_event.specs.Text.{Bytes, same_text}
+use Rattle.std.specs.{Fmt.signed_decimal, Map.lookup, Option.option_or, Prelude.{ℤ, pos, List, [], ◌∷◌, Option, Some, None, option_map, option_and_then, unwrap_or, codes}}
+use Rattle.serde_json.specs.{Data.{Data, null, boolean, number, float, string, object, Members, no_members, member}, Find.{get_member, as_i64}}
+use Rattle.span_read.specs.{ArgValue, Whole, Words, Flag, Nil, Other, IdKey, Reach, Global, Process, Thread, Arguments, as_text, as_whole, value_of, Bytes, same_text, declared.fields.{FieldValue.{FieldValue, TheVariants.{Plain, Float, Pairs}}, Fields.Fields}}
 
 -- a value by its kind; a number is whole if it fits 64 bits with its sign, and `1.0`, `1e3` and `-0` are not whole
 abbrev pub arg_value : Data → ArgValue

@@ -1,9 +1,7 @@
 -- The letters of the phases, and which phases read which field.
-use Rattle.std.specs.Prelude.{List, [], ◌∷◌, Bool, true, false, Option, codes}
-use Rattle.std.specs.Map.{lookup}
+use Rattle.std.specs.{Map.lookup, Prelude.{List, [], ◌∷◌, Bool, true, false, Option, codes}}
 use Rattle.span_event.specs.declared.event.Phase.{Phase}
-use Rattle.span_event.specs.declared.event.Phase.TheVariants.{SpanBegin, SpanEnd, Complete, AsyncBegin, AsyncPoint, AsyncEnd, FlowStart, FlowStep, FlowEnd, Counter, Instant, Meta}
-use Rattle.span_event.specs.Text.{Bytes, same_text}
+use Rattle.span_read.specs.{SpanBegin, SpanEnd, Complete, AsyncBegin, AsyncPoint, AsyncEnd, FlowStart, FlowStep, FlowEnd, Counter, Instant, Meta, Bytes, same_text}
 
 -- each letter with its phase
 abbrev pub letters : List (Bytes × Phase)

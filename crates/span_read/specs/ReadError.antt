@@ -1,10 +1,7 @@
 -- The numbers of the refusals of a file.
 use Rattle.std.specs.Prelude.{ℕ}
-use Rattle.span_read.specs.declared.error.ReadError.{ReadError}
-use Rattle.span_read.specs.declared.error.ReadError.TheVariants.{TooLarge, NotJson, NotTrace, TooMany, Memory}
-use Rattle.span_event.specs.declared.fault.Fault.{Fault}
+use Rattle.span_read.specs.{Fault, number_of, declared.error.ReadError.{ReadError, TheVariants.{TooLarge, NotJson, NotTrace, TooMany, Memory}}}
 use Rattle.span_event.specs.declared.fault.Fault.TheVariants as table
-use Rattle.span_event.specs.Fault.{number_of}
 
 -- the fault of the table
 abbrev pub as_fault : ReadError → Fault

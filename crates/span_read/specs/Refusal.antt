@@ -1,8 +1,6 @@
 -- Why an event isn't made; for private clauses.
 use Rattle.std.specs.Prelude.{◌≡◌, Option, Some, ⊤}
-use Rattle.span_event.specs.declared.item.ItemFault.{ItemFault}
-use Rattle.span_read.specs.declared.error.refusal.Refusal.{Refusal}
-use Rattle.span_read.specs.declared.error.refusal.Refusal.TheVariants.{Fault, Memory}
+use Rattle.span_read.specs.{ItemFault, declared.error.refusal.Refusal.{Refusal, TheVariants.{Fault, Memory}}}
 
 -- the refusal is for that fault, or for want of memory
 abbrev pub IsForFault : Option ItemFault → Refusal → Type 0

@@ -1,8 +1,6 @@
 -- The fields as a list with a place for each name; for private clauses.
 use Rattle.std.specs.Prelude.{List, [], ◌∷◌, Option, Some, codes, if◌then◌else◌}
-use Rattle.span_read.specs.declared.fields.Fields.{Fields}
-use Rattle.span_read.specs.declared.fields.FieldValue.{FieldValue}
-use Rattle.span_event.specs.Text.{Bytes, same_text}
+use Rattle.span_read.specs.{Bytes, same_text, declared.fields.{FieldValue.FieldValue, Fields.Fields}}
 
 -- the names of the fields, and the fields in their order
 abbrev pub names : List Bytes

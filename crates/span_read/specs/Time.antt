@@ -1,16 +1,8 @@
 -- A time or a length, as a field gives it in the unit of a run.
-use Rattle.std.specs.Prelude.{ℕ, ◌*◌, ℤ, pos, neg_ℤ, ◌*ℤ◌, ◌&&◌, Option, Some, None, option_map, option_and_then, if◌then◌else◌}
-use Rattle.std.specs.Int.RustNames.{int_le}
-use Rattle.std.specs.Float.{Float, fin}
-use Rattle.std.specs.Float.Ieee.{up, down}
-use Rattle.std.specs.Float.Ieee.Nearest.{closest}
+use Rattle.std.specs.{Float.{Float, fin, Ieee.{up, down, Nearest.closest}}, Int.RustNames.int_le, Prelude.{ℕ, ◌*◌, ℤ, pos, neg_ℤ, ◌*ℤ◌, ◌&&◌, Option, Some, None, option_map, option_and_then, if◌then◌else◌}}
 use Rattle.fast_float.specs.Text.{with_sign}
-use Rattle.span_event.specs.Event.{greatest_time}
-use Rattle.span_event.specs.declared.unit.Unit.{Unit}
-use Rattle.span_event.specs.declared.unit.Unit.TheVariants.{Microseconds, Nanoseconds}
-use Rattle.span_read.specs.declared.fields.FieldValue.{FieldValue}
+use Rattle.span_read.specs.{greatest_time, Unit, Microseconds, Nanoseconds, Fields.whole, declared.fields.FieldValue.FieldValue}
 use Rattle.span_read.specs.declared.fields.FieldValue.TheVariants as field
-use Rattle.span_read.specs.Fields.{whole}
 
 -- a float of microseconds, m * 2 ^ e, as whole nanoseconds: the number nearest to 1000 * m * 2 ^ e, and of two as near the even one; 2 ^ e is the fraction up e / down e
 abbrev pub nanoseconds : Float → Option ℤ

@@ -1,22 +1,12 @@
 -- What the calls that take tokens promise; for private clauses.
 use Rattle.std.specs.Prelude.{◌≡◌, ℕ, ◌≤◌, List, [], ◌∷◌, length, Bool, true, false, Option, Some, None, option_and_then, Result, Err}
-use Rattle.json.specs.Token.{Token}
-use Rattle.json.specs.Json.{value, items, members, parse_map, if_last}
-use Rattle.serde_json.specs.Data.{Data, array, object, Items, item, Members, no_members}
-use Rattle.serde_json.specs.Read.{of_json, of_items, of_members, converted}
+use Rattle.json.specs.{Json.{value, items, members, parse_map, if_last}, Token.Token}
+use Rattle.serde_json.specs.{Data.{Data, array, object, Items, item, Members, no_members}, Read.{of_json, of_items, of_members, converted}}
+use Rattle.span_read.specs.{Ending.with_bracket, Fields.field_value, declared.{document.End.End, error.stop.Stop.{Stop, TheVariants.NotJson}, fields.FieldValue.FieldValue, tokens.{beginning.Beginning.{Beginning, TheVariants.{Object, Array, Words, Whole, Float, Flag, Nil, Other}}, number.Number.Number}}}
 use Rattle.span_event.specs.declared.args.ArgValue.TheVariants as arg
-use Rattle.span_read.specs.declared.document.End.{End}
 use Rattle.span_read.specs.declared.document.End.TheVariants as end
-use Rattle.span_read.specs.declared.tokens.beginning.Beginning.{Beginning}
-use Rattle.span_read.specs.declared.tokens.beginning.Beginning.TheVariants.{Object, Array, Words, Whole, Float, Flag, Nil, Other}
-use Rattle.span_read.specs.declared.tokens.number.Number.{Number}
 use Rattle.span_read.specs.declared.tokens.number.Number.TheVariants as number
-use Rattle.span_read.specs.declared.error.stop.Stop.{Stop}
-use Rattle.span_read.specs.declared.error.stop.Stop.TheVariants.{NotJson}
-use Rattle.span_read.specs.Ending.{with_bracket}
-use Rattle.span_read.specs.declared.fields.FieldValue.{FieldValue}
 use Rattle.span_read.specs.declared.fields.FieldValue.TheVariants as field
-use Rattle.span_read.specs.Fields.{field_value}
 
 -- the data of the value that the tokens begin with, and the tokens after it
 abbrev pub data_at : ℕ → List Token → Option (Data × List Token)

@@ -1,11 +1,6 @@
 //! The arguments of one object while its members are read.
-ghost use Rattle.std.specs.Prelude.{◌≡◌, ◌<◌, ◌≤◌, [], length, set, IfOk, IfErr, OnOk, OnErr};
-ghost use Rattle.std.specs.List.{insert};
-ghost use Rattle.std.specs.BTreeMap.{insert_entry};
-ghost use Rattle.span_event.specs.declared.args.ArgValue.{ArgValue};
-ghost use Rattle.span_event.specs.Args.{IsInNameOrder, Arguments};
-ghost use Rattle.span_read.specs.ArgMap.{pairs_in};
-ghost use Rattle.span_event.specs.Text.{text_cmp};
+ghost use Rattle.std.specs.{BTreeMap.insert_entry, List.insert, Prelude.{◌≡◌, ◌<◌, ◌≤◌, [], length, set, IfOk, IfErr, OnOk, OnErr}};
+ghost use Rattle.span_read.specs.{ArgValue, IsInNameOrder, Arguments, text_cmp, ArgMap.pairs_in};
 
 use span_event::{ArgValue, Args, Text};
 use std::alloc::{AllocError, Global};

@@ -1,9 +1,7 @@
 //! The texts that are tried in turn: the text itself, and of an array also the text cut at its end, and closed.
 ghost use Rattle.std.specs.Prelude.{◌≡◌, ◌≢◌, ◌∷◌, ◌++◌, [], Err, if◌then◌else◌};
 ghost use Rattle.serde_json.specs.Read.{read};
-ghost use Rattle.span_read.specs.Document.{is_blank, opens_array, without_trailing_blanks, without_trailing_comma, cut_text, candidates, first_read, doc_of_document};
-ghost use Rattle.span_read.specs.declared.error.ReadError.TheVariants.{Memory};
-ghost use Rattle.span_read.specs.Ending.{closes_array};
+ghost use Rattle.span_read.specs.{Document.{is_blank, opens_array, without_trailing_blanks, without_trailing_comma, cut_text, candidates, first_read, doc_of_document}, Ending.closes_array, declared.error.ReadError.TheVariants.Memory};
 
 use crate::document::read_all;
 use crate::error::ReadError;

@@ -1,14 +1,9 @@
 //! The items of a trace, as the tokens of its text give them, one element after another.
 ghost use Rattle.std.specs.Prelude.{◌≡◌, ◌∷◌, Some, None, Ok, Err, Bool, IfOk, if◌then◌else◌};
 ghost use Rattle.json.specs.Reads.{token_of};
+ghost use Rattle.serde_json.specs.{Data.object, Find.as_array};
+ghost use Rattle.span_read.specs.{Document.{elements_of, doc_of_elements, doc_of_document}, Element.item_of_data, Ending.{ended, with_bracket}, Tokens.{data_at, data_of_all, TakesValue, TakesArray, TakesObject, TakesElements, IsNotJson}, declared.error.ReadError.TheVariants.TooMany};
 ghost use Rattle.json.specs.Token as spec;
-ghost use Rattle.serde_json.specs.Data.{object};
-ghost use Rattle.serde_json.specs.Find.{as_array};
-ghost use Rattle.span_read.specs.Document.{elements_of, doc_of_elements, doc_of_document};
-ghost use Rattle.span_read.specs.Element.{item_of_data};
-ghost use Rattle.span_read.specs.declared.error.ReadError.TheVariants.{TooMany};
-ghost use Rattle.span_read.specs.Ending.{ended, with_bracket};
-ghost use Rattle.span_read.specs.Tokens.{data_at, data_of_all, TakesValue, TakesArray, TakesObject, TakesElements, IsNotJson};
 
 use crate::element::item_of_fields;
 use crate::error::ReadError;

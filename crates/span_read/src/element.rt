@@ -1,8 +1,7 @@
 //! The item of one element of a trace.
 ghost use Rattle.std.specs.Prelude.{◌≡◌, IfOk};
 ghost use Rattle.serde_json.specs.View.{view};
-ghost use Rattle.span_event.specs.Item.{IsGoodItem};
-ghost use Rattle.span_read.specs.Element.{item_of_data, item_of_fields};
+ghost use Rattle.span_read.specs.{IsGoodItem, Element.{item_of_data, item_of_fields}};
 
 mod event;
 mod id;

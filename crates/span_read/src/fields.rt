@@ -53,8 +53,7 @@ pub(crate) struct Fields {
 
 impl Fields {
     ghost use Rattle.serde_json.specs.Data.{no_members};
-    ghost use Rattle.span_read.specs.Fields.{fields_of};
-    ghost use Rattle.span_read.specs.Slots.{slots, names, put_at};
+    ghost use Rattle.span_read.specs.{Fields.fields_of, Slots.{slots, names, put_at}};
 
     pub(crate) fn clear(&mut self)
         ensures { self.new ≡ fields_of no_members }

@@ -1,9 +1,6 @@
 //! The items of a file.
 ghost use Rattle.std.specs.Prelude.{◌≡◌, ◌≢◌, ◌<◌, ◌↔◌, length, IfOk, IfErr, Ok, Err, All};
-ghost use Rattle.span_read.specs.Document.{doc, most_bytes};
-ghost use Rattle.span_event.specs.Item.{IsGoodItem};
-ghost use Rattle.span_event.specs.declared.unit.Unit.TheVariants.{Microseconds};
-ghost use Rattle.span_read.specs.declared.error.ReadError.TheVariants.{TooLarge, Memory};
+ghost use Rattle.span_read.specs.{IsGoodItem, Microseconds, Document.{doc, most_bytes}, declared.error.ReadError.TheVariants.{TooLarge, Memory}};
 
 use crate::candidates::read_first;
 use crate::error::ReadError;

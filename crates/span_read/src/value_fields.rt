@@ -1,7 +1,6 @@
 //! The fields of an event, as the members of a `serde_json` object give them.
 ghost use Rattle.std.specs.Prelude.{◌≡◌, IfOk};
-ghost use Rattle.serde_json.specs.Data.{number};
-ghost use Rattle.serde_json.specs.View.{view, members_view, number_view};
+ghost use Rattle.serde_json.specs.{Data.number, View.{view, members_view, number_view}};
 ghost use Rattle.span_read.specs.Fields.{arg_value, pairs_of, field_value, field_at, fields_of};
 
 use crate::fields::{FieldValue, Fields};

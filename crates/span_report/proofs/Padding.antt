@@ -1,10 +1,8 @@
 -- A number in a width is padded with blanks on the left.
-use Rattle.std.proofs.Common.{◌≡◌, ℕ, zero, suc, ◌-◌, ◌^◌, false, List, [], ◌∷◌, ◌++◌, replicate, refl, ap, arith}
-use Rattle.std.specs.List.{repeat}
-use Rattle.std.specs.Fmt.{padded_integral, format_spec, char_count}
-use Rattle.std.proofs.lemmas.List.{append-nil}
-use lib.Utf8.{encode}
+use Rattle.std.specs.{Fmt.{padded_integral, format_spec, char_count}, List.repeat}
+use Rattle.std.proofs.{Common.{◌≡◌, ℕ, zero, suc, ◌-◌, ◌^◌, false, List, [], ◌∷◌, ◌++◌, replicate, refl, ap, arith}, lemmas.List.append-nil}
 use Rattle.span_report.specs.Lines.{right_in}
+use lib.Utf8.{encode}
 
 repeat_blank : (n : ℕ) → repeat {A = ℕ} n (32 ∷ []) ≡ replicate n 32
 repeat_blank zero = refl

@@ -1,12 +1,8 @@
 -- The report of a journal follows from its counts, and from the acts on each topic.
-use Rattle.std.proofs.Common.{◌++◌, ap}
 use Rattle.std.specs.Prelude.{flat_map}
-use Rattle.span_journal.specs.Topics.{of_process}
-use Rattle.span_journal.proofs.Topics.Rows.{rows-follow, values-follow}
-use Rattle.span_journal.proofs.Topics.KeyRows.{async_rows-own, flow_rows-own}
-use Rattle.span_report.specs.Laws.{KeyLinesFollowFromActs, ProcessLinesFollowFromActs, ReportsFollowFromActs}
-use Rattle.span_report.specs.Lines.{async_line, flow_line}
-use Rattle.span_report.specs.Report.{head_lines, process_lines}
+use Rattle.std.proofs.Common.{◌++◌, ap}
+use Rattle.span_journal.proofs.Topics.{KeyRows.{async_rows-own, flow_rows-own}, Rows.{rows-follow, values-follow}}
+use Rattle.span_report.specs.{of_process, Laws.{KeyLinesFollowFromActs, ProcessLinesFollowFromActs, ReportsFollowFromActs}, Lines.{async_line, flow_line}, Report.{head_lines, process_lines}}
 
 -- journals that have the same acts on a process have the same lines of it
 pub process_lines-alike : ProcessLinesFollowFromActs

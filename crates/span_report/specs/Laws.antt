@@ -1,19 +1,6 @@
 -- What decides a report.
-use Rattle.std.specs.Prelude.{◌≡◌, ℕ, ℤ, List, filter, flat_map}
-use Rattle.std.specs.Ordering.{is_eq}
-use Rattle.span_event.specs.declared.unit.Unit.{Unit}
-use Rattle.span_keyed_tracks.specs.declared.async_track.AsyncRow.{AsyncRow}
-use Rattle.span_keyed_tracks.specs.declared.flow_track.FlowRow.{FlowRow}
-use Rattle.span_keyed_tracks.specs.declared.keys.AsyncKey.{AsyncKey}
-use Rattle.span_keyed_tracks.specs.declared.keys.FlowKey.{FlowKey}
-use Rattle.span_keyed_tracks.specs.Async.{async_cmp}
-use Rattle.span_keyed_tracks.specs.Flow.{flow_cmp}
-use Rattle.span_journal.specs.declared.entry.Entry.{Entry}
-use Rattle.span_journal.specs.ByProcess.{rows_in_process}
-use Rattle.span_journal.specs.Rows.{async_rows, flow_rows}
-use Rattle.span_journal.specs.Topics.{AreAlike, acts_on, of_async, of_flow, of_process}
-use Rattle.span_report.specs.Lines.{async_line, flow_line}
-use Rattle.span_report.specs.Report.{process_lines, report_of}
+use Rattle.std.specs.{Ordering.is_eq, Prelude.{◌≡◌, ℕ, ℤ, List, filter, flat_map}}
+use Rattle.span_report.specs.{Unit, AsyncRow, FlowRow, AsyncKey, FlowKey, async_cmp, flow_cmp, Entry, rows_in_process, async_rows, flow_rows, AreAlike, acts_on, of_async, of_flow, of_process, Lines.{async_line, flow_line}, Report.{process_lines, report_of}}
 
 -- the lines of a process follow from the accepted acts on it
 abbrev pub ProcessLinesFollowFromActs : Type 0

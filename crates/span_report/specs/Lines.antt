@@ -1,22 +1,8 @@
 -- The lines of a report.
-use Rattle.std.specs.Prelude.{ℕ, ◌-◌, ◌==◌, if◌then◌else◌, ℤ, List, [], ◌∷◌, ◌++◌, length, replicate, Option, Some, None, codes, decimal}
-use Rattle.std.specs.Fmt.{signed_decimal}
-use Rattle.std.specs.List.{join_with_byte}
+use Rattle.std.specs.{Fmt.signed_decimal, List.join_with_byte, Prelude.{ℕ, ◌-◌, ◌==◌, if◌then◌else◌, ℤ, List, [], ◌∷◌, ◌++◌, length, replicate, Option, Some, None, codes, decimal}}
 use Rattle.json.specs.Print.{quoted}
-use Rattle.span_event.specs.declared.event.IdKey.{IdKey}
-use Rattle.span_event.specs.declared.event.Reach.{Reach}
-use Rattle.span_event.specs.declared.event.Reach.TheVariants.{Global, Process, Thread}
-use Rattle.span_event.specs.declared.unit.Unit.{Unit}
-use Rattle.span_event.specs.declared.unit.Unit.TheVariants.{Microseconds, Nanoseconds}
-use Rattle.span_keyed_tracks.specs.declared.async_track.AsyncRow.{AsyncRow}
-use Rattle.span_keyed_tracks.specs.declared.counter_track.SeriesRow.{SeriesRow}
-use Rattle.span_keyed_tracks.specs.declared.counter_track.SeriesTotals.{SeriesTotals}
-use Rattle.span_keyed_tracks.specs.declared.flow_track.FlowRow.{FlowRow}
-use Rattle.span_journal.specs.declared.rows.CountRow.{CountRow}
-use Rattle.span_journal.specs.declared.rows.ProcessRow.{ProcessRow}
-use Rattle.span_journal.specs.declared.rows.ThreadRow.{ThreadRow}
-use Rattle.span_journal.specs.declared.rows.SpanRow.{SpanRow}
-use Rattle.span_keyed_tracks.specs.declared.meta_track.instants.InstantRow.{InstantRow}
+use Rattle.span_event.specs.declared.event.Reach.TheVariants.{Thread}
+use Rattle.span_report.specs.{IdKey, Reach, Global, Process, Unit, Microseconds, Nanoseconds, AsyncRow, SeriesRow, SeriesTotals, FlowRow, CountRow, ProcessRow, ThreadRow, SpanRow, InstantRow}
 
 -- the words with one blank between them, ended by a line feed
 abbrev pub line_of : List (List ℕ) → List ℕ

@@ -1,10 +1,7 @@
 -- What a report that could not be written leaves.
 use Rattle.std.specs.Prelude.{◌≡◌, ℕ, ◌≤◌, List, length, take}
-use Rattle.span_event.specs.declared.fault.Fault.TheVariants.{Memory as MemoryFault, Output as OutputFault}
-use Rattle.span_event.specs.Fault.{number_of}
-use Rattle.span_report.specs.declared.output.WriteFault.{WriteFault}
-use Rattle.span_report.specs.declared.output.WriteFault.TheVariants.{Memory, Output}
-use Rattle.span_report.specs.Sink.{SinkState, Fails}
+use Rattle.span_event.specs.declared.fault.Fault.TheVariants.{Output as OutputFault}
+use Rattle.span_report.specs.{Memory as MemoryFault, number_of, Sink.{SinkState, Fails}, declared.output.WriteFault.{WriteFault, TheVariants.{Memory, Output}}}
 
 abbrev pub write_code : WriteFault → ℕ
 write_code Memory = number_of MemoryFault

@@ -1,11 +1,6 @@
 -- The report of a journal.
 use Rattle.std.specs.Prelude.{ℕ, List, ◌++◌, flat_map}
-use Rattle.span_event.specs.declared.unit.Unit.{Unit}
-use Rattle.span_journal.specs.declared.entry.Entry.{Entry}
-use Rattle.span_journal.specs.declared.rows.CountRow.{CountRow}
-use Rattle.span_journal.specs.ByProcess.{ProcessRows, ThreadRows, rows_by_process}
-use Rattle.span_journal.specs.Rows.{async_rows, count_row, flow_rows}
-use Rattle.span_report.specs.Lines.{async_line, count_line, counter_line, first_line, flow_line, instant_line, process_line, seals_line, span_line, thread_line, unit_line}
+use Rattle.span_report.specs.{Unit, Entry, CountRow, ProcessRows, ThreadRows, rows_by_process, async_rows, count_row, flow_rows, Lines.{async_line, count_line, counter_line, first_line, flow_line, instant_line, process_line, seals_line, span_line, thread_line, unit_line}}
 
 -- the line of a thread, after it one for each of its names, and then one for each name and reach of its instants
 abbrev pub thread_lines : ThreadRows → List ℕ

@@ -1,7 +1,5 @@
 -- What contracts see of a sink, and what calls on it do.
-use Rattle.std.specs.Prelude.{◌≡◌, ℕ, ◌+◌, List, Option, Some, None}
-use Rattle.std.specs.Io.KnownBytes.{Appends}
-use Rattle.std.specs.declared.snapshot.Snapshot.{Snapshot}
+use Rattle.std.specs.{Io.KnownBytes.Appends, Prelude.{◌≡◌, ℕ, ◌+◌, List, Option, Some, None}, declared.snapshot.Snapshot.Snapshot}
 
 -- the bytes taken so far, where the sink shows them, and how many calls on it failed
 pub record SinkState : Type 0 where

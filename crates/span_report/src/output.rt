@@ -1,8 +1,6 @@
 //! Writes the report of a ledger to a sink.
 ghost use Rattle.std.specs.Prelude.{◌≡◌, ◌≤◌, ◌↔◌, ℕ, List, Err, length, take, IfErr, IfOk, IsErr, OnOk};
-ghost use Rattle.span_report.specs.Report.{report_of};
-ghost use Rattle.span_report.specs.Sink.{TakesBytes, Fails};
-ghost use Rattle.span_report.specs.Output.{write_code, WriteLeaves};
+ghost use Rattle.span_report.specs.{Output.{write_code, WriteLeaves}, Report.report_of, Sink.{TakesBytes, Fails}};
 
 use crate::sink::Sink;
 use crate::text::report;

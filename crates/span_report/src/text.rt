@@ -1,7 +1,6 @@
 //! The text of a report: one walk over the processes of a ledger, their threads, and what each has.
 ghost use Rattle.std.specs.Prelude.{◌≡◌, ◌++◌, string_bytes, flat_map, OnOk, IfOk};
-ghost use Rattle.span_journal.specs.ByProcess.{rows_by_process};
-ghost use Rattle.span_report.specs.Report.{head_lines, process_lines, report_of, thread_lines};
+ghost use Rattle.span_report.specs.{rows_by_process, Report.{head_lines, process_lines, report_of, thread_lines}};
 
 use crate::lines::{Printed, first_line, put_counts, put_seals, put_unit};
 use span_event::Unit;

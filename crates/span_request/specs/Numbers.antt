@@ -1,13 +1,7 @@
 -- The numbers that rows go by, as a request names them.
 use Rattle.std.specs.Prelude.{Bool, true, false, Option, Some, None}
-use Rattle.span_table.specs.declared.of.Of.{Of}
-use Rattle.span_table.specs.declared.of.Of.TheVariants.{Async, Spans}
-use Rattle.span_table.specs.declared.sums.By.{By}
-use Rattle.span_table.specs.declared.sums.By.TheVariants.{Closed, Count, Open, Points, SelfTime, Total}
-use Rattle.span_request.specs.declared.views.ComparisonForm.{ComparisonForm}
+use Rattle.span_request.specs.{Of, Async, Spans, By, Closed, Count, Open, Points, SelfTime, Total, declared.views.{ComparisonForm.ComparisonForm, TableForm.{TableForm, TheVariants.{Ranking, Json}}}}
 use Rattle.span_request.specs.declared.views.ComparisonForm.TheVariants as changes
-use Rattle.span_request.specs.declared.views.TableForm.{TableForm}
-use Rattle.span_request.specs.declared.views.TableForm.TheVariants.{Ranking, Json}
 
 -- what is summed has the number, or none is named
 abbrev pub goes_by : Of → Option By → Bool

@@ -1,12 +1,6 @@
 -- What the words of a command line ask for.
-use Rattle.std.specs.Prelude.{◌≡◌, ℕ, Bool, false, List, codes, nat_eq, None}
-use Rattle.std.specs.List.{list_any, starts_with}
-use Rattle.span_event.specs.declared.unit.Unit.TheVariants.{Microseconds}
-use Rattle.span_collect.specs.declared.settings.Settings.{Settings}
-use Rattle.span_request.specs.declared.tasks.Request.{Request}
-use Rattle.span_request.specs.declared.tasks.Request.TheVariants.{Run, Show, Refuse}
-use Rattle.span_request.specs.declared.tasks.Task.TheVariants.{Collect}
-use Rattle.span_request.specs.declared.views.View.TheVariants.{Report}
+use Rattle.std.specs.{List.{list_any, starts_with}, Prelude.{◌≡◌, ℕ, Bool, false, List, codes, nat_eq, None}}
+use Rattle.span_request.specs.{Microseconds, Settings, declared.{tasks.{Request.{Request, TheVariants.{Run, Show, Refuse}}, Task.TheVariants.Collect}, views.View.TheVariants.Report}}
 
 -- the word begins with a hyphen
 abbrev pub is_option : List ℕ → Bool

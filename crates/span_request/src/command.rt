@@ -1,6 +1,5 @@
 //! The command line: its words, and what they ask for.
-ghost use Rattle.std.specs.Prelude.{◌≡◌, codes, nat_eq, IfOk};
-ghost use Rattle.std.specs.List.{list_any, starts_with};
+ghost use Rattle.std.specs.{List.{list_any, starts_with}, Prelude.{◌≡◌, codes, nat_eq, IfOk}};
 ghost use Rattle.span_request.specs.Request.{AsksFor, is_option};
 
 use crate::columns::{columns_of, labels_of, name_alone, named, of_async, paged, ranked, rule_of};

@@ -1,11 +1,7 @@
 -- Runs of which the last is replaced by one that is alike have the same tables.
 use Rattle.std.proofs.Common.{◌≡◌, List, [], ◌∷◌, ◌++◌, refl}
-use Rattle.span_table.specs.declared.column.Column.{Column}
-use Rattle.span_table.specs.declared.of.Of.{Of}
-use Rattle.span_table.specs.Columns.{Run}
-use Rattle.span_table.specs.Laws.{AreAlikeRuns, AreAllAlike}
-use Rattle.span_table.specs.Tables.{table_of}
 use Rattle.span_table.proofs.SameTables.{table_of-alike}
+use Rattle.span_runs.specs.{Column, Of, Run, AreAlikeRuns, AreAllAlike, table_of}
 
 AreAlikeRuns-refl : (run : Run) → AreAlikeRuns run run
 AreAlikeRuns-refl run = record { journals = record { counts = refl; acts = λ topic. refl }; files = refl; unread = refl; file = refl }

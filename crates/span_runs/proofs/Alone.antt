@@ -1,27 +1,7 @@
 -- What was collected of one file alone.
-use Rattle.std.proofs.Common.{◌≡◌, ℕ, ◌<◌, List, [], ◌∷◌, ◌++◌, length, Option, refl, ap, append-nil, ◌∙◌}
-use Rattle.std.proofs.lemmas.Slice.Zip.{AllZip-long}
-use Rattle.span_event.specs.Text.{Bytes}
-use Rattle.span_read.specs.Document.{doc}
-use Rattle.span_journal.specs.declared.entry.Entry.{Entry}
-use Rattle.span_collect.specs.declared.files.FileEnd.{FileEnd}
-use Rattle.span_collect.specs.declared.files.Input.{Input}
-use Rattle.span_collect.specs.declared.queries.Asked.{Asked}
-use Rattle.span_collect.specs.declared.sealing.Sealing.{Sealing}
-use Rattle.span_collect.specs.declared.settings.Settings.{Settings}
-use Rattle.span_collect.specs.Account.{EndsAs}
-use Rattle.span_collect.specs.FaultLines.{end_lines}
-use Rattle.span_collect.specs.Run.{status_of}
-use Rattle.span_collect.specs.Seals.{SealedAccount}
-use Rattle.span_collect.proofs.InTurn.Accounted.{end_lines-in_turn}
-use Rattle.span_collect.proofs.OneFile.{AreSeparate-one}
-use Rattle.span_table.specs.Columns.{Run}
-use Rattle.span_table.specs.Laws.{AreAlikeRuns}
-use Rattle.span_runs.specs.declared.file_run.FileRun.{FileRun}
-use Rattle.span_runs.specs.declared.gathered.Gathered.{Gathered}
-use Rattle.span_runs.specs.Apart.{AddsFile, IsAccounted, IsFileRun, refusal_line, run_alone, run_of}
-use Rattle.span_runs.specs.Gathering.{TakesAlike}
-use Rattle.span_runs.specs.Runs.{run_of_files}
+use Rattle.std.proofs.{Common.{◌≡◌, ℕ, ◌<◌, List, [], ◌∷◌, ◌++◌, length, Option, refl, ap, append-nil, ◌∙◌}, lemmas.Slice.Zip.AllZip-long}
+use Rattle.span_collect.proofs.{InTurn.Accounted.end_lines-in_turn, OneFile.AreSeparate-one}
+use Rattle.span_runs.specs.{Bytes, doc, Entry, FileEnd, Input, Asked, Sealing, Settings, EndsAs, end_lines, status_of, SealedAccount, Run, AreAlikeRuns, Apart.{AddsFile, IsAccounted, IsFileRun, refusal_line, run_alone, run_of}, Gathering.TakesAlike, Runs.run_of_files, declared.{file_run.FileRun.FileRun, gathered.Gathered.Gathered}}
 use Rattle.span_runs.proofs.InTurn.{AreAlikeRuns-in_turn}
 
 -- one file has one end

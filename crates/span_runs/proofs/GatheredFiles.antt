@@ -1,17 +1,7 @@
 -- Files that are gathered, one more, and those of two groups.
-use Rattle.std.proofs.Common.{◌≡◌, ℕ, List, [], ◌∷◌, ◌++◌, map, Option, refl, ap₂, subst, sym, ◌∙◌, append-nil}
 use Rattle.std.specs.Prelude.{flat_map}
-use Rattle.std.proofs.lemmas.Grind.{flat_map-append}
-use Rattle.std.proofs.lemmas.List.{map-append, map_push}
-use Rattle.std.proofs.lemmas.List.Elements.{All-append, All-nil, All-push}
-use Rattle.span_event.specs.Text.{Bytes}
-use Rattle.span_collect.specs.declared.files.Input.{Input}
-use Rattle.span_collect.specs.declared.settings.Settings.{Settings}
-use Rattle.span_table.specs.Columns.{Run}
-use Rattle.span_runs.specs.declared.gathered.Gathered.{Gathered}
-use Rattle.span_runs.specs.Apart.{AddsFile, AreGathered, GathersFiles, IsAccounted, refusal_line, run_alone}
-use Rattle.span_runs.specs.Inputs.{AreFiles, most_read}
-use Rattle.span_runs.specs.Source.{AreFirst}
+use Rattle.std.proofs.{Common.{◌≡◌, ℕ, List, [], ◌∷◌, ◌++◌, map, Option, refl, ap₂, subst, sym, ◌∙◌, append-nil}, lemmas.{Grind.flat_map-append, List.{map-append, map_push, Elements.{All-append, All-nil, All-push}}}}
+use Rattle.span_runs.specs.{Bytes, Input, Settings, Run, Apart.{AddsFile, AreGathered, GathersFiles, IsAccounted, refusal_line, run_alone}, Inputs.{AreFiles, most_read}, Source.AreFirst, declared.gathered.Gathered.Gathered}
 
 -- none
 abbrev pub AreGathered-none : (known : List ℕ → Option (List ℕ)) (settings : Settings) (ComeTo : List Run → Type 0) (lines : Bytes) → ComeTo [] → lines ≡ [] → AreGathered known [] settings ComeTo lines

@@ -1,20 +1,8 @@
 -- The run of separate files is alike the one that they give where they are read in turn.
 use Rattle.std.proofs.Common.{◌≡◌, ◌<◌, List, [], ◌∷◌, refl}
-use Rattle.span_journal.specs.declared.entry.Entry.{Entry}
-use Rattle.span_collect.specs.declared.files.FileEnd.{FileEnd}
-use Rattle.span_collect.specs.declared.files.Input.{Input}
-use Rattle.span_collect.specs.declared.queries.Asked.{Asked}
-use Rattle.span_collect.specs.declared.sealing.Sealing.{Sealing}
-use Rattle.span_collect.specs.declared.settings.Settings.{Settings}
-use Rattle.span_collect.specs.InTurn.{AreSeparate}
-use Rattle.span_collect.specs.Run.{status_of}
-use Rattle.span_collect.specs.Seals.{SealedAccount}
 use Rattle.span_collect.proofs.InTurn.Accounted.{AreAlike-in_turn, unread_of-in_turn}
-use Rattle.span_table.specs.declared.column.Column.{Column}
-use Rattle.span_table.specs.declared.of.Of.{Of}
-use Rattle.span_table.specs.Laws.{AreAlikeRuns}
 use Rattle.span_table.proofs.SameTables.{table_of-alike}
-use Rattle.span_runs.specs.Runs.{run_in_turn, run_of_files, table_of_run}
+use Rattle.span_runs.specs.{Entry, FileEnd, Input, Asked, Sealing, Settings, AreSeparate, status_of, SealedAccount, Column, Of, AreAlikeRuns, Runs.{run_in_turn, run_of_files, table_of_run}}
 
 module _ (files : List Input) (settings : Settings) (ends : List FileEnd) (asked : Asked) (sealing : Sealing) (journal : List Entry)
     (account : SealedAccount files [] settings ends asked sealing journal) (separate : AreSeparate settings.unit files) (below : status_of ends asked sealing < 2) where

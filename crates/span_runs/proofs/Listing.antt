@@ -1,10 +1,7 @@
 -- The names that are found byte by byte are those between the separators.
+use Rattle.std.specs.{List.{slice_split, onto_first}, Prelude.filter}
 use Rattle.std.proofs.Common.{◌≡◌, ℕ, ◌==◌, Bool, true, false, cond, List, [], ◌∷◌, ◌++◌, refl, sym, ap, ap₂, ◌∙◌, append-nil, append_assoc}
-use Rattle.std.specs.Prelude.{filter}
-use Rattle.std.specs.List.{slice_split, onto_first}
-use Rattle.span_event.specs.Text.{Bytes}
-use Rattle.span_runs.specs.Listing.{kept, names_from}
-use Rattle.span_runs.specs.Names.{is_name, names_in, separator_of}
+use Rattle.span_runs.specs.{Bytes, Listing.{kept, names_from}, Names.{is_name, names_in, separator_of}}
 
 -- these bytes before the first of these
 abbrev onto : Bytes → List Bytes → List Bytes

@@ -1,22 +1,6 @@
 -- What stopped among files, with more files after them or before them.
-use Rattle.std.proofs.Common.{◌≡◌, ℕ, suc, ◌<◌, List, [], ◌∷◌, ◌++◌, length, take, drop, Option, inl, inr, refl, ap, ap₂, sym, subst, ◌∙◌, append_assoc}
-use Rattle.std.proofs.Math.ListN.{get_or}
-use Rattle.std.proofs.Math.Seq.{drop-cons}
-use Rattle.std.proofs.lemmas.Grind.{flat_map-append}
-use Rattle.std.proofs.lemmas.List.{take-append-drop}
-use Rattle.std.proofs.lemmas.List.Elements.{All-append, All-nil}
-use Rattle.span_event.specs.Text.{Bytes}
-use Rattle.span_collect.specs.declared.settings.Settings.{Settings}
-use Rattle.span_table.specs.Columns.{Run as TableRun}
-use Rattle.span_runs.specs.declared.stop.Halt.{Halt}
-use Rattle.span_runs.specs.declared.stop.Halt.TheVariants.{Stopped, GaveUp}
-use Rattle.span_runs.specs.declared.stop.Stop.{Stop}
-use Rattle.span_runs.specs.declared.stop.StopCause.{StopCause}
-use Rattle.span_runs.specs.declared.stop.StopCause.TheVariants.{NotOpened, Memory, Run, Cut, TooMany}
-use Rattle.span_runs.specs.Apart.{AreGathered, IsAccounted, refusal_line}
-use Rattle.span_runs.specs.Inputs.{most_read}
-use Rattle.span_runs.specs.Source.{AreFirst}
-use Rattle.span_runs.specs.Stops.{ComesAfter, HaltsAfter, HaltsAmong, IsCut, IsOfSum, IsStopOfSum, IsUnread, SaysCut, StopsAmong, StopsAt, StopsBefore}
+use Rattle.std.proofs.{Common.{◌≡◌, ℕ, suc, ◌<◌, List, [], ◌∷◌, ◌++◌, length, take, drop, Option, inl, inr, refl, ap, ap₂, sym, subst, ◌∙◌, append_assoc}, Math.{ListN.get_or, Seq.drop-cons}, lemmas.{Grind.flat_map-append, List.{take-append-drop, Elements.{All-append, All-nil}}}}
+use Rattle.span_runs.specs.{Bytes, Settings, Run as TableRun, Apart.{AreGathered, IsAccounted, refusal_line}, Inputs.most_read, Source.AreFirst, Stops.{ComesAfter, HaltsAfter, HaltsAmong, IsCut, IsOfSum, IsStopOfSum, IsUnread, SaysCut, StopsAmong, StopsAt, StopsBefore}, declared.stop.{Halt.{Halt, TheVariants.{Stopped, GaveUp}}, Stop.Stop, StopCause.{StopCause, TheVariants.{NotOpened, Memory, Run, Cut, TooMany}}}}
 use Rattle.span_runs.proofs.GatheredFiles.{AreFiles-append}
 
 module _ (known : Bytes → Option Bytes) (settings : Settings) where

@@ -1,24 +1,6 @@
 -- Files each of which is a run of its own, gathered.
 use Rattle.std.specs.Prelude.{◌≡◌, ℕ, ◌<◌, List, [], ◌∷◌, ◌++◌, length, map, flat_map, All, Option}
-use Rattle.span_event.specs.Text.{Bytes}
-use Rattle.span_journal.specs.declared.entry.Entry.{Entry}
-use Rattle.span_event.specs.declared.unit.Unit.{Unit}
-use Rattle.span_read.specs.Document.{doc}
-use Rattle.span_collect.specs.declared.files.FileEnd.{FileEnd}
-use Rattle.span_collect.specs.declared.files.Input.{Input}
-use Rattle.span_collect.specs.declared.queries.Asked.{Asked}
-use Rattle.span_collect.specs.declared.sealing.Sealing.{Sealing}
-use Rattle.span_collect.specs.declared.settings.Settings.{Settings}
-use Rattle.span_collect.specs.FaultLines.{end_line}
-use Rattle.span_collect.specs.Run.{end_by, status_of}
-use Rattle.span_collect.specs.Seals.{SealedAccount}
-use Rattle.span_table.specs.Columns.{Run}
-use Rattle.span_table.specs.Laws.{AreAlikeRuns}
-use Rattle.span_runs.specs.declared.file_run.FileRun.{FileRun}
-use Rattle.span_runs.specs.declared.gathered.Gathered.{Gathered}
-use Rattle.span_runs.specs.Inputs.{AreFiles, most_read}
-use Rattle.span_runs.specs.Runs.{run_in_turn, run_of_files}
-use Rattle.span_runs.specs.Source.{AreFirst}
+use Rattle.span_runs.specs.{Bytes, Entry, Unit, doc, FileEnd, Input, Asked, Sealing, Settings, end_line, end_by, status_of, SealedAccount, Run, AreAlikeRuns, Inputs.{AreFiles, most_read}, Runs.{run_in_turn, run_of_files}, Source.AreFirst, declared.{file_run.FileRun.FileRun, gathered.Gathered.Gathered}}
 
 -- the run of a file alone
 abbrev pub run_alone : Settings → Input → Run

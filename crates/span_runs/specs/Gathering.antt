@@ -1,11 +1,6 @@
 -- What runs come to: one table of all, or a table of each.
 use Rattle.std.specs.Prelude.{◌≡◌, List, [], ◌∷◌, ◌++◌, map}
-use Rattle.span_table.specs.declared.column.Column.{Column}
-use Rattle.span_table.specs.declared.of.Of.{Of}
-use Rattle.span_table.specs.Columns.{Run}
-use Rattle.span_table.specs.Laws.{AreAlikeRuns}
-use Rattle.span_table.specs.Tables.{SpanTable, table_of}
-use Rattle.span_runs.specs.Runs.{table_of_run}
+use Rattle.span_runs.specs.{Column, Of, Run, AreAlikeRuns, SpanTable, table_of, Runs.table_of_run}
 
 -- one table of all
 abbrev pub IsTableOf : Of → List Column → List Run → SpanTable → Type 0

@@ -1,7 +1,6 @@
 -- The inputs of a run.
 use Rattle.std.specs.Prelude.{◌≡◌, ℕ, List, [], ◌∷◌, map, All, Option, codes}
-use Rattle.span_collect.specs.declared.files.Input.{Input}
-use Rattle.span_runs.specs.Source.{SourceBytes, AreFirst}
+use Rattle.span_runs.specs.{Input, Source.{SourceBytes, AreFirst}}
 
 -- the most bytes that are read of a file: one more than it may have
 abbrev pub most_read : ℕ

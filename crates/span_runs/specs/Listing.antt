@@ -1,6 +1,6 @@
 -- How the names in a list are found: byte by byte, with the bytes of a name so far.
 use Rattle.std.specs.Prelude.{ℕ, ◌==◌, if◌then◌else◌, List, [], ◌∷◌, ◌++◌}
-use Rattle.span_event.specs.Text.{Bytes}
+use Rattle.span_runs.specs.{Bytes}
 
 -- a name, unless it is empty
 abbrev pub kept : Bytes → List Bytes

@@ -1,10 +1,6 @@
 -- The files that a command line names.
-use Rattle.std.specs.Prelude.{◌≡◌, ◌<◌, ℕ, ◌==◌, if◌then◌else◌, Bool, true, false, List, [], ◌∷◌, ◌++◌, filter, length, Option, Some, None, codes}
-use Rattle.std.specs.List.{list_any, slice_split}
-use Rattle.std.specs.Str.{bytes_eq}
-use Rattle.span_event.specs.Text.{Bytes}
-use Rattle.span_runs.specs.declared.names.Named.{Named}
-use Rattle.span_runs.specs.Source.{AreFirst, SourceBytes}
+use Rattle.std.specs.{List.{list_any, slice_split}, Prelude.{◌≡◌, ◌<◌, ℕ, ◌==◌, if◌then◌else◌, Bool, true, false, List, [], ◌∷◌, ◌++◌, filter, length, Option, Some, None, codes}, Str.bytes_eq}
+use Rattle.span_runs.specs.{Bytes, Source.{AreFirst, SourceBytes}, declared.names.Named.Named}
 
 -- the most bytes that are read of a list
 abbrev pub most_listed : ℕ

@@ -1,16 +1,6 @@
 -- A run of files, as a table takes it.
 use Rattle.std.specs.Prelude.{List, [], ◌∷◌, length, Option, Some, None}
-use Rattle.span_event.specs.Text.{Bytes}
-use Rattle.span_journal.specs.declared.entry.Entry.{Entry}
-use Rattle.span_collect.specs.declared.files.FileEnd.{FileEnd}
-use Rattle.span_collect.specs.declared.files.Input.{Input}
-use Rattle.span_collect.specs.declared.settings.Settings.{Settings}
-use Rattle.span_collect.specs.InTurn.{ends_from, journal_in_turn}
-use Rattle.span_collect.specs.Run.{unread_of}
-use Rattle.span_table.specs.declared.column.Column.{Column}
-use Rattle.span_table.specs.declared.of.Of.{Of}
-use Rattle.span_table.specs.Columns.{Run, run_of}
-use Rattle.span_table.specs.Tables.{SpanTable, table_of}
+use Rattle.span_runs.specs.{Bytes, Entry, FileEnd, Input, Settings, ends_from, journal_in_turn, unread_of, Column, Of, Run, run_of, SpanTable, table_of}
 
 -- the name of the only file
 abbrev pub only_name : List Input → Option Bytes

@@ -1,30 +1,6 @@
 -- Why files were not all gathered: what stopped, and what is said of the files before it.
 use Rattle.std.specs.Prelude.{◌≡◌, ◌⊎◌, List, [], ◌∷◌, ◌++◌, flat_map, All, Option, Some, None, Result, MatchResult}
-use Rattle.span_event.specs.Text.{Bytes}
-use Rattle.span_journal.specs.Refusal.{code_of}
-use Rattle.span_journal.specs.declared.entry.Entry.{Entry}
-use Rattle.span_journal.specs.declared.refusal.Cause.{Cause}
-use Rattle.span_collect.specs.declared.files.FileEnd.{FileEnd}
-use Rattle.span_collect.specs.declared.files.Input.{Input}
-use Rattle.span_collect.specs.declared.queries.Asked.{Asked}
-use Rattle.span_collect.specs.declared.runs.RunError.{RunError}
-use Rattle.span_collect.specs.declared.sealing.Sealing.{Sealing}
-use Rattle.span_collect.specs.declared.settings.Settings.{Settings}
-use Rattle.span_collect.specs.FaultLines.{end_lines, fault_line}
-use Rattle.span_collect.specs.Run.{IsNotCollected, status_of}
-use Rattle.span_collect.specs.Seals.{SealedAccount}
-use Rattle.span_runs.specs.declared.stop.Halt.{Halt}
-use Rattle.span_runs.specs.declared.stop.Halt.TheVariants.{Stopped, GaveUp}
-use Rattle.span_runs.specs.declared.stop.Stop.{Stop}
-use Rattle.span_runs.specs.declared.stop.StopCause.{StopCause}
-use Rattle.span_runs.specs.declared.stop.StopCause.TheVariants.{NotOpened, Memory, Run, Cut, TooMany}
-use Rattle.span_table.specs.declared.column.Column.{Column}
-use Rattle.span_table.specs.declared.of.Of.{Of}
-use Rattle.span_runs.specs.declared.gathered.Gathered.{Gathered}
-use Rattle.span_table.specs.Columns.{Run as TableRun}
-use Rattle.span_runs.specs.Apart.{AddsFile, GathersFiles, IsAccounted, refusal_line}
-use Rattle.span_runs.specs.Inputs.{AreFiles, most_read}
-use Rattle.span_runs.specs.Source.{AreFirst}
+use Rattle.span_runs.specs.{Bytes, code_of, Entry, Cause, FileEnd, Input, Asked, RunError, Sealing, Settings, end_lines, fault_line, IsNotCollected, status_of, SealedAccount, Column, Of, Run as TableRun, Apart.{AddsFile, GathersFiles, IsAccounted, refusal_line}, Inputs.{AreFiles, most_read}, Source.AreFirst, declared.{gathered.Gathered.Gathered, stop.{Halt.{Halt, TheVariants.{Stopped, GaveUp}}, Stop.Stop, StopCause.{StopCause, TheVariants.{NotOpened, Memory, Run, Cut, TooMany}}}}}
 
 -- the line of a seal that was not taken
 abbrev pub unsealed_line : Bytes → Option Cause → Bytes

@@ -1,6 +1,5 @@
 //! Files each of which is a run of its own, gathered in several jobs at once.
-ghost use Rattle.std.specs.Prelude.{◌≡◌, ◌<◌, ◌++◌, length, IfOk};
-ghost use Rattle.std.specs.Thread.{IsSync};
+ghost use Rattle.std.specs.{Prelude.{◌≡◌, ◌<◌, ◌++◌, length, IfOk}, Thread.IsSync};
 ghost use Rattle.span_runs.specs.Stops.{AddsOrStops, JoinsFiles, GathersOrHalts, GathersOrStops};
 
 use crate::cuts::cut;

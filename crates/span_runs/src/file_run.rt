@@ -1,11 +1,6 @@
 //! A file that is a run of its own.
 ghost use Rattle.std.specs.Prelude.{◌≡◌, ◌∷◌, [], length, IfErr, IfOk};
-ghost use Rattle.span_collect.specs.Run.{IsNotCollected, status_of};
-ghost use Rattle.span_collect.specs.Seals.{SealedAccount};
-ghost use Rattle.span_runs.specs.Apart.{IsFileRun};
-ghost use Rattle.span_runs.specs.Inputs.{most_read};
-ghost use Rattle.span_runs.specs.Source.{AreFirst};
-ghost use Rattle.span_runs.specs.Stops.{IsUnread, SaysCut, StopsAt, cut_lines};
+ghost use Rattle.span_runs.specs.{IsNotCollected, status_of, SealedAccount, Apart.IsFileRun, Inputs.most_read, Source.AreFirst, Stops.{IsUnread, SaysCut, StopsAt, cut_lines}};
 
 use crate::files::read_file;
 use crate::source::Source;

@@ -1,8 +1,6 @@
 //! A file as it is read.
 ghost use Rattle.std.specs.Prelude.{◌≡◌, IfErr, IfOk, Ok, codes};
-ghost use Rattle.span_runs.specs.Source.{AreFirst};
-ghost use Rattle.span_runs.specs.Inputs.{most_read};
-ghost use Rattle.span_runs.specs.Stops.{IsUnread};
+ghost use Rattle.span_runs.specs.{Inputs.most_read, Source.AreFirst, Stops.IsUnread};
 
 use crate::source::{Source, SourceFault};
 use crate::stop::StopCause;

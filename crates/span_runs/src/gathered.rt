@@ -1,12 +1,6 @@
 //! Files that were each a run of its own, as they are gathered.
 ghost use Rattle.std.specs.Prelude.{◌≡◌, ◌∷◌, ◌++◌, [], List, length, IfErr, IfOk};
-ghost use Rattle.span_collect.specs.FaultLines.{end_lines};
-ghost use Rattle.span_table.specs.declared.column.Column.{Column as TheColumn};
-ghost use Rattle.span_table.specs.declared.of.Of.{Of as TheOf};
-ghost use Rattle.span_table.specs.Columns.{Run};
-ghost use Rattle.span_runs.specs.Apart.{run_of};
-ghost use Rattle.span_runs.specs.Gathering.{TakesAlike};
-ghost use Rattle.span_runs.specs.Stops.{IsStopOfSum};
+ghost use Rattle.span_runs.specs.{end_lines, Column as TheColumn, Of as TheOf, Run, Apart.run_of, Gathering.TakesAlike, Stops.IsStopOfSum};
 
 use crate::file_run::FileRun;
 use crate::gathering::Gathering;

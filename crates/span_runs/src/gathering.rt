@@ -1,10 +1,6 @@
 //! What the runs of files come to, as they are collected one by one: one table of all, or a table of each.
 ghost use Rattle.std.specs.Prelude.{◌≡◌, ◌∷◌, ◌++◌, [], List, IfOk};
-ghost use Rattle.span_table.specs.declared.column.Column.{Column as TheColumn};
-ghost use Rattle.span_table.specs.declared.of.Of.{Of as TheOf};
-ghost use Rattle.span_table.specs.Columns.{Run};
-ghost use Rattle.span_runs.specs.Apart.{run_of};
-ghost use Rattle.span_runs.specs.Gathering.{TakesAlike};
+ghost use Rattle.span_runs.specs.{Column as TheColumn, Of as TheOf, Run, Apart.run_of, Gathering.TakesAlike};
 
 use crate::file_run::FileRun;
 use span_names::HashKeys;

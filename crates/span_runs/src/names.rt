@@ -1,9 +1,6 @@
 //! The files that a command line names.
-ghost use Rattle.std.specs.Prelude.{◌≡◌, ◌==◌, ◌++◌, ◌∷◌, List, ℕ, IfOk, OnOk};
-ghost use Rattle.std.specs.List.{list_any};
-ghost use Rattle.span_runs.specs.Listing.{kept, names_from};
-ghost use Rattle.span_runs.specs.Names.{AreListed, AreNamed, bytes_of_list, most_listed, names_in, separator_of};
-ghost use Rattle.span_runs.specs.Source.{AreFirst};
+ghost use Rattle.std.specs.{List.list_any, Prelude.{◌≡◌, ◌==◌, ◌++◌, ◌∷◌, List, ℕ, IfOk, OnOk}};
+ghost use Rattle.span_runs.specs.{Listing.{kept, names_from}, Names.{AreListed, AreNamed, bytes_of_list, most_listed, names_in, separator_of}, Source.AreFirst};
 
 use crate::source::{Reason, Source, SourceFault};
 use crate::stop::StopCause;

@@ -1,7 +1,6 @@
 //! Why files were not all gathered.
 ghost use Rattle.std.specs.Prelude.{◌≡◌, [], IfErr};
-ghost use Rattle.span_runs.specs.declared.stop.StopCause.TheVariants.{Memory};
-ghost use Rattle.span_runs.specs.Stops.{ComesAfter, HaltsAfter, IsOfSum};
+ghost use Rattle.span_runs.specs.{Stops.{ComesAfter, HaltsAfter, IsOfSum}, declared.stop.StopCause.TheVariants.Memory};
 
 use crate::source::Reason;
 use span_collect::RunError;

@@ -1,10 +1,6 @@
 -- That one more span leaves the closed spans what they must be, and what holds of each of them.
-use Rattle.std.proofs.Common.{◌≡◌, ℕ, zero, suc, ◌+◌, ◌<◌, ◌≢◌, ◌^◌, ◌≤ℤ◌, List, [], ◌∷◌, ◌++◌, length, take, get_or, sym, ap, ◌∙◌, subst, arith, All, append_assoc, append-nil, length-append}
-use Rattle.std.proofs.Math.Seq.{get_or-append_seam, take-append_seam}
-use Rattle.std.proofs.lemmas.List.Elements.{All-push, All-head, All-tail, All-nil, All-cons}
-use Rattle.span_self_time.specs.Spans.{Span}
-use Rattle.span_self_time.specs.Laws.{IsApart, AreSpans}
-use Rattle.span_self_time.specs.Closed.{CanJoin, IsInTime, AreClosed}
+use Rattle.std.proofs.{Common.{◌≡◌, ℕ, zero, suc, ◌+◌, ◌<◌, ◌≢◌, ◌^◌, ◌≤ℤ◌, List, [], ◌∷◌, ◌++◌, length, take, get_or, sym, ap, ◌∙◌, subst, arith, All, append_assoc, append-nil, length-append}, Math.Seq.{get_or-append_seam, take-append_seam}, lemmas.List.Elements.{All-push, All-head, All-tail, All-nil, All-cons}}
+use Rattle.span_self_time.specs.{Closed.{CanJoin, IsInTime, AreClosed}, Laws.{IsApart, AreSpans}, Spans.Span}
 
 IsApart-append : (at : ℕ) (spans : List (Span ℕ)) (s : Span ℕ) → IsApart at spans → s.at ≢ at → IsApart at (spans ++ s ∷ [])
 IsApart-append at [] s apart differs = (differs, tt)

@@ -1,18 +1,8 @@
 -- That a span's self time is what its direct children leave of it, where spans nest or are disjoint.
-use Rattle.std.proofs.Common.{◌≡◌, ℕ, zero, suc, ◌+◌, Bool, true, false, not, ◌&&◌, ◌||◌, cond, inl, inr, ℤ, pos, ◌+ℤ◌, ◌≤ℤ◌, ◌<ℤ◌, int_le, List, [], ◌∷◌, filter, refl, sym, ap, ap₂, ◌∙◌, true≢false, arith, All, get_or}
-use Rattle.std.specs.Bool.{Decides}
-use Rattle.std.specs.List.{sum_by, list_any}
-use Rattle.std.proofs.lemmas.Int.{ints}
-use Rattle.std.proofs.lemmas.Bool.{and_parts, and_right}
-use Rattle.std.proofs.lemmas.Bool.Decides.{Decides-and}
-use Rattle.std.proofs.lemmas.List.Elements.{All-head, All-tail}
-use Rattle.std.proofs.lemmas.List.Sums.{sum_by-cons}
-use Rattle.span_self_time.specs.Spans.{Span, covers, outranks, is_outranked, count_from, length_of, self_time}
-use Rattle.span_self_time.specs.Laws.{AreSpans, NestOrAreDisjoint, AreNested, is_child, is_direct_child, direct_children}
-use Rattle.span_self_time.proofs.Apart.{All-lasts}
-use Rattle.span_self_time.proofs.Tops.{one_if, is_below, sum_by-tops, IsRanked, IsConnected}
-use Rattle.span_self_time.proofs.Counts.{count_from-same, count_from-none, count_from-covered, count_from-all, sum_by-count_from, sum_by-nothing, add-distance}
-use Rattle.span_self_time.proofs.Ranks.{Decides-int_lt, IsAbove, Decides-outranks, outranks-itself, outranks-trans, IsRanked-spans}
+use Rattle.std.specs.{Bool.Decides, List.{sum_by, list_any}}
+use Rattle.std.proofs.{Common.{◌≡◌, ℕ, zero, suc, ◌+◌, Bool, true, false, not, ◌&&◌, ◌||◌, cond, inl, inr, ℤ, pos, ◌+ℤ◌, ◌≤ℤ◌, ◌<ℤ◌, int_le, List, [], ◌∷◌, filter, refl, sym, ap, ap₂, ◌∙◌, true≢false, arith, All, get_or}, lemmas.{Bool.{and_parts, and_right, Decides.Decides-and}, Int.ints, List.{Elements.{All-head, All-tail}, Sums.sum_by-cons}}}
+use Rattle.span_self_time.specs.{Laws.{AreSpans, NestOrAreDisjoint, AreNested, is_child, is_direct_child, direct_children}, Spans.{Span, covers, outranks, is_outranked, count_from, length_of, self_time}}
+use Rattle.span_self_time.proofs.{Apart.All-lasts, Counts.{count_from-same, count_from-none, count_from-covered, count_from-all, sum_by-count_from, sum_by-nothing, add-distance}, Ranks.{Decides-int_lt, IsAbove, Decides-outranks, outranks-itself, outranks-trans, IsRanked-spans}, Tops.{one_if, is_below, sum_by-tops, IsRanked, IsConnected}}
 
 same_tests : (a b : Bool) → (a ≡ true → b ≡ true) → (b ≡ true → a ≡ true) → a ≡ b
 same_tests true b to from = sym (to refl)

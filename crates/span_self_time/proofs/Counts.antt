@@ -1,11 +1,7 @@
 -- How many ticks of a stretch of time pass a test.
-use Rattle.std.proofs.Common.{◌≡◌, cond, ◌≤◌, ◌<◌, ℕ, zero, suc, ◌+◌, Bool, true, false, ◌&&◌, ℤ, pos, negsuc, ◌+ℤ◌, ◌-ℤ◌, ◌≤ℤ◌, ◌<ℤ◌, int_lt, int_le, refl, sym, ap, ap₂, ◌∙◌, arith, zero-add, List, [], ◌∷◌}
 use Rattle.std.specs.List.{sum_by}
-use Rattle.std.proofs.lemmas.Bool.{and_left, and_right, and_from}
-use Rattle.std.proofs.lemmas.Int.{ints, by_lt_z}
-use Rattle.std.proofs.lemmas.List.Sums.{sum_by-cons}
-use Rattle.span_event.specs.Time.{distance, natural}
-use Rattle.span_self_time.specs.Spans.{Span, count_from, covers, length_of}
+use Rattle.std.proofs.{Common.{◌≡◌, cond, ◌≤◌, ◌<◌, ℕ, zero, suc, ◌+◌, Bool, true, false, ◌&&◌, ℤ, pos, negsuc, ◌+ℤ◌, ◌-ℤ◌, ◌≤ℤ◌, ◌<ℤ◌, int_lt, int_le, refl, sym, ap, ap₂, ◌∙◌, arith, zero-add, List, [], ◌∷◌}, lemmas.{Bool.{and_left, and_right, and_from}, Int.{ints, by_lt_z}, List.Sums.sum_by-cons}}
+use Rattle.span_self_time.specs.{distance, natural, Spans.{Span, count_from, covers, length_of}}
 use Rattle.span_self_time.proofs.Tops.{one_if}
 
 pos-natural : (z : ℤ) → pos 0 ≤ℤ z → pos (natural z) ≡ z

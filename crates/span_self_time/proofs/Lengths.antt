@@ -1,23 +1,8 @@
 -- That the segments of one span are together as long as its self time.
-use Rattle.std.proofs.Common.{◌≡◌, ◌≢◌, ◌≤◌, ℕ, ◌+◌, cond, nat_eq, List, [], ◌∷◌, get_or, refl, sym, ap, ◌∙◌, arith, All, eq-eqb, ne_eqb}
 use Rattle.std.specs.List.{sum_by}
-use Rattle.std.proofs.lemmas.Int.{ints}
-use Rattle.std.proofs.lemmas.List.Elements.{All-cons, All-head, All-nil, All-tail}
-use Rattle.std.proofs.lemmas.List.Sums.{sum_by-cons}
-use Rattle.span_self_time.specs.declared.division.lengths.Lengths.{Lengths}
-use Rattle.span_self_time.specs.declared.segment.OwnedSegment.{OwnedSegment}
-use Rattle.span_self_time.specs.Closed.{greatest_until, AreClosed}
-use Rattle.span_event.specs.Event.{least_time}
-use Rattle.span_self_time.specs.Division.{Owners, owners_of, AreOwnedSegments}
-use Rattle.span_self_time.specs.Division.Lengths.{time_at, length_at, CanGain}
-use Rattle.span_self_time.specs.Division.SegmentStacks.{segment_length, whole_length}
-use Rattle.span_self_time.specs.Laws.{AreSpans}
-use Rattle.span_self_time.specs.Spans.{Span, self_time}
-use Rattle.span_self_time.proofs.Apart.{All-apart}
-use Rattle.span_self_time.proofs.Counts.{add-distance}
-use Rattle.span_self_time.proofs.Owners.{is_of}
-use Rattle.span_self_time.proofs.SelfSums.{cond-le}
-use Rattle.span_self_time.proofs.SegmentStacks.SegmentLengths.{sum_by-segments, whole_length-le}
+use Rattle.std.proofs.{Common.{◌≡◌, ◌≢◌, ◌≤◌, ℕ, ◌+◌, cond, nat_eq, List, [], ◌∷◌, get_or, refl, sym, ap, ◌∙◌, arith, All, eq-eqb, ne_eqb}, lemmas.{Int.ints, List.{Elements.{All-cons, All-head, All-nil, All-tail}, Sums.sum_by-cons}}}
+use Rattle.span_self_time.specs.{least_time, Closed.{greatest_until, AreClosed}, Division.{Owners, owners_of, AreOwnedSegments, Lengths.{time_at, length_at, CanGain}, SegmentStacks.{segment_length, whole_length}}, Laws.AreSpans, Spans.{Span, self_time}, declared.{division.lengths.Lengths.Lengths, segment.OwnedSegment.OwnedSegment}}
+use Rattle.span_self_time.proofs.{Apart.All-apart, Counts.add-distance, Owners.is_of, SegmentStacks.SegmentLengths.{sum_by-segments, whole_length-le}, SelfSums.cond-le}
 
 length_at-le : (at : ℕ) (segments : List OwnedSegment) → length_at at segments ≤ whole_length segments
 length_at-le at [] = omega arith

@@ -1,12 +1,6 @@
 -- Where at most one span has time, its segment is all segments.
-use Rattle.std.proofs.Common.{◌≡◌, ℕ, ℤ, ◌≤ℤ◌, ◌<ℤ◌, [], ◌∷◌, Option, Some, None, true, refl, sym, subst, arith}
-use Rattle.std.proofs.lemmas.Int.{ints, by_lt_z}
-use Rattle.span_self_time.specs.declared.segment.OwnedSegment.{OwnedSegment}
-use Rattle.span_self_time.specs.Spans.{Span}
-use Rattle.span_event.specs.Event.{least_time}
-use Rattle.span_self_time.specs.Closed.{greatest_until}
-use Rattle.span_self_time.specs.Division.{Owners, owner_of, taken, AreOwnedSegments, IsNew, AreSettled}
-use Rattle.span_self_time.specs.Division.Lone.{IsLone, segments_of_lone}
+use Rattle.std.proofs.{Common.{◌≡◌, ℕ, ℤ, ◌≤ℤ◌, ◌<ℤ◌, [], ◌∷◌, Option, Some, None, true, refl, sym, subst, arith}, lemmas.Int.{ints, by_lt_z}}
+use Rattle.span_self_time.specs.{least_time, Closed.greatest_until, Division.{Owners, owner_of, taken, AreOwnedSegments, IsNew, AreSettled, Lone.{IsLone, segments_of_lone}}, Spans.Span, declared.segment.OwnedSegment.OwnedSegment}
 use Rattle.span_self_time.proofs.Owners.{taken-before, taken-after, taken-within}
 
 -- nobody has time

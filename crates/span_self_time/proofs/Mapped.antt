@@ -1,11 +1,7 @@
 -- Spans in place of others: where they cover the same ticks, the busy time stays, and where they rank alike too, the self times.
-use Rattle.std.proofs.Common.{◌≡◌, ℕ, ◌+◌, List, [], ◌∷◌, map, Bool, true, false, cond, not, ◌&&◌, ◌||◌, ℤ, int_lt, int_le, refl, ap, ap₂, ◌∙◌}
-use Rattle.std.specs.Prelude.{filter}
-use Rattle.std.specs.List.{list_any, sum_by}
-use Rattle.std.specs.Int.{int_min, int_max}
-use Rattle.std.proofs.lemmas.List.Folds.{fold-map}
-use Rattle.span_event.specs.Time.{distance}
-use Rattle.span_self_time.specs.Spans.{Span, covers, outranks, is_outranked, is_covered, earliest, latest, length_of, count_from, self_time, busy_time}
+use Rattle.std.specs.{Int.{int_min, int_max}, List.{list_any, sum_by}, Prelude.filter}
+use Rattle.std.proofs.{Common.{◌≡◌, ℕ, ◌+◌, List, [], ◌∷◌, map, Bool, true, false, cond, not, ◌&&◌, ◌||◌, ℤ, int_lt, int_le, refl, ap, ap₂, ◌∙◌}, lemmas.List.Folds.fold-map}
+use Rattle.span_self_time.specs.{distance, Spans.{Span, covers, outranks, is_outranked, is_covered, earliest, latest, length_of, count_from, self_time, busy_time}}
 use Rattle.span_self_time.proofs.Counts.{count_from-same}
 
 list_any-map : {A B : Type 0} (p : B → Bool) (f : A → B) (xs : List A) → list_any p (map f xs) ≡ list_any (λ x. p (f x)) xs

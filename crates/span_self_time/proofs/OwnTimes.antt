@@ -1,20 +1,8 @@
 -- That a span's self time is the time that the spans leave it.
-use Rattle.std.proofs.Common.{◌≡◌, ℕ, ◌+◌, Bool, true, false, not, ◌&&◌, cond, ℤ, ◌≤ℤ◌, List, [], ◌∷◌, Option, Some, None, refl, sym, ap, ap₂, ◌∙◌, true≢false, arith, All, get_or}
-use Rattle.std.specs.List.{sum_by}
-use Rattle.std.specs.Option.{is_some}
-use Rattle.std.proofs.lemmas.Bool.{and_parts, not-true}
-use Rattle.std.proofs.lemmas.List.Elements.{All-head, All-tail, All-nil, All-cons}
-use Rattle.std.proofs.lemmas.List.Folds.{list_any_none, list_any_at}
-use Rattle.std.proofs.lemmas.List.Sums.{sum_by-cons}
-use Rattle.span_event.specs.Time.{distance}
-use Rattle.span_self_time.specs.Spans.{Span, covers, outranks, is_outranked, is_covered, count_from, self_time}
-use Rattle.span_self_time.specs.Laws.{AreSpans}
-use Rattle.span_self_time.specs.Division.{bare, owners_of}
-use Rattle.span_self_time.proofs.Apart.{All-apart}
-use Rattle.span_self_time.proofs.Counts.{count_from-none, count_from-covered, sum_by-count_from}
-use Rattle.span_self_time.proofs.Ranks.{outranks-itself, outranks-trans, IsRanked-spans}
-use Rattle.span_self_time.proofs.Owners.{owners_of-All, covers-owners_of, at-owners_of}
-use Rattle.span_self_time.proofs.Tops.{one_if, sum_by-tops}
+use Rattle.std.specs.{List.sum_by, Option.is_some}
+use Rattle.std.proofs.{Common.{◌≡◌, ℕ, ◌+◌, Bool, true, false, not, ◌&&◌, cond, ℤ, ◌≤ℤ◌, List, [], ◌∷◌, Option, Some, None, refl, sym, ap, ap₂, ◌∙◌, true≢false, arith, All, get_or}, lemmas.{Bool.{and_parts, not-true}, List.{Elements.{All-head, All-tail, All-nil, All-cons}, Folds.{list_any_none, list_any_at}, Sums.sum_by-cons}}}
+use Rattle.span_self_time.specs.{distance, Division.{bare, owners_of}, Laws.AreSpans, Spans.{Span, covers, outranks, is_outranked, is_covered, count_from, self_time}}
+use Rattle.span_self_time.proofs.{Apart.All-apart, Counts.{count_from-none, count_from-covered, sum_by-count_from}, Owners.{owners_of-All, covers-owners_of, at-owners_of}, Ranks.{outranks-itself, outranks-trans, IsRanked-spans}, Tops.{one_if, sum_by-tops}}
 
 -- a position is that of one span
 same_span : (spans : List (Span ℕ)) → AreSpans spans → All (λ s. All (λ z. z.at ≡ s.at → z ≡ s) spans) spans

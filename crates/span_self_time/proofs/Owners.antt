@@ -1,16 +1,8 @@
 -- To whom the spans leave a tick: to the one of those that cover it above which none of them ranks.
-use Rattle.std.proofs.Common.{◌≡◌, ◌≢◌, ℕ, Bool, true, false, not, ◌&&◌, cond, nat_eq, ℤ, ◌≤ℤ◌, ◌<ℤ◌, List, [], ◌∷◌, ◌++◌, Option, Some, None, ◌⊎◌, inl, inr, refl, sym, ap, ◌∙◌, true≢false, All, get_or}
 use Rattle.std.specs.List.{fold, list_any}
-use Rattle.std.proofs.lemmas.Option.{same_Some}
-use Rattle.std.proofs.lemmas.Bool.{or_from, or_cases, and_from, and_parts, and_left, and_right, not_from_false, not-true, false_from_ne_true, cases_eq}
-use Rattle.std.proofs.lemmas.List.Elements.{All-head, All-tail}
-use Rattle.std.proofs.lemmas.List.Folds.{list_any_none, list_any_at}
-use Rattle.std.proofs.lemmas.List.Sums.{fold_push}
-use Rattle.span_self_time.specs.Spans.{Span, covers, outranks, is_outranked}
-use Rattle.span_self_time.specs.Segments.{is_on_top}
-use Rattle.span_self_time.specs.Division.{Owners, bare, claims, taken, owners_of}
-use Rattle.span_self_time.proofs.Counts.{covers-before, covers-after, covers-between}
-use Rattle.span_self_time.proofs.Ranks.{outranks-itself, outranks-trans, outranks-either}
+use Rattle.std.proofs.{Common.{◌≡◌, ◌≢◌, ℕ, Bool, true, false, not, ◌&&◌, cond, nat_eq, ℤ, ◌≤ℤ◌, ◌<ℤ◌, List, [], ◌∷◌, ◌++◌, Option, Some, None, ◌⊎◌, inl, inr, refl, sym, ap, ◌∙◌, true≢false, All, get_or}, lemmas.{Bool.{or_from, or_cases, and_from, and_parts, and_left, and_right, not_from_false, not-true, false_from_ne_true, cases_eq}, List.{Elements.{All-head, All-tail}, Folds.{list_any_none, list_any_at}, Sums.fold_push}, Option.same_Some}}
+use Rattle.span_self_time.specs.{Division.{Owners, bare, claims, taken, owners_of}, Segments.is_on_top, Spans.{Span, covers, outranks, is_outranked}}
+use Rattle.span_self_time.proofs.{Counts.{covers-before, covers-after, covers-between}, Ranks.{outranks-itself, outranks-trans, outranks-either}}
 
 -- the owner of u once the span has taken its own
 abbrev owner_after : ℤ → Option (Span ℕ) → Span ℕ → Option (Span ℕ)

@@ -1,10 +1,7 @@
 -- That the ranking of spans with different positions is a strict order.
-use Rattle.std.proofs.Common.{◌≡◌, ◌<◌, true, false, ◌||◌, ℤ, ◌<ℤ◌, int_lt, ◌≢◌, List, [], ◌∷◌, sym, ◌∙◌, arith, inl, inr, ◌⊎◌}
 use Rattle.std.specs.Bool.{Decides}
-use Rattle.std.proofs.lemmas.Int.{ints}
-use Rattle.std.proofs.lemmas.Bool.Decides.{nat_tests, Decides-or, Decides-and, Decides-int_eq, Decides-ltb}
-use Rattle.span_self_time.specs.Spans.{Span, outranks}
-use Rattle.span_self_time.specs.Laws.{IsApart, AreSpans}
+use Rattle.std.proofs.{Common.{◌≡◌, ◌<◌, true, false, ◌||◌, ℤ, ◌<ℤ◌, int_lt, ◌≢◌, List, [], ◌∷◌, sym, ◌∙◌, arith, inl, inr, ◌⊎◌}, lemmas.{Bool.Decides.{nat_tests, Decides-or, Decides-and, Decides-int_eq, Decides-ltb}, Int.ints}}
+use Rattle.span_self_time.specs.{Laws.{IsApart, AreSpans}, Spans.{Span, outranks}}
 use Rattle.span_self_time.proofs.Tops.{IsConnected, IsRanked}
 
 pub Decides-int_lt : (a b : ℤ) → Decides (int_lt a b) (a <ℤ b)

@@ -1,14 +1,8 @@
 -- Of the positions of spans in the journal only the order counts.
-use Rattle.std.proofs.Common.{◌≡◌, ℕ, ◌<◌, Bool, List, length, map, refl, ap, ◌∙◌, ◌&&◌, ◌||◌, int_lt, arith}
-use Rattle.std.specs.List.{sum_by}
-use Rattle.std.specs.Ordering.{int_eq}
-use Rattle.std.proofs.lemmas.List.{length-map}
-use Rattle.std.proofs.lemmas.Simd.{map-map}
-use Rattle.std.proofs.lemmas.Bool.Decides.{nat_tests}
-use Rattle.span_self_time.specs.Positions.{Rises, renumbered_span}
-use Rattle.span_self_time.specs.Spans.{Span, outranks, length_of, self_time, busy_time, named, total_of, self_of}
-use Rattle.span_self_time.proofs.Mapped.{busy_time-map, self_time-map, filter-map, sum_by-map}
-use Rattle.span_self_time.proofs.Tops.{sum_by-same}
+use Rattle.std.specs.{List.sum_by, Ordering.int_eq}
+use Rattle.std.proofs.{Common.{◌≡◌, ℕ, ◌<◌, Bool, List, length, map, refl, ap, ◌∙◌, ◌&&◌, ◌||◌, int_lt, arith}, lemmas.{Bool.Decides.nat_tests, List.length-map, Simd.map-map}}
+use Rattle.span_self_time.specs.{Positions.{Rises, renumbered_span}, Spans.{Span, outranks, length_of, self_time, busy_time, named, total_of, self_of}}
+use Rattle.span_self_time.proofs.{Mapped.{busy_time-map, self_time-map, filter-map, sum_by-map}, Tops.sum_by-same}
 
 pub Rises-from_lt : (f : ℕ → ℕ) → ((p q : ℕ) → p < q → f p < f q) → Rises f
 Rises-from_lt f rises p q = grind (arith, nat_tests, rises p q, rises q p)

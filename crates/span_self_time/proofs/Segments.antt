@@ -1,18 +1,7 @@
 -- What segments in order say of a tick, and that the segments of the time of spans are their segments.
-use Rattle.std.proofs.Common.{◌≡◌, ◌≢◌, ℕ, nat_eq, Bool, true, false, ◌&&◌, ◌||◌, ℤ, ◌≤ℤ◌, ◌<ℤ◌, List, [], ◌∷◌, map, Some, refl, sym, ap, ap₂, ◌∙◌, arith, All, get_or}
-use Rattle.std.proofs.lemmas.Int.{ints, by_lt_z}
-use Rattle.std.proofs.lemmas.Bool.{ne_eqb, and_right, or_from}
-use Rattle.std.proofs.lemmas.List.Elements.{All-nil, All-cons}
-use Rattle.span_self_time.specs.declared.segment.Segment.{Segment}
-use Rattle.span_self_time.specs.declared.segment.OwnedSegment.{OwnedSegment}
-use Rattle.span_self_time.specs.Spans.{Span}
-use Rattle.span_self_time.specs.Segments.{lies_in, is_in_segment, IsRightBefore, AreInOrder, AreSegments, HasSegmentsWith}
-use Rattle.span_self_time.specs.Division.{Owners, bare, owners_of, owner_of, AreFuture, AreOwnedSegments}
-use Rattle.span_self_time.specs.Laws.{AreSpans}
-use Rattle.span_event.specs.Event.{least_time}
-use Rattle.span_self_time.specs.Closed.{AreClosed}
-use Rattle.span_self_time.proofs.Apart.{All-apart}
-use Rattle.span_self_time.proofs.Owners.{is_of, owners_of-All, is_on_top-owners_of}
+use Rattle.std.proofs.{Common.{◌≡◌, ◌≢◌, ℕ, nat_eq, Bool, true, false, ◌&&◌, ◌||◌, ℤ, ◌≤ℤ◌, ◌<ℤ◌, List, [], ◌∷◌, map, Some, refl, sym, ap, ap₂, ◌∙◌, arith, All, get_or}, lemmas.{Bool.{ne_eqb, and_right, or_from}, Int.{ints, by_lt_z}, List.Elements.{All-nil, All-cons}}}
+use Rattle.span_self_time.specs.{least_time, Closed.AreClosed, Division.{Owners, bare, owners_of, owner_of, AreFuture, AreOwnedSegments}, Laws.AreSpans, Segments.{lies_in, is_in_segment, IsRightBefore, AreInOrder, AreSegments, HasSegmentsWith}, Spans.Span, declared.segment.{OwnedSegment.OwnedSegment, Segment.Segment}}
+use Rattle.span_self_time.proofs.{Apart.All-apart, Owners.{is_of, owners_of-All, is_on_top-owners_of}}
 
 lies_in-before : (g : Segment) (u : ℤ) → u <ℤ g.start → lies_in g u ≡ false
 lies_in-before g u h = grind (arith, ints)

@@ -1,11 +1,7 @@
 -- The self times of one name, span by span.
-use Rattle.std.proofs.Common.{◌≡◌, ℕ, ◌+◌, ◌<◌, ◌≤◌, ◌≤ℤ◌, Bool, true, false, cond, List, [], ◌∷◌, length, map, get_or, nat_eq, refl, sym, ap, ◌∙◌, subst, arith, All}
 use Rattle.std.specs.List.{sum_by}
-use Rattle.std.proofs.lemmas.List.{get_or-map, length-map}
-use Rattle.std.proofs.lemmas.List.Sums.{sum_by-cons}
-use Rattle.span_self_time.specs.declared.span.ClosedSpan.{ClosedSpan}
-use Rattle.span_self_time.specs.Spans.{Span, named, self_time}
-use Rattle.span_self_time.specs.Closed.{span_of, IsInTime, AreClosed}
+use Rattle.std.proofs.{Common.{◌≡◌, ℕ, ◌+◌, ◌<◌, ◌≤◌, ◌≤ℤ◌, Bool, true, false, cond, List, [], ◌∷◌, length, map, get_or, nat_eq, refl, sym, ap, ◌∙◌, subst, arith, All}, lemmas.List.{get_or-map, length-map, Sums.sum_by-cons}}
+use Rattle.span_self_time.specs.{Closed.{span_of, IsInTime, AreClosed}, Spans.{Span, named, self_time}, declared.span.ClosedSpan.ClosedSpan}
 use Rattle.span_self_time.proofs.Apart.{All-lasts}
 
 -- the self times of those of some spans that have the name

@@ -1,14 +1,8 @@
 -- That self times add up to busy time.
-use Rattle.std.proofs.Common.{◌≡◌, ◌≤ℤ◌, ℤ, List, [], ◌∷◌, not, ◌&&◌, ap₂, ◌+◌, sym, ◌∙◌, refl, arith}
 use Rattle.std.specs.List.{sum_by}
-use Rattle.std.proofs.lemmas.Int.{ints, clamps}
-use Rattle.std.proofs.lemmas.List.Sums.{sum_by-cons}
-use Rattle.span_event.specs.Time.{distance}
-use Rattle.span_self_time.specs.Spans.{Span, self_time, busy_time, covers, outranks, is_outranked, is_covered, count_from, earliest, latest}
-use Rattle.span_self_time.specs.Laws.{AreSpans}
-use Rattle.span_self_time.proofs.Tops.{sum_by-tops}
-use Rattle.span_self_time.proofs.Counts.{count_from-covered, sum_by-count_from}
-use Rattle.span_self_time.proofs.Ranks.{outranks-itself, outranks-trans, IsRanked-spans}
+use Rattle.std.proofs.{Common.{◌≡◌, ◌≤ℤ◌, ℤ, List, [], ◌∷◌, not, ◌&&◌, ap₂, ◌+◌, sym, ◌∙◌, refl, arith}, lemmas.{Int.{ints, clamps}, List.Sums.sum_by-cons}}
+use Rattle.span_self_time.specs.{distance, Laws.AreSpans, Spans.{Span, self_time, busy_time, covers, outranks, is_outranked, is_covered, count_from, earliest, latest}}
+use Rattle.span_self_time.proofs.{Counts.{count_from-covered, sum_by-count_from}, Ranks.{outranks-itself, outranks-trans, IsRanked-spans}, Tops.sum_by-tops}
 
 module _ {N : Type 0} where
   -- the spans lie between a and b

@@ -1,21 +1,8 @@
 -- That the time of the owners is that of the spans, and that the owners are settled.
-use Rattle.std.proofs.Common.{◌≡◌, ◌≢◌, ◌<◌, ◌+◌, map, take, length, get_or, [], ◌∷◌, ◌++◌, arith, ℕ, nat_eq, Bool, true, false, ◌&&◌, ℤ, ◌≤ℤ◌, List, refl, sym, ap, ◌∙◌, subst, true≢false, All}
 use Rattle.std.specs.Option.{is_some}
-use Rattle.std.proofs.lemmas.Bool.{false_from_ne_true}
-use Rattle.std.proofs.lemmas.List.{take_more, take-map, map_push, get_or-map, length-map}
-use Rattle.std.proofs.lemmas.List.Folds.{list_any_at}
-use Rattle.span_event.specs.Time.{distance}
-use Rattle.span_self_time.specs.Spans.{Span, covers, count_from, self_of, busy_time}
-use Rattle.span_event.specs.Event.{least_time}
-use Rattle.span_self_time.specs.Closed.{greatest_until, span_of, AreClosed}
-use Rattle.span_self_time.specs.declared.span.ClosedSpan.{ClosedSpan}
-use Rattle.span_self_time.specs.Division.{bare, claims, taken, owners_of, IsNew, AreSettled}
-use Rattle.span_self_time.specs.Division.TimeMap.{has_name, time_of}
-use Rattle.span_self_time.proofs.Apart.{IsApart-read}
-use Rattle.span_self_time.proofs.OwnTimes.{sum_by-self_times}
-use Rattle.span_self_time.proofs.Owners.{list_any-owners_of, owners_of-All, owners_of-append, owners_of-apart}
-use Rattle.span_self_time.proofs.SelfSums.{self_sum, self_sum-self_of}
-use Rattle.span_self_time.proofs.SelfTimes.{sum_by-self_time}
+use Rattle.std.proofs.{Common.{◌≡◌, ◌≢◌, ◌<◌, ◌+◌, map, take, length, get_or, [], ◌∷◌, ◌++◌, arith, ℕ, nat_eq, Bool, true, false, ◌&&◌, ℤ, ◌≤ℤ◌, List, refl, sym, ap, ◌∙◌, subst, true≢false, All}, lemmas.{Bool.false_from_ne_true, List.{take_more, take-map, map_push, get_or-map, length-map, Folds.list_any_at}}}
+use Rattle.span_self_time.specs.{distance, least_time, Closed.{greatest_until, span_of, AreClosed}, Division.{bare, claims, taken, owners_of, IsNew, AreSettled, TimeMap.{has_name, time_of}}, Spans.{Span, covers, count_from, self_of, busy_time}, declared.span.ClosedSpan.ClosedSpan}
+use Rattle.span_self_time.proofs.{Apart.IsApart-read, OwnTimes.sum_by-self_times, Owners.{list_any-owners_of, owners_of-All, owners_of-append, owners_of-apart}, SelfSums.{self_sum, self_sum-self_of}, SelfTimes.sum_by-self_time}
 
 pub time_of-self_of : (spans : List (Span ℕ)) → AreClosed spans → (name : ℕ) → time_of (has_name name) (owners_of spans) ≡ self_of nat_eq name spans
 unfolding time_of self_sum

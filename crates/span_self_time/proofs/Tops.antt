@@ -1,8 +1,6 @@
 -- In a list that a strict order ranks, exactly one of the elements that pass a test has none of them above it.
-use Rattle.std.proofs.Common.{◌≡◌, ℕ, ◌+◌, Bool, true, false, not, ◌&&◌, ◌||◌, cond, List, [], ◌∷◌, refl, sym, ap, ap₂, ◌∙◌, true≢false, arith, inl, inr}
 use Rattle.std.specs.List.{sum_by, list_any}
-use Rattle.std.proofs.lemmas.List.Sums.{sum_by-cons}
-use Rattle.std.proofs.lemmas.Bool.{and_parts, and_from, or_cases, or_left, or_right, or_parts}
+use Rattle.std.proofs.{Common.{◌≡◌, ℕ, ◌+◌, Bool, true, false, not, ◌&&◌, ◌||◌, cond, List, [], ◌∷◌, refl, sym, ap, ap₂, ◌∙◌, true≢false, arith, inl, inr}, lemmas.{Bool.{and_parts, and_from, or_cases, or_left, or_right, or_parts}, List.Sums.sum_by-cons}}
 
 -- 1 where the test passes
 abbrev pub one_if : Bool → ℕ

@@ -1,9 +1,6 @@
 -- The closed spans that a track keeps.
 use Rattle.std.specs.Prelude.{◌≢◌, ℕ, ◌+◌, ◌<◌, ◌^◌, ℤ, pos, ◌≤ℤ◌, List, length, All}
-use Rattle.span_event.specs.Event.{least_time}
-use Rattle.span_self_time.specs.declared.span.ClosedSpan.{ClosedSpan}
-use Rattle.span_self_time.specs.Spans.{Span}
-use Rattle.span_self_time.specs.Laws.{AreSpans}
+use Rattle.span_self_time.specs.{least_time, Laws.AreSpans, Spans.Span, declared.span.ClosedSpan.ClosedSpan}
 
 -- a closed span of the program, as a span
 abbrev pub span_of : ClosedSpan → Span ℕ

@@ -4,16 +4,9 @@ pub mod Lone
 pub mod SegmentStacks
 pub mod TimeMap
 pub mod Ways
-use Rattle.std.specs.Prelude.{◌≡◌, ◌≢◌, ℕ, nat_eq, ◌&&◌, Bool, true, false, if◌then◌else◌, ℤ, pos, ◌-ℤ◌, ◌≤ℤ◌, ◌<ℤ◌, int_lt, List, [], ◌∷◌, ◌++◌, Option, Some, None, fold, sum_by, unwrap_or}
+use Rattle.std.specs.{Prelude.{◌≡◌, ◌≢◌, ℕ, nat_eq, ◌&&◌, Bool, true, false, if◌then◌else◌, ℤ, pos, ◌-ℤ◌, ◌≤ℤ◌, ◌<ℤ◌, int_lt, List, [], ◌∷◌, ◌++◌, Option, Some, None, fold, sum_by, unwrap_or}, declared.hash.{BuildHasherDefault.BuildHasherDefault, FoldHasher.FoldHasher}}
 use Rattle.indexmap.specs.IndexMap.{IndexMap, get}
-use Rattle.std.specs.declared.hash.FoldHasher.{FoldHasher}
-use Rattle.std.specs.declared.hash.BuildHasherDefault.{BuildHasherDefault}
-use Rattle.span_self_time.specs.declared.segment.OwnedSegment.{OwnedSegment}
-use Rattle.span_self_time.specs.declared.span.ClosedSpan.{ClosedSpan}
-use Rattle.span_event.specs.Time.{distance}
-use Rattle.span_self_time.specs.Spans.{Span, covers, outranks}
-use Rattle.span_event.specs.Event.{least_time}
-use Rattle.span_self_time.specs.Closed.{greatest_until, IsInTime}
+use Rattle.span_self_time.specs.{distance, least_time, Closed.{greatest_until, IsInTime}, Spans.{Span, covers, outranks}, declared.{segment.OwnedSegment.OwnedSegment, span.ClosedSpan.ClosedSpan}}
 
 -- the one segment of a span that has all of its time
 abbrev pub whole : ClosedSpan → OwnedSegment

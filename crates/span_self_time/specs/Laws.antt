@@ -1,6 +1,5 @@
 -- The laws of self and busy times.
-use Rattle.std.specs.Prelude.{◌≡◌, ℕ, ◌+◌, ◌≢◌, ◌⊎◌, Bool, not, ◌&&◌, ◌≤ℤ◌, int_le, List, [], ◌∷◌, filter, sum_by, All}
-use Rattle.std.specs.List.{list_any}
+use Rattle.std.specs.{List.list_any, Prelude.{◌≡◌, ℕ, ◌+◌, ◌≢◌, ◌⊎◌, Bool, not, ◌&&◌, ◌≤ℤ◌, int_le, List, [], ◌∷◌, filter, sum_by, All}}
 use Rattle.span_self_time.specs.Spans.{Span, length_of, outranks, self_time, busy_time}
 
 -- no later span has this position

@@ -1,9 +1,6 @@
 -- How the time of a thread is divided among its closed spans.
-use Rattle.std.specs.Prelude.{◌≡◌, ◌≢◌, ℕ, nat_eq, Bool, true, not, ◌&&◌, ◌||◌, ℤ, ◌≤ℤ◌, ◌<ℤ◌, int_le, int_lt, List, [], ◌∷◌, All}
-use Rattle.std.specs.List.{list_any}
-use Rattle.std.specs.Ordering.{int_eq}
-use Rattle.span_self_time.specs.declared.segment.Segment.{Segment}
-use Rattle.span_self_time.specs.Spans.{Span, covers, is_outranked}
+use Rattle.std.specs.{List.list_any, Ordering.int_eq, Prelude.{◌≡◌, ◌≢◌, ℕ, nat_eq, Bool, true, not, ◌&&◌, ◌||◌, ℤ, ◌≤ℤ◌, ◌<ℤ◌, int_le, int_lt, List, [], ◌∷◌, All}}
+use Rattle.span_self_time.specs.{Spans.{Span, covers, is_outranked}, declared.segment.Segment.Segment}
 
 -- u is a tick of the segment
 abbrev pub lies_in : Segment → ℤ → Bool

@@ -1,11 +1,8 @@
 -- Closed spans of one thread, and how its ticks are shared among them. A name is of a type N: a text, or its number.
-use Rattle.std.specs.Prelude.{ℕ, zero, suc, ◌+◌, nat_lt, Bool, not, ◌&&◌, ◌||◌, if◌then◌else◌, ℤ, pos, ◌+ℤ◌, int_lt, int_le, List, [], ◌∷◌, filter, fold, sum_by}
-use Rattle.std.specs.List.{list_any}
+use Rattle.std.specs.{Int.{int_min, int_max}, List.list_any, Ordering.int_eq, Prelude.{ℕ, zero, suc, ◌+◌, nat_lt, Bool, not, ◌&&◌, ◌||◌, if◌then◌else◌, ℤ, pos, ◌+ℤ◌, int_lt, int_le, List, [], ◌∷◌, filter, fold, sum_by}}
 use Rattle.indexmap.specs.IndexSet.{insert_key}
-use Rattle.std.specs.Ordering.{int_eq}
-use Rattle.std.specs.Int.{int_min, int_max}
-use Rattle.span_event.specs.Time.{distance}
-pub use Rattle.span_event.specs.Args.{Arguments}
+use Rattle.span_self_time.specs.{distance}
+pub use Rattle.span_self_time.specs.{Arguments}
 
 -- a closed span: it covers each tick from `start` to before `until`; `at` is the journal's position of the event that opened it
 pub record Span (N : Type 0) : Type 0 where

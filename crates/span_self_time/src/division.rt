@@ -1,12 +1,6 @@
 //! The division of a thread's time, kept in the way that suits the order in which its spans come.
 ghost use Rattle.std.specs.Prelude.{◌≡◌, ◌≢◌, ◌≤◌, ℕ, ◌≤ℤ◌, nat_eq, List, [], ◌∷◌, ◌++◌, length, map, slice_get, option_copied, All, OnOk, OnErr, IfOk};
-ghost use Rattle.span_self_time.specs.Spans.{Span, self_of, self_time, busy_time};
-ghost use Rattle.span_self_time.specs.Closed.{span_of, IsInTime, AreClosed};
-ghost use Rattle.span_self_time.specs.Segments.{HasSegmentsWith};
-ghost use Rattle.span_self_time.specs.Division.{Owners, owner_of, owners_of, ForSome, HasOwnedSegments, CanAdd, Adds, KeepsOwners};
-ghost use Rattle.span_self_time.specs.Division.Lengths.{time_at, Gains};
-ghost use Rattle.span_self_time.specs.Division.TimeMap.{IsTimeMap};
-ghost use Rattle.span_self_time.specs.Division.Ways.{IsWay, Divides};
+ghost use Rattle.span_self_time.specs.{Closed.{span_of, IsInTime, AreClosed}, Division.{Owners, owner_of, owners_of, ForSome, HasOwnedSegments, CanAdd, Adds, KeepsOwners, Lengths.{time_at, Gains}, TimeMap.IsTimeMap, Ways.{IsWay, Divides}}, Segments.HasSegmentsWith, Spans.{Span, self_of, self_time, busy_time}};
 
 mod lengths;
 mod lone;

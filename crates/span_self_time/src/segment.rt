@@ -1,10 +1,6 @@
 //! Segments of time with an owner.
-ghost use Rattle.std.specs.Prelude.{◌≡◌, ◌≢◌};
-ghost use Rattle.std.specs.Bool.{OnTrue, OnFalse};
-ghost use Rattle.std.specs.Option.{option_map};
-ghost use Rattle.span_self_time.specs.Spans.{outranks};
-ghost use Rattle.span_self_time.specs.Division.{owner_of, claims, between, whole};
-ghost use Rattle.span_self_time.specs.Division.SegmentStacks.{segment_length};
+ghost use Rattle.std.specs.{Bool.{OnTrue, OnFalse}, Option.option_map, Prelude.{◌≡◌, ◌≢◌}};
+ghost use Rattle.span_self_time.specs.{Division.{owner_of, claims, between, whole, SegmentStacks.segment_length}, Spans.outranks};
 
 use crate::span::ClosedSpan;
 use span_event::distance;

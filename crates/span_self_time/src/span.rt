@@ -1,7 +1,6 @@
 //! Closed spans.
 ghost use Rattle.std.specs.Prelude.{◌≡◌};
-ghost use Rattle.span_self_time.specs.Spans.{outranks};
-ghost use Rattle.span_self_time.specs.Closed.{span_of};
+ghost use Rattle.span_self_time.specs.{Closed.span_of, Spans.outranks};
 
 use crate::segment::OwnedSegment;
 use span_event::Args;

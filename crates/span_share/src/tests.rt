@@ -1,6 +1,5 @@
 ghost use Rattle.std.specs.Prelude.{IfSome};
-ghost use Rattle.span_event.specs.Item.{IsGoodItem};
-ghost use Rattle.span_share.specs.Seats.{IsSeatOf};
+ghost use Rattle.span_share.specs.{IsGoodItem, Seats.IsSeatOf};
 
 use crate::steps::take_turn;
 use crate::turn::Returns;

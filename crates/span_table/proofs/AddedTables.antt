@@ -1,38 +1,10 @@
 -- Tables are added, and lose nothing by it.
-use Rattle.std.proofs.Common.{◌≡◌, ℕ, ◌+◌, ◌||◌, List, [], ◌∷◌, ◌++◌, Option, Some, None, map, refl, sym, ap, ap₂, subst, ◌∙◌}
-use Rattle.std.specs.Prelude.{flat_map, slice_get, sum_by}
-use Rattle.std.specs.List.{cons_option, list_any}
-use Rattle.std.specs.List.Sorted.{IsPermutation}
-use Rattle.std.specs.Option.{option_map}
-use Rattle.std.proofs.lemmas.Grind.{flat_map-append}
-use Rattle.std.proofs.lemmas.List.{map-append, map-id}
-use Rattle.std.proofs.lemmas.List.Sorted.{IsPermutation-map, list_any-IsPermutation, sum_by-IsPermutation}
-use Rattle.std.proofs.lemmas.List.Sums.{sum_by-append, sum_by-cons}
-use Rattle.std.proofs.lemmas.Option.{slice_get-map}
-use Rattle.std.proofs.lemmas.Simd.{map-map}
-use Rattle.span_event.specs.declared.thread.Thread.{Thread}
-use Rattle.span_keyed_tracks.specs.declared.async_track.AsyncRow.{AsyncRow}
-use Rattle.span_keyed_tracks.specs.Keyed.{Keyed, keys_in, steps_at}
-use Rattle.span_keyed_tracks.proofs.Keyed.{has_key}
-use Rattle.span_keyed_tracks.proofs.SameKeys.{step_keys}
-use Rattle.span_journal.specs.declared.rows.CountRow.{CountRow}
-use Rattle.span_journal.specs.Journal.{accepted}
-use Rattle.span_journal.specs.Rows.{async_rows, thread_keys}
-use Rattle.span_journal.specs.Timed.{Timed, timed_spans}
+use Rattle.std.specs.{List.{cons_option, list_any, Sorted.IsPermutation}, Option.option_map, Prelude.{flat_map, slice_get, sum_by}}
+use Rattle.std.proofs.{Common.{◌≡◌, ℕ, ◌+◌, ◌||◌, List, [], ◌∷◌, ◌++◌, Option, Some, None, map, refl, sym, ap, ap₂, subst, ◌∙◌}, lemmas.{Grind.flat_map-append, List.{map-append, map-id, Sorted.{IsPermutation-map, list_any-IsPermutation, sum_by-IsPermutation}, Sums.{sum_by-append, sum_by-cons}}, Option.slice_get-map, Simd.map-map}}
 use Rattle.span_self_time.proofs.Mapped.{sum_by-map}
-use Rattle.span_table.specs.declared.column.Column.{Column}
-use Rattle.span_table.specs.declared.of.Of.{Of}
-use Rattle.span_table.specs.declared.of.Of.TheVariants.{Spans, Async}
-use Rattle.span_table.specs.declared.sums.Sums.{Sums}
-use Rattle.span_table.specs.declared.counts.TableCounts.{TableCounts}
-use Rattle.span_table.specs.declared.table.Row.{Row}
-use Rattle.span_table.specs.Adding.{AddingLosesNothing, DroppingAdds, OrderIsNothing, keyed_by, keyed_rows, picked}
-use Rattle.span_table.specs.Columns.{async_value_at, value_at}
-use Rattle.span_table.specs.KeyLaws.{key_cmp_total, key_cmp-same}
-use Rattle.span_table.specs.Keys.{TableKey, key_cmp}
-use Rattle.span_table.specs.Tables.{KeyedSums, Run, SpanTable, counts_of, counts_together, keyed_async, keyed_span, row_of, rows_of, run_sums, sums_together, table_of, thread_sums}
-use Rattle.span_table.proofs.Alike.{AddUpAlike, AddUpAlike-flat_map, AddUpAlike-grouped, has_key-append, summed-alike}
-use Rattle.span_table.proofs.Tallies.{made_of, tally, tally-append, under}
+use Rattle.span_keyed_tracks.proofs.{Keyed.has_key, SameKeys.step_keys}
+use Rattle.span_table.specs.{Thread, AsyncRow, Keyed, keys_in, steps_at, CountRow, accepted, async_rows, thread_keys, Timed, timed_spans, Adding.{AddingLosesNothing, DroppingAdds, OrderIsNothing, keyed_by, keyed_rows, picked}, Columns.{async_value_at, value_at}, KeyLaws.{key_cmp_total, key_cmp-same}, Keys.{TableKey, key_cmp}, Tables.{KeyedSums, Run, SpanTable, counts_of, counts_together, keyed_async, keyed_span, row_of, rows_of, run_sums, sums_together, table_of, thread_sums}, declared.{column.Column.Column, counts.TableCounts.TableCounts, of.Of.{Of, TheVariants.{Spans, Async}}, sums.Sums.Sums, table.Row.Row}}
+use Rattle.span_table.proofs.{Alike.{AddUpAlike, AddUpAlike-flat_map, AddUpAlike-grouped, has_key-append, summed-alike}, Tallies.{made_of, tally, tally-append, under}}
 
 -- sums that add up alike give the same rows
 pub rows_of-alike : (es fs : KeyedSums) → AddUpAlike es fs → rows_of es ≡ rows_of fs

@@ -1,26 +1,9 @@
 -- Sums under keys that add up alike are kept alike.
-use Rattle.std.proofs.Common.{◌≡◌, ℕ, Bool, true, false, ◌||◌, List, [], ◌∷◌, ◌++◌, map, refl, sym, ap, ap₂, ◌∙◌}
-use Rattle.std.specs.Prelude.{flat_map, fold}
-use Rattle.std.specs.BTreeSet.{insert_key}
-use Rattle.std.specs.Cmp.{IsTotalOrder, eq_by_cmp_equiv, tied_itself}
-use Rattle.std.specs.List.{AllByRecursion, Contains}
-use Rattle.std.specs.List.Sorted.{IsStrictlySortedBy}
-use Rattle.std.specs.Ordering.{eq_by_cmp, is_eq}
-use Rattle.std.specs.declared.cmp.Ordering.{Ordering}
-use Rattle.std.specs.declared.cmp.Ordering.TheVariants.{Equal}
-use Rattle.std.proofs.lemmas.List.{map-append}
-use Rattle.std.proofs.lemmas.Map.Views.{list_any-from_Contains}
+use Rattle.std.specs.{BTreeSet.insert_key, Cmp.{IsTotalOrder, eq_by_cmp_equiv, tied_itself}, List.{AllByRecursion, Contains, Sorted.IsStrictlySortedBy}, Ordering.{eq_by_cmp, is_eq}, Prelude.{flat_map, fold}, declared.cmp.Ordering.{Ordering, TheVariants.Equal}}
+use Rattle.std.proofs.{Common.{◌≡◌, ℕ, Bool, true, false, ◌||◌, List, [], ◌∷◌, ◌++◌, map, refl, sym, ap, ap₂, ◌∙◌}, lemmas.{List.map-append, Map.Views.list_any-from_Contains}}
 use Rattle.indexmap.proofs.CallerLemmas.{Contains-list_any}
-use Rattle.span_keyed_tracks.specs.Keyed.{Keyed, ascending, entry_of, keys_in, steps_at}
-use Rattle.span_keyed_tracks.proofs.Keyed.{has_key, same_from_is_eq}
-use Rattle.span_keyed_tracks.proofs.KeyOrder.{has_key-insert_key}
-use Rattle.span_keyed_tracks.proofs.SameKeys.{ascending-members, step_keys}
-use Rattle.span_keyed_tracks.proofs.Sorted.{AllByRecursion-map, ascending-sorted}
-use Rattle.span_table.specs.declared.sums.Sums.{Sums}
-use Rattle.span_table.specs.Collected.{with_sums}
-use Rattle.span_table.specs.KeyLaws.{key_cmp_total, key_cmp-same}
-use Rattle.span_table.specs.Keys.{TableKey, key_cmp}
-use Rattle.span_table.specs.Tables.{KeyedSums, summed, sums_together}
+use Rattle.span_keyed_tracks.proofs.{KeyOrder.has_key-insert_key, Keyed.{has_key, same_from_is_eq}, SameKeys.{ascending-members, step_keys}, Sorted.{AllByRecursion-map, ascending-sorted}}
+use Rattle.span_table.specs.{Keyed, ascending, entry_of, keys_in, steps_at, Collected.with_sums, KeyLaws.{key_cmp_total, key_cmp-same}, Keys.{TableKey, key_cmp}, Tables.{KeyedSums, summed, sums_together}, declared.sums.Sums.Sums}
 use Rattle.span_table.proofs.Tallies.{made_of, tally, tally-append, tally-made, under}
 
 either : (a b : Bool) → b ≡ true → (a || b) ≡ true

@@ -1,34 +1,12 @@
 -- By category, scope, id and name a table has the asynchronous rows of its run, if their texts distinguish them; by whatever columns it
 -- has in all what these have.
-use Rattle.std.proofs.Common.{◌≡◌, ℕ, Bool, false, cond, List, [], ◌∷◌, ◌++◌, map, refl, sym, ap, ap₂, subst, ◌∙◌}
-use Rattle.std.specs.Prelude.{filter, sum_by}
-use Rattle.std.specs.Cmp.{tied_itself}
-use Rattle.std.specs.List.{AllByRecursion, IsDistinct}
-use Rattle.std.specs.List.Sorted.{IsPermutation}
-use Rattle.std.specs.Ordering.{eq_by_cmp, is_eq}
-use Rattle.std.proofs.lemmas.List.{append-nil}
-use Rattle.std.proofs.lemmas.List.Sorted.{IsPermutation-map}
-use Rattle.span_keyed_tracks.specs.declared.async_track.AsyncRow.{AsyncRow}
-use Rattle.span_keyed_tracks.specs.Keyed.{Keyed, ascending, entry_of, steps_at}
-use Rattle.span_keyed_tracks.proofs.InKeyOrder.{AreApart-distinct}
-use Rattle.span_keyed_tracks.proofs.Keyed.{has_key, neither}
-use Rattle.span_keyed_tracks.proofs.SameKeys.{step_keys}
-use Rattle.span_keyed_tracks.proofs.Sorting.{ascending-permutation}
-use Rattle.span_keyed_tracks.proofs.Uses.{AreApart, is_eq-turned}
-use Rattle.span_journal.specs.Rows.{async_rows}
-use Rattle.span_journal.proofs.Sorted.{map-map}
+use Rattle.std.specs.{Cmp.tied_itself, List.{AllByRecursion, IsDistinct, Sorted.IsPermutation}, Ordering.{eq_by_cmp, is_eq}, Prelude.{filter, sum_by}}
+use Rattle.std.proofs.{Common.{◌≡◌, ℕ, Bool, false, cond, List, [], ◌∷◌, ◌++◌, map, refl, sym, ap, ap₂, subst, ◌∙◌}, lemmas.List.{append-nil, Sorted.IsPermutation-map}}
 use Rattle.span_self_time.proofs.Mapped.{sum_by-map}
-use Rattle.span_table.specs.declared.of.Of.TheVariants.{Async}
-use Rattle.span_table.specs.declared.sums.Sums.{Sums}
-use Rattle.span_table.specs.declared.table.Row.{Row}
-use Rattle.span_table.specs.KeyLaws.{key_cmp_total, key_cmp-same}
-use Rattle.span_table.specs.Keys.{TableKey, key_cmp}
-use Rattle.span_table.specs.Laws.{RowsAddUpToAsync, RowsAreAsyncRows, async_columns, of_async_row}
-use Rattle.span_table.specs.Tables.{KeyedSums, async_sums, keyed_async, row_of, rows_of, sums_of_async, sums_together, table_of}
-use Rattle.span_table.proofs.AddedTables.{regrouped, rows-regrouped}
-use Rattle.span_table.proofs.Alike.{AddUpAlike-grouped}
-use Rattle.span_table.proofs.Searched.{sums_together-one}
-use Rattle.span_table.proofs.Tallies.{under}
+use Rattle.span_keyed_tracks.proofs.{InKeyOrder.AreApart-distinct, Keyed.{has_key, neither}, SameKeys.step_keys, Sorting.ascending-permutation, Uses.{AreApart, is_eq-turned}}
+use Rattle.span_journal.proofs.Sorted.{map-map}
+use Rattle.span_table.specs.{AsyncRow, Keyed, ascending, entry_of, steps_at, async_rows, KeyLaws.{key_cmp_total, key_cmp-same}, Keys.{TableKey, key_cmp}, Laws.{RowsAddUpToAsync, RowsAreAsyncRows, async_columns, of_async_row}, Tables.{KeyedSums, async_sums, keyed_async, row_of, rows_of, sums_of_async, sums_together, table_of}, declared.{of.Of.TheVariants.Async, sums.Sums.Sums, table.Row.Row}}
+use Rattle.span_table.proofs.{AddedTables.{regrouped, rows-regrouped}, Alike.AddUpAlike-grouped, Searched.sums_together-one, Tallies.under}
 
 abbrev Entry : Type 0
 Entry = Keyed TableKey Sums

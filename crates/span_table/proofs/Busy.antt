@@ -1,41 +1,11 @@
 -- The self times of a thread's rows add up to its busy time.
-use Rattle.std.proofs.Common.{◌≡◌, Bool, true, false, ◌||◌, cond, List, [], ◌∷◌, ◌++◌, map, take, refl, sym, ap, ap₂, subst, ◌∙◌}
-use Rattle.std.specs.Prelude.{filter, filter_map, flat_map, sum_by}
-use Rattle.std.specs.List.{AllByRecursion}
-use Rattle.std.specs.List.Sorted.{IsStrictlySortedBy}
-use Rattle.std.specs.Ordering.{int_cmp, is_eq, ordering_then}
-use Rattle.std.specs.declared.cmp.Ordering.{Ordering}
-use Rattle.std.specs.declared.cmp.Ordering.TheVariants.{Less, Equal, Greater}
-use Rattle.std.proofs.lemmas.List.{append-nil}
-use Rattle.std.proofs.lemmas.List.Elements.{filter-append}
-use Rattle.span_event.specs.declared.thread.Thread.{Thread}
-use Rattle.span_event.specs.Orders.{thread_cmp}
-use Rattle.span_event.specs.Text.{Bytes}
+use Rattle.std.specs.{List.{AllByRecursion, Sorted.IsStrictlySortedBy}, Ordering.{int_cmp, is_eq, ordering_then}, Prelude.{filter, filter_map, flat_map, sum_by}, declared.cmp.Ordering.{Ordering, TheVariants.{Less, Equal, Greater}}}
+use Rattle.std.proofs.{Common.{◌≡◌, Bool, true, false, ◌||◌, cond, List, [], ◌∷◌, ◌++◌, map, take, refl, sym, ap, ap₂, subst, ◌∙◌}, lemmas.List.{append-nil, Elements.filter-append}}
 use Rattle.span_event.proofs.Orders.{thread_cmp-same, thread_cmp-total}
-use Rattle.span_keyed_tracks.specs.Keyed.{steps_at}
-use Rattle.span_keyed_tracks.proofs.Keyed.{has_key, neither, same_from_is_eq}
-use Rattle.span_keyed_tracks.proofs.Sorted.{ascending-sorted}
-use Rattle.span_keyed_tracks.proofs.Uses.{is_eq-turned}
-use Rattle.span_journal.specs.declared.rows.SpanRow.{SpanRow}
-use Rattle.span_journal.specs.Journal.{accepted}
-use Rattle.span_journal.specs.Rows.{span_row, span_rows, thread_keys, thread_span_rows}
-use Rattle.span_journal.specs.Timed.{Timed, timed_in, timed_spans}
-use Rattle.span_journal.specs.Told.{listed_by, thread_events}
-use Rattle.span_self_time.specs.Laws.{AreSpans}
-use Rattle.span_self_time.specs.Spans.{Span, busy_time}
-use Rattle.span_self_time.proofs.Mapped.{filter-map, sum_by-map}
-use Rattle.span_self_time.proofs.SelfTimes.{sum_by-self_time}
-use Rattle.span_track.specs.Nesting.{closed_spans}
-use Rattle.span_table.specs.declared.sums.Sums.{Sums}
-use Rattle.span_table.specs.declared.table.Row.{Row}
-use Rattle.span_table.specs.Collected.{keyed_span_row, sums_of_row}
-use Rattle.span_table.specs.Columns.{Run}
-use Rattle.span_table.specs.Keys.{key_cmp}
-use Rattle.span_table.specs.Laws.{RowsAddUpToBusy, of_span_row, rows_of_thread, thread_key}
-use Rattle.span_table.specs.Tables.{keyed_span, sums_of}
-use Rattle.span_table.proofs.ByName.{thread-alike}
-use Rattle.span_table.proofs.OwnRows.{rows-are_span_rows}
-use Rattle.span_table.proofs.Unlisted.{closed_spans-unlisted}
+use Rattle.span_self_time.proofs.{Mapped.{filter-map, sum_by-map}, SelfTimes.sum_by-self_time}
+use Rattle.span_keyed_tracks.proofs.{Keyed.{has_key, neither, same_from_is_eq}, Sorted.ascending-sorted, Uses.is_eq-turned}
+use Rattle.span_table.specs.{Thread, thread_cmp, Bytes, steps_at, SpanRow, accepted, span_row, span_rows, thread_keys, thread_span_rows, Timed, timed_in, timed_spans, listed_by, thread_events, AreSpans, Span, busy_time, closed_spans, Collected.{keyed_span_row, sums_of_row}, Columns.Run, Keys.key_cmp, Laws.{RowsAddUpToBusy, of_span_row, rows_of_thread, thread_key}, Tables.{keyed_span, sums_of}, declared.{sums.Sums.Sums, table.Row.Row}}
+use Rattle.span_table.proofs.{ByName.thread-alike, OwnRows.rows-are_span_rows, Unlisted.closed_spans-unlisted}
 
 -- the keys of threads are in the order of these
 key_cmp-thread_cmp : (a b : Thread) → key_cmp (thread_key a) (thread_key b) ≡ thread_cmp a b

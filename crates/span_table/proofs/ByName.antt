@@ -1,32 +1,10 @@
 -- By columns of which none is an argument, the rows of names add up as their spans do.
-use Rattle.std.proofs.Common.{◌≡◌, ℕ, ◌+◌, Bool, true, false, ◌||◌, cond, List, [], ◌∷◌, ◌++◌, length, map, refl, sym, ap, ap₂, subst, ◌∙◌, arith}
-use Rattle.std.specs.Prelude.{filter, flat_map, sum_by}
-use Rattle.std.specs.List.{list_any}
-use Rattle.std.specs.Cmp.Lexicographic.{nat_list_cmp_total, texts_ties}
-use Rattle.std.specs.Ordering.{is_eq}
-use Rattle.std.proofs.lemmas.List.{map-append}
-use Rattle.std.proofs.lemmas.List.Sums.{sum_by-cons}
-use Rattle.span_event.specs.declared.thread.Thread.{Thread}
-use Rattle.span_event.specs.Args.{Arguments}
-use Rattle.span_event.specs.Text.{Bytes, same_text, text_cmp}
+use Rattle.std.specs.{Cmp.Lexicographic.{nat_list_cmp_total, texts_ties}, List.list_any, Ordering.is_eq, Prelude.{filter, flat_map, sum_by}}
+use Rattle.std.proofs.{Common.{◌≡◌, ℕ, ◌+◌, Bool, true, false, ◌||◌, cond, List, [], ◌∷◌, ◌++◌, length, map, refl, sym, ap, ap₂, subst, ◌∙◌, arith}, lemmas.List.{map-append, Sums.sum_by-cons}}
 use Rattle.span_event.proofs.Orders.{text_same}
-use Rattle.span_keyed_tracks.specs.Keyed.{Keyed, ascending, keys_in, steps_at}
-use Rattle.span_journal.specs.Journal.{accepted}
-use Rattle.span_journal.specs.Rows.{span_row, thread_keys, thread_span_rows}
-use Rattle.span_journal.specs.Timed.{timed_in}
-use Rattle.span_journal.specs.Told.{thread_events}
 use Rattle.span_journal.proofs.Sorted.{map-map}
-use Rattle.span_self_time.specs.Spans.{Span, named}
-use Rattle.span_track.specs.Nesting.{closed_spans}
-use Rattle.span_table.specs.declared.column.Column.{Column}
-use Rattle.span_table.specs.declared.column.Column.TheVariants.{Pid, Tid, Process, Thread as OfThread, Name, File, Cat, Scope, Id, Argument}
-use Rattle.span_table.specs.declared.sums.Sums.{Sums}
-use Rattle.span_table.specs.Collected.{keyed_span_row, row_sums, sums_of_row}
-use Rattle.span_table.specs.Columns.{Run, Value, is_argument, value_at}
-use Rattle.span_table.specs.Keys.{TableKey}
-use Rattle.span_table.specs.Tables.{KeyedSums, keyed_span, span_sums, summed, sums_of, sums_together, thread_sums}
-use Rattle.span_table.proofs.Alike.{AddUpAlike, AddUpAlike-flat_map, AddUpAlike-grouped, summed-alike}
-use Rattle.span_table.proofs.Tallies.{made_of, under}
+use Rattle.span_table.specs.{Thread, Arguments, Bytes, same_text, text_cmp, Keyed, ascending, keys_in, steps_at, accepted, span_row, thread_keys, thread_span_rows, timed_in, thread_events, Span, named, closed_spans, Collected.{keyed_span_row, row_sums, sums_of_row}, Columns.{Run, Value, is_argument, value_at}, Keys.TableKey, Tables.{KeyedSums, keyed_span, span_sums, summed, sums_of, sums_together, thread_sums}, declared.{column.Column.{Column, TheVariants.{Pid, Tid, Process, Thread as OfThread, Name, File, Cat, Scope, Id, Argument}}, sums.Sums.Sums}}
+use Rattle.span_table.proofs.{Alike.{AddUpAlike, AddUpAlike-flat_map, AddUpAlike-grouped, summed-alike}, Tallies.{made_of, under}}
 
 -- a column that is no argument doesn't ask for them
 value_at-no_argument : (run : Run) (thread : Thread) (name : Bytes) (args : Arguments) (column : Column) → is_argument column ≡ false → value_at run thread name args column ≡ value_at run thread name [] column

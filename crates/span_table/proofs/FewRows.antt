@@ -1,34 +1,11 @@
 -- A journal lists no more threads, and has no more rows of names and of asynchronous keys, than it has entries.
-use Rattle.std.proofs.Common.{◌≡◌, ℕ, ◌+◌, ◌≤◌, Bool, true, false, cond, List, [], ◌∷◌, ◌++◌, length, map, Option, Some, None, refl, ap, subst, ◌∙◌, append_assoc, append-nil, arith, length-append}
-use Rattle.std.specs.Prelude.{filter, filter_map, fold, sum_by}
-use Rattle.std.specs.BTreeSet.{insert_key}
-use Rattle.std.specs.Cmp.{IsTotalOrder}
-use Rattle.std.specs.List.{AllByRecursion}
-use Rattle.std.specs.List.Sorted.{IsStrictlySortedBy}
-use Rattle.std.specs.Ordering.{is_eq, match_ordering}
-use Rattle.std.specs.declared.cmp.Ordering.{Ordering}
-use Rattle.std.specs.declared.cmp.Ordering.TheVariants.{Less, Equal, Greater}
-use Rattle.std.proofs.lemmas.List.{length-map}
-use Rattle.std.proofs.lemmas.List.Concat.{length-flat_map}
-use Rattle.std.proofs.lemmas.List.Sums.{sum_by-cons}
-use Rattle.span_event.specs.declared.thread.Thread.{Thread}
-use Rattle.span_event.specs.Orders.{thread_cmp}
-use Rattle.span_event.specs.Text.{Bytes, text_cmp}
+use Rattle.std.specs.{BTreeSet.insert_key, Cmp.IsTotalOrder, List.{AllByRecursion, Sorted.IsStrictlySortedBy}, Ordering.{is_eq, match_ordering}, Prelude.{filter, filter_map, fold, sum_by}, declared.cmp.Ordering.{Ordering, TheVariants.{Less, Equal, Greater}}}
+use Rattle.std.proofs.{Common.{◌≡◌, ℕ, ◌+◌, ◌≤◌, Bool, true, false, cond, List, [], ◌∷◌, ◌++◌, length, map, Option, Some, None, refl, ap, subst, ◌∙◌, append_assoc, append-nil, arith, length-append}, lemmas.List.{length-map, Concat.length-flat_map, Sums.sum_by-cons}}
 use Rattle.span_event.proofs.Orders.{thread_cmp-same, thread_cmp-total}
-use Rattle.span_keyed_tracks.specs.Async.{AsyncEvent, async_cmp, async_row, async_spans}
-use Rattle.span_keyed_tracks.specs.Keyed.{Keyed, ascending, entries_in, entry_of, keys_in, steps_at}
-use Rattle.span_keyed_tracks.specs.Matching.{opens, closes, closes_all, other, closed_with, opener}
-use Rattle.span_keyed_tracks.proofs.Keyed.{same_from_is_eq}
-use Rattle.span_keyed_tracks.proofs.Matching.Closed.{closed_of-append, length-closed_with}
-use Rattle.span_keyed_tracks.proofs.Matching.Open.{opener-open_of, open_of-closes, open_of-closes_all, open_of-opens, open_of-other}
-use Rattle.span_keyed_tracks.proofs.Sorted.{ascending-sorted}
-use Rattle.span_journal.specs.declared.entry.Entry.{Entry}
-use Rattle.span_journal.specs.Journal.{Accepted, Act, accepted, accepted_by, accepted_from, placed}
-use Rattle.span_journal.specs.Rows.{async_rows, span_row, span_rows, thread_keys, thread_span_rows}
-use Rattle.span_journal.specs.Told.{async_events, listed_by, span_events, thread_events, to_async_at, to_thread_at, told}
-use Rattle.span_ledger.proofs.Later.{filter_map-length}
-use Rattle.span_track.specs.Nesting.{ThreadEvent, closed_spans, open_spans, span_between, span_sealed, whole_span}
+use Rattle.span_keyed_tracks.proofs.{Keyed.same_from_is_eq, Matching.{Closed.{closed_of-append, length-closed_with}, Open.{opener-open_of, open_of-closes, open_of-closes_all, open_of-opens, open_of-other}}, Sorted.ascending-sorted}
 use Rattle.span_track.proofs.Threads.Sealing.{length-sealed_spans}
+use Rattle.span_ledger.proofs.Later.{filter_map-length}
+use Rattle.span_table.specs.{Thread, thread_cmp, Bytes, text_cmp, AsyncEvent, async_cmp, async_row, async_spans, Keyed, ascending, entries_in, entry_of, keys_in, steps_at, opens, closes, closes_all, other, closed_with, opener, Entry, Accepted, Act, accepted, accepted_by, accepted_from, placed, async_rows, span_row, span_rows, thread_keys, thread_span_rows, async_events, listed_by, span_events, thread_events, to_async_at, to_thread_at, told, ThreadEvent, closed_spans, open_spans, span_between, span_sealed, whole_span}
 use Rattle.span_table.proofs.Tallies.{sum_by-both, sum_by-same}
 
 -- there are no more distinct keys than keys

@@ -1,31 +1,9 @@
 -- What is kept of runs and of rows, once more is added.
-use Rattle.std.proofs.Common.{◌≡◌, ℕ, ◌+◌, ◌*◌, ◌^◌, ◌<◌, List, [], ◌∷◌, ◌++◌, append-nil, map, refl, sym, ap, ap₂, subst, ◌∙◌, arith}
-use Rattle.std.specs.Prelude.{All, OnOk, Result, Ok, Err, true}
-use Rattle.std.specs.declared.alloc.AllocError.{AllocError}
-use Rattle.std.specs.List.Sorted.{IsStrictlySortedBy}
-use Rattle.std.specs.Map.{values_of}
-use Rattle.std.proofs.lemmas.List.Elements.{All-cons, All-nil}
-use Rattle.span_keyed_tracks.specs.Keyed.{entry_of, keys_in, steps_at}
+use Rattle.std.specs.{List.Sorted.IsStrictlySortedBy, Map.values_of, Prelude.{All, OnOk, Result, Ok, Err, true}, declared.alloc.AllocError.AllocError}
+use Rattle.std.proofs.{Common.{◌≡◌, ℕ, ◌+◌, ◌*◌, ◌^◌, ◌<◌, List, [], ◌∷◌, ◌++◌, append-nil, map, refl, sym, ap, ap₂, subst, ◌∙◌, arith}, lemmas.List.Elements.{All-cons, All-nil}}
 use Rattle.span_keyed_tracks.proofs.Keyed.{kept_at-entries_in}
-use Rattle.span_table.specs.declared.column.Column.{Column}
-use Rattle.span_table.specs.declared.counts.TableCounts.{TableCounts}
-use Rattle.span_table.specs.declared.of.Of.{Of}
-use Rattle.span_table.specs.declared.sums.Sums.{Sums}
-use Rattle.span_table.specs.declared.table.Row.{Row}
-use Rattle.span_table.specs.Adding.{JoinsRuns, TakesRuns, add_tables, keyed_row, keyed_rows, with_row, with_run}
-use Rattle.span_table.specs.Collected.{AllWithin, GrowsBy, IsWithin, Takes, with_sums}
-use Rattle.span_table.specs.Columns.{Run}
-use Rattle.span_table.specs.Counts.{AreCountsWithin}
-use Rattle.span_table.specs.KeyLaws.{key_cmp_total, key_cmp-same}
-use Rattle.span_table.specs.Sums.{fit}
-use Rattle.span_table.specs.Kept.{IsAdded, IsKept}
-use Rattle.span_table.specs.Keys.{TableKey, key_cmp}
-use Rattle.span_table.specs.Tables.{KeyedSums, RowsRise, SpanTable, SumsByKey, counts_of, counts_together, row_of, rows_of, run_sums, summed, sums_together, table_of}
-use Rattle.span_table.proofs.AddedTables.{add_tables-table_of, rows-back, rows_of-alike}
-use Rattle.span_table.proofs.Alike.{AddUpAlike, AddUpAlike-append, AddUpAlike-refl, AddUpAlike-sym, sums_at-append, summed-alike}
-use Rattle.span_table.proofs.OwnRows.{rows_of-own}
-use Rattle.span_table.proofs.Summing.{found-within, sums_small, with_sums-within}
-use Rattle.span_table.proofs.Rows.{RowsRise-rows_of}
+use Rattle.span_table.specs.{entry_of, keys_in, steps_at, Adding.{JoinsRuns, TakesRuns, add_tables, keyed_row, keyed_rows, with_row, with_run}, Collected.{AllWithin, GrowsBy, IsWithin, Takes, with_sums}, Columns.Run, Counts.AreCountsWithin, Kept.{IsAdded, IsKept}, KeyLaws.{key_cmp_total, key_cmp-same}, Keys.{TableKey, key_cmp}, Sums.fit, Tables.{KeyedSums, RowsRise, SpanTable, SumsByKey, counts_of, counts_together, row_of, rows_of, run_sums, summed, sums_together, table_of}, declared.{column.Column.Column, counts.TableCounts.TableCounts, of.Of.Of, sums.Sums.Sums, table.Row.Row}}
+use Rattle.span_table.proofs.{AddedTables.{add_tables-table_of, rows-back, rows_of-alike}, Alike.{AddUpAlike, AddUpAlike-append, AddUpAlike-refl, AddUpAlike-sym, sums_at-append, summed-alike}, OwnRows.rows_of-own, Rows.RowsRise-rows_of, Summing.{found-within, sums_small, with_sums-within}}
 
 -- what is kept is what its own rows come to
 summed-own : (kept : SumsByKey) → RowsRise (map row_of kept) → kept ≡ summed (keyed_rows (map row_of kept))

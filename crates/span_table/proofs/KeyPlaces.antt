@@ -1,24 +1,10 @@
 -- Where a key stands among what is kept.
-use Rattle.std.proofs.Common.{◌≡◌, ℕ, ◌<◌, true, [], length, slice_get, position, Option, Some, None, refl, sym, ap, ap₂, subst, ◌∙◌, arith}
-use Rattle.std.specs.Map.{keys_of, lookup, values_of}
-use Rattle.std.specs.Option.{option_map}
-use Rattle.std.specs.Ordering.{eq_by_cmp}
-use Rattle.std.specs.Prelude.{get_or, unwrap_or}
-use Rattle.std.specs.BTreeMap.{insert_entry, is_at}
-use Rattle.std.specs.Cmp.{eq_by_cmp_equiv}
-use Rattle.std.specs.List.{IsDistinct}
-use Rattle.std.proofs.lemmas.List.Quantifiers.{position-Some}
-use Rattle.std.proofs.lemmas.Option.{none-some, same_Some, slice_get-get_or, slice_get-map, slice_get_past, slice_get_within}
+use Rattle.std.specs.{BTreeMap.{insert_entry, is_at}, Cmp.eq_by_cmp_equiv, List.IsDistinct, Map.{keys_of, lookup, values_of}, Option.option_map, Ordering.eq_by_cmp, Prelude.{get_or, unwrap_or}}
+use Rattle.std.proofs.{Common.{◌≡◌, ℕ, ◌<◌, true, [], length, slice_get, position, Option, Some, None, refl, sym, ap, ap₂, subst, ◌∙◌, arith}, lemmas.{List.Quantifiers.position-Some, Option.{none-some, same_Some, slice_get-get_or, slice_get-map, slice_get_past, slice_get_within}}}
 use Rattle.indexmap.specs.IndexMap.{IndexMap, with_value_at}
 use Rattle.indexmap.proofs.CallerLemmas.{keys-with_value_at, updates-with_value_at}
-use Rattle.span_keyed_tracks.specs.Keyed.{AreDistinct, in_key_order}
-use Rattle.span_keyed_tracks.proofs.InKeyOrder.{found-in_key_order, in_key_order-sorted, in_key_order-written}
-use Rattle.span_keyed_tracks.proofs.KeyChange.{insert_entry-found}
-use Rattle.span_table.specs.declared.sums.Sums.{Sums}
-use Rattle.span_table.specs.Collected.{IsKeptAs, IsPlaceOf}
-use Rattle.span_table.specs.KeyLaws.{key_cmp_total, key_cmp-same, key_eq-same}
-use Rattle.span_table.specs.Keys.{TableKey, key_cmp}
-use Rattle.span_table.specs.Tables.{SumsByKey, sums_together}
+use Rattle.span_keyed_tracks.proofs.{InKeyOrder.{found-in_key_order, in_key_order-sorted, in_key_order-written}, KeyChange.insert_entry-found}
+use Rattle.span_table.specs.{AreDistinct, in_key_order, Collected.{IsKeptAs, IsPlaceOf}, KeyLaws.{key_cmp_total, key_cmp-same, key_eq-same}, Keys.{TableKey, key_cmp}, Tables.{SumsByKey, sums_together}, declared.sums.Sums.Sums}
 
 module _ (kept : SumsByKey) (key : TableKey) where
   -- the first place of a key that its order distinguishes

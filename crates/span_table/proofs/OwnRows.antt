@@ -1,31 +1,10 @@
 -- Rows that rise are the rows of their own sums; so by process, thread and name a table has the rows of spans.
-use Rattle.std.proofs.Common.{◌≡◌, List, [], ◌∷◌, ◌++◌, get_or, map, refl, sym, ap, ap₂, subst, ◌∙◌, append_assoc}
-use Rattle.std.specs.Prelude.{fold}
-use Rattle.std.specs.BTreeSet.{insert_key}
-use Rattle.std.specs.Cmp.{IsTotalOrder}
-use Rattle.std.specs.List.{AllByRecursion}
-use Rattle.std.specs.List.Sorted.{IsStrictlySortedBy}
-use Rattle.std.specs.Ordering.{match_ordering, ordering_reverse, ordering_then, int_cmp}
-use Rattle.std.specs.declared.cmp.Ordering.{Ordering}
-use Rattle.std.specs.declared.cmp.Ordering.TheVariants.{Less, Equal, Greater}
-use Rattle.std.proofs.lemmas.List.{append-nil, get_or_default}
-use Rattle.std.proofs.lemmas.List.Elements.{recursion_from_All}
-use Rattle.span_event.specs.Text.{text_cmp}
-use Rattle.span_keyed_tracks.specs.Keyed.{ascending, entry_of}
-use Rattle.span_journal.specs.declared.rows.SpanRow.{SpanRow}
-use Rattle.span_journal.specs.Order.{span_order}
-use Rattle.span_journal.specs.Rows.{span_rows}
-use Rattle.span_ledger.proofs.RowOrder.{span_rows-sorted}
+use Rattle.std.specs.{BTreeSet.insert_key, Cmp.IsTotalOrder, List.{AllByRecursion, Sorted.IsStrictlySortedBy}, Ordering.{match_ordering, ordering_reverse, ordering_then, int_cmp}, Prelude.fold, declared.cmp.Ordering.{Ordering, TheVariants.{Less, Equal, Greater}}}
+use Rattle.std.proofs.{Common.{◌≡◌, List, [], ◌∷◌, ◌++◌, get_or, map, refl, sym, ap, ap₂, subst, ◌∙◌, append_assoc}, lemmas.List.{append-nil, get_or_default, Elements.recursion_from_All}}
 use Rattle.span_journal.proofs.Sorted.{map-map}
-use Rattle.span_table.specs.declared.table.Row.{Row}
-use Rattle.span_table.specs.Adding.{keyed_row, keyed_rows}
-use Rattle.span_table.specs.RowSearch.{sums_at}
-use Rattle.span_table.specs.KeyLaws.{key_cmp_total}
-use Rattle.span_table.specs.Keys.{key_cmp}
-use Rattle.span_table.specs.Laws.{RowsAreSpanRows, of_span_row, row_columns}
-use Rattle.span_table.specs.Tables.{RowsRise, row_of, rows_of, span_sums}
-use Rattle.span_table.proofs.ByName.{summed-rows}
-use Rattle.span_table.proofs.Searched.{sums_at-own}
+use Rattle.span_ledger.proofs.RowOrder.{span_rows-sorted}
+use Rattle.span_table.specs.{text_cmp, ascending, entry_of, SpanRow, span_order, span_rows, Adding.{keyed_row, keyed_rows}, KeyLaws.key_cmp_total, Keys.key_cmp, Laws.{RowsAreSpanRows, of_span_row, row_columns}, RowSearch.sums_at, Tables.{RowsRise, row_of, rows_of, span_sums}, declared.table.Row.Row}
+use Rattle.span_table.proofs.{ByName.summed-rows, Searched.sums_at-own}
 
 module _ {K : Type 0} {R : K → K → Ordering} (o : IsTotalOrder R) where
   insert_key-last : (done : List K) (k : K) (ks : List K) → IsStrictlySortedBy R (done ++ k ∷ ks) → insert_key R done k ≡ done ++ k ∷ []

@@ -1,38 +1,10 @@
 -- The table of runs follows from their counts, and from the acts on each process.
-use Rattle.std.proofs.Common.{◌≡◌, ℕ, List, [], ◌∷◌, ◌++◌, map, refl, sym, ap, ◌∙◌, ◌&&◌, ◌||◌, int_lt, Some, None}
-use Rattle.std.specs.Prelude.{flat_map}
-use Rattle.std.specs.Option.{option_map}
-use Rattle.std.specs.Ordering.{int_eq}
-use Rattle.std.proofs.lemmas.List.{map-id}
-use Rattle.std.proofs.lemmas.Simd.{map-map}
-use Rattle.span_event.specs.declared.args.ArgValue.TheVariants.{Words}
-use Rattle.span_event.specs.declared.thread.Thread.{Thread}
-use Rattle.span_event.specs.Args.{Arguments}
-use Rattle.span_event.specs.Text.{Bytes}
-use Rattle.span_journal.specs.declared.entry.Entry.{Entry}
-use Rattle.span_journal.specs.declared.rows.ThreadRow.{ThreadRow}
-use Rattle.span_journal.specs.Journal.{accepted}
-use Rattle.span_keyed_tracks.specs.declared.async_track.AsyncRow.{AsyncRow}
-use Rattle.span_keyed_tracks.specs.declared.keys.AsyncKey.{AsyncKey}
-use Rattle.span_keyed_tracks.specs.Meta.{Names}
-use Rattle.span_journal.specs.Rows.{thread_keys, thread_row}
-use Rattle.span_journal.specs.Timed.{Timed, timed_in, with_self_times}
-use Rattle.span_journal.specs.Told.{thread_events}
-use Rattle.span_journal.specs.Topics.{of_process}
-use Rattle.span_journal.proofs.Topics.Rows.{rows-follow, values-follow}
-use Rattle.span_journal.proofs.Topics.Threads.{thread_events-alike}
-use Rattle.span_self_time.specs.Positions.{Rises, renumbered_span}
-use Rattle.span_self_time.specs.Spans.{Span, length_of, outranks}
+use Rattle.std.specs.{Option.option_map, Ordering.int_eq, Prelude.flat_map}
+use Rattle.std.proofs.{Common.{◌≡◌, ℕ, List, [], ◌∷◌, ◌++◌, map, refl, sym, ap, ◌∙◌, ◌&&◌, ◌||◌, int_lt, Some, None}, lemmas.{List.map-id, Simd.map-map}}
 use Rattle.span_self_time.proofs.Mapped.{self_time-map}
-use Rattle.span_track.specs.Nesting.{closed_spans}
 use Rattle.span_track.proofs.Threads.Renumbering.{closed_spans-renumbered}
-use Rattle.span_table.specs.declared.column.Column.{Column}
-use Rattle.span_table.specs.declared.column.Column.TheVariants.{Pid, Tid, Process, Thread as OfThread, Name, File, Cat, Scope, Id, Argument}
-use Rattle.span_table.specs.declared.of.Of.{Of}
-use Rattle.span_table.specs.declared.of.Of.TheVariants.{Spans, Async}
-use Rattle.span_table.specs.Columns.{async_value_at, value_at}
-use Rattle.span_table.specs.Laws.{AreAlikeRuns, AreAllAlike, TablesFollowFromActs}
-use Rattle.span_table.specs.Tables.{Run, counts_of, counts_together, keyed_span, rows_of, run_sums, sums_of_async, thread_sums}
+use Rattle.span_journal.proofs.Topics.{Rows.{rows-follow, values-follow}, Threads.thread_events-alike}
+use Rattle.span_table.specs.{Words, Thread, Arguments, Bytes, Entry, ThreadRow, accepted, AsyncRow, AsyncKey, Names, thread_keys, thread_row, Timed, timed_in, with_self_times, thread_events, of_process, Rises, renumbered_span, Span, length_of, outranks, closed_spans, Columns.{async_value_at, value_at}, Laws.{AreAlikeRuns, AreAllAlike, TablesFollowFromActs}, Tables.{Run, counts_of, counts_together, keyed_span, rows_of, run_sums, sums_of_async, thread_sums}, declared.{column.Column.{Column, TheVariants.{Pid, Tid, Process, Thread as OfThread, Name, File, Cat, Scope, Id, Argument}}, of.Of.{Of, TheVariants.{Spans, Async}}}}
 
 module _ (run other : Run) (alike : AreAlikeRuns run other) where
   value_at-alike : (thread : Thread) (name : Bytes) (args : Arguments) (column : Column) → value_at run thread name args column ≡ value_at other thread name args column

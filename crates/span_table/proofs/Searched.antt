@@ -1,28 +1,9 @@
 -- Rows that rise are found by their keys, at a place that is looked at first or by a search.
-use Rattle.std.proofs.Common.{◌≡◌, ℕ, ◌-◌, ◌<◌, ◌≤◌, ◌==◌, ◌||◌, Bool, true, false, List, Option, Some, None, length, get_or, slice_get, refl, sym, ap, ◌∙◌, arith, inl, inr, ◌⊎◌, ◌+◌, zero, suc, cond, [], ◌∷◌, map, Bor, subst, add-one}
-use Rattle.std.specs.Option.{option_map_or, option_map}
-use Rattle.std.specs.Ordering.{is_eq, is_lt, ordering_index, ordering_reverse}
-use Rattle.std.specs.declared.cmp.Ordering.{Ordering}
-use Rattle.std.specs.declared.cmp.Ordering.TheVariants.{Less, Equal, Greater}
-use Rattle.std.proofs.lemmas.Option.{slice_get-get_or, slice_get_within}
-use Rattle.span_table.specs.declared.table.Row.{Row}
-use Rattle.span_table.specs.RowSearch.{found_at, is_behind, order_at, sums_at}
-use Rattle.span_table.specs.KeyLaws.{key_cmp-same, key_cmp_total}
-use Rattle.span_table.specs.Keys.{TableKey, key_cmp}
-use Rattle.span_table.specs.Tables.{RowsRise, sums_together}
-use Rattle.std.specs.Prelude.{filter, unwrap_or}
-use Rattle.std.specs.List.{AllByRecursion, find}
-use Rattle.std.specs.List.Sorted.{IsNonDecreasingBy, IsStrictlySortedBy}
+use Rattle.std.specs.{Cmp.tied_itself, Fn.{Called, ComputesKey}, List.{AllByRecursion, find, Sorted.{IsNonDecreasingBy, IsStrictlySortedBy}}, Option.{option_map_or, option_map}, Ordering.{is_eq, is_lt, ordering_index, ordering_reverse}, Prelude.{filter, unwrap_or}, declared.cmp.Ordering.{Ordering, TheVariants.{Less, Equal, Greater}}}
+use Rattle.std.proofs.{Common.{◌≡◌, ℕ, ◌-◌, ◌<◌, ◌≤◌, ◌==◌, ◌||◌, Bool, true, false, List, Option, Some, None, length, get_or, slice_get, refl, sym, ap, ◌∙◌, arith, inl, inr, ◌⊎◌, ◌+◌, zero, suc, cond, [], ◌∷◌, map, Bor, subst, add-one}, lemmas.{Fn.always_returns_same, List.Sorted.searchable_from_sorted, Option.{slice_get-get_or, slice_get_within}}}
+use Rattle.span_keyed_tracks.proofs.{Keyed.same_from_is_eq, Uses.is_eq-turned}
+use Rattle.span_table.specs.{Keyed, steps_at, Adding.{keyed_row, keyed_rows}, KeyLaws.{key_cmp-same, key_cmp_total}, Keys.{TableKey, key_cmp}, RowSearch.{found_at, is_behind, order_at, sums_at}, Tables.{RowsRise, sums_together}, declared.{sums.Sums.Sums, table.Row.Row}}
 use denote.Param.Members.{Mut}
-use Rattle.std.specs.Fn.{Called, ComputesKey}
-use Rattle.std.proofs.lemmas.Fn.{always_returns_same}
-use Rattle.std.specs.Cmp.{tied_itself}
-use Rattle.std.proofs.lemmas.List.Sorted.{searchable_from_sorted}
-use Rattle.span_keyed_tracks.specs.Keyed.{Keyed, steps_at}
-use Rattle.span_keyed_tracks.proofs.Keyed.{same_from_is_eq}
-use Rattle.span_keyed_tracks.proofs.Uses.{is_eq-turned}
-use Rattle.span_table.specs.declared.sums.Sums.{Sums}
-use Rattle.span_table.specs.Adding.{keyed_row, keyed_rows}
 
 -- in rows that rise no later one has the key of the first
 none_later : (row : Row) (rows : List Row) → AllByRecursion (λ (r : Row). key_cmp row.key r.key ≡ Less) rows → find (λ (r : Row). is_eq (key_cmp r.key row.key)) rows ≡ None

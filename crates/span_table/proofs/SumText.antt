@@ -1,10 +1,6 @@
 -- The digits of a number are those of its front and then its last places.
-use Rattle.std.proofs.Common.{◌≡◌, ℕ, zero, suc, ◌+◌, ◌-◌, ◌*◌, ◌/◌, ◌%◌, ◌^◌, ◌<◌, ◌≤◌, false, List, [], ◌∷◌, ◌++◌, length, replicate, refl, sym, ap, ap₂, ◌∙◌, ◌⊎◌, inl, inr, append_assoc, arith, length-append}
-use Rattle.std.proofs.Math.Nat.{mul-pos, pow-succ'}
-use Rattle.std.proofs.lemmas.Bool.{cases_lt}
-use Rattle.std.proofs.lemmas.Fmt.{decimal_digit, decimal_step_wide}
-use Rattle.std.proofs.lemmas.List.{append-nil}
 use Rattle.std.specs.Fmt.{char_count, decimal, format_spec, padded_integral}
+use Rattle.std.proofs.{Common.{◌≡◌, ℕ, zero, suc, ◌+◌, ◌-◌, ◌*◌, ◌/◌, ◌%◌, ◌^◌, ◌<◌, ◌≤◌, false, List, [], ◌∷◌, ◌++◌, length, replicate, refl, sym, ap, ap₂, ◌∙◌, ◌⊎◌, inl, inr, append_assoc, arith, length-append}, Math.Nat.{mul-pos, pow-succ'}, lemmas.{Bool.cases_lt, Fmt.{decimal_digit, decimal_step_wide}, List.append-nil}}
 use lib.Utf8.{encode}
 
 -- the last places of a number, with zeros in front

@@ -1,22 +1,8 @@
 -- What is kept of sums by key, once more are added.
-use Rattle.std.proofs.Common.{◌≡◌, ℕ, ◌+◌, ◌≤◌, List, [], ◌∷◌, ◌++◌, map, Option, Some, None, sym, ap, subst, ◌∙◌, arith, ◌^◌, ◌<◌, true, nat_lt}
-use Rattle.std.specs.Prelude.{All, IfSome, OnOk, Result, Ok, Err, unwrap_or}
-use Rattle.std.specs.declared.alloc.AllocError.{AllocError}
-use Rattle.std.specs.List.Sorted.{IsStrictlySortedBy}
-use Rattle.std.specs.Map.{keys_of, lookup, values_of}
-use Rattle.std.proofs.lemmas.Map.Views.{All-values-insert_entry, IfSome-lookup_from_All}
-use Rattle.std.specs.BTreeMap.{insert_entry, is_at}
-use Rattle.std.proofs.lemmas.List.Sums.{sum_by_push}
-use Rattle.span_keyed_tracks.specs.Keyed.{Keyed, keys_in, steps_at}
-use Rattle.span_keyed_tracks.proofs.Keyed.{entries_in-insert_entry, keys_of-made, kept_at-entries_in}
-use Rattle.span_keyed_tracks.proofs.Sorted.{ascending-sorted}
-use Rattle.span_table.specs.declared.sums.Sums.{Sums}
-use Rattle.span_table.specs.Collected.{AllWithin, GrowsBy, IsWithin, Takes, with_sums}
-use Rattle.span_table.specs.KeyLaws.{key_cmp_total, key_cmp-same}
-use Rattle.span_table.specs.Keys.{TableKey, key_cmp}
-use Rattle.span_table.specs.Tables.{KeyedSums, SumsByKey, summed, sums_together}
-use Rattle.std.proofs.lemmas.Bool.{and_parts, ltb-true}
-use Rattle.span_table.specs.Sums.{fit}
+use Rattle.std.specs.{BTreeMap.{insert_entry, is_at}, List.Sorted.IsStrictlySortedBy, Map.{keys_of, lookup, values_of}, Prelude.{All, IfSome, OnOk, Result, Ok, Err, unwrap_or}, declared.alloc.AllocError.AllocError}
+use Rattle.std.proofs.{Common.{◌≡◌, ℕ, ◌+◌, ◌≤◌, List, [], ◌∷◌, ◌++◌, map, Option, Some, None, sym, ap, subst, ◌∙◌, arith, ◌^◌, ◌<◌, true, nat_lt}, lemmas.{Bool.{and_parts, ltb-true}, List.Sums.sum_by_push, Map.Views.{All-values-insert_entry, IfSome-lookup_from_All}}}
+use Rattle.span_keyed_tracks.proofs.{Keyed.{entries_in-insert_entry, keys_of-made, kept_at-entries_in}, Sorted.ascending-sorted}
+use Rattle.span_table.specs.{Keyed, keys_in, steps_at, Collected.{AllWithin, GrowsBy, IsWithin, Takes, with_sums}, KeyLaws.{key_cmp_total, key_cmp-same}, Keys.{TableKey, key_cmp}, Sums.fit, Tables.{KeyedSums, SumsByKey, summed, sums_together}, declared.sums.Sums.Sums}
 
 -- one more is added to the others
 pub sums_together-push : (sums : List Sums) (more : Sums) → sums_together (sums ++ more ∷ []) ≡ with_sums (sums_together sums) more

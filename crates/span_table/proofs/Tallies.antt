@@ -1,17 +1,8 @@
 -- What sums under keys come to: it is decided by which keys there are, and by what those of each key come to.
-use Rattle.std.proofs.Common.{◌≡◌, ℕ, ◌+◌, Bool, true, false, ◌||◌, cond, List, [], ◌∷◌, ◌++◌, map, refl, sym, ap, ap₂, ◌∙◌, arith}
-use Rattle.std.specs.Prelude.{filter, sum_by}
-use Rattle.std.specs.Cmp.{IsTotalOrder}
-use Rattle.std.specs.List.{AllByRecursion}
-use Rattle.std.specs.List.Sorted.{IsStrictlySortedBy}
-use Rattle.std.specs.Ordering.{is_eq}
-use Rattle.std.specs.declared.cmp.Ordering.{Ordering}
-use Rattle.std.specs.declared.cmp.Ordering.TheVariants.{Less, Equal}
-use Rattle.std.proofs.lemmas.List.{map-append}
-use Rattle.std.proofs.lemmas.List.Elements.{filter-append}
-use Rattle.std.proofs.lemmas.List.Sums.{sum_by-append, sum_by-cons}
-use Rattle.span_keyed_tracks.specs.Keyed.{Keyed, steps_at}
+use Rattle.std.specs.{Cmp.IsTotalOrder, List.{AllByRecursion, Sorted.IsStrictlySortedBy}, Ordering.is_eq, Prelude.{filter, sum_by}, declared.cmp.Ordering.{Ordering, TheVariants.{Less, Equal}}}
+use Rattle.std.proofs.{Common.{◌≡◌, ℕ, ◌+◌, Bool, true, false, ◌||◌, cond, List, [], ◌∷◌, ◌++◌, map, refl, sym, ap, ap₂, ◌∙◌, arith}, lemmas.List.{map-append, Elements.filter-append, Sums.{sum_by-append, sum_by-cons}}}
 use Rattle.span_keyed_tracks.proofs.Keyed.{has_key, same_from_is_eq}
+use Rattle.span_table.specs.{Keyed, steps_at}
 
 -- what the steps of one key come to by a number
 module _ {K A : Type 0} (cmp : K → K → Ordering) (f : A → ℕ) where

@@ -1,28 +1,10 @@
 -- A thread that is not listed has no closed spans: a journal tells it of seals alone.
+use Rattle.std.specs.{List.{AllByRecursion, cons_option}, Ordering.is_eq, Prelude.{filter, filter_map, if◌then◌else◌}}
 use Rattle.std.proofs.Common.{◌≡◌, ℕ, Bool, true, false, ◌||◌, cond, List, [], ◌∷◌, ◌++◌, Some, None, map, reverse, sym, ap, ap₂, refl, subst, ◌∙◌}
-use Rattle.std.specs.Prelude.{filter, filter_map, if◌then◌else◌}
-use Rattle.std.specs.List.{AllByRecursion, cons_option}
-use Rattle.std.specs.Ordering.{is_eq}
-use Rattle.span_event.specs.declared.event.Phase.{Phase}
-use Rattle.span_event.specs.declared.event.Phase.TheVariants.{SpanBegin, SpanEnd, Complete, AsyncBegin, AsyncPoint, AsyncEnd, FlowStart, FlowStep, FlowEnd, Counter, Meta, Instant}
-use Rattle.span_event.specs.declared.thread.Thread.{Thread}
-use Rattle.span_event.specs.Orders.{thread_cmp}
-use Rattle.span_event.specs.Text.{Bytes}
-use Rattle.span_event.specs.Thread.{thread_of}
 use Rattle.span_event.proofs.Orders.{thread_cmp-same, thread_cmp-total}
-use Rattle.span_keyed_tracks.specs.Instants.{is_instant}
-use Rattle.span_keyed_tracks.specs.Keyed.{steps_at}
-use Rattle.span_keyed_tracks.specs.Matching.{opens, closes, closes_all, other, closed_after, open_of}
-use Rattle.span_keyed_tracks.specs.Meta.{names_thread}
-use Rattle.span_keyed_tracks.proofs.Keyed.{has_key, neither}
-use Rattle.span_keyed_tracks.proofs.Uses.{is_eq-turned}
-use Rattle.span_journal.specs.declared.entry.Entry.{Entry}
-use Rattle.span_journal.specs.Journal.{Accepted, Act, a_seal, accepted, an_event}
-use Rattle.span_journal.specs.Rows.{thread_keys}
-use Rattle.span_journal.specs.Told.{SpanEvent, is_of_span, listed_by, lists_thread, span_event, span_events, thread_events, to_thread_at, told_at, told_by}
+use Rattle.span_keyed_tracks.proofs.{Keyed.{has_key, neither}, Uses.is_eq-turned}
 use Rattle.span_journal.proofs.Sorted.{AllByRecursion-append}
-use Rattle.span_track.specs.Nesting.{ThreadEvent, closed_spans, span_between, span_sealed, whole_span}
-use Rattle.span_table.specs.Laws.{thread_key}
+use Rattle.span_table.specs.{Phase, SpanBegin, SpanEnd, Complete, AsyncBegin, AsyncPoint, AsyncEnd, FlowStart, FlowStep, FlowEnd, Counter, Meta, Instant, Thread, thread_cmp, Bytes, thread_of, is_instant, steps_at, opens, closes, closes_all, other, closed_after, open_of, names_thread, Entry, Accepted, Act, a_seal, accepted, an_event, thread_keys, SpanEvent, is_of_span, listed_by, lists_thread, span_event, span_events, thread_events, to_thread_at, told_at, told_by, ThreadEvent, closed_spans, span_between, span_sealed, whole_span, Laws.thread_key}
 use Rattle.span_table.proofs.Alike.{has_key-ascending}
 
 -- the event is a seal

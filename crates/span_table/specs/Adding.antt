@@ -1,14 +1,6 @@
 -- Tables are added, and lose nothing by it.
-use Rattle.std.specs.Prelude.{◌≡◌, ℕ, List, [], ◌∷◌, ◌++◌, map, filter_map, flat_map, slice_get}
-use Rattle.std.specs.List.Sorted.{IsPermutation}
-use Rattle.span_keyed_tracks.specs.Keyed.{Keyed}
-use Rattle.span_table.specs.declared.column.Column.{Column}
-use Rattle.span_table.specs.declared.counts.TableCounts.{TableCounts}
-use Rattle.span_table.specs.declared.of.Of.{Of}
-use Rattle.span_table.specs.declared.sums.Sums.{Sums}
-use Rattle.span_table.specs.declared.table.Row.{Row}
-use Rattle.span_table.specs.Keys.{TableKey}
-use Rattle.span_table.specs.Tables.{KeyedSums, Run, SpanTable, counts_together, rows_of, table_of}
+use Rattle.std.specs.{List.Sorted.IsPermutation, Prelude.{◌≡◌, ℕ, List, [], ◌∷◌, ◌++◌, map, filter_map, flat_map, slice_get}}
+use Rattle.span_table.specs.{Keyed, Keys.TableKey, Tables.{KeyedSums, Run, SpanTable, counts_together, rows_of, table_of}, declared.{column.Column.Column, counts.TableCounts.TableCounts, of.Of.Of, sums.Sums.Sums, table.Row.Row}}
 
 -- the sums of a row, under its key
 abbrev pub keyed_row : Row → Keyed TableKey Sums

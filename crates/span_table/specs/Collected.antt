@@ -1,16 +1,6 @@
 -- How the sums of a table are collected: row by row of a ledger's names or asynchronous keys, or span by span.
-use Rattle.std.specs.Prelude.{◌≡◌, ℕ, ◌+◌, ◌≤◌, List, [], ◌++◌, All, map, slice_get, Option, Some, None}
-use Rattle.std.specs.Ordering.{eq_by_cmp}
-use Rattle.span_keyed_tracks.specs.Keyed.{Keyed}
-use Rattle.span_journal.specs.declared.rows.SpanRow.{SpanRow}
-use Rattle.span_journal.specs.Order.{thread_of_span}
-use Rattle.span_journal.specs.Rows.{span_rows}
-use Rattle.std.specs.Map.{lookup, values_of}
-use Rattle.span_table.specs.declared.column.Column.{Column}
-use Rattle.span_table.specs.declared.sums.Sums.{Sums}
-use Rattle.span_table.specs.Columns.{Run, value_at}
-use Rattle.span_table.specs.Keys.{TableKey, key_cmp}
-use Rattle.span_table.specs.Tables.{KeyedSums, SumsByKey, summed}
+use Rattle.std.specs.{Map.{lookup, values_of}, Ordering.eq_by_cmp, Prelude.{◌≡◌, ℕ, ◌+◌, ◌≤◌, List, [], ◌++◌, All, map, slice_get, Option, Some, None}}
+use Rattle.span_table.specs.{Keyed, SpanRow, thread_of_span, span_rows, Columns.{Run, value_at}, Keys.{TableKey, key_cmp}, Tables.{KeyedSums, SumsByKey, summed}, declared.{column.Column.Column, sums.Sums.Sums}}
 
 -- the sums of a row
 abbrev pub sums_of_row : SpanRow → Sums

@@ -1,21 +1,6 @@
 -- The columns by which spans are summed, and the value that a span has in each.
-use Rattle.std.specs.Prelude.{ℕ, ◌==◌, nat_lt, Bool, true, false, not, ◌&&◌, ◌||◌, List, ◌++◌, length, Option, Some, None, codes}
-use Rattle.std.specs.List.{list_any}
-use Rattle.std.specs.Option.{option_map}
-use Rattle.span_event.specs.declared.args.ArgValue.{ArgValue}
-use Rattle.span_event.specs.declared.args.ArgValue.TheVariants.{Whole, Words}
-use Rattle.span_event.specs.declared.thread.Thread.{Thread}
-use Rattle.span_event.specs.Args.{Arguments, value_of}
-use Rattle.span_event.specs.Text.{Bytes}
-use Rattle.span_keyed_tracks.specs.declared.keys.AsyncKey.{AsyncKey}
-use Rattle.span_keyed_tracks.specs.Meta.{Holder}
-use Rattle.span_journal.specs.declared.entry.Entry.{Entry}
-use Rattle.span_journal.specs.Rows.{names_of}
-use Rattle.span_report.specs.Lines.{with_home}
-use Rattle.span_table.specs.declared.column.Column.{Column}
-use Rattle.span_table.specs.declared.column.Column.TheVariants.{Pid, Tid, Process, Thread as OfThread, Name, File, Cat, Scope, Id, Argument}
-use Rattle.span_table.specs.declared.of.Of.{Of}
-use Rattle.span_table.specs.declared.of.Of.TheVariants.{Spans, Async}
+use Rattle.std.specs.{List.list_any, Option.option_map, Prelude.{ℕ, ◌==◌, nat_lt, Bool, true, false, not, ◌&&◌, ◌||◌, List, ◌++◌, length, Option, Some, None, codes}}
+use Rattle.span_table.specs.{ArgValue, Whole, Words, Thread, Arguments, value_of, Bytes, AsyncKey, Holder, Entry, names_of, with_home, declared.{column.Column.{Column, TheVariants.{Pid, Tid, Process, Thread as OfThread, Name, File, Cat, Scope, Id, Argument}}, of.Of.{Of, TheVariants.{Spans, Async}}}}
 
 -- what one ledger holds once it is closed, the number of its files, how many of them were refused as a whole, and the name of its only
 -- file: None where it has not just one that has a name

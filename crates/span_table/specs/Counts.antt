@@ -1,7 +1,6 @@
 -- How great the counts of a table are.
 use Rattle.std.specs.Prelude.{ℕ, ◌≤◌, ◌^◌, nat_lt, Bool, ◌&&◌}
-use Rattle.span_journal.specs.declared.rows.CountRow.{CountRow}
-use Rattle.span_table.specs.declared.counts.TableCounts.{TableCounts}
+use Rattle.span_table.specs.{CountRow, declared.counts.TableCounts.TableCounts}
 
 -- no count of entries is greater than this
 pub record AreEntryCountsWithin (most : ℕ) (counts : CountRow) : Type 0 where

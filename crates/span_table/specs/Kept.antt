@@ -1,10 +1,6 @@
 -- What is kept of what is added.
 use Rattle.std.specs.Prelude.{ℕ, ◌*◌, ◌<◌, ◌^◌, List, map}
-use Rattle.span_table.specs.declared.counts.TableCounts.{TableCounts}
-use Rattle.span_table.specs.declared.table.Row.{Row}
-use Rattle.span_table.specs.Collected.{AllWithin}
-use Rattle.span_table.specs.Counts.{AreCountsWithin}
-use Rattle.span_table.specs.Tables.{RowsRise, SumsByKey, row_of}
+use Rattle.span_table.specs.{Collected.AllWithin, Counts.AreCountsWithin, Tables.{RowsRise, SumsByKey, row_of}, declared.{counts.TableCounts.TableCounts, table.Row.Row}}
 
 -- of runs: none adds more than 2^160 to a sum of a key, and 2^64 to a number of the counts
 pub record IsKept (counts : TableCounts) (sums : SumsByKey) : Type 0 where

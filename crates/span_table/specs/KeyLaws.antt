@@ -1,20 +1,8 @@
 -- The order of keys is total, and keys that it does not distinguish are the same.
-use Rattle.std.specs.Prelude.{◌≡◌, true, false, [], ◌∷◌, Some, None, refl}
-use Rattle.std.specs.declared.cmp.Ordering.TheVariants.{Less, Equal, Greater}
-use Rattle.std.specs.declared.cmp.Ordering.{Ordering}
-use Rattle.std.specs.Option.{option_cmp}
-use Rattle.std.specs.Cmp.{IsTotalOrder}
-use Rattle.std.specs.Cmp.Lexicographic.{lists_total, options_total}
-use Rattle.std.specs.Ordering.{eq_by_cmp, is_eq}
-use Rattle.span_event.specs.declared.args.ArgValue.{ArgValue}
-use Rattle.span_event.specs.declared.args.ArgValue.TheVariants.{Nil, Flag, Whole, Words, Other}
-use Rattle.span_event.specs.Orders.{value_cmp}
-use Rattle.span_event.specs.ValueLaws.{value_cmp_total}
-use Rattle.span_event.proofs.Orders.{both_equal, text_same}
-use Rattle.std.specs.FinMap.{int_cmp-IsAntisymmetric}
+use Rattle.std.specs.{Cmp.{IsTotalOrder, Lexicographic.{lists_total, options_total}}, FinMap.int_cmp-IsAntisymmetric, Option.option_cmp, Ordering.{eq_by_cmp, is_eq}, Prelude.{◌≡◌, true, false, [], ◌∷◌, Some, None, refl}, declared.cmp.Ordering.{Ordering, TheVariants.{Less, Equal, Greater}}}
 use Rattle.std.proofs.Common.{ap, ap₂}
-use Rattle.span_table.specs.Columns.{Value}
-use Rattle.span_table.specs.Keys.{TableKey, key_cmp}
+use Rattle.span_event.proofs.Orders.{both_equal, text_same}
+use Rattle.span_table.specs.{ArgValue, Nil, Flag, Whole, Words, Other, value_cmp, value_cmp_total, Columns.Value, Keys.{TableKey, key_cmp}}
 
 -- the order of keys is total
 pub key_cmp_total : IsTotalOrder key_cmp

@@ -1,9 +1,6 @@
 -- What keys are hashed by.
-use Rattle.std.specs.Prelude.{true, false, [], ◌∷◌, ◌++◌, Some, None, flat_map}
-use Rattle.std.specs.Hash.{HashWrites, i64, u8}
-use Rattle.span_event.specs.declared.args.ArgValue.TheVariants.{Nil, Flag, Whole, Words, Other}
-use Rattle.span_table.specs.Columns.{Value}
-use Rattle.span_table.specs.Keys.{TableKey}
+use Rattle.std.specs.{Hash.{HashWrites, i64, u8}, Prelude.{true, false, [], ◌∷◌, ◌++◌, Some, None, flat_map}}
+use Rattle.span_table.specs.{Nil, Flag, Whole, Words, Other, Columns.Value, Keys.TableKey}
 
 -- a byte that no text has, which gives the kind, and then the value
 abbrev pub value_writes : Value → HashWrites

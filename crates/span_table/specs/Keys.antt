@@ -1,10 +1,6 @@
 -- By what the rows of a table are distinguished: a value for each column.
-use Rattle.std.specs.Prelude.{List}
-use Rattle.std.specs.declared.cmp.Ordering.{Ordering}
-use Rattle.std.specs.Cmp.Lexicographic.{slice_cmp}
-use Rattle.std.specs.Option.{option_cmp}
-use Rattle.span_event.specs.Orders.{value_cmp}
-use Rattle.span_table.specs.Columns.{Value}
+use Rattle.std.specs.{Cmp.Lexicographic.slice_cmp, Option.option_cmp, Prelude.List, declared.cmp.Ordering.Ordering}
+use Rattle.span_table.specs.{value_cmp, Columns.Value}
 
 -- one value for each column
 abbrev pub TableKey : Type 0

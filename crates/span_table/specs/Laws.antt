@@ -1,26 +1,6 @@
 -- The facts that hold of every table.
-use Rattle.std.specs.Prelude.{◌≡◌, List, [], ◌∷◌, filter, map, sum_by, take, Some}
-use Rattle.std.specs.List.{IsDistinct}
-use Rattle.std.specs.List.Sorted.{IsPermutation}
-use Rattle.std.specs.Ordering.{eq_by_cmp, is_eq}
-use Rattle.span_event.specs.declared.args.ArgValue.TheVariants.{Whole, Words}
-use Rattle.span_event.specs.declared.thread.Thread.{Thread}
-use Rattle.span_keyed_tracks.specs.declared.async_track.AsyncRow.{AsyncRow}
-use Rattle.span_self_time.specs.Laws.{AreSpans}
-use Rattle.span_track.specs.Nesting.{closed_spans}
-use Rattle.span_journal.specs.declared.rows.SpanRow.{SpanRow}
-use Rattle.span_journal.specs.Rows.{async_rows, span_rows, thread_row}
-use Rattle.span_journal.specs.Told.{thread_events}
-use Rattle.span_journal.specs.Topics.{AreAlike}
-use Rattle.span_report.specs.Lines.{with_home}
-use Rattle.span_table.specs.declared.column.Column.{Column}
-use Rattle.span_table.specs.declared.column.Column.TheVariants.{Pid, Tid, Name, Cat, Scope, Id}
-use Rattle.span_table.specs.declared.of.Of.{Of}
-use Rattle.span_table.specs.declared.of.Of.TheVariants.{Spans, Async}
-use Rattle.span_table.specs.declared.table.Row.{Row}
-use Rattle.span_table.specs.Collected.{sums_of_row}
-use Rattle.span_table.specs.Keys.{TableKey, key_cmp}
-use Rattle.span_table.specs.Tables.{Run, RowsRise, sums_of_async, table_of}
+use Rattle.std.specs.{List.{IsDistinct, Sorted.IsPermutation}, Ordering.{eq_by_cmp, is_eq}, Prelude.{◌≡◌, List, [], ◌∷◌, filter, map, sum_by, take, Some}}
+use Rattle.span_table.specs.{Whole, Words, Thread, AsyncRow, AreSpans, closed_spans, SpanRow, async_rows, span_rows, thread_row, thread_events, AreAlike, with_home, Collected.sums_of_row, Keys.{TableKey, key_cmp}, Tables.{Run, RowsRise, sums_of_async, table_of}, declared.{column.Column.{Column, TheVariants.{Pid, Tid, Name, Cat, Scope, Id}}, of.Of.{Of, TheVariants.{Spans, Async}}, table.Row.Row}}
 
 -- two runs have journals that are alike, and as many files, of which as many were refused, and the same name of an only file
 pub record AreAlikeRuns (run other : Run) : Type 0 where

@@ -1,16 +1,6 @@
 -- What the rows of a table have under a key, and where it is looked for.
-use Rattle.std.specs.Prelude.{ℕ, ◌-◌, ◌==◌, Bool, List, ◌||◌, slice_get, Option}
-use Rattle.std.specs.declared.cmp.Ordering.{Ordering}
-use Rattle.std.specs.Ordering.{is_eq, is_lt}
-use Rattle.span_keyed_tracks.specs.Keyed.{steps_at}
-use Rattle.span_table.specs.declared.sums.Sums.{Sums}
-use Rattle.span_table.specs.declared.table.Row.{Row}
-use Rattle.span_table.specs.Adding.{keyed_rows}
-use Rattle.span_table.specs.Keys.{TableKey, key_cmp}
-use Rattle.span_table.specs.Tables.{sums_together}
-use Rattle.std.specs.List.{find}
-use Rattle.std.specs.Option.{option_map_or}
-use Rattle.std.specs.declared.cmp.Ordering.TheVariants.{Greater}
+use Rattle.std.specs.{List.find, Option.option_map_or, Ordering.{is_eq, is_lt}, Prelude.{ℕ, ◌-◌, ◌==◌, Bool, List, ◌||◌, slice_get, Option}, declared.cmp.Ordering.{Ordering, TheVariants.Greater}}
+use Rattle.span_table.specs.{steps_at, Adding.keyed_rows, Keys.{TableKey, key_cmp}, Tables.sums_together, declared.{sums.Sums.Sums, table.Row.Row}}
 
 -- the sums that rows have under a key; zeros where none has it
 abbrev pub sums_at : List Row → TableKey → Sums

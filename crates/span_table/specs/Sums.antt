@@ -1,10 +1,6 @@
 -- The numbers of a row: which one rows go by, how far two lie apart, and which have 64 bits.
 use Rattle.std.specs.Prelude.{ℕ, ◌+◌, ◌-◌, ◌==◌, ◌&&◌, Bool, ◌^◌, nat_lt}
-use Rattle.span_table.specs.declared.of.Of.{Of}
-use Rattle.span_table.specs.declared.of.Of.TheVariants.{Spans, Async}
-use Rattle.span_table.specs.declared.sums.By.{By}
-use Rattle.span_table.specs.declared.sums.By.TheVariants.{SelfTime, Total, Count, Closed, Open, Points}
-use Rattle.span_table.specs.declared.sums.Sums.{Sums}
+use Rattle.span_table.specs.declared.{of.Of.{Of, TheVariants.{Spans, Async}}, sums.{By.{By, TheVariants.{SelfTime, Total, Count, Closed, Open, Points}}, Sums.Sums}}
 
 -- the number that a ranking goes by
 abbrev pub number_by : By → Sums → ℕ

@@ -1,23 +1,7 @@
 -- Tables: the closed spans of runs, or their asynchronous spans, summed by columns.
-use Rattle.std.specs.Prelude.{List, map, flat_map, sum_by}
-use Rattle.std.specs.List.Sorted.{IsStrictlySortedBy}
-use Rattle.span_event.specs.declared.thread.Thread.{Thread}
-use Rattle.span_keyed_tracks.specs.declared.async_track.AsyncRow.{AsyncRow}
-use Rattle.span_keyed_tracks.specs.Keyed.{Keyed, entries_in}
-use Rattle.span_journal.specs.declared.rows.CountRow.{CountRow}
-use Rattle.span_journal.specs.Journal.{accepted}
-use Rattle.span_journal.specs.Rows.{async_rows, count_row, thread_keys}
-use Rattle.span_journal.specs.Timed.{Timed, timed_spans}
-use Rattle.span_self_time.specs.Spans.{length_of}
-use Rattle.span_table.specs.declared.column.Column.{Column}
-use Rattle.span_table.specs.declared.of.Of.{Of}
-use Rattle.span_table.specs.declared.of.Of.TheVariants.{Spans, Async}
-use Rattle.span_table.specs.declared.sums.Sums.{Sums}
-use Rattle.span_table.specs.declared.counts.TableCounts.{TableCounts}
-use Rattle.span_table.specs.declared.table.Row.{Row}
-use Rattle.span_table.specs.Columns.{async_value_at, value_at}
+use Rattle.std.specs.{List.Sorted.IsStrictlySortedBy, Prelude.{List, map, flat_map, sum_by}}
+use Rattle.span_table.specs.{Thread, AsyncRow, Keyed, entries_in, CountRow, accepted, async_rows, count_row, thread_keys, Timed, timed_spans, length_of, Columns.{async_value_at, value_at}, Keys.{TableKey, key_cmp}, declared.{column.Column.Column, counts.TableCounts.TableCounts, of.Of.{Of, TheVariants.{Spans, Async}}, sums.Sums.Sums, table.Row.Row}}
 pub use Rattle.span_table.specs.Columns.{Run}
-use Rattle.span_table.specs.Keys.{TableKey, key_cmp}
 
 -- a closed span with its self time
 abbrev pub sums_of : Timed → Sums

@@ -1,9 +1,6 @@
 //! Tables that are added as their rows come.
 ghost use Rattle.std.specs.Prelude.{◌≡◌, ◌+◌, ◌^◌, ◌≤◌, [], true, IfErr, IfOk, OnErr, OnOk};
-ghost use Rattle.span_table.specs.declared.table_sum.SumFault.TheVariants.{TooMany};
-ghost use Rattle.span_table.specs.Adding.{add_tables, with_counts, with_row};
-ghost use Rattle.span_table.specs.Counts.{counts_fit};
-ghost use Rattle.span_table.specs.Sums.{fit};
+ghost use Rattle.span_table.specs.{Adding.{add_tables, with_counts, with_row}, Counts.counts_fit, Sums.fit, declared.table_sum.SumFault.TheVariants.TooMany};
 
 use crate::column::{Column, copies_of};
 use crate::counts::TableCounts;
@@ -32,8 +29,7 @@ pub struct Addition {
 
 impl Model for Addition {
     ghost use Rattle.std.specs.Prelude.{map};
-    ghost use Rattle.span_table.specs.Kept.{IsAdded};
-    ghost use Rattle.span_table.specs.Tables.{SpanTable, row_of};
+    ghost use Rattle.span_table.specs.{Kept.IsAdded, Tables.{SpanTable, row_of}};
 
     ghost Value = { SpanTable };
 

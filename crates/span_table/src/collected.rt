@@ -1,14 +1,6 @@
 //! Adds the sums of a run: from the rows of names or of asynchronous keys, or span by span where a column is an argument.
-ghost use Rattle.std.specs.Prelude.{◌≡◌, ◌+◌, ◌≤◌, ◌^◌, ◌∷◌, [], ℕ, map, IfOk, OnOk};
-ghost use Rattle.span_event.specs.Text.{Bytes};
-ghost use Rattle.span_table.specs.Adding.{keyed_rows};
-ghost use Rattle.span_table.specs.Collected.{AllWithin, GrowsBy, Takes, keyed_span_row, row_sums};
-ghost use Rattle.std.specs.List.{list_any};
-ghost use Rattle.span_table.specs.Columns.{async_value_at, is_argument, value_at};
-ghost use Rattle.span_event.specs.Time.{distance};
-ghost use Rattle.span_journal.specs.Order.{thread_of_row};
-ghost use Rattle.span_journal.specs.Timed.{timed_spans};
-ghost use Rattle.span_table.specs.Tables.{RowsRise, async_sums, keyed_async, keyed_span, row_of, run_sums, span_sums, thread_sums};
+ghost use Rattle.std.specs.{List.list_any, Prelude.{◌≡◌, ◌+◌, ◌≤◌, ◌^◌, ◌∷◌, [], ℕ, map, IfOk, OnOk}};
+ghost use Rattle.span_table.specs.{Bytes, distance, thread_of_row, timed_spans, Adding.keyed_rows, Collected.{AllWithin, GrowsBy, Takes, keyed_span_row, row_sums}, Columns.{async_value_at, is_argument, value_at}, Tables.{RowsRise, async_sums, keyed_async, keyed_span, row_of, run_sums, span_sums, thread_sums}};
 
 use crate::column::Column;
 use crate::groups::Groups;

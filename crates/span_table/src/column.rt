@@ -1,11 +1,6 @@
 //! The columns by which spans are summed.
 ghost use Rattle.std.specs.Prelude.{◌≡◌, ◌≢◌, ◌<◌, [], ◌++◌, codes, length, option_copied, option_map, true, IfOk, IfSome, Some};
-ghost use Rattle.span_event.specs.declared.args.ArgValue.TheVariants.{Words};
-ghost use Rattle.span_event.specs.Text.{Bytes};
-ghost use Rattle.span_table.specs.declared.column.Column.{Column};
-ghost use Rattle.span_table.specs.declared.column.Column.TheVariants.{Argument};
-ghost use Rattle.span_table.specs.Columns.{async_value_at, column_name, goes_with, is_argument, is_column, is_of_all, is_of_async, value_at};
-ghost use Rattle.span_report.specs.Lines.{with_home};
+ghost use Rattle.span_table.specs.{Words, Bytes, with_home, Columns.{async_value_at, column_name, goes_with, is_argument, is_column, is_of_all, is_of_async, value_at}, declared.column.Column.{Column, TheVariants.Argument}};
 
 use crate::of::Of;
 use crate::run::LedgerRun;

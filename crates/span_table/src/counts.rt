@@ -1,7 +1,6 @@
 //! What a table counts beside its spans. The counts have no bound of their own: they are those of fewer than 2^32 runs.
 ghost use Rattle.std.specs.Prelude.{◌≡◌, ◌^◌, ◌∷◌, [], nat_lt};
-ghost use Rattle.span_table.specs.Counts.{AreCountsWithin, AreEntryCountsWithin, counts_fit, entry_counts_fit};
-ghost use Rattle.span_table.specs.Tables.{counts_of, counts_together, entry_counts_together};
+ghost use Rattle.span_table.specs.{Counts.{AreCountsWithin, AreEntryCountsWithin, counts_fit, entry_counts_fit}, Tables.{counts_of, counts_together, entry_counts_together}};
 
 use crate::run::LedgerRun;
 use span_journal::CountRow;
@@ -23,7 +22,7 @@ pub struct EntryCounts {
 }
 
 impl Model for EntryCounts {
-    ghost use Rattle.span_journal.specs.declared.rows.CountRow.{CountRow};
+    ghost use Rattle.span_table.specs.{CountRow};
 
     ghost Value = { CountRow };
 

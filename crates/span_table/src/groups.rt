@@ -1,9 +1,6 @@
 //! The sums of each key.
-ghost use Rattle.std.specs.Prelude.{◌≡◌, ◌^◌, ◌∷◌, [], ℕ, false, None, IfOk, IsTrue, OnErr, OnOk};
-ghost use Rattle.std.specs.BTreeMap.{is_at};
-ghost use Rattle.std.specs.Map.{lookup};
-ghost use Rattle.span_table.specs.Collected.{AllWithin, GrowsBy, IsPlaceOf, IsWithin, Takes};
-ghost use Rattle.span_table.specs.Keys.{key_cmp};
+ghost use Rattle.std.specs.{BTreeMap.is_at, Map.lookup, Prelude.{◌≡◌, ◌^◌, ◌∷◌, [], ℕ, false, None, IfOk, IsTrue, OnErr, OnOk}};
+ghost use Rattle.span_table.specs.{Collected.{AllWithin, GrowsBy, IsPlaceOf, IsWithin, Takes}, Keys.key_cmp};
 
 use crate::key::Key;
 use crate::sums::Sums;
@@ -26,9 +23,7 @@ pub(crate) struct Groups {
 }
 
 impl Model for Groups {
-    ghost use Rattle.span_keyed_tracks.specs.Keyed.{AreDistinct, in_key_order};
-    ghost use Rattle.span_table.specs.Keys.{key_cmp};
-    ghost use Rattle.span_table.specs.Tables.{SumsByKey};
+    ghost use Rattle.span_table.specs.{AreDistinct, in_key_order, Keys.key_cmp, Tables.SumsByKey};
 
     ghost Value = { SumsByKey };
 

@@ -1,11 +1,7 @@
 //! By what the rows of a table are distinguished.
-ghost use Rattle.std.specs.Prelude.{◌≡◌, Some, refl, fold, IfOk};
-ghost use Rattle.std.specs.Cmp.{eq_by_cmp_equiv, partial_equiv_from_equiv, partial_order_from_total};
-ghost use Rattle.std.specs.Ordering.{eq_by_cmp};
+ghost use Rattle.std.specs.{Cmp.{eq_by_cmp_equiv, partial_equiv_from_equiv, partial_order_from_total}, Ordering.eq_by_cmp, Prelude.{◌≡◌, Some, refl, fold, IfOk}};
 ghost use Rattle.std.proofs.Common.{ap};
-ghost use Rattle.span_table.specs.KeyLaws.{key_cmp_total, key_eq-same};
-ghost use Rattle.span_table.specs.Keys.{key_cmp};
-ghost use Rattle.span_table.specs.KeyWrites.{key_writes, value_writes};
+ghost use Rattle.span_table.specs.{KeyLaws.{key_cmp_total, key_eq-same}, KeyWrites.{key_writes, value_writes}, Keys.key_cmp};
 
 use crate::column::copy_of;
 use span_event::ArgValue;

@@ -1,6 +1,5 @@
 //! The facts that hold of every table.
-ghost use Rattle.span_table.specs.Adding.{AddingLosesNothing, DroppingAdds, OrderIsNothing};
-ghost use Rattle.span_table.specs.Laws.{KeysStandOnce, RowsAddUpToAsync, RowsAddUpToBusy, RowsAreAsyncRows, RowsAreSpanRows, TablesFollowFromActs};
+ghost use Rattle.span_table.specs.{Adding.{AddingLosesNothing, DroppingAdds, OrderIsNothing}, Laws.{KeysStandOnce, RowsAddUpToAsync, RowsAddUpToBusy, RowsAreAsyncRows, RowsAreSpanRows, TablesFollowFromActs}};
 
 /// The table of runs follows from how many entries their journals have of each kind, and from their accepted acts on each topic, in
 /// their order. The function does nothing: its contract is the law.

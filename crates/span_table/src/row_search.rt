@@ -1,8 +1,7 @@
 //! The rows of a table, by their keys. Keys that rise are found without a search: each is looked for at a place first, which then is the
 //! place behind it.
 ghost use Rattle.std.specs.Prelude.{◌≡◌, option_copied};
-ghost use Rattle.span_table.specs.RowSearch.{found_at, is_behind, order_at, sums_at};
-ghost use Rattle.span_table.specs.Tables.{RowsRise};
+ghost use Rattle.span_table.specs.{RowSearch.{found_at, is_behind, order_at, sums_at}, Tables.RowsRise};
 
 use crate::key::Key;
 use crate::sums::Sums;

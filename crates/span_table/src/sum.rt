@@ -1,6 +1,5 @@
 //! Sums that may need more than 128 bits: of one name the lengths together have up to 128, and no contract says that they have less.
-ghost use Rattle.std.specs.Prelude.{◌≡◌, ◌==◌, ◌+◌, ◌-◌, ◌<◌, ◌≤◌, ◌^◌, nat_lt, if◌then◌else◌, Some, None, string_bytes, decimal, IfOk};
-ghost use Rattle.std.specs.Ordering.{nat_cmp};
+ghost use Rattle.std.specs.{Ordering.nat_cmp, Prelude.{◌≡◌, ◌==◌, ◌+◌, ◌-◌, ◌<◌, ◌≤◌, ◌^◌, nat_lt, if◌then◌else◌, Some, None, string_bytes, decimal, IfOk}};
 ghost use Rattle.span_table.specs.Sums.{gap};
 
 use std::alloc::{AllocError, Global};

@@ -1,8 +1,6 @@
 //! What spans come to together.
 ghost use Rattle.std.specs.Prelude.{◌≡◌, ◌+◌, ◌≤◌, ◌^◌, ℕ, []};
-ghost use Rattle.span_table.specs.Collected.{IsWithin, sums_of_row, with_sums};
-ghost use Rattle.span_table.specs.Sums.{fit, number_by, same_sums};
-ghost use Rattle.span_table.specs.Tables.{sums_of_async, sums_together};
+ghost use Rattle.span_table.specs.{Collected.{IsWithin, sums_of_row, with_sums}, Sums.{fit, number_by, same_sums}, Tables.{sums_of_async, sums_together}};
 
 use crate::sum::Sum;
 use span_journal::SpanRow;

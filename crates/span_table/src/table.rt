@@ -1,9 +1,6 @@
 //! A table of spans.
 ghost use Rattle.std.specs.Prelude.{◌≡◌, ◌^◌, ◌∷◌, [], map, option_copied, IfOk};
-ghost use Rattle.span_table.specs.Columns.{run_of};
-ghost use Rattle.span_table.specs.Counts.{AreCountsWithin};
-ghost use Rattle.span_table.specs.Kept.{IsTabled};
-ghost use Rattle.span_table.specs.Tables.{RowsRise, row_of, table_of};
+ghost use Rattle.span_table.specs.{Columns.run_of, Counts.AreCountsWithin, Kept.IsTabled, Tables.{RowsRise, row_of, table_of}};
 
 use crate::column::Column;
 use crate::counts::TableCounts;
@@ -36,8 +33,7 @@ pub struct Table {
 }
 
 impl Model for Table {
-    ghost use Rattle.span_table.specs.Kept.{IsTabled};
-    ghost use Rattle.span_table.specs.Tables.{SpanTable};
+    ghost use Rattle.span_table.specs.{Kept.IsTabled, Tables.SpanTable};
 
     ghost Value = { SpanTable };
 

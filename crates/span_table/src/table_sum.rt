@@ -1,9 +1,6 @@
 //! Tables of runs, added as they come.
 ghost use Rattle.std.specs.Prelude.{◌≡◌, ◌+◌, ◌<◌, ◌≤◌, ◌^◌, ◌∷◌, [], option_copied, IfOk, IfErr, OnOk};
-ghost use Rattle.span_table.specs.declared.table_sum.SumFault.TheVariants.{TooMany};
-ghost use Rattle.span_table.specs.Adding.{JoinsRuns, TakesRuns, add_tables, with_run};
-ghost use Rattle.span_table.specs.Columns.{run_of};
-ghost use Rattle.span_table.specs.Tables.{table_of};
+ghost use Rattle.span_table.specs.{Adding.{JoinsRuns, TakesRuns, add_tables, with_run}, Columns.run_of, Tables.table_of, declared.table_sum.SumFault.TheVariants.TooMany};
 
 use crate::collected::{add_entries, add_run};
 use crate::column::{Column, copies_of};
@@ -41,8 +38,7 @@ pub struct TableSum {
 
 impl Model for TableSum {
     ghost use Rattle.std.specs.Prelude.{map};
-    ghost use Rattle.span_table.specs.Kept.{IsKept};
-    ghost use Rattle.span_table.specs.Tables.{SpanTable, row_of};
+    ghost use Rattle.span_table.specs.{Kept.IsKept, Tables.{SpanTable, row_of}};
 
     ghost Value = { SpanTable };
 

@@ -1,33 +1,9 @@
 -- Two tables that are printed alike are the same.
-use Rattle.std.proofs.Common.{◌≡◌, ◌≢◌, ℕ, ◌^◌, ◌<◌, ◌==◌, cond, true, List, [], ◌∷◌, ◌++◌, All, drop, flat_map, get_or, length, map, refl, sym, ap, subst, ◌∙◌, Some, None, append_assoc, arith, codes}
-use Rattle.std.proofs.lemmas.Fmt.{decimal_injective, signed_decimal_injective}
-use Rattle.std.proofs.lemmas.List.Elements.{All-head, All-tail, All-weaker}
-use Rattle.json.specs.Lex.{tokens}
-use Rattle.json.specs.Print.{print}
-use Rattle.json.specs.Token.{Token, end_array, end_object, key}
-use Rattle.span_event.specs.declared.args.ArgValue.{ArgValue}
-use Rattle.span_event.specs.declared.args.ArgValue.TheVariants.{Nil, Flag, Whole, Words, Other}
-use Rattle.span_event.specs.Text.{Bytes}
-use Rattle.span_event.specs.declared.unit.Unit.{Unit}
-use Rattle.span_event.specs.declared.unit.Unit.TheVariants.{Microseconds, Nanoseconds}
-use Rattle.span_table.specs.declared.column.Column.{Column}
-use Rattle.span_table.specs.declared.column.Column.TheVariants.{Pid, Tid, Process, Thread, Name, File, Cat, Scope, Id, Argument}
-use Rattle.span_table.specs.declared.counts.TableCounts.{TableCounts}
-use Rattle.span_table.specs.declared.of.Of.{Of}
-use Rattle.span_table.specs.declared.of.Of.TheVariants.{Spans, Async}
-use Rattle.span_table.specs.declared.sums.Sums.{Sums}
-use Rattle.span_table.specs.declared.table.Row.{Row}
-use Rattle.span_table.specs.Columns.{column_name}
-use Rattle.span_table.specs.Counts.{counts_fit}
-use Rattle.span_table.specs.Sums.{fit}
-use Rattle.span_table_text.specs.Json.{json_line, text_of}
-use Rattle.span_table.specs.Keys.{TableKey}
-use Rattle.span_table_text.specs.Printed.{AllFit, AreDistinct, HasOwn, IsOfArgument, IsPart, IsPrint, IsRowOf, IsTable, PartsAreDetermined}
-use Rattle.span_table.specs.Tables.{SpanTable}
-use Rattle.span_table_text.specs.Tokens.{columns_tokens, head_tokens, key_tokens, name_tokens, numbers_tokens, of_tokens, row_tokens, sums_tokens, unit_tokens, value_tokens}
-use Rattle.span_table_text.proofs.Printed.{json_head-print, json_line-print}
+use Rattle.std.proofs.{Common.{◌≡◌, ◌≢◌, ℕ, ◌^◌, ◌<◌, ◌==◌, cond, true, List, [], ◌∷◌, ◌++◌, All, drop, flat_map, get_or, length, map, refl, sym, ap, subst, ◌∙◌, Some, None, append_assoc, arith, codes}, lemmas.{Fmt.{decimal_injective, signed_decimal_injective}, List.Elements.{All-head, All-tail, All-weaker}}}
+use Rattle.json.specs.{Lex.tokens, Print.print, Token.{Token, end_array, end_object, key}}
 use Rattle.span_table.proofs.Summing.{sums_small}
-use Rattle.span_table_text.proofs.PrintedLines.{AreSmall, IsDetermined, IsDeterminedKey, IsLine, IsRowOf-determined, counts_small, numbers_fit-each, print_head-IsLine, print_row-IsLine, tokens-head, tokens-row}
+use Rattle.span_table_text.specs.{ArgValue, Nil, Flag, Whole, Words, Other, Bytes, Unit, Microseconds, Nanoseconds, Column, Pid, Tid, Process, Thread, Name, File, Cat, Scope, Id, Argument, TableCounts, Of, Spans, Async, Sums, Row, column_name, counts_fit, fit, TableKey, SpanTable, Json.{json_line, text_of}, Printed.{AllFit, AreDistinct, HasOwn, IsOfArgument, IsPart, IsPrint, IsRowOf, IsTable, PartsAreDetermined}, Tokens.{columns_tokens, head_tokens, key_tokens, name_tokens, numbers_tokens, of_tokens, row_tokens, sums_tokens, unit_tokens, value_tokens}}
+use Rattle.span_table_text.proofs.{Printed.{json_head-print, json_line-print}, PrintedLines.{AreSmall, IsDetermined, IsDeterminedKey, IsLine, IsRowOf-determined, counts_small, numbers_fit-each, print_head-IsLine, print_row-IsLine, tokens-head, tokens-row}}
 
 -- two texts are the same if their first lines are, and what follows these
 line-determined : (a b r s : Bytes) → IsLine a → IsLine b → a ++ 10 ∷ r ≡ b ++ 10 ∷ s → (a ≡ b) × (r ≡ s)

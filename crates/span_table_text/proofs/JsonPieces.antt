@@ -1,16 +1,7 @@
 -- Lines for machines, from the pieces of which they are made.
-use Rattle.std.proofs.Common.{◌≡◌, ℕ, List, [], ◌∷◌, ◌++◌, refl, ap, ◌∙◌, Some, None, append_assoc}
 use Rattle.std.specs.Prelude.{codes, decimal}
-use Rattle.span_event.specs.Text.{Bytes}
-use Rattle.span_event.specs.declared.unit.Unit.{Unit}
-use Rattle.span_table.specs.declared.column.Column.{Column}
-use Rattle.span_table.specs.declared.counts.TableCounts.{TableCounts}
-use Rattle.span_table.specs.declared.of.Of.{Of}
-use Rattle.span_table.specs.declared.of.Of.TheVariants.{Spans, Async}
-use Rattle.span_table.specs.declared.table.Row.{Row}
-use Rattle.span_table_text.specs.Json.{columns_json, counts_members, json_head, json_line, member_of, number_member, sums_members, value_member, value_members, version_member, with_commas}
-use Rattle.span_table_text.specs.JsonPieces.{count_text, end_text, events_text, files_text, counts_text, others_text, members_text, start_text, sums_text}
-use Rattle.span_table.specs.Keys.{TableKey}
+use Rattle.std.proofs.Common.{◌≡◌, ℕ, List, [], ◌∷◌, ◌++◌, refl, ap, ◌∙◌, Some, None, append_assoc}
+use Rattle.span_table_text.specs.{Bytes, Unit, Column, TableCounts, Of, Spans, Async, Row, TableKey, Json.{columns_json, counts_members, json_head, json_line, member_of, number_member, sums_members, value_member, value_members, version_member, with_commas}, JsonPieces.{count_text, end_text, events_text, files_text, counts_text, others_text, members_text, start_text, sums_text}}
 
 -- the members of a key, and then some more
 pub members-then : (columns : List Column) (key : TableKey) (m : Bytes) (ms : List Bytes) → with_commas (value_members columns key ++ m ∷ ms) ≡ members_text columns key ++ with_commas (m ∷ ms)

@@ -1,17 +1,7 @@
 -- Lines, from the pieces of which they are made.
-use Rattle.std.proofs.Common.{◌≡◌, ℕ, ◌-◌, List, [], ◌∷◌, ◌++◌, map, refl, sym, ap, ◌∙◌, append_assoc}
-use Rattle.std.specs.Prelude.{codes, decimal, flat_map}
-use Rattle.std.specs.List.{join_with_byte}
-use Rattle.std.proofs.lemmas.List.{append-nil}
-use Rattle.span_event.specs.Text.{Bytes}
-use Rattle.span_report.specs.Lines.{line_of, right_in}
-use Rattle.span_table.specs.declared.column.Column.{Column}
-use Rattle.span_table.specs.declared.of.Of.{Of}
-use Rattle.span_table.specs.declared.of.Of.TheVariants.{Spans, Async}
-use Rattle.span_table.specs.declared.table.Row.{Row}
-use Rattle.span_table_text.specs.Lines.{column_title, value_text}
-use Rattle.span_table_text.specs.Pieces.{sums_names, sums_text, then_title, then_value}
-use Rattle.span_table_text.specs.Ranking.{column_line, ranked_line}
+use Rattle.std.specs.{List.join_with_byte, Prelude.{codes, decimal, flat_map}}
+use Rattle.std.proofs.{Common.{◌≡◌, ℕ, ◌-◌, List, [], ◌∷◌, ◌++◌, map, refl, sym, ap, ◌∙◌, append_assoc}, lemmas.List.append-nil}
+use Rattle.span_table_text.specs.{Bytes, line_of, right_in, Column, Of, Spans, Async, Row, Lines.{column_title, value_text}, Pieces.{sums_names, sums_text, then_title, then_value}, Ranking.{column_line, ranked_line}}
 
 -- texts with a byte between them, from the first and the others with the byte before each
 pub join_with_byte-each : {A : Type 0} (b : ℕ) (f : A → Bytes) (x : A) (xs : List A) → join_with_byte b (map f (x ∷ xs)) ≡ f x ++ flat_map (λ y. b ∷ f y) xs

@@ -1,25 +1,7 @@
 -- The lines of a table are their tokens, printed.
 use Rattle.std.proofs.Common.{◌≡◌, ℕ, true, false, List, [], ◌∷◌, ◌++◌, map, refl, sym, ap, ◌∙◌, Some, None, append_assoc, codes, decimal}
-use Rattle.json.specs.Token.{Token, begin_array, begin_object, end_array, end_object, key, number}
-use Rattle.json.specs.Print.{escape_byte, print, print_from, quoted}
-use Rattle.span_event.specs.declared.args.ArgValue.{ArgValue}
-use Rattle.span_event.specs.declared.args.ArgValue.TheVariants.{Nil, Flag, Whole, Words, Other}
-use Rattle.span_event.specs.Text.{Bytes}
-use Rattle.span_event.specs.declared.unit.Unit.{Unit}
-use Rattle.span_event.specs.declared.unit.Unit.TheVariants.{Microseconds, Nanoseconds}
-use Rattle.span_report.specs.Lines.{json_text_of}
-use Rattle.span_table.specs.declared.column.Column.{Column}
-use Rattle.span_table.specs.declared.counts.TableCounts.{TableCounts}
-use Rattle.span_table.specs.declared.of.Of.{Of}
-use Rattle.span_table.specs.declared.of.Of.TheVariants.{Spans, Async}
-use Rattle.span_table.specs.declared.sums.Sums.{Sums}
-use Rattle.span_table.specs.declared.table.Row.{Row}
-use Rattle.span_table.specs.Columns.{column_name}
-use Rattle.span_table_text.specs.Json.{column_json, json_head, json_line, of_member, unit_member, with_commas}
-use Rattle.span_table_text.specs.Lines.{value_json}
-use Rattle.span_table_text.specs.JsonPieces.{count_text, counts_text, end_text, events_text, files_text, members_text, others_text, start_text, sums_text}
-use Rattle.span_table.specs.Keys.{TableKey}
-use Rattle.span_table_text.specs.Tokens.{head_tokens, key_tokens, name_tokens, numbers_tokens, of_tokens, row_tokens, sums_tokens, unit_tokens, value_tokens}
+use Rattle.json.specs.{Print.{escape_byte, print, print_from, quoted}, Token.{Token, begin_array, begin_object, end_array, end_object, key, number}}
+use Rattle.span_table_text.specs.{ArgValue, Nil, Flag, Whole, Words, Other, Bytes, Unit, Microseconds, Nanoseconds, json_text_of, Column, TableCounts, Of, Spans, Async, Sums, Row, column_name, TableKey, Json.{column_json, json_head, json_line, of_member, unit_member, with_commas}, JsonPieces.{count_text, counts_text, end_text, events_text, files_text, members_text, others_text, start_text, sums_text}, Lines.value_json, Tokens.{head_tokens, key_tokens, name_tokens, numbers_tokens, of_tokens, row_tokens, sums_tokens, unit_tokens, value_tokens}}
 use Rattle.span_table_text.proofs.JsonPieces.{json_head_pieces, json_line_pieces}
 
 -- a value, and then some more

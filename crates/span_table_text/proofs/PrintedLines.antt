@@ -1,43 +1,10 @@
 -- The tokens of the lines of a table are read back, and no line feed stands in such a line.
-use Rattle.std.proofs.Common.{◌≡◌, ◌≢◌, ℕ, ℤ, pos, negsuc, suc, ◌+◌, ◌/◌, ◌%◌, ◌^◌, ◌<◌, ◌≤◌, Bool, true, false, true≢false, cond, ◌&&◌, ◌||◌, ◌==◌, nat_lt, List, [], ◌∷◌, ◌++◌, All, length, refl, sym, ap, ◌∙◌, Some, None, arith, decimal, codes, FitsSigned}
-use Rattle.std.specs.Prelude.{⊤}
-use Rattle.std.specs.Char.{digit_char}
-use Rattle.std.specs.Fmt.{signed_decimal}
-use Rattle.std.specs.Int.{w64}
-use Rattle.std.specs.List.{AllByRecursion, list_all}
-use Rattle.std.specs.Str.Parse.{AllDigits}
-use Rattle.std.proofs.lemmas.Bool.{and_parts, ltb-false, ltb-true}
-use Rattle.std.proofs.lemmas.Fmt.{decimal_is_IsNumeral}
-use Rattle.std.proofs.lemmas.List.Elements.{All-from_recursion}
-use Rattle.std.proofs.lemmas.List.Sums.{AllPass-from_list_all}
-use Rattle.std.proofs.lemmas.Str.Parse.{digit_from_value}
-use Rattle.json.specs.Lex.{tokens}
-use Rattle.json.specs.Print.{ArePrintable, IsNumber, IsPrintable, begins, ends, escape, escape_byte, escape_letter, print, print_from, quoted, separator, token_text}
-use Rattle.json.specs.Word.{after_number}
-use Rattle.json.specs.Token.{Token, begin_object, end_object, begin_array, end_array, key, string, number, boolean, null, bad}
-use Rattle.json.proofs.Printed.Decimals.{IsNumber-decimal, IsNumber-signed_decimal}
-use Rattle.json.proofs.Printed.Tokens.{tokens-print}
-use Rattle.span_event.specs.declared.args.ArgValue.{ArgValue}
-use Rattle.span_event.specs.declared.args.ArgValue.TheVariants.{Nil, Flag, Whole, Words, Other}
-use Rattle.span_event.specs.Text.{Bytes}
-use Rattle.span_event.specs.declared.unit.Unit.{Unit}
-use Rattle.span_event.specs.declared.unit.Unit.TheVariants.{Microseconds, Nanoseconds}
-use Rattle.span_table.specs.declared.column.Column.{Column}
-use Rattle.span_table.specs.declared.column.Column.TheVariants.{Pid, Tid, Process, Thread, Name, File, Cat, Scope, Id, Argument}
-use Rattle.span_table.specs.declared.counts.TableCounts.{TableCounts}
-use Rattle.span_table.specs.declared.of.Of.{Of}
-use Rattle.span_table.specs.declared.of.Of.TheVariants.{Spans, Async}
-use Rattle.span_table.specs.declared.sums.Sums.{Sums}
-use Rattle.span_table.specs.declared.table.Row.{Row}
-use Rattle.span_table.specs.Columns.{Value}
-use Rattle.span_table.specs.Counts.{counts_fit}
-use Rattle.span_table.specs.Sums.{fit}
-use Rattle.span_table_text.specs.Json.{numbers_fit}
-use Rattle.span_table.specs.Keys.{TableKey}
-use Rattle.span_table_text.specs.Printed.{HasOwn, IsKeyOf, IsOfArgument, IsRowOf, KeyFits, MayHave}
-use Rattle.span_table.specs.Tables.{SpanTable}
-use Rattle.span_table_text.specs.Tokens.{columns_tokens, entry_counts_tokens, head_tokens, key_tokens, name_tokens, numbers_tokens, of_tokens, row_tokens, sums_tokens, unit_tokens, value_tokens}
+use Rattle.std.specs.{Char.digit_char, Fmt.signed_decimal, Int.w64, List.{AllByRecursion, list_all}, Prelude.⊤, Str.Parse.AllDigits}
+use Rattle.std.proofs.{Common.{◌≡◌, ◌≢◌, ℕ, ℤ, pos, negsuc, suc, ◌+◌, ◌/◌, ◌%◌, ◌^◌, ◌<◌, ◌≤◌, Bool, true, false, true≢false, cond, ◌&&◌, ◌||◌, ◌==◌, nat_lt, List, [], ◌∷◌, ◌++◌, All, length, refl, sym, ap, ◌∙◌, Some, None, arith, decimal, codes, FitsSigned}, lemmas.{Bool.{and_parts, ltb-false, ltb-true}, Fmt.decimal_is_IsNumeral, List.{Elements.All-from_recursion, Sums.AllPass-from_list_all}, Str.Parse.digit_from_value}}
+use Rattle.json.specs.{Lex.tokens, Print.{ArePrintable, IsNumber, IsPrintable, begins, ends, escape, escape_byte, escape_letter, print, print_from, quoted, separator, token_text}, Token.{Token, begin_object, end_object, begin_array, end_array, key, string, number, boolean, null, bad}, Word.after_number}
+use Rattle.json.proofs.Printed.{Decimals.{IsNumber-decimal, IsNumber-signed_decimal}, Tokens.tokens-print}
 use Rattle.span_table.proofs.Summing.{sums_small}
+use Rattle.span_table_text.specs.{ArgValue, Nil, Flag, Whole, Words, Other, Bytes, Unit, Microseconds, Nanoseconds, Column, Pid, Tid, Process, Thread, Name, File, Cat, Scope, Id, Argument, TableCounts, Of, Spans, Async, Sums, Row, Value, counts_fit, fit, TableKey, SpanTable, Json.numbers_fit, Printed.{HasOwn, IsKeyOf, IsOfArgument, IsRowOf, KeyFits, MayHave}, Tokens.{columns_tokens, entry_counts_tokens, head_tokens, key_tokens, name_tokens, numbers_tokens, of_tokens, row_tokens, sums_tokens, unit_tokens, value_tokens}}
 
 -- no line feed is among the bytes
 abbrev pub IsLine : Bytes → Type 0

@@ -1,24 +1,9 @@
 -- No two rows that rise rank alike, so each has its place in a ranking.
-use Rattle.std.proofs.Common.{◌≡◌, Bool, true, false, cond, List, [], ◌∷◌, refl, ap}
-use Rattle.std.specs.Prelude.{filter}
-use Rattle.std.specs.Cmp.{IsTotalOrder}
-use Rattle.std.specs.List.{AllByRecursion, IsDistinct}
-use Rattle.std.specs.List.Sorted.{IsStrictlySortedBy}
-use Rattle.std.specs.Ordering.{eq_by_cmp, is_eq, nat_cmp, ordering_then}
-use Rattle.std.specs.declared.cmp.Ordering.{Ordering}
-use Rattle.std.specs.declared.cmp.Ordering.TheVariants.{Less, Equal, Greater}
-use Rattle.std.proofs.lemmas.Cmp.{back_total, nat_cmp_total, on_total, then_total}
+use Rattle.std.specs.{Cmp.IsTotalOrder, List.{AllByRecursion, IsDistinct, Sorted.IsStrictlySortedBy}, Ordering.{eq_by_cmp, is_eq, nat_cmp, ordering_then}, Prelude.filter, declared.cmp.Ordering.{Ordering, TheVariants.{Less, Equal, Greater}}}
+use Rattle.std.proofs.{Common.{◌≡◌, Bool, true, false, cond, List, [], ◌∷◌, refl, ap}, lemmas.Cmp.{back_total, nat_cmp_total, on_total, then_total}}
+use Rattle.span_keyed_tracks.proofs.{Sorted.ascending-sorted, Sorting.ascending-permutation}
 use Rattle.span_journal.proofs.Sorted.{AllByRecursion-map}
-use Rattle.span_table.specs.declared.sums.By.{By}
-use Rattle.span_table.specs.declared.table.Row.{Row}
-use Rattle.span_table.specs.KeyLaws.{key_cmp_total}
-use Rattle.span_table.specs.Keys.{key_cmp}
-use Rattle.span_table.specs.Sums.{number_by}
-use Rattle.span_table_text.specs.Ranks.{ranking_order, RankingsHaveEachRow}
-use Rattle.span_table_text.specs.Shown.{Wanted, is_wanted, shown_rows}
-use Rattle.span_table.specs.Tables.{RowsRise}
-use Rattle.span_keyed_tracks.proofs.Sorted.{ascending-sorted}
-use Rattle.span_keyed_tracks.proofs.Sorting.{ascending-permutation}
+use Rattle.span_table_text.specs.{By, Row, key_cmp_total, key_cmp, number_by, RowsRise, Ranks.{ranking_order, RankingsHaveEachRow}, Shown.{Wanted, is_wanted, shown_rows}}
 
 -- the order of a ranking is total
 pub ranking_order-total : (by : By) → IsTotalOrder (ranking_order by)

@@ -1,44 +1,11 @@
 -- The rows of a table of runs are those of what it sums, so what is printed of it can be read back.
-use Rattle.std.proofs.Common.{◌≡◌, ℕ, ◌+◌, ◌<◌, ◌==◌, Bool, true, false, cond, not, ◌&&◌, ◌||◌, List, [], ◌∷◌, All, Contains, filter, flat_map, get_or, is_some, length, map, sum_by, Option, Some, None, option_map, refl, sym, ap, ap₂, subst, ◌∙◌, arith}
-use Rattle.std.specs.Cmp.{IsTotalOrder, eq_by_cmp_equiv}
-use Rattle.std.specs.List.{list_all, list_any}
-use Rattle.std.specs.Ordering.{is_eq}
-use Rattle.std.specs.declared.cmp.Ordering.{Ordering}
-use Rattle.std.proofs.lemmas.Bool.{and_parts, eqb-true}
-use Rattle.std.proofs.lemmas.List.{length-map}
-use Rattle.std.proofs.lemmas.List.Elements.{All-append, All-contains, All-contains_itself, All-head, All-map, All-nil, All-tail, All-weaker}
-use Rattle.std.proofs.lemmas.Map.Views.{list_any-from_Contains}
-use Rattle.span_event.specs.declared.args.ArgValue.TheVariants.{Words}
+use Rattle.std.specs.{Cmp.{IsTotalOrder, eq_by_cmp_equiv}, List.{list_all, list_any}, Ordering.is_eq, declared.cmp.Ordering.Ordering}
+use Rattle.std.proofs.{Common.{◌≡◌, ℕ, ◌+◌, ◌<◌, ◌==◌, Bool, true, false, cond, not, ◌&&◌, ◌||◌, List, [], ◌∷◌, All, Contains, filter, flat_map, get_or, is_some, length, map, sum_by, Option, Some, None, option_map, refl, sym, ap, ap₂, subst, ◌∙◌, arith}, lemmas.{Bool.{and_parts, eqb-true}, List.{length-map, Elements.{All-append, All-contains, All-contains_itself, All-head, All-map, All-nil, All-tail, All-weaker}}, Map.Views.list_any-from_Contains}}
 use Rattle.span_event.specs.declared.thread.Thread.{Thread}
-use Rattle.span_event.specs.Args.{Arguments}
-use Rattle.span_event.specs.Text.{Bytes}
-use Rattle.span_event.specs.declared.unit.Unit.{Unit}
-use Rattle.span_keyed_tracks.specs.declared.async_track.AsyncRow.{AsyncRow}
-use Rattle.span_keyed_tracks.specs.declared.keys.AsyncKey.{AsyncKey}
-use Rattle.span_keyed_tracks.specs.Keyed.{Keyed, entry_of, keys_in, steps_at}
-use Rattle.span_keyed_tracks.proofs.Keyed.{has_key}
-use Rattle.span_keyed_tracks.proofs.SameKeys.{All-ascending, step_keys}
-use Rattle.span_keyed_tracks.proofs.Uses.{is_eq-turned}
-use Rattle.span_journal.specs.Journal.{accepted}
-use Rattle.span_journal.specs.Rows.{async_rows, names_of, thread_keys}
-use Rattle.span_journal.specs.Timed.{Timed, timed_spans}
-use Rattle.span_table.specs.declared.column.Column.{Column}
-use Rattle.span_table.specs.declared.column.Column.TheVariants.{Pid, Tid, Process, Thread as OfThread, Name, File, Cat, Scope, Id, Argument}
-use Rattle.span_table.specs.declared.of.Of.{Of}
-use Rattle.span_table.specs.declared.of.Of.TheVariants.{Spans, Async}
-use Rattle.span_table.specs.declared.sums.Sums.{Sums}
-use Rattle.span_table.specs.declared.table.Row.{Row}
-use Rattle.span_table.specs.Columns.{Run, async_value_at, goes_with, value_at}
-use Rattle.span_table_text.specs.Json.{shown_table, text_of}
-use Rattle.span_table.specs.KeyLaws.{key_cmp_total}
-use Rattle.span_table.specs.Keys.{TableKey, key_cmp}
-use Rattle.span_table_text.specs.Printed.{AllFit, AllIsPrinted, AreColumns, HasFile, HasSome, HaveFiles, IsKeyOf, IsName, IsOfArgument, IsPart, IsPrint, IsTable, IsWords, KeyFits, MayHave, PrintsAreParts}
-use Rattle.span_table_text.specs.Shown.{Wanted, is_wanted, key_has, wants_all}
-use Rattle.span_table.specs.Tables.{KeyedSums, SpanTable, keyed_async, keyed_span, row_of, rows_of, run_sums, sums_together, table_of, thread_sums}
-use Rattle.span_table_text.proofs.Determined.{HasOwnNumbers, HasWholeKeys, prints-determined}
-use Rattle.span_table_text.proofs.PrintedLines.{numbers_fit-each}
-use Rattle.span_table.proofs.Rows.{RowsRise-rows_of}
-use Rattle.span_table.proofs.Tallies.{tally, tally-cons}
+use Rattle.span_keyed_tracks.proofs.{Keyed.has_key, SameKeys.{All-ascending, step_keys}, Uses.is_eq-turned}
+use Rattle.span_table.proofs.{Rows.RowsRise-rows_of, Tallies.{tally, tally-cons}}
+use Rattle.span_table_text.specs.{Words, Arguments, Bytes, Unit, AsyncRow, AsyncKey, Keyed, entry_of, keys_in, steps_at, accepted, async_rows, names_of, thread_keys, Timed, timed_spans, Column, Pid, Tid, Process, Thread as OfThread, Name, File, Cat, Scope, Id, Argument, Of, Spans, Async, Sums, Row, Run, async_value_at, goes_with, value_at, key_cmp_total, TableKey, key_cmp, KeyedSums, SpanTable, keyed_async, keyed_span, row_of, rows_of, run_sums, sums_together, table_of, thread_sums, Json.{shown_table, text_of}, Printed.{AllFit, AllIsPrinted, AreColumns, HasFile, HasSome, HaveFiles, IsKeyOf, IsName, IsOfArgument, IsPart, IsPrint, IsTable, IsWords, KeyFits, MayHave, PrintsAreParts}, Shown.{Wanted, is_wanted, key_has, wants_all}}
+use Rattle.span_table_text.proofs.{Determined.{HasOwnNumbers, HasWholeKeys, prints-determined}, PrintedLines.numbers_fit-each}
 
 -- what holds of all that each gives holds of all that they give
 All-flat_map : {A B : Type 0} (P : B → Type 0) (f : A → List B) (xs : List A) → All (λ x. All P (f x)) xs → All P (flat_map f xs)

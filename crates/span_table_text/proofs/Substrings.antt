@@ -1,12 +1,7 @@
 -- Bytes that stand in a text.
-use Rattle.std.proofs.Common.{◌≡◌, ◌↔◌, [], ◌∷◌, ◌++◌, Bool, true, false, ◌||◌, length, take, drop, refl, sym, ap, ◌∙◌}
-use Rattle.std.specs.Prelude.{nat_eq}
-use Rattle.std.specs.List.{starts_with}
-use Rattle.std.specs.Cmp.Lexicographic.{pointwise, bytes_decides}
-use Rattle.std.specs.Str.Iter.{HasSubslice}
-use Rattle.std.proofs.lemmas.List.{take-append-drop}
-use Rattle.span_event.specs.Text.{Bytes}
-use Rattle.span_table_text.specs.Shown.{has_bytes}
+use Rattle.std.specs.{Cmp.Lexicographic.{pointwise, bytes_decides}, List.starts_with, Prelude.nat_eq, Str.Iter.HasSubslice}
+use Rattle.std.proofs.{Common.{◌≡◌, ◌↔◌, [], ◌∷◌, ◌++◌, Bool, true, false, ◌||◌, length, take, drop, refl, sym, ap, ◌∙◌}, lemmas.List.take-append-drop}
+use Rattle.span_table_text.specs.{Bytes, Shown.has_bytes}
 
 either : (a b : Bool) → b ≡ true → (a || b) ≡ true
 either true b h = refl

@@ -1,24 +1,6 @@
 -- The rows of a table for machines: JSON Lines.
-use Rattle.std.specs.Prelude.{ℕ, Bool, ◌&&◌, List, [], ◌∷◌, ◌++◌, flat_map, length, map, codes, decimal, Some, None}
-use Rattle.std.specs.List.{join_with_byte, list_all}
-use Rattle.span_event.specs.declared.args.ArgValue.{ArgValue}
-use Rattle.span_event.specs.Text.{Bytes}
-use Rattle.span_event.specs.declared.unit.Unit.{Unit}
-use Rattle.span_event.specs.declared.unit.Unit.TheVariants.{Microseconds, Nanoseconds}
-use Rattle.span_report.specs.Lines.{json_text_of}
-use Rattle.span_table.specs.declared.column.Column.{Column}
-use Rattle.span_table.specs.declared.of.Of.{Of}
-use Rattle.span_table.specs.declared.of.Of.TheVariants.{Spans, Async}
-use Rattle.span_table.specs.declared.sums.Sums.{Sums}
-use Rattle.span_table.specs.declared.counts.TableCounts.{TableCounts}
-use Rattle.span_table.specs.declared.table.Row.{Row}
-use Rattle.span_table.specs.Columns.{column_name}
-use Rattle.span_table.specs.Keys.{TableKey}
-use Rattle.span_table_text.specs.Lines.{value_json}
-use Rattle.span_table_text.specs.Shown.{Wanted, shown_rows}
-use Rattle.span_table.specs.Tables.{SpanTable}
-use Rattle.span_table.specs.Counts.{counts_fit}
-use Rattle.span_table.specs.Sums.{fit}
+use Rattle.std.specs.{List.{join_with_byte, list_all}, Prelude.{ℕ, Bool, ◌&&◌, List, [], ◌∷◌, ◌++◌, flat_map, length, map, codes, decimal, Some, None}}
+use Rattle.span_table_text.specs.{ArgValue, Bytes, Unit, Microseconds, Nanoseconds, json_text_of, Column, Of, Spans, Async, Sums, TableCounts, Row, column_name, TableKey, SpanTable, counts_fit, fit, Lines.value_json, Shown.{Wanted, shown_rows}}
 
 -- the texts with a comma between them
 abbrev pub with_commas : List Bytes → Bytes

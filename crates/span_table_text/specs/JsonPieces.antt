@@ -1,15 +1,6 @@
 -- The pieces of lines for machines, in the order in which they are appended.
 use Rattle.std.specs.Prelude.{ℕ, List, [], ◌∷◌, ◌++◌, Some, None, codes, decimal}
-use Rattle.span_event.specs.Text.{Bytes}
-use Rattle.span_event.specs.declared.unit.Unit.{Unit}
-use Rattle.span_table.specs.declared.column.Column.{Column}
-use Rattle.span_table.specs.declared.of.Of.{Of}
-use Rattle.span_table.specs.Columns.{Value}
-use Rattle.span_journal.specs.declared.rows.CountRow.{CountRow}
-use Rattle.span_table.specs.declared.sums.Sums.{Sums}
-use Rattle.span_table.specs.declared.counts.TableCounts.{TableCounts}
-use Rattle.span_table_text.specs.Json.{of_member, sums_members, unit_member, value_member, with_commas}
-use Rattle.span_table.specs.Keys.{TableKey}
+use Rattle.span_table_text.specs.{Bytes, Unit, Column, Of, Value, CountRow, Sums, TableCounts, TableKey, Json.{of_member, sums_members, unit_member, value_member, with_commas}}
 
 -- a column with its value and a comma, if it has a value
 abbrev pub member_text : Column → Value → Bytes

@@ -1,15 +1,7 @@
 -- What the texts for people have in common: the names of columns, values, and how many rows are shown.
-use Rattle.std.specs.Prelude.{ℕ, if◌then◌else◌, Bool, true, false, [], ◌∷◌, codes, decimal}
-use Rattle.std.specs.Fmt.{signed_decimal}
+use Rattle.std.specs.{Fmt.signed_decimal, Prelude.{ℕ, if◌then◌else◌, Bool, true, false, [], ◌∷◌, codes, decimal}}
 use Rattle.json.specs.Print.{escape}
-use Rattle.span_event.specs.declared.args.ArgValue.{ArgValue}
-use Rattle.span_event.specs.declared.args.ArgValue.TheVariants.{Nil, Flag, Whole, Words, Other}
-use Rattle.span_event.specs.Text.{Bytes}
-use Rattle.span_report.specs.Lines.{json_text_of, line_of, or_dash}
-use Rattle.span_table.specs.declared.column.Column.{Column}
-use Rattle.span_table.specs.declared.counts.TableCounts.{TableCounts}
-use Rattle.span_table.specs.Columns.{Value, column_name}
-use Rattle.span_table_text.specs.Shown.{Wanted, wants_all}
+use Rattle.span_table_text.specs.{ArgValue, Nil, Flag, Whole, Words, Other, Bytes, json_text_of, line_of, or_dash, Column, TableCounts, Value, column_name, Shown.{Wanted, wants_all}}
 
 abbrev pub flag_text : Bool → Bytes
 flag_text true = codes "true"

@@ -1,13 +1,6 @@
 -- The pieces of lines, in the order in which they are appended.
 use Rattle.std.specs.Prelude.{ℕ, ◌∷◌, ◌++◌, codes, decimal}
-use Rattle.span_event.specs.Text.{Bytes}
-use Rattle.span_report.specs.Lines.{right_in}
-use Rattle.span_table.specs.declared.of.Of.{Of}
-use Rattle.span_table.specs.declared.of.Of.TheVariants.{Spans, Async}
-use Rattle.span_table.specs.declared.sums.Sums.{Sums}
-use Rattle.span_table.specs.declared.column.Column.{Column}
-use Rattle.span_table.specs.Columns.{Value}
-use Rattle.span_table_text.specs.Lines.{column_title, value_text}
+use Rattle.span_table_text.specs.{Bytes, right_in, Of, Spans, Async, Sums, Column, Value, Lines.{column_title, value_text}}
 
 -- a value, and the title of a column, with a blank before it
 abbrev pub then_value : Value → Bytes

@@ -1,23 +1,6 @@
 -- Tables that are printed as JSON Lines, and those whose text can be read back.
-use Rattle.std.specs.Prelude.{◌≡◌, ◌≢◌, ◌<◌, ◌≤◌, ◌^◌, true, List, [], ◌∷◌, All, is_some, length, map, Some, None, FitsSigned, ⊤}
-use Rattle.std.specs.Int.{w64}
-use Rattle.std.specs.Str.{IsUtf8}
-use Rattle.span_event.specs.declared.args.ArgValue.TheVariants.{Whole, Words}
-use Rattle.span_event.specs.Text.{Bytes}
-use Rattle.span_event.specs.declared.unit.Unit.{Unit}
-use Rattle.span_table.specs.declared.column.Column.{Column}
-use Rattle.span_table.specs.declared.column.Column.TheVariants.{Pid, Tid, Process, Thread, Name, File, Cat, Scope, Id, Argument}
-use Rattle.span_table.specs.declared.of.Of.{Of}
-use Rattle.span_table.specs.declared.of.Of.TheVariants.{Spans, Async}
-use Rattle.span_table.specs.declared.sums.Sums.{Sums}
-use Rattle.span_table.specs.declared.table.Row.{Row}
-use Rattle.span_table.specs.Columns.{Run, Value, column_name, goes_with, is_column}
-use Rattle.span_table.specs.Counts.{counts_fit}
-use Rattle.span_table.specs.Sums.{fit}
-use Rattle.span_table_text.specs.Json.{json_of, numbers_fit, shown_table, text_of}
-use Rattle.span_table.specs.Keys.{TableKey}
-use Rattle.span_table_text.specs.Shown.{Wanted, wants_all}
-use Rattle.span_table.specs.Tables.{RowsRise, SpanTable, table_of}
+use Rattle.std.specs.{Int.w64, Prelude.{◌≡◌, ◌≢◌, ◌<◌, ◌≤◌, ◌^◌, true, List, [], ◌∷◌, All, is_some, length, map, Some, None, FitsSigned, ⊤}, Str.IsUtf8}
+use Rattle.span_table_text.specs.{Whole, Words, Bytes, Unit, Column, Pid, Tid, Process, Thread, Name, File, Cat, Scope, Id, Argument, Of, Spans, Async, Sums, Row, Run, Value, column_name, goes_with, is_column, counts_fit, fit, TableKey, RowsRise, SpanTable, table_of, Json.{json_of, numbers_fit, shown_table, text_of}, Shown.{Wanted, wants_all}}
 
 -- a number, which has 64 bits
 abbrev pub IsWhole : Value → Type 0

@@ -1,18 +1,6 @@
 -- The text of a ranking.
 use Rattle.std.specs.Prelude.{ℕ, Bool, List, ◌∷◌, ◌++◌, take, flat_map, length, map, codes, decimal}
-use Rattle.span_event.specs.declared.unit.Unit.{Unit}
-use Rattle.span_event.specs.Text.{Bytes}
-use Rattle.span_report.specs.Lines.{line_of, right_in}
-use Rattle.span_report.specs.Report.{head_lines}
-use Rattle.span_table.specs.declared.column.Column.{Column}
-use Rattle.span_table.specs.declared.of.Of.{Of}
-use Rattle.span_table.specs.declared.of.Of.TheVariants.{Spans, Async}
-use Rattle.span_table.specs.declared.sums.By.{By}
-use Rattle.span_table.specs.declared.table.Row.{Row}
-use Rattle.span_table_text.specs.Lines.{column_title, runs_line, shown_line, value_text}
-use Rattle.span_table_text.specs.Ranks.{ranked}
-use Rattle.span_table_text.specs.Shown.{Wanted, shown_rows}
-use Rattle.span_table.specs.Tables.{SpanTable}
+use Rattle.span_table_text.specs.{Unit, Bytes, line_of, right_in, head_lines, Column, Of, Spans, Async, By, Row, SpanTable, Lines.{column_title, runs_line, shown_line, value_text}, Ranks.ranked, Shown.{Wanted, shown_rows}}
 
 -- the names of the columns
 unfoldable pub column_line : Of → List Column → Bytes

@@ -1,15 +1,6 @@
 -- The rows of a table in the order of a ranking.
-use Rattle.std.specs.Prelude.{List}
-use Rattle.std.specs.declared.cmp.Ordering.{Ordering}
-use Rattle.std.specs.Ordering.{nat_cmp, ordering_then}
-use Rattle.span_keyed_tracks.specs.Keyed.{ascending}
-use Rattle.span_table.specs.declared.sums.By.{By}
-use Rattle.span_table.specs.declared.table.Row.{Row}
-use Rattle.span_table.specs.Keys.{key_cmp}
-use Rattle.std.specs.List.Sorted.{IsPermutation, IsStrictlySortedBy}
-use Rattle.span_table_text.specs.Shown.{Wanted, shown_rows}
-use Rattle.span_table.specs.Tables.{RowsRise}
-use Rattle.span_table.specs.Sums.{number_by}
+use Rattle.std.specs.{List.Sorted.{IsPermutation, IsStrictlySortedBy}, Ordering.{nat_cmp, ordering_then}, Prelude.List, declared.cmp.Ordering.Ordering}
+use Rattle.span_table_text.specs.{ascending, By, Row, key_cmp, RowsRise, number_by, Shown.{Wanted, shown_rows}}
 
 -- the greater number first, and then by key
 abbrev pub ranking_order : By → Row → Row → Ordering

@@ -1,12 +1,6 @@
 -- Which rows of a table are shown.
-use Rattle.std.specs.Prelude.{◌==◌, length, Bool, false, not, ◌&&◌, ◌||◌, nat_eq, List, [], ◌∷◌, filter, option_and_then}
-use Rattle.std.specs.List.{list_all, list_any, starts_with}
-use Rattle.std.specs.Option.{option_map_or}
-use Rattle.span_event.specs.Args.{as_text}
-use Rattle.span_event.specs.Text.{Bytes}
-use Rattle.span_table.specs.declared.table.Row.{Row}
-use Rattle.span_table.specs.Columns.{Value}
-use Rattle.span_table.specs.Keys.{TableKey}
+use Rattle.std.specs.{List.{list_all, list_any, starts_with}, Option.option_map_or, Prelude.{◌==◌, length, Bool, false, not, ◌&&◌, ◌||◌, nat_eq, List, [], ◌∷◌, filter, option_and_then}}
+use Rattle.span_table_text.specs.{as_text, Bytes, Row, Value, TableKey}
 
 -- what a text that is shown must have, and what it must not have
 pub record Wanted : Type 0 where

@@ -1,20 +1,7 @@
 -- The tokens of the lines of a table.
-use Rattle.std.specs.Prelude.{ℕ, List, [], ◌∷◌, ◌++◌, map, Some, None, codes, decimal}
-use Rattle.std.specs.Fmt.{signed_decimal}
+use Rattle.std.specs.{Fmt.signed_decimal, Prelude.{ℕ, List, [], ◌∷◌, ◌++◌, map, Some, None, codes, decimal}}
 use Rattle.json.specs.Token.{Token, begin_object, end_object, begin_array, end_array, key, string, number, boolean, null}
-use Rattle.span_event.specs.declared.args.ArgValue.{ArgValue}
-use Rattle.span_event.specs.declared.args.ArgValue.TheVariants.{Nil, Flag, Whole, Words, Other}
-use Rattle.span_event.specs.declared.unit.Unit.{Unit}
-use Rattle.span_event.specs.declared.unit.Unit.TheVariants.{Microseconds, Nanoseconds}
-use Rattle.span_journal.specs.declared.rows.CountRow.{CountRow}
-use Rattle.span_table.specs.declared.column.Column.{Column}
-use Rattle.span_table.specs.declared.counts.TableCounts.{TableCounts}
-use Rattle.span_table.specs.declared.of.Of.{Of}
-use Rattle.span_table.specs.declared.of.Of.TheVariants.{Spans, Async}
-use Rattle.span_table.specs.declared.sums.Sums.{Sums}
-use Rattle.span_table.specs.declared.table.Row.{Row}
-use Rattle.span_table.specs.Columns.{column_name}
-use Rattle.span_table.specs.Keys.{TableKey}
+use Rattle.span_table_text.specs.{ArgValue, Nil, Flag, Whole, Words, Other, Unit, Microseconds, Nanoseconds, CountRow, Column, TableCounts, Of, Spans, Async, Sums, Row, column_name, TableKey}
 
 abbrev pub value_tokens : ArgValue → List Token
 value_tokens Nil = null ∷ []

@@ -1,11 +1,6 @@
 //! The rows of a table for machines: JSON Lines.
-ghost use Rattle.std.specs.Prelude.{◌≡◌, ◌<◌, ◌^◌, All, ◌++◌, ◌∷◌, true, false, map, flat_map, length, string_bytes, IfOk, IfErr, OnOk};
-ghost use Rattle.std.specs.List.{join_with_byte, list_all};
-ghost use Rattle.span_table_text.specs.declared.json_lines.JsonFault.TheVariants.{TooGreat};
-ghost use Rattle.span_table.specs.Sums.{fit};
-ghost use Rattle.span_table_text.specs.Json.{column_json, columns_json, json_fits, json_head, json_line, json_of, of_member, shown_table, unit_member};
-ghost use Rattle.span_table_text.specs.Printed.{AllFit, KeyFits};
-ghost use Rattle.span_table_text.specs.JsonPieces.{count_text, counts_text, end_text, events_text, files_text, member_text, members_text, others_text, start_text};
+ghost use Rattle.std.specs.{List.{join_with_byte, list_all}, Prelude.{◌≡◌, ◌<◌, ◌^◌, All, ◌++◌, ◌∷◌, true, false, map, flat_map, length, string_bytes, IfOk, IfErr, OnOk}};
+ghost use Rattle.span_table_text.specs.{fit, Json.{column_json, columns_json, json_fits, json_head, json_line, json_of, of_member, shown_table, unit_member}, JsonPieces.{count_text, counts_text, end_text, events_text, files_text, member_text, members_text, others_text, start_text}, Printed.{AllFit, KeyFits}, declared.json_lines.JsonFault.TheVariants.TooGreat};
 
 use crate::json_rows::{column_names, with_json_row};
 use crate::lines::put_arg;

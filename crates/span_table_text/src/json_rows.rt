@@ -1,12 +1,7 @@
 //! The line of a row for machines, as the tokens that it is printed of.
 ghost use Rattle.std.specs.Prelude.{◌≡◌, ◌<◌, ◌^◌, ◌++◌, ◌∷◌, [], true, map, IfOk, OnOk, Some};
 ghost use Rattle.json.specs.Token.{key};
-ghost use Rattle.span_table.specs.declared.of.Of.TheVariants.{Spans, Async};
-ghost use Rattle.span_table.specs.Columns.{column_name};
-ghost use Rattle.span_table.specs.Sums.{fit};
-ghost use Rattle.span_table_text.specs.Json.{json_line};
-ghost use Rattle.span_table_text.specs.Printed.{IsOfArgument, KeyFits};
-ghost use Rattle.span_table_text.specs.Tokens.{key_tokens, number_tokens, row_tokens, sums_tokens, value_tokens};
+ghost use Rattle.span_table_text.specs.{Spans, Async, column_name, fit, Json.json_line, Printed.{IsOfArgument, KeyFits}, Tokens.{key_tokens, number_tokens, row_tokens, sums_tokens, value_tokens}};
 
 use json::Writer;
 use span_event::{ArgValue, Text};

@@ -1,6 +1,5 @@
 //! The facts that hold of every ranking, and of every table that is printed.
-ghost use Rattle.span_table_text.specs.Printed.{AllIsPrinted, PartsAreDetermined, PrintsAreParts};
-ghost use Rattle.span_table_text.specs.Ranks.{RankingsHaveEachRow};
+ghost use Rattle.span_table_text.specs.{Printed.{AllIsPrinted, PartsAreDetermined, PrintsAreParts}, Ranks.RankingsHaveEachRow};
 
 /// A ranking has each row that is shown, once, and no two rows rank alike. The function does nothing: its contract is the law.
 pub fn ranking_law()

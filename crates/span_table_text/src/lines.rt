@@ -1,10 +1,7 @@
 //! What the texts for people have in common: numbers in a width, values, the names of columns, and how many rows are shown.
 ghost use Rattle.std.specs.Prelude.{◌≡◌, ◌++◌, decimal, flat_map, string_bytes, OnOk};
-ghost use Rattle.span_report.specs.Lines.{count_line, right_in, seals_line};
-ghost use Rattle.span_table_text.specs.Lines.{runs_line, shown_line, value_json};
-ghost use Rattle.span_table_text.specs.Pieces.{then_right, then_title, then_value};
 ghost use Rattle.json.specs.Print.{escape, quoted};
-ghost use Rattle.span_event.specs.Text.{Bytes};
+ghost use Rattle.span_table_text.specs.{count_line, right_in, seals_line, Bytes, Lines.{runs_line, shown_line, value_json}, Pieces.{then_right, then_title, then_value}};
 
 use crate::shown::Shown;
 use span_event::{ArgValue, Text};

@@ -1,12 +1,6 @@
 //! The text of a ranking: the rows of a table that come first by a number.
-ghost use Rattle.std.specs.Prelude.{◌≡◌, ◌++◌, string_bytes, take, flat_map, OnOk, IfOk};
-ghost use Rattle.std.specs.List.{IsDistinct};
-ghost use Rattle.std.specs.Ordering.{eq_by_cmp};
-ghost use Rattle.span_report.specs.Report.{head_lines};
-ghost use Rattle.span_table.specs.declared.of.Of.TheVariants.{Spans, Async};
-ghost use Rattle.span_table_text.specs.Pieces.{sums_names, sums_text};
-ghost use Rattle.span_table_text.specs.Ranking.{column_line, ranked_line, ranking_of};
-ghost use Rattle.span_table_text.specs.Ranks.{ranking_order, ranked};
+ghost use Rattle.std.specs.{List.IsDistinct, Ordering.eq_by_cmp, Prelude.{◌≡◌, ◌++◌, string_bytes, take, flat_map, OnOk, IfOk}};
+ghost use Rattle.span_table_text.specs.{head_lines, Spans, Async, Pieces.{sums_names, sums_text}, Ranking.{column_line, ranked_line, ranking_of}, Ranks.{ranking_order, ranked}};
 
 use crate::lines::{
     put_count, put_counts, put_right, put_runs, put_seals, put_shown, put_titles, put_values,

@@ -1,6 +1,5 @@
 //! Which rows of a table are shown.
-ghost use Rattle.std.specs.Prelude.{◌≡◌, IfOk};
-ghost use Rattle.std.specs.List.{list_all, list_any};
+ghost use Rattle.std.specs.{List.{list_all, list_any}, Prelude.{◌≡◌, IfOk}};
 ghost use Rattle.span_table_text.specs.Shown.{is_wanted, key_has, shown_rows, value_has, wants_all};
 
 use span_event::{ArgValue, Text};
@@ -30,7 +29,7 @@ pub(crate) struct ShownRow<'a> {
 }
 
 impl<'a> Model for ShownRow<'a> {
-    ghost use Rattle.span_table.specs.declared.table.Row.{Row};
+    ghost use Rattle.span_table_text.specs.{Row};
 
     ghost Value = { Row };
 

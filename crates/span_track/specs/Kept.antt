@@ -1,9 +1,6 @@
 -- What holds of what a track keeps.
 use Rattle.std.specs.Prelude.{ℕ, ◌+◌, ◌<◌, ◌≢◌, ◌^◌, ℤ, ◌≤ℤ◌, List, [], ◌∷◌, length, All, Option, Some, None}
-use Rattle.span_track.specs.declared.thread.OpenSpan.{OpenSpan}
-use Rattle.span_track.specs.Nesting.{Begin}
-use Rattle.span_track.specs.Thread.{ThreadSpans, IsSealTime}
-use Rattle.span_event.specs.Event.{least_time}
+use Rattle.span_track.specs.{least_time, Nesting.Begin, Thread.{ThreadSpans, IsSealTime}, declared.thread.OpenSpan.OpenSpan}
 
 -- an open span of the program, as a begin
 abbrev pub begin_of : OpenSpan → Begin ℕ

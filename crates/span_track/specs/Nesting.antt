@@ -1,10 +1,7 @@
 -- Which begins and ends of one thread belong together, and what a seal ends.
-use Rattle.std.specs.Prelude.{ℕ, if◌then◌else◌, ℤ, int_lt, List, [], ◌∷◌, length, map, fold, Option, Some, None}
-use Rattle.std.specs.Option.{option_map, option_or}
-use Rattle.span_event.specs.Args.{merged}
-use Rattle.span_self_time.specs.Spans.{Arguments, Span}
+use Rattle.std.specs.{Option.{option_map, option_or}, Prelude.{ℕ, if◌then◌else◌, ℤ, int_lt, List, [], ◌∷◌, length, map, fold, Option, Some, None}}
+use Rattle.span_track.specs.{merged, Arguments, Span, Step, opens, closes, closes_all, other}
 use Rattle.span_keyed_tracks.specs.Matching
-use Rattle.span_keyed_tracks.specs.Matching.{Step, opens, closes, closes_all, other}
 
 -- a begin: `at` is its position in the journal
 pub record Begin (N : Type 0) : Type 0 where

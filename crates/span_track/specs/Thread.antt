@@ -1,17 +1,6 @@
 -- What the track of a thread keeps, and when it refuses an event.
 use Rattle.std.specs.Prelude.{◌≡◌, ℕ, ◌+◌, ◌<◌, ◌^◌, ◌-◌, Bool, true, false, nat_eq, if◌then◌else◌, ℤ, ◌≤ℤ◌, int_lt, List, [], ◌∷◌, ◌++◌, length, All, Option, Some, None, Result, Ok, Err}
-use Rattle.span_event.specs.declared.fault.Fault.TheVariants.{NoOpenSpan, TimeGoesBack, NameDiffers}
-use Rattle.span_event.specs.declared.fault.Fault.{Fault}
-use Rattle.span_event.specs.Args.{merged}
-use Rattle.span_event.specs.Event.{least_time}
-use Rattle.span_self_time.specs.Closed.{greatest_until}
-use Rattle.span_self_time.specs.Spans.{Arguments, Span}
-use Rattle.span_keyed_tracks.specs.Fault.{refusal_of}
-use Rattle.span_keyed_tracks.specs.Last.{last_of}
-use Rattle.span_keyed_tracks.specs.Matching.{opens, closes, closes_all, other}
-use Rattle.span_track.specs.declared.wanted.Wanted.{Wanted}
-use Rattle.span_track.specs.declared.wanted.Wanted.TheVariants.{Any, Name, NoName}
-use Rattle.span_track.specs.Nesting.{Begin, ThreadEvent, open_spans, closed_spans, last_time, latest_time}
+use Rattle.span_track.specs.{NoOpenSpan, TimeGoesBack, NameDiffers, Fault, merged, least_time, greatest_until, Arguments, Span, refusal_of, last_of, opens, closes, closes_all, other, Nesting.{Begin, ThreadEvent, open_spans, closed_spans, last_time, latest_time}, declared.wanted.Wanted.{Wanted, TheVariants.{Any, Name, NoName}}}
 
 -- the open spans, the closed spans, the time of the last begin, end or seal, and the latest time that the thread has seen
 pub record ThreadSpans (N : Type 0) : Type 0 where

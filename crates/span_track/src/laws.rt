@@ -1,6 +1,6 @@
 //! The definitions as plain programs, and the facts that hold of every list of spans.
 ghost use Rattle.std.specs.Prelude.{◌≡◌, nat_eq};
-ghost use Rattle.span_self_time.specs.Spans.{self_of, busy_time};
+ghost use Rattle.span_track.specs.{self_of, busy_time};
 
 use crate::thread::ThreadTrack;
 use span_closed_spans::walk;

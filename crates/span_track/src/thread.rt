@@ -1,16 +1,6 @@
 //! The track of one thread.
-ghost use Rattle.std.specs.Prelude.{◌≡◌, nat_eq, ◌+◌, ◌*◌, ◌-◌, ◌<◌, ◌≤◌, ℕ, List, [], ◌∷◌, length, map, reverse, slice_get, vec_len, vec_capacity, Some, None, pos, ◌+ℤ◌, option_copied, IfSome, IfOk, OnOk, OnErr};
-ghost use Rattle.std.specs.List.{count_by};
-ghost use Rattle.std.specs.Option.{option_map};
-ghost use Rattle.span_event.specs.Event.{IsTime, greatest_time};
-ghost use Rattle.span_event.specs.Given.{Gives};
-ghost use Rattle.span_keyed_tracks.specs.Fault.{Answers};
-ghost use Rattle.span_track.specs.Nesting.{ThreadEvent, began, ended, sealed, completed, closed_by, span_sealed, opener, later};
-ghost use Rattle.span_self_time.specs.Segments.{lasts, AreSegments, HasSegments, HasEnds};
-ghost use Rattle.span_self_time.specs.Spans.{Arguments, names_of, self_of, self_time, busy_time};
-ghost use Rattle.span_track.specs.Thread.{AreMerged, StandsFor, TakesEvent, HasRoom, IsNext, IsSealTime, any_name, suits, goes_back, begin_refusal, end_refusal, merged_args};
-ghost use Rattle.span_self_time.specs.Closed.{span_of, AreClosed};
-ghost use Rattle.span_closed_spans.specs.Totals.{total_for};
+ghost use Rattle.std.specs.{List.count_by, Option.option_map, Prelude.{◌≡◌, nat_eq, ◌+◌, ◌*◌, ◌-◌, ◌<◌, ◌≤◌, ℕ, List, [], ◌∷◌, length, map, reverse, slice_get, vec_len, vec_capacity, Some, None, pos, ◌+ℤ◌, option_copied, IfSome, IfOk, OnOk, OnErr}};
+ghost use Rattle.span_track.specs.{IsTime, greatest_time, Gives, Answers, lasts, AreSegments, HasSegments, HasEnds, Arguments, names_of, self_of, self_time, busy_time, span_of, AreClosed, total_for, Nesting.{ThreadEvent, began, ended, sealed, completed, closed_by, span_sealed, opener, later}, Thread.{AreMerged, StandsFor, TakesEvent, HasRoom, IsNext, IsSealTime, any_name, suits, goes_back, begin_refusal, end_refusal, merged_args}};
 
 use crate::wanted::Wanted;
 use span_closed_spans::{ClosedSpans, NameTotal};

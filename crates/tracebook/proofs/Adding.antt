@@ -1,26 +1,8 @@
 -- Tables that are added, one more, and what stopped among them.
-use Rattle.std.proofs.Common.{◌≡◌, ℕ, suc, ◌<◌, List, [], ◌∷◌, ◌++◌, length, take, drop, Option, inr, refl, ap, sym, subst, ◌∙◌, append_assoc, append-nil}
-use Rattle.std.specs.List.{AllZip}
-use Rattle.std.specs.Prelude.{All, codes, false}
-use Rattle.std.proofs.Math.ListN.{get_or}
-use Rattle.std.proofs.Math.Seq.{drop-cons}
-use Rattle.std.proofs.lemmas.List.{take-append-drop}
-use Rattle.std.proofs.lemmas.List.Elements.{All-head, All-nil}
-use Rattle.span_event.specs.Text.{Bytes}
+use Rattle.std.specs.{List.AllZip, Prelude.{All, codes, false}}
+use Rattle.std.proofs.{Common.{◌≡◌, ℕ, suc, ◌<◌, List, [], ◌∷◌, ◌++◌, length, take, drop, Option, inr, refl, ap, sym, subst, ◌∙◌, append_assoc, append-nil}, Math.{ListN.get_or, Seq.drop-cons}, lemmas.List.{take-append-drop, Elements.{All-head, All-nil}}}
+use Rattle.tracebook.specs.{Bytes, AreAt, AreParts, Chooses, HasOtherColumns, PartSum, SumsParts, TakesNone, chosen, SourceBytes, Unit, Column, Of, By, add_tables, picked, SpanTable, goes_by, AddStops.{AddsFile, AddsMore, BeginsWith, IsOfPart, LacksAsked, LacksNumber, Stops, StopsAt, StopsBeside, StopsMore, StopsNext}, Added.{AddsBeside, AddsChosen, IsText, Known, OfInputs}, declared.added.AddStop.{AddStop, TheVariants.{FileCount, Memory, NotOpened, NotTable, OtherColumns}}}
 use Rattle.span_parts.specs.declared.fault.PartFault.TheVariants as part
-use Rattle.span_parts.specs.Sum.{AreAt, AreParts, Chooses, HasOtherColumns, PartSum, SumsParts, TakesNone, chosen}
-use Rattle.span_runs.specs.Source.{SourceBytes}
-use Rattle.span_event.specs.declared.unit.Unit.{Unit}
-use Rattle.span_table.specs.declared.column.Column.{Column}
-use Rattle.span_table.specs.declared.of.Of.{Of}
-use Rattle.span_table.specs.declared.sums.By.{By}
-use Rattle.span_table.specs.Adding.{add_tables, picked}
-use Rattle.span_table.specs.Tables.{SpanTable}
-use Rattle.span_request.specs.Numbers.{goes_by}
-use Rattle.tracebook.specs.declared.added.AddStop.{AddStop}
-use Rattle.tracebook.specs.declared.added.AddStop.TheVariants.{FileCount, Memory, NotOpened, NotTable, OtherColumns}
-use Rattle.tracebook.specs.AddStops.{AddsFile, AddsMore, BeginsWith, IsOfPart, LacksAsked, LacksNumber, Stops, StopsAt, StopsBeside, StopsMore, StopsNext}
-use Rattle.tracebook.specs.Added.{AddsBeside, AddsChosen, IsText, Known, OfInputs}
 
 pub AllZip-append : {A B : Type 0} (R : A → B → Type 0) (xs more : List A) (ys others : List B) → AllZip R xs ys → AllZip R more others → AllZip R (xs ++ more) (ys ++ others)
 AllZip-append R [] more [] others one other = other

@@ -1,19 +1,6 @@
 -- What is left of a comparison that was not written whole.
 use Rattle.std.proofs.Common.{◌<◌, ◌≤◌, List, length, take, subst}
-use Rattle.span_journal.specs.declared.entry.Entry.{Entry}
-use Rattle.span_event.specs.Text.{Bytes}
-use Rattle.span_report.specs.Sink.{SinkState, Fails}
-use Rattle.span_collect.specs.declared.files.Input.{Input}
-use Rattle.span_collect.specs.declared.runs.RunEnd.{RunEnd}
-use Rattle.span_collect.specs.declared.runs.RunError.TheVariants.{FileCount, Memory, Unaccounted, Output}
-use Rattle.span_collect.specs.declared.settings.Settings.{Settings}
-use Rattle.span_collect.specs.InTurn.{AreSeparate}
-use Rattle.span_table.specs.Columns.{Run as TableRun}
-use Rattle.tracebook.specs.declared.comparison.ComparisonFault.{ComparisonFault}
-use Rattle.tracebook.specs.declared.comparison.ComparisonFault.TheVariants.{Run, TooGreat}
-use Rattle.span_request.specs.declared.views.ComparisonView.{ComparisonView}
-use Rattle.tracebook.specs.Comparison.{AreTooGreat, ChangesLeave, ComparisonLeaves, HasEnded, HoldsOfBoth, TakesFirst, greater}
-use Rattle.span_runs.specs.Runs.{run_in_turn, run_of_files}
+use Rattle.tracebook.specs.{Entry, Bytes, SinkState, Fails, Input, RunEnd, FileCount, Memory, Unaccounted, Output, Settings, AreSeparate, Run as TableRun, ComparisonView, run_in_turn, run_of_files, Comparison.{AreTooGreat, ChangesLeave, ComparisonLeaves, HasEnded, HoldsOfBoth, TakesFirst, greater}, declared.comparison.ComparisonFault.{ComparisonFault, TheVariants.{Run, TooGreat}}}
 use Rattle.tracebook.proofs.InTurn.{AreTooGreat-in_turn, changes_of_runs-in_turn}
 
 -- two runs ended, neither with 2, and this is left of what changed between them

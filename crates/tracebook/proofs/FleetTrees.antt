@@ -1,21 +1,8 @@
 -- What the program prints of files apart, and of tables that are added, is what is printed of trees of the files' runs.
 use Rattle.std.proofs.Common.{true, List, [], ◌∷◌, map, refl, sym, ap, subst}
-use Rattle.span_event.specs.Text.{Bytes}
-use Rattle.span_collect.specs.declared.settings.Settings.{Settings}
-use Rattle.span_runs.specs.Apart.{run_alone}
-use Rattle.span_runs.specs.Gathering.{IsTableOf}
-use Rattle.span_runs.specs.Source.{SourceBytes}
-use Rattle.span_event.specs.declared.unit.Unit.{Unit}
-use Rattle.span_table.specs.declared.column.Column.{Column}
-use Rattle.span_table.specs.declared.of.Of.{Of}
-use Rattle.span_table_text.specs.Printed.{IsPrint}
-use Rattle.span_table.specs.Tables.{Run, SpanTable}
+use Rattle.span_table.specs.Tables.{Run}
 use Rattle.span_table_text.proofs.RunTables.{json_of-print}
-use Rattle.span_request.specs.declared.views.TableForm.{TableForm}
-use Rattle.span_request.specs.declared.views.TableView.{TableView}
-use Rattle.tracebook.specs.Fleet.{AddsAreTrees, AreRunsOf, IsWhole, SumsAreLeaves}
-use Rattle.tracebook.specs.Sums.{Summed, SumsInputs}
-use Rattle.tracebook.specs.Tables.{FormFits, TableFits, formed, table_text}
+use Rattle.tracebook.specs.{Bytes, Settings, run_alone, IsTableOf, SourceBytes, Unit, Column, Of, IsPrint, SpanTable, TableForm, TableView, Fleet.{AddsAreTrees, AreRunsOf, IsWhole, SumsAreLeaves}, Sums.{Summed, SumsInputs}, Tables.{FormFits, TableFits, formed, table_text}}
 
 -- a whole table that fits is printed
 table_text-whole : (unit : Unit) (view : TableView) (table : SpanTable) → IsWhole view → TableFits view table → IsPrint unit (table_text unit view true table) table

@@ -1,31 +1,11 @@
 -- What is printed of separate files is what they give where they are read in turn.
 use Rattle.std.proofs.Common.{◌≡◌, ◌<◌, false, List, [], sym, ap, subst, ◌∙◌, arith}
-use Rattle.span_journal.specs.declared.entry.Entry.{Entry}
-use Rattle.span_journal.specs.Topics.{AreAlike}
-use Rattle.span_report.proofs.SameReports.{report_of-alike}
-use Rattle.span_report.proofs.StackLemmas.SameStacks.{stacks-alike}
-use Rattle.span_collect.specs.declared.files.FileEnd.{FileEnd}
-use Rattle.span_collect.specs.declared.files.Input.{Input}
-use Rattle.span_collect.specs.declared.queries.Asked.{Asked}
-use Rattle.span_collect.specs.declared.runs.RunEnd.{RunEnd}
-use Rattle.span_collect.specs.declared.sealing.Sealing.{Sealing}
-use Rattle.span_collect.specs.declared.settings.Settings.{Settings}
-use Rattle.span_collect.specs.InTurn.{AreSeparate, ends_from, journal_in_turn, text_in_turn}
-use Rattle.span_collect.specs.Run.{status_of}
-use Rattle.span_collect.specs.Seals.{SealedAccount}
+use Rattle.span_report.proofs.{SameReports.report_of-alike, StackLemmas.SameStacks.stacks-alike}
 use Rattle.span_collect.proofs.InTurn.Accounted.{AreAlike-in_turn, end_lines-in_turn, refusals_of-in_turn}
-use Rattle.span_page.specs.Page.{page_of}
 use Rattle.span_page.proofs.SamePages.{page_of-alike}
-use Rattle.span_runs.specs.Runs.{run_in_turn, run_of_files}
 use Rattle.span_runs.proofs.InTurn.{table_of_run-in_turn}
-use Rattle.span_table.specs.Tables.{SpanTable}
-use Rattle.span_request.specs.declared.views.ComparisonView.{ComparisonView}
-use Rattle.span_request.specs.declared.views.TableView.{TableView}
 use Rattle.span_request.specs.declared.views.View.{View}
-use Rattle.span_request.specs.declared.views.View.TheVariants.{Report, Table, Refusals, Folded, Page}
-use Rattle.tracebook.specs.Comparison.{AreTooGreat, HasEnded, HasTooGreat, changes_of_runs, changes_text, compared_table, comparison_in_turn, greater}
-use Rattle.tracebook.specs.Tables.{TableExceeds, asked_table, table_text}
-use Rattle.tracebook.specs.View.{ExceedsBits, ExceedsNames, text_of}
+use Rattle.tracebook.specs.{Entry, AreAlike, FileEnd, Input, Asked, RunEnd, Sealing, Settings, AreSeparate, ends_from, journal_in_turn, text_in_turn, status_of, SealedAccount, page_of, run_in_turn, run_of_files, SpanTable, ComparisonView, TableView, Report, Table, Refusals, Folded, Page, Comparison.{AreTooGreat, HasEnded, HasTooGreat, changes_of_runs, changes_text, compared_table, comparison_in_turn, greater}, Tables.{TableExceeds, asked_table, table_text}, View.{ExceedsBits, ExceedsNames, text_of}}
 use Rattle.tracebook.proofs.RunPairs.{greater-is}
 
 module _ (files : List Input) (settings : Settings) (ends : List FileEnd) (asked : Asked) (sealing : Sealing) (journal : List Entry)

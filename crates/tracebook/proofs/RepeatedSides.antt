@@ -1,25 +1,7 @@
 -- The tables of repeated runs: one more, and how many there are.
-use Rattle.std.proofs.Common.{◌≡◌, ◌≤◌, List, [], ◌∷◌, ◌++◌, length, map, Option, arith, sym, ap, ◌∙◌}
-use Rattle.std.specs.Global.{Vec}
-use Rattle.std.specs.Prelude.{codes}
-use Rattle.std.proofs.lemmas.List.{length-map}
-use Rattle.std.proofs.lemmas.Slice.Zip.{AllZip-long}
-use Rattle.span_event.specs.Text.{Bytes}
-use Rattle.span_collect.specs.declared.files.Input.{Input}
-use Rattle.span_collect.specs.declared.settings.Settings.{Settings}
-use Rattle.span_parts.specs.Sum.{PartSum}
-use Rattle.span_runs.specs.declared.gathered.Gathered.{Gathered}
-use Rattle.span_runs.specs.Apart.{AreGathered, run_alone}
-use Rattle.span_runs.specs.Gathering.{AreTablesOf}
-use Rattle.span_runs.specs.Runs.{table_of_run}
-use Rattle.span_runs.specs.Source.{SourceBytes}
-use Rattle.span_table.specs.declared.column.Column.{Column}
-use Rattle.span_table.specs.declared.of.Of.{Of}
-use Rattle.span_table.specs.Columns.{Run}
-use Rattle.span_table.specs.Tables.{SpanTable}
-use Rattle.tracebook.specs.Added.{Known, OfInputs}
-use Rattle.tracebook.specs.Repeats.{AreTablesBeside, IsTableBeside}
-use Rattle.tracebook.specs.Sums.{GathersInputs}
+use Rattle.std.specs.{Global.Vec, Prelude.codes}
+use Rattle.std.proofs.{Common.{◌≡◌, ◌≤◌, List, [], ◌∷◌, ◌++◌, length, map, Option, arith, sym, ap, ◌∙◌}, lemmas.{List.length-map, Slice.Zip.AllZip-long}}
+use Rattle.tracebook.specs.{Bytes, Input, Settings, PartSum, Gathered, AreGathered, run_alone, AreTablesOf, table_of_run, SourceBytes, Column, Of, Run, SpanTable, Added.{Known, OfInputs}, Repeats.{AreTablesBeside, IsTableBeside}, Sums.GathersInputs}
 use Rattle.tracebook.proofs.Adding.{AllZip-append}
 
 -- one more, behind the others

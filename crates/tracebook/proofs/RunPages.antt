@@ -1,32 +1,10 @@
 -- Files that are shown, one after another.
-use Rattle.std.proofs.Common.{◌≡◌, ℕ, ◌<◌, ◌≤◌, true, false, cond, List, [], ◌∷◌, ◌++◌, length, Option, inl, inr, sym, ap, subst, ◌∙◌, arith}
-use Rattle.std.specs.Prelude.{map, nat_le, is_ok, Result, Ok, Err, IfErr, IfOk, OnOk}
-use Rattle.std.specs.Global.{Vec}
-use Rattle.std.proofs.lemmas.Bool.Decides.{nat_tests}
-use Rattle.std.proofs.lemmas.List.{map_push, length-map}
-use Rattle.span_event.specs.Text.{Bytes}
-use Rattle.span_collect.specs.declared.files.Input.{Input}
-use Rattle.span_collect.specs.declared.settings.Settings.{Settings}
-use Rattle.span_collect.specs.InTurn.{ends_from, journal_in_turn}
-use Rattle.span_collect.proofs.InTurn.Accounted.{AreAlike-in_turn, end_lines-in_turn, refusals_of-in_turn}
-use Rattle.span_collect.proofs.OneFile.{AreSeparate-one}
-use Rattle.span_report.specs.Sink.{SinkState}
-use Rattle.span_report.specs.declared.stacks.label.SpanColumn.{SpanColumn}
-use Rattle.span_page.specs.Runs.{BegunPage, Holds, ShownRun, TakesRun}
-use Rattle.span_page.proofs.RunsSoFar.{Holds-alike}
-use Rattle.span_page.proofs.SamePages.{left_behind-follows, run_json-alike}
-use Rattle.span_table.specs.Tables.{table_of}
-use Rattle.span_runs.specs.declared.file_run.FileRun.{FileRun}
-use Rattle.span_runs.specs.Apart.{IsFileRun}
-use Rattle.span_runs.specs.Inputs.{AreFiles}
-use Rattle.span_runs.specs.Source.{SourceBytes}
+use Rattle.std.specs.{Global.Vec, Prelude.{map, nat_le, is_ok, Result, Ok, Err, IfErr, IfOk, OnOk}}
+use Rattle.std.proofs.{Common.{◌≡◌, ℕ, ◌<◌, ◌≤◌, true, false, cond, List, [], ◌∷◌, ◌++◌, length, Option, inl, inr, sym, ap, subst, ◌∙◌, arith}, lemmas.{Bool.Decides.nat_tests, List.{map_push, length-map}}}
+use Rattle.span_collect.proofs.{InTurn.Accounted.{AreAlike-in_turn, end_lines-in_turn, refusals_of-in_turn}, OneFile.AreSeparate-one}
+use Rattle.span_page.proofs.{RunsSoFar.Holds-alike, SamePages.{left_behind-follows, run_json-alike}}
 use Rattle.span_runs.proofs.GatheredFiles.{AreGathered-none, AreGathered-push}
-use Rattle.tracebook.specs.declared.pages.ShownFiles.{ShownFiles}
-use Rattle.span_request.specs.declared.views.PageView.{PageView}
-use Rattle.span_table_text.specs.declared.json_lines.JsonFault.{JsonFault}
-use Rattle.tracebook.specs.Sums.{WritesAll, WritesPartly}
-use Rattle.tracebook.specs.Tables.{TableFits}
-use Rattle.tracebook.specs.Pages.{AreHeld, AreShown, HoldsInputs, IsPageOf, Pages, PagesPartly, ShowsFile, ShowsInputs, asked_for, shown_alone, shown_run, shown_runs}
+use Rattle.tracebook.specs.{Bytes, Input, Settings, ends_from, journal_in_turn, SinkState, SpanColumn, BegunPage, Holds, ShownRun, TakesRun, table_of, FileRun, IsFileRun, AreFiles, SourceBytes, PageView, JsonFault, Pages.{AreHeld, AreShown, HoldsInputs, IsPageOf, Pages, PagesPartly, ShowsFile, ShowsInputs, asked_for, shown_alone, shown_run, shown_runs}, Sums.{WritesAll, WritesPartly}, Tables.TableFits, declared.pages.ShownFiles.ShownFiles}
 
 -- what was collected of a file may stand for the run in which its items stand in their order
 pub TakesRun-alone : (labels : List SpanColumn) (known : Bytes → Option Bytes) (name : Bytes) (settings : Settings) (run : FileRun) (old new : BegunPage) →

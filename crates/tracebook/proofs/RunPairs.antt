@@ -1,18 +1,10 @@
 -- What comparing two runs leaves.
-use Rattle.std.proofs.Common.{◌≡◌, ℕ, ◌<◌, ◌≤◌, ◌⊎◌, List, Bool, true, false, cond, refl, sym, ap₂, ◌∙◌, inl, inr, arith}
 use Rattle.std.specs.Prelude.{◌≢◌, nat_lt}
+use Rattle.std.proofs.{Common.{◌≡◌, ℕ, ◌<◌, ◌≤◌, ◌⊎◌, List, Bool, true, false, cond, refl, sym, ap₂, ◌∙◌, inl, inr, arith}, lemmas.Bool.Decides.nat_tests}
+use Rattle.span_collect.proofs.Statuses.{status_of-lt}
+use Rattle.tracebook.specs.{Entry, SinkState, Input, Settings, RunEnd, ComparisonView, Comparison.{HasEnded, IsComparisonOf, greater}, Request.ComparisonPartly}
 use mathlib.Core.Logic.{dite}
 use native.Mathlib.Decide.{ℕ_discrete}
-use Rattle.std.proofs.lemmas.Bool.Decides.{nat_tests}
-use Rattle.span_journal.specs.declared.entry.Entry.{Entry}
-use Rattle.span_report.specs.Sink.{SinkState}
-use Rattle.span_collect.specs.declared.files.Input.{Input}
-use Rattle.span_collect.specs.declared.settings.Settings.{Settings}
-use Rattle.span_collect.specs.declared.runs.RunEnd.{RunEnd}
-use Rattle.span_collect.proofs.Statuses.{status_of-lt}
-use Rattle.span_request.specs.declared.views.ComparisonView.{ComparisonView}
-use Rattle.tracebook.specs.Comparison.{HasEnded, IsComparisonOf, greater}
-use Rattle.tracebook.specs.Request.{ComparisonPartly}
 
 -- the greater is one of the two, and neither is above it
 pub greater-is : (a b : ℕ) → (a ≤ greater a b) × (b ≤ greater a b) × ((greater a b ≡ a) ⊎ (greater a b ≡ b))

@@ -1,21 +1,8 @@
 -- What is left of a view that was not written whole.
 use Rattle.std.proofs.Common.{◌≡◌, ◌<◌, List, [], ◌∙◌}
-use Rattle.span_journal.specs.declared.entry.Entry.{Entry}
-use Rattle.span_report.specs.Sink.{SinkState}
-use Rattle.span_collect.specs.declared.files.Input.{Input}
-use Rattle.span_collect.specs.declared.runs.RunEnd.{RunEnd}
-use Rattle.span_collect.specs.declared.runs.RunError.TheVariants.{FileCount, Memory as NoMemory, Unaccounted, Output as Failed}
-use Rattle.span_collect.specs.declared.settings.Settings.{Settings}
-use Rattle.span_collect.specs.InTurn.{AreSeparate, ends_from, journal_in_turn}
-use Rattle.span_collect.specs.Run.{status_of}
-use Rattle.span_collect.specs.Seals.{SealedAccount}
-use Rattle.span_collect.proofs.CutShort.{IsCutShort-failed}
-use Rattle.span_collect.proofs.InTurn.Texts.{FailsAsInTurn-same}
-use Rattle.span_collect.proofs.Statuses.{status_of-lt}
+use Rattle.span_collect.proofs.{CutShort.IsCutShort-failed, InTurn.Texts.FailsAsInTurn-same, Statuses.status_of-lt}
 use Rattle.span_request.specs.declared.views.View.{View}
-use Rattle.tracebook.specs.declared.view.ViewFault.{ViewFault}
-use Rattle.tracebook.specs.declared.view.ViewFault.TheVariants.{Run, TooGreat, StacksTooLarge}
-use Rattle.tracebook.specs.View.{ExceedsBits, ExceedsNames, IsUnwritten, OfEnds, TextLeaves, ViewLeaves, text_of}
+use Rattle.tracebook.specs.{Entry, SinkState, Input, RunEnd, FileCount, Memory as NoMemory, Unaccounted, Output as Failed, Settings, AreSeparate, ends_from, journal_in_turn, status_of, SealedAccount, View.{ExceedsBits, ExceedsNames, IsUnwritten, OfEnds, TextLeaves, ViewLeaves, text_of}, declared.view.ViewFault.{ViewFault, TheVariants.{Run, TooGreat, StacksTooLarge}}}
 use Rattle.tracebook.proofs.InTurn.{ExceedsBits-in_turn, ExceedsNames-in_turn, text_of-in_turn}
 
 -- a run of these inputs ended, not with 2, and this is left of its view

@@ -1,16 +1,11 @@
 -- What is written of a report.
-use Rattle.std.proofs.Common.{◌≡◌, ℕ, ◌<◌, List, ◌∙◌, inl, inr, arith}
 use Rattle.std.specs.Prelude.{◌≢◌}
-use mathlib.Core.Logic.{dite}
-use native.Mathlib.Decide.{ℕ_discrete}
-use Rattle.span_report.specs.Sink.{SinkState}
-use Rattle.span_collect.specs.declared.files.Input.{Input}
-use Rattle.span_collect.specs.declared.settings.Settings.{Settings}
-use Rattle.span_collect.specs.declared.runs.RunEnd.{RunEnd}
+use Rattle.std.proofs.Common.{◌≡◌, ℕ, ◌<◌, List, ◌∙◌, inl, inr, arith}
 use Rattle.span_collect.proofs.Statuses.{status_of-lt}
 use Rattle.span_request.specs.declared.views.View.{View}
-use Rattle.tracebook.specs.Request.{LeavesPartly}
-use Rattle.tracebook.specs.View.{Prints}
+use Rattle.tracebook.specs.{SinkState, Input, Settings, RunEnd, Request.LeavesPartly, View.Prints}
+use mathlib.Core.Logic.{dite}
+use native.Mathlib.Decide.{ℕ_discrete}
 
 -- a run that didn't end with 0 wrote nothing, or its whole text
 pub LeavesPartly-ended : (run : RunEnd) (inputs : List Input) (settings : Settings) (view : View) (old new : SinkState) → Prints view inputs settings run old new → run.status ≢ 0 → LeavesPartly inputs settings view old new

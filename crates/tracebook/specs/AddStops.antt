@@ -1,24 +1,8 @@
 -- Tables are added one after another, and the first file that stops decides.
-use Rattle.std.specs.Prelude.{◌≡◌, ◌⊎◌, false, List, [], ◌∷◌, ◌++◌, Option}
-use Rattle.std.specs.List.{AllZip}
+use Rattle.std.specs.{List.AllZip, Prelude.{◌≡◌, ◌⊎◌, false, List, [], ◌∷◌, ◌++◌, Option}}
+use Rattle.tracebook.specs.{number_of, Bytes, fault_line, PartFault, HasOtherColumns, IsNoPart, LacksColumn, PartSum, SumsParts, TakesFirst, TakesPart, Unit as TimeUnit, Column, Of, By, IsPart, SpanTable, run_line, unread_line, goes_by, Added.{AddsBeside, AddsChosen, IsText, Known}, declared.added.AddStop.{AddStop, TheVariants.{NotOpened, NotTable, OtherColumns, Memory, FileCount}}}
 use Rattle.span_event.specs.declared.fault.Fault.TheVariants as fault
-use Rattle.span_event.specs.Fault.{number_of}
-use Rattle.span_event.specs.Text.{Bytes}
-use Rattle.span_collect.specs.FaultLines.{fault_line}
-use Rattle.span_parts.specs.declared.fault.PartFault.{PartFault}
 use Rattle.span_parts.specs.declared.fault.PartFault.TheVariants as part
-use Rattle.span_parts.specs.Sum.{HasOtherColumns, IsNoPart, LacksColumn, PartSum, SumsParts, TakesFirst, TakesPart}
-use Rattle.span_event.specs.declared.unit.Unit.{Unit as TimeUnit}
-use Rattle.span_table.specs.declared.column.Column.{Column}
-use Rattle.span_table.specs.declared.of.Of.{Of}
-use Rattle.span_table.specs.declared.sums.By.{By}
-use Rattle.span_table_text.specs.Printed.{IsPart}
-use Rattle.span_table.specs.Tables.{SpanTable}
-use Rattle.span_faults.specs.FaultLines.{run_line, unread_line}
-use Rattle.span_request.specs.Numbers.{goes_by}
-use Rattle.tracebook.specs.declared.added.AddStop.{AddStop}
-use Rattle.tracebook.specs.declared.added.AddStop.TheVariants.{NotOpened, NotTable, OtherColumns, Memory, FileCount}
-use Rattle.tracebook.specs.Added.{AddsBeside, AddsChosen, IsText, Known}
 
 -- the sum of one file, by the columns that are asked for
 pub record BeginsWith (known : Known) (wanted : List Column) (name : Bytes) (sum : PartSum) : Type 0 where

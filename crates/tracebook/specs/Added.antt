@@ -1,17 +1,6 @@
 -- Tables that were printed are added: what is printed of the sum.
-use Rattle.std.specs.Prelude.{◌≡◌, ◌⊎◌, ℕ, true, List, [], ◌∷◌, codes, Option}
-use Rattle.std.specs.List.{AllZip}
-use Rattle.span_event.specs.Text.{Bytes}
-use Rattle.span_report.specs.Sink.{SinkState}
-use Rattle.span_parts.specs.Sum.{Chooses, PartSum, SumsParts}
-use Rattle.span_runs.specs.Source.{AreFirst, SourceBytes}
-use Rattle.span_table.specs.declared.column.Column.{Column}
-use Rattle.span_request.specs.declared.views.ComparisonView.{ComparisonView}
-use Rattle.span_request.specs.declared.views.TableView.{TableView}
-use Rattle.span_request.specs.Numbers.{compared_by, goes_by, named_by}
-use Rattle.tracebook.specs.Comparison.{changes_text}
-use Rattle.tracebook.specs.Sums.{WritesAll, WritesPartly}
-use Rattle.tracebook.specs.Tables.{TableFits, table_text}
+use Rattle.std.specs.{List.AllZip, Prelude.{◌≡◌, ◌⊎◌, ℕ, true, List, [], ◌∷◌, codes, Option}}
+use Rattle.tracebook.specs.{Bytes, SinkState, Chooses, PartSum, SumsParts, AreFirst, SourceBytes, Column, ComparisonView, TableView, compared_by, goes_by, named_by, Comparison.changes_text, Sums.{WritesAll, WritesPartly}, Tables.{TableFits, table_text}}
 
 -- what is known of the bytes under each name
 abbrev pub Known : Type 0

@@ -1,31 +1,8 @@
 -- What comparing two runs does.
 use Rattle.std.specs.Prelude.{◌≡◌, ℕ, ◌<◌, ◌≤◌, ◌⊎◌, if◌then◌else◌, Bool, false, List, [], length, nat_lt, take}
 use Rattle.span_event.specs.declared.fault.Fault.TheVariants.{TooGreat as TooGreatFault}
-use Rattle.span_event.specs.Fault.{number_of}
-use Rattle.span_event.specs.Text.{Bytes}
-use Rattle.span_journal.specs.declared.entry.Entry.{Entry}
-use Rattle.span_report.specs.Sink.{SinkState, TakesBytes, Fails}
-use Rattle.span_collect.specs.declared.files.Input.{Input}
-use Rattle.span_collect.specs.declared.settings.Settings.{Settings}
-use Rattle.span_collect.specs.declared.runs.RunEnd.{RunEnd}
-use Rattle.span_collect.specs.declared.runs.RunError.TheVariants.{FileCount, Memory, Unaccounted, Output}
-use Rattle.span_collect.specs.Collection.{AreNoneOrTooMany, HasMore}
-use Rattle.span_collect.specs.InTurn.{AreSeparate}
-use Rattle.span_collect.specs.Run.{run_code, status_of}
-use Rattle.span_collect.specs.Seals.{SealedAccount}
-use Rattle.span_event.specs.declared.unit.Unit.{Unit}
-use Rattle.span_comparisons.specs.Comparison.{comparison_of}
-use Rattle.span_comparisons.specs.JsonChanges.{json_changes_fit, json_comparison_of}
-use Rattle.span_table_text.specs.Shown.{Wanted}
-use Rattle.span_table.specs.Columns.{Run}
-use Rattle.span_table.specs.Tables.{SpanTable}
-use Rattle.span_runs.specs.Runs.{run_in_turn, run_of_files, table_of_run}
-use Rattle.tracebook.specs.declared.comparison.ComparisonFault.{ComparisonFault}
-use Rattle.tracebook.specs.declared.comparison.ComparisonFault.TheVariants.{Run as OfRun, TooGreat}
-use Rattle.span_request.specs.declared.views.ComparisonForm.{ComparisonForm}
-use Rattle.span_request.specs.declared.views.ComparisonForm.TheVariants.{Text, Json}
-use Rattle.span_request.specs.declared.views.ComparisonView.{ComparisonView}
-use Rattle.tracebook.specs.Tables.{asked_by}
+use Rattle.span_request.specs.declared.views.ComparisonForm.TheVariants.{Json}
+use Rattle.tracebook.specs.{number_of, Bytes, Entry, SinkState, TakesBytes, Fails, Input, Settings, RunEnd, FileCount, Memory, Unaccounted, Output, AreNoneOrTooMany, HasMore, AreSeparate, run_code, status_of, SealedAccount, Unit, comparison_of, json_changes_fit, json_comparison_of, Wanted, Run, SpanTable, run_in_turn, run_of_files, table_of_run, ComparisonForm, Text, ComparisonView, Tables.asked_by, declared.comparison.ComparisonFault.{ComparisonFault, TheVariants.{Run as OfRun, TooGreat}}}
 
 -- what changed between two tables whose times are in this unit, in a form
 abbrev pub changes_formed : Unit → ComparisonForm → Wanted → Bool → SpanTable → SpanTable → Bytes

@@ -1,23 +1,8 @@
 -- Files that are summed on many machines, and tables that are added in whatever groups: what the program prints of them is what is
 -- printed of trees of their runs.
-use Rattle.std.specs.Prelude.{◌≡◌, ℕ, true, List, map, All}
-use Rattle.std.specs.List.{AllZip}
-use Rattle.span_event.specs.Text.{Bytes}
-use Rattle.span_report.specs.Sink.{SinkState}
-use Rattle.span_collect.specs.declared.files.Input.{Input}
-use Rattle.span_collect.specs.declared.settings.Settings.{Settings}
-use Rattle.span_parts.specs.Sum.{chosen}
-use Rattle.span_parts.specs.Trees.{ArePrinted, IsPrinted, Trees, of_parts, of_runs}
-use Rattle.span_runs.specs.Apart.{IsAccounted, run_alone}
-use Rattle.span_runs.specs.Inputs.{AreInputs}
-use Rattle.span_runs.specs.Source.{SourceBytes}
-use Rattle.span_table_text.specs.Shown.{wants_all}
+use Rattle.std.specs.{List.AllZip, Prelude.{◌≡◌, ℕ, true, List, map, All}}
 use Rattle.span_table.specs.Tables.{Run}
-use Rattle.span_request.specs.declared.views.TableForm.TheVariants.{Json}
-use Rattle.span_request.specs.declared.views.TableView.{TableView}
-use Rattle.tracebook.specs.Added.{Adds, IsText, OfInputs}
-use Rattle.tracebook.specs.Sums.{Sums}
-use Rattle.tracebook.specs.Tables.{table_text}
+use Rattle.tracebook.specs.{Bytes, SinkState, Input, Settings, chosen, ArePrinted, IsPrinted, Trees, of_parts, of_runs, IsAccounted, run_alone, AreInputs, SourceBytes, wants_all, Json, TableView, Added.{Adds, IsText, OfInputs}, Sums.Sums, Tables.table_text}
 
 -- the runs of the files of these names, each alone
 pub record AreRunsOf (source : SourceBytes) (names : List Bytes) (settings : Settings) (runs : List Run) : Type 0 where

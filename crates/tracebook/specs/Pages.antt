@@ -1,22 +1,6 @@
 -- A page of files each of which is a run of its own.
 use Rattle.std.specs.Prelude.{◌≡◌, ℕ, ◌⊎◌, nat_le, if◌then◌else◌, List, [], ◌∷◌, length, map, true, Option, codes}
-use Rattle.span_event.specs.declared.unit.Unit.{Unit}
-use Rattle.span_event.specs.Text.{Bytes}
-use Rattle.span_report.specs.Sink.{SinkState}
-use Rattle.span_collect.specs.declared.files.Input.{Input}
-use Rattle.span_collect.specs.declared.settings.Settings.{Settings}
-use Rattle.span_collect.specs.InTurn.{ends_from, journal_in_turn}
-use Rattle.span_page.specs.Runs.{Holds, ShownRun, TakesRun, page_of_runs}
-use Rattle.span_runs.specs.declared.file_run.FileRun.{FileRun}
-use Rattle.span_runs.specs.Apart.{AddsFile, GathersFiles}
-use Rattle.span_runs.specs.Gathering.{IsTableOf}
-use Rattle.span_runs.specs.Source.{SourceBytes}
-use Rattle.tracebook.specs.declared.pages.ShownFiles.{ShownFiles}
-use Rattle.span_request.specs.declared.views.PageView.{PageView}
-use Rattle.span_table.specs.Columns.{Run}
-use Rattle.span_table.specs.Tables.{SpanTable}
-use Rattle.tracebook.specs.Sums.{Summed, WritesAll, WritesPartly}
-use Rattle.tracebook.specs.Tables.{TableFits, table_text}
+use Rattle.tracebook.specs.{Unit, Bytes, SinkState, Input, Settings, ends_from, journal_in_turn, Holds, ShownRun, TakesRun, page_of_runs, FileRun, AddsFile, GathersFiles, IsTableOf, SourceBytes, PageView, Run, SpanTable, Sums.{Summed, WritesAll, WritesPartly}, Tables.{TableFits, table_text}, declared.pages.ShownFiles.ShownFiles}
 
 -- the run of a file alone, in which its items stand in their order, as a page shows it
 abbrev pub shown_alone : Settings → Input → ShownRun

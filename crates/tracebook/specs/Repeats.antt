@@ -1,30 +1,7 @@
 -- Repeated runs, on each of two sides: what is printed of how their numbers are spread.
-use Rattle.std.specs.Prelude.{◌≡◌, ℕ, ◌≤◌, ◌⊎◌, true, false, ⊤, List, [], ◌∷◌, ◌++◌, length}
-use Rattle.std.specs.Global.{Vec}
-use Rattle.std.specs.List.{AllZip}
-use Rattle.span_event.specs.Text.{Bytes}
-use Rattle.span_event.specs.declared.unit.Unit.{Unit}
-use Rattle.span_report.specs.Sink.{SinkState}
-use Rattle.span_collect.specs.declared.settings.Settings.{Settings}
-use Rattle.span_parts.specs.Sum.{Chooses, PartSum}
-use Rattle.span_runs.specs.declared.gathered.Gathered.{Gathered}
-use Rattle.span_runs.specs.Gathering.{AreTablesOf}
-use Rattle.span_runs.specs.Source.{SourceBytes}
-use Rattle.span_table.specs.declared.column.Column.{Column}
-use Rattle.span_table.specs.declared.of.Of.{Of}
-use Rattle.span_table.specs.declared.sums.By.{By}
-use Rattle.span_table.specs.Columns.{Run}
-use Rattle.span_comparisons.specs.Repeats.{json_repeats_fit, json_repeats_of, repeats_of}
-use Rattle.span_table_text.specs.Shown.{Wanted}
-use Rattle.span_table.specs.Tables.{SpanTable}
-use Rattle.span_request.specs.declared.views.RepeatsForm.{RepeatsForm}
+use Rattle.std.specs.{Global.Vec, List.AllZip, Prelude.{◌≡◌, ℕ, ◌≤◌, ◌⊎◌, true, false, ⊤, List, [], ◌∷◌, ◌++◌, length}}
 use Rattle.span_request.specs.declared.views.RepeatsForm.TheVariants.{Text, Json}
-use Rattle.span_request.specs.declared.views.RepeatsView.{RepeatsView}
-use Rattle.span_request.specs.Numbers.{goes_by}
-use Rattle.tracebook.specs.declared.repeated_tables.Tables.{Tables}
-use Rattle.tracebook.specs.Added.{AddsBeside, Known, OfInputs}
-use Rattle.tracebook.specs.Sums.{GathersBoth, WritesAll, WritesPartly}
-use Rattle.tracebook.specs.Tables.{asked_by}
+use Rattle.tracebook.specs.{Bytes, Unit, SinkState, Settings, Chooses, PartSum, Gathered, AreTablesOf, SourceBytes, Column, Of, By, Run, json_repeats_fit, json_repeats_of, repeats_of, Wanted, SpanTable, RepeatsForm, RepeatsView, goes_by, Added.{AddsBeside, Known, OfInputs}, Sums.{GathersBoth, WritesAll, WritesPartly}, Tables.asked_by, declared.repeated_tables.Tables.Tables}
 
 -- the text in a form, of tables that sum this by these columns, and whose times are in this unit
 abbrev pub repeats_formed : Unit → Of → List Column → RepeatsForm → By → Wanted → List SpanTable → List SpanTable → Bytes

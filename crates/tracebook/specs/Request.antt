@@ -1,28 +1,7 @@
 -- What a request does.
 use Rattle.std.specs.Prelude.{◌≡◌, ℕ, ◌⊎◌, List, take, string_bytes}
-use Rattle.span_report.specs.Sink.{SinkState, TakesBytes, Fails}
-use Rattle.span_collect.specs.declared.files.Input.{Input}
-use Rattle.span_collect.specs.declared.settings.Settings.{Settings}
-use Rattle.span_collect.specs.declared.runs.RunEnd.{RunEnd}
-use Rattle.span_request.specs.declared.tasks.Request.{Request}
-use Rattle.span_request.specs.declared.tasks.Request.TheVariants.{Run, Show, Refuse}
-use Rattle.span_request.specs.declared.tasks.Task.{Task}
-use Rattle.span_request.specs.declared.tasks.Task.TheVariants.{Collect, Compare, Sum, Pages as PagesTask, CompareSums, Repeat, Add, CompareAdded, RepeatAdded}
-use Rattle.tracebook.specs.declared.comparison.ComparisonFault.{ComparisonFault}
-use Rattle.span_request.specs.declared.views.ComparisonView.{ComparisonView}
-use Rattle.span_request.specs.declared.views.View.{View}
-use Rattle.tracebook.specs.declared.view.ViewFault.{ViewFault}
-use Rattle.span_runs.specs.declared.names.Named.{Named}
-use Rattle.span_runs.specs.Names.{AreNamed}
-use Rattle.span_runs.specs.Source.{SourceBytes}
-use Rattle.span_request.specs.Request.{AsksFor}
-use Rattle.tracebook.specs.Added.{Adds, AddsPartly, ComparesAdded, ComparesAddedPartly}
-use Rattle.tracebook.specs.Comparison.{ComparisonLeaves, IsComparisonOf, greater}
-use Rattle.span_runs.specs.Inputs.{AreFiles, AreInputs}
-use Rattle.tracebook.specs.Pages.{Pages, PagesPartly}
-use Rattle.tracebook.specs.Repeats.{Repeats, RepeatsAdded, RepeatsAddedPartly, RepeatsPartly}
-use Rattle.tracebook.specs.Sums.{ComparesSums, ComparesSumsPartly, Sums, SumsPartly}
-use Rattle.tracebook.specs.View.{Prints, ViewLeaves}
+use Rattle.span_request.specs.declared.{tasks.{Request.{Request, TheVariants.Run}, Task.TheVariants.Pages as PagesTask}, views.View.View}
+use Rattle.tracebook.specs.{SinkState, TakesBytes, Fails, Input, Settings, RunEnd, Show, Refuse, Task, Collect, Compare, Sum, CompareSums, Repeat, Add, CompareAdded, RepeatAdded, ComparisonView, Named, AreNamed, SourceBytes, AsksFor, AreFiles, AreInputs, Added.{Adds, AddsPartly, ComparesAdded, ComparesAddedPartly}, Comparison.{ComparisonLeaves, IsComparisonOf, greater}, Pages.{Pages, PagesPartly}, Repeats.{Repeats, RepeatsAdded, RepeatsAddedPartly, RepeatsPartly}, Sums.{ComparesSums, ComparesSumsPartly, Sums, SumsPartly}, View.{Prints, ViewLeaves}, declared.{comparison.ComparisonFault.ComparisonFault, view.ViewFault.ViewFault}}
 
 -- this holds of a request that the words ask for
 abbrev pub Asked : List (List ℕ) → (Request → Type 0) → Type 0

@@ -1,20 +1,6 @@
 -- Files each of which is a run of its own: what is printed of their sums.
 use Rattle.std.specs.Prelude.{◌≡◌, ℕ, ◌≤◌, ◌⊎◌, ◌==◌, if◌then◌else◌, true, List, [], ◌∷◌, ◌++◌, length, take, codes}
-use Rattle.span_event.specs.Text.{Bytes}
-use Rattle.span_report.specs.Sink.{SinkState, TakesBytes, Fails}
-use Rattle.span_collect.specs.declared.settings.Settings.{Settings}
-use Rattle.span_runs.specs.declared.gathered.Gathered.{Gathered}
-use Rattle.span_runs.specs.Apart.{GathersFiles}
-use Rattle.span_runs.specs.Gathering.{IsTableOf}
-use Rattle.span_runs.specs.Source.{SourceBytes}
-use Rattle.span_table.specs.declared.column.Column.{Column}
-use Rattle.span_table.specs.declared.of.Of.{Of}
-use Rattle.span_table.specs.Columns.{Run}
-use Rattle.span_table.specs.Tables.{SpanTable}
-use Rattle.span_request.specs.declared.views.ComparisonView.{ComparisonView}
-use Rattle.span_request.specs.declared.views.TableView.{TableView}
-use Rattle.tracebook.specs.Comparison.{changes_text}
-use Rattle.tracebook.specs.Tables.{TableFits, table_text}
+use Rattle.tracebook.specs.{Bytes, SinkState, TakesBytes, Fails, Settings, Gathered, GathersFiles, IsTableOf, SourceBytes, Column, Of, Run, SpanTable, ComparisonView, TableView, Comparison.changes_text, Tables.{TableFits, table_text}}
 
 -- what files of these names come to, each a run of its own; standard input, as the file `-`, where there are none
 abbrev pub GathersInputs : {T : Type 0} → SourceBytes → List (List ℕ) → Settings → (List Run → T → Type 0) → Gathered T → Type 0

@@ -1,20 +1,6 @@
 -- The texts of tables.
 use Rattle.std.specs.Prelude.{◌≡◌, Bool, false, Option, Some, None, ⊤}
-use Rattle.span_event.specs.Text.{Bytes}
-use Rattle.span_event.specs.declared.unit.Unit.{Unit}
-use Rattle.span_table.specs.declared.of.Of.{Of}
-use Rattle.span_table.specs.declared.sums.By.{By}
-use Rattle.span_table.specs.Columns.{Run}
-use Rattle.span_table_text.specs.Json.{json_fits, json_of, shown_table}
-use Rattle.span_table_text.specs.Printed.{AllFit}
-use Rattle.span_table_text.specs.Ranking.{ranking_of}
-use Rattle.span_table.specs.Sums.{usual_by}
-use Rattle.span_table_text.specs.Shown.{Wanted}
-use Rattle.span_table.specs.Tables.{SpanTable}
-use Rattle.span_runs.specs.Runs.{table_of_run}
-use Rattle.span_request.specs.declared.views.TableForm.{TableForm}
-use Rattle.span_request.specs.declared.views.TableForm.TheVariants.{Ranking, Json}
-use Rattle.span_request.specs.declared.views.TableView.{TableView}
+use Rattle.tracebook.specs.{Bytes, Unit, Of, By, Run, json_fits, json_of, shown_table, AllFit, ranking_of, usual_by, Wanted, SpanTable, table_of_run, TableForm, Ranking, Json, TableView}
 
 -- the number that rows go by: the named one, or the usual one of what a table sums
 abbrev pub asked_by : Of → Option By → By

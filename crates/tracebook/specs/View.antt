@@ -1,33 +1,9 @@
 -- What is printed of what was collected.
 use Rattle.std.specs.Prelude.{◌≡◌, ℕ, ◌<◌, ◌≤◌, ⊤, false, List, [], length, take}
-use Rattle.span_event.specs.declared.fault.Fault.TheVariants.{TooGreat as TooGreatFault, StacksTooLarge as StacksFault}
-use Rattle.span_event.specs.Fault.{number_of}
-use Rattle.span_event.specs.declared.unit.Unit.{Unit}
-use Rattle.span_journal.specs.declared.entry.Entry.{Entry}
-use Rattle.span_report.specs.Report.{report_of}
-use Rattle.span_collect.specs.Refusals.Text.{refusals_of}
-use Rattle.span_report.specs.declared.output.WriteFault.{WriteFault}
-use Rattle.span_report.specs.declared.output.WriteFault.TheVariants.{Memory as Unwritten, Output as Cut}
-use Rattle.span_report.specs.declared.stacks.output.FoldedFault.{FoldedFault}
-use Rattle.span_report.specs.declared.stacks.output.FoldedFault.TheVariants.{Memory as Unfolded, TooLarge, Output as FoldedCut}
-use Rattle.span_report.specs.Sink.{SinkState, Fails}
-use Rattle.span_report.specs.Stacks.Bounds.{most_names}
-use Rattle.span_report.specs.Stacks.Folded.{folded_of, names_of}
-use Rattle.span_page.specs.Page.{page_of}
-use Rattle.span_collect.specs.declared.files.FileEnd.{FileEnd}
-use Rattle.span_collect.specs.declared.files.Input.{Input}
-use Rattle.span_collect.specs.declared.runs.RunEnd.{RunEnd}
-use Rattle.span_collect.specs.declared.runs.RunError.TheVariants.{FileCount, Memory, Unaccounted, Output}
-use Rattle.span_collect.specs.declared.settings.Settings.{Settings}
-use Rattle.span_collect.specs.InTurn.{AreSeparate, FailsAsInTurn, WritesAsInTurn, ends_from, journal_in_turn}
-use Rattle.span_collect.specs.Run.{IsRunOf, RunLeaves, TextOf, WritesOneFile, run_code, status_of}
-use Rattle.span_collect.specs.Seals.{SealedAccount}
+use Rattle.span_event.specs.declared.fault.Fault.TheVariants.{TooGreat as TooGreatFault}
+use Rattle.span_report.specs.declared.{output.WriteFault.TheVariants.{Memory as Unwritten, Output as Cut}, stacks.output.FoldedFault.TheVariants.{Memory as Unfolded, Output as FoldedCut}}
 use Rattle.span_request.specs.declared.views.View.{View}
-use Rattle.span_request.specs.declared.views.View.TheVariants.{Report, Table, Refusals, Folded, Page}
-use Rattle.tracebook.specs.declared.view.ViewFault.{ViewFault}
-use Rattle.tracebook.specs.declared.view.ViewFault.TheVariants.{Run, TooGreat, StacksTooLarge}
-use Rattle.span_runs.specs.Runs.{run_of_files}
-use Rattle.tracebook.specs.Tables.{TableExceeds, TableFits, asked_table, table_text}
+use Rattle.tracebook.specs.{StacksTooLarge as StacksFault, number_of, Unit, Entry, report_of, refusals_of, WriteFault, FoldedFault, TooLarge, SinkState, Fails, most_names, folded_of, names_of, page_of, FileEnd, Input, RunEnd, FileCount, Memory, Unaccounted, Output, Settings, AreSeparate, FailsAsInTurn, WritesAsInTurn, ends_from, journal_in_turn, IsRunOf, RunLeaves, TextOf, WritesOneFile, run_code, status_of, SealedAccount, Report, Table, Refusals, Folded, Page, run_of_files, Tables.{TableExceeds, TableFits, asked_table, table_text}, declared.view.ViewFault.{ViewFault, TheVariants.{Run, TooGreat, StacksTooLarge}}}
 
 -- this view of what was collected in this unit
 abbrev pub text_of : Unit → View → List Input → TextOf

@@ -1,10 +1,6 @@
 //! Files each of which is a table that was printed: they are read back, added and printed.
 ghost use Rattle.std.specs.Prelude.{◌≡◌, ◌<◌, ◌≤◌, true, IfErr, IfOk};
-ghost use Rattle.span_parts.specs.Sum.{HasOtherColumns};
-ghost use Rattle.span_faults.specs.FaultLines.{SaysAndHints};
-ghost use Rattle.span_request.specs.Numbers.{goes_by};
-ghost use Rattle.tracebook.specs.AddStops.{AddsFile, AddsMore, BeginsWith, IsOfPart, IsUnread, LacksAsked, Stops, StopsAt, StopsBeside, StopsMore, stop_text};
-ghost use Rattle.tracebook.specs.Added.{Adds, AddsBeside, AddsChosen, AddsPartly, ComparesAdded, ComparesAddedPartly, IsText, OfInputs};
+ghost use Rattle.tracebook.specs.{HasOtherColumns, SaysAndHints, goes_by, AddStops.{AddsFile, AddsMore, BeginsWith, IsOfPart, IsUnread, LacksAsked, Stops, StopsAt, StopsBeside, StopsMore, stop_text}, Added.{Adds, AddsBeside, AddsChosen, AddsPartly, ComparesAdded, ComparesAddedPartly, IsText, OfInputs}};
 
 use crate::standard::Standard;
 use crate::sums::{write_runs_changes, write_runs_table};

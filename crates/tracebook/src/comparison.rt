@@ -1,9 +1,6 @@
 //! Two runs, of which one is compared with the other.
 ghost use Rattle.std.specs.Prelude.{◌≡◌, IfOk, IfErr, OnOk};
-ghost use Rattle.span_report.specs.Sink.{TakesBytes};
-ghost use Rattle.span_runs.specs.Runs.{run_of_files};
-ghost use Rattle.span_table_text.specs.declared.json_lines.JsonFault.TheVariants.{TooGreat};
-ghost use Rattle.tracebook.specs.Comparison.{ChangesLeave, ComparisonLeaves, HasTooGreat, IsComparisonOf, changes_of_runs, changes_text, comparison_code, greater};
+ghost use Rattle.tracebook.specs.{TakesBytes, run_of_files, TooGreat, Comparison.{ChangesLeave, ComparisonLeaves, HasTooGreat, IsComparisonOf, changes_of_runs, changes_text, comparison_code, greater}};
 
 use crate::tables::asked_by;
 use span_collect::{Collected, Input, RunError, Settings, collect_to_ledger};

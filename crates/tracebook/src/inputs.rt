@@ -1,6 +1,6 @@
 //! The files that a request names, as they are read.
 ghost use Rattle.std.specs.Prelude.{◌≡◌, [], ◌∷◌, ◌++◌, IfOk, OnOk};
-ghost use Rattle.span_runs.specs.Inputs.{AreFiles, AreInputs};
+ghost use Rattle.tracebook.specs.{AreFiles, AreInputs};
 
 use span_collect::Input;
 use span_event::Text;

@@ -1,9 +1,6 @@
 //! A page of files each of which is a run of its own.
 ghost use Rattle.std.specs.Prelude.{◌≡◌, ◌<◌, ◌≤◌, [], List, true, length, map, IfOk, OnOk};
-ghost use Rattle.span_page.specs.Runs.{Holds, ShownRun, TakesRun, page_of_runs};
-ghost use Rattle.span_table.specs.Tables.{table_of};
-ghost use Rattle.tracebook.specs.Pages.{AreHeld, HoldsInputs, Pages, PagesPartly, ShowsFile, shown_alone, shown_run, shown_runs};
-ghost use Rattle.tracebook.specs.Tables.{TableFits, table_text};
+ghost use Rattle.tracebook.specs.{Holds, ShownRun, TakesRun, page_of_runs, table_of, Pages.{AreHeld, HoldsInputs, Pages, PagesPartly, ShowsFile, shown_alone, shown_run, shown_runs}, Tables.{TableFits, table_text}};
 
 use crate::apart::jobs_of;
 use crate::standard::Standard;

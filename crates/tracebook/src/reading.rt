@@ -1,7 +1,6 @@
 //! Reads the bytes of an opened file.
 ghost use Rattle.std.specs.Prelude.{◌≡◌, ◌+◌, ◌<◌, ◌≤◌, length, vec_len, IfOk};
-ghost use Rattle.span_runs.specs.Source.{AreFirst};
-ghost use Rattle.tracebook.specs.Reading.{Brings};
+ghost use Rattle.tracebook.specs.{AreFirst, Reading.Brings};
 
 use span_runs::{Reason, SourceFault};
 use std::alloc::Global;

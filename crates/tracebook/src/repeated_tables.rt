@@ -1,7 +1,6 @@
 //! Tables that were printed, each of one of the runs that were repeated on two sides.
 ghost use Rattle.std.specs.Prelude.{◌≡◌, ◌<◌, ◌≤◌, ◌∷◌, IfOk};
-ghost use Rattle.tracebook.specs.Added.{OfInputs};
-ghost use Rattle.tracebook.specs.Repeats.{AreOfSides, AreTablesBeside, IsTableBeside, RepeatsAdded, RepeatsAddedPartly};
+ghost use Rattle.tracebook.specs.{Added.OfInputs, Repeats.{AreOfSides, AreTablesBeside, IsTableBeside, RepeatsAdded, RepeatsAddedPartly}};
 
 use crate::added::{AddStop, fail_add, sum_beside, sum_names};
 use crate::repeats::{are_few, write_tables};

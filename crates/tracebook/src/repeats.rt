@@ -1,8 +1,6 @@
 //! Repeated runs, on each of two sides: how their numbers are spread, of traces or of tables that were printed.
 ghost use Rattle.std.specs.Prelude.{◌≡◌, ◌<◌, ◌≤◌, ◌↔◌, IfErr, IfOk, IsTrue, OnOk, length};
-ghost use Rattle.span_table_text.specs.declared.json_lines.JsonFault.TheVariants.{TooGreat};
-ghost use Rattle.tracebook.specs.Repeats.{AreFew, RepeatsExceed, RepeatsFit, Repeats, RepeatsPartly, repeats_text};
-ghost use Rattle.tracebook.specs.Sums.{WritesAll, WritesPartly};
+ghost use Rattle.tracebook.specs.{TooGreat, Repeats.{AreFew, RepeatsExceed, RepeatsFit, Repeats, RepeatsPartly, repeats_text}, Sums.{WritesAll, WritesPartly}};
 
 use crate::sides::{JoinedSides, Sides, gather_sides};
 use crate::sums::write_and_say;

@@ -1,6 +1,6 @@
 //! Standard input in the place of a file.
 ghost use Rattle.std.specs.Prelude.{IfOk};
-ghost use Rattle.span_runs.specs.Source.{AreFirst};
+ghost use Rattle.tracebook.specs.{AreFirst};
 
 use span_event::Text;
 use span_runs::{Source, SourceFault};

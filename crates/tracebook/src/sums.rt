@@ -1,9 +1,6 @@
 //! Tables of several runs, as they are printed: their heads say how many runs there are, and fault lines follow.
 ghost use Rattle.std.specs.Prelude.{◌≡◌, ◌<◌, ◌≤◌, true, is_ok, IfOk, IfErr};
-ghost use Rattle.span_faults.specs.FaultLines.{Says};
-ghost use Rattle.tracebook.specs.Comparison.{changes_text};
-ghost use Rattle.tracebook.specs.Sums.{WritesAll, WritesPartly};
-ghost use Rattle.tracebook.specs.Tables.{TableFits, table_text};
+ghost use Rattle.tracebook.specs.{Says, Comparison.changes_text, Sums.{WritesAll, WritesPartly}, Tables.{TableFits, table_text}};
 
 use crate::comparison::changes_text;
 use crate::tables::table_text;

@@ -1,7 +1,7 @@
 //! The tables that the command line asks for, and their texts.
 ghost use Rattle.std.specs.Prelude.{◌≡◌, true, false, string_bytes, IfOk, IfErr, OnOk};
-ghost use Rattle.span_table_text.specs.declared.json_lines.JsonFault.TheVariants.{Memory, TooGreat};
-ghost use Rattle.tracebook.specs.Tables.{TableExceeds, TableFits, asked_by, table_text};
+ghost use Rattle.span_table_text.specs.declared.json_lines.JsonFault.TheVariants.{Memory};
+ghost use Rattle.tracebook.specs.{TooGreat, Tables.{TableExceeds, TableFits, asked_by, table_text}};
 
 use span_event::Unit;
 use span_request::{TableForm, TableView};

@@ -1,11 +1,6 @@
 //! What is printed of what was collected.
 ghost use Rattle.std.specs.Prelude.{◌≡◌, true, false, length, IfOk, IfErr, OnOk};
-ghost use Rattle.span_report.specs.Sink.{TakesBytes};
-ghost use Rattle.span_runs.specs.Runs.{run_of_files};
-ghost use Rattle.span_request.specs.declared.views.View.TheVariants.{Page as OfPage, Table as OfTable};
-ghost use Rattle.span_table_text.specs.declared.json_lines.JsonFault.TheVariants.{TooGreat};
-ghost use Rattle.tracebook.specs.Tables.{TableExceeds, TableFits, asked_table, table_text};
-ghost use Rattle.tracebook.specs.View.{Fits, Prints, TextLeaves, ViewLeaves, of_folded, of_written, text_of, view_code};
+ghost use Rattle.tracebook.specs.{TakesBytes, run_of_files, Page as OfPage, Table as OfTable, TooGreat, Tables.{TableExceeds, TableFits, asked_table, table_text}, View.{Fits, Prints, TextLeaves, ViewLeaves, of_folded, of_written, text_of, view_code}};
 
 use crate::tables::{string_of, table_text};
 use span_collect::refusals::write_refusals;

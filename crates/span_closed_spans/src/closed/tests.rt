@@ -1,5 +1,5 @@
 ghost use Rattle.std.specs.Prelude.{◌≢◌, map, All, IsTrue, IfOk, OnOk};
-ghost use Rattle.span_self_time.specs.Closed.{span_of, AreClosed, CanJoin};
+ghost use Rattle.span_closed_spans.specs.{span_of, AreClosed, CanJoin};
 
 use super::ClosedSpans;
 use crate::walk::{busy_time, self_of, self_time};

@@ -1,44 +1,10 @@
 -- What a collection of separate files accounts for is what they give one after another.
-use Rattle.std.proofs.Common.{◌≡◌, ◌≢◌, inl, inr, ℕ, ◌<◌, List, [], ◌∷◌, ◌++◌, length, take, map, Bool, true, false, cond, ◌||◌, Contains, Option, Some, None, Ok, Err, refl, sym, ap, ap₂, subst, ◌∙◌, arith}
-use Rattle.std.specs.Prelude.{if◌then◌else◌}
-use Rattle.std.specs.List.{AllZip, list_any, range_with_len}
-use Rattle.std.specs.Option.{is_some}
-use Rattle.std.proofs.Math.Seq.{take-length}
-use Rattle.span_event.specs.declared.unit.Unit.{Unit}
-use Rattle.span_read.specs.Document.{doc}
-use Rattle.span_journal.specs.declared.entry.Answer.{Answer}
-use Rattle.span_journal.specs.declared.entry.Entry.{Entry}
-use Rattle.span_journal.specs.declared.entry.Op.{Op}
-use Rattle.span_journal.specs.declared.query.Query.{Query}
-use Rattle.span_journal.specs.declared.refusal.Cause.{Cause}
-use Rattle.span_journal.specs.Legal.{next_entry}
-use Rattle.span_journal.specs.Topics.{AreAlike}
-use Rattle.span_journal.proofs.Topics.Answers.{answers-follow}
-use Rattle.span_journal.proofs.Topics.Rows.{rows-follow}
-use Rattle.span_journal.specs.declared.rows.CountRow.{CountRow}
-use Rattle.span_report.specs.Report.{head_lines}
-use Rattle.span_share.specs.Callers.{calls}
-use Rattle.span_share.specs.Entries.{caller_of}
+use Rattle.std.specs.{List.{AllZip, list_any, range_with_len}, Option.is_some, Prelude.if◌then◌else◌}
+use Rattle.std.proofs.{Common.{◌≡◌, ◌≢◌, inl, inr, ℕ, ◌<◌, List, [], ◌∷◌, ◌++◌, length, take, map, Bool, true, false, cond, ◌||◌, Contains, Option, Some, None, Ok, Err, refl, sym, ap, ap₂, subst, ◌∙◌, arith}, Math.Seq.take-length}
+use Rattle.span_journal.proofs.Topics.{Answers.answers-follow, Rows.rows-follow}
 use Rattle.span_share.proofs.CallersLists.{calls-append_other}
-use Rattle.span_collect.specs.declared.files.FileEnd.{FileEnd}
-use Rattle.span_collect.specs.declared.files.FileEnd.TheVariants.{Read, Refused, Stopped, NotStarted}
-use Rattle.span_collect.specs.declared.files.Input.{Input}
-use Rattle.span_collect.specs.declared.queries.Asked.{Asked}
-use Rattle.span_collect.specs.declared.sealing.Sealing.{Sealing}
-use Rattle.span_collect.specs.declared.settings.Settings.{Settings}
-use Rattle.span_collect.specs.Account.{Account, Document, EachEndsAs, IsRead, IsRefused, StopsAsking, callers_named, operations, telling}
-use Rattle.span_collect.specs.FaultLines.{end_lines}
-use Rattle.span_collect.specs.InTurn.{AnswersAsInTurn, AreSeparate, answers_of, ends_from, items_in, journal_in_turn, told_in_turn}
-use Rattle.span_collect.specs.Refusals.Text.{refusals_of}
-use Rattle.span_collect.specs.Run.{is_cut, is_refused, status_of, unread_of}
-use Rattle.span_collect.specs.Seals.{SealedAccount, SealsAfter, StopsSealing, seals_of, with_seals}
-use Rattle.span_collect.proofs.InTurn.Alike.{Contains-place, acts_on-told, exchanges-alone}
-use Rattle.span_collect.proofs.InTurn.Counts.{AllZip-files, count_row-told}
-use Rattle.span_collect.proofs.InTurn.Exchanges.{exchanges}
-use Rattle.span_collect.proofs.InTurn.FileLines.{end_lines-same, file_lines-same, unread_of-same}
-use Rattle.span_collect.proofs.InTurn.OneByOne.{told_in_turn-tells}
-use Rattle.span_collect.proofs.InTurn.Sealed.{AreAlike-sealed}
-use Rattle.span_collect.proofs.InTurn.Shared.{TellsFiles}
+use Rattle.span_collect.specs.{Unit, doc, Answer, Entry, Op, Query, Cause, next_entry, AreAlike, CountRow, head_lines, calls, caller_of, Account.{Account, Document, EachEndsAs, IsRead, IsRefused, StopsAsking, callers_named, operations, telling}, FaultLines.end_lines, InTurn.{AnswersAsInTurn, AreSeparate, answers_of, ends_from, items_in, journal_in_turn, told_in_turn}, Refusals.Text.refusals_of, Run.{is_cut, is_refused, status_of, unread_of}, Seals.{SealedAccount, SealsAfter, StopsSealing, seals_of, with_seals}, declared.{files.{FileEnd.{FileEnd, TheVariants.{Read, Refused, Stopped, NotStarted}}, Input.Input}, queries.Asked.Asked, sealing.Sealing.Sealing, settings.Settings.Settings}}
+use Rattle.span_collect.proofs.InTurn.{Alike.{Contains-place, acts_on-told, exchanges-alone}, Counts.{AllZip-files, count_row-told}, Exchanges.exchanges, FileLines.{end_lines-same, file_lines-same, unread_of-same}, OneByOne.told_in_turn-tells, Sealed.AreAlike-sealed, Shared.TellsFiles}
 
 read-tells : (journal : List Entry) (document : Document) (c count : ℕ) → IsRead journal document c count → operations journal c ≡ telling (items_in document)
 read-tells journal (Ok items) c count is = is.1

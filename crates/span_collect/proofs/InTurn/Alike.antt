@@ -1,24 +1,8 @@
 -- Two journals that were told the same separate files and the same queries are alike.
+use Rattle.std.specs.{List.AllZip, Prelude.slice_get}
 use Rattle.std.proofs.Common.{◌≡◌, ◌≢◌, ℕ, zero, suc, ◌⊎◌, inl, inr, List, [], ◌∷◌, Bool, true, false, Contains, Some, refl, sym, ap, subst, ◌∙◌, arith}
-use Rattle.std.specs.Prelude.{slice_get}
-use Rattle.std.specs.List.{AllZip}
-use Rattle.span_event.specs.declared.event.Event.{Event}
-use Rattle.span_event.specs.declared.item.Item.{Item}
-use Rattle.span_event.specs.declared.unit.Unit.{Unit}
-use Rattle.span_read.specs.Document.{doc}
-use Rattle.span_journal.specs.declared.entry.Entry.{Entry}
-use Rattle.span_journal.specs.declared.entry.Op.TheVariants.{One}
-use Rattle.span_journal.specs.declared.query.Query.{Query}
-use Rattle.span_journal.specs.Journal.{an_event}
-use Rattle.span_journal.specs.Topics.{Topic, AnswersFollowFromActs, acts_on, concerns}
-use Rattle.span_share.specs.Callers.{calls}
-use Rattle.span_share.specs.Entries.{caller_of}
-use Rattle.span_collect.specs.declared.files.Input.{Input}
-use Rattle.span_collect.specs.Account.{operations, telling}
-use Rattle.span_collect.specs.InTurn.{AreSeparate, events_in, items_in}
-use Rattle.span_collect.proofs.InTurn.Alone.{AllByRecursion-weaker, alone, exchanges-calls}
-use Rattle.span_collect.proofs.InTurn.Exchanges.{IsSilentOn, acts_among, acts_among-calls, acts_among-none, acts_on-exchanges, exchanges}
-use Rattle.span_collect.proofs.InTurn.Shared.{AllZip-place, IsOfFiles, IsOfFiles-all, IsOfFiles-apart, TellsFiles, silent_entry, silent_others}
+use Rattle.span_collect.specs.{Event, Item, Unit, doc, Entry, One, Query, an_event, Topic, AnswersFollowFromActs, acts_on, concerns, calls, caller_of, Account.{operations, telling}, InTurn.{AreSeparate, events_in, items_in}, declared.files.Input.Input}
+use Rattle.span_collect.proofs.InTurn.{Alone.{AllByRecursion-weaker, alone, exchanges-calls}, Exchanges.{IsSilentOn, acts_among, acts_among-calls, acts_among-none, acts_on-exchanges, exchanges}, Shared.{AllZip-place, IsOfFiles, IsOfFiles-all, IsOfFiles-apart, TellsFiles, silent_entry, silent_others}}
 
 zip_at : {A B : Type 0} (R : A → B → Type 0) (xs : List A) (ys : List B) (p : ℕ) (x : A) (y : B) → AllZip R xs ys → slice_get xs p ≡ Some x → slice_get ys p ≡ Some y → R x y
 zip_at R xs ys p x y zip at under =

@@ -1,24 +1,11 @@
 -- A caller's entries are answered as if it told alone, where no other caller's concern what its own do.
-use Rattle.std.proofs.Common.{◌≡◌, ◌≢◌, ℕ, List, [], ◌∷◌, ◌++◌, Bool, true, false, eqb, eqb-true, eq-eqb, map, Some, refl, sym, ap, ap₂, subst, ◌∙◌, append-nil, append_assoc}
 use Rattle.std.specs.List.{AllByRecursion}
-use Rattle.std.proofs.lemmas.List.{map_push}
-use Rattle.span_event.specs.declared.item.Item.{Item}
-use Rattle.span_event.specs.declared.item.Item.TheVariants.{Good, Bad, Other}
-use Rattle.span_journal.specs.declared.entry.Answer.{Answer}
-use Rattle.span_journal.specs.declared.entry.Entry.{Entry}
-use Rattle.span_journal.specs.declared.entry.Op.{Op}
-use Rattle.span_journal.specs.declared.entry.Op.TheVariants.{One}
-use Rattle.span_journal.specs.Answers.{answer_to}
-use Rattle.span_journal.specs.Journal.{Act, an_event, act_in}
-use Rattle.span_journal.specs.Legal.{IsLegal, next_entry, sequential}
-use Rattle.span_journal.specs.Topics.{Topic, AnswersFollowFromActs, acts_on, concerns}
+use Rattle.std.proofs.{Common.{◌≡◌, ◌≢◌, ℕ, List, [], ◌∷◌, ◌++◌, Bool, true, false, eqb, eqb-true, eq-eqb, map, Some, refl, sym, ap, ap₂, subst, ◌∙◌, append-nil, append_assoc}, lemmas.List.map_push}
 use Rattle.span_journal.proofs.LegalJournals.{IsLegalAfter, first_later}
 use Rattle.span_ledger.proofs.Taking.{answer_to-bad, answer_to-other}
-use Rattle.span_share.specs.Callers.{calls}
-use Rattle.span_share.specs.Entries.{caller_of}
 use Rattle.span_share.proofs.CallersLists.{calls-append_other, calls-append_own}
-use Rattle.span_collect.proofs.SealEntries.{journal_after-push}
-use Rattle.span_collect.proofs.InTurn.Exchanges.{IsSilentOn, acts_among, acts_among-calls, acts_on-exchanges, exchange_of, exchanges}
+use Rattle.span_collect.specs.{Item, Good, Bad, Other, Answer, Entry, Op, One, answer_to, Act, an_event, act_in, IsLegal, next_entry, sequential, Topic, AnswersFollowFromActs, acts_on, concerns, calls, caller_of}
+use Rattle.span_collect.proofs.{InTurn.Exchanges.{IsSilentOn, acts_among, acts_among-calls, acts_on-exchanges, exchange_of, exchanges}, SealEntries.journal_after-push}
 
 -- the journal of these operations alone
 abbrev pub alone : Bool → List Op → List Entry

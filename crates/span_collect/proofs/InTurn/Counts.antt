@@ -1,32 +1,10 @@
 -- Two journals that were told the same separate files and the same queries have as many entries of each kind.
-use Rattle.std.proofs.Common.{◌≡◌, ℕ, suc, ◌+◌, inl, inr, List, [], ◌∷◌, length, take, Bool, true, false, cond, eqb, eqb-true, map, All, Contains, Some, refl, sym, ap, ap₂, subst, ◌∙◌}
-use Rattle.std.specs.Prelude.{filter, slice_get, sum_by}
-use Rattle.std.specs.List.{AllByRecursion, AllZip, count_by}
-use Rattle.std.proofs.lemmas.List.Elements.{All-filter}
-use Rattle.std.proofs.lemmas.List.Sums.{length-filter, sum_by-cons}
-use Rattle.span_event.specs.declared.unit.Unit.{Unit}
-use Rattle.span_journal.specs.declared.entry.Answer.{Answer}
-use Rattle.span_journal.specs.declared.entry.Answer.TheVariants.{Reply}
-use Rattle.span_journal.specs.declared.entry.Entry.{Entry}
-use Rattle.span_journal.specs.declared.entry.Op.{Op}
-use Rattle.span_journal.specs.declared.kind.Kind.{Kind}
-use Rattle.span_journal.specs.declared.kind.Kind.TheVariants.{Accepted as accepted_kind, Refused as refused_kind, Skipped as skipped_kind, Replied as replied_kind, Sealed as sealed_kind}
-use Rattle.span_journal.specs.declared.query.Query.{Query}
-use Rattle.span_journal.specs.declared.reply.Reply.{Reply as ReplyTo}
-use Rattle.span_journal.specs.Answers.{answer_to}
-use Rattle.span_journal.specs.Kind.{is_of, same_kind}
-use Rattle.span_journal.specs.Replies.{reply_to}
-use Rattle.span_journal.specs.Rows.{count_of, count_row}
-use Rattle.span_journal.specs.Topics.{AnswersFollowFromActs}
+use Rattle.std.specs.{List.{AllByRecursion, AllZip, count_by}, Prelude.{filter, slice_get, sum_by}}
+use Rattle.std.proofs.{Common.{◌≡◌, ℕ, suc, ◌+◌, inl, inr, List, [], ◌∷◌, length, take, Bool, true, false, cond, eqb, eqb-true, map, All, Contains, Some, refl, sym, ap, ap₂, subst, ◌∙◌}, lemmas.List.{Elements.All-filter, Sums.{length-filter, sum_by-cons}}}
+use Rattle.span_journal.specs.declared.{kind.Kind.TheVariants.Refused as refused_kind, reply.Reply.Reply as ReplyTo}
 use Rattle.span_ledger.proofs.Taking.{answer_to-query}
-use Rattle.span_share.specs.Callers.{AreDistinct, calls}
-use Rattle.span_share.specs.Entries.{caller_of}
-use Rattle.span_collect.specs.declared.files.Input.{Input}
-use Rattle.span_collect.specs.InTurn.{AreSeparate}
-use Rattle.span_collect.proofs.Counting.{total, total-length}
-use Rattle.span_collect.proofs.InTurn.Alike.{Contains-place, exchanges-alone}
-use Rattle.span_collect.proofs.InTurn.Exchanges.{exchange_of, exchanges}
-use Rattle.span_collect.proofs.InTurn.Shared.{AllByRecursion-places, IsOfFiles, TellsFiles, entry_is}
+use Rattle.span_collect.specs.{Unit, Answer, Reply, Entry, Op, Kind, Accepted as accepted_kind, Skipped as skipped_kind, Replied as replied_kind, Sealed as sealed_kind, Query, answer_to, is_of, same_kind, reply_to, count_of, count_row, AnswersFollowFromActs, AreDistinct, calls, caller_of, InTurn.AreSeparate, declared.files.Input.Input}
+use Rattle.span_collect.proofs.{Counting.{total, total-length}, InTurn.{Alike.{Contains-place, exchanges-alone}, Exchanges.{exchange_of, exchanges}, Shared.{AllByRecursion-places, IsOfFiles, TellsFiles, entry_is}}}
 
 -- it is all one which of two tests comes first
 filter-swap : {A : Type 0} (p q : A → Bool) (xs : List A) → filter p (filter q xs) ≡ filter q (filter p xs)

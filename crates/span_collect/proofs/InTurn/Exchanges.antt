@@ -1,15 +1,8 @@
 -- What a journal has of a topic follows from its operations and their answers, and of a caller that alone speaks of it from the
 -- caller's.
+use Rattle.std.specs.{List.{AllByRecursion, cons_option}, Prelude.{Option, Some, None, filter, filter_map}}
 use Rattle.std.proofs.Common.{◌≡◌, ◌≢◌, ℕ, ◌+◌, List, [], ◌∷◌, ◌++◌, Bool, true, false, cond, eqb, eq-eqb, map, refl, ap, ◌∙◌}
-use Rattle.std.specs.Prelude.{Option, Some, None, filter, filter_map}
-use Rattle.std.specs.List.{AllByRecursion, cons_option}
-use Rattle.span_journal.specs.declared.entry.Answer.{Answer}
-use Rattle.span_journal.specs.declared.entry.Entry.{Entry}
-use Rattle.span_journal.specs.declared.entry.Op.{Op}
-use Rattle.span_journal.specs.Journal.{Act, accepted_by, accepted_from, placed}
-use Rattle.span_journal.specs.Topics.{Topic, acts_on, concerns}
-use Rattle.span_share.specs.Callers.{calls}
-use Rattle.span_share.specs.Entries.{caller_of}
+use Rattle.span_collect.specs.{Answer, Entry, Op, Act, accepted_by, accepted_from, placed, Topic, acts_on, concerns, calls, caller_of}
 
 -- an operation and its answer: an entry without its caller
 abbrev pub exchange_of : Entry → Op × Answer

@@ -1,20 +1,7 @@
 -- What is said of files that were all read or refused, and how many were refused.
+use Rattle.std.specs.{List.{list_any, range_with_len}, Prelude.flat_map}
 use Rattle.std.proofs.Common.{◌≡◌, ℕ, suc, ◌+◌, List, [], ◌∷◌, ◌++◌, length, map, false, Some, Ok, Err, refl, sym, ap, ap₂, ◌∙◌}
-use Rattle.std.specs.Prelude.{flat_map}
-use Rattle.std.specs.List.{list_any, range_with_len}
-use Rattle.span_event.specs.declared.unit.Unit.{Unit}
-use Rattle.span_read.specs.Document.{doc}
-use Rattle.span_journal.specs.declared.entry.Answer.{Answer}
-use Rattle.span_journal.specs.declared.entry.Entry.{Entry}
-use Rattle.span_collect.specs.declared.files.FileEnd.{FileEnd}
-use Rattle.span_collect.specs.declared.files.FileEnd.TheVariants.{Read, Refused, Stopped, NotStarted}
-use Rattle.span_collect.specs.declared.files.Input.{Input}
-use Rattle.span_collect.specs.Account.{Document, EachEndsAs, IsRead, IsRefused, caller_named, callers_named}
-use Rattle.span_collect.specs.FaultLines.{end_line, end_lines, fault_line, lines_of_ends}
-use Rattle.span_collect.specs.InTurn.{answers_of, ends_from}
-use Rattle.span_collect.specs.Refusals.{refused_by}
-use Rattle.span_collect.specs.Refusals.Text.{caller_lines, file_lines, refused_line}
-use Rattle.span_collect.specs.Run.{end_by, is_cut, unread_of}
+use Rattle.span_collect.specs.{Unit, doc, Answer, Entry, Account.{Document, EachEndsAs, IsRead, IsRefused, caller_named, callers_named}, FaultLines.{end_line, end_lines, fault_line, lines_of_ends}, InTurn.{answers_of, ends_from}, Refusals.{refused_by, Text.{caller_lines, file_lines, refused_line}}, Run.{end_by, is_cut, unread_of}, declared.files.{FileEnd.{FileEnd, TheVariants.{Read, Refused, Stopped, NotStarted}}, Input.Input}}
 
 caller_named-end_by : (caller : ℕ) (document : Document) → caller_named (end_by caller document) ≡ Some caller
 caller_named-end_by caller (Ok items) = refl

@@ -1,22 +1,9 @@
 -- The journal of files that are told one after another tells each of them, the first under caller 1.
-use Rattle.std.proofs.Common.{◌≡◌, ◌≢◌, ℕ, zero, suc, ◌+◌, ◌<◌, ◌≤◌, List, [], ◌∷◌, ◌++◌, length, Bool, true, false, cond, eqb, eq-eqb, ne_eqb, map, All, Contains, refl, sym, ap, ap₂, subst, ◌∙◌, append-nil, append_assoc, arith}
-use Rattle.std.specs.Prelude.{filter}
-use Rattle.std.specs.List.{AllByRecursion, AllZip, range_with_len}
-use Rattle.std.proofs.lemmas.List.{map-append}
-use Rattle.std.proofs.lemmas.List.Elements.{All-cons, All-nil, filter-append}
-use Rattle.span_event.specs.declared.unit.Unit.{Unit}
-use Rattle.span_read.specs.Document.{doc}
-use Rattle.span_journal.specs.declared.entry.Entry.{Entry}
-use Rattle.span_journal.specs.declared.entry.Op.{Op}
-use Rattle.span_journal.specs.declared.query.Query.{Query}
-use Rattle.span_journal.specs.Legal.{calls_of}
+use Rattle.std.specs.{List.{AllByRecursion, AllZip, range_with_len}, Prelude.filter}
+use Rattle.std.proofs.{Common.{◌≡◌, ◌≢◌, ℕ, zero, suc, ◌+◌, ◌<◌, ◌≤◌, List, [], ◌∷◌, ◌++◌, length, Bool, true, false, cond, eqb, eq-eqb, ne_eqb, map, All, Contains, refl, sym, ap, ap₂, subst, ◌∙◌, append-nil, append_assoc, arith}, lemmas.List.{map-append, Elements.{All-cons, All-nil, filter-append}}}
 use Rattle.span_journal.proofs.LegalJournals.{sequential-legal}
-use Rattle.span_share.specs.Callers.{AreDistinct, calls}
-use Rattle.span_share.specs.Entries.{caller_of}
 use Rattle.span_share.proofs.CallersLists.{Contains-here, Contains-later}
-use Rattle.span_collect.specs.declared.files.Input.{Input}
-use Rattle.span_collect.specs.Account.{asking, operations, telling}
-use Rattle.span_collect.specs.InTurn.{calls_from, calls_in_turn, items_in, told_in_turn}
+use Rattle.span_collect.specs.{Unit, doc, Entry, Op, Query, calls_of, AreDistinct, calls, caller_of, Account.{asking, operations, telling}, InTurn.{calls_from, calls_in_turn, items_in, told_in_turn}, declared.files.Input.Input}
 use Rattle.span_collect.proofs.InTurn.Shared.{TellsFiles}
 
 -- the operations of a caller among calls

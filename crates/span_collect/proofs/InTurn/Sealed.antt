@@ -1,25 +1,8 @@
 -- Journals that are alike stay so once their seals are told.
-use Rattle.std.proofs.Common.{◌≡◌, ◌==◌, List, [], ◌∷◌, ◌++◌, Bool, true, false, cond, Option, Some, None, refl, sym, ap, ap₂, subst, ◌∙◌}
-use Rattle.std.specs.Prelude.{ℤ, filter, filter_map}
-use Rattle.std.specs.Option.{option_map}
-use Rattle.std.specs.List.{AllByRecursion, cons_option}
-use Rattle.std.proofs.lemmas.List.{map_push}
-use Rattle.std.proofs.lemmas.List.Elements.{filter-append, filter_map-append}
-use Rattle.span_track.specs.Nesting.{latest_time}
-use Rattle.span_journal.specs.declared.entry.Answer.{Answer}
-use Rattle.span_journal.specs.declared.entry.Entry.{Entry}
-use Rattle.span_journal.specs.declared.entry.Op.{Op}
-use Rattle.span_journal.specs.declared.entry.Op.TheVariants.{Seal}
-use Rattle.span_journal.specs.declared.rows.ThreadRow.{ThreadRow}
-use Rattle.span_journal.specs.Answers.{answer_to}
-use Rattle.span_journal.specs.Journal.{Act, a_seal, act_in}
-use Rattle.span_journal.specs.Legal.{next_entry}
-use Rattle.span_journal.specs.Order.{thread_of_row}
-use Rattle.span_journal.specs.Rows.{counted, thread_rows}
-use Rattle.span_journal.specs.Told.{thread_events}
-use Rattle.span_journal.specs.Topics.{AnswersFollowFromActs, AreAlike, RowsFollowFromActs, Topic, acts_on, concerns}
+use Rattle.std.specs.{List.{AllByRecursion, cons_option}, Option.option_map, Prelude.{ℤ, filter, filter_map}}
+use Rattle.std.proofs.{Common.{◌≡◌, ◌==◌, List, [], ◌∷◌, ◌++◌, Bool, true, false, cond, Option, Some, None, refl, sym, ap, ap₂, subst, ◌∙◌}, lemmas.List.{map_push, Elements.{filter-append, filter_map-append}}}
 use Rattle.span_ledger.proofs.Counting.{count_row-push}
-use Rattle.span_collect.specs.Seals.{seal_for, seals_of, with_seals}
+use Rattle.span_collect.specs.{latest_time, Answer, Entry, Op, Seal, ThreadRow, answer_to, Act, a_seal, act_in, next_entry, thread_of_row, counted, thread_rows, thread_events, AnswersFollowFromActs, AreAlike, RowsFollowFromActs, Topic, acts_on, concerns, Seals.{seal_for, seals_of, with_seals}}
 use Rattle.span_collect.proofs.InTurn.Exchanges.{act_of, acts_among, acts_on-exchanges, exchange_of, exchanges}
 
 -- the operation is an act

@@ -1,27 +1,8 @@
 -- A journal that files were told to, each under a caller of its own, and queries under 0: what its entries are, and that those of
 -- separate files are silent on each other's topics.
-use Rattle.std.proofs.Common.{◌≡◌, ◌≢◌, ℕ, zero, suc, ◌⊎◌, inl, inr, List, [], ◌∷◌, Bool, true, false, cond, eqb, eq-eqb, map, All, Contains, Option, Some, None, refl, sym, ap, subst, ◌∙◌, arith}
-use Rattle.std.specs.Prelude.{filter_map, slice_get}
-use Rattle.std.specs.List.{AllByRecursion, AllZip, cons_option}
-use Rattle.std.proofs.lemmas.List.Elements.{All-head, All-tail}
-use Rattle.span_event.specs.declared.event.Event.{Event}
-use Rattle.span_event.specs.declared.item.Item.{Item}
-use Rattle.span_event.specs.declared.item.Item.TheVariants.{Good, Bad, Other}
-use Rattle.span_event.specs.declared.unit.Unit.{Unit}
-use Rattle.span_read.specs.Document.{doc}
-use Rattle.span_journal.specs.declared.entry.Entry.{Entry}
-use Rattle.span_journal.specs.declared.entry.Op.{Op}
-use Rattle.span_journal.specs.declared.entry.Op.TheVariants.{One, Ask}
-use Rattle.span_journal.specs.declared.query.Query.{Query}
-use Rattle.span_journal.specs.Journal.{Act, an_event, act_in}
-use Rattle.span_journal.specs.Kind.{is_accepting}
-use Rattle.span_journal.specs.Legal.{IsLegal}
-use Rattle.span_journal.specs.Topics.{Topic, concerns}
-use Rattle.span_share.specs.Callers.{AreDistinct, calls}
-use Rattle.span_share.specs.Entries.{caller_of}
-use Rattle.span_collect.specs.declared.files.Input.{Input}
-use Rattle.span_collect.specs.Account.{asking, operations, telling}
-use Rattle.span_collect.specs.InTurn.{AreSeparate, events_in, good_event, items_in}
+use Rattle.std.specs.{List.{AllByRecursion, AllZip, cons_option}, Prelude.{filter_map, slice_get}}
+use Rattle.std.proofs.{Common.{◌≡◌, ◌≢◌, ℕ, zero, suc, ◌⊎◌, inl, inr, List, [], ◌∷◌, Bool, true, false, cond, eqb, eq-eqb, map, All, Contains, Option, Some, None, refl, sym, ap, subst, ◌∙◌, arith}, lemmas.List.Elements.{All-head, All-tail}}
+use Rattle.span_collect.specs.{Event, Item, Good, Bad, Other, Unit, doc, Entry, Op, One, Ask, Query, Act, an_event, act_in, is_accepting, IsLegal, Topic, concerns, AreDistinct, calls, caller_of, Account.{asking, operations, telling}, InTurn.{AreSeparate, events_in, good_event, items_in}, declared.files.Input.Input}
 use Rattle.span_collect.proofs.InTurn.Exchanges.{IsSilentOn, act_of, exchange_of}
 
 -- the callers of the files have told their items, caller 0 has asked the queries, and nobody else has an entry

@@ -1,16 +1,6 @@
 -- A text of what was collected of separate files, which is the one that they give in turn.
 use Rattle.std.proofs.Common.{◌≡◌, ℕ, ◌<◌, ◌≤◌, List, length, take, subst}
-use Rattle.span_journal.specs.declared.entry.Entry.{Entry}
-use Rattle.span_journal.specs.declared.query.Query.{Query}
-use Rattle.span_report.specs.declared.output.WriteFault.TheVariants.{Output as OutputFails}
-use Rattle.span_report.specs.Output.{WriteLeaves}
-use Rattle.span_report.specs.Sink.{SinkState, TakesBytes, Fails}
-use Rattle.span_collect.specs.declared.files.FileEnd.{FileEnd}
-use Rattle.span_collect.specs.declared.files.Input.{Input}
-use Rattle.span_collect.specs.declared.runs.RunError.TheVariants.{Output}
-use Rattle.span_collect.specs.declared.settings.Settings.{Settings}
-use Rattle.span_collect.specs.InTurn.{AreSeparate, FailsAsInTurn, WritesAsInTurn, text_in_turn}
-use Rattle.span_collect.specs.Run.{TextOf}
+use Rattle.span_collect.specs.{Entry, Query, Output as OutputFails, WriteLeaves, SinkState, TakesBytes, Fails, InTurn.{AreSeparate, FailsAsInTurn, WritesAsInTurn, text_in_turn}, Run.TextOf, declared.{files.{FileEnd.FileEnd, Input.Input}, runs.RunError.TheVariants.Output, settings.Settings.Settings}}
 
 -- where the files are separate, and the status is below 2, it is that text
 abbrev pub IsTextInTurn : TextOf → List Input → List Query → Settings → ℕ → List FileEnd → List Entry → Type 0

@@ -1,24 +1,8 @@
 -- How tallies grow with one more answer.
-use Rattle.std.proofs.Common.{◌≡◌, ℕ, ◌+◌, ◌-◌, ◌^◌, ◌<◌, Bool, true, false, cond, ◌==◌, List, [], ◌∷◌, ◌++◌, length, map, Option, Some, None, refl, sym, ap, ap₂, ◌∙◌, append-nil, inl, inr, arith}
-use Rattle.std.specs.Prelude.{filter, slice_get}
-use Rattle.std.specs.Cmp.{unsigned_ties}
-use Rattle.std.specs.List.Sorted.{IsStrictlySortedBy}
-use Rattle.std.specs.Map.{keys_of, lookup, set_value}
-use Rattle.std.specs.BTreeMap.{insert_entry, is_at}
-use Rattle.std.specs.Ordering.{is_eq, nat_cmp}
-use Rattle.std.proofs.lemmas.Cmp.{nat_cmp_total}
-use Rattle.std.proofs.lemmas.List.{length-map, length_push, map_push}
-use Rattle.std.proofs.lemmas.Option.{slice_get_cases}
-use Rattle.std.proofs.lemmas.Map.Lookups.{exact_unsigned}
-use Rattle.span_collect.specs.InTurn.{answers_of}
-use Rattle.span_keyed_tracks.specs.Keyed.{Keyed, entries_in, kept_at, steps_at}
-use Rattle.span_keyed_tracks.proofs.Keyed.{entries_in-insert_entry, kept_at-entries_in, length-steps_at, lookup-entries_in, steps_at-absent}
-use Rattle.span_keyed_tracks.proofs.KeyChange.{insert_entry-found}
-use Rattle.span_journal.specs.declared.entry.Answer.{Answer}
-use Rattle.span_journal.specs.declared.entry.Entry.{Entry}
-use Rattle.span_collect.specs.declared.refusals.tally.Refused.{Refused}
-use Rattle.span_collect.specs.Refusals.{number_in, refusal_at, refused_at, refused_by, refusals_from}
-use Rattle.span_collect.specs.Refusals.Tallies.{HasRoom, HasRoomFor, Tallied, Takes, answer_in, tallies_of, tally_of}
+use Rattle.std.specs.{BTreeMap.{insert_entry, is_at}, Cmp.unsigned_ties, List.Sorted.IsStrictlySortedBy, Map.{keys_of, lookup, set_value}, Ordering.{is_eq, nat_cmp}, Prelude.{filter, slice_get}}
+use Rattle.std.proofs.{Common.{◌≡◌, ℕ, ◌+◌, ◌-◌, ◌^◌, ◌<◌, Bool, true, false, cond, ◌==◌, List, [], ◌∷◌, ◌++◌, length, map, Option, Some, None, refl, sym, ap, ap₂, ◌∙◌, append-nil, inl, inr, arith}, lemmas.{Cmp.nat_cmp_total, List.{length-map, length_push, map_push}, Map.Lookups.exact_unsigned, Option.slice_get_cases}}
+use Rattle.span_keyed_tracks.proofs.{KeyChange.insert_entry-found, Keyed.{entries_in-insert_entry, kept_at-entries_in, length-steps_at, lookup-entries_in, steps_at-absent}}
+use Rattle.span_collect.specs.{Keyed, entries_in, kept_at, steps_at, Answer, Entry, InTurn.answers_of, Refusals.{number_in, refusal_at, refused_at, refused_by, refusals_from, Tallies.{HasRoom, HasRoomFor, Tallied, Takes, answer_in, tallies_of, tally_of}}, declared.refusals.tally.Refused.Refused}
 use Rattle.span_collect.proofs.RefusalLemmas.Refused.{length-refusals_from, refusals_from-push}
 
 -- the steps of a caller are the answers to it

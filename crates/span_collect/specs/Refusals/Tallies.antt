@@ -1,11 +1,6 @@
 -- What is kept of the answers to each caller.
-use Rattle.std.specs.Prelude.{◌≡◌, ℕ, ◌-◌, ◌^◌, ◌<◌, List, [], ◌∷◌, ◌++◌, length, map}
-use Rattle.std.specs.Ordering.{nat_cmp}
-use Rattle.span_keyed_tracks.specs.Keyed.{Keyed, entries_in}
-use Rattle.span_journal.specs.declared.entry.Answer.{Answer}
-use Rattle.span_journal.specs.declared.entry.Entry.{Entry}
-use Rattle.span_collect.specs.declared.refusals.tally.Refused.{Refused}
-use Rattle.span_collect.specs.Refusals.{refused_by}
+use Rattle.std.specs.{Ordering.nat_cmp, Prelude.{◌≡◌, ℕ, ◌-◌, ◌^◌, ◌<◌, List, [], ◌∷◌, ◌++◌, length, map}}
+use Rattle.span_collect.specs.{Keyed, entries_in, Answer, Entry, Refusals.refused_by, declared.refusals.tally.Refused.Refused}
 
 -- how many items a caller told, and what refused some of them
 pub record Tallied : Type 0 where

@@ -1,18 +1,6 @@
 -- The text that says which items were refused.
 use Rattle.std.specs.Prelude.{ℕ, List, [], ◌∷◌, ◌++◌, flat_map, Option, Some, None, codes, decimal}
-use Rattle.span_event.specs.declared.unit.Unit.{Unit}
-use Rattle.span_journal.specs.declared.entry.Entry.{Entry}
-use Rattle.span_journal.specs.Rows.{count_row}
-use Rattle.span_report.specs.Lines.{json_text_of, line_of, right_in}
-use Rattle.span_report.specs.Report.{head_lines}
-use Rattle.span_collect.specs.declared.files.FileEnd.{FileEnd}
-use Rattle.span_collect.specs.declared.files.Input.{Input}
-use Rattle.span_collect.specs.Account.{caller_named}
-use Rattle.span_collect.specs.FaultLines.{lines_of_ends}
-use Rattle.span_collect.specs.InTurn.{answers_of}
-use Rattle.span_collect.specs.Words.{numbered}
-use Rattle.span_collect.specs.declared.refusals.tally.Refused.{Refused}
-use Rattle.span_collect.specs.Refusals.{refused_by}
+use Rattle.span_collect.specs.{Unit, Entry, count_row, json_text_of, line_of, right_in, head_lines, Account.caller_named, FaultLines.lines_of_ends, InTurn.answers_of, Refusals.refused_by, Words.numbered, declared.{files.{FileEnd.FileEnd, Input.Input}, refusals.tally.Refused.Refused}}
 
 -- the line of a file and a number
 unfoldable pub refused_line : List ℕ → ℕ × Refused → List ℕ

@@ -1,8 +1,6 @@
 //! Writes what was refused of a run's files to a sink.
 ghost use Rattle.std.specs.Prelude.{◌≡◌, length, IfErr, OnOk};
-ghost use Rattle.span_report.specs.Sink.{TakesBytes};
-ghost use Rattle.span_report.specs.Output.{WriteLeaves};
-ghost use Rattle.span_collect.specs.Refusals.Text.{refusals_of};
+ghost use Rattle.span_collect.specs.{TakesBytes, WriteLeaves, Refusals.Text.refusals_of};
 
 use super::text::refusals;
 use crate::files::{FileEnd, Input};

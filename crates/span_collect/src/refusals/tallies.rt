@@ -1,7 +1,6 @@
 //! The tallies of all callers of a journal.
 ghost use Rattle.std.specs.Prelude.{◌≡◌, ◌∷◌, [], ◌++◌, IfOk, OnOk, List};
-ghost use Rattle.span_journal.specs.declared.entry.Entry.{Entry};
-ghost use Rattle.span_collect.specs.Refusals.Tallies.{HasRoomFor, tallies_of};
+ghost use Rattle.span_collect.specs.{Entry, Refusals.Tallies.{HasRoomFor, tallies_of}};
 
 use super::tally::Tally;
 use span_journal::Entry;

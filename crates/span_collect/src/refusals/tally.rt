@@ -1,9 +1,6 @@
 //! How many of one caller's items each number refused, and which first.
-ghost use Rattle.std.specs.Prelude.{◌≡◌, ◌-◌, ◌^◌, ◌<◌, ℕ, List, [], ◌∷◌, ◌++◌, OnOk};
-ghost use Rattle.std.specs.Ordering.{nat_cmp};
-ghost use Rattle.span_keyed_tracks.specs.Keyed.{kept_at};
-ghost use Rattle.span_collect.specs.Refusals.{number_in, refused_at};
-ghost use Rattle.span_collect.specs.Refusals.Tallies.{HasRoom, Takes, tally_of};
+ghost use Rattle.std.specs.{Ordering.nat_cmp, Prelude.{◌≡◌, ◌-◌, ◌^◌, ◌<◌, ℕ, List, [], ◌∷◌, ◌++◌, OnOk}};
+ghost use Rattle.span_collect.specs.{kept_at, Refusals.{number_in, refused_at, Tallies.{HasRoom, Takes, tally_of}}};
 
 use span_journal::Answer;
 use std::alloc::{AllocError, Global};

@@ -1,8 +1,6 @@
 //! The text that says which items were refused.
 ghost use Rattle.std.specs.Prelude.{◌≡◌, ◌++◌, ℕ, List, length, flat_map, string_bytes, IfOk, OnOk};
-ghost use Rattle.span_journal.specs.declared.entry.Entry.{Entry};
-ghost use Rattle.span_collect.specs.Refusals.Tallies.{tallies_of};
-ghost use Rattle.span_collect.specs.Refusals.Text.{file_lines, refused_line, refusals_of};
+ghost use Rattle.span_collect.specs.{Entry, Refusals.{Tallies.tallies_of, Text.{file_lines, refused_line, refusals_of}}};
 
 use super::tallies::tallies;
 use super::tally::{Refused, Tally};

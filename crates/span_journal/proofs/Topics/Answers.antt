@@ -1,35 +1,11 @@
 -- The answer to an act follows from the earlier acts on its topics.
-use Rattle.std.proofs.Common.{◌≡◌, ℕ, ◌+◌, ℤ, Bool, true, false, cond, List, Option, Some, None, refl, sym, ap, ap₂, subst, ◌∙◌}
-use Rattle.std.specs.Prelude.{Err, Ok, length, option_map}
-use Rattle.std.specs.Ordering.{is_eq}
-use Rattle.std.specs.Cmp.{tied_itself, int_eq_equiv}
-use Rattle.std.proofs.lemmas.Option.{same_Some}
-use Rattle.span_event.specs.Args.{merged}
-use Rattle.span_event.specs.Text.{Bytes}
-use Rattle.span_event.specs.Thread.{thread_of}
-use Rattle.span_event.specs.Time.{distance}
-use Rattle.span_event.specs.declared.event.Phase.{Phase}
-use Rattle.span_event.specs.declared.event.Phase.TheVariants.{SpanBegin, SpanEnd, Complete, AsyncBegin, AsyncPoint, AsyncEnd, FlowStart, FlowStep, FlowEnd, Counter, Meta, Instant}
-use Rattle.span_event.specs.declared.fault.Fault.TheVariants.{TimeGoesBack, NameDiffers}
-use Rattle.span_event.specs.declared.item.Item.TheVariants.{Good, Bad, Other}
-use Rattle.span_event.specs.declared.thread.Thread.{Thread}
-use Rattle.span_keyed_tracks.specs.Async.{async_cmp}
-use Rattle.span_keyed_tracks.specs.Flow.{chain_of, flow_cmp, summary}
-use Rattle.span_keyed_tracks.specs.Matching.{opens, closes, closes_all, other as whole}
+use Rattle.std.specs.{Cmp.{tied_itself, int_eq_equiv}, Ordering.is_eq, Prelude.{Err, Ok, length, option_map}}
+use Rattle.std.proofs.{Common.{◌≡◌, ℕ, ◌+◌, ℤ, Bool, true, false, cond, List, Option, Some, None, refl, sym, ap, ap₂, subst, ◌∙◌}, lemmas.Option.same_Some}
 use Rattle.span_keyed_tracks.proofs.Orders.{async_cmp-total, flow_cmp-total}
-use Rattle.span_track.specs.Nesting.{Begin, ThreadEvent, depth_of, last_time, opener, renumbered_begin, sealed}
-use Rattle.span_track.specs.Thread.{any_name, closing, goes_back, opening}
+use Rattle.span_track.specs.Nesting.{opener}
 use Rattle.span_track.proofs.Threads.Renumbering.{renumbered, opener-renumbered, depth_of-renumbered, last_time-renumbered}
-use Rattle.span_journal.specs.declared.entry.Answer.{Answer}
-use Rattle.span_journal.specs.declared.entry.Answer.TheVariants.{Opened, Closed, Sealed}
-use Rattle.span_journal.specs.declared.entry.Entry.{Entry}
-use Rattle.span_journal.specs.declared.entry.Op.TheVariants.{One, Ask, Seal}
-use Rattle.span_journal.specs.Answers.{answered, thread_step_answer, async_step_answer, flow_point_answer, told_answer, act_answer, answer_to}
-use Rattle.span_journal.specs.Journal.{Act, an_event, a_seal, accepted}
-use Rattle.span_journal.specs.Told.{async_event, async_key, async_step, flow_event, flow_key, flow_point, span_step, suits_end, thread_events, to_async, to_flow, told_at}
-use Rattle.span_journal.specs.Topics.{of_process, of_async, of_flow, concerns, has_async_key, has_flow_key, AreAlikeFor, AnswersFollowFromActs}
-use Rattle.span_journal.proofs.Topics.Taken.{async_steps-alike, flow_steps-alike}
-use Rattle.span_journal.proofs.Topics.Threads.{thread_events-alike}
+use Rattle.span_journal.specs.{merged, Bytes, thread_of, distance, Phase, SpanBegin, SpanEnd, Complete, AsyncBegin, AsyncPoint, AsyncEnd, FlowStart, FlowStep, FlowEnd, Counter, Meta, Instant, TimeGoesBack, NameDiffers, Good, Bad, Other, Thread, async_cmp, chain_of, flow_cmp, summary, opens, closes, closes_all, other as whole, Begin, ThreadEvent, depth_of, last_time, renumbered_begin, sealed, any_name, closing, goes_back, opening, Answers.{answered, thread_step_answer, async_step_answer, flow_point_answer, told_answer, act_answer, answer_to}, Journal.{Act, an_event, a_seal, accepted}, Told.{async_event, async_key, async_step, flow_event, flow_key, flow_point, span_step, suits_end, thread_events, to_async, to_flow, told_at}, Topics.{of_process, of_async, of_flow, concerns, has_async_key, has_flow_key, AreAlikeFor, AnswersFollowFromActs}, declared.entry.{Answer.{Answer, TheVariants.{Opened, Closed, Sealed}}, Entry.Entry, Op.TheVariants.{One, Ask, Seal}}}
+use Rattle.span_journal.proofs.Topics.{Taken.{async_steps-alike, flow_steps-alike}, Threads.thread_events-alike}
 
 -- positions change no answer
 module _ {N : Type 0} (f : ℕ → ℕ) where

@@ -1,8 +1,6 @@
 -- Selecting twice, and selecting before or after elements give others.
-use Rattle.std.proofs.Common.{◌≡◌, List, [], ◌∷◌, Bool, true, false, cond, map, Option, Some, None, All, refl, sym, ap, ap₂, ◌∙◌}
-use Rattle.std.specs.Prelude.{filter, filter_map}
-use Rattle.std.specs.List.{cons_option}
-use Rattle.std.proofs.lemmas.List.Elements.{All-head, All-tail}
+use Rattle.std.specs.{List.cons_option, Prelude.{filter, filter_map}}
+use Rattle.std.proofs.{Common.{◌≡◌, List, [], ◌∷◌, Bool, true, false, cond, map, Option, Some, None, All, refl, sym, ap, ap₂, ◌∙◌}, lemmas.List.Elements.{All-head, All-tail}}
 
 -- functions that agree at each element
 pub map-same : {A B : Type 0} (f g : A → B) (xs : List A) → All (λ x. f x ≡ g x) xs → map f xs ≡ map g xs

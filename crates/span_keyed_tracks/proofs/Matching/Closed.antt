@@ -1,12 +1,8 @@
 -- What the steps close, from one step to the next.
-use Rattle.std.proofs.Common.{◌≡◌, ◌+◌, length, arith, Bool, true, false, ◌&&◌, cond, List, [], ◌∷◌, ◌++◌, map, reverse, Option, Some, None, refl, sym, ap, subst, ◌∙◌, append_assoc, append-nil}
-use Rattle.std.specs.Option.{option_or}
-use Rattle.std.specs.List.{list_all}
-use Rattle.std.proofs.lemmas.List.{reverse-append}
-use Rattle.std.proofs.lemmas.List.Folds.{list_all-append}
-use Rattle.span_keyed_tracks.specs.Last.{last_of, without_last}
+use Rattle.std.specs.{List.list_all, Option.option_or}
+use Rattle.std.proofs.{Common.{◌≡◌, ◌+◌, length, arith, Bool, true, false, ◌&&◌, cond, List, [], ◌∷◌, ◌++◌, map, reverse, Option, Some, None, refl, sym, ap, subst, ◌∙◌, append_assoc, append-nil}, lemmas.List.{reverse-append, Folds.list_all-append}}
+use Rattle.span_keyed_tracks.specs.{Last.{last_of, without_last}, Matching.{Step, opens, closes, closes_all, other, is_balanced, is_matched_after, opener, open_of, closed_with, closed_by, closed_after, closed_of}}
 use Rattle.span_keyed_tracks.proofs.Lists.Last.{option_or-some}
-use Rattle.span_keyed_tracks.specs.Matching.{Step, opens, closes, closes_all, other, is_balanced, is_matched_after, opener, open_of, closed_with, closed_by, closed_after, closed_of}
 
 -- each of two tests that pass together passes
 pub both_true : (a b : Bool) → (a && b) ≡ true → (a ≡ true) × (b ≡ true)

@@ -1,9 +1,7 @@
 -- What steps carry changes nothing about which of them belong together.
-use Rattle.std.proofs.Common.{◌≡◌, ◌+◌, List, [], ◌∷◌, ◌++◌, map, Bool, true, false, cond, ◌&&◌, ◌||◌, Option, Some, None, is_none, not, reverse, refl, sym, ap, ap₂, ◌∙◌, nat_eq}
-use Rattle.std.specs.Prelude.{option_map}
-use Rattle.std.specs.Option.{option_or}
+use Rattle.std.specs.{Option.option_or, Prelude.option_map}
+use Rattle.std.proofs.{Common.{◌≡◌, ◌+◌, List, [], ◌∷◌, ◌++◌, map, Bool, true, false, cond, ◌&&◌, ◌||◌, Option, Some, None, is_none, not, reverse, refl, sym, ap, ap₂, ◌∙◌, nat_eq}, lemmas.List.map-append}
 pub use Rattle.indexmap.proofs.ReorderLemmas.{map-reverse}
-use Rattle.std.proofs.lemmas.List.{map-append}
 use Rattle.span_keyed_tracks.specs.Matching.{Step, opens, closes, closes_all, other, begins, ends, has_end_of_all, is_balanced, opener, is_match, is_matched_after, open_of, closed_with, closed_by, closed_after, closed_of, map_step}
 
 option_map-or : {A B : Type 0} (g : A → B) (o p : Option A) → option_map g (option_or o p) ≡ option_or (option_map g o) (option_map g p)

@@ -1,9 +1,7 @@
 -- How the open begins change from one step to the next.
-use Rattle.std.proofs.Common.{◌≡◌, ℕ, zero, suc, pred, ◌+◌, ◌==◌, Bool, true, false, ◌&&◌, ◌||◌, cond, List, [], ◌∷◌, ◌++◌, length, Option, Some, None, is_none, not, refl, sym, ap, ap₂, ◌∙◌, arith, eq-eqb, ne_eqb}
 use Rattle.std.specs.Option.{option_or}
-use Rattle.std.proofs.lemmas.Bool.{and_left}
-use Rattle.span_keyed_tracks.specs.Matching.{Step, opens, closes, closes_all, other, begins, ends, has_end_of_all, opener, is_match, is_matched_after, open_of}
-use Rattle.span_keyed_tracks.specs.Last.{last_of, without_last}
+use Rattle.std.proofs.{Common.{◌≡◌, ℕ, zero, suc, pred, ◌+◌, ◌==◌, Bool, true, false, ◌&&◌, ◌||◌, cond, List, [], ◌∷◌, ◌++◌, length, Option, Some, None, is_none, not, refl, sym, ap, ap₂, ◌∙◌, arith, eq-eqb, ne_eqb}, lemmas.Bool.and_left}
+use Rattle.span_keyed_tracks.specs.{Last.{last_of, without_last}, Matching.{Step, opens, closes, closes_all, other, begins, ends, has_end_of_all, opener, is_match, is_matched_after, open_of}}
 use Rattle.span_keyed_tracks.proofs.Lists.Last.{option_or-some}
 
 is_none-option_or : {A : Type 0} (o : Option A) (x : A) → is_none (option_or o (Some x)) ≡ false

@@ -1,10 +1,6 @@
 //! The asynchronous spans of one key.
 ghost use Rattle.std.specs.Prelude.{◌≡◌, [], None, IfOk, OnOk, OnErr};
-ghost use Rattle.span_event.specs.Event.{IsTime};
-ghost use Rattle.span_keyed_tracks.specs.Fault.{Answers, TakesNoMemory, refusal_of};
-ghost use Rattle.span_keyed_tracks.specs.Last.{last_of};
-ghost use Rattle.span_keyed_tracks.specs.Async.{HasStepRoom, async_matched, async_spans, async_totals};
-ghost use Rattle.span_keyed_tracks.specs.AsyncKept.{EndsLast, with_begin, with_point};
+ghost use Rattle.span_keyed_tracks.specs.{IsTime, Async.{HasStepRoom, async_matched, async_spans, async_totals}, AsyncKept.{EndsLast, with_begin, with_point}, Fault.{Answers, TakesNoMemory, refusal_of}, Last.last_of};
 
 use super::AsyncTotals;
 use crate::fault::TrackFault;
@@ -21,8 +17,7 @@ pub(crate) struct KeySpans {
 }
 
 impl Model for KeySpans {
-    ghost use Rattle.span_keyed_tracks.specs.Async.{AsyncSpans};
-    ghost use Rattle.span_keyed_tracks.specs.AsyncKept.{AreBounded};
+    ghost use Rattle.span_keyed_tracks.specs.{Async.AsyncSpans, AsyncKept.AreBounded};
 
     ghost Value = { AsyncSpans };
 

@@ -25,8 +25,7 @@ pub(crate) struct Sums {
 }
 
 impl Model for Running {
-    ghost use Rattle.span_keyed_tracks.specs.Counters.{Series};
-    ghost use Rattle.span_keyed_tracks.specs.CountersKept.{held_series};
+    ghost use Rattle.span_keyed_tracks.specs.{Counters.Series, CountersKept.held_series};
 
     ghost Value = { Series };
 

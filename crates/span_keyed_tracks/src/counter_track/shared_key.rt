@@ -1,11 +1,8 @@
 //! The keys of series, as the track keeps them.
-ghost use Rattle.std.specs.Prelude.{◌≡◌, ◌++◌, IfOk};
-ghost use Rattle.std.specs.Hash as fed;
-ghost use Rattle.std.specs.Cmp.{partial_equiv_from_equiv};
-ghost use Rattle.std.specs.Cmp.Rules.{hashing};
+ghost use Rattle.std.specs.{Cmp.{partial_equiv_from_equiv, Rules.hashing}, Prelude.{◌≡◌, ◌++◌, IfOk}};
 ghost use Rattle.std.proofs.Common.{rules};
-ghost use Rattle.span_keyed_tracks.specs.Counters.{series_cmp};
-ghost use Rattle.span_keyed_tracks.specs.CountersKept.{same_series, same_series-equiv};
+ghost use Rattle.span_keyed_tracks.specs.{Counters.series_cmp, CountersKept.{same_series, same_series-equiv}};
+ghost use Rattle.std.specs.Hash as fed;
 
 use crate::keys::SeriesKey;
 use span_event::{BoxedId, Text};

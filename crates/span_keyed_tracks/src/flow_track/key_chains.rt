@@ -1,9 +1,6 @@
 //! The flow chains of one key.
 ghost use Rattle.std.specs.Prelude.{◌≡◌, ◌≤ℤ◌, [], Some, IfOk, OnOk, OnErr};
-ghost use Rattle.span_event.specs.Event.{IsTime};
-ghost use Rattle.span_keyed_tracks.specs.Fault.{Answers, TakesNoMemory};
-ghost use Rattle.span_keyed_tracks.specs.Flow.{HasPointRoom, flow_chains, flow_closed, flow_point_refusal, flow_start_refusal, flow_totals};
-ghost use Rattle.span_keyed_tracks.specs.FlowKept.{with_finish, with_start, with_step};
+ghost use Rattle.span_keyed_tracks.specs.{IsTime, Fault.{Answers, TakesNoMemory}, Flow.{HasPointRoom, flow_chains, flow_closed, flow_point_refusal, flow_start_refusal, flow_totals}, FlowKept.{with_finish, with_start, with_step}};
 
 use super::{FlowClosed, FlowTotals};
 use crate::fault::TrackFault;
@@ -36,8 +33,7 @@ pub(crate) struct KeyChains {
 }
 
 impl Model for KeyChains {
-    ghost use Rattle.span_keyed_tracks.specs.Flow.{FlowChains};
-    ghost use Rattle.span_keyed_tracks.specs.FlowKept.{AreBounded};
+    ghost use Rattle.span_keyed_tracks.specs.{Flow.FlowChains, FlowKept.AreBounded};
 
     ghost Value = { FlowChains };
 

@@ -1,11 +1,6 @@
 //! The instants of all threads.
 ghost use Rattle.std.specs.Prelude.{◌≡◌, ◌++◌, [], None, IfOk, OnOk, OnErr};
-ghost use Rattle.span_keyed_tracks.specs.Fault.{Answers};
-ghost use Rattle.span_keyed_tracks.specs.Instants.{HasInstantRoom, HasNameRoom, TakesInstant, TakesName, counts_of, names_counted, rows_of_instants, rows_of_thread};
-ghost use Rattle.span_keyed_tracks.specs.InstantsKept.{count_at};
-ghost use Rattle.span_keyed_tracks.specs.Keyed.{kept_at};
-ghost use Rattle.span_event.specs.Orders.{thread_cmp};
-ghost use Rattle.span_event.specs.Text.{text_cmp};
+ghost use Rattle.span_keyed_tracks.specs.{thread_cmp, text_cmp, Fault.Answers, Instants.{HasInstantRoom, HasNameRoom, TakesInstant, TakesName, counts_of, names_counted, rows_of_instants, rows_of_thread}, InstantsKept.count_at, Keyed.kept_at};
 
 use super::reaches::Reaches;
 use crate::fault::TrackFault;

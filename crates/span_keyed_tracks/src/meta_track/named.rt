@@ -1,7 +1,6 @@
 //! The names of one process or thread.
 ghost use Rattle.std.specs.Prelude.{◌≡◌, [], option_copied};
-ghost use Rattle.span_keyed_tracks.specs.Meta.{names_of};
-ghost use Rattle.span_keyed_tracks.specs.MetaKept.{setting, with_setting};
+ghost use Rattle.span_keyed_tracks.specs.{Meta.names_of, MetaKept.{setting, with_setting}};
 
 use super::setting::Setting;
 use span_event::Text;

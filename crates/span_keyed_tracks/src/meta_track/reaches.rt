@@ -1,7 +1,6 @@
 //! The counts of the instants of one thread and name.
 ghost use Rattle.std.specs.Prelude.{◌≡◌, ◌<◌, ◌^◌, ◌-◌, [], ◌++◌, OnOk};
-ghost use Rattle.span_keyed_tracks.specs.Instants.{counts_of, instant_row, rows_of_name};
-ghost use Rattle.span_keyed_tracks.specs.InstantsKept.{count_at, with_reach};
+ghost use Rattle.span_keyed_tracks.specs.{Instants.{counts_of, instant_row, rows_of_name}, InstantsKept.{count_at, with_reach}};
 
 use super::instants::InstantRow;
 use span_event::{Reach, Text, Thread};

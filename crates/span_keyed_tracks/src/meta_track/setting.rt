@@ -1,7 +1,6 @@
 //! What a metadata event sets.
 ghost use Rattle.std.specs.Prelude.{◌≡◌, None, option_map, IfOk, IsOk};
-ghost use Rattle.span_keyed_tracks.specs.Meta.{labels_setting, name_setting, names_thread, setting_of, sort_setting, whole_at, text_at};
-ghost use Rattle.span_keyed_tracks.specs.MetaKept.{keyed_setting};
+ghost use Rattle.span_keyed_tracks.specs.{Meta.{labels_setting, name_setting, names_thread, setting_of, sort_setting, whole_at, text_at}, MetaKept.keyed_setting};
 
 use crate::key_change::Key;
 use span_event::{ArgValue, Event, Phase, Text};

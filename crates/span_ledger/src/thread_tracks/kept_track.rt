@@ -13,7 +13,7 @@ pub(crate) struct KeptTrack {
 
 impl Model for KeptTrack {
     ghost use Rattle.std.specs.Prelude.{ℕ};
-    ghost use Rattle.span_track.specs.Thread.{ThreadSpans};
+    ghost use Rattle.span_ledger.specs.{ThreadSpans};
 
     ghost Value = { ThreadSpans ℕ };
 

@@ -1,20 +1,12 @@
 -- The turns of a loop over the items of an array, with and without a closing bracket behind the text.
-use Rattle.std.proofs.Common.{◌≡◌, ℕ, ◌-◌, ◌<◌, List, [], ◌∷◌, ◌++◌, Bool, true, false, Option, Some, None, option_map, refl, ap, ◌∙◌, subst}
 use Rattle.std.specs.Prelude.{⊤}
-use Rattle.json.specs.Token.{Token, begin_array, end_array}
-use Rattle.json.specs.Reads.{token_of}
-use Rattle.json.specs.declared.token.Token.{Token as ReadToken}
-use Rattle.json.specs.declared.token.Token.TheVariants as read
-use Rattle.json.specs.Json.{Json, after_end_array, value}
+use Rattle.std.proofs.Common.{◌≡◌, ℕ, ◌-◌, ◌<◌, List, [], ◌∷◌, ◌++◌, Bool, true, false, Option, Some, None, option_map, refl, ap, ◌∙◌, subst}
+use Rattle.json.specs.{Json.{Json, after_end_array, value}, Reads.token_of, Token.{Token, begin_array, end_array}, declared.token.Token.Token as ReadToken}
+use Rattle.serde_json.specs.{Data.{Data, Items, no_items}, Read.{of_json, converted}}
 use Rattle.json.proofs.Grammar.{left}
-use Rattle.serde_json.specs.Data.{Data, Items, no_items}
-use Rattle.serde_json.specs.Read.{of_json, converted}
-use Rattle.span_read.specs.declared.document.End.TheVariants.{Bracket, Text}
-use Rattle.span_read.specs.Ending.{with_bracket, ended}
-use Rattle.span_read.specs.Tokens.{data_at, TakesValue, TakesElements, items_before, ItemsSoFar}
-use Rattle.span_read.proofs.Grammar.{converted_some, refused, data_at-nothing}
-use Rattle.span_read.proofs.Turns.{items_start, items_turn, items_refused, items_finish}
-use Rattle.span_read.proofs.Bracket.Values.{IsClosed, IsClosed-value, after_end_array-bracket}
+use Rattle.span_read.specs.{Ending.{with_bracket, ended}, Tokens.{data_at, TakesValue, TakesElements, items_before, ItemsSoFar}, declared.document.End.TheVariants.{Bracket, Text}}
+use Rattle.span_read.proofs.{Bracket.Values.{IsClosed, IsClosed-value, after_end_array-bracket}, Grammar.{converted_some, refused, data_at-nothing}, Turns.{items_start, items_turn, items_refused, items_finish}}
+use Rattle.json.specs.declared.token.Token.TheVariants as read
 
 value_closed : (o closed : Option (Json × List Token)) (j : Json) (r : List Token) → IsClosed o closed → o ≡ Some (j, r) → closed ≡ Some (j, with_bracket r)
 value_closed None closed j r is e = absurd (cc)

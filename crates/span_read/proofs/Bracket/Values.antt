@@ -1,10 +1,9 @@
 -- What a value is of tokens with a closing bracket behind them.
 use Rattle.std.proofs.Common.{◌≡◌, ℕ, zero, suc, ◌<◌, ◌≤◌, List, [], ◌∷◌, length, Option, Some, None, option_map, option_and_then, refl, sym, ap, ◌∙◌, arith}
-use Rattle.json.specs.Token.{Token, begin_object, end_object, begin_array, end_array, key, string, number, boolean, null, bad}
-use Rattle.json.specs.Json.{Json, Items, item, Members, member, Parse, parse_map, after_end_array, read_key, items_step, members_step, items, members, value_with, value}
-use Rattle.json.specs.Json as json
+use Rattle.json.specs.{Json.{Json, Items, item, Members, member, Parse, parse_map, after_end_array, read_key, items_step, members_step, items, members, value_with, value}, Token.{Token, begin_object, end_object, begin_array, end_array, key, string, number, boolean, null, bad}}
 use Rattle.json.proofs.Grammar.{left, left-parse_map, Takes, skip_value-shorter, read_key-shorter}
 use Rattle.span_read.specs.Ending.{with_bracket}
+use Rattle.json.specs.Json as json
 
 -- the same was taken, with the bracket behind what is left
 abbrev pub with_bracket_left : {A : Type 0} → Option (A × List Token) → Option (A × List Token)

@@ -1,18 +1,11 @@
 -- The data that all tokens are, with a closing bracket behind them.
 use Rattle.std.proofs.Common.{◌≡◌, ℕ, List, [], ◌∷◌, Option, Some, None, option_and_then, refl, ap, ◌∙◌}
-use Rattle.json.specs.Token.{Token, begin_object, end_object, begin_array, end_array, key, string, number, boolean, null, bad}
-use Rattle.json.specs.Reads.{token_of}
-use Rattle.json.specs.declared.token.Token.{Token as ReadToken}
-use Rattle.json.specs.declared.token.Token.TheVariants as read
-use Rattle.json.specs.Json.{Json, value, if_last}
+use Rattle.json.specs.{Json.{Json, value, if_last}, Reads.token_of, Token.{Token, begin_object, end_object, begin_array, end_array, key, string, number, boolean, null, bad}, declared.token.Token.Token as ReadToken}
+use Rattle.serde_json.specs.{Data.Data, Read.{of_json, converted}}
 use Rattle.json.proofs.Grammar.{value_is}
-use Rattle.serde_json.specs.Data.{Data}
-use Rattle.serde_json.specs.Read.{of_json, converted}
-use Rattle.span_read.specs.Ending.{with_bracket}
-use Rattle.span_read.specs.Tokens.{data_at, data_of_all}
-use Rattle.span_read.proofs.Grammar.{converted_some, refused}
-use Rattle.span_read.proofs.Bracket.Values.{with_bracket_left, object-bracket}
-use Rattle.span_read.proofs.Bracket.Turns.{data_at-bracket}
+use Rattle.span_read.specs.{Ending.with_bracket, Tokens.{data_at, data_of_all}}
+use Rattle.span_read.proofs.{Bracket.{Turns.data_at-bracket, Values.{with_bracket_left, object-bracket}}, Grammar.{converted_some, refused}}
+use Rattle.json.specs.declared.token.Token.TheVariants as read
 
 abbrev whole : Option (Json × List Token) → Option Data
 whole o = option_and_then of_json (option_and_then (λ p. if_last p.0 p.1) o)

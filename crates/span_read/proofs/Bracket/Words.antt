@@ -1,12 +1,7 @@
 -- A word in a text with a closing bracket behind it.
-use Rattle.std.proofs.Common.{◌≡◌, ℕ, ◌+◌, ◌-◌, ◌≤◌, List, [], ◌∷◌, ◌++◌, length, take, drop, Bool, true, false, cond, ◌&&◌, ◌==◌, nat_eq, Option, Some, None, option_map, option_and_then, refl, ap, ◌∙◌, arith}
-use Rattle.std.specs.List.{prefix_len, starts_with}
-use Rattle.std.specs.Char.{is_ascii_digit}
-use Rattle.std.proofs.lemmas.List.{length-append, take-append-le, drop-append-le}
-use Rattle.std.proofs.lemmas.List.Sums.{prefix_len-le-length}
-use Rattle.json.specs.Token.{Token, number, boolean, null, bad}
-use Rattle.json.specs.Word.{ends_word, after_digits, after_minus, after_sign, after_whole, after_fraction, after_exponent, after_number, number_before, literal, word}
-use Rattle.json.specs.Ascii.{true_text, false_text, null_text}
+use Rattle.std.specs.{Char.is_ascii_digit, List.{prefix_len, starts_with}}
+use Rattle.std.proofs.{Common.{◌≡◌, ℕ, ◌+◌, ◌-◌, ◌≤◌, List, [], ◌∷◌, ◌++◌, length, take, drop, Bool, true, false, cond, ◌&&◌, ◌==◌, nat_eq, Option, Some, None, option_map, option_and_then, refl, ap, ◌∙◌, arith}, lemmas.List.{length-append, take-append-le, drop-append-le, Sums.prefix_len-le-length}}
+use Rattle.json.specs.{Ascii.{true_text, false_text, null_text}, Token.{Token, number, boolean, null, bad}, Word.{ends_word, after_digits, after_minus, after_sign, after_whole, after_fraction, after_exponent, after_number, number_before, literal, word}}
 use Rattle.span_read.proofs.Bracket.Strings.{bracket}
 
 ends_word-bracket : (t : List ℕ) → ends_word (t ++ bracket) ≡ ends_word t

@@ -1,8 +1,6 @@
 //! The event that fields give. Each field is checked and taken at once, in the order of the faults; texts are moved.
 ghost use Rattle.std.specs.Prelude.{◌≡◌, None, IfOk, IfErr};
-ghost use Rattle.span_read.specs.Phase.{needs_id};
-ghost use Rattle.span_read.specs.Element.{fault_of, event_of};
-ghost use Rattle.span_read.specs.Refusal.{IsForFault};
+ghost use Rattle.span_read.specs.{Element.{fault_of, event_of}, Phase.needs_id, Refusal.IsForFault};
 
 use crate::element::id::take_key;
 use crate::element::members::{

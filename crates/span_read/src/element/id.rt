@@ -1,10 +1,6 @@
 //! The id of an event, checked and taken at once.
-ghost use Rattle.std.specs.Prelude.{◌≡◌, ◌||◌, None, IfOk, IfErr, if◌then◌else◌};
-ghost use Rattle.std.specs.Fmt.{signed_decimal};
-ghost use Rattle.span_read.specs.Phase.{reads_id};
-ghost use Rattle.span_read.specs.Element.{where_read, id_fault};
-ghost use Rattle.span_read.specs.Fields.{key_of, key_with};
-ghost use Rattle.span_read.specs.Refusal.{IsForFault};
+ghost use Rattle.std.specs.{Fmt.signed_decimal, Prelude.{◌≡◌, ◌||◌, None, IfOk, IfErr, if◌then◌else◌}};
+ghost use Rattle.span_read.specs.{Element.{where_read, id_fault}, Fields.{key_of, key_with}, Phase.reads_id, Refusal.IsForFault};
 
 use crate::error::refusal::Refusal;
 use crate::fields::FieldValue;

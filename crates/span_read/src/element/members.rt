@@ -1,12 +1,6 @@
 //! Each field of an event, checked and taken at once.
-ghost use Rattle.std.specs.Prelude.{◌≡◌, is_some, pos, [], None, IfOk, if◌then◌else◌};
-ghost use Rattle.std.specs.Result.{result_err};
-ghost use Rattle.span_read.specs.Phase.{reads_time, reads_duration, reads_scope, reads_reach, wants_whole_args};
-ghost use Rattle.span_read.specs.Element.{where_read, time_fault, duration_fault, time_or_zero, duration_or_zero, whole_fault, text_fault, unless};
-ghost use Rattle.span_read.specs.Fields.{whole_or_zero, text_or_empty, reach_of, args_of};
-ghost use Rattle.span_event.specs.declared.item.Field.TheVariants.{Scope};
-ghost use Rattle.span_event.specs.declared.item.ItemFault.TheVariants.{BadReach, BadSeries};
-ghost use Rattle.span_event.specs.Args.{all_whole};
+ghost use Rattle.std.specs.{Prelude.{◌≡◌, is_some, pos, [], None, IfOk, if◌then◌else◌}, Result.result_err};
+ghost use Rattle.span_read.specs.{Scope, BadReach, BadSeries, all_whole, Element.{where_read, time_fault, duration_fault, time_or_zero, duration_or_zero, whole_fault, text_fault, unless}, Fields.{whole_or_zero, text_or_empty, reach_of, args_of}, Phase.{reads_time, reads_duration, reads_scope, reads_reach, wants_whole_args}};
 
 use crate::element::time::time_in;
 use crate::fields::FieldValue;

@@ -1,11 +1,6 @@
 //! A time or a length in the unit of a run.
-ghost use Rattle.std.specs.Prelude.{◌≡◌, ◌<◌, ◌^◌, ◌*◌, ◌≤ℤ◌, pos, option_and_then, true, MatchOption};
-ghost use Rattle.span_event.specs.Time.{natural};
-ghost use Rattle.std.specs.Float.{float_is_finite};
-ghost use Rattle.std.specs.Float.Ieee.Nearest.{closest};
-ghost use Rattle.std.specs.Float.Ieee.Positive.{num, den};
-ghost use Rattle.span_event.specs.Event.{greatest_time};
-ghost use Rattle.span_read.specs.Time.{nanoseconds, nanoseconds_of, time_in, within};
+ghost use Rattle.std.specs.{Float.{float_is_finite, Ieee.{Nearest.closest, Positive.{num, den}}}, Prelude.{◌≡◌, ◌<◌, ◌^◌, ◌*◌, ◌≤ℤ◌, pos, option_and_then, true, MatchOption}};
+ghost use Rattle.span_read.specs.{natural, greatest_time, Time.{nanoseconds, nanoseconds_of, time_in, within}};
 
 use crate::fields::FieldValue;
 use span_event::Unit;

@@ -1,7 +1,6 @@
 //! The beginning of a value.
 ghost use Rattle.std.specs.Prelude.{◌≡◌, ◌∷◌, ℕ, List, None, IfOk, OnErr};
-ghost use Rattle.json.specs.Reads.{token_of};
-ghost use Rattle.json.specs.Token.{Token as SpecToken};
+ghost use Rattle.json.specs.{Reads.token_of, Token.Token as SpecToken};
 ghost use Rattle.span_read.specs.Tokens.{data_at, TakesBeginning};
 
 use crate::tokens::number::{Number, number_of};

@@ -1,9 +1,7 @@
 //! What a number in a text is read as.
 ghost use Rattle.std.specs.Prelude.{◌≡◌, ◌==◌, ◌<◌, IsTrue, length, slice_index, true, false, option_map, Some, None};
-ghost use Rattle.serde_json.specs.Data.{number};
-ghost use Rattle.serde_json.specs.Read.{number_of, number_from, float_of};
-ghost use Rattle.span_read.specs.Fields.{field_value};
-ghost use Rattle.span_read.specs.Tokens.{kind_of};
+ghost use Rattle.serde_json.specs.{Data.number, Read.{number_of, number_from, float_of}};
+ghost use Rattle.span_read.specs.{Fields.field_value, Tokens.kind_of};
 
 use fast_float::Numeral;
 

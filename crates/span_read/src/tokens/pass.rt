@@ -1,8 +1,8 @@
 //! Values that are passed over. They are checked all the same.
 ghost use Rattle.std.specs.Prelude.{◌≡◌, ◌∷◌, None, OnOk, OnErr, ⊤};
 ghost use Rattle.json.specs.Reads.{token_of};
-ghost use Rattle.json.specs.Token as spec;
 ghost use Rattle.span_read.specs.Tokens.{data_at, TakesValue, TakesArray, TakesObject};
+ghost use Rattle.json.specs.Token as spec;
 
 use crate::tokens::beginning::{Beginning, beginning_of};
 use json::{Invalid, Reader, Token};

@@ -1,11 +1,7 @@
 -- What stacks begin with.
-use Rattle.std.proofs.Common.{◌≡◌, Bool, true, ◌||◌, List, [], ◌∷◌, ◌++◌, map, flat_map, get_or, refl, sym, ap, ◌∙◌, inl, inr, ◌⊎◌}
 use Rattle.std.specs.List.{list_any}
-use Rattle.std.proofs.lemmas.List.Concat.{flat_map-cons}
-use Rattle.std.proofs.lemmas.List.Folds.{list_any-append, list_any_at}
-use Rattle.span_event.specs.Text.{Bytes}
-use Rattle.span_report.specs.Stacks.Bounds.{beginnings}
-use Rattle.span_report.specs.Stacks.Ticks.{Stack, same_stack}
+use Rattle.std.proofs.{Common.{◌≡◌, Bool, true, ◌||◌, List, [], ◌∷◌, ◌++◌, map, flat_map, get_or, refl, sym, ap, ◌∙◌, inl, inr, ◌⊎◌}, lemmas.List.{Concat.flat_map-cons, Folds.{list_any-append, list_any_at}}}
+use Rattle.span_report.specs.{Bytes, Stacks.{Bounds.beginnings, Ticks.{Stack, same_stack}}}
 use Rattle.span_report.proofs.StackLemmas.Members.{Has, any-index, has-first, has-later, or-either, or-left, or-right, same-itself, same-true}
 
 -- a list passes a test where one of its stacks does

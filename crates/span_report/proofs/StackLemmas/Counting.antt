@@ -1,30 +1,10 @@
 -- How a descent stands against the spans: what was visited and what is left, and that in the end all frames were visited.
-use Rattle.std.proofs.Common.{◌≡◌, ℕ, ◌+◌, ◌<◌, ◌≤◌, true, false, ◌&&◌, cond, List, [], ◌∷◌, ◌++◌, length, map, flat_map, take, get_or, refl, sym, ap, subst, ◌∙◌, arith, inl, inr, true≢false}
-use Rattle.std.specs.Prelude.{nat_lt}
-use Rattle.std.specs.List.{count_by, list_any}
-use Rattle.std.specs.Ordering.{is_lt}
-use Rattle.std.specs.declared.cmp.Ordering.{Ordering}
-use Rattle.std.specs.declared.cmp.Ordering.TheVariants.{Less, Equal, Greater}
-use Rattle.std.proofs.lemmas.Bool.Decides.{nat_tests}
-use Rattle.std.proofs.lemmas.Cmp.{tied_itself}
-use Rattle.std.proofs.lemmas.List.Sums.{fold_push}
-use Rattle.span_event.specs.Text.{Bytes}
-use Rattle.span_event.specs.Time.{distance}
+use Rattle.std.specs.{List.{count_by, list_any}, Ordering.is_lt, Prelude.nat_lt, declared.cmp.Ordering.{Ordering, TheVariants.{Less, Equal, Greater}}}
+use Rattle.std.proofs.{Common.{◌≡◌, ℕ, ◌+◌, ◌<◌, ◌≤◌, true, false, ◌&&◌, cond, List, [], ◌∷◌, ◌++◌, length, map, flat_map, take, get_or, refl, sym, ap, subst, ◌∙◌, arith, inl, inr, true≢false}, lemmas.{Bool.Decides.nat_tests, Cmp.tied_itself, List.Sums.fold_push}}
+use Rattle.span_self_time.proofs.{Counts.count_from-none, Mapped.sum_by-map}
 use Rattle.span_journal.proofs.Sorted.{AllByRecursion-map, ascending-sorted}
-use Rattle.span_self_time.specs.Spans.{Span, earliest, latest}
-use Rattle.span_self_time.proofs.Counts.{count_from-none}
-use Rattle.span_self_time.proofs.Mapped.{sum_by-map}
-use Rattle.span_keyed_tracks.specs.Keyed.{ascending}
-use Rattle.span_report.specs.declared.stacks.descent.Descent.{Descent}
-use Rattle.span_report.specs.Stacks.Bounds.{beginnings, frame_count, frames_of, names_in}
-use Rattle.span_report.specs.Stacks.Descent.{IsReady, StartsWith, VisitsFrame, last_visited, left_of}
-use Rattle.span_report.specs.Stacks.Ticks.{Folded, Stack, folded, folded_stacks, has_frames, same_stack, stack_at, stack_order, stacks_of}
-use Rattle.span_report.specs.Stacks.Framed.{AreAscending, Framed, folded_after, last_stack, stack_after}
-use Rattle.span_report.proofs.StackLemmas.Beginnings.{any-has, has-beginning, list_any-flat_map}
-use Rattle.span_report.proofs.StackLemmas.Members.{Has, HasEach, HasEach-append, HasEach-cons, HasEach-none, StandOnce-sorted, any-index, has-at, length-le-each, or-either, same-true, sum_by-le-each}
-use Rattle.span_report.proofs.StackLemmas.Tallies.{list_any-ascending, sorted-same}
-use Rattle.span_report.proofs.StackLemmas.Visiting.{AreAscending-push, count-any, has-visited, length-visited_stacks, rows-folded, rows-timed, stacks-sorted, tally-any, tally-empty, tally-own, visited-begun, visited-sorted, visited_stacks, visited_stacks-push, visited_ticks, visited_ticks-push}
-use Rattle.span_report.proofs.StackLemmas.Times.{count_by-cons, count_by-stacks_of, stack_order-same, stack_order-total}
+use Rattle.span_report.specs.{Bytes, distance, Span, earliest, latest, ascending, Stacks.{Bounds.{beginnings, frame_count, frames_of, names_in}, Descent.{IsReady, StartsWith, VisitsFrame, last_visited, left_of}, Framed.{AreAscending, Framed, folded_after, last_stack, stack_after}, Ticks.{Folded, Stack, folded, folded_stacks, has_frames, same_stack, stack_at, stack_order, stacks_of}}, declared.stacks.descent.Descent.Descent}
+use Rattle.span_report.proofs.StackLemmas.{Beginnings.{any-has, has-beginning, list_any-flat_map}, Members.{Has, HasEach, HasEach-append, HasEach-cons, HasEach-none, StandOnce-sorted, any-index, has-at, length-le-each, or-either, same-true, sum_by-le-each}, Tallies.{list_any-ascending, sorted-same}, Times.{count_by-cons, count_by-stacks_of, stack_order-same, stack_order-total}, Visiting.{AreAscending-push, count-any, has-visited, length-visited_stacks, rows-folded, rows-timed, stacks-sorted, tally-any, tally-empty, tally-own, visited-begun, visited-sorted, visited_stacks, visited_stacks-push, visited_ticks, visited_ticks-push}}
 
 -- how many ticks of the spans have the stack
 abbrev pub count_of : List (Span Bytes) → Stack → ℕ

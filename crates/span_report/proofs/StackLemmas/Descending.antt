@@ -1,27 +1,10 @@
 -- That a descent stays ready, and what is left of each stack, from its start on and as frames are visited.
-use Rattle.std.proofs.Common.{◌≡◌, ℕ, ◌+◌, ◌<◌, ◌^◌, ◌≤ℤ◌, ◌&&◌, cond, List, [], ◌∷◌, ◌++◌, length, map, take, drop, refl, sym, ap, ap₂, subst, ◌∙◌, arith, append_assoc}
-use Rattle.std.specs.List.{AllByRecursion, count_by}
-use Rattle.std.specs.List.Sorted.{IsPermutation, IsSorted}
-use Rattle.std.specs.declared.cmp.Ordering.TheVariants.{Less, Greater}
-use Rattle.std.proofs.lemmas.List.{length_push, length-take-le}
-use Rattle.std.proofs.lemmas.List.Elements.{All-from_recursion, recursion_from_All}
-use Rattle.std.proofs.lemmas.List.Sorted.{All-permutation, sum_by-IsPermutation}
-use Rattle.std.proofs.lemmas.List.Sums.{sum_by-append, sum_by_push}
-use Rattle.span_event.specs.Text.{Bytes}
-use Rattle.span_event.specs.Time.{distance}
-use Rattle.span_journal.proofs.Sorted.{AllByRecursion-append, AllByRecursion-map}
-use Rattle.span_self_time.specs.Laws.{AreSpans}
-use Rattle.span_self_time.specs.Spans.{Span, earliest, latest}
+use Rattle.std.specs.{List.{AllByRecursion, count_by, Sorted.{IsPermutation, IsSorted}}, declared.cmp.Ordering.TheVariants.{Less, Greater}}
+use Rattle.std.proofs.{Common.{◌≡◌, ℕ, ◌+◌, ◌<◌, ◌^◌, ◌≤ℤ◌, ◌&&◌, cond, List, [], ◌∷◌, ◌++◌, length, map, take, drop, refl, sym, ap, ap₂, subst, ◌∙◌, arith, append_assoc}, lemmas.List.{length_push, length-take-le, Elements.{All-from_recursion, recursion_from_All}, Sorted.{All-permutation, sum_by-IsPermutation}, Sums.{sum_by-append, sum_by_push}}}
 use Rattle.span_self_time.proofs.Counts.{count_from-le, count_from-same}
-use Rattle.span_report.specs.declared.stacks.descent.Descent.{Descent}
-use Rattle.span_report.specs.declared.stacks.pending.PendingFrame.{PendingFrame}
-use Rattle.span_report.specs.declared.stacks.pending.Stretch.{Stretch}
-use Rattle.span_report.specs.Stacks.Descent.{IsNextSplit, IsReady, StartsWith, VisitsFrame, last_visited, left_of}
-use Rattle.span_report.specs.Stacks.Ticks.{Stack, has_frames, names_at, ranked, same_stack, stack_at, stacks_of}
-use Rattle.span_report.specs.Stacks.Pending.{IsAhead, IsSound, IsSplit, Near, left, nearness, pending_stack, times_on}
-use Rattle.span_report.proofs.StackLemmas.Nearing.{AllByRecursion-front, AllByRecursion-last, IsAhead-on, Near-append, Near-front, Near-last, Near-sorted, ahead-next, deeper-near, farther, left-next, no_deeper}
-use Rattle.span_report.proofs.StackLemmas.Splitting.{times_on-own}
-use Rattle.span_report.proofs.StackLemmas.Times.{count_from-around}
+use Rattle.span_journal.proofs.Sorted.{AllByRecursion-append, AllByRecursion-map}
+use Rattle.span_report.specs.{Bytes, distance, AreSpans, Span, earliest, latest, Stacks.{Descent.{IsNextSplit, IsReady, StartsWith, VisitsFrame, last_visited, left_of}, Pending.{IsAhead, IsSound, IsSplit, Near, left, nearness, pending_stack, times_on}, Ticks.{Stack, has_frames, names_at, ranked, same_stack, stack_at, stacks_of}}, declared.stacks.{descent.Descent.Descent, pending.{PendingFrame.PendingFrame, Stretch.Stretch}}}
+use Rattle.span_report.proofs.StackLemmas.{Nearing.{AllByRecursion-front, AllByRecursion-last, IsAhead-on, Near-append, Near-front, Near-last, Near-sorted, ahead-next, deeper-near, farther, left-next, no_deeper}, Splitting.times_on-own, Times.count_from-around}
 
 AllByRecursion-permutation : (P : PendingFrame → Type 0) (xs ys : List PendingFrame) → IsPermutation xs ys → AllByRecursion P xs → AllByRecursion P ys
 AllByRecursion-permutation P xs ys moved all = recursion_from_All P ys (All-permutation P xs ys moved (All-from_recursion P xs all))

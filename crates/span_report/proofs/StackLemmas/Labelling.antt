@@ -1,22 +1,9 @@
 -- Labels word by word, and spans with their labels in place of their names.
-use Rattle.std.proofs.Common.{◌≡◌, ℕ, ◌+◌, ◌<◌, ◌≤◌, All, List, [], ◌∷◌, ◌++◌, length, map, take, Option, Some, None, refl, sym, ap, ap₂, subst, ◌∙◌, append-nil, append_assoc, arith, get_or}
-use Rattle.std.specs.Prelude.{zero, suc, if◌then◌else◌, is_some}
-use Rattle.std.specs.List.{cons_option, filter_map, join_with_byte}
-use Rattle.std.specs.Option.{option_to_list}
-use Rattle.std.proofs.Math.ListN.{set}
-use Rattle.std.proofs.lemmas.List.{map-id, take_more}
-use Rattle.std.proofs.lemmas.List.Elements.{All-cons, All-head, All-nil, All-tail, filter_map-append}
-use Rattle.span_event.specs.Text.{Bytes}
-use Rattle.span_self_time.specs.Laws.{AreSpans, IsApart}
-use Rattle.span_self_time.specs.Spans.{Span}
+use Rattle.std.specs.{List.{cons_option, filter_map, join_with_byte}, Option.option_to_list, Prelude.{zero, suc, if◌then◌else◌, is_some}}
+use Rattle.std.proofs.{Common.{◌≡◌, ℕ, ◌+◌, ◌<◌, ◌≤◌, All, List, [], ◌∷◌, ◌++◌, length, map, take, Option, Some, None, refl, sym, ap, ap₂, subst, ◌∙◌, append-nil, append_assoc, arith, get_or}, Math.ListN.set, lemmas.List.{map-id, take_more, Elements.{All-cons, All-head, All-nil, All-tail, filter_map-append}}}
 use Rattle.span_self_time.proofs.Mapped.{busy_time-map}
-use Rattle.span_ledger.specs.Named.{AreThreadSpans, IsTimely}
-use Rattle.span_report.specs.declared.stacks.label.SpanColumn.{SpanColumn}
-use Rattle.span_report.specs.Stacks.Labelled.{relabelled, then_word}
-use Rattle.span_report.specs.Stacks.Labels.{by_name, label_of, labelled, named_by}
-use Rattle.span_report.specs.Stacks.Laws.{TimesAddUpToBusy, TimesAddUpToSelf}
-use Rattle.span_report.proofs.StackLemmas.Owners.{times-self}
-use Rattle.span_report.proofs.StackLemmas.Times.{times-busy}
+use Rattle.span_report.specs.{Bytes, AreSpans, IsApart, Span, AreThreadSpans, IsTimely, Stacks.{Labelled.{relabelled, then_word}, Labels.{by_name, label_of, labelled, named_by}, Laws.{TimesAddUpToBusy, TimesAddUpToSelf}}, declared.stacks.label.SpanColumn.SpanColumn}
+use Rattle.span_report.proofs.StackLemmas.{Owners.times-self, Times.times-busy}
 
 -- what separates the next word from these
 abbrev pub separator_after : List Bytes → Bytes

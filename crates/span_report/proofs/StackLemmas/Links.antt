@@ -1,14 +1,7 @@
 -- That links lead past spans that end sooner, and how the link of one more span is made.
-use Rattle.std.proofs.Common.{◌≡◌, ◌≢◌, ℕ, ◌+◌, ◌<◌, All, ℤ, ◌≤ℤ◌, List, length, get_or, set, sym, ap, subst, ◌∙◌, arith, inl, inr, length-set}
-use Rattle.std.proofs.lemmas.Bool.{cases_eq, cases_lt}
-use Rattle.std.proofs.lemmas.Int.{clamps, ints}
-use Rattle.std.proofs.lemmas.List.{get_or_default, get_or-set_other, get_or-set_same}
-use Rattle.std.proofs.lemmas.List.Elements.{All-set}
-use Rattle.span_event.specs.Text.{Bytes}
-use Rattle.span_self_time.specs.Spans.{Span, covers}
+use Rattle.std.proofs.{Common.{◌≡◌, ◌≢◌, ℕ, ◌+◌, ◌<◌, All, ℤ, ◌≤ℤ◌, List, length, get_or, set, sym, ap, subst, ◌∙◌, arith, inl, inr, length-set}, lemmas.{Bool.{cases_eq, cases_lt}, Int.{clamps, ints}, List.{get_or_default, get_or-set_other, get_or-set_same, Elements.All-set}}}
 use Rattle.span_self_time.proofs.Counts.{covers-after}
-use Rattle.span_report.specs.declared.stacks.ends.Link.{Link}
-use Rattle.span_report.specs.Stacks.Pending.{AreLinks, IsFirstBeyond, IsJump, IsLater, IsLink, IsLinkTo, NoneCovers}
+use Rattle.span_report.specs.{Bytes, Span, covers, Stacks.Pending.{AreLinks, IsFirstBeyond, IsJump, IsLater, IsLink, IsLinkTo, NoneCovers}, declared.stacks.ends.Link.Link}
 
 module _ (spans : List (Span Bytes)) where
   -- past a jump to a span that ends by the time

@@ -1,16 +1,8 @@
 -- Which stacks a list has, and that it is no shorter than another list of which it has each stack, where none stands there twice.
-use Rattle.std.proofs.Common.{◌≡◌, ℕ, zero, suc, ◌+◌, ◌<◌, ◌≤◌, Bool, true, false, ◌||◌, cond, List, [], ◌∷◌, ◌++◌, length, get_or, refl, sym, ap, subst, ◌∙◌, arith, inl, inr, ◌⊎◌, true≢false}
-use Rattle.std.specs.List.{list_any, sum_by}
-use Rattle.std.specs.List.Sorted.{IsStrictlySortedBy}
-use Rattle.std.specs.Ordering.{is_eq}
-use Rattle.std.specs.declared.cmp.Ordering.{Ordering}
-use Rattle.std.specs.declared.cmp.Ordering.TheVariants.{Less, Equal, Greater}
-use Rattle.std.proofs.lemmas.Cmp.{tied_itself}
-use Rattle.std.proofs.lemmas.List.Folds.{list_any-append}
-use Rattle.std.proofs.lemmas.List.Sums.{sum_by-cons}
+use Rattle.std.specs.{List.{list_any, sum_by, Sorted.IsStrictlySortedBy}, Ordering.is_eq, declared.cmp.Ordering.{Ordering, TheVariants.{Less, Equal, Greater}}}
+use Rattle.std.proofs.{Common.{◌≡◌, ℕ, zero, suc, ◌+◌, ◌<◌, ◌≤◌, Bool, true, false, ◌||◌, cond, List, [], ◌∷◌, ◌++◌, length, get_or, refl, sym, ap, subst, ◌∙◌, arith, inl, inr, ◌⊎◌, true≢false}, lemmas.{Cmp.tied_itself, List.{Folds.list_any-append, Sums.sum_by-cons}}}
 use Rattle.span_report.specs.Stacks.Ticks.{Stack, same_stack, stack_order}
-use Rattle.span_report.proofs.StackLemmas.Tallies.{none-below}
-use Rattle.span_report.proofs.StackLemmas.Times.{stack_order-same, stack_order-total}
+use Rattle.span_report.proofs.StackLemmas.{Tallies.none-below, Times.{stack_order-same, stack_order-total}}
 
 -- one of these stacks is this one
 abbrev pub Has : List Stack → Stack → Type 0

@@ -1,23 +1,8 @@
 -- The order of pending frames: the nearest is the last, and its stack is the least that comes after the one visited before.
-use Rattle.std.proofs.Common.{◌≡◌, ℕ, zero, suc, ◌+◌, ◌<◌, ◌≤◌, false, List, [], ◌∷◌, ◌++◌, length, take, get_or, Option, Some, refl, sym, ap, ap₂, subst, ◌∙◌, arith, inl, inr, ◌⊎◌, true≢false}
-use Rattle.std.specs.Cmp.{IsTotalOrder}
-use Rattle.std.specs.List.{AllByRecursion}
-use Rattle.std.specs.List.Sorted.{IsSorted}
-use Rattle.std.specs.Option.{option_or}
-use Rattle.std.specs.Ordering.{is_lt, nat_cmp, ordering_then}
-use Rattle.std.specs.declared.cmp.Ordering.{Ordering}
-use Rattle.std.specs.declared.cmp.Ordering.TheVariants.{Less, Equal, Greater}
-use Rattle.std.proofs.lemmas.Bool.Decides.{nat_tests}
-use Rattle.std.proofs.lemmas.Cmp.{back_total, nat_cmp_total, nat_list_cmp_total, on_total, then_total, tied_itself}
-use Rattle.std.proofs.lemmas.List.{length_push, length-take-le, take_all, take-append-le}
-use Rattle.std.proofs.lemmas.List.Sums.{sum_by-cons}
-use Rattle.span_event.specs.Text.{Bytes, text_cmp}
+use Rattle.std.specs.{Cmp.IsTotalOrder, List.{AllByRecursion, Sorted.IsSorted}, Option.option_or, Ordering.{is_lt, nat_cmp, ordering_then}, declared.cmp.Ordering.{Ordering, TheVariants.{Less, Equal, Greater}}}
+use Rattle.std.proofs.{Common.{◌≡◌, ℕ, zero, suc, ◌+◌, ◌<◌, ◌≤◌, false, List, [], ◌∷◌, ◌++◌, length, take, get_or, Option, Some, refl, sym, ap, ap₂, subst, ◌∙◌, arith, inl, inr, ◌⊎◌, true≢false}, lemmas.{Bool.Decides.nat_tests, Cmp.{back_total, nat_cmp_total, nat_list_cmp_total, on_total, then_total, tied_itself}, List.{length_push, length-take-le, take_all, take-append-le, Sums.sum_by-cons}}}
 use Rattle.span_event.proofs.Orders.{text_same}
-use Rattle.span_keyed_tracks.specs.Last.{last_of}
-use Rattle.span_self_time.specs.Spans.{Span}
-use Rattle.span_report.specs.declared.stacks.pending.PendingFrame.{PendingFrame}
-use Rattle.span_report.specs.Stacks.Ticks.{Stack, stack_order}
-use Rattle.span_report.specs.Stacks.Pending.{IsAhead, Near, left, nearness, pending_stack, times_on}
+use Rattle.span_report.specs.{Bytes, text_cmp, last_of, Span, Stacks.{Pending.{IsAhead, Near, left, nearness, pending_stack, times_on}, Ticks.{Stack, stack_order}}, declared.stacks.pending.PendingFrame.PendingFrame}
 use Rattle.span_report.proofs.StackLemmas.StackOrders.{below-pushed, none-below-empty, stack_order-pushed, turned-greater, turned-less}
 
 pub nearness-total : IsTotalOrder nearness

@@ -1,23 +1,9 @@
 -- The last frame of a stack is the name of the span to which the tick belongs.
-use Rattle.std.proofs.Common.{◌≡◌, ◌≤ℤ◌, ◌+◌, ℤ, Bool, true, false, not, ◌&&◌, ◌||◌, cond, List, [], ◌∷◌, map, refl, sym, ap, ap₂, ◌∙◌, arith, zero-add}
-use Rattle.std.specs.Prelude.{filter}
-use Rattle.std.specs.List.{AllByRecursion, list_any, sum_by}
-use Rattle.std.specs.List.Sorted.{IsStrictlySortedBy}
-use Rattle.std.specs.declared.cmp.Ordering.TheVariants.{Less}
-use Rattle.std.proofs.lemmas.Int.{clamps, ints}
-use Rattle.std.proofs.lemmas.List.Sorted.{list_any-IsPermutation, sum_by-IsPermutation}
-use Rattle.std.proofs.lemmas.List.Sums.{sum_by-cons}
-use Rattle.span_event.specs.Text.{Bytes, same_text}
-use Rattle.span_event.specs.Time.{distance}
-use Rattle.span_self_time.specs.Laws.{AreSpans}
-use Rattle.span_self_time.specs.Spans.{Span, count_from, covers, earliest, is_outranked, latest, named, outranks, self_of, self_time}
-use Rattle.span_self_time.proofs.Counts.{count_from-covered, count_from-none, count_from-same, sum_by-count_from}
-use Rattle.span_self_time.proofs.Ranks.{outranks-itself}
-use Rattle.span_self_time.proofs.Tops.{one_if, sum_by-same}
-use Rattle.span_report.specs.Stacks.Laws.{ends_in}
-use Rattle.span_report.specs.Stacks.Ticks.{Stack, folded_stacks, has_frames, names_at, rank_order, ranked, stack_at}
-use Rattle.span_report.proofs.StackLemmas.RankOrder.{outranks-before, ranked-permutation, ranked-sorted}
-use Rattle.span_report.proofs.StackLemmas.Times.{count_by-stacks_of, has_frames-names_at, sum_by-folded_stacks}
+use Rattle.std.specs.{List.{AllByRecursion, list_any, sum_by, Sorted.IsStrictlySortedBy}, Prelude.filter, declared.cmp.Ordering.TheVariants.Less}
+use Rattle.std.proofs.{Common.{◌≡◌, ◌≤ℤ◌, ◌+◌, ℤ, Bool, true, false, not, ◌&&◌, ◌||◌, cond, List, [], ◌∷◌, map, refl, sym, ap, ap₂, ◌∙◌, arith, zero-add}, lemmas.{Int.{clamps, ints}, List.{Sorted.{list_any-IsPermutation, sum_by-IsPermutation}, Sums.sum_by-cons}}}
+use Rattle.span_self_time.proofs.{Counts.{count_from-covered, count_from-none, count_from-same, sum_by-count_from}, Ranks.outranks-itself, Tops.{one_if, sum_by-same}}
+use Rattle.span_report.specs.{Bytes, same_text, distance, AreSpans, Span, count_from, covers, earliest, is_outranked, latest, named, outranks, self_of, self_time, Stacks.{Laws.ends_in, Ticks.{Stack, folded_stacks, has_frames, names_at, rank_order, ranked, stack_at}}}
+use Rattle.span_report.proofs.StackLemmas.{RankOrder.{outranks-before, ranked-permutation, ranked-sorted}, Times.{count_by-stacks_of, has_frames-names_at, sum_by-folded_stacks}}
 
 module _ (name : Bytes) (u : ℤ) where
   -- the span has the name, covers u, and none of some spans that cover u ranks above it

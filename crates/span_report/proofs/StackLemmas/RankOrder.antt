@@ -1,20 +1,10 @@
 -- Spans with different positions have one order by rank.
-use Rattle.std.proofs.Common.{◌≡◌, ◌≢◌, Bool, true, false, cond, List, [], ◌∷◌, refl, sym, ◌∙◌, subst, arith, true≢false}
-use Rattle.std.proofs.lemmas.Bool.Decides.{nat_tests}
-use Rattle.std.proofs.lemmas.Cmp.{back_total, nat_cmp_total, on_total, then_total}
-use Rattle.std.proofs.lemmas.Int.{ints}
-use Rattle.std.specs.Cmp.{IsTotalOrder, int_cmp_total}
-use Rattle.std.specs.List.{AllByRecursion, IsDistinct}
-use Rattle.std.specs.List.Sorted.{IsPermutation, IsStrictlySortedBy}
-use Rattle.std.specs.Ordering.{eq_by_cmp, int_cmp, nat_cmp, ordering_then}
-use Rattle.std.specs.declared.cmp.Ordering.{Ordering}
-use Rattle.std.specs.declared.cmp.Ordering.TheVariants.{Less, Equal, Greater}
-use Rattle.span_self_time.specs.Laws.{AreSpans, IsApart}
-use Rattle.span_self_time.specs.Spans.{Span, outranks}
+use Rattle.std.specs.{Cmp.{IsTotalOrder, int_cmp_total}, List.{AllByRecursion, IsDistinct, Sorted.{IsPermutation, IsStrictlySortedBy}}, Ordering.{eq_by_cmp, int_cmp, nat_cmp, ordering_then}, declared.cmp.Ordering.{Ordering, TheVariants.{Less, Equal, Greater}}}
+use Rattle.std.proofs.{Common.{◌≡◌, ◌≢◌, Bool, true, false, cond, List, [], ◌∷◌, refl, sym, ◌∙◌, subst, arith, true≢false}, lemmas.{Bool.Decides.nat_tests, Cmp.{back_total, nat_cmp_total, on_total, then_total}, Int.ints}}
 use Rattle.span_self_time.proofs.Ranks.{outranks-itself, outranks-trans}
 use Rattle.span_journal.proofs.Sorted.{ascending-sorted}
 use Rattle.span_ledger.proofs.Sorting.{ascending-permutation}
-use Rattle.span_report.specs.Stacks.Ticks.{rank_order, ranked}
+use Rattle.span_report.specs.{AreSpans, IsApart, Span, outranks, Stacks.Ticks.{rank_order, ranked}}
 
 module _ {N : Type 0} where
   -- by start, then the longer one first, then by position

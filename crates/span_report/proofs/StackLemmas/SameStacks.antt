@@ -1,31 +1,10 @@
 -- The stacks of a journal follow from the acts on each process; of the positions of spans only the order counts.
-use Rattle.std.proofs.Common.{◌≡◌, ℕ, ℤ, Bool, cond, ◌&&◌, ◌||◌, int_lt, List, [], ◌∷◌, length, map, refl, ap, ap₂, ◌∙◌}
-use Rattle.std.specs.Prelude.{filter, flat_map, fold, sum_by}
-use Rattle.std.specs.BTreeSet.{insert_key}
-use Rattle.std.specs.Ordering.{int_eq, match_ordering}
-use Rattle.std.specs.declared.cmp.Ordering.{Ordering}
-use Rattle.std.specs.declared.cmp.Ordering.TheVariants.{Less, Equal, Greater}
-use Rattle.std.proofs.lemmas.Simd.{map-map}
-use Rattle.span_event.specs.Text.{Bytes}
-use Rattle.span_event.specs.Time.{distance}
-use Rattle.span_event.specs.declared.thread.Thread.{Thread}
-use Rattle.span_self_time.specs.Spans.{Span, covers, earliest, latest, outranks}
+use Rattle.std.specs.{BTreeSet.insert_key, Ordering.{int_eq, match_ordering}, Prelude.{filter, flat_map, fold, sum_by}, declared.cmp.Ordering.{Ordering, TheVariants.{Less, Equal, Greater}}}
+use Rattle.std.proofs.{Common.{◌≡◌, ℕ, ℤ, Bool, cond, ◌&&◌, ◌||◌, int_lt, List, [], ◌∷◌, length, map, refl, ap, ap₂, ◌∙◌}, lemmas.Simd.map-map}
 use Rattle.span_self_time.proofs.Mapped.{earliest-map, filter-map, latest-map}
-use Rattle.span_self_time.specs.Positions.{Rises, renumbered_span}
-use Rattle.span_keyed_tracks.specs.Keyed.{ascending}
-use Rattle.span_track.specs.Nesting.{closed_spans}
 use Rattle.span_track.proofs.Threads.Renumbering.{closed_spans-renumbered}
-use Rattle.span_journal.specs.declared.entry.Entry.{Entry}
-use Rattle.span_journal.specs.ByProcess.{ProcessRows, ThreadRows}
-use Rattle.span_journal.specs.Topics.{AreAlike, of_process}
-use Rattle.span_journal.proofs.Topics.Rows.{rows-follow}
-use Rattle.span_journal.proofs.Topics.Threads.{thread_events-alike}
-use Rattle.span_report.specs.declared.stacks.label.SpanColumn.{SpanColumn}
-use Rattle.span_report.specs.Stacks.Bounds.{beginnings}
-use Rattle.span_report.specs.Stacks.Folded.{stack_lines, thread_frame_count, thread_frames, thread_stacks}
-use Rattle.span_report.specs.Stacks.Labels.{label_of, labelled, labelled_spans, named_by}
-use Rattle.span_report.specs.Stacks.Laws.{StacksFollowFromActs}
-use Rattle.span_report.specs.Stacks.Ticks.{Folded, Stack, folded, has_frames, ticks, names_at, rank_order, ranked, stack_at, stack_order, stacks_of}
+use Rattle.span_journal.proofs.Topics.{Rows.rows-follow, Threads.thread_events-alike}
+use Rattle.span_report.specs.{Bytes, distance, Thread, Span, covers, earliest, latest, outranks, Rises, renumbered_span, ascending, closed_spans, Entry, ProcessRows, ThreadRows, AreAlike, of_process, Stacks.{Bounds.beginnings, Folded.{stack_lines, thread_frame_count, thread_frames, thread_stacks}, Labels.{label_of, labelled, labelled_spans, named_by}, Laws.StacksFollowFromActs, Ticks.{Folded, Stack, folded, has_frames, ticks, names_at, rank_order, ranked, stack_at, stack_order, stacks_of}}, declared.stacks.label.SpanColumn.SpanColumn}
 
 -- where a span stands among others that are in place of others too
 placed-map : {A B : Type 0} (g : A → B) (o : Ordering) (k x : A) (xs zs : List A) (ys : List B) → ys ≡ map g zs →

@@ -1,16 +1,7 @@
 -- How many ticks a stretch and the frames in it have of a stack.
-use Rattle.std.proofs.Common.{◌≡◌, ℕ, zero, suc, ◌+◌, ◌<◌, ◌≤◌, ◌^◌, ℤ, pos, ◌+ℤ◌, ◌≤ℤ◌, ◌<ℤ◌, Bool, true, false, cond, List, [], ◌∷◌, ◌++◌, length, take, drop, refl, sym, ap, ap₂, ◌∙◌, arith, append_assoc, append-nil}
-use Rattle.std.proofs.lemmas.Int.{ints}
-use Rattle.std.proofs.lemmas.List.{length_push, length-take-le, take_all}
-use Rattle.std.proofs.lemmas.List.Sums.{sum_by_push}
-use Rattle.span_event.specs.Text.{Bytes}
-use Rattle.span_event.specs.Time.{distance}
-use Rattle.span_self_time.specs.Spans.{Span, count_from}
+use Rattle.std.proofs.{Common.{◌≡◌, ℕ, zero, suc, ◌+◌, ◌<◌, ◌≤◌, ◌^◌, ℤ, pos, ◌+ℤ◌, ◌≤ℤ◌, ◌<ℤ◌, Bool, true, false, cond, List, [], ◌∷◌, ◌++◌, length, take, drop, refl, sym, ap, ap₂, ◌∙◌, arith, append_assoc, append-nil}, lemmas.{Int.ints, List.{length_push, length-take-le, take_all, Sums.sum_by_push}}}
 use Rattle.span_self_time.proofs.Counts.{add-distance, count_from-add, count_from-same, count_from-unbroken, distance-add}
-use Rattle.span_report.specs.declared.stacks.pending.PendingFrame.{PendingFrame}
-use Rattle.span_report.specs.declared.stacks.pending.Stretch.{Stretch}
-use Rattle.span_report.specs.Stacks.Ticks.{Stack, names_at, same_stack}
-use Rattle.span_report.specs.Stacks.Pending.{IsBare, IsFirstPending, IsSplit, left, pending_stack, times_on}
+use Rattle.span_report.specs.{Bytes, distance, Span, count_from, Stacks.{Pending.{IsBare, IsFirstPending, IsSplit, left, pending_stack, times_on}, Ticks.{Stack, names_at, same_stack}}, declared.stacks.pending.{PendingFrame.PendingFrame, Stretch.Stretch}}
 use Rattle.span_report.proofs.StackLemmas.Members.{same-itself}
 
 -- the stretch from another time on, with the spans from another one on

@@ -1,12 +1,7 @@
 -- The order of stacks that begin alike.
-use Rattle.std.proofs.Common.{◌≡◌, [], ◌∷◌, ◌++◌, refl, sym, ap, ap₂, ◌∙◌}
-use Rattle.std.specs.Cmp.{IsTotalOrder}
-use Rattle.std.specs.Ordering.{ordering_reverse, ordering_then}
-use Rattle.std.specs.declared.cmp.Ordering.{Ordering}
-use Rattle.std.specs.declared.cmp.Ordering.TheVariants.{Less, Equal, Greater}
-use Rattle.std.proofs.lemmas.Cmp.{nat_list_cmp_total, tied_itself}
-use Rattle.span_event.specs.Text.{Bytes, text_cmp}
-use Rattle.span_report.specs.Stacks.Ticks.{Stack, stack_order}
+use Rattle.std.specs.{Cmp.IsTotalOrder, Ordering.{ordering_reverse, ordering_then}, declared.cmp.Ordering.{Ordering, TheVariants.{Less, Equal, Greater}}}
+use Rattle.std.proofs.{Common.{◌≡◌, [], ◌∷◌, ◌++◌, refl, sym, ap, ap₂, ◌∙◌}, lemmas.Cmp.{nat_list_cmp_total, tied_itself}}
+use Rattle.span_report.specs.{Bytes, text_cmp, Stacks.Ticks.{Stack, stack_order}}
 
 module _ {K : Type 0} {R : K → K → Ordering} (o : IsTotalOrder R) where
   -- nothing is below itself

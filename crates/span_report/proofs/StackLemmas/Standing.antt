@@ -1,17 +1,8 @@
 -- Which of the spans from one on stand in a stretch of time.
-use Rattle.std.proofs.Common.{◌≡◌, ℕ, zero, suc, ◌+◌, ◌<◌, ◌≤◌, ℤ, ◌≤ℤ◌, ◌<ℤ◌, int_lt, Bool, true, false, cond, List, [], ◌∷◌, length, map, drop, get_or, refl, sym, ap, ap₂, ◌∙◌, ◌-◌, arith, inl, inr, ◌⊎◌, length-drop}
-use Rattle.std.specs.Prelude.{filter}
-use Rattle.std.specs.Int.{int_max, int_min}
-use Rattle.std.proofs.lemmas.Bool.{cases_eq, cases_lt}
-use Rattle.std.proofs.lemmas.Int.{clamps, ints}
-use Rattle.std.proofs.lemmas.List.{drop-drop, drop_more, drop_all, get_or-drop, get_or_default}
-use Rattle.span_event.specs.Text.{Bytes}
-use Rattle.span_self_time.specs.Spans.{Span, covers}
+use Rattle.std.specs.{Int.{int_max, int_min}, Prelude.filter}
+use Rattle.std.proofs.{Common.{◌≡◌, ℕ, zero, suc, ◌+◌, ◌<◌, ◌≤◌, ℤ, ◌≤ℤ◌, ◌<ℤ◌, int_lt, Bool, true, false, cond, List, [], ◌∷◌, length, map, drop, get_or, refl, sym, ap, ap₂, ◌∙◌, ◌-◌, arith, inl, inr, ◌⊎◌, length-drop}, lemmas.{Bool.{cases_eq, cases_lt}, Int.{clamps, ints}, List.{drop-drop, drop_more, drop_all, get_or-drop, get_or_default}}}
 use Rattle.span_self_time.proofs.Counts.{covers-after, covers-before, covers-between}
-use Rattle.span_report.specs.declared.stacks.pending.PendingFrame.{PendingFrame}
-use Rattle.span_report.specs.declared.stacks.pending.Stretch.{Stretch}
-use Rattle.span_report.specs.Stacks.Ticks.{names_at}
-use Rattle.span_report.specs.Stacks.Pending.{IsBare, IsFirstBeyond, IsFirstPending, IsLater, NoneCovers, Rise}
+use Rattle.span_report.specs.{Bytes, Span, covers, Stacks.{Pending.{IsBare, IsFirstBeyond, IsFirstPending, IsLater, NoneCovers, Rise}, Ticks.names_at}, declared.stacks.pending.{PendingFrame.PendingFrame, Stretch.Stretch}}
 
 -- a span that doesn't cover u adds no name
 names_at-over : (x : Span Bytes) (xs : List (Span Bytes)) (u : ℤ) → covers x u ≡ false → names_at (x ∷ xs) u ≡ names_at xs u

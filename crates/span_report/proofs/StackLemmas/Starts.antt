@@ -1,18 +1,8 @@
 -- Ranked spans start one after the other, and all lie within the times that a thread can have seen.
-use Rattle.std.proofs.Common.{◌≡◌, ℕ, zero, suc, ◌<◌, ◌≤ℤ◌, All, List, [], ◌∷◌, length, get_or, arith, inl, inr}
-use Rattle.std.proofs.lemmas.Int.{clamps, ints}
-use Rattle.std.proofs.lemmas.List.Elements.{All-head, All-tail}
-use Rattle.std.specs.List.{AllByRecursion}
-use Rattle.std.specs.List.Sorted.{IsStrictlySortedBy}
-use Rattle.std.specs.declared.cmp.Ordering.TheVariants.{Less}
-use Rattle.span_event.specs.Event.{least_time}
-use Rattle.span_event.specs.Text.{Bytes}
-use Rattle.span_self_time.specs.Closed.{greatest_until}
-use Rattle.span_self_time.specs.Spans.{Span, earliest, latest}
+use Rattle.std.specs.{List.{AllByRecursion, Sorted.IsStrictlySortedBy}, declared.cmp.Ordering.TheVariants.Less}
+use Rattle.std.proofs.{Common.{◌≡◌, ℕ, zero, suc, ◌<◌, ◌≤ℤ◌, All, List, [], ◌∷◌, length, get_or, arith, inl, inr}, lemmas.{Int.{clamps, ints}, List.Elements.{All-head, All-tail}}}
 use Rattle.span_self_time.proofs.Ranks.{Decides-outranks, IsAbove}
-use Rattle.span_ledger.specs.Named.{IsTimely}
-use Rattle.span_report.specs.Stacks.Ticks.{rank_order, ranked}
-use Rattle.span_report.specs.Stacks.Pending.{Rise}
+use Rattle.span_report.specs.{least_time, Bytes, greatest_until, Span, earliest, latest, IsTimely, Stacks.{Pending.Rise, Ticks.{rank_order, ranked}}}
 use Rattle.span_report.proofs.StackLemmas.RankOrder.{outranks-before, ranked-sorted}
 
 starts-rise : (a b : Span Bytes) → rank_order a b ≡ Less → a.start ≤ℤ b.start

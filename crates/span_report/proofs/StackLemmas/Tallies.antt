@@ -1,18 +1,8 @@
 -- The distinct elements of a list in ascending order, and how often each stands there.
-use Rattle.std.proofs.Common.{◌≡◌, ℕ, ◌+◌, Bool, true, false, ◌||◌, cond, List, [], ◌∷◌, refl, sym, ap, ap₂, ◌∙◌, arith, true≢false}
-use Rattle.std.specs.Prelude.{fold}
-use Rattle.std.proofs.lemmas.Cmp.{tied_back, tied_itself}
-use Rattle.std.proofs.lemmas.List.Sums.{sum_by-cons}
-use Rattle.std.specs.BTreeSet.{insert_key}
-use Rattle.std.specs.Cmp.{IsTotalOrder}
-use Rattle.std.specs.List.{AllByRecursion, count_by, list_any, sum_by}
-use Rattle.std.specs.List.Sorted.{IsStrictlySortedBy}
-use Rattle.std.specs.Ordering.{eq_by_cmp, is_eq, match_ordering, ordering_reverse}
-use Rattle.std.specs.declared.cmp.Ordering.{Ordering}
-use Rattle.std.specs.declared.cmp.Ordering.TheVariants.{Less, Equal, Greater}
-use Rattle.span_self_time.proofs.Counts.{sum_by-nothing}
-use Rattle.span_self_time.proofs.Tops.{one_if, sum_by-same}
-use Rattle.span_keyed_tracks.specs.Keyed.{ascending}
+use Rattle.std.specs.{BTreeSet.insert_key, Cmp.IsTotalOrder, List.{AllByRecursion, count_by, list_any, sum_by, Sorted.IsStrictlySortedBy}, Ordering.{eq_by_cmp, is_eq, match_ordering, ordering_reverse}, Prelude.fold, declared.cmp.Ordering.{Ordering, TheVariants.{Less, Equal, Greater}}}
+use Rattle.std.proofs.{Common.{◌≡◌, ℕ, ◌+◌, Bool, true, false, ◌||◌, cond, List, [], ◌∷◌, refl, sym, ap, ap₂, ◌∙◌, arith, true≢false}, lemmas.{Cmp.{tied_back, tied_itself}, List.Sums.sum_by-cons}}
+use Rattle.span_self_time.proofs.{Counts.sum_by-nothing, Tops.{one_if, sum_by-same}}
+use Rattle.span_report.specs.{ascending}
 
 module _ {K : Type 0} {R : K → K → Ordering} (o : IsTotalOrder R) (tied : (a b : K) → R a b ≡ Equal → a ≡ b) where
   or_twice : (a b : Bool) → (a || (a || b)) ≡ (a || b)

@@ -1,27 +1,12 @@
 -- How many of the stacks of spans pass a test, and what the times of folded stacks add up to.
-use Rattle.std.proofs.Common.{◌≡◌, ℕ, zero, suc, ◌+◌, ℤ, pos, ◌+ℤ◌, ◌≤ℤ◌, ◌<ℤ◌, Bool, true, false, ◌&&◌, ◌||◌, cond, List, [], ◌∷◌, map, refl, sym, ap, ap₂, ◌∙◌, arith, zero-add}
-use Rattle.std.specs.Prelude.{filter}
-use Rattle.std.specs.Cmp.{IsTotalOrder}
-use Rattle.std.specs.FinMap.{slice_cmp-IsAntisymmetric}
-use Rattle.std.specs.List.{count_by, list_any, sum_by}
-use Rattle.std.specs.declared.cmp.Ordering.TheVariants.{Equal}
-use Rattle.std.proofs.lemmas.Bool.{and_left}
-use Rattle.std.proofs.lemmas.Cmp.{lists_total, nat_list_cmp_total}
-use Rattle.std.proofs.lemmas.Int.{clamps, ints}
-use Rattle.std.proofs.lemmas.List.Sorted.{list_any-IsPermutation}
-use Rattle.std.proofs.lemmas.List.Sums.{sum_by-cons}
-use Rattle.span_event.specs.Text.{Bytes}
-use Rattle.span_event.specs.Time.{distance}
+use Rattle.std.specs.{Cmp.IsTotalOrder, FinMap.slice_cmp-IsAntisymmetric, List.{count_by, list_any, sum_by}, Prelude.filter, declared.cmp.Ordering.TheVariants.Equal}
+use Rattle.std.proofs.{Common.{◌≡◌, ℕ, zero, suc, ◌+◌, ℤ, pos, ◌+ℤ◌, ◌≤ℤ◌, ◌<ℤ◌, Bool, true, false, ◌&&◌, ◌||◌, cond, List, [], ◌∷◌, map, refl, sym, ap, ap₂, ◌∙◌, arith, zero-add}, lemmas.{Bool.and_left, Cmp.{lists_total, nat_list_cmp_total}, Int.{clamps, ints}, List.{Sorted.list_any-IsPermutation, Sums.sum_by-cons}}}
 use Rattle.span_event.proofs.Orders.{text_same}
-use Rattle.span_self_time.specs.Laws.{AreSpans}
-use Rattle.span_self_time.specs.Spans.{Span, busy_time, count_from, covers, earliest, is_covered, latest}
 use Rattle.span_self_time.proofs.Counts.{add-distance, count_from-add, count_from-none, count_from-same, count_from-unbroken, covers-after, covers-before, distance-add}
 use Rattle.span_closed_spans.proofs.Unbroken.{earliest-le, le-latest}
-use Rattle.span_keyed_tracks.specs.Keyed.{ascending}
 use Rattle.span_journal.proofs.Sorted.{ascending-sorted}
-use Rattle.span_report.specs.Stacks.Ticks.{Folded, Stack, folded, folded_stacks, has_frames, ticks, names_at, ranked, same_stack, stack_at, stack_order, stacks_of}
-use Rattle.span_report.proofs.StackLemmas.RankOrder.{ranked-permutation}
-use Rattle.span_report.proofs.StackLemmas.Tallies.{sum_by-ascending}
+use Rattle.span_report.specs.{Bytes, distance, AreSpans, Span, busy_time, count_from, covers, earliest, is_covered, latest, ascending, Stacks.Ticks.{Folded, Stack, folded, folded_stacks, has_frames, ticks, names_at, ranked, same_stack, stack_at, stack_order, stacks_of}}
+use Rattle.span_report.proofs.StackLemmas.{RankOrder.ranked-permutation, Tallies.sum_by-ascending}
 
 pub stack_order-total : IsTotalOrder stack_order
 stack_order-total = lists_total nat_list_cmp_total

@@ -1,23 +1,9 @@
 -- Which frames were visited of those of spans, and that in the end they are all of them, with the folded stacks.
-use Rattle.std.proofs.Common.{◌≡◌, ℕ, zero, suc, ◌+◌, ◌<◌, ◌≤◌, Bool, true, false, ◌||◌, cond, List, [], ◌∷◌, ◌++◌, length, map, take, refl, sym, ap, ap₂, subst, ◌∙◌, arith, append_assoc, append-nil, inl, inr, true≢false}
-use Rattle.std.specs.Prelude.{fold, nat_lt}
-use Rattle.std.specs.List.{AllByRecursion, count_by, list_any, sum_by}
-use Rattle.std.specs.List.Sorted.{IsStrictlySortedBy}
-use Rattle.std.specs.Ordering.{is_eq}
-use Rattle.std.specs.declared.cmp.Ordering.TheVariants.{Less}
-use Rattle.std.proofs.lemmas.Bool.Decides.{nat_tests}
-use Rattle.std.proofs.lemmas.List.{map-append}
-use Rattle.std.proofs.lemmas.List.Sums.{sum_by-append, sum_by-cons}
-use Rattle.span_event.specs.Text.{Bytes}
+use Rattle.std.specs.{List.{AllByRecursion, count_by, list_any, sum_by, Sorted.IsStrictlySortedBy}, Ordering.is_eq, Prelude.{fold, nat_lt}, declared.cmp.Ordering.TheVariants.Less}
+use Rattle.std.proofs.{Common.{◌≡◌, ℕ, zero, suc, ◌+◌, ◌<◌, ◌≤◌, Bool, true, false, ◌||◌, cond, List, [], ◌∷◌, ◌++◌, length, map, take, refl, sym, ap, ap₂, subst, ◌∙◌, arith, append_assoc, append-nil, inl, inr, true≢false}, lemmas.{Bool.Decides.nat_tests, List.{map-append, Sums.{sum_by-append, sum_by-cons}}}}
 use Rattle.span_journal.proofs.Sorted.{AllByRecursion-map}
-use Rattle.span_report.specs.Stacks.Bounds.{beginnings}
-use Rattle.span_report.specs.Stacks.Ticks.{Folded, Stack, folded, same_stack, stack_order}
-use Rattle.span_report.specs.Stacks.Framed.{AreAscending, Framed, folded_after, folded_if, last_stack, stack_after}
-use Rattle.span_report.proofs.StackLemmas.Beginnings.{has-under}
-use Rattle.span_report.proofs.StackLemmas.Members.{Has, HasEach, HasEach-append, HasEach-cons, HasEach-none, has-first, has-later, has-left, has-none, has-right, or-either, or-left, or-right, same-itself, same-true}
-use Rattle.span_report.proofs.StackLemmas.StackOrders.{turned-less}
-use Rattle.span_report.proofs.StackLemmas.Tallies.{none-below}
-use Rattle.span_report.proofs.StackLemmas.Times.{count_by-cons, stack_order-same, stack_order-total}
+use Rattle.span_report.specs.{Bytes, Stacks.{Bounds.beginnings, Framed.{AreAscending, Framed, folded_after, folded_if, last_stack, stack_after}, Ticks.{Folded, Stack, folded, same_stack, stack_order}}}
+use Rattle.span_report.proofs.StackLemmas.{Beginnings.has-under, Members.{Has, HasEach, HasEach-append, HasEach-cons, HasEach-none, has-first, has-later, has-left, has-none, has-right, or-either, or-left, or-right, same-itself, same-true}, StackOrders.turned-less, Tallies.none-below, Times.{count_by-cons, stack_order-same, stack_order-total}}
 
 -- the stacks of frames after another stack
 abbrev pub visited_stacks : Stack → List Framed → List Stack

@@ -1,9 +1,6 @@
 -- How many names the stacks of spans have, and how many frames, where what stacks begin with alike counts once.
 use Rattle.std.specs.Prelude.{ℕ, List, [], ◌∷◌, length, map, flat_map, sum_by}
-use Rattle.span_event.specs.Text.{Bytes}
-use Rattle.span_self_time.specs.Spans.{Span}
-use Rattle.span_keyed_tracks.specs.Keyed.{ascending}
-use Rattle.span_report.specs.Stacks.Ticks.{Folded, Stack, stack_order, stacks_of}
+use Rattle.span_report.specs.{Bytes, Span, ascending, Stacks.Ticks.{Folded, Stack, stack_order, stacks_of}}
 
 -- the names of stacks, as many of each stack as it is deep
 abbrev pub names_in : List Folded → ℕ

@@ -1,15 +1,6 @@
 -- How a descent through the frames of spans stands: which stack was visited last, and which ticks are left.
-use Rattle.std.specs.Prelude.{◌≡◌, ℕ, ◌+◌, ◌<◌, ◌≤◌, ◌^◌, if◌then◌else◌, List, [], ◌∷◌, ◌++◌, length, map, take, Option, Some, None}
-use Rattle.std.specs.List.{AllByRecursion, count_by}
-use Rattle.std.specs.declared.cmp.Ordering.TheVariants.{Less, Equal}
-use Rattle.span_event.specs.Text.{Bytes}
-use Rattle.span_self_time.specs.Spans.{Span}
-use Rattle.span_keyed_tracks.specs.Last.{last_of}
-use Rattle.span_report.specs.declared.stacks.descent.Descent.{Descent}
-use Rattle.span_report.specs.declared.stacks.pending.PendingFrame.{PendingFrame}
-use Rattle.span_report.specs.Stacks.Ticks.{Stack, same_stack, stack_order, stacks_of}
-use Rattle.span_report.specs.Stacks.Pending.{IsAhead, IsSound, Near, left, nearness, pending_stack}
-use Rattle.span_report.specs.Stacks.Framed.{Framed, stack_after}
+use Rattle.std.specs.{List.{AllByRecursion, count_by}, Prelude.{◌≡◌, ℕ, ◌+◌, ◌<◌, ◌≤◌, ◌^◌, if◌then◌else◌, List, [], ◌∷◌, ◌++◌, length, map, take, Option, Some, None}, declared.cmp.Ordering.TheVariants.{Less, Equal}}
+use Rattle.span_report.specs.{Bytes, Span, last_of, Stacks.{Framed.{Framed, stack_after}, Pending.{IsAhead, IsSound, Near, left, nearness, pending_stack}, Ticks.{Stack, same_stack, stack_order, stacks_of}}, declared.stacks.{descent.Descent.Descent, pending.PendingFrame.PendingFrame}}
 
 -- the stack that was visited last
 abbrev pub last_visited : Descent → Stack

@@ -1,14 +1,7 @@
 -- What is left where folded stacks are refused.
 use Rattle.std.specs.Prelude.{◌≡◌, ℕ, ◌<◌, ◌≤◌, List, length, take}
-use Rattle.span_event.specs.declared.fault.Fault.TheVariants.{Memory as MemoryFault, Output as OutputFault, StacksTooLarge as StacksFault}
-use Rattle.span_event.specs.Fault.{number_of}
-use Rattle.span_journal.specs.declared.entry.Entry.{Entry}
-use Rattle.span_report.specs.declared.stacks.label.SpanColumn.{SpanColumn}
-use Rattle.span_report.specs.declared.stacks.output.FoldedFault.{FoldedFault}
-use Rattle.span_report.specs.declared.stacks.output.FoldedFault.TheVariants.{Memory, TooLarge, Output}
-use Rattle.span_report.specs.Sink.{SinkState, Fails}
-use Rattle.span_report.specs.Stacks.Bounds.{most_names}
-use Rattle.span_report.specs.Stacks.Folded.{folded_of, names_of}
+use Rattle.span_event.specs.declared.fault.Fault.TheVariants.{Output as OutputFault}
+use Rattle.span_report.specs.{Memory as MemoryFault, StacksTooLarge as StacksFault, number_of, Entry, Sink.{SinkState, Fails}, Stacks.{Bounds.most_names, Folded.{folded_of, names_of}}, declared.stacks.{label.SpanColumn.SpanColumn, output.FoldedFault.{FoldedFault, TheVariants.{Memory, TooLarge, Output}}}}
 
 abbrev pub folded_code : FoldedFault → ℕ
 folded_code Memory = number_of MemoryFault

@@ -1,15 +1,6 @@
 -- The folded stacks of a journal as a text.
 use Rattle.std.specs.Prelude.{ℕ, List, [], ◌∷◌, ◌++◌, flat_map, sum_by, decimal}
-use Rattle.span_event.specs.declared.thread.Thread.{Thread}
-use Rattle.span_journal.specs.declared.entry.Entry.{Entry}
-use Rattle.span_journal.specs.declared.rows.ProcessRow.{ProcessRow}
-use Rattle.span_journal.specs.declared.rows.ThreadRow.{ThreadRow}
-use Rattle.span_journal.specs.ByProcess.{ProcessRows, ThreadRows, rows_by_process}
-use Rattle.span_report.specs.declared.stacks.label.SpanColumn.{SpanColumn}
-use Rattle.span_report.specs.Stacks.Bounds.{frame_count, names_in}
-use Rattle.span_report.specs.Stacks.Frames.{frame, owner_frame}
-use Rattle.span_report.specs.Stacks.Labels.{labelled_spans}
-use Rattle.span_report.specs.Stacks.Ticks.{Folded, Stack, folded_stacks}
+use Rattle.span_report.specs.{Thread, Entry, ProcessRow, ThreadRow, ProcessRows, ThreadRows, rows_by_process, Stacks.{Bounds.{frame_count, names_in}, Frames.{frame, owner_frame}, Labels.labelled_spans, Ticks.{Folded, Stack, folded_stacks}}, declared.stacks.label.SpanColumn.SpanColumn}
 
 -- the first two frames of the lines of a thread, which are its process and itself
 abbrev pub thread_frames : ProcessRow → ThreadRow → List ℕ

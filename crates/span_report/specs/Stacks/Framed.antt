@@ -1,8 +1,6 @@
 -- The stacks of a thread, frame by frame: each frame is the last of a stack, whose others are those that the stack before it begins with.
-use Rattle.std.specs.Prelude.{◌≡◌, ℕ, suc, zero, ◌≤◌, List, [], ◌∷◌, ◌++◌, length, take, fold}
-use Rattle.std.specs.declared.cmp.Ordering.TheVariants.{Less}
-use Rattle.span_event.specs.Text.{Bytes}
-use Rattle.span_report.specs.Stacks.Ticks.{Folded, Stack, stack_order}
+use Rattle.std.specs.{Prelude.{◌≡◌, ℕ, suc, zero, ◌≤◌, List, [], ◌∷◌, ◌++◌, length, take, fold}, declared.cmp.Ordering.TheVariants.Less}
+use Rattle.span_report.specs.{Bytes, Stacks.Ticks.{Folded, Stack, stack_order}}
 
 -- the last frame of a stack, how many others are below it, and how many ticks have the stack
 pub record Framed : Type 0 where

@@ -1,7 +1,6 @@
 -- How a name is written as a frame of a line.
-use Rattle.std.specs.Prelude.{ℕ, nat_eq, nat_lt, if◌then◌else◌, ℤ, List, length, map, Option, Some, None, codes}
-use Rattle.std.specs.Fmt.{signed_decimal}
-use Rattle.span_event.specs.Text.{Bytes}
+use Rattle.std.specs.{Fmt.signed_decimal, Prelude.{ℕ, nat_eq, nat_lt, if◌then◌else◌, ℤ, List, length, map, Option, Some, None, codes}}
+use Rattle.span_report.specs.{Bytes}
 
 -- `:` in the place of `;`, which separates frames, and a blank in the place of each byte below 32
 abbrev pub frame_byte : ℕ → ℕ

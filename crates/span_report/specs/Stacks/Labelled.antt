@@ -1,8 +1,6 @@
 -- How labels are made and kept: word by word, and beside the spans.
 use Rattle.std.specs.Prelude.{List, [], ◌∷◌, ◌++◌, Option, Some, None}
-use Rattle.span_event.specs.Text.{Bytes}
-use Rattle.span_self_time.specs.Spans.{Span}
-use Rattle.span_report.specs.Stacks.Labels.{named_by}
+use Rattle.span_report.specs.{Bytes, Span, Stacks.Labels.named_by}
 
 -- a word, if there is one, with what separates it from the words before it
 abbrev pub then_word : Bytes → Option Bytes → Bytes

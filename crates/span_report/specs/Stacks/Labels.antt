@@ -1,19 +1,6 @@
 -- The labels by which stacks name spans: what a span has in some columns of its own, as words of a text.
-use Rattle.std.specs.Prelude.{true, false, List, [], ◌∷◌, map, Option, Some, codes}
-use Rattle.std.specs.Fmt.{signed_decimal}
-use Rattle.std.specs.List.{filter_map, join_with_byte}
-use Rattle.std.specs.Option.{option_map}
-use Rattle.span_event.specs.declared.args.ArgValue.{ArgValue}
-use Rattle.span_event.specs.declared.args.ArgValue.TheVariants.{Nil, Flag, Whole, Words, Other}
-use Rattle.span_event.specs.declared.thread.Thread.{Thread}
-use Rattle.span_event.specs.Args.{Arguments, value_of}
-use Rattle.span_event.specs.Text.{Bytes}
-use Rattle.span_self_time.specs.Spans.{Span}
-use Rattle.span_track.specs.Nesting.{closed_spans}
-use Rattle.span_journal.specs.declared.entry.Entry.{Entry}
-use Rattle.span_journal.specs.Told.{thread_events}
-use Rattle.span_report.specs.declared.stacks.label.SpanColumn.{SpanColumn}
-use Rattle.span_report.specs.declared.stacks.label.SpanColumn.TheVariants.{Name, Argument}
+use Rattle.std.specs.{Fmt.signed_decimal, List.{filter_map, join_with_byte}, Option.option_map, Prelude.{true, false, List, [], ◌∷◌, map, Option, Some, codes}}
+use Rattle.span_report.specs.{ArgValue, Nil, Flag, Whole, Words, Other, Thread, Arguments, value_of, Bytes, Span, closed_spans, Entry, thread_events, declared.stacks.label.SpanColumn.{SpanColumn, TheVariants.{Name, Argument}}}
 
 -- a value as a word
 abbrev pub word_of : ArgValue → Bytes

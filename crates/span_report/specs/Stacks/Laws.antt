@@ -1,15 +1,6 @@
 -- The laws of folded stacks.
 use Rattle.std.specs.Prelude.{◌≡◌, Bool, false, List, [], ◌∷◌, filter, sum_by}
-use Rattle.span_event.specs.declared.thread.Thread.{Thread}
-use Rattle.span_event.specs.Text.{Bytes, same_text}
-use Rattle.span_self_time.specs.Laws.{AreSpans}
-use Rattle.span_self_time.specs.Spans.{Span, busy_time, self_of}
-use Rattle.span_journal.specs.declared.entry.Entry.{Entry}
-use Rattle.span_journal.specs.Topics.{AreAlike}
-use Rattle.span_report.specs.declared.stacks.label.SpanColumn.{SpanColumn}
-use Rattle.span_report.specs.Stacks.Folded.{folded_of, names_of, thread_frame_count, thread_stacks}
-use Rattle.span_report.specs.Stacks.Labels.{labelled}
-use Rattle.span_report.specs.Stacks.Ticks.{Stack, folded_stacks}
+use Rattle.span_report.specs.{Thread, Bytes, same_text, AreSpans, Span, busy_time, self_of, Entry, AreAlike, Stacks.{Folded.{folded_of, names_of, thread_frame_count, thread_stacks}, Labels.labelled, Ticks.{Stack, folded_stacks}}, declared.stacks.label.SpanColumn.SpanColumn}
 
 -- the last frame of the stack is this label
 abbrev pub ends_in : Bytes → Stack → Bool

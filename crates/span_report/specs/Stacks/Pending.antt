@@ -1,19 +1,6 @@
 -- Pending frames: the stack of each stands through a stretch of time, and on it may stand some of the spans in ascending rank.
-use Rattle.std.specs.Prelude.{◌≡◌, ◌⊎◌, ℕ, ◌+◌, ◌<◌, ◌≤◌, ℤ, ◌≤ℤ◌, ◌<ℤ◌, All, false, if◌then◌else◌, List, [], ◌∷◌, ◌++◌, length, drop, take, sum_by, slice_index_or}
-use Rattle.std.specs.Int.{int_max}
-use Rattle.std.specs.List.{AllByRecursion}
-use Rattle.std.specs.Ordering.{nat_cmp, ordering_then}
-use Rattle.std.specs.declared.cmp.Ordering.{Ordering}
-use Rattle.std.specs.declared.cmp.Ordering.TheVariants.{Less, Greater}
-use Rattle.span_event.specs.Event.{least_time}
-use Rattle.span_event.specs.Text.{Bytes, text_cmp}
-use Rattle.span_event.specs.Time.{distance}
-use Rattle.span_self_time.specs.Closed.{greatest_until}
-use Rattle.span_self_time.specs.Spans.{Span, count_from, covers}
-use Rattle.span_report.specs.declared.stacks.ends.Link.{Link}
-use Rattle.span_report.specs.declared.stacks.pending.PendingFrame.{PendingFrame}
-use Rattle.span_report.specs.declared.stacks.pending.Stretch.{Stretch}
-use Rattle.span_report.specs.Stacks.Ticks.{Stack, names_at, same_stack, stack_order}
+use Rattle.std.specs.{Int.int_max, List.AllByRecursion, Ordering.{nat_cmp, ordering_then}, Prelude.{◌≡◌, ◌⊎◌, ℕ, ◌+◌, ◌<◌, ◌≤◌, ℤ, ◌≤ℤ◌, ◌<ℤ◌, All, false, if◌then◌else◌, List, [], ◌∷◌, ◌++◌, length, drop, take, sum_by, slice_index_or}, declared.cmp.Ordering.{Ordering, TheVariants.{Less, Greater}}}
+use Rattle.span_report.specs.{least_time, Bytes, text_cmp, distance, greatest_until, Span, count_from, covers, Stacks.Ticks.{Stack, names_at, same_stack, stack_order}, declared.stacks.{ends.Link.Link, pending.{PendingFrame.PendingFrame, Stretch.Stretch}}}
 
 -- from this time on none of the spans from the j-th to before the k-th covers a tick
 abbrev pub NoneCovers : List (Span Bytes) → ℕ → ℕ → ℤ → Type 0

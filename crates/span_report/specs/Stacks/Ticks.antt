@@ -1,13 +1,6 @@
 -- The stacks of a thread: which of its spans cover each tick, the lowest rank first.
-use Rattle.std.specs.Prelude.{ℕ, zero, suc, Bool, true, false, ℤ, pos, ◌+ℤ◌, if◌then◌else◌, List, [], ◌∷◌, map, filter, count_by}
-use Rattle.std.specs.Cmp.Lexicographic.{slice_cmp}
-use Rattle.std.specs.Ordering.{eq_by_cmp}
-use Rattle.std.specs.declared.cmp.Ordering.{Ordering}
-use Rattle.std.specs.declared.cmp.Ordering.TheVariants.{Less, Equal, Greater}
-use Rattle.span_event.specs.Text.{Bytes, text_cmp}
-use Rattle.span_event.specs.Time.{distance}
-use Rattle.span_self_time.specs.Spans.{Span, covers, earliest, latest, outranks}
-use Rattle.span_keyed_tracks.specs.Keyed.{ascending}
+use Rattle.std.specs.{Cmp.Lexicographic.slice_cmp, Ordering.eq_by_cmp, Prelude.{ℕ, zero, suc, Bool, true, false, ℤ, pos, ◌+ℤ◌, if◌then◌else◌, List, [], ◌∷◌, map, filter, count_by}, declared.cmp.Ordering.{Ordering, TheVariants.{Less, Equal, Greater}}}
+use Rattle.span_report.specs.{Bytes, text_cmp, distance, Span, covers, earliest, latest, outranks, ascending}
 
 -- the times from t on, one for each of n ticks
 abbrev pub ticks : ℤ → ℕ → List ℤ

@@ -1,7 +1,6 @@
 //! The frames of a thread one after another: of those that are pending the nearest is visited, and those that stand on it are next.
 ghost use Rattle.std.specs.Prelude.{◌≤◌, length, IfOk, OnOk};
-ghost use Rattle.span_ledger.specs.Named.{AreThreadSpans};
-ghost use Rattle.span_report.specs.Stacks.Descent.{IsNextSplit, IsPopped, IsReady, StartsWith, Visits};
+ghost use Rattle.span_report.specs.{AreThreadSpans, Stacks.Descent.{IsNextSplit, IsPopped, IsReady, StartsWith, Visits}};
 
 use super::ends::RankedSpans;
 use super::framed::StackFrame;

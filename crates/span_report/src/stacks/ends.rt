@@ -1,9 +1,6 @@
 //! Which spans of a thread stand in a stretch of time.
-ghost use Rattle.std.specs.Prelude.{◌≡◌, ◌<◌, ◌≤◌, All, None, int_le, length, IfOk, IfSome};
-ghost use Rattle.std.specs.Int.{int_max};
-ghost use Rattle.span_self_time.specs.Laws.{AreSpans};
-ghost use Rattle.span_report.specs.Stacks.Ticks.{ranked};
-ghost use Rattle.span_report.specs.Stacks.Pending.{AreLinks, IsBare, IsFirstBeyond, IsFirstPending, IsLinkTo, IsOnward, Rise};
+ghost use Rattle.std.specs.{Int.int_max, Prelude.{◌≡◌, ◌<◌, ◌≤◌, All, None, int_le, length, IfOk, IfSome}};
+ghost use Rattle.span_report.specs.{AreSpans, Stacks.{Pending.{AreLinks, IsBare, IsFirstBeyond, IsFirstPending, IsLinkTo, IsOnward, Rise}, Ticks.ranked}};
 
 use super::pending::{PendingFrame, Stretch};
 use super::ranks::sort_by_rank;
@@ -29,9 +26,7 @@ pub(crate) struct RankedSpans<'a> {
 
 impl<'a> Model for RankedSpans<'a> {
     ghost use Rattle.std.specs.Prelude.{List};
-    ghost use Rattle.span_event.specs.Text.{Bytes};
-    ghost use Rattle.span_self_time.specs.Spans.{Span};
-    ghost use Rattle.span_report.specs.Stacks.Pending.{AreLinks, Rise};
+    ghost use Rattle.span_report.specs.{Bytes, Span, Stacks.Pending.{AreLinks, Rise}};
 
     ghost Value = { List (Span Bytes) };
 

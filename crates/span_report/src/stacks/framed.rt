@@ -1,9 +1,6 @@
 //! The stacks of a thread, frame by frame.
 ghost use Rattle.std.specs.Prelude.{◌≡◌, ◌<◌, ◌≤◌, [], length, map, Err, IfOk, OnErr, OnOk};
-ghost use Rattle.span_ledger.specs.Named.{AreThreadSpans};
-ghost use Rattle.span_report.specs.Stacks.Bounds.{frame_count};
-ghost use Rattle.span_report.specs.Stacks.Ticks.{folded_stacks};
-ghost use Rattle.span_report.specs.Stacks.Framed.{AreAscending, folded_after, stack_after};
+ghost use Rattle.span_report.specs.{AreThreadSpans, Stacks.{Bounds.frame_count, Framed.{AreAscending, folded_after, stack_after}, Ticks.folded_stacks}};
 
 use super::descent::Descent;
 use super::fault::StacksFault;

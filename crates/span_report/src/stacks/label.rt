@@ -1,7 +1,6 @@
 //! The label by which a span stands in stacks: what it has in columns of its own, as words.
 ghost use Rattle.std.specs.Prelude.{◌≡◌, ◌↔◌, ◌++◌, is_some, map, string_bytes, IfOk, IsTrue, OnOk};
-ghost use Rattle.span_report.specs.Stacks.Labelled.{then_word};
-ghost use Rattle.span_report.specs.Stacks.Labels.{by_name, label_of, word_in, word_of};
+ghost use Rattle.span_report.specs.Stacks.{Labelled.then_word, Labels.{by_name, label_of, word_in, word_of}};
 
 use span_event::{ArgValue, Text};
 use span_ledger::NamedSpan;

@@ -1,8 +1,6 @@
 //! The closed spans of a thread, by their labels.
 ghost use Rattle.std.specs.Prelude.{◌≡◌, ◌≤◌, length, IfOk};
-ghost use Rattle.span_ledger.specs.Named.{AreThreadSpans};
-ghost use Rattle.span_report.specs.Stacks.Labelled.{relabelled};
-ghost use Rattle.span_report.specs.Stacks.Labels.{labelled_spans};
+ghost use Rattle.span_report.specs.{AreThreadSpans, Stacks.{Labelled.relabelled, Labels.labelled_spans}};
 
 use super::label::{SpanColumn, are_names, labels_of};
 use span_event::{Text, Thread};
@@ -22,11 +20,7 @@ pub struct LabelledSpans<'a> {
 
 impl<'a> Model for LabelledSpans<'a> {
     ghost use Rattle.std.specs.Prelude.{◌≤◌, length, List};
-    ghost use Rattle.span_event.specs.Text.{Bytes};
-    ghost use Rattle.span_self_time.specs.Spans.{Span};
-    ghost use Rattle.span_track.specs.Nesting.{closed_spans};
-    ghost use Rattle.span_journal.specs.Told.{thread_events};
-    ghost use Rattle.span_report.specs.Stacks.Labelled.{relabelled};
+    ghost use Rattle.span_report.specs.{Bytes, Span, closed_spans, thread_events, Stacks.Labelled.relabelled};
 
     ghost Value = { List (Span Bytes) };
 

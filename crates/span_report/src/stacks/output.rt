@@ -1,9 +1,6 @@
 //! Writes the folded stacks of a ledger to a sink.
 ghost use Rattle.std.specs.Prelude.{◌≡◌, ◌≤◌, IfErr, OnOk};
-ghost use Rattle.span_report.specs.Sink.{TakesBytes};
-ghost use Rattle.span_report.specs.Stacks.Bounds.{most_names};
-ghost use Rattle.span_report.specs.Stacks.Faults.{FoldedLeaves, folded_code};
-ghost use Rattle.span_report.specs.Stacks.Folded.{folded_of, names_of};
+ghost use Rattle.span_report.specs.{Sink.TakesBytes, Stacks.{Bounds.most_names, Faults.{FoldedLeaves, folded_code}, Folded.{folded_of, names_of}}};
 
 use super::fault::StacksFault;
 use super::label::SpanColumn;

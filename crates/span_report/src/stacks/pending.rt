@@ -1,8 +1,6 @@
 //! Frames that are still to be visited, each with the time through which its stack stands.
 ghost use Rattle.std.specs.Prelude.{◌≡◌, ◌^◌, ◌≤◌, ◌≤ℤ◌, length, IfOk};
-ghost use Rattle.span_event.specs.Event.{least_time};
-ghost use Rattle.span_self_time.specs.Closed.{greatest_until};
-ghost use Rattle.span_report.specs.Stacks.Pending.{IsSplit, nearness};
+ghost use Rattle.span_report.specs.{least_time, greatest_until, Stacks.Pending.{IsSplit, nearness}};
 
 use super::ends::RankedSpans;
 use span_event::{Text, distance};

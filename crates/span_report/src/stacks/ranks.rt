@@ -1,7 +1,6 @@
 //! Spans in ascending rank.
 ghost use Rattle.std.specs.Prelude.{◌≡◌};
-ghost use Rattle.span_self_time.specs.Laws.{AreSpans};
-ghost use Rattle.span_report.specs.Stacks.Ticks.{rank_order, ranked};
+ghost use Rattle.span_report.specs.{AreSpans, Stacks.Ticks.{rank_order, ranked}};
 
 use span_ledger::NamedSpan;
 use std::cmp::Ordering;

@@ -1,10 +1,6 @@
 //! The text of folded stacks.
 ghost use Rattle.std.specs.Prelude.{◌≡◌, ◌++◌, ◌+◌, ◌<◌, ◌≤◌, [], ◌∷◌, flat_map, map, decimal, Err, IfOk, OnOk};
-ghost use Rattle.span_ledger.specs.Named.{AreThreadSpans};
-ghost use Rattle.span_report.specs.Stacks.Bounds.{most_names, names_in};
-ghost use Rattle.span_report.specs.Stacks.Folded.{folded_of, names_of, process_lines, process_names, stack_frames, stack_line, stack_lines, thread_frames, thread_lines, thread_names};
-ghost use Rattle.span_report.specs.Stacks.Ticks.{folded_stacks};
-ghost use Rattle.span_report.specs.Stacks.Framed.{folded_if};
+ghost use Rattle.span_report.specs.{AreThreadSpans, Stacks.{Bounds.{most_names, names_in}, Folded.{folded_of, names_of, process_lines, process_names, stack_frames, stack_line, stack_lines, thread_frames, thread_lines, thread_names}, Framed.folded_if, Ticks.folded_stacks}};
 
 use super::descent::Descent;
 use super::fault::StacksFault;

@@ -1,12 +1,6 @@
 -- How the cursor between the stacks moves from one segment to the next.
-use Rattle.std.proofs.Common.{◌≡◌, ◌≢◌, ◌++◌, ℤ, pos, ◌-ℤ◌, ◌≤ℤ◌, List, [], ◌∷◌, reverse, Some, None, false, sym, ap, ◌∙◌, subst, arith}
-use Rattle.std.proofs.lemmas.Int.{ints, by_lt_z}
-use Rattle.std.proofs.lemmas.List.{reverse-reverse, append-nil, append_assoc, reverse-append}
-use Rattle.span_self_time.specs.declared.segment.OwnedSegment.{OwnedSegment}
-use Rattle.span_event.specs.Event.{least_time}
-use Rattle.span_self_time.specs.Closed.{greatest_until}
-use Rattle.span_self_time.specs.Division.{Owners, owner_of, Belong, AreFuture, AreOwnedSegments}
-use Rattle.span_self_time.specs.Division.SegmentStacks.{ArePast, IsChange, lasts_beyond, starts_before}
+use Rattle.std.proofs.{Common.{◌≡◌, ◌≢◌, ◌++◌, ℤ, pos, ◌-ℤ◌, ◌≤ℤ◌, List, [], ◌∷◌, reverse, Some, None, false, sym, ap, ◌∙◌, subst, arith}, lemmas.{Int.{ints, by_lt_z}, List.{reverse-reverse, append-nil, append_assoc, reverse-append}}}
+use Rattle.span_self_time.specs.{least_time, Closed.greatest_until, Division.{Owners, owner_of, Belong, AreFuture, AreOwnedSegments, SegmentStacks.{ArePast, IsChange, lasts_beyond, starts_before}}, declared.segment.OwnedSegment.OwnedSegment}
 
 reverse-onto : {A : Type 0} (x : A) (xs ys : List A) → reverse (x ∷ xs) ++ ys ≡ reverse xs ++ x ∷ ys
 reverse-onto x xs ys = ap (λ l. l ++ ys) (reverse-append (x ∷ []) xs) ∙ append_assoc (reverse xs) (x ∷ []) ys

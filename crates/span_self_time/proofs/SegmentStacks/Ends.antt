@@ -1,11 +1,6 @@
 -- How segments move between the past and the future of a cursor, and what lies at the two ends that meet there.
-use Rattle.std.proofs.Common.{◌≡◌, ◌≤◌, ◌<◌, ℕ, ◌+◌, ◌-◌, length, length-append, get_or, ℤ, ◌<ℤ◌, int_le, true, false, true≢false, List, [], ◌∷◌, ◌++◌, reverse, slice_get, Some, refl, sym, ap, ◌∙◌, arith}
-use Rattle.std.proofs.lemmas.Int.{ints}
-use Rattle.std.proofs.lemmas.List.{reverse-append, append_assoc, length-reverse, get_or-append_right, get_or-reverse}
-use Rattle.std.proofs.lemmas.Option.{slice_get-get_or}
-use Rattle.span_self_time.specs.declared.segment.OwnedSegment.{OwnedSegment}
-use Rattle.span_self_time.specs.Division.{Owners, AreFuture}
-use Rattle.span_self_time.specs.Division.SegmentStacks.{segments_of, ends_by, lasts_beyond, starts_before}
+use Rattle.std.proofs.{Common.{◌≡◌, ◌≤◌, ◌<◌, ℕ, ◌+◌, ◌-◌, length, length-append, get_or, ℤ, ◌<ℤ◌, int_le, true, false, true≢false, List, [], ◌∷◌, ◌++◌, reverse, slice_get, Some, refl, sym, ap, ◌∙◌, arith}, lemmas.{Int.ints, List.{reverse-append, append_assoc, length-reverse, get_or-append_right, get_or-reverse}, Option.slice_get-get_or}}
+use Rattle.span_self_time.specs.{Division.{Owners, AreFuture, SegmentStacks.{segments_of, ends_by, lasts_beyond, starts_before}}, declared.segment.OwnedSegment.OwnedSegment}
 
 pub reverse-push : {A : Type 0} (xs : List A) (x : A) → reverse (xs ++ x ∷ []) ≡ x ∷ reverse xs
 reverse-push xs x = reverse-append xs (x ∷ [])

@@ -1,16 +1,7 @@
 -- How a span's time that reaches to a new stretch is joined with it.
-use Rattle.std.proofs.Common.{◌≡◌, ◌≢◌, ℕ, ◌+◌, ◌-◌, nat_eq, Bool, true, false, cond, length, ℤ, pos, ◌-ℤ◌, ◌<ℤ◌, List, [], ◌∷◌, ◌++◌, reverse, slice_get, Some, refl, sym, ap, ap₂, ◌∙◌, subst, arith}
-use Rattle.std.proofs.lemmas.Int.{ints, by_lt_z}
-use Rattle.std.proofs.lemmas.List.Sums.{sum_by_push}
-use Rattle.span_self_time.specs.declared.segment.OwnedSegment.{OwnedSegment}
-use Rattle.span_event.specs.Time.{distance}
-use Rattle.span_self_time.specs.Spans.{Span}
-use Rattle.span_self_time.specs.Division.{Owners, owner_of, Belong, between}
-use Rattle.span_self_time.specs.Division.SegmentStacks.{ArePast, IsOnly, segment_length, named_length, whole_length, IsTakenBack, IsGained}
-use Rattle.span_self_time.proofs.SegmentStacks.Cursor.{Some≢None}
-use Rattle.span_self_time.proofs.Counts.{distance-add, natural-none}
-use Rattle.span_self_time.proofs.SegmentStacks.Ends.{reverse-push, slice_get-reverse}
-use Rattle.span_self_time.proofs.SegmentStacks.Taking.{ArePast-push}
+use Rattle.std.proofs.{Common.{◌≡◌, ◌≢◌, ℕ, ◌+◌, ◌-◌, nat_eq, Bool, true, false, cond, length, ℤ, pos, ◌-ℤ◌, ◌<ℤ◌, List, [], ◌∷◌, ◌++◌, reverse, slice_get, Some, refl, sym, ap, ap₂, ◌∙◌, subst, arith}, lemmas.{Int.{ints, by_lt_z}, List.Sums.sum_by_push}}
+use Rattle.span_self_time.specs.{distance, Division.{Owners, owner_of, Belong, between, SegmentStacks.{ArePast, IsOnly, segment_length, named_length, whole_length, IsTakenBack, IsGained}}, Spans.Span, declared.segment.OwnedSegment.OwnedSegment}
+use Rattle.span_self_time.proofs.{Counts.{distance-add, natural-none}, SegmentStacks.{Cursor.Some≢None, Ends.{reverse-push, slice_get-reverse}, Taking.ArePast-push}}
 
 -- the last segment is the span's, so it is taken back
 pub IsTakenBack-last : (s : Span ℕ) (from : ℤ) (rest : List OwnedSegment) (p : OwnedSegment) (owners : Owners) → IsOnly s owners → ArePast owners from (reverse (rest ++ p ∷ [])) → p.segment.at ≡ s.at → p.segment.until ≡ from → IsTakenBack s p.segment.start from (rest ++ p ∷ []) rest owners

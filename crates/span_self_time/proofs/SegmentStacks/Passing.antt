@@ -1,15 +1,8 @@
 -- How the cursor gets from segment to segment while a new span takes what is its own.
-use Rattle.std.proofs.Common.{◌≡◌, ◌≤◌, ◌<◌, ℕ, ◌+◌, ℤ, ◌<ℤ◌, Bool, true, false, cond, int_lt, List, [], ◌∷◌, ◌++◌, length, subst, arith}
-use Rattle.std.specs.Global.{Vec}
-use Rattle.std.specs.Vec.{vec_len, vec_capacity}
-use Rattle.std.proofs.lemmas.Int.{ints}
-use Rattle.span_self_time.specs.declared.segment.OwnedSegment.{OwnedSegment}
-use Rattle.span_self_time.specs.declared.division.segment_stacks.SegmentStacks.{SegmentStacks}
-use Rattle.span_self_time.specs.Spans.{Span}
-use Rattle.span_self_time.specs.Division.{Owners, between}
-use Rattle.span_self_time.specs.Division.SegmentStacks.{piece, IsTakenTo, IsEntering, IsTaking, IsAhead, IsPassing}
-use Rattle.span_self_time.proofs.SegmentStacks.Taking.{IsNextSegment-start, IsGapBefore-taken}
-use Rattle.span_self_time.proofs.SegmentStacks.SegmentSums.{AreSums-pop}
+use Rattle.std.specs.{Global.Vec, Vec.{vec_len, vec_capacity}}
+use Rattle.std.proofs.{Common.{◌≡◌, ◌≤◌, ◌<◌, ℕ, ◌+◌, ℤ, ◌<ℤ◌, Bool, true, false, cond, int_lt, List, [], ◌∷◌, ◌++◌, length, subst, arith}, lemmas.Int.ints}
+use Rattle.span_self_time.specs.{Division.{Owners, between, SegmentStacks.{piece, IsTakenTo, IsEntering, IsTaking, IsAhead, IsPassing}}, Spans.Span, declared.{division.segment_stacks.SegmentStacks.SegmentStacks, segment.OwnedSegment.OwnedSegment}}
+use Rattle.span_self_time.proofs.SegmentStacks.{SegmentSums.AreSums-pop, Taking.{IsNextSegment-start, IsGapBefore-taken}}
 
 pub length-piece : (p : OwnedSegment) (a b : ℤ) → length (piece p a b) ≤ 1
 length-piece p a b = by_test (int_lt a b)

@@ -1,20 +1,8 @@
 -- That the segments of a name are together as long as its self time, and all segments as long as the busy time.
-use Rattle.std.proofs.Common.{◌≡◌, ◌≤◌, ℕ, ◌+◌, Bool, false, cond, nat_eq, ℤ, ◌≤ℤ◌, List, [], ◌∷◌, Option, Some, None, refl, sym, ap, ◌∙◌, arith, All}
-use Rattle.std.specs.List.{sum_by}
-use Rattle.std.specs.Option.{is_some}
-use Rattle.std.proofs.lemmas.Int.{ints}
-use Rattle.std.proofs.lemmas.List.Sums.{sum_by-cons}
-use Rattle.span_self_time.specs.declared.segment.OwnedSegment.{OwnedSegment}
-use Rattle.span_event.specs.Time.{distance}
-use Rattle.span_self_time.specs.Spans.{Span, count_from, self_time, self_of, busy_time}
-use Rattle.span_event.specs.Event.{least_time}
-use Rattle.span_self_time.specs.Closed.{greatest_until, AreClosed}
-use Rattle.span_self_time.specs.Division.{Owners, bare, owners_of, owner_of, AreFuture, AreOwnedSegments}
-use Rattle.span_self_time.specs.Division.SegmentStacks.{ArePast, segment_length, named_length, whole_length}
-use Rattle.span_self_time.proofs.Counts.{add-distance, count_from-none, count_from-unbroken}
-use Rattle.span_self_time.proofs.OwnTimes.{sum_by-self_times}
-use Rattle.span_self_time.proofs.SelfSums.{cond-le, self_sum, self_sum-self_of}
-use Rattle.span_self_time.proofs.SelfTimes.{sum_by-self_time}
+use Rattle.std.specs.{List.sum_by, Option.is_some}
+use Rattle.std.proofs.{Common.{◌≡◌, ◌≤◌, ℕ, ◌+◌, Bool, false, cond, nat_eq, ℤ, ◌≤ℤ◌, List, [], ◌∷◌, Option, Some, None, refl, sym, ap, ◌∙◌, arith, All}, lemmas.{Int.ints, List.Sums.sum_by-cons}}
+use Rattle.span_self_time.specs.{distance, least_time, Closed.{greatest_until, AreClosed}, Division.{Owners, bare, owners_of, owner_of, AreFuture, AreOwnedSegments, SegmentStacks.{ArePast, segment_length, named_length, whole_length}}, Spans.{Span, count_from, self_time, self_of, busy_time}, declared.segment.OwnedSegment.OwnedSegment}
+use Rattle.span_self_time.proofs.{Counts.{add-distance, count_from-none, count_from-unbroken}, OwnTimes.sum_by-self_times, SelfSums.{cond-le, self_sum, self_sum-self_of}, SelfTimes.sum_by-self_time}
 
 pub named_length-le : (name : ℕ) (segments : List OwnedSegment) → named_length name segments ≤ whole_length segments
 named_length-le name [] = omega arith

@@ -1,20 +1,8 @@
 -- How long segments are together as the cursor moves and segments are cut.
-use Rattle.std.proofs.Common.{◌≡◌, ◌≤◌, ◌<◌, ℕ, ◌+◌, ◌^◌, ◌==◌, Bool, true, false, cond, nat_eq, ℤ, ◌≤ℤ◌, ◌<ℤ◌, int_lt, List, [], ◌∷◌, ◌++◌, reverse, refl, sym, ap, ◌∙◌, arith, eq-eqb}
 use Rattle.std.specs.List.{sum_by}
-use Rattle.std.proofs.lemmas.Int.{ints}
-use Rattle.std.proofs.lemmas.List.{reverse-append}
-use Rattle.std.proofs.lemmas.List.Sums.{sum_by-cons, sum_by_push, sum_by-append}
-use Rattle.span_self_time.specs.declared.segment.OwnedSegment.{OwnedSegment}
-use Rattle.span_event.specs.Time.{distance}
-use Rattle.span_self_time.specs.Spans.{Span}
-use Rattle.span_event.specs.Event.{least_time}
-use Rattle.span_self_time.specs.Closed.{greatest_until}
-use Rattle.span_self_time.specs.Division.{Owners, taken, SelfTimes, own_in, between}
-use Rattle.span_self_time.specs.Division.SegmentStacks.{segment_length, named_length, whole_length, AreSums, segments_of, piece, IsTakenTo, IsNextSegment, IsGained}
-use Rattle.span_self_time.proofs.Counts.{add-distance, distance-add}
-use Rattle.span_self_time.proofs.SegmentStacks.Cursor.{StartsFrom, AreFuture-later}
-use Rattle.span_self_time.proofs.SegmentStacks.Ends.{reverse-push}
-use Rattle.span_self_time.proofs.SegmentStacks.SegmentLengths.{named_length-le, whole_length-le, whole_length-le_past}
+use Rattle.std.proofs.{Common.{◌≡◌, ◌≤◌, ◌<◌, ℕ, ◌+◌, ◌^◌, ◌==◌, Bool, true, false, cond, nat_eq, ℤ, ◌≤ℤ◌, ◌<ℤ◌, int_lt, List, [], ◌∷◌, ◌++◌, reverse, refl, sym, ap, ◌∙◌, arith, eq-eqb}, lemmas.{Int.ints, List.{reverse-append, Sums.{sum_by-cons, sum_by_push, sum_by-append}}}}
+use Rattle.span_self_time.specs.{distance, least_time, Closed.greatest_until, Division.{Owners, taken, SelfTimes, own_in, between, SegmentStacks.{segment_length, named_length, whole_length, AreSums, segments_of, piece, IsTakenTo, IsNextSegment, IsGained}}, Spans.Span, declared.segment.OwnedSegment.OwnedSegment}
+use Rattle.span_self_time.proofs.{Counts.{add-distance, distance-add}, SegmentStacks.{Cursor.{StartsFrom, AreFuture-later}, Ends.reverse-push, SegmentLengths.{named_length-le, whole_length-le, whole_length-le_past}}}
 
 sum_by-reverse : {A : Type 0} (f : A → ℕ) (xs : List A) → sum_by f (reverse xs) ≡ sum_by f xs
 sum_by-reverse f [] = refl

@@ -1,17 +1,8 @@
 -- What a new span leaves of the time when it has taken its own.
-use Rattle.std.proofs.Common.{◌≡◌, ◌≢◌, ℕ, ◌++◌, ℤ, pos, ◌-ℤ◌, ◌≤ℤ◌, ◌<ℤ◌, int_le, int_lt, Bool, true, false, ◌&&◌, cond, List, [], ◌∷◌, length, reverse, Some, None, refl, sym, ap, ◌∙◌, subst, arith}
 use Rattle.std.specs.Int.{int_min}
-use Rattle.std.proofs.lemmas.Int.{ints, clamps, by_lt_z}
-use Rattle.std.proofs.lemmas.List.{append-nil}
-use Rattle.span_self_time.specs.declared.segment.OwnedSegment.{OwnedSegment}
-use Rattle.span_self_time.specs.Spans.{Span, covers, outranks}
-use Rattle.span_event.specs.Event.{least_time}
-use Rattle.span_self_time.specs.Division.{Owners, owner_of, claims, taken, Belong, AreFuture, IsNew, AreOwnedSegments, between}
-use Rattle.span_self_time.specs.Division.SegmentStacks.{ArePast, IsOnly, segments_of, piece, starts_before, ends_by, IsTakenTo, IsNextSegment, IsAtStart}
-use Rattle.span_self_time.proofs.Owners.{taken-before, taken-after, taken-within, taken-kept}
-use Rattle.span_self_time.proofs.Counts.{int_lt-above}
-use Rattle.span_self_time.proofs.SegmentStacks.Cursor.{StartsFrom, EndsBy-lasts_beyond, AreFuture-none, AreFuture-later, HasCursor-segments, IsCursor-within, IsCursor-before, AreOwnedSegments-cursor}
-use Rattle.span_self_time.proofs.SegmentStacks.Ends.{reverse-push}
+use Rattle.std.proofs.{Common.{◌≡◌, ◌≢◌, ℕ, ◌++◌, ℤ, pos, ◌-ℤ◌, ◌≤ℤ◌, ◌<ℤ◌, int_le, int_lt, Bool, true, false, ◌&&◌, cond, List, [], ◌∷◌, length, reverse, Some, None, refl, sym, ap, ◌∙◌, subst, arith}, lemmas.{Int.{ints, clamps, by_lt_z}, List.append-nil}}
+use Rattle.span_self_time.specs.{least_time, Division.{Owners, owner_of, claims, taken, Belong, AreFuture, IsNew, AreOwnedSegments, between, SegmentStacks.{ArePast, IsOnly, segments_of, piece, starts_before, ends_by, IsTakenTo, IsNextSegment, IsAtStart}}, Spans.{Span, covers, outranks}, declared.segment.OwnedSegment.OwnedSegment}
+use Rattle.span_self_time.proofs.{Counts.int_lt-above, Owners.{taken-before, taken-after, taken-within, taken-kept}, SegmentStacks.{Cursor.{StartsFrom, EndsBy-lasts_beyond, AreFuture-none, AreFuture-later, HasCursor-segments, IsCursor-within, IsCursor-before, AreOwnedSegments-cursor}, Ends.reverse-push}}
 
 -- whom the new span's position names is the span itself
 pub IsOnly-taken : (s : Span ℕ) (owners : Owners) → IsNew s owners → IsOnly s (taken s owners)

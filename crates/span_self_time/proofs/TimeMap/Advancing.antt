@@ -1,20 +1,8 @@
 -- How a new span goes from stretch to stretch.
-use Rattle.std.proofs.Common.{◌≡◌, ◌≢◌, ◌⊎◌, inl, inr, ℕ, true, false, cond, ℤ, pos, ◌-ℤ◌, ◌≤ℤ◌, ◌<ℤ◌, IsSome, Option, Some, None, refl, sym, ap, ◌∙◌, subst, true≢false, arith}
 use Rattle.std.specs.Option.{option_map}
-use Rattle.std.proofs.lemmas.Int.{ints, by_lt_z}
-use Rattle.std.proofs.lemmas.Bool.{or_cases, false_from_ne_true}
-use Rattle.std.proofs.lemmas.Option.{same_Some}
-use Rattle.span_self_time.specs.declared.segment.OwnedSegment.{OwnedSegment}
-use Rattle.span_self_time.specs.declared.division.time_map.TimeMap.{TimeMap}
-use Rattle.span_self_time.specs.Spans.{Span, covers, outranks}
-use Rattle.span_self_time.specs.Division.{Owners, owner_of, claims, taken, Belong}
-use Rattle.span_self_time.specs.Division.TimeMap.Stretches.{Starts, at, IsNext, IsHeld, IsOfSegment, IsDivided, IsEnd, IsPut}
-use Rattle.span_self_time.specs.Division.TimeMap.{IsEntrant, IsTaking, taken_to, AreTimes}
-use Rattle.span_self_time.proofs.Counts.{covers-between, int_lt-above, int_lt-below}
-use Rattle.span_self_time.proofs.Ranks.{outranks-trans, outranks-either}
-use Rattle.span_self_time.proofs.Owners.{taken-before, taken-after, taken-within, taken-unclaimed}
-use Rattle.span_self_time.proofs.TimeMap.StretchOwners.{by_eq_z, IsSome-Some, IsSome-None, Belong-next, apart, owner-stays}
-use Rattle.span_self_time.proofs.TimeMap.Times.{IsReplaced}
+use Rattle.std.proofs.{Common.{◌≡◌, ◌≢◌, ◌⊎◌, inl, inr, ℕ, true, false, cond, ℤ, pos, ◌-ℤ◌, ◌≤ℤ◌, ◌<ℤ◌, IsSome, Option, Some, None, refl, sym, ap, ◌∙◌, subst, true≢false, arith}, lemmas.{Bool.{or_cases, false_from_ne_true}, Int.{ints, by_lt_z}, Option.same_Some}}
+use Rattle.span_self_time.specs.{Division.{Owners, owner_of, claims, taken, Belong, TimeMap.{IsEntrant, IsTaking, taken_to, AreTimes, Stretches.{Starts, at, IsNext, IsHeld, IsOfSegment, IsDivided, IsEnd, IsPut}}}, Spans.{Span, covers, outranks}, declared.{division.time_map.TimeMap.TimeMap, segment.OwnedSegment.OwnedSegment}}
+use Rattle.span_self_time.proofs.{Counts.{covers-between, int_lt-above, int_lt-below}, Owners.{taken-before, taken-after, taken-within, taken-unclaimed}, Ranks.{outranks-trans, outranks-either}, TimeMap.{StretchOwners.{by_eq_z, IsSome-Some, IsSome-None, Belong-next, apart, owner-stays}, Times.IsReplaced}}
 
 pub taken_to-before : (s : Span ℕ) (t : ℤ) (owners : Owners) (u : ℤ) → u <ℤ t → taken_to s t owners u ≡ taken s owners u
 taken_to-before s t owners u h = ap (λ b. cond b (taken s owners u) (owners u)) (int_lt-below u t h)

@@ -1,12 +1,6 @@
 -- What spans that start together keep from others.
-use Rattle.std.proofs.Common.{◌≡◌, ◌⊎◌, inl, inr, ℕ, Bool, true, false, ◌&&◌, cond, ℤ, ◌≤ℤ◌, ◌<ℤ◌, List, [], ◌∷◌, ◌++◌, Option, Some, None, refl, sym, ap, ◌∙◌, true≢false, arith, All}
-use Rattle.std.proofs.lemmas.Int.{ints}
-use Rattle.std.proofs.lemmas.Bool.{false_from_ne_true}
-use Rattle.std.proofs.lemmas.List.Elements.{All-head, All-tail}
-use Rattle.span_self_time.specs.declared.division.time_map.ties.Ties.{Ties}
-use Rattle.span_self_time.specs.Spans.{Span, covers, outranks}
-use Rattle.span_self_time.specs.Division.{Owners, claims, taken}
-use Rattle.span_self_time.specs.Division.TimeMap.Ties.{IsBarred, AreBarred}
+use Rattle.std.proofs.{Common.{◌≡◌, ◌⊎◌, inl, inr, ℕ, Bool, true, false, ◌&&◌, cond, ℤ, ◌≤ℤ◌, ◌<ℤ◌, List, [], ◌∷◌, ◌++◌, Option, Some, None, refl, sym, ap, ◌∙◌, true≢false, arith, All}, lemmas.{Bool.false_from_ne_true, Int.ints, List.Elements.{All-head, All-tail}}}
+use Rattle.span_self_time.specs.{Division.{Owners, claims, taken, TimeMap.Ties.{IsBarred, AreBarred}}, Spans.{Span, covers, outranks}, declared.division.time_map.ties.Ties.Ties}
 use Rattle.span_self_time.proofs.Ranks.{outranks-itself, outranks-trans, IsAbove, Decides-outranks}
 
 -- an owner whom no span ranks below is out of reach of those below the span

@@ -1,21 +1,9 @@
 -- What a span has when it has taken a stretch.
-use Rattle.std.proofs.Common.{◌<◌, ◌^◌, Bool, true, ◌≡◌, ◌≢◌, ◌⊎◌, inl, inr, ◌≤◌, ℕ, ◌+◌, cond, nat_eq, ℤ, ◌≤ℤ◌, ◌<ℤ◌, IsSome, IfSome, Option, Some, None, refl, sym, ap, ◌∙◌, subst, eq-eqb, arith}
 use Rattle.std.specs.Option.{option_map, is_some}
-use Rattle.std.proofs.lemmas.Int.{ints, by_lt_z}
+use Rattle.std.proofs.{Common.{◌<◌, ◌^◌, Bool, true, ◌≡◌, ◌≢◌, ◌⊎◌, inl, inr, ◌≤◌, ℕ, ◌+◌, cond, nat_eq, ℤ, ◌≤ℤ◌, ◌<ℤ◌, IsSome, IfSome, Option, Some, None, refl, sym, ap, ◌∙◌, subst, eq-eqb, arith}, lemmas.Int.{ints, by_lt_z}}
 use Rattle.indexmap.specs.IndexMap.{get}
-use Rattle.span_self_time.specs.declared.segment.OwnedSegment.{OwnedSegment}
-use Rattle.span_self_time.specs.declared.division.time_map.TimeMap.{TimeMap}
-use Rattle.span_self_time.specs.declared.division.time_map.stretches.Stretches.{Stretches}
-use Rattle.span_event.specs.Time.{distance}
-use Rattle.span_self_time.specs.Spans.{Span}
-use Rattle.span_self_time.specs.Division.{Owners, SelfTimes, own_in, owner_of, taken}
-use Rattle.span_self_time.specs.Division.TimeMap.Stretches.{at, IsDivided, IsEnd, IsPut}
-use Rattle.span_self_time.specs.Division.TimeMap.{has_name, time_of, AreTimes, IsTimeMap, IsEntrant, IsTaking, taken_to}
-use Rattle.span_self_time.proofs.TimeMap.StretchOwners.{by_eq_z, IsSome-None}
-use Rattle.span_self_time.proofs.TimeMap.Times.{IsReplaced, time_of-replaced, time_of-le, distance-time_of}
-use Rattle.span_self_time.proofs.TimeMap.Advancing.{IsClaimed, IsReplaced-taken, IsDivided-given, IsEnd-given, keeps-given, taken_to-after, taken_to-on, taken_to-start, taken_to-until}
-use Rattle.span_self_time.proofs.Owners.{taken-after}
-use Rattle.span_self_time.proofs.TimeMap.Barring.{AreBarred-taken}
+use Rattle.span_self_time.specs.{distance, Division.{Owners, SelfTimes, own_in, owner_of, taken, TimeMap.{has_name, time_of, AreTimes, IsTimeMap, IsEntrant, IsTaking, taken_to, Stretches.{at, IsDivided, IsEnd, IsPut}}}, Spans.Span, declared.{division.time_map.{TimeMap.TimeMap, stretches.Stretches.Stretches}, segment.OwnedSegment.OwnedSegment}}
+use Rattle.span_self_time.proofs.{Owners.taken-after, TimeMap.{Advancing.{IsClaimed, IsReplaced-taken, IsDivided-given, IsEnd-given, keeps-given, taken_to-after, taken_to-on, taken_to-start, taken_to-until}, Barring.AreBarred-taken, StretchOwners.{by_eq_z, IsSome-None}, Times.{IsReplaced, time_of-replaced, time_of-le, distance-time_of}}}
 
 -- who held the stretch has at least its time
 pub held-length : (v : Option OwnedSegment) (own : SelfTimes) (busy : ℕ) (owners new : Owners) (t n : ℤ) (r : Option (Span ℕ)) (d : ℕ) → AreTimes own busy owners → IsReplaced owners new t n (option_map owner_of v) r → d ≡ distance t n → IfSome v (λ owned. d ≤ own_in own owned.segment.name)

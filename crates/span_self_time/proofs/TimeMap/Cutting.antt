@@ -1,13 +1,6 @@
 -- How a stretch is cut in two.
-use Rattle.std.proofs.Common.{◌≡◌, ◌≢◌, ◌⊎◌, inl, inr, ℕ, ℤ, ◌≤ℤ◌, ◌<ℤ◌, IsSome, Some, None, refl, sym, ap, ◌∙◌, subst, arith}
-use Rattle.std.proofs.lemmas.Int.{ints, by_lt_z}
-use Rattle.std.proofs.lemmas.Option.{same_Some}
-use Rattle.span_self_time.specs.declared.segment.OwnedSegment.{OwnedSegment}
-use Rattle.span_self_time.specs.Spans.{Span}
-use Rattle.span_event.specs.Event.{least_time}
-use Rattle.span_self_time.specs.Closed.{greatest_until}
-use Rattle.span_self_time.specs.Division.{Owners, owner_of, between}
-use Rattle.span_self_time.specs.Division.TimeMap.Stretches.{Starts, IsLast, IsHeld, IsOfSegment, IsDivided, IsEnd, IsPut}
+use Rattle.std.proofs.{Common.{◌≡◌, ◌≢◌, ◌⊎◌, inl, inr, ℕ, ℤ, ◌≤ℤ◌, ◌<ℤ◌, IsSome, Some, None, refl, sym, ap, ◌∙◌, subst, arith}, lemmas.{Int.{ints, by_lt_z}, Option.same_Some}}
+use Rattle.span_self_time.specs.{least_time, Closed.greatest_until, Division.{Owners, owner_of, between, TimeMap.Stretches.{Starts, IsLast, IsHeld, IsOfSegment, IsDivided, IsEnd, IsPut}}, Spans.Span, declared.segment.OwnedSegment.OwnedSegment}
 use Rattle.span_self_time.proofs.TimeMap.StretchOwners.{by_eq_z, IsSome-Some, IsSome-None, until-last, last-is, IsHeld-same}
 
 -- n has one more start, at t

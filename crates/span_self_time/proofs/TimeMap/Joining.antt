@@ -1,11 +1,6 @@
 -- How two segments of one span that touch become one.
-use Rattle.std.proofs.Common.{◌≡◌, ◌≢◌, ℕ, ℤ, pos, ◌-ℤ◌, ◌≤ℤ◌, ◌<ℤ◌, IsSome, Option, Some, None, sym, ap, ◌∙◌, subst, arith}
-use Rattle.std.proofs.lemmas.Int.{ints, by_lt_z}
-use Rattle.std.proofs.lemmas.Option.{same_Some}
-use Rattle.span_self_time.specs.declared.segment.OwnedSegment.{OwnedSegment}
-use Rattle.span_self_time.specs.Spans.{Span}
-use Rattle.span_self_time.specs.Division.{Owners, owner_of, between}
-use Rattle.span_self_time.specs.Division.TimeMap.Stretches.{Starts, IsLast, IsHeld, IsOfSegment, IsDivided, IsEnd, IsPut}
+use Rattle.std.proofs.{Common.{◌≡◌, ◌≢◌, ℕ, ℤ, pos, ◌-ℤ◌, ◌≤ℤ◌, ◌<ℤ◌, IsSome, Option, Some, None, sym, ap, ◌∙◌, subst, arith}, lemmas.{Int.{ints, by_lt_z}, Option.same_Some}}
+use Rattle.span_self_time.specs.{Division.{Owners, owner_of, between, TimeMap.Stretches.{Starts, IsLast, IsHeld, IsOfSegment, IsDivided, IsEnd, IsPut}}, Spans.Span, declared.segment.OwnedSegment.OwnedSegment}
 use Rattle.span_self_time.proofs.TimeMap.StretchOwners.{by_eq_z, IsSome-Some, IsSome-None, until-last, last-is, apart, IsHeld-same}
 
 -- where no segment starts at t, the owner of a segment that ends there doesn't go on

@@ -1,23 +1,8 @@
 -- The segments of a division in order.
-use Rattle.std.proofs.Common.{◌≡◌, true, ℤ, pos, ◌+ℤ◌, ◌≤ℤ◌, ◌<ℤ◌, IsSome, List, [], ◌∷◌, length, ◌≤◌, Option, Some, None, refl, sym, ap, ◌∙◌, arith}
-use Rattle.std.specs.Ordering.{int_cmp, is_eq}
-use Rattle.std.specs.Option.{is_some}
-use Rattle.std.specs.declared.cmp.Ordering.TheVariants.{Less}
-use Rattle.std.specs.Map.{lookup, keys_of, values_of}
-use Rattle.std.specs.BTreeMap.{is_at, IsOrdered}
-use Rattle.std.specs.List.Sorted.{IsStrictlySortedBy}
-use Rattle.std.specs.List.{AllByRecursion}
-use Rattle.std.proofs.lemmas.Int.{ints, by_lt_z}
-use Rattle.std.proofs.lemmas.Option.{same_Some}
-use Rattle.std.proofs.lemmas.Map.Entries.{lookup_head, lookup_tail}
-use Rattle.span_self_time.specs.declared.segment.OwnedSegment.{OwnedSegment}
-use Rattle.span_self_time.specs.declared.division.time_map.stretches.Stretches.{Stretches}
-use Rattle.span_event.specs.Event.{least_time}
-use Rattle.span_self_time.specs.Closed.{greatest_until}
-use Rattle.span_self_time.specs.Division.{Owners, owner_of, AreFuture, AreOwnedSegments}
-use Rattle.span_self_time.specs.Division.TimeMap.Stretches.{Starts, at, IsDivided, AreWhole, present, segments_in}
-use Rattle.span_self_time.proofs.TimeMap.StretchOwners.{by_eq_z, IsSome-Some, IsSome-None, owner-none, apart}
-use Rattle.span_self_time.proofs.TimeMap.Searching.{differs}
+use Rattle.std.specs.{BTreeMap.{is_at, IsOrdered}, List.{AllByRecursion, Sorted.IsStrictlySortedBy}, Map.{lookup, keys_of, values_of}, Option.is_some, Ordering.{int_cmp, is_eq}, declared.cmp.Ordering.TheVariants.Less}
+use Rattle.std.proofs.{Common.{◌≡◌, true, ℤ, pos, ◌+ℤ◌, ◌≤ℤ◌, ◌<ℤ◌, IsSome, List, [], ◌∷◌, length, ◌≤◌, Option, Some, None, refl, sym, ap, ◌∙◌, arith}, lemmas.{Int.{ints, by_lt_z}, Map.Entries.{lookup_head, lookup_tail}, Option.same_Some}}
+use Rattle.span_self_time.specs.{least_time, Closed.greatest_until, Division.{Owners, owner_of, AreFuture, AreOwnedSegments, TimeMap.Stretches.{Starts, at, IsDivided, AreWhole, present, segments_in}}, declared.{division.time_map.stretches.Stretches.Stretches, segment.OwnedSegment.OwnedSegment}}
+use Rattle.span_self_time.proofs.TimeMap.{Searching.differs, StretchOwners.{by_eq_z, IsSome-Some, IsSome-None, owner-none, apart}}
 
 abbrev Entries : Type 0
 Entries = List (ℤ × Option OwnedSegment)

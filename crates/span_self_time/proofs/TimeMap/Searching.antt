@@ -1,16 +1,7 @@
 -- What a search of an ordered map finds.
-use Rattle.std.proofs.Common.{◌≡◌, ◌≢◌, ℤ, ◌≤ℤ◌, ◌<ℤ◌, false, List, ◌∷◌, IsSome, Option, Some, None, Result, refl, ap, subst, arith}
-use Rattle.std.specs.Ordering.{int_cmp, is_gt, is_lt, is_eq}
-use Rattle.std.specs.declared.cmp.Ordering.TheVariants.{Less}
-use Rattle.std.specs.declared.ops.Bound.TheVariants.{Excluded, Unbounded}
-use Rattle.std.specs.Option.{is_some}
-use Rattle.std.specs.Result.{OnErr}
-use Rattle.std.specs.declared.result.Result.TheVariants.{Ok, Err}
-use Rattle.std.specs.BTreeMap.{BTreeMap, get}
-use Rattle.std.specs.BTreeMap.Range.{IsRangeOf}
-use Rattle.std.proofs.lemmas.Int.{ints}
-use Rattle.span_self_time.specs.declared.segment.OwnedSegment.{OwnedSegment}
-use Rattle.span_self_time.specs.Division.TimeMap.Stretches.{Starts, IsLast, IsNext}
+use Rattle.std.specs.{BTreeMap.{BTreeMap, get, Range.IsRangeOf}, Option.is_some, Ordering.{int_cmp, is_gt, is_lt, is_eq}, Result.OnErr, declared.{cmp.Ordering.TheVariants.Less, ops.Bound.TheVariants.{Excluded, Unbounded}, result.Result.TheVariants.{Ok, Err}}}
+use Rattle.std.proofs.{Common.{◌≡◌, ◌≢◌, ℤ, ◌≤ℤ◌, ◌<ℤ◌, false, List, ◌∷◌, IsSome, Option, Some, None, Result, refl, ap, subst, arith}, lemmas.Int.ints}
+use Rattle.span_self_time.specs.{Division.TimeMap.Stretches.{Starts, IsLast, IsNext}, declared.segment.OwnedSegment.OwnedSegment}
 
 pub le-from_cmp : (a b : ℤ) → is_gt (int_cmp a b) ≡ false → a ≤ℤ b
 le-from_cmp a b h = grind (arith, ints)

@@ -1,12 +1,7 @@
 -- What the stretches of a division say of its owners.
-use Rattle.std.proofs.Common.{◌≡◌, ◌≢◌, ℕ, ℤ, pos, ◌-ℤ◌, ◌≤ℤ◌, ◌<ℤ◌, IsSome, Option, Some, None, true≢false, refl, sym, ap, ◌∙◌, subst, arith}
 use Rattle.std.specs.Option.{option_map, is_some}
-use Rattle.std.proofs.lemmas.Int.{ints, by_lt_z}
-use Rattle.std.proofs.lemmas.Option.{same_Some}
-use Rattle.span_self_time.specs.declared.segment.OwnedSegment.{OwnedSegment}
-use Rattle.span_self_time.specs.Spans.{Span}
-use Rattle.span_self_time.specs.Division.{Owners, owner_of, Belong}
-use Rattle.span_self_time.specs.Division.TimeMap.Stretches.{Starts, IsLast, IsNext, IsHeld, IsOfSegment, IsDivided}
+use Rattle.std.proofs.{Common.{◌≡◌, ◌≢◌, ℕ, ℤ, pos, ◌-ℤ◌, ◌≤ℤ◌, ◌<ℤ◌, IsSome, Option, Some, None, true≢false, refl, sym, ap, ◌∙◌, subst, arith}, lemmas.{Int.{ints, by_lt_z}, Option.same_Some}}
+use Rattle.span_self_time.specs.{Division.{Owners, owner_of, Belong, TimeMap.Stretches.{Starts, IsLast, IsNext, IsHeld, IsOfSegment, IsDivided}}, Spans.Span, declared.segment.OwnedSegment.OwnedSegment}
 
 pub by_eq_z : {P : Type 0} (a b : ℤ) → (a ≡ b → P) → (a ≢ b → P) → P
 by_eq_z a b same differs =

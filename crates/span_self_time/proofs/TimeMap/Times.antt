@@ -1,12 +1,6 @@
 -- How the time in which an owner passes a test changes as a stretch changes hands.
-use Rattle.std.proofs.Common.{◌<◌, ◌-◌, ◌≡◌, ◌≤◌, ◌^◌, ℕ, ◌+◌, Bool, true, false, cond, ℤ, pos, ◌-ℤ◌, ◌≤ℤ◌, ◌<ℤ◌, Option, None, ap, ◌∙◌, arith}
-use Rattle.std.proofs.lemmas.Int.{ints}
-use Rattle.span_event.specs.Time.{distance}
-use Rattle.span_self_time.specs.Spans.{Span, count_from}
-use Rattle.span_event.specs.Event.{least_time}
-use Rattle.span_self_time.specs.Closed.{greatest_until}
-use Rattle.span_self_time.specs.Division.{Owners, Belong}
-use Rattle.span_self_time.specs.Division.TimeMap.{time_of}
+use Rattle.std.proofs.{Common.{◌<◌, ◌-◌, ◌≡◌, ◌≤◌, ◌^◌, ℕ, ◌+◌, Bool, true, false, cond, ℤ, pos, ◌-ℤ◌, ◌≤ℤ◌, ◌<ℤ◌, Option, None, ap, ◌∙◌, arith}, lemmas.Int.ints}
+use Rattle.span_self_time.specs.{distance, least_time, Closed.greatest_until, Division.{Owners, Belong, TimeMap.time_of}, Spans.{Span, count_from}}
 use Rattle.span_self_time.proofs.Counts.{add-distance, distance-add, count_from-add, count_from-same, count_from-unbroken, count_from-none, count_from-le}
 
 count_from-split : (f : ℤ → Bool) (a b c : ℤ) → a ≤ℤ b → b ≤ℤ c → count_from a (distance a c) f ≡ count_from a (distance a b) f + count_from b (distance b c) f

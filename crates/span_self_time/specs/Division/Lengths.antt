@@ -1,9 +1,6 @@
 -- How long the segments of single spans are together, by the positions of the events that opened them.
 use Rattle.std.specs.Prelude.{◌≡◌, ℕ, ◌+◌, ◌<◌, ◌^◌, nat_eq, slice_get, unwrap_or, if◌then◌else◌, List, sum_by}
-use Rattle.span_self_time.specs.declared.division.lengths.Lengths.{Lengths}
-use Rattle.span_self_time.specs.declared.segment.OwnedSegment.{OwnedSegment}
-use Rattle.span_self_time.specs.Division.{own_in}
-use Rattle.span_self_time.specs.Division.SegmentStacks.{segment_length}
+use Rattle.span_self_time.specs.{Division.{own_in, SegmentStacks.segment_length}, declared.{division.lengths.Lengths.Lengths, segment.OwnedSegment.OwnedSegment}}
 
 -- the time at a position: at its place, or in the map of those that have none
 abbrev pub time_at : Lengths → ℕ → ℕ

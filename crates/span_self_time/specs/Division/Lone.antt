@@ -1,8 +1,6 @@
 -- What holds where at most one span has time.
 use Rattle.std.specs.Prelude.{◌≡◌, ◌<ℤ◌, List, [], ◌∷◌, Option, Some, None}
-use Rattle.span_self_time.specs.declared.segment.OwnedSegment.{OwnedSegment}
-use Rattle.span_self_time.specs.Closed.{IsInTime}
-use Rattle.span_self_time.specs.Division.{Owners, owner_of, taken}
+use Rattle.span_self_time.specs.{Closed.IsInTime, Division.{Owners, owner_of, taken}, declared.segment.OwnedSegment.OwnedSegment}
 
 -- the segment, if there is one
 abbrev pub segments_of_lone : Option OwnedSegment → List OwnedSegment

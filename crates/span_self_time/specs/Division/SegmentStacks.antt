@@ -1,13 +1,7 @@
 -- What holds of stacks of segments, and of the cursor between them, while a new span takes what is its own.
 use Rattle.std.specs.Prelude.{◌≡◌, ◌≢◌, ℕ, ◌+◌, ◌*◌, ◌≤◌, ◌<◌, nat_eq, length, ◌++◌, vec_len, vec_capacity, IsSome, if◌then◌else◌, Bool, false, ℤ, pos, ◌-ℤ◌, ◌≤ℤ◌, ◌<ℤ◌, int_le, int_lt, List, [], ◌∷◌, reverse, None, Some, sum_by}
 use Rattle.indexmap.specs.IndexMap.{get}
-use Rattle.span_self_time.specs.declared.segment.OwnedSegment.{OwnedSegment}
-use Rattle.span_self_time.specs.declared.division.segment_stacks.SegmentStacks.{SegmentStacks}
-use Rattle.span_event.specs.Time.{distance}
-use Rattle.span_self_time.specs.Spans.{Span}
-use Rattle.span_event.specs.Event.{least_time}
-use Rattle.span_self_time.specs.Closed.{IsInTime}
-use Rattle.span_self_time.specs.Division.{Owners, SelfTimes, own_in, taken, owner_of, Belong, AreFuture, AreOwnedSegments, IsNew, between}
+use Rattle.span_self_time.specs.{distance, least_time, Closed.IsInTime, Division.{Owners, SelfTimes, own_in, taken, owner_of, Belong, AreFuture, AreOwnedSegments, IsNew, between}, Spans.Span, declared.{division.segment_stacks.SegmentStacks.SegmentStacks, segment.OwnedSegment.OwnedSegment}}
 
 -- the segments, the last first, are the time before t: each is as long as can be to its start
 abbrev pub ArePast : Owners → ℤ → List OwnedSegment → Type 0

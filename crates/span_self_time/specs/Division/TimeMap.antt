@@ -1,18 +1,9 @@
 -- What holds of a map of the stretches of time while a new span takes what is its own.
 pub mod Stretches
 pub mod Ties
-use Rattle.std.specs.Prelude.{◌≡◌, ◌≢◌, ◌⊎◌, ℕ, nat_eq, Bool, true, false, if◌then◌else◌, ℤ, pos, ◌-ℤ◌, ◌≤ℤ◌, ◌<ℤ◌, int_lt, List, Option, Some, None, IsSome}
-use Rattle.std.specs.Option.{is_some}
+use Rattle.std.specs.{Option.is_some, Prelude.{◌≡◌, ◌≢◌, ◌⊎◌, ℕ, nat_eq, Bool, true, false, if◌then◌else◌, ℤ, pos, ◌-ℤ◌, ◌≤ℤ◌, ◌<ℤ◌, int_lt, List, Option, Some, None, IsSome}}
 use Rattle.indexmap.specs.IndexMap.{get}
-use Rattle.span_self_time.specs.declared.segment.OwnedSegment.{OwnedSegment}
-use Rattle.span_self_time.specs.declared.division.time_map.TimeMap.{TimeMap}
-use Rattle.span_event.specs.Time.{distance}
-use Rattle.span_self_time.specs.Spans.{Span, covers, count_from}
-use Rattle.span_event.specs.Event.{least_time}
-use Rattle.span_self_time.specs.Closed.{greatest_until, IsInTime}
-use Rattle.span_self_time.specs.Division.{Owners, SelfTimes, own_in, claims, taken, IsNew, AreSettled}
-use Rattle.span_self_time.specs.Division.TimeMap.Ties.{AreBarred}
-use Rattle.span_self_time.specs.Division.TimeMap.Stretches.{at, IsDivided, IsEnd, AreWhole}
+use Rattle.span_self_time.specs.{distance, least_time, Closed.{greatest_until, IsInTime}, Division.{Owners, SelfTimes, own_in, claims, taken, IsNew, AreSettled, TimeMap.{Stretches.{at, IsDivided, IsEnd, AreWhole}, Ties.AreBarred}}, Spans.{Span, covers, count_from}, declared.{division.time_map.TimeMap.TimeMap, segment.OwnedSegment.OwnedSegment}}
 
 -- the owner has the name
 abbrev pub has_name : ℕ → Option (Span ℕ) → Bool

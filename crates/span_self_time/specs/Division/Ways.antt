@@ -1,13 +1,6 @@
 -- What holds of a division of time, whichever way it is kept.
 use Rattle.std.specs.Prelude.{ℕ, List}
-use Rattle.span_self_time.specs.declared.division.Division.{Division}
-use Rattle.span_self_time.specs.declared.division.Way.{Way}
-use Rattle.span_self_time.specs.declared.division.Way.TheVariants.{Lone, Stacked, Searched}
-use Rattle.span_self_time.specs.Spans.{Span}
-use Rattle.span_self_time.specs.Division.{Owners, owners_of}
-use Rattle.span_self_time.specs.Division.Lone.{IsLone}
-use Rattle.span_self_time.specs.Division.SegmentStacks.{AreSegmentStacks}
-use Rattle.span_self_time.specs.Division.TimeMap.{IsTimeMap}
+use Rattle.span_self_time.specs.{Division.{Owners, owners_of, Lone.IsLone, SegmentStacks.AreSegmentStacks, TimeMap.IsTimeMap}, Spans.Span, declared.division.{Division.Division, Way.{Way, TheVariants.{Lone, Stacked, Searched}}}}
 
 -- what is kept is the time of these owners
 abbrev pub IsWay : Owners → Way → Type 0

@@ -1,8 +1,6 @@
 //! How long the segments of single spans are together, by the positions of the events that opened them.
 ghost use Rattle.std.specs.Prelude.{◌≡◌, ◌+◌, ◌<◌, ◌^◌, ◌∷◌, [], ◌==◌, ℕ, if◌then◌else◌, IfOk, OnOk};
-ghost use Rattle.span_self_time.specs.Division.{own_in};
-ghost use Rattle.span_self_time.specs.Division.Lengths.{time_at, CanGain, Gains};
-ghost use Rattle.span_self_time.specs.Division.SegmentStacks.{segment_length};
+ghost use Rattle.span_self_time.specs.Division.{own_in, Lengths.{time_at, CanGain, Gains}, SegmentStacks.segment_length};
 
 use super::own_times::own_in;
 use crate::segment::OwnedSegment;

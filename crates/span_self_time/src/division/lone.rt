@@ -1,10 +1,6 @@
 //! The time of at most one span, which has all that it covers.
 ghost use Rattle.std.specs.Prelude.{◌≡◌, map, length, slice_get, option_copied, IfOk, OnOk};
-ghost use Rattle.span_self_time.specs.Division.{Owners, IsNew, AreSettled, CanAdd, owner_of, taken};
-ghost use Rattle.span_self_time.specs.Division.Lengths.{CanGain, Gains};
-ghost use Rattle.span_self_time.specs.Division.Lone.{IsLone, segments_of_lone};
-ghost use Rattle.span_self_time.specs.Division.SegmentStacks.{named_length, whole_length};
-ghost use Rattle.span_self_time.specs.Division.Ways.{IsWay};
+ghost use Rattle.span_self_time.specs.Division.{Owners, IsNew, AreSettled, CanAdd, owner_of, taken, Lengths.{CanGain, Gains}, Lone.{IsLone, segments_of_lone}, SegmentStacks.{named_length, whole_length}, Ways.IsWay};
 
 use super::Way;
 use super::lengths::Lengths;

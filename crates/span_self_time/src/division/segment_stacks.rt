@@ -1,11 +1,7 @@
 //! The time of a thread as two stacks of its segments, those before a cursor and those behind it.
 ghost use Rattle.std.specs.Prelude.{true, false, map, option_copied, ◌≡◌, ◌≤◌, ◌<◌, ◌+◌, ◌*◌, ◌^◌, ◌==◌, ◌≤ℤ◌, ◌<ℤ◌, ℕ, [], ◌++◌, nat_eq, reverse, length, Some, slice_get, vec_len, vec_capacity, if◌then◌else◌, IsSome, OnOk, OnErr};
 ghost use Rattle.indexmap.specs.IndexMap.{get};
-ghost use Rattle.span_event.specs.Time.{distance};
-ghost use Rattle.span_self_time.specs.Spans.{outranks};
-ghost use Rattle.span_self_time.specs.Division.{Owners, owner_of, taken, Belong, own_in, ForSome, CanAdd, Adds, KeepsOwners};
-ghost use Rattle.span_self_time.specs.Division.Lengths.{CanGain, Gains};
-ghost use Rattle.span_self_time.specs.Division.SegmentStacks.{ArePast, IsOnly, segments_of, piece, ends_by, lasts_beyond, starts_before, AreSegmentStacks, IsMoved, IsEntering, IsTaking, IsAhead, IsPassing, IsTakenBack, IsGained};
+ghost use Rattle.span_self_time.specs.{distance, Division.{Owners, owner_of, taken, Belong, own_in, ForSome, CanAdd, Adds, KeepsOwners, Lengths.{CanGain, Gains}, SegmentStacks.{ArePast, IsOnly, segments_of, piece, ends_by, lasts_beyond, starts_before, AreSegmentStacks, IsMoved, IsEntering, IsTaking, IsAhead, IsPassing, IsTakenBack, IsGained}}, Spans.outranks};
 
 use super::lengths::Lengths;
 use super::own_times::{gain_own, keep_name, lose_own, own_in};

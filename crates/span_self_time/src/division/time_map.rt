@@ -1,16 +1,7 @@
 //! The time of a thread as an ordered map of stretches, among which each span finds its place.
-ghost use Rattle.std.specs.Prelude.{true, false, ◌≡◌, ◌≤◌, ◌<◌, ◌+◌, ◌^◌, ◌==◌, ℕ, ℤ, ◌≤ℤ◌, ◌<ℤ◌, nat_eq, if◌then◌else◌, Some, None, IsSome, IfSome, OnOk, OnErr, List, length, map, slice_get, option_copied};
-ghost use Rattle.std.specs.BTreeMap.{IsOrdered};
-ghost use Rattle.std.specs.Option.{is_some, option_map};
-ghost use Rattle.std.specs.Ordering.{int_cmp};
+ghost use Rattle.std.specs.{BTreeMap.IsOrdered, Option.{is_some, option_map}, Ordering.int_cmp, Prelude.{true, false, ◌≡◌, ◌≤◌, ◌<◌, ◌+◌, ◌^◌, ◌==◌, ℕ, ℤ, ◌≤ℤ◌, ◌<ℤ◌, nat_eq, if◌then◌else◌, Some, None, IsSome, IfSome, OnOk, OnErr, List, length, map, slice_get, option_copied}};
 ghost use Rattle.indexmap.specs.IndexMap.{get};
-ghost use Rattle.span_self_time.specs.Spans.{Span, self_of, busy_time};
-ghost use Rattle.span_self_time.specs.Closed.{AreClosed};
-ghost use Rattle.span_self_time.specs.Division.{Owners, owner_of, claims, owners_of, own_in, ForSome, HasOwnedSegments, CanAdd, Adds, KeepsOwners};
-ghost use Rattle.span_self_time.specs.Division.Lengths.{CanGain, Gains};
-ghost use Rattle.span_self_time.specs.Division.TimeMap.Stretches.{at, segments_in};
-ghost use Rattle.span_self_time.specs.Division.TimeMap.Ties.{IsBarred, AreBarred};
-ghost use Rattle.span_self_time.specs.Division.TimeMap.{has_name, IsTimeMap, IsEntrant, IsTaking};
+ghost use Rattle.span_self_time.specs.{Closed.AreClosed, Division.{Owners, owner_of, claims, owners_of, own_in, ForSome, HasOwnedSegments, CanAdd, Adds, KeepsOwners, Lengths.{CanGain, Gains}, TimeMap.{has_name, IsTimeMap, IsEntrant, IsTaking, Stretches.{at, segments_in}, Ties.{IsBarred, AreBarred}}}, Spans.{Span, self_of, busy_time}};
 
 mod stretches;
 mod ties;

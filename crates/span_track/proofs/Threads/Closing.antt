@@ -1,18 +1,8 @@
 -- The end of the last open span.
-use Rattle.std.proofs.Common.{◌≡◌, ℕ, ◌-◌, take, slice_get, Bool, true, false, cond, ℤ, List, [], ◌∷◌, ◌++◌, length, Option, Some, None, map, refl, ap, ◌∙◌, subst}
 use Rattle.std.specs.Prelude.{Err, Ok}
-use Rattle.std.proofs.lemmas.List.{map_push}
-use Rattle.span_event.specs.declared.fault.Fault.TheVariants.{TimeGoesBack, NameDiffers}
-use Rattle.span_keyed_tracks.specs.Fault.{refusal_of}
-use Rattle.span_event.specs.Args.{merged}
-use Rattle.span_self_time.specs.Spans.{Arguments, Span}
-use Rattle.span_track.specs.declared.thread.OpenSpan.{OpenSpan}
-use Rattle.span_track.specs.Kept.{begin_of, IsSound}
-use Rattle.span_keyed_tracks.specs.Last.{last_of}
-use Rattle.span_track.specs.Nesting.{Begin, ThreadEvent, opener, open_spans}
-use Rattle.span_track.specs.Thread.{ThreadSpans, any_name, goes_back, closing, end_refusal, merged_args, merged_with}
-use Rattle.span_keyed_tracks.proofs.Lists.Last.{last_of-append, take-last}
-use Rattle.span_keyed_tracks.proofs.Matching.Open.{opener-open_of}
+use Rattle.std.proofs.{Common.{◌≡◌, ℕ, ◌-◌, take, slice_get, Bool, true, false, cond, ℤ, List, [], ◌∷◌, ◌++◌, length, Option, Some, None, map, refl, ap, ◌∙◌, subst}, lemmas.List.map_push}
+use Rattle.span_keyed_tracks.proofs.{Lists.Last.{last_of-append, take-last}, Matching.Open.opener-open_of}
+use Rattle.span_track.specs.{TimeGoesBack, NameDiffers, refusal_of, merged, Arguments, Span, last_of, Kept.{begin_of, IsSound}, Nesting.{Begin, ThreadEvent, opener, open_spans}, Thread.{ThreadSpans, any_name, goes_back, closing, end_refusal, merged_args, merged_with}, declared.thread.OpenSpan.OpenSpan}
 
 -- the last of the open spans, as a begin
 pub opened-last : (items : List OpenSpan) (o : OpenSpan) → Some o ≡ slice_get items (length items - 1) → map begin_of items ≡ map begin_of (take (length items - 1) items) ++ begin_of o ∷ []

@@ -1,9 +1,7 @@
 -- What begins and whole spans carry beside their times changes no time of a thread.
-use Rattle.std.proofs.Common.{◌≡◌, List, [], ◌∷◌, map, Some, refl, ap, ap₂}
 use Rattle.std.specs.Option.{option_or}
-use Rattle.span_self_time.specs.Spans.{Span}
-use Rattle.span_keyed_tracks.specs.Matching.{opens, closes, closes_all, other, map_step}
-use Rattle.span_track.specs.Nesting.{Begin, ThreadEvent, last_time, greatest, seen_by, latest_time}
+use Rattle.std.proofs.Common.{◌≡◌, List, [], ◌∷◌, map, Some, refl, ap, ap₂}
+use Rattle.span_track.specs.{Span, opens, closes, closes_all, other, map_step, Nesting.{Begin, ThreadEvent, last_time, greatest, seen_by, latest_time}}
 
 module _ {N M : Type 0} (f : Begin N → Begin M) (g : Span N → Span M) (same_ts : (b : Begin N) → (f b).ts ≡ b.ts) (same_until : (s : Span N) → (g s).until ≡ s.until) where
   -- the last time of a begin or an end

@@ -1,11 +1,8 @@
 -- Positions in the journal change no nesting and no time.
-use Rattle.std.proofs.Common.{◌≡◌, ℕ, List, map, length, refl, ap, ◌∙◌}
 use Rattle.std.specs.Prelude.{option_map}
-use Rattle.std.proofs.lemmas.List.{length-map}
-use Rattle.span_self_time.specs.Positions.{renumbered_span}
-use Rattle.span_keyed_tracks.specs.Matching.{map_step}
+use Rattle.std.proofs.{Common.{◌≡◌, ℕ, List, map, length, refl, ap, ◌∙◌}, lemmas.List.length-map}
 use Rattle.span_keyed_tracks.proofs.Matching.Mapped.{opener-map_step, open_of-map_step, closed_of-map_step}
-use Rattle.span_track.specs.Nesting.{ThreadEvent, renumbered_begin, span_between, span_sealed, whole_span, opener, open_spans, depth_of, closed_spans, last_time, latest_time}
+use Rattle.span_track.specs.{renumbered_span, map_step, Nesting.{ThreadEvent, renumbered_begin, span_between, span_sealed, whole_span, opener, open_spans, depth_of, closed_spans, last_time, latest_time}}
 use Rattle.span_track.proofs.Threads.Mapped.{last_time-map_step, latest_time-map_step}
 
 -- the events with the position of each begin and of each whole span in place of another

@@ -1,15 +1,8 @@
 -- Where the events of a thread stand, what its track keeps stands too, and there are no more spans than events.
-use Rattle.std.proofs.Common.{◌≡◌, ℕ, ◌+◌, ◌<◌, ◌≤◌, ◌-◌, ◌^◌, ℤ, List, [], ◌∷◌, ◌++◌, length, Option, Some, None, refl, sym, subst, arith, All, append_assoc, append-nil, length-append}
-use Rattle.std.proofs.lemmas.List.Elements.{All-nil, All-cons, All-push, All-append, All-take}
-use Rattle.span_self_time.specs.Spans.{Span, Arguments}
-use Rattle.span_keyed_tracks.specs.Matching.{opens, closes, closes_all, other}
-use Rattle.span_track.specs.Nesting.{Begin, ThreadEvent, Ending, matched_span, span_between, span_sealed, whole_span}
-use Rattle.span_track.specs.Thread.{ThreadSpans, thread_spans, HasRoom, IsNext, IsBefore, AreBefore}
-use Rattle.span_keyed_tracks.specs.Last.{last_of}
-use Rattle.span_keyed_tracks.proofs.Lists.Last.{take-without_last, All-last_of}
-use Rattle.span_keyed_tracks.proofs.Matching.Closed.{length-closed_with}
-use Rattle.span_track.proofs.Threads.Spans.{with_end, thread_spans-began, thread_spans-ended, thread_spans-sealed, thread_spans-completed}
-use Rattle.span_track.proofs.Threads.Sealing.{sealed_spans, All-sealed_spans, length-sealed_spans}
+use Rattle.std.proofs.{Common.{◌≡◌, ℕ, ◌+◌, ◌<◌, ◌≤◌, ◌-◌, ◌^◌, ℤ, List, [], ◌∷◌, ◌++◌, length, Option, Some, None, refl, sym, subst, arith, All, append_assoc, append-nil, length-append}, lemmas.List.Elements.{All-nil, All-cons, All-push, All-append, All-take}}
+use Rattle.span_keyed_tracks.proofs.{Lists.Last.{take-without_last, All-last_of}, Matching.Closed.length-closed_with}
+use Rattle.span_track.specs.{Span, Arguments, opens, closes, closes_all, other, last_of, Nesting.{Begin, ThreadEvent, Ending, matched_span, span_between, span_sealed, whole_span}, Thread.{ThreadSpans, thread_spans, HasRoom, IsNext, IsBefore, AreBefore}}
+use Rattle.span_track.proofs.Threads.{Sealing.{sealed_spans, All-sealed_spans, length-sealed_spans}, Spans.{with_end, thread_spans-began, thread_spans-ended, thread_spans-sealed, thread_spans-completed}}
 
 module _ {N : Type 0} where
   All-matched_span : (at : ℕ) (e : Ending) (o : Option (Begin N)) → ((b : Begin N) → o ≡ Some b → b.at < at) → All (λ s. s.at < at) (matched_span o e)

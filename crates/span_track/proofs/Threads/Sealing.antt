@@ -1,15 +1,7 @@
 -- The end of all open spans.
-use Rattle.std.proofs.Common.{◌≡◌, ℕ, ◌<◌, ◌≢◌, ℤ, ◌≤ℤ◌, List, [], ◌∷◌, ◌++◌, length, map, reverse, false, sym, ap, subst, ◌∙◌, arith, All}
-use Rattle.std.proofs.lemmas.List.{map-append, reverse-append, length-map, length-reverse}
-use Rattle.std.proofs.lemmas.List.Elements.{All-nil, All-cons, All-head, All-tail, All-append, All-weaker}
-use Rattle.span_event.specs.Event.{least_time}
-use Rattle.span_self_time.specs.Closed.{IsInTime, CanJoin}
-use Rattle.span_self_time.specs.Laws.{AreSpans}
-use Rattle.span_self_time.specs.Spans.{Span}
+use Rattle.std.proofs.{Common.{◌≡◌, ℕ, ◌<◌, ◌≢◌, ℤ, ◌≤ℤ◌, List, [], ◌∷◌, ◌++◌, length, map, reverse, false, sym, ap, subst, ◌∙◌, arith, All}, lemmas.List.{map-append, reverse-append, length-map, length-reverse, Elements.{All-nil, All-cons, All-head, All-tail, All-append, All-weaker}}}
 use Rattle.span_self_time.proofs.Apart.{AreSpans-append}
-use Rattle.span_track.specs.Kept.{IsSound, IsUpTo, AreRising}
-use Rattle.span_track.specs.Nesting.{Begin, span_sealed}
-use Rattle.span_track.specs.Thread.{ThreadSpans, IsSealTime, goes_back}
+use Rattle.span_track.specs.{least_time, IsInTime, CanJoin, AreSpans, Span, Kept.{IsSound, IsUpTo, AreRising}, Nesting.{Begin, span_sealed}, Thread.{ThreadSpans, IsSealTime, goes_back}}
 use Rattle.span_track.proofs.Threads.Sound.{IsUpTo-later}
 
 -- what holds of each holds of each in reverse

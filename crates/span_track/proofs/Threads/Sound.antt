@@ -1,13 +1,7 @@
 -- That a track stays sound from event to event.
-use Rattle.std.proofs.Common.{◌≡◌, ℕ, ◌+◌, ◌<◌, ◌^◌, ◌≢◌, ℤ, ◌≤ℤ◌, List, [], ◌∷◌, ◌++◌, Option, Some, None, true, false, cond, refl, arith, All, length-append, get_or, length}
 use Rattle.std.specs.Prelude.{int_lt}
-use Rattle.std.proofs.lemmas.Int.{ints}
-use Rattle.std.proofs.lemmas.List.Elements.{All-weaker, All-push, All-pop, All-head, All-tail, All-nil, All-cons}
-use Rattle.span_event.specs.Event.{IsTime, least_time}
-use Rattle.span_self_time.specs.Spans.{Span}
-use Rattle.span_track.specs.Nesting.{Begin, later}
-use Rattle.span_track.specs.Thread.{ThreadSpans, HasRoom, IsNext, IsSealTime, goes_back}
-use Rattle.span_track.specs.Kept.{IsSound, IsUpTo, IsSeen, AreRising}
+use Rattle.std.proofs.{Common.{◌≡◌, ℕ, ◌+◌, ◌<◌, ◌^◌, ◌≢◌, ℤ, ◌≤ℤ◌, List, [], ◌∷◌, ◌++◌, Option, Some, None, true, false, cond, refl, arith, All, length-append, get_or, length}, lemmas.{Int.ints, List.Elements.{All-weaker, All-push, All-pop, All-head, All-tail, All-nil, All-cons}}}
+use Rattle.span_track.specs.{IsTime, least_time, Span, Kept.{IsSound, IsUpTo, IsSeen, AreRising}, Nesting.{Begin, later}, Thread.{ThreadSpans, HasRoom, IsNext, IsSealTime, goes_back}}
 use Rattle.span_track.proofs.Threads.Spans.{with_begin, with_whole}
 
 AreRising-append : (bs : List (Begin ℕ)) (b : Begin ℕ) → AreRising bs → All (λ c. c.at < b.at) bs → AreRising (bs ++ b ∷ [])

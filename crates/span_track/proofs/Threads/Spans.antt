@@ -1,15 +1,7 @@
 -- What the track of a thread keeps after one more event.
-use Rattle.std.proofs.Common.{ap, ◌∙◌, ◌≡◌, ℤ, List, [], ◌∷◌, ◌++◌, map, reverse, Option, Some, None, refl, sym, append-nil}
-use Rattle.std.proofs.lemmas.List.{map-append}
-use Rattle.std.proofs.lemmas.List.Sums.{fold-append}
-use Rattle.span_self_time.specs.Spans.{Span, Arguments}
-use Rattle.span_keyed_tracks.specs.Matching.{opens, closes, closes_all, other}
-use Rattle.span_track.specs.Nesting.{Begin, ThreadEvent, began, ended, sealed, completed, span_between, span_sealed, whole_span, matched_span, last_time, later, greatest, seen_by, latest_time}
-use Rattle.span_track.specs.Thread.{ThreadSpans, thread_spans}
-use Rattle.span_keyed_tracks.specs.Last.{last_of, without_last}
-use Rattle.span_keyed_tracks.proofs.Lists.Last.{last_of-append, without_last-append}
-use Rattle.span_keyed_tracks.proofs.Matching.Closed.{closed_of-append}
-use Rattle.span_keyed_tracks.proofs.Matching.Open.{opener-open_of, open_of-opens, open_of-closes, open_of-closes_all, open_of-other}
+use Rattle.std.proofs.{Common.{ap, ◌∙◌, ◌≡◌, ℤ, List, [], ◌∷◌, ◌++◌, map, reverse, Option, Some, None, refl, sym, append-nil}, lemmas.List.{map-append, Sums.fold-append}}
+use Rattle.span_keyed_tracks.proofs.{Lists.Last.{last_of-append, without_last-append}, Matching.{Closed.closed_of-append, Open.{opener-open_of, open_of-opens, open_of-closes, open_of-closes_all, open_of-other}}}
+use Rattle.span_track.specs.{Span, Arguments, opens, closes, closes_all, other, last_of, without_last, Nesting.{Begin, ThreadEvent, began, ended, sealed, completed, span_between, span_sealed, whole_span, matched_span, last_time, later, greatest, seen_by, latest_time}, Thread.{ThreadSpans, thread_spans}}
 
 module _ {N : Type 0} where
   -- the last time after a begin is that of the begin

@@ -1,6 +1,5 @@
-use Rattle.std.proofs.Common.{◌≡◌, nat_eq, true, is_some, sym, ap, ◌∙◌, arith}
 use Rattle.std.specs.List.{list_any}
-use Rattle.std.proofs.lemmas.Map.Made.{is_some-lookup}
+use Rattle.std.proofs.{Common.{◌≡◌, nat_eq, true, is_some, sym, ap, ◌∙◌, arith}, lemmas.Map.Made.is_some-lookup}
 use Rattle.indexmap.specs.IndexMap.{keys}
 use Rattle.indexmap.proofs.SetLemmas.{keys_insert_entry}
 use Rattle.span_closed_spans.proofs.name_totals.add_to_total.Goals as goal

@@ -1,8 +1,5 @@
-use Rattle.std.proofs.Common.{◌≡◌, ◌+◌, ◌∷◌, drop, map, w64, to_z, of_z, sym, ap, ◌∙◌, arith, rules}
-use Rattle.std.proofs.lemmas.Int.{ints, clamps}
-use Rattle.std.proofs.lemmas.List.{drop_more}
-use Rattle.span_self_time.specs.Spans.{earliest, latest}
-use Rattle.span_self_time.specs.Closed.{span_of}
+use Rattle.std.proofs.{Common.{◌≡◌, ◌+◌, ◌∷◌, drop, map, w64, to_z, of_z, sym, ap, ◌∙◌, arith, rules}, lemmas.{Int.{ints, clamps}, List.drop_more}}
+use Rattle.span_closed_spans.specs.{earliest, latest, span_of}
 use Rattle.span_closed_spans.proofs.Unbroken.{earliest-le, le-latest}
 use Rattle.span_closed_spans.proofs.walk.bounds.Goals as goal
 

@@ -1,7 +1,6 @@
-use Rattle.std.proofs.Common.{◌≡◌, ◌≤ℤ◌, pos, drop, map}
 use Rattle.std.specs.Int.{int_min, int_max}
-use Rattle.span_self_time.specs.Spans.{earliest, latest}
-use Rattle.span_self_time.specs.Closed.{span_of}
+use Rattle.std.proofs.Common.{◌≡◌, ◌≤ℤ◌, pos, drop, map}
+use Rattle.span_closed_spans.specs.{earliest, latest, span_of}
 use Rattle.span_closed_spans.proofs.walk.bounds.Given as goal
 
 abbrev pub invariant-loop-span : goal.invariant-loop-span

@@ -1,6 +1,5 @@
-use Rattle.std.proofs.Common.{map, arith}
-use Rattle.std.proofs.lemmas.Int.{ints}
-use Rattle.span_self_time.specs.Closed.{span_of}
+use Rattle.std.proofs.{Common.{map, arith}, lemmas.Int.ints}
+use Rattle.span_closed_spans.specs.{span_of}
 use Rattle.span_closed_spans.proofs.Unbroken.{IsSpanned-in_time}
 use Rattle.span_closed_spans.proofs.walk.busy_time.Goals as goal
 

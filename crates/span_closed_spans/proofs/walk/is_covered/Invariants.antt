@@ -1,6 +1,5 @@
 use Rattle.std.proofs.Common.{◌≡◌, drop, map}
-use Rattle.span_self_time.specs.Spans.{is_covered}
-use Rattle.span_self_time.specs.Closed.{span_of}
+use Rattle.span_closed_spans.specs.{is_covered, span_of}
 use Rattle.span_closed_spans.proofs.walk.is_covered.Given as goal
 
 abbrev pub invariant-loop-span : goal.invariant-loop-span

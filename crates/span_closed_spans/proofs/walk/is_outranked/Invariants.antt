@@ -1,6 +1,5 @@
 use Rattle.std.proofs.Common.{◌≡◌, drop, map}
-use Rattle.span_self_time.specs.Spans.{is_outranked}
-use Rattle.span_self_time.specs.Closed.{span_of}
+use Rattle.span_closed_spans.specs.{is_outranked, span_of}
 use Rattle.span_closed_spans.proofs.walk.is_outranked.Given as goal
 
 abbrev pub invariant-loop-other : goal.invariant-loop-other

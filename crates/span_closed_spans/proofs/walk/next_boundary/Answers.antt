@@ -1,10 +1,5 @@
-use Rattle.std.proofs.Common.{rules, ◌≡◌, ◌⊎◌, inl, inr, ℤ, ◌≤ℤ◌, ◌<ℤ◌, All, List, ℕ, ◌+◌, ◌<◌, length, take, get_or, w64, to_z, of_z, to_z-of_z, ap₂, ◌&&◌, int_le, int_lt, arith, take_all, subst}
-use Rattle.std.proofs.lemmas.Int.{ints}
-use Rattle.std.proofs.lemmas.List.Elements.{All-weaker, All-more}
-use Rattle.span_self_time.specs.Spans.{Span}
-use Rattle.span_self_time.specs.declared.span.ClosedSpan.{ClosedSpan}
-use Rattle.span_self_time.specs.Closed.{span_of}
-use Rattle.span_closed_spans.specs.Walk.{IsUnbroken}
+use Rattle.std.proofs.{Common.{rules, ◌≡◌, ◌⊎◌, inl, inr, ℤ, ◌≤ℤ◌, ◌<ℤ◌, All, List, ℕ, ◌+◌, ◌<◌, length, take, get_or, w64, to_z, of_z, to_z-of_z, ap₂, ◌&&◌, int_le, int_lt, arith, take_all, subst}, lemmas.{Int.ints, List.Elements.{All-weaker, All-more}}}
+use Rattle.span_closed_spans.specs.{Span, ClosedSpan, span_of, Walk.IsUnbroken}
 use Rattle.span_closed_spans.proofs.walk.next_boundary.Goals as goal
 
 int_le-away : (at u v w : ℤ) → (at ≤ℤ u) ⊎ (v ≤ℤ at) → u ≤ℤ w → w <ℤ v → int_le at w ≡ int_le at u

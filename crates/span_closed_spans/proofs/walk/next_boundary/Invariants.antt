@@ -1,6 +1,5 @@
 use Rattle.std.proofs.Common.{◌≤ℤ◌, ◌<ℤ◌, take, All}
-use Rattle.span_self_time.specs.Closed.{span_of}
-use Rattle.span_closed_spans.specs.Walk.{IsUnbroken}
+use Rattle.span_closed_spans.specs.{span_of, Walk.IsUnbroken}
 use Rattle.span_closed_spans.proofs.walk.next_boundary.Given as goal
 
 abbrev pub invariant-loop-span : goal.invariant-loop-span

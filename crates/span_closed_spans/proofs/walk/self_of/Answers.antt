@@ -1,10 +1,8 @@
 use Rattle.std.proofs.Common.{◌≡◌, true, false, cond, map, take, nat_eq, refl, ap, ◌∙◌, arith, take_all, eq-eqb, ne_eqb}
-use Rattle.span_self_time.specs.Spans.{self_time}
-use Rattle.span_self_time.specs.Closed.{span_of}
 use Rattle.span_self_time.proofs.SelfSums.{self_sum, self_sum-self_of, lasts-read, IsInTime-read}
-use Rattle.span_closed_spans.proofs.RunningSums.{self_sum-more, self_sum-le}
+use Rattle.span_closed_spans.specs.{self_time, span_of}
+use Rattle.span_closed_spans.proofs.{RunningSums.{self_sum-more, self_sum-le}, walk.self_of.Goals.{then-span-name, else-span-name}}
 use Rattle.span_closed_spans.proofs.walk.self_of.Goals as goal
-use Rattle.span_closed_spans.proofs.walk.self_of.Goals.{then-span-name, else-span-name}
 
 pub loop-span-init : goal.loop-span-init
 unfolding self_sum

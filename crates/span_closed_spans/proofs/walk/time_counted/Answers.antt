@@ -1,9 +1,6 @@
-use Rattle.std.proofs.Common.{◌≡◌, ◌+◌, Bool, true, false, cond, map, w64, to_z, of_z, to_z-of_z, sym, ◌∙◌, arith}
-use Rattle.std.proofs.lemmas.Int.{ints}
-use Rattle.span_event.specs.Time.{distance}
-use Rattle.span_self_time.specs.Closed.{span_of}
-use Rattle.span_closed_spans.proofs.Unbroken.{counted_from, counted_from-is, counted_from-end, counted_from-step, counted_from-le}
-use Rattle.span_closed_spans.proofs.walk.time_counted.Goals.{After-counts}
+use Rattle.std.proofs.{Common.{◌≡◌, ◌+◌, Bool, true, false, cond, map, w64, to_z, of_z, to_z-of_z, sym, ◌∙◌, arith}, lemmas.Int.ints}
+use Rattle.span_closed_spans.specs.{distance, span_of}
+use Rattle.span_closed_spans.proofs.{Unbroken.{counted_from, counted_from-is, counted_from-end, counted_from-step, counted_from-le}, walk.time_counted.Goals.After-counts}
 use Rattle.span_closed_spans.proofs.walk.time_counted.Goals as goal
 
 -- one stretch of the walk

@@ -1,6 +1,5 @@
 use Rattle.std.proofs.Common.{◌≡◌, ◌+◌, ◌≤ℤ◌, map}
-use Rattle.span_event.specs.Time.{distance}
-use Rattle.span_self_time.specs.Closed.{span_of}
+use Rattle.span_closed_spans.specs.{distance, span_of}
 use Rattle.span_closed_spans.proofs.Unbroken.{counted_from}
 use Rattle.span_closed_spans.proofs.walk.time_counted.Given as goal
 

@@ -1,8 +1,6 @@
 use Rattle.std.proofs.Common.{◌≡◌, Bool, ℕ, sym, subst, ◌∙◌, arith}
-use Rattle.span_journal.specs.Legal.{IsLegal}
-use Rattle.span_collect.specs.Seals.{SealsAfter}
-use Rattle.span_collect.proofs.InTurn.Accounted.{SealedAccount-answers}
-use Rattle.span_collect.proofs.Settling.{limit_is, strict_is, IsClosed-few, IsClosed-accounts, IsClosed-more}
+use Rattle.span_collect.specs.{IsLegal, Seals.SealsAfter}
+use Rattle.span_collect.proofs.{InTurn.Accounted.SealedAccount-answers, Settling.{limit_is, strict_is, IsClosed-few, IsClosed-accounts, IsClosed-more}}
 use Rattle.span_collect.proofs.collection.collect.Goals as goal
 
 -- the calls are within the limit

@@ -1,5 +1,4 @@
-use Rattle.span_collect.specs.declared.files.FileEnd.TheVariants.{Read}
-use Rattle.span_collect.specs.FaultLines.{end_line}
+use Rattle.span_collect.specs.{FaultLines.end_line, declared.files.FileEnd.TheVariants.Read}
 use Rattle.span_collect.proofs.EndLines.{lines_of_ends-take_more}
 use Rattle.span_collect.proofs.faults.fault_lines.Goals as goal
 

@@ -1,10 +1,6 @@
 use Rattle.std.proofs.Common.{◌+◌, take, Some, None, refl, ap, sym, subst, ◌∙◌, arith}
-use Rattle.span_journal.specs.declared.entry.Op.TheVariants.{Ask}
-use Rattle.span_journal.specs.declared.refusal.Cause.TheVariants.{Memory}
-use Rattle.span_collect.specs.Account.{asking}
-use Rattle.span_collect.specs.Work.{HasRecorded}
-use Rattle.span_collect.proofs.Meeting.{BeginsWith-length, HasMet-asked}
-use Rattle.span_collect.proofs.Recording.{HasRecorded-next, HasRecorded-keeps, IsCause-at, asked-le, asking-next}
+use Rattle.span_collect.specs.{Ask, Memory, Account.asking, Work.HasRecorded}
+use Rattle.span_collect.proofs.{Meeting.{BeginsWith-length, HasMet-asked}, Recording.{HasRecorded-next, HasRecorded-keeps, IsCause-at, asked-le, asking-next}}
 use Rattle.span_collect.proofs.queries.ask_all.Goals as goal
 
 pub loop-query-init : goal.loop-query-init

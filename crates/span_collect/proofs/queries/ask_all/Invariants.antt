@@ -1,6 +1,5 @@
 use Rattle.std.proofs.Common.{◌≡◌, take}
-use Rattle.span_collect.specs.Account.{asking}
-use Rattle.span_collect.specs.Work.{HasRecorded}
+use Rattle.span_collect.specs.{Account.asking, Work.HasRecorded}
 use Rattle.span_collect.proofs.queries.ask_all.Given as goal
 
 -- the queries so far were asked

@@ -1,11 +1,6 @@
-use Rattle.span_report.specs.Report.{report_of}
 use Rattle.span_report.proofs.SameReports.{report_of-alike}
-use Rattle.span_collect.specs.Run.{of_journal}
-use Rattle.span_collect.proofs.InTurn.Texts.{FailsAsInTurn-same, WritesAsInTurn-same}
-use Rattle.span_collect.proofs.NotCollected.{RunLeaves-not_collected, FailsAsInTurn-not_collected}
-use Rattle.span_collect.proofs.CutShort.{IsCutShort-failed}
-use Rattle.span_collect.proofs.OneFile.{WritesOneFile-in_turn}
-use Rattle.span_collect.proofs.Statuses.{status_of-lt}
+use Rattle.span_collect.specs.{report_of, Run.of_journal}
+use Rattle.span_collect.proofs.{CutShort.IsCutShort-failed, InTurn.Texts.{FailsAsInTurn-same, WritesAsInTurn-same}, NotCollected.{RunLeaves-not_collected, FailsAsInTurn-not_collected}, OneFile.WritesOneFile-in_turn, Statuses.status_of-lt}
 use Rattle.span_collect.proofs.runs.run_to_ledger.Goals as goal
 
 -- nothing was collected

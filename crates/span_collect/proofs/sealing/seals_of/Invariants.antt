@@ -1,7 +1,6 @@
-use Rattle.std.proofs.Common.{◌≡◌, take, All}
 use Rattle.std.specs.Prelude.{filter_map}
-use Rattle.span_journal.specs.Legal.{IsGoodOp}
-use Rattle.span_collect.specs.Seals.{seal_for}
+use Rattle.std.proofs.Common.{◌≡◌, take, All}
+use Rattle.span_collect.specs.{IsGoodOp, Seals.seal_for}
 use Rattle.span_collect.proofs.sealing.seals_of.Given as goal
 
 -- the seals of the threads so far

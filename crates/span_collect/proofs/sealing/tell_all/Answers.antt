@@ -1,5 +1,5 @@
 use Rattle.std.proofs.Common.{rules, ◌≡◌, [], ◌∷◌, ◌++◌, length, sym, ap, ◌∙◌, arith, append_assoc, length-append}
-use Rattle.span_journal.specs.Legal.{next_entry}
+use Rattle.span_collect.specs.{next_entry}
 use Rattle.span_collect.proofs.SealEntries.{with_seals-push}
 use Rattle.span_collect.proofs.sealing.tell_all.Goals as goal
 

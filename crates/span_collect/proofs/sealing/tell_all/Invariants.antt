@@ -1,7 +1,6 @@
-use Rattle.std.proofs.Common.{◌≡◌, ◌≤◌, ◌++◌, length}
 use Rattle.std.specs.Vec.Iter.{into_iter_items, into_iter_len}
-use Rattle.span_journal.specs.Legal.{IsLawful}
-use Rattle.span_collect.specs.Seals.{with_seals}
+use Rattle.std.proofs.Common.{◌≡◌, ◌≤◌, ◌++◌, length}
+use Rattle.span_collect.specs.{IsLawful, Seals.with_seals}
 use Rattle.span_collect.proofs.sealing.tell_all.Given as goal
 
 -- the seals that were told stand in the journal, and the others are left

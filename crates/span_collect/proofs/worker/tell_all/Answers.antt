@@ -1,9 +1,5 @@
-use Rattle.std.proofs.Common.{◌≡◌, ◌∷◌, [], ◌++◌, length, All, refl, ap, sym, subst, ◌∙◌, append_assoc, length-append, arith}
-use Rattle.std.proofs.lemmas.List.Elements.{All-head, All-tail}
-use Rattle.span_event.specs.Item.{IsGoodItem}
-use Rattle.span_journal.specs.declared.entry.Op.TheVariants.{One}
-use Rattle.span_collect.specs.Account.{telling}
-use Rattle.span_collect.specs.Work.{HasRecorded}
+use Rattle.std.proofs.{Common.{◌≡◌, ◌∷◌, [], ◌++◌, length, All, refl, ap, sym, subst, ◌∙◌, append_assoc, length-append, arith}, lemmas.List.Elements.{All-head, All-tail}}
+use Rattle.span_collect.specs.{IsGoodItem, One, Account.telling, Work.HasRecorded}
 use Rattle.span_collect.proofs.Recording.{HasRecorded-next, HasRecorded-keeps, IsWorked-read, IsWorked-stopped, telling-next}
 use Rattle.span_collect.proofs.worker.tell_all.Goals as goal
 

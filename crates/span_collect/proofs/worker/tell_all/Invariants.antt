@@ -1,8 +1,5 @@
 use Rattle.std.proofs.Common.{◌≡◌, ◌++◌, All, List, length}
-use Rattle.span_event.specs.Item.{IsGoodItem}
-use Rattle.span_event.specs.declared.item.Item.{Item}
-use Rattle.span_collect.specs.Account.{telling}
-use Rattle.span_collect.specs.Work.{HasRecorded}
+use Rattle.span_collect.specs.{IsGoodItem, Item, Account.telling, Work.HasRecorded}
 use Rattle.span_collect.proofs.worker.tell_all.Given as goal
 
 -- the items so far were told

@@ -1,8 +1,6 @@
-use Rattle.std.proofs.Common.{◌≡◌, List, [], ◌∷◌, length, refl, arith}
-use Rattle.std.proofs.lemmas.Slice.Zip.{AllZip-long}
+use Rattle.std.proofs.{Common.{◌≡◌, List, [], ◌∷◌, length, refl, arith}, lemmas.Slice.Zip.AllZip-long}
 use Rattle.span_collect.specs.declared.files.Input.{Input}
-use Rattle.span_collect.proofs.Meeting.{HasMet-joined, HasMet-not_started}
-use Rattle.span_collect.proofs.workers.+work_all.Goals.{in-Some-finish, in-None}
+use Rattle.span_collect.proofs.{Meeting.{HasMet-joined, HasMet-not_started}, workers.+work_all.Goals.{in-Some-finish, in-None}}
 use Rattle.span_collect.proofs.workers.+work_all.Goals as goal
 
 -- the other files have an end each, and there is room for one more

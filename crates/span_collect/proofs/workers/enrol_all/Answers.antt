@@ -1,7 +1,5 @@
-use Rattle.std.proofs.Common.{◌∷◌, [], length, All, IfSome, refl, ap, sym, subst, ◌∙◌, length-append, arith}
-use Rattle.std.proofs.lemmas.List.Elements.{All-push}
-use Rattle.span_share.specs.Seats.{IsSeatOf}
-use Rattle.span_collect.specs.Work.{IsNewSeat}
+use Rattle.std.proofs.{Common.{◌∷◌, [], length, All, IfSome, refl, ap, sym, subst, ◌∙◌, length-append, arith}, lemmas.List.Elements.All-push}
+use Rattle.span_collect.specs.{IsSeatOf, Work.IsNewSeat}
 use Rattle.span_collect.proofs.Recording.{enrolled}
 use Rattle.span_collect.proofs.workers.enrol_all.Goals as goal
 

@@ -1,10 +1,7 @@
-use Rattle.std.proofs.Common.{◌≡◌, ◌+◌, ◌∷◌, [], ◌++◌, map, take, sym, ap, subst, ◌∙◌, arith}
-use Rattle.std.proofs.lemmas.List.{map_more}
-use Rattle.span_table.specs.declared.table.Row.{Row}
-use Rattle.span_comparisons.specs.Changed.{Classifies}
-use Rattle.span_comparisons.specs.Changes.{Change, compared_at}
-use Rattle.span_comparisons.proofs.Comparing.{Classifies-few}
+use Rattle.std.proofs.{Common.{◌≡◌, ◌+◌, ◌∷◌, [], ◌++◌, map, take, sym, ap, subst, ◌∙◌, arith}, lemmas.List.map_more}
 use Rattle.span_table.proofs.Searched.{sums_at-own}
+use Rattle.span_comparisons.specs.{Row, Changed.Classifies, Changes.{Change, compared_at}}
+use Rattle.span_comparisons.proofs.Comparing.{Classifies-few}
 use Rattle.span_comparisons.proofs.changes.classify_base.Goals as goal
 
 pub classify-requires-clause-same : goal.classify-requires-clause-same

@@ -1,7 +1,5 @@
 use Rattle.std.proofs.Common.{◌≤◌, map, take}
-use Rattle.span_table.specs.declared.table.Row.{Row}
-use Rattle.span_comparisons.specs.Changed.{Classifies}
-use Rattle.span_comparisons.specs.Changes.{compared_at}
+use Rattle.span_comparisons.specs.{Row, Changed.Classifies, Changes.compared_at}
 use Rattle.span_comparisons.proofs.changes.classify_base.Given as goal
 
 -- the keys so far are classified

@@ -1,8 +1,6 @@
-use Rattle.std.proofs.Common.{◌++◌, ◌+◌, ◌^◌, ◌≤◌, map, take}
 use Rattle.std.specs.Prelude.{filter}
-use Rattle.span_table.specs.declared.table.Row.{Row}
-use Rattle.span_comparisons.specs.Changed.{Classifies, base_keys, is_new}
-use Rattle.span_comparisons.specs.Changes.{compared_at}
+use Rattle.std.proofs.Common.{◌++◌, ◌+◌, ◌^◌, ◌≤◌, map, take}
+use Rattle.span_comparisons.specs.{Row, Changed.{Classifies, base_keys, is_new}, Changes.compared_at}
 use Rattle.span_comparisons.proofs.changes.classify_new.Given as goal
 
 -- the keys of the base, and those so far that it lacks, are classified

@@ -1,11 +1,6 @@
-use Rattle.std.proofs.Common.{◌≡◌, List, ◌++◌, length, refl, ap, ap₂, ◌∙◌, append_assoc}
 use Rattle.std.specs.Prelude.{flat_map}
-use Rattle.span_event.specs.Text.{Bytes}
-use Rattle.span_report.specs.Lines.{first_line, unit_line}
-use Rattle.span_table.specs.declared.table.Row.{Row}
-use Rattle.span_comparisons.specs.Changes.{changes_of, compared, same_count, shown_changes}
-use Rattle.span_comparisons.specs.Comparison.{change_columns, change_line, compared_heads, same_line}
-use Rattle.span_table_text.specs.Lines.{shown_line}
+use Rattle.std.proofs.Common.{◌≡◌, List, ◌++◌, length, refl, ap, ap₂, ◌∙◌, append_assoc}
+use Rattle.span_comparisons.specs.{Bytes, first_line, unit_line, Row, shown_line, Changes.{changes_of, compared, same_count, shown_changes}, Comparison.{change_columns, change_line, compared_heads, same_line}}
 use Rattle.span_comparisons.proofs.comparisons.comparison.Goals as goal
 
 -- a text to which six more were appended

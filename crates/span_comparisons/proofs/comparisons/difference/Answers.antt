@@ -1,5 +1,5 @@
-use Rattle.std.proofs.Common.{ap, ◌∙◌}
 use Rattle.std.specs.Prelude.{decimal}
+use Rattle.std.proofs.Common.{ap, ◌∙◌}
 use Rattle.span_comparisons.proofs.Pieces.{difference_text-equal}
 use Rattle.span_comparisons.proofs.comparisons.difference.Goals as goal
 

@@ -1,7 +1,5 @@
-use Rattle.std.proofs.Common.{◌++◌, ◌∷◌, ℕ, List, map, string_bytes, sym, ap, ◌∙◌, append_assoc}
-use Rattle.std.specs.Prelude.{decimal, flat_map}
-use Rattle.std.specs.List.{join_with_byte}
-use Rattle.std.proofs.lemmas.List.{take_all}
+use Rattle.std.specs.{List.join_with_byte, Prelude.{decimal, flat_map}}
+use Rattle.std.proofs.{Common.{◌++◌, ◌∷◌, ℕ, List, map, string_bytes, sym, ap, ◌∙◌, append_assoc}, lemmas.List.take_all}
 use Rattle.span_table_text.proofs.Pieces.{join_with_byte-each}
 use Rattle.span_comparisons.proofs.json_repetitions.put_numbers.Goals as goal
 

@@ -1,11 +1,6 @@
-use Rattle.std.proofs.Common.{rules, ◌≡◌, false, List, map, sym, ap, ap₂, subst, ◌∙◌}
-use Rattle.std.specs.Prelude.{IfErr, Result, Err}
-use Rattle.std.specs.List.{list_all}
-use Rattle.std.proofs.lemmas.List.Folds.{list_all-map, list_all_at}
-use Rattle.span_table_text.specs.declared.json_lines.JsonFault.{JsonFault}
-use Rattle.span_table_text.specs.declared.json_lines.JsonFault.TheVariants.{TooGreat}
-use Rattle.span_comparisons.specs.Repeats.{key_fits}
-use Rattle.span_table.specs.Tables.{SpanTable}
+use Rattle.std.specs.{List.list_all, Prelude.{IfErr, Result, Err}}
+use Rattle.std.proofs.{Common.{rules, ◌≡◌, false, List, map, sym, ap, ap₂, subst, ◌∙◌}, lemmas.List.Folds.{list_all-map, list_all_at}}
+use Rattle.span_comparisons.specs.{JsonFault, TooGreat, SpanTable, Repeats.key_fits}
 use Rattle.span_comparisons.proofs.json_repetitions.put_rows.Goals as goal
 
 pub returns-in_err-put_row-clause-too_great : goal.returns-in_err-put_row-clause-too_great

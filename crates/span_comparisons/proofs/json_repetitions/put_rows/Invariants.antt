@@ -1,5 +1,5 @@
-use Rattle.std.proofs.Common.{◌≡◌, ◌++◌, true, map, flat_map, take, string_bytes}
 use Rattle.std.specs.List.{list_all}
+use Rattle.std.proofs.Common.{◌≡◌, ◌++◌, true, map, flat_map, take, string_bytes}
 use Rattle.span_comparisons.specs.Repeats.{json_values_at, key_fits}
 use Rattle.span_comparisons.proofs.json_repetitions.put_rows.Given as goal
 

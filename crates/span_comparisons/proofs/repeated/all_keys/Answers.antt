@@ -1,11 +1,5 @@
-use Rattle.std.proofs.Common.{◌≡◌, List, ◌++◌, map, sym, ap, ◌∙◌}
-use Rattle.std.proofs.lemmas.List.Filters.{dedup_is}
-use Rattle.std.proofs.lemmas.List.Concat.{flat_map-append}
-use Rattle.span_keyed_tracks.specs.Keyed.{ascending}
-use Rattle.span_table.specs.declared.table.Row.{Row}
-use Rattle.span_table.specs.Keys.{TableKey, key_cmp}
-use Rattle.span_comparisons.specs.Spreads.{keys_of}
-use Rattle.span_table.specs.Tables.{SpanTable}
+use Rattle.std.proofs.{Common.{◌≡◌, List, ◌++◌, map, sym, ap, ◌∙◌}, lemmas.List.{Concat.flat_map-append, Filters.dedup_is}}
+use Rattle.span_comparisons.specs.{ascending, Row, TableKey, key_cmp, SpanTable, Spreads.keys_of}
 use Rattle.span_comparisons.proofs.RepeatedKeys.{dedup-ascending}
 use Rattle.span_comparisons.proofs.repeated.all_keys.Goals as goal
 

@@ -1,9 +1,5 @@
-use Rattle.std.proofs.Common.{◌≡◌, ◌+◌, Bor, List, ◌∷◌, [], ◌++◌, map, take, sym, ap, ap₂, subst, ◌∙◌, arith}
-use Rattle.std.proofs.lemmas.List.{map_more}
-use Rattle.span_table.specs.Keys.{TableKey}
-use Rattle.span_comparisons.specs.Sides.{ClassifiesSpreads}
-use Rattle.span_comparisons.specs.Spreads.{Spreads, spreads_at}
-use Rattle.span_table.specs.Tables.{SpanTable}
+use Rattle.std.proofs.{Common.{◌≡◌, ◌+◌, Bor, List, ◌∷◌, [], ◌++◌, map, take, sym, ap, ap₂, subst, ◌∙◌, arith}, lemmas.List.map_more}
+use Rattle.span_comparisons.specs.{TableKey, SpanTable, Sides.ClassifiesSpreads, Spreads.{Spreads, spreads_at}}
 use Rattle.span_comparisons.proofs.repeated.classify_all.Goals as goal
 
 pub loop-key-preserved : goal.loop-key-preserved

@@ -1,6 +1,5 @@
 use Rattle.std.proofs.Common.{◌≡◌, ◌≤◌, map, take}
-use Rattle.span_comparisons.specs.Sides.{ClassifiesSpreads}
-use Rattle.span_comparisons.specs.Spreads.{spreads_at}
+use Rattle.span_comparisons.specs.{Sides.ClassifiesSpreads, Spreads.spreads_at}
 use Rattle.span_comparisons.proofs.repeated.classify_all.Given as goal
 
 -- the keys so far are classified

@@ -1,9 +1,5 @@
-use Rattle.std.proofs.Common.{◌≡◌, ◌+◌, List, ◌∷◌, [], ◌++◌, map, take, sym, ap, ap₂, ◌∙◌}
-use Rattle.std.proofs.lemmas.List.{flat_map_more, take_more}
-use Rattle.span_table.specs.declared.table.Row.{Row}
-use Rattle.span_table.specs.Keys.{TableKey}
-use Rattle.span_comparisons.specs.Spreads.{keys_of}
-use Rattle.span_table.specs.Tables.{SpanTable}
+use Rattle.std.proofs.{Common.{◌≡◌, ◌+◌, List, ◌∷◌, [], ◌++◌, map, take, sym, ap, ap₂, ◌∙◌}, lemmas.List.{flat_map_more, take_more}}
+use Rattle.span_comparisons.specs.{Row, TableKey, SpanTable, Spreads.keys_of}
 use Rattle.span_comparisons.proofs.repeated.push_keys.Goals as goal
 
 pub loop-table-preserved : goal.loop-table-preserved

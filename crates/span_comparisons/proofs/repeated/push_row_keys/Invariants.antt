@@ -1,5 +1,5 @@
 use Rattle.std.proofs.Common.{◌≡◌, ◌++◌, map, take}
-use Rattle.span_table.specs.declared.table.Row.{Row}
+use Rattle.span_comparisons.specs.{Row}
 use Rattle.span_comparisons.proofs.repeated.push_row_keys.Given as goal
 
 -- the keys of the rows so far

@@ -1,12 +1,8 @@
-use Rattle.std.proofs.Common.{rules, map, sym, ap, subst, ◌∙◌}
-use Rattle.std.specs.Prelude.{filter}
-use Rattle.std.specs.List.Sorted.{IsPermutation}
-use Rattle.std.proofs.lemmas.Fn.{filter_same}
-use Rattle.span_keyed_tracks.proofs.Sorting.{IsSorted-from_sort_by, sorted-ascending}
+use Rattle.std.specs.{List.Sorted.IsPermutation, Prelude.filter}
+use Rattle.std.proofs.{Common.{rules, map, sym, ap, subst, ◌∙◌}, lemmas.Fn.filter_same}
 use Rattle.span_self_time.proofs.Mapped.{filter-map}
-use Rattle.span_table_text.specs.Shown.{is_wanted}
-use Rattle.span_comparisons.specs.Sides.{ClassifiesSpreads}
-use Rattle.span_comparisons.specs.Spreads.{is_apart, shown_spreads, spreads_at}
+use Rattle.span_keyed_tracks.proofs.Sorting.{IsSorted-from_sort_by, sorted-ascending}
+use Rattle.span_comparisons.specs.{is_wanted, Sides.ClassifiesSpreads, Spreads.{is_apart, shown_spreads, spreads_at}}
 use Rattle.span_comparisons.proofs.SpreadOrder.{ClassifiesSpreads-shown, spread_order-total, spreads-distinct}
 use Rattle.span_comparisons.proofs.repeated.repeated.Goals as goal
 

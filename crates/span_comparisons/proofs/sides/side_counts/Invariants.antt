@@ -1,6 +1,5 @@
 use Rattle.std.proofs.Common.{◌≡◌, ◌*◌, ◌^◌, take}
-use Rattle.span_table.specs.Counts.{AreCountsWithin}
-use Rattle.span_comparisons.specs.Repeats.{side_counts}
+use Rattle.span_comparisons.specs.{AreCountsWithin, Repeats.side_counts}
 use Rattle.span_comparisons.proofs.sides.side_counts.Given as goal
 
 -- the counts so far, none of whose numbers is greater than the counts of so many tables together have

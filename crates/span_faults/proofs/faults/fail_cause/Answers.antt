@@ -1,7 +1,7 @@
 use Rattle.std.proofs.Common.{List, ℕ, sym, subst, inl}
-use Rattle.span_runs.specs.declared.stop.StopCause.TheVariants as cause
 use Rattle.span_faults.specs.FaultLines.{Says, SaysOrMemory, cause_text, run_line}
 use Rattle.span_faults.proofs.FaultLines.{SaysAndHints-alone}
+use Rattle.span_runs.specs.declared.stop.StopCause.TheVariants as cause
 use Rattle.span_faults.proofs.faults.fail_cause.Goals as goal
 
 pub returns-in-Memory-clause-said : goal.returns-in-Memory-clause-said

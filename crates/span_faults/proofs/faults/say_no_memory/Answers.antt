@@ -1,6 +1,5 @@
 use Rattle.std.specs.Fmt.{digits}
-use Rattle.span_event.specs.Fault.{fault_of}
-use Rattle.span_collect.specs.Words.{numbered}
+use Rattle.span_faults.specs.{fault_of, numbered}
 use Rattle.span_faults.proofs.faults.say_no_memory.Goals as goal
 
 -- the fixed bytes are the line of 31

@@ -1,5 +1,5 @@
-use Rattle.std.proofs.Common.{◌≡◌}
 use Rattle.std.specs.Prelude.{map}
+use Rattle.std.proofs.Common.{◌≡◌}
 use Rattle.span_keyed_tracks.specs.Async.{async_row}
 use Rattle.span_keyed_tracks.proofs.async_track.rows_of.Given as goal
 

@@ -1,13 +1,6 @@
-use Rattle.std.proofs.Common.{rules, ◌≡◌, ℕ, zero, suc, ◌+◌, ◌<◌, ◌∷◌, [], ◌++◌, map, take, drop, sym, ap, ap₂, subst, ◌∙◌, arith, w64, to_z, of_z}
-use Rattle.std.specs.Prelude.{Option, None, Some, IfSome, is_some, option_and_then, option_copied, position, slice_get, refl}
-use Rattle.std.specs.Map.{keys_of, values_of}
-use Rattle.span_keyed_tracks.specs.declared.keys.SeriesKey.{SeriesKey}
-use Rattle.std.proofs.lemmas.Grind.{take_at_read}
-use Rattle.std.proofs.lemmas.List.{map_push}
-use Rattle.span_event.specs.Args.{AllWhole, Arguments}
-use Rattle.span_event.specs.declared.args.ArgValue.TheVariants.{Whole}
-use Rattle.span_keyed_tracks.specs.Counters.{Series, series_key}
-use Rattle.span_keyed_tracks.specs.CountersKept.{ArePlaced, IsPlaced, found_at, next_entry, same_series, samples_before, with_sample}
+use Rattle.std.specs.{Map.{keys_of, values_of}, Prelude.{Option, None, Some, IfSome, is_some, option_and_then, option_copied, position, slice_get, refl}}
+use Rattle.std.proofs.{Common.{rules, ◌≡◌, ℕ, zero, suc, ◌+◌, ◌<◌, ◌∷◌, [], ◌++◌, map, take, drop, sym, ap, ap₂, subst, ◌∙◌, arith, w64, to_z, of_z}, lemmas.{Grind.take_at_read, List.map_push}}
+use Rattle.span_keyed_tracks.specs.{AllWhole, Arguments, Whole, Counters.{Series, series_key}, CountersKept.{ArePlaced, IsPlaced, found_at, next_entry, same_series, samples_before, with_sample}, declared.keys.SeriesKey.SeriesKey}
 use Rattle.span_keyed_tracks.proofs.SeriesKept.{ArePlaced-push, samples_before-found_at}
 use Rattle.span_keyed_tracks.proofs.counter_track.next_entries.Goals as goal
 

@@ -1,6 +1,5 @@
 use Rattle.std.proofs.Common.{◌≡◌, map, take, drop}
-use Rattle.span_event.specs.Args.{AllWhole}
-use Rattle.span_keyed_tracks.specs.CountersKept.{ArePlaced, next_entry}
+use Rattle.span_keyed_tracks.specs.{AllWhole, CountersKept.{ArePlaced, next_entry}}
 use Rattle.span_keyed_tracks.proofs.counter_track.next_entries.Given as goal
 
 -- the members passed have their entries, and those to come are whole numbers

@@ -1,9 +1,7 @@
-use Rattle.std.proofs.Common.{rules, ◌≡◌, ℕ, ◌∷◌, Option, map, length, sym, ap, subst, ◌∙◌, arith}
 use Rattle.std.specs.Vec.Iter.{into_iter_items}
+use Rattle.std.proofs.Common.{rules, ◌≡◌, ℕ, ◌∷◌, Option, map, length, sym, ap, subst, ◌∙◌, arith}
 use Rattle.indexmap.specs.IndexMap.{insert_all}
-use Rattle.span_keyed_tracks.specs.declared.keys.SeriesKey.{SeriesKey}
-use Rattle.span_keyed_tracks.specs.Counters.{Series}
-use Rattle.span_keyed_tracks.specs.CountersKept.{ArePlaced, same_series}
+use Rattle.span_keyed_tracks.specs.{Counters.Series, CountersKept.{ArePlaced, same_series}, declared.keys.SeriesKey.SeriesKey}
 use Rattle.span_keyed_tracks.proofs.SeriesKept.{ArePlaced-put}
 use Rattle.span_keyed_tracks.proofs.counter_track.put_all.Goals as goal
 

@@ -1,5 +1,5 @@
-use Rattle.std.proofs.Common.{◌≡◌, ◌≤◌, length, map}
 use Rattle.std.specs.Vec.Iter.{into_iter_items}
+use Rattle.std.proofs.Common.{◌≡◌, ◌≤◌, length, map}
 use Rattle.indexmap.specs.IndexMap.{insert_all, spare}
 use Rattle.span_keyed_tracks.specs.CountersKept.{ArePlaced, same_series}
 use Rattle.span_keyed_tracks.proofs.counter_track.put_all.Given as goal

@@ -1,5 +1,5 @@
-use Rattle.std.proofs.Common.{◌≡◌}
 use Rattle.std.specs.Prelude.{map}
+use Rattle.std.proofs.Common.{◌≡◌}
 use Rattle.span_keyed_tracks.specs.Flow.{flow_row}
 use Rattle.span_keyed_tracks.proofs.flow_track.rows_of.Given as goal
 

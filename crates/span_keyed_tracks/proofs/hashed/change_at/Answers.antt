@@ -1,10 +1,8 @@
+use Rattle.std.specs.{Map.lookup, Prelude.unwrap_or}
 use Rattle.std.proofs.Common.{rules, ◌≡◌, Some, None, sym, ap, ap₂, ◌∙◌}
-use Rattle.std.specs.Prelude.{unwrap_or}
-use Rattle.std.specs.Map.{lookup}
 use Rattle.indexmap.specs.IndexMap.{insert_entry as put_entry}
 use Rattle.span_keyed_tracks.specs.Keyed.{in_key_order, kept_at}
-use Rattle.span_keyed_tracks.proofs.KeyChange.{ChangesAt-found, ChangesAt-first}
-use Rattle.span_keyed_tracks.proofs.InKeyOrder.{found-in_key_order, in_key_order-put, in_key_order-sorted, in_key_order-written}
+use Rattle.span_keyed_tracks.proofs.{InKeyOrder.{found-in_key_order, in_key_order-put, in_key_order-sorted, in_key_order-written}, KeyChange.{ChangesAt-found, ChangesAt-first}}
 use Rattle.span_keyed_tracks.proofs.hashed.change_at.Goals as goal
 
 pub change-requires : goal.change-requires

@@ -1,8 +1,6 @@
+use Rattle.std.specs.{List.Sorted.IsStrictlySortedBy, Ordering.int_cmp}
 use Rattle.std.proofs.Common.{◌≡◌, ℤ, List, []}
-use Rattle.std.specs.List.Sorted.{IsStrictlySortedBy}
-use Rattle.std.specs.Ordering.{int_cmp}
-use Rattle.span_event.specs.declared.thread.Thread.{Thread}
-use Rattle.span_ledger.specs.Grouped.{groups_of}
+use Rattle.span_ledger.specs.{Thread, Grouped.groups_of}
 use Rattle.span_ledger.proofs.by_process.add_series.Given as goal
 
 -- the rows that were passed are grouped

@@ -1,6 +1,5 @@
+use Rattle.std.specs.{List.Sorted.IsStrictlySortedBy, Ordering.int_cmp}
 use Rattle.std.proofs.Common.{◌≡◌, ℤ, List, []}
-use Rattle.std.specs.List.Sorted.{IsStrictlySortedBy}
-use Rattle.std.specs.Ordering.{int_cmp}
 use Rattle.span_ledger.specs.Grouped.{groups_of}
 use Rattle.span_ledger.proofs.by_process.add_threads.Given as goal
 

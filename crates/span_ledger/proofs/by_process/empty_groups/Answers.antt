@@ -1,12 +1,8 @@
+use Rattle.std.specs.{BTreeMap.insert_entry, Cmp.int_cmp_total, Ordering.int_cmp}
 use Rattle.std.proofs.Common.{◌≡◌, [], map, rules, sym, ap, ap₂, ◌∙◌, to_z, of_z, w64}
-use Rattle.std.specs.BTreeMap.{insert_entry}
-use Rattle.std.specs.Cmp.{int_cmp_total}
-use Rattle.std.specs.Ordering.{int_cmp}
-use Rattle.span_keyed_tracks.specs.Keyed.{ascending}
-use Rattle.span_ledger.specs.Grouped.{groups_of}
-use Rattle.span_ledger.proofs.Ascending.{ascending-passed}
-use Rattle.span_ledger.proofs.Grouping.{groups_of-inserted}
 use Rattle.span_journal.proofs.Sorted.{ascending-sorted}
+use Rattle.span_ledger.specs.{ascending, Grouped.groups_of}
+use Rattle.span_ledger.proofs.{Ascending.ascending-passed, Grouping.groups_of-inserted}
 use Rattle.span_ledger.proofs.by_process.empty_groups.Goals as goal
 
 pub loop-pid-preserved-in_ok-insert : goal.loop-pid-preserved-in_ok-insert

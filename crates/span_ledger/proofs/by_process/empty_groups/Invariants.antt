@@ -1,7 +1,6 @@
-use Rattle.std.proofs.Common.{◌≡◌, [], map}
 use Rattle.std.specs.Ordering.{int_cmp}
-use Rattle.span_keyed_tracks.specs.Keyed.{ascending}
-use Rattle.span_ledger.specs.Grouped.{groups_of}
+use Rattle.std.proofs.Common.{◌≡◌, [], map}
+use Rattle.span_ledger.specs.{ascending, Grouped.groups_of}
 use Rattle.span_ledger.proofs.by_process.empty_groups.Given as goal
 
 -- the processes that were passed have a group

@@ -1,12 +1,7 @@
+use Rattle.std.specs.{Cmp.int_cmp_total, List.Sorted.IsStrictlySortedBy, Ordering.int_cmp}
 use Rattle.std.proofs.Common.{rules, ◌≡◌, [], ap, ap₂, subst, ◌∙◌}
-use Rattle.std.specs.List.Sorted.{IsStrictlySortedBy}
-use Rattle.std.specs.Ordering.{int_cmp}
-use Rattle.std.specs.Cmp.{int_cmp_total}
-use Rattle.span_keyed_tracks.specs.Counters.{CounterStandsFor, series_rows}
-use Rattle.span_event.specs.Given.{Gives}
-use Rattle.span_ledger.specs.Grouped.{groups_of}
-use Rattle.span_ledger.specs.Tracked.{TracksKept}
 use Rattle.span_journal.proofs.Sorted.{ascending-sorted}
+use Rattle.span_ledger.specs.{CounterStandsFor, series_rows, Gives, Grouped.groups_of, Tracked.TracksKept}
 use Rattle.span_ledger.proofs.by_process.grouped.Goals as goal
 
 pub returns : goal.returns

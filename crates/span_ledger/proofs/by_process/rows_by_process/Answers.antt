@@ -1,9 +1,6 @@
 use Rattle.std.proofs.Common.{map, ap, ap₂, ◌∙◌}
-use Rattle.span_keyed_tracks.specs.Counters.{series_rows}
 use Rattle.span_keyed_tracks.proofs.Results.{if_ok-map}
-use Rattle.span_ledger.specs.Grouped.{rows_in_group, groups_of}
-use Rattle.span_journal.specs.Journal.{accepted}
-use Rattle.span_journal.specs.Told.{counter_events}
+use Rattle.span_ledger.specs.{series_rows, accepted, counter_events, Grouped.{rows_in_group, groups_of}}
 use Rattle.span_ledger.proofs.RowsInGroups.{rows_by_process-grouped}
 use Rattle.span_ledger.proofs.by_process.rows_by_process.Goals as goal
 

@@ -1,5 +1,5 @@
-use Rattle.std.proofs.Common.{◌≡◌}
 use Rattle.std.specs.Prelude.{map}
+use Rattle.std.proofs.Common.{◌≡◌}
 use Rattle.span_ledger.specs.Grouped.{rows_in_group}
 use Rattle.span_ledger.proofs.by_process.rows_in_groups.Given as goal
 

@@ -1,6 +1,6 @@
-use Rattle.std.proofs.Common.{◌≡◌, take}
 use Rattle.std.specs.Prelude.{map}
-use Rattle.span_journal.specs.ByProcess.{rows_in_thread}
+use Rattle.std.proofs.Common.{◌≡◌, take}
+use Rattle.span_ledger.specs.{rows_in_thread}
 use Rattle.span_ledger.proofs.by_process.rows_in_threads.Given as goal
 
 -- the rows of the threads so far

@@ -1,11 +1,8 @@
-use Rattle.std.proofs.Common.{◌≡◌, ◌+◌, Some, refl, rules, ◌∙◌, subst}
 use Rattle.std.specs.Prelude.{IfOk}
-use Rattle.span_event.specs.Time.{distance}
-use Rattle.span_journal.specs.declared.entry.Answer.TheVariants.{FlowStarted, FlowStep, FlowEnded}
-use Rattle.span_keyed_tracks.specs.Flow.{started, stepped, finished, flow_chains_at, flow_opened, flow_continued, flow_closed}
-use Rattle.span_journal.specs.Told.{flow_point, flow_key}
-use Rattle.span_ledger.proofs.FlowAnswers.{FlowEnded-closed, TellsFlow-called}
-use Rattle.span_ledger.proofs.keyed_events.tell_flow.Goals.{in-FlowStart, in-FlowEnd, in_default-phase}
+use Rattle.std.proofs.Common.{◌≡◌, ◌+◌, Some, refl, rules, ◌∙◌, subst}
+use Rattle.span_journal.specs.declared.entry.Answer.TheVariants.{FlowStep}
+use Rattle.span_ledger.specs.{distance, FlowStarted, FlowEnded, started, stepped, finished, flow_chains_at, flow_opened, flow_continued, flow_closed, flow_point, flow_key}
+use Rattle.span_ledger.proofs.{FlowAnswers.{FlowEnded-closed, TellsFlow-called}, keyed_events.tell_flow.Goals.{in-FlowStart, in-FlowEnd, in_default-phase}}
 use Rattle.span_ledger.proofs.keyed_events.tell_flow.Goals as goal
 
 pub returns-clause-tells : goal.returns-clause-tells

@@ -1,12 +1,7 @@
-use Rattle.std.proofs.Common.{rules, ◌≡◌, ℕ, [], sym, ap, subst, ◌∙◌}
 use Rattle.std.specs.Prelude.{Option, unwrap_or}
-use Rattle.span_event.specs.Orders.{thread_cmp}
-use Rattle.span_keyed_tracks.proofs.Keyed.{kept_at-found}
-use Rattle.span_keyed_tracks.proofs.Results.{if_ok-map}
-use Rattle.span_track.specs.Thread.{ThreadSpans, thread_spans}
-use Rattle.span_ledger.specs.Named.{AreThreadSpans}
-use Rattle.span_journal.specs.Told.{thread_events}
-use Rattle.span_ledger.specs.Tracked.{SpansKept}
+use Rattle.std.proofs.Common.{rules, ◌≡◌, ℕ, [], sym, ap, subst, ◌∙◌}
+use Rattle.span_keyed_tracks.proofs.{Keyed.kept_at-found, Results.if_ok-map}
+use Rattle.span_ledger.specs.{thread_cmp, ThreadSpans, thread_spans, thread_events, Named.AreThreadSpans, Tracked.SpansKept}
 use Rattle.span_ledger.proofs.NamedSpans.{AreThreadSpans-track, IsTrackOf-kept, named_spans-track}
 use Rattle.span_ledger.proofs.named_spans.closed_spans.Goals as goal
 

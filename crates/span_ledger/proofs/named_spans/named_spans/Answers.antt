@@ -1,10 +1,8 @@
-use Rattle.std.proofs.Common.{◌≡◌, ◌++◌, ◌+◌, map, take, sym, ap, ap₂, ◌∙◌, append-nil}
 use Rattle.std.specs.Option.{option_to_list}
-use Rattle.span_self_time.specs.Closed.{span_of}
-use Rattle.span_ledger.specs.Named.{named_span, named_spans}
-use Rattle.span_ledger.proofs.NamedSpans.{named_spans-more}
+use Rattle.std.proofs.Common.{◌≡◌, ◌++◌, ◌+◌, map, take, sym, ap, ap₂, ◌∙◌, append-nil}
+use Rattle.span_ledger.specs.{span_of, Named.{named_span, named_spans}}
+use Rattle.span_ledger.proofs.{NamedSpans.named_spans-more, named_spans.named_spans.Goals.{in-Some+in_ok-push, in_default}}
 use Rattle.span_ledger.proofs.named_spans.named_spans.Goals as goal
-use Rattle.span_ledger.proofs.named_spans.named_spans.Goals.{in-Some+in_ok-push, in_default}
 
 pub loop-span-preserved : goal.loop-span-preserved
 loop-span-preserved c =

@@ -1,6 +1,5 @@
 use Rattle.std.proofs.Common.{◌≡◌, map, take}
-use Rattle.span_self_time.specs.Closed.{span_of}
-use Rattle.span_ledger.specs.Named.{named_spans}
+use Rattle.span_ledger.specs.{span_of, Named.named_spans}
 use Rattle.span_ledger.proofs.named_spans.named_spans.Given as goal
 
 -- those of the spans so far

@@ -1,11 +1,6 @@
-use Rattle.std.proofs.Common.{◌≡◌, List, map, sym, ap, ◌∙◌, subst}
-use Rattle.std.proofs.lemmas.List.{map-id}
-use Rattle.std.proofs.lemmas.Simd.{map-map}
-use Rattle.span_event.specs.Text.{Bytes}
-use Rattle.span_self_time.specs.Spans.{Span}
+use Rattle.std.proofs.{Common.{◌≡◌, List, map, sym, ap, ◌∙◌, subst}, lemmas.{List.map-id, Simd.map-map}}
 use Rattle.span_keyed_tracks.proofs.Results.{if_ok-map}
-use Rattle.span_ledger.specs.Named.{AreThreadSpans}
-use Rattle.span_journal.specs.Timed.{Timed, timed_in, with_self_times}
+use Rattle.span_ledger.specs.{Bytes, Span, Timed, timed_in, with_self_times, Named.AreThreadSpans}
 use Rattle.span_ledger.proofs.named_spans.timed_spans.Goals as goal
 
 spans-with_self_times : (spans : List (Span Bytes)) → map (λ t. t.span) (with_self_times spans) ≡ spans

@@ -1,5 +1,5 @@
 use Rattle.std.proofs.Common.{◌≡◌, map, take}
-use Rattle.span_journal.specs.Timed.{timed_in}
+use Rattle.span_ledger.specs.{timed_in}
 use Rattle.span_ledger.proofs.named_spans.with_self_times.Given as goal
 
 abbrev pub invariant-loop-i : goal.invariant-loop-i

@@ -1,17 +1,7 @@
 use Rattle.std.proofs.Common.{◌≡◌, rules, refl, ap, ◌∙◌, to_z, of_z, w64}
-use Rattle.span_event.specs.Given.{Gives}
-use Rattle.span_event.specs.declared.thread.Thread.{Thread}
-use Rattle.span_keyed_tracks.specs.Async.{async_spans_at, async_totals}
-use Rattle.span_keyed_tracks.specs.Counters.{CounterStandsFor, series_totals}
-use Rattle.span_keyed_tracks.specs.Flow.{flow_chains_at, flow_totals}
-use Rattle.span_names.specs.Numbering.{number_in}
-use Rattle.span_keyed_tracks.proofs.Async.{async_spans_at-StandsFor}
-use Rattle.span_keyed_tracks.proofs.Flow.{flow_chains_at-StandsFor}
-use Rattle.span_journal.specs.declared.reply.Reply.TheVariants.{Async, Flow, Series}
-use Rattle.span_ledger.specs.Tracked.{track_at}
-use Rattle.span_ledger.specs.TrackRows.{number_reply, track_reply}
-use Rattle.span_ledger.proofs.ThreadTelling.{IsTrackOf-journal}
-use Rattle.span_ledger.proofs.TrackReplies.{track_reply-is, number_reply-is}
+use Rattle.span_keyed_tracks.proofs.{Async.async_spans_at-StandsFor, Flow.flow_chains_at-StandsFor}
+use Rattle.span_ledger.specs.{Gives, Thread, async_spans_at, async_totals, CounterStandsFor, series_totals, flow_chains_at, flow_totals, number_in, Async, Flow, Series, TrackRows.{number_reply, track_reply}, Tracked.track_at}
+use Rattle.span_ledger.proofs.{ThreadTelling.IsTrackOf-journal, TrackReplies.{track_reply-is, number_reply-is}}
 use Rattle.span_ledger.proofs.replies.reply_to.Goals as goal
 
 pub returns-in-Thread : goal.returns-in-Thread

@@ -1,7 +1,6 @@
 use Rattle.std.proofs.Common.{◌≡◌, to_z, of_z, w64, rules}
-use Rattle.span_event.specs.Time.{distance}
-use Rattle.span_track.specs.Thread.{merged_args, suits}
 use Rattle.span_track.proofs.Threads.Closing.{end_refusal-any_name}
+use Rattle.span_ledger.specs.{distance, merged_args, suits}
 use Rattle.span_ledger.proofs.ThreadAnswers.{IsToldTo-ended}
 use Rattle.span_ledger.proofs.thread_tracks.close_last.Goals as goal
 

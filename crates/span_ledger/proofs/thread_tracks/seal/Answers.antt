@@ -1,5 +1,5 @@
 use Rattle.std.proofs.Common.{rules, ◌≡◌, Err, to_z, of_z, w64, to_z-of_z}
-use Rattle.span_track.specs.Thread.{any_name}
+use Rattle.span_ledger.specs.{any_name}
 use Rattle.span_ledger.proofs.ThreadAnswers.{IsToldTo-sealed, TellsThread-seal}
 use Rattle.span_ledger.proofs.thread_tracks.seal.Goals as goal
 

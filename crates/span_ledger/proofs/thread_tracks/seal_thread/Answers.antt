@@ -1,13 +1,8 @@
-use Rattle.std.proofs.Common.{rules, ◌≡◌, ℕ, [], Some, refl, sym, ap, to_z, of_z, w64, to_z-of_z}
 use Rattle.std.specs.BTreeMap.{BTreeMap}
-use Rattle.span_event.specs.declared.thread.Thread.{Thread}
+use Rattle.std.proofs.Common.{rules, ◌≡◌, ℕ, [], Some, refl, sym, ap, to_z, of_z, w64, to_z-of_z}
 use Rattle.span_event.proofs.Orders.{thread_cmp-same, thread_cmp-total}
-use Rattle.span_keyed_tracks.specs.declared.fault.TrackFault.TheVariants.{Refused}
-use Rattle.span_track.specs.Nesting.{sealed}
-use Rattle.span_track.specs.Thread.{ThreadSpans, any_name, thread_spans}
-use Rattle.span_journal.specs.Answers.{thread_step_answer}
-use Rattle.span_ledger.proofs.KeyTelling.{Tells-found, Tells-first}
-use Rattle.span_ledger.proofs.ThreadAnswers.{TellsThread-seal}
+use Rattle.span_ledger.specs.{Thread, Refused, sealed, ThreadSpans, any_name, thread_spans, thread_step_answer}
+use Rattle.span_ledger.proofs.{KeyTelling.{Tells-found, Tells-first}, ThreadAnswers.TellsThread-seal}
 use Rattle.span_ledger.proofs.thread_tracks.seal_thread.Goals as goal
 
 pub returns-in-Some : goal.returns-in-Some

@@ -1,6 +1,5 @@
 use Rattle.std.proofs.Common.{◌≡◌, to_z, of_z, w64, rules}
-use Rattle.span_track.specs.Nesting.{Begin}
-use Rattle.span_track.specs.Thread.{suits}
+use Rattle.span_ledger.specs.{Begin, suits}
 use Rattle.span_ledger.proofs.ThreadAnswers.{IsToldTo-began}
 use Rattle.span_ledger.proofs.thread_tracks.tell_step.Goals as goal
 

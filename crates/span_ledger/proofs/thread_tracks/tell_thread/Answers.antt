@@ -1,15 +1,8 @@
+use Rattle.std.specs.{BTreeMap.{BTreeMap, is_at, insert_entry}, Map.lookup}
 use Rattle.std.proofs.Common.{rules, ◌≡◌, ℕ, [], Some, Ok, Err, sym, ap, subst, ◌∙◌}
-use Rattle.std.specs.Map.{lookup}
-use Rattle.std.specs.BTreeMap.{BTreeMap, is_at, insert_entry}
-use Rattle.span_event.specs.Orders.{thread_cmp}
-use Rattle.span_event.specs.Thread.{thread_of}
-use Rattle.span_event.specs.declared.thread.Thread.{Thread}
 use Rattle.span_event.proofs.Orders.{thread_cmp-same, thread_cmp-total}
 use Rattle.span_keyed_tracks.proofs.Keyed.{kept_at-found}
-use Rattle.span_track.specs.Thread.{ThreadSpans, HasRoom, IsNext, suits, thread_spans}
-use Rattle.span_journal.specs.Answers.{thread_step_answer}
-use Rattle.span_journal.specs.Told.{span_step}
-use Rattle.span_ledger.specs.Telling.{TellsThreads}
+use Rattle.span_ledger.specs.{thread_cmp, thread_of, Thread, ThreadSpans, HasRoom, IsNext, suits, thread_spans, thread_step_answer, span_step, Telling.TellsThreads}
 use Rattle.span_ledger.proofs.KeyTelling.{Tells-found, Tells-first, IsToldTo-first}
 use Rattle.span_ledger.proofs.thread_tracks.tell_thread.Goals as goal
 

@@ -1,5 +1,5 @@
-use Rattle.std.proofs.Common.{◌≡◌, ◌++◌}
 use Rattle.std.specs.Prelude.{map}
+use Rattle.std.proofs.Common.{◌≡◌, ◌++◌}
 use Rattle.span_ledger.specs.TrackRows.{track_span_row}
 use Rattle.span_ledger.proofs.track_rows.add_rows_of_track.Given as goal
 

@@ -1,9 +1,7 @@
-use Rattle.std.proofs.Common.{[], ◌++◌, sym, ap, ◌∙◌, append-nil}
 use Rattle.std.specs.Prelude.{unwrap_or}
+use Rattle.std.proofs.Common.{[], ◌++◌, sym, ap, ◌∙◌, append-nil}
 use Rattle.span_keyed_tracks.proofs.Results.{on_ok-map}
-use Rattle.span_track.specs.Thread.{thread_spans}
-use Rattle.span_ledger.specs.Tracked.{SpansKept}
-use Rattle.span_ledger.specs.TrackRows.{track_span_rows, span_rows_of_track}
+use Rattle.span_ledger.specs.{thread_spans, TrackRows.{track_span_rows, span_rows_of_track}, Tracked.SpansKept}
 use Rattle.span_ledger.proofs.track_rows.add_span_rows.Goals as goal
 
 pub returns-in-Some : goal.returns-in-Some

@@ -1,10 +1,8 @@
 use Rattle.std.proofs.Common.{◌≡◌, [], rules, sym, ap, ◌∙◌}
-use Rattle.span_event.specs.Orders.{thread_cmp}
 use Rattle.span_keyed_tracks.proofs.Keyed.{kept_at-found}
-use Rattle.span_track.specs.Thread.{thread_spans}
-use Rattle.span_ledger.specs.Tracked.{SpansKept, track_at}
-use Rattle.span_ledger.proofs.track_rows.named_row.Goals as goal
+use Rattle.span_ledger.specs.{thread_cmp, thread_spans, Tracked.{SpansKept, track_at}}
 use Rattle.span_ledger.proofs.track_rows.named_row.Goals.{in-Some, in-None}
+use Rattle.span_ledger.proofs.track_rows.named_row.Goals as goal
 
 pub returns : goal.returns
 returns c =

@@ -1,12 +1,8 @@
-use Rattle.span_event.specs.Text.{text_cmp}
-use Rattle.std.proofs.Common.{◌≡◌, ℕ, suc, ◌+◌, ◌<◌, List, length, get_or, drop, drop-cons, Option, Some, None, refl, sym, ap, ◌∙◌, arith}
-use Rattle.std.specs.Prelude.{fold, filter_map, nat_eq, slice_get, option_and_then}
-use Rattle.std.specs.List.{cons_option}
-use Rattle.std.specs.BTreeSet.{insert_key, keys}
-use Rattle.span_self_time.specs.Spans.{names_of}
-use Rattle.std.proofs.lemmas.Option.{slice_get-get_or}
-use Rattle.span_ledger.proofs.track_rows.names_of.Goals as goal
+use Rattle.std.specs.{BTreeSet.{insert_key, keys}, List.cons_option, Prelude.{fold, filter_map, nat_eq, slice_get, option_and_then}}
+use Rattle.std.proofs.{Common.{◌≡◌, ℕ, suc, ◌+◌, ◌<◌, List, length, get_or, drop, drop-cons, Option, Some, None, refl, sym, ap, ◌∙◌, arith}, lemmas.Option.slice_get-get_or}
+use Rattle.span_ledger.specs.{text_cmp, names_of}
 use Rattle.span_ledger.proofs.track_rows.names_of.Goals.{in-Some+in_ok-copy+in_ok-insert, in_default}
+use Rattle.span_ledger.proofs.track_rows.names_of.Goals as goal
 
 fold-cons_option : {A B : Type 0} (f : B → A → B) (b : B) (o : Option A) (xs : List A) (c : B) → ((x : A) → o ≡ Some x → f b x ≡ c) → (o ≡ None → b ≡ c) → fold f b (cons_option o xs) ≡ fold f c xs
 fold-cons_option f b None xs c some none = ap (λ d. fold f d xs) (none refl)

@@ -1,11 +1,7 @@
-use Rattle.span_event.specs.Text.{text_cmp}
+use Rattle.std.specs.{BTreeSet.insert_key, Prelude.{fold, filter_map, nat_eq, slice_get}}
 use Rattle.std.proofs.Common.{◌≡◌, drop}
-use Rattle.std.specs.Prelude.{fold, filter_map, nat_eq, slice_get}
-use Rattle.std.specs.BTreeSet.{insert_key}
-use Rattle.span_self_time.specs.Spans.{names_of}
-use Rattle.span_ledger.specs.TrackRows.{closed_names}
+use Rattle.span_ledger.specs.{text_cmp, names_of, ascending, TrackRows.closed_names}
 use Rattle.span_ledger.proofs.track_rows.names_of.Given as goal
-use Rattle.span_keyed_tracks.specs.Keyed.{ascending}
 
 -- the names so far, with those that are left, are all names
 abbrev pub invariant-loop-i : goal.invariant-loop-i

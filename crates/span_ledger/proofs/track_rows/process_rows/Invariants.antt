@@ -1,6 +1,6 @@
-use Rattle.std.proofs.Common.{◌≡◌}
 use Rattle.std.specs.Prelude.{map}
-use Rattle.span_journal.specs.Rows.{process_row}
+use Rattle.std.proofs.Common.{◌≡◌}
+use Rattle.span_ledger.specs.{process_row}
 use Rattle.span_ledger.proofs.track_rows.process_rows.Given as goal
 
 -- the rows of the processes that were passed

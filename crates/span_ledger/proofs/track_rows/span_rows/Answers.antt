@@ -1,9 +1,6 @@
-use Rattle.std.proofs.Common.{rules, ◌≡◌, List, [], ◌∷◌, ◌++◌, map, Bor, sym, ap, ◌∙◌, append_assoc, append-nil}
-use Rattle.std.proofs.lemmas.List.{map_push}
 use Rattle.std.specs.Prelude.{flat_map}
-use Rattle.span_event.specs.declared.thread.Thread.{Thread}
-use Rattle.span_journal.specs.declared.rows.SpanRow.{SpanRow}
-use Rattle.span_ledger.specs.TrackRows.{track_span_rows}
+use Rattle.std.proofs.{Common.{rules, ◌≡◌, List, [], ◌∷◌, ◌++◌, map, Bor, sym, ap, ◌∙◌, append_assoc, append-nil}, lemmas.List.map_push}
+use Rattle.span_ledger.specs.{Thread, SpanRow, TrackRows.track_span_rows}
 use Rattle.span_ledger.proofs.track_rows.span_rows.Goals as goal
 
 flat_map-push : {A B : Type 0} (f : A → List B) (xs : List A) (x : A) → flat_map f (xs ++ x ∷ []) ≡ flat_map f xs ++ f x

@@ -1,5 +1,5 @@
-use Rattle.std.proofs.Common.{◌≡◌}
 use Rattle.std.specs.Prelude.{flat_map, map}
+use Rattle.std.proofs.Common.{◌≡◌}
 use Rattle.span_ledger.specs.TrackRows.{track_span_rows}
 use Rattle.span_ledger.proofs.track_rows.span_rows.Given as goal
 

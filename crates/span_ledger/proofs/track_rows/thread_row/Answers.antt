@@ -1,8 +1,7 @@
 use Rattle.std.proofs.Common.{◌≡◌, rules, ap, ◌∙◌, Some}
 use Rattle.span_journal.specs.Rows.{names_of}
 use Rattle.span_ledger.specs.TrackRows.{track_row}
-use Rattle.span_ledger.proofs.ThreadTelling.{IsTrackOf-journal}
-use Rattle.span_ledger.proofs.TrackRows.{track_row-is}
+use Rattle.span_ledger.proofs.{ThreadTelling.IsTrackOf-journal, TrackRows.track_row-is}
 use Rattle.span_ledger.proofs.track_rows.thread_row.Goals as goal
 
 pub returns : goal.returns

@@ -1,9 +1,6 @@
 use Rattle.std.proofs.Common.{rules, ◌≡◌, ◌∙◌}
-use Rattle.span_journal.specs.Told.{thread_events}
-use Rattle.span_ledger.specs.Tracked.{track_at}
-use Rattle.span_ledger.specs.TrackRows.{track_span_rows}
-use Rattle.span_ledger.proofs.ThreadTelling.{IsTrackOf-journal}
-use Rattle.span_ledger.proofs.TrackRows.{span_rows_of_track-is}
+use Rattle.span_ledger.specs.{thread_events, TrackRows.track_span_rows, Tracked.track_at}
+use Rattle.span_ledger.proofs.{ThreadTelling.IsTrackOf-journal, TrackRows.span_rows_of_track-is}
 use Rattle.span_ledger.proofs.track_rows.thread_span_rows.Goals as goal
 
 pub returns : goal.returns

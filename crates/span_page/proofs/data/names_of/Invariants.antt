@@ -1,5 +1,5 @@
 use Rattle.std.proofs.Common.{◌≡◌, map, take}
-use Rattle.span_collect.specs.declared.files.Input.{Input}
+use Rattle.span_page.specs.{Input}
 use Rattle.span_page.proofs.data.names_of.Given as goal
 
 abbrev pub invariant-loop-file : goal.invariant-loop-file

@@ -1,10 +1,7 @@
-use Rattle.std.proofs.Common.{◌≡◌, ◌++◌, ◌∷◌, [], ℕ, Bor, List, map, ap, ap₂, ◌∙◌}
 use Rattle.std.specs.List.{join_with_byte}
-use Rattle.span_event.specs.Text.{Bytes}
+use Rattle.std.proofs.Common.{◌≡◌, ◌++◌, ◌∷◌, [], ℕ, Bor, List, map, ap, ap₂, ◌∙◌}
 use Rattle.span_journal.proofs.Sorted.{map-map}
-use Rattle.span_collect.specs.declared.files.Input.{Input}
-use Rattle.span_report.specs.Lines.{json_text_of}
-use Rattle.span_page.specs.Data.{names_json}
+use Rattle.span_page.specs.{Bytes, Input, json_text_of, Data.names_json}
 use Rattle.span_page.proofs.data.names_text.Goals as goal
 
 pub returns : goal.returns

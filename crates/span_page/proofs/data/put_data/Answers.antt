@@ -1,9 +1,6 @@
-use Rattle.std.proofs.Common.{◌++◌, List, ℕ, string_bytes, ap, ◌∙◌, sym}
 use Rattle.std.specs.Prelude.{codes}
-use Rattle.span_report.specs.Lines.{json_text_of}
-use Rattle.span_report.specs.Report.{report_of}
-use Rattle.span_page.specs.Data.{most_frames, rest_of}
-use Rattle.span_page.specs.Safe.{safe}
+use Rattle.std.proofs.Common.{◌++◌, List, ℕ, string_bytes, ap, ◌∙◌, sym}
+use Rattle.span_page.specs.{json_text_of, report_of, Data.{most_frames, rest_of}, Safe.safe}
 use Rattle.span_page.proofs.SafePieces.{append-four, safe-report, safe-table}
 use Rattle.span_page.proofs.data.put_data.Goals as goal
 

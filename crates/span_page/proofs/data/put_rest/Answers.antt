@@ -1,10 +1,6 @@
-use Rattle.std.proofs.Common.{◌++◌, List, ℕ, ap, ◌∙◌, sym}
 use Rattle.std.specs.Prelude.{codes}
-use Rattle.span_report.specs.Lines.{json_text_of}
-use Rattle.span_collect.specs.FaultLines.{end_lines}
-use Rattle.span_collect.specs.Refusals.Text.{refusals_of}
-use Rattle.span_page.specs.Data.{all_stacks_json, names_json}
-use Rattle.span_page.specs.Safe.{safe}
+use Rattle.std.proofs.Common.{◌++◌, List, ℕ, ap, ◌∙◌, sym}
+use Rattle.span_page.specs.{json_text_of, end_lines, refusals_of, Data.{all_stacks_json, names_json}, Safe.safe}
 use Rattle.span_page.proofs.SafePieces.{append-nine, safe-rest}
 use Rattle.span_page.proofs.data.put_rest.Goals as goal
 

@@ -1,11 +1,6 @@
-use Rattle.std.proofs.Common.{◌≡◌, ◌≤◌, ◌<◌, ◌-◌, ◌++◌, [], ℕ, List, arith, length, string_bytes, sym, ap, ◌∙◌, rules}
 use Rattle.std.specs.Prelude.{Err}
-use Rattle.span_report.specs.declared.stacks.fault.StacksFault.TheVariants.{TooLarge}
-use Rattle.span_report.specs.Stacks.Bounds.{frame_count}
-use Rattle.span_report.specs.Stacks.Folded.{thread_frame_count}
-use Rattle.span_report.specs.Stacks.Ticks.{Folded, folded_stacks}
-use Rattle.span_report.specs.Stacks.Framed.{Framed, folded_after}
-use Rattle.span_page.specs.Data.{stacks_json}
+use Rattle.std.proofs.Common.{◌≡◌, ◌≤◌, ◌<◌, ◌-◌, ◌++◌, [], ℕ, List, arith, length, string_bytes, sym, ap, ◌∙◌, rules}
+use Rattle.span_page.specs.{TooLarge, frame_count, thread_frame_count, Folded, folded_stacks, Framed, folded_after, Data.stacks_json}
 use Rattle.span_page.proofs.Graphs.{graph-none, graph-stands, left-none, left-stands}
 use Rattle.span_page.proofs.data.put_thread.Goals as goal
 

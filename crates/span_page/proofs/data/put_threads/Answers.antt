@@ -1,8 +1,6 @@
-use Rattle.std.proofs.Common.{◌++◌, ◌∷◌, [], ℕ, List, append-nil, flat_map, string_bytes, drop, sym, ap, ◌∙◌, append_assoc, ◌≡◌}
-use Rattle.std.proofs.lemmas.List.{drop_all}
 use Rattle.std.specs.List.{join_with_byte}
-use Rattle.span_event.specs.declared.thread.Thread.{Thread}
-use Rattle.span_page.specs.Data.{graph_json, graphs_json, left_after, left_behind}
+use Rattle.std.proofs.{Common.{◌++◌, ◌∷◌, [], ℕ, List, append-nil, flat_map, string_bytes, drop, sym, ap, ◌∙◌, append_assoc, ◌≡◌}, lemmas.List.drop_all}
+use Rattle.span_page.specs.{Thread, Data.{graph_json, graphs_json, left_after, left_behind}}
 use Rattle.span_page.proofs.Joined.{join_with_byte_cons}
 use Rattle.span_page.proofs.data.put_threads.Goals as goal
 

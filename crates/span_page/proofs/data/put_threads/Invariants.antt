@@ -1,5 +1,5 @@
-use Rattle.std.proofs.Common.{◌≡◌, ◌++◌, ◌∷◌, drop, string_bytes}
 use Rattle.std.specs.Prelude.{flat_map}
+use Rattle.std.proofs.Common.{◌≡◌, ◌++◌, ◌∷◌, drop, string_bytes}
 use Rattle.span_page.specs.Data.{graphs_json, left_behind}
 use Rattle.span_page.proofs.data.put_threads.Given as goal
 

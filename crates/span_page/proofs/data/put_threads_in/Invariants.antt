@@ -1,5 +1,5 @@
 use Rattle.std.proofs.Common.{◌≡◌, ◌++◌, map, take}
-use Rattle.span_journal.specs.ByProcess.{ThreadRows}
+use Rattle.span_page.specs.{ThreadRows}
 use Rattle.span_page.proofs.data.put_threads_in.Given as goal
 
 -- the threads so far

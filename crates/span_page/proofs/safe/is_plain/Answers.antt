@@ -1,9 +1,7 @@
+use Rattle.std.specs.{Bool.OnTrue, Prelude.not}
 use Rattle.std.proofs.Common.{◌≡◌, ◌≢◌, ◌∷◌, ℕ, List, Bool, sym, subst, rules}
-use Rattle.std.specs.Bool.{OnTrue}
-use Rattle.std.specs.Prelude.{not}
 use Rattle.span_page.specs.Safe.{safe}
-use Rattle.span_page.proofs.SafePieces.{safe-itself}
-use Rattle.span_page.proofs.safe.is_plain.Goals.{in-60, in_default}
+use Rattle.span_page.proofs.{SafePieces.safe-itself, safe.is_plain.Goals.{in-60, in_default}}
 use Rattle.span_page.proofs.safe.is_plain.Goals as goal
 
 pub returns : goal.returns

@@ -1,18 +1,8 @@
-use Rattle.std.proofs.Common.{◌≡◌, ◌⊎◌, ◌++◌, ◌∷◌, [], ◌+◌, ◌-◌, ℕ, suc, List, Bor, drop, length, map, rules, string_bytes, take, refl, sym, ap, ap₂, subst, ◌∙◌, inl, inr, arith}
-use Rattle.std.proofs.lemmas.List.{drop-map, length-drop, length-map, take_all}
-use Rattle.std.proofs.Math.Seq.{drop-cons}
-use Rattle.std.specs.List.{join_with_byte}
-use Rattle.std.specs.Ordering.{nat_cmp, ord_min}
-use Rattle.span_event.specs.Text.{Bytes}
-use Rattle.span_report.specs.Stacks.Ticks.{Stack}
-use Rattle.span_report.specs.Stacks.Framed.{AreAscending, Framed, stack_after}
-use Rattle.span_page.specs.Coded.{Coded}
-use Rattle.span_page.specs.Data.{stack_json}
-use Rattle.span_page.proofs.Appending.{coded_frame, with_frames, with_frames-none, with_frames-some}
-use Rattle.span_page.proofs.Coding.{coded_frames, coded_frames-all}
-use Rattle.span_page.proofs.Joined.{joined_after-nothing}
+use Rattle.std.specs.{List.join_with_byte, Ordering.{nat_cmp, ord_min}}
+use Rattle.std.proofs.{Common.{◌≡◌, ◌⊎◌, ◌++◌, ◌∷◌, [], ◌+◌, ◌-◌, ℕ, suc, List, Bor, drop, length, map, rules, string_bytes, take, refl, sym, ap, ap₂, subst, ◌∙◌, inl, inr, arith}, Math.Seq.drop-cons, lemmas.List.{drop-map, length-drop, length-map, take_all}}
+use Rattle.span_page.specs.{Bytes, Stack, AreAscending, Framed, stack_after, Coded.Coded, Data.stack_json}
+use Rattle.span_page.proofs.{Appending.{coded_frame, with_frames, with_frames-none, with_frames-some}, Coding.{coded_frames, coded_frames-all}, Joined.joined_after-nothing, stacks.put_each.Goals.{then-frame-gt0+in_ok-push_str+in_ok-put_coded, else-frame-gt0}}
 use Rattle.span_page.proofs.stacks.put_each.Goals as goal
-use Rattle.span_page.proofs.stacks.put_each.Goals.{then-frame-gt0+in_ok-push_str+in_ok-put_coded, else-frame-gt0}
 
 abbrev coded_as : ℕ → Stack → ℕ → Coded
 coded_as n others time = record { shared = n; others = others; time = time }

@@ -1,8 +1,6 @@
-use Rattle.std.proofs.Common.{◌≡◌, ◌⊎◌, ◌++◌, ◌∷◌, [], drop, map, string_bytes}
 use Rattle.std.specs.List.{join_with_byte}
-use Rattle.span_report.specs.Stacks.Framed.{AreAscending, folded_after}
-use Rattle.span_page.specs.Coded.{coded_after}
-use Rattle.span_page.specs.Data.{stack_json}
+use Rattle.std.proofs.Common.{◌≡◌, ◌⊎◌, ◌++◌, ◌∷◌, [], drop, map, string_bytes}
+use Rattle.span_page.specs.{AreAscending, folded_after, Coded.coded_after, Data.stack_json}
 use Rattle.span_page.proofs.Appending.{with_frames}
 use Rattle.span_page.proofs.stacks.put_each.Given as goal
 

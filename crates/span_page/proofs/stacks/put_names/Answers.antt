@@ -1,8 +1,6 @@
-use Rattle.std.proofs.Common.{◌++◌, ◌∷◌, List, Bor, flat_map, map, string_bytes, sym, ap, ◌∙◌, append_assoc}
-use Rattle.std.proofs.lemmas.List.{take_all}
 use Rattle.std.specs.List.{join_with_byte}
-use Rattle.span_event.specs.Text.{Bytes}
-use Rattle.span_report.specs.Lines.{json_text_of}
+use Rattle.std.proofs.{Common.{◌++◌, ◌∷◌, List, Bor, flat_map, map, string_bytes, sym, ap, ◌∙◌, append_assoc}, lemmas.List.take_all}
+use Rattle.span_page.specs.{Bytes, json_text_of}
 use Rattle.span_page.proofs.Joined.{join_with_byte_cons}
 use Rattle.span_page.proofs.stacks.put_names.Goals as goal
 

@@ -1,6 +1,6 @@
-use Rattle.std.proofs.Common.{◌≡◌, ◌++◌, ◌∷◌, map, string_bytes, take}
 use Rattle.std.specs.Prelude.{flat_map}
-use Rattle.span_report.specs.Lines.{json_text_of}
+use Rattle.std.proofs.Common.{◌≡◌, ◌++◌, ◌∷◌, map, string_bytes, take}
+use Rattle.span_page.specs.{json_text_of}
 use Rattle.span_page.proofs.stacks.put_names.Given as goal
 
 -- the first name, and then those so far

@@ -1,6 +1,5 @@
-use Rattle.std.proofs.Common.{[], ◌∷◌, ◌++◌, map, take, get_or, Some, sym, ap, ◌∙◌}
-use Rattle.std.proofs.lemmas.List.{map-append, take_more}
 use Rattle.std.specs.Prelude.{slice_get}
+use Rattle.std.proofs.{Common.{[], ◌∷◌, ◌++◌, map, take, get_or, Some, sym, ap, ◌∙◌}, lemmas.List.{map-append, take_more}}
 use Rattle.span_parts.proofs.Places.{AreAt-each}
 use Rattle.span_parts.proofs.choice.places_of.Goals as goal
 

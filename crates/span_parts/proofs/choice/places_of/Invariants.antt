@@ -1,5 +1,5 @@
-use Rattle.std.proofs.Common.{◌≡◌, map, take, Some}
 use Rattle.std.specs.Prelude.{slice_get}
+use Rattle.std.proofs.Common.{◌≡◌, map, take, Some}
 use Rattle.span_parts.proofs.choice.places_of.Given as goal
 
 -- the places of the columns so far

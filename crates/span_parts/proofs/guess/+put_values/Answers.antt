@@ -1,6 +1,6 @@
 use Rattle.std.proofs.Common.{[], ◌∷◌, ◌++◌, map, sym, ap, subst, ◌∙◌, append_assoc}
 use Rattle.json.specs.Reads.{token_of}
-use Rattle.span_table_text.specs.Printed.{AreDistinct}
+use Rattle.span_parts.specs.{AreDistinct}
 use Rattle.span_parts.proofs.Guessing.{next_value}
 use Rattle.span_parts.proofs.guess.+put_values.Goals as goal
 

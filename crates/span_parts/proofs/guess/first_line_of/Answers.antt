@@ -1,7 +1,6 @@
 use Rattle.std.proofs.Common.{[], ◌∷◌, ◌++◌, ap, subst, ◌∙◌, arith, length}
 use Rattle.json.specs.Token.{end_array, end_object}
-use Rattle.span_table_text.specs.Tokens.{numbers_tokens}
-use Rattle.span_parts.specs.Guess.{Leaves, MayFollow}
+use Rattle.span_parts.specs.{numbers_tokens, Guess.{Leaves, MayFollow}}
 use Rattle.span_parts.proofs.Lists.{Some-pair}
 use Rattle.span_parts.proofs.guess.first_line_of.Goals as goal
 

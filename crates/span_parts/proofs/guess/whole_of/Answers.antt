@@ -1,6 +1,5 @@
-use Rattle.std.proofs.Common.{rules, ◌≡◌, sym, ◌∙◌}
-use Rattle.std.proofs.lemmas.Fmt.{parse-signed_decimal}
 use Rattle.std.specs.Int.{w64}
+use Rattle.std.proofs.{Common.{rules, ◌≡◌, sym, ◌∙◌}, lemmas.Fmt.parse-signed_decimal}
 use Rattle.span_parts.proofs.guess.whole_of.Goals as goal
 
 pub returns-in-Ok : goal.returns-in-Ok

@@ -1,13 +1,7 @@
-use Rattle.std.proofs.Common.{◌≡◌, Some, None, [], ◌∷◌, ◌++◌, sym, ap, subst, ◌∙◌, append_assoc, length, arith}
 use Rattle.std.specs.Prelude.{flat_map, IfSome}
-use Rattle.span_event.specs.declared.unit.Unit.{Unit as TimeUnit}
-use Rattle.span_table_text.specs.Json.{json_line}
-use Rattle.std.proofs.lemmas.Str.Pattern.{split_after, split_parts}
-use Rattle.span_table_text.specs.Printed.{IsPart}
-use Rattle.span_table.specs.Tables.{SpanTable}
-use Rattle.span_parts.specs.First.{IsFirstLine, Says}
-use Rattle.span_parts.proofs.Added.{EndsLine}
-use Rattle.span_parts.proofs.Whole.{IsNoPart-no_line, begins_so, line-part, rest-part}
+use Rattle.std.proofs.{Common.{◌≡◌, Some, None, [], ◌∷◌, ◌++◌, sym, ap, subst, ◌∙◌, append_assoc, length, arith}, lemmas.Str.Pattern.{split_after, split_parts}}
+use Rattle.span_parts.specs.{Unit as TimeUnit, json_line, IsPart, SpanTable, First.{IsFirstLine, Says}}
+use Rattle.span_parts.proofs.{Added.EndsLine, Whole.{IsNoPart-no_line, begins_so, line-part, rest-part}}
 use Rattle.span_parts.proofs.heads.begin.Goals as goal
 
 pub returns-in_default-split_once-clause-fault : goal.returns-in_default-split_once-clause-fault

@@ -1,11 +1,7 @@
 use Rattle.std.proofs.Common.{map, sym, ap, subst, ◌∙◌}
 use Rattle.json.specs.Reads.{token_of}
-use Rattle.span_table.specs.Counts.{counts_fit}
-use Rattle.span_table_text.specs.Json.{json_head}
-use Rattle.span_table_text.specs.Printed.{AreColumns}
-use Rattle.span_parts.specs.First.{Says}
-use Rattle.span_parts.proofs.Lines.{tokens-first}
-use Rattle.span_parts.proofs.Lists.{no-both}
+use Rattle.span_parts.specs.{counts_fit, json_head, AreColumns, First.Says}
+use Rattle.span_parts.proofs.{Lines.tokens-first, Lists.no-both}
 use Rattle.span_parts.proofs.heads.head_of_line.Goals as goal
 
 pub returns-in_default-clause-found : goal.returns-in_default-clause-found

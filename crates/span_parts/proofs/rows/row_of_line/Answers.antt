@@ -1,9 +1,7 @@
 use Rattle.std.proofs.Common.{map, sym, ap, subst, ◌∙◌}
 use Rattle.json.specs.Reads.{token_of}
-use Rattle.span_parts.proofs.Lines.{tokens-line}
-use Rattle.span_table_text.specs.Json.{json_line}
-use Rattle.span_table_text.specs.Printed.{IsRowOf}
-use Rattle.span_parts.proofs.Lists.{Some-same, no-both}
+use Rattle.span_parts.specs.{json_line, IsRowOf}
+use Rattle.span_parts.proofs.{Lines.tokens-line, Lists.{Some-same, no-both}}
 use Rattle.span_parts.proofs.rows.row_of_line.Goals as goal
 
 pub returns-in_default-clause-found : goal.returns-in_default-clause-found

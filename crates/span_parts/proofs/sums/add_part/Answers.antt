@@ -1,5 +1,4 @@
-use Rattle.std.proofs.Common.{subst}
-use Rattle.std.proofs.lemmas.Result.{err_from_is_err_and}
+use Rattle.std.proofs.{Common.subst, lemmas.Result.err_from_is_err_and}
 use Rattle.span_parts.specs.Rows.{AllAdded, RowsFail}
 use Rattle.span_parts.proofs.Whole.{IsAdded-rows, SumFails-rows}
 use Rattle.span_parts.proofs.sums.add_part.Goals as goal

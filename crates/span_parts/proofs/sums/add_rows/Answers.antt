@@ -1,8 +1,6 @@
-use Rattle.std.proofs.Common.{rules, Some, None, ◌∷◌, sym, ap, ◌∙◌, length, length-append, true≢false, ◌==◌, arith}
-use Rattle.span_event.specs.Text.{Bytes}
-use Rattle.std.proofs.lemmas.Str.Pattern.{split_after, split_parts}
-use Rattle.span_parts.proofs.Added.{AllAdded-end, AreAdded-none, AreAdded-push, AreNoRows-rest, EndsLine, RowsFail-row}
-use Rattle.span_parts.proofs.Lists.{nothing-left}
+use Rattle.std.proofs.{Common.{rules, Some, None, ◌∷◌, sym, ap, ◌∙◌, length, length-append, true≢false, ◌==◌, arith}, lemmas.Str.Pattern.{split_after, split_parts}}
+use Rattle.span_parts.specs.{Bytes}
+use Rattle.span_parts.proofs.{Added.{AllAdded-end, AreAdded-none, AreAdded-push, AreNoRows-rest, EndsLine, RowsFail-row}, Lists.nothing-left}
 use Rattle.span_parts.proofs.sums.add_rows.Goals as goal
 
 pub loop-line-init : goal.loop-line-init

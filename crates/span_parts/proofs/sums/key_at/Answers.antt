@@ -1,6 +1,5 @@
-use Rattle.std.proofs.Common.{◌∷◌, ◌++◌, [], ap, ◌∙◌, sym, take, get_or}
-use Rattle.std.proofs.lemmas.List.{take_more}
-use Rattle.span_table.specs.Adding.{picked}
+use Rattle.std.proofs.{Common.{◌∷◌, ◌++◌, [], ap, ◌∙◌, sym, take, get_or}, lemmas.List.take_more}
+use Rattle.span_parts.specs.{picked}
 use Rattle.span_parts.proofs.Picked.{picked-append}
 use Rattle.span_parts.proofs.sums.key_at.Goals as goal
 

@@ -1,5 +1,5 @@
 use Rattle.std.proofs.Common.{◌≡◌, take}
-use Rattle.span_table.specs.Adding.{picked}
+use Rattle.span_parts.specs.{picked}
 use Rattle.span_parts.proofs.sums.key_at.Given as goal
 
 -- the values at the places so far

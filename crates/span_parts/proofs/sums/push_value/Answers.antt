@@ -1,7 +1,5 @@
-use Rattle.std.proofs.Common.{[], ◌++◌, sym, ap, ◌∙◌, length, append-nil}
-use Rattle.std.proofs.lemmas.Bool.{ltb-false}
-use Rattle.std.proofs.lemmas.Option.{slice_get_past}
 use Rattle.std.specs.List.{cons_option, slice_get}
+use Rattle.std.proofs.{Common.{[], ◌++◌, sym, ap, ◌∙◌, length, append-nil}, lemmas.{Bool.ltb-false, Option.slice_get_past}}
 use Rattle.span_parts.proofs.sums.push_value.Goals as goal
 
 pub returns-in-None : goal.returns-in-None

@@ -1,5 +1,4 @@
-use Rattle.std.proofs.Common.{sym, ◌∙◌}
-use Rattle.std.proofs.lemmas.Fmt.{parse-decimal}
+use Rattle.std.proofs.{Common.{sym, ◌∙◌}, lemmas.Fmt.parse-decimal}
 use Rattle.span_parts.proofs.tokens.number_of.Goals as goal
 
 pub returns-in-Ok : goal.returns-in-Ok

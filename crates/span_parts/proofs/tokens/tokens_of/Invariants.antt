@@ -1,6 +1,5 @@
 use Rattle.std.proofs.Common.{◌≡◌, ◌++◌, length, map}
-use Rattle.json.specs.Lex.{tokens}
-use Rattle.json.specs.Reads.{token_of}
+use Rattle.json.specs.{Lex.tokens, Reads.token_of}
 use Rattle.span_parts.proofs.tokens.tokens_of.Given as goal
 
 -- those that were found, and those that are still to come

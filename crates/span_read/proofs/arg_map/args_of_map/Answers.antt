@@ -1,5 +1,5 @@
 use Rattle.std.proofs.Common.{◌≡◌, ◌++◌, append-nil, sym, ap, subst, ◌∙◌}
-use Rattle.span_event.specs.Args.{IsInNameOrder}
+use Rattle.span_read.specs.{IsInNameOrder}
 use Rattle.span_read.proofs.NameOrder.{IsInNameOrder-sorted}
 use Rattle.span_read.proofs.arg_map.args_of_map.Goals as goal
 

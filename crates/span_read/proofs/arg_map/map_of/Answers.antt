@@ -1,7 +1,7 @@
 use Rattle.std.proofs.Common.{◌≡◌, List, [], ◌∷◌, ◌++◌, append_assoc, sym, ap, subst, ◌∙◌}
-use Rattle.span_event.specs.Args.{IsBelowAll, IsInNameOrder}
-use Rattle.span_read.proofs.ArgMaps.{Pair, IsBelowAll-behind}
 use Rattle.span_event.proofs.Merged.{insert_entry-below}
+use Rattle.span_read.specs.{IsBelowAll, IsInNameOrder}
+use Rattle.span_read.proofs.ArgMaps.{Pair, IsBelowAll-behind}
 use Rattle.span_read.proofs.arg_map.map_of.Goals as goal
 
 pub pairs-preserved : goal.pairs-preserved

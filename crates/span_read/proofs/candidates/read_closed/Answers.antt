@@ -1,6 +1,5 @@
 use Rattle.std.proofs.Common.{◌≡◌, true, false, sym, ap, rules}
-use Rattle.span_read.specs.Document.{opens_array, doc_of_document}
-use Rattle.span_read.specs.Ending.{closes_array}
+use Rattle.span_read.specs.{Document.{opens_array, doc_of_document}, Ending.closes_array}
 use Rattle.span_read.proofs.Unclosed.{read-unclosed}
 use Rattle.span_read.proofs.candidates.read_closed.Goals as goal
 

@@ -1,8 +1,7 @@
 use Rattle.std.proofs.Common.{◌≡◌, ℕ, List, [], ◌∷◌, ◌++◌, Bool, true, false, refl, sym, ap, arith, if◌then◌else◌}
 use Rattle.json.specs.Lex.{tokens}
 use Rattle.serde_json.specs.Read.{read}
-use Rattle.span_read.specs.Ending.{ended}
-use Rattle.span_read.specs.Tokens.{data_of_all}
+use Rattle.span_read.specs.{Ending.ended, Tokens.data_of_all}
 use Rattle.span_read.proofs.Bracket.{tokens-bracket}
 use Rattle.span_read.proofs.candidates.read_text.Goals as goal
 

@@ -1,9 +1,8 @@
-use Rattle.std.proofs.Common.{◌≡◌, ◌-◌, ◌<◌, false, length, get_or, sym, ap, ◌∙◌, arith}
 use Rattle.std.specs.List.{suffix_len}
-use Rattle.std.proofs.lemmas.List.Sums.{suffix_len_is}
+use Rattle.std.proofs.{Common.{◌≡◌, ◌-◌, ◌<◌, false, length, get_or, sym, ap, ◌∙◌, arith}, lemmas.List.Sums.suffix_len_is}
 use Rattle.span_read.specs.Document.{is_blank}
-use Rattle.span_read.proofs.candidates.without_trailing_blanks.Goals as goal
 use Rattle.span_read.proofs.candidates.without_trailing_blanks.Goals.{then-loop-end-test+else-is_blank, else-loop-end-test}
+use Rattle.span_read.proofs.candidates.without_trailing_blanks.Goals as goal
 
 pub returns : goal.returns
 returns c =

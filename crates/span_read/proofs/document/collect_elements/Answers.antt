@@ -1,10 +1,7 @@
 use Rattle.std.proofs.Common.{◌≡◌, ◌-◌, ◌++◌, ◌∷◌, [], true, false, refl, sym, ap, ◌∙◌, arith}
 use Rattle.json.specs.Token.{end_array}
-use Rattle.span_read.specs.Element.{item_of_data}
-use Rattle.span_read.specs.Ending.{ended}
-use Rattle.span_read.proofs.Bracket.Turns.{ended_start, ended_turn, ended_refused, ended_bracket, ended_text}
-use Rattle.span_read.proofs.Elements.{AreCollected, AreCollected-push, AreCollected-over, doc_of_elements-collected}
-use Rattle.span_read.proofs.Grammar.{data_at-shorter, data_at-too_deep_array}
+use Rattle.span_read.specs.{Element.item_of_data, Ending.ended}
+use Rattle.span_read.proofs.{Bracket.Turns.{ended_start, ended_turn, ended_refused, ended_bracket, ended_text}, Elements.{AreCollected, AreCollected-push, AreCollected-over, doc_of_elements-collected}, Grammar.{data_at-shorter, data_at-too_deep_array}}
 use Rattle.span_read.proofs.document.collect_elements.Goals as goal
 
 pub returns-then-depth-eq0-clause-refused : goal.returns-then-depth-eq0-clause-refused

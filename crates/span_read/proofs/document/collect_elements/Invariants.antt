@@ -1,6 +1,5 @@
 use Rattle.std.proofs.Common.{◌-◌, length}
-use Rattle.span_read.proofs.Bracket.Turns.{EndedSoFar}
-use Rattle.span_read.proofs.Elements.{AreCollected}
+use Rattle.span_read.proofs.{Bracket.Turns.EndedSoFar, Elements.AreCollected}
 use Rattle.span_read.proofs.document.collect_elements.Given as goal
 
 abbrev pub invariant-elements : goal.invariant-elements

@@ -1,6 +1,5 @@
 use Rattle.std.proofs.Common.{◌≡◌, ◌∷◌, refl, sym, ap, ◌∙◌, arith}
-use Rattle.json.specs.Token.{Token}
-use Rattle.json.specs.Reads.{token_of}
+use Rattle.json.specs.{Reads.token_of, Token.Token}
 use Rattle.span_read.specs.Element.{item_of_fields}
 use Rattle.span_read.proofs.Turns.{array_value, object_value}
 use Rattle.span_read.proofs.document.read_item.Goals as goal

@@ -1,9 +1,7 @@
 use Rattle.std.proofs.Common.{◌≡◌, ◌-◌, Some, codes, refl, sym, ap, ◌∙◌, arith, rules}
 use Rattle.json.specs.Json.{read_key}
 use Rattle.span_read.specs.Document.{doc_of_elements}
-use Rattle.span_read.proofs.Elements.{elements_of-put, elements_of-put_other}
-use Rattle.span_read.proofs.Grammar.{data_at-too_deep_object}
-use Rattle.span_read.proofs.Turns.{members_smaller, members_start, members_turn, members_key_refused, members_value_refused, members_finish}
+use Rattle.span_read.proofs.{Elements.{elements_of-put, elements_of-put_other}, Grammar.data_at-too_deep_object, Turns.{members_smaller, members_start, members_turn, members_key_refused, members_value_refused, members_finish}}
 use Rattle.span_read.proofs.document.read_object.Goals as goal
 
 pub returns-then-depth-eq0-clause-refused : goal.returns-then-depth-eq0-clause-refused

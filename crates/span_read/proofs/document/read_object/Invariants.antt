@@ -1,7 +1,6 @@
 use Rattle.std.proofs.Common.{◌≡◌, ◌-◌, length}
 use Rattle.serde_json.specs.Data.{object}
-use Rattle.span_read.specs.Document.{elements_of, doc_of_elements}
-use Rattle.span_read.specs.Tokens.{MembersSoFar}
+use Rattle.span_read.specs.{Document.{elements_of, doc_of_elements}, Tokens.MembersSoFar}
 use Rattle.span_read.proofs.document.read_object.Given as goal
 
 -- the last of the members so far counts

@@ -1,5 +1,4 @@
-use Rattle.std.proofs.Common.{refl, arith}
-use Rattle.std.proofs.lemmas.Result.{IfOk-weaker}
+use Rattle.std.proofs.{Common.{refl, arith}, lemmas.Result.IfOk-weaker}
 use Rattle.span_read.proofs.Turns.{array_value, object_value}
 use Rattle.span_read.proofs.document.read_trace_events.Goals as goal
 

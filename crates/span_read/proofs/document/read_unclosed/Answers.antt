@@ -1,6 +1,5 @@
 use Rattle.std.proofs.Common.{◌≡◌, [], ◌∷◌, true, arith}
-use Rattle.json.specs.Token.{begin_array}
-use Rattle.json.specs.Reads.{token_of}
+use Rattle.json.specs.{Reads.token_of, Token.begin_array}
 use Rattle.span_read.specs.Ending.{with_bracket}
 use Rattle.span_read.proofs.Bracket.Whole.{data_of_all-none, data_of_all-closed, data_of_all-other, data_of_all-nothing}
 use Rattle.span_read.proofs.document.read_unclosed.Goals as goal

@@ -1,7 +1,5 @@
-use Rattle.std.proofs.Common.{◌≡◌, subst, sym}
-use Rattle.std.proofs.lemmas.Result.{IfOk-weaker}
-use Rattle.span_read.specs.Element.{item_of_fields}
-use Rattle.span_event.specs.Item.{IsGoodItem}
+use Rattle.std.proofs.{Common.{◌≡◌, subst, sym}, lemmas.Result.IfOk-weaker}
+use Rattle.span_read.specs.{IsGoodItem, Element.item_of_fields}
 use Rattle.span_read.proofs.Good.{IsGoodItem-item_of_fields}
 use Rattle.span_read.proofs.element.item_of.Goals as goal
 

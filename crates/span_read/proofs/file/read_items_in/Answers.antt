@@ -1,11 +1,7 @@
-use Rattle.std.proofs.Common.{◌≡◌, Ok, Err, All, IfOk, sym, ap, subst, ◌∙◌, arith}
 use Rattle.std.specs.Prelude.{IfErr}
-use Rattle.std.proofs.lemmas.Result.{IfOk-weaker}
-use Rattle.span_read.specs.declared.error.ReadError.TheVariants.{Memory}
-use Rattle.span_read.specs.Document.{doc, doc_of_document, first_read, candidates}
-use Rattle.span_event.specs.Item.{IsGoodItem}
-use Rattle.span_read.proofs.Documents.{doc-of_utf8, doc-of_no_utf8, right_items, right_refusal, All-good_document}
-use Rattle.span_read.proofs.file.read_items_in.Goals.{In-Ok}
+use Rattle.std.proofs.{Common.{◌≡◌, Ok, Err, All, IfOk, sym, ap, subst, ◌∙◌, arith}, lemmas.Result.IfOk-weaker}
+use Rattle.span_read.specs.{IsGoodItem, Document.{doc, doc_of_document, first_read, candidates}, declared.error.ReadError.TheVariants.Memory}
+use Rattle.span_read.proofs.{Documents.{doc-of_utf8, doc-of_no_utf8, right_items, right_refusal, All-good_document}, file.read_items_in.Goals.In-Ok}
 use Rattle.span_read.proofs.file.read_items_in.Goals as goal
 
 -- the text is the bytes

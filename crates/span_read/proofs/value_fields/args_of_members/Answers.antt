@@ -1,7 +1,6 @@
 use Rattle.std.proofs.Common.{◌≡◌, ◌++◌, append-nil, sym, ap, subst, ◌∙◌}
 use Rattle.serde_json.specs.View.{members_view}
-use Rattle.span_event.specs.Args.{IsInNameOrder}
-use Rattle.span_read.specs.Fields.{pairs_of}
+use Rattle.span_read.specs.{IsInNameOrder, Fields.pairs_of}
 use Rattle.span_read.proofs.NameOrder.{IsInNameOrder-pairs_of}
 use Rattle.span_read.proofs.value_fields.args_of_members.Goals as goal
 

@@ -1,7 +1,5 @@
-use Rattle.std.proofs.Common.{take, sym}
-use Rattle.std.proofs.lemmas.List.{take_all, take_more}
-use Rattle.span_runs.proofs.GatheredFiles.{AreGathered-none, AreGathered-push}
-use Rattle.span_runs.proofs.Stopping.{StopsAmong-at, StopsAmong-first}
+use Rattle.std.proofs.{Common.{take, sym}, lemmas.List.{take_all, take_more}}
+use Rattle.span_runs.proofs.{GatheredFiles.{AreGathered-none, AreGathered-push}, Stopping.{StopsAmong-at, StopsAmong-first}}
 use Rattle.span_runs.proofs.apart.gather_in_turn.Goals as goal
 
 -- no file is gathered

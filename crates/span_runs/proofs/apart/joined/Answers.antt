@@ -1,5 +1,4 @@
-use Rattle.span_runs.proofs.GatheredFiles.{AreGathered-append}
-use Rattle.span_runs.proofs.Stopping.{HaltsAmong-after, HaltsAmong-append, StopsBefore-of_sum, StopsAmong-behind}
+use Rattle.span_runs.proofs.{GatheredFiles.AreGathered-append, Stopping.{HaltsAmong-after, HaltsAmong-append, StopsBefore-of_sum, StopsAmong-behind}}
 use Rattle.span_runs.proofs.apart.joined.Goals as goal
 
 -- both groups were gathered

@@ -1,5 +1,5 @@
 use Rattle.std.proofs.Common.{List, ◌++◌, ap}
-use Rattle.span_event.specs.Text.{Bytes}
+use Rattle.span_runs.specs.{Bytes}
 use Rattle.span_runs.proofs.Listing.{names_from-names_in}
 use Rattle.span_runs.proofs.names.with_names.Goals as goal
 

@@ -1,6 +1,5 @@
 use Rattle.std.proofs.Common.{◌≡◌, ◌++◌, drop}
-use Rattle.span_runs.specs.Listing.{names_from}
-use Rattle.span_runs.specs.Names.{names_in}
+use Rattle.span_runs.specs.{Listing.names_from, Names.names_in}
 use Rattle.span_runs.proofs.names.with_names.Given as goal
 
 -- the names so far, and those of the one begun and the rest, are all

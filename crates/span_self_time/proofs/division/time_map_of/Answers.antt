@@ -1,10 +1,6 @@
 use Rattle.std.proofs.Common.{◌≡◌, ℕ, map, take, sym, ap, ◌∙◌, subst}
-use Rattle.span_self_time.specs.Spans.{Span}
-use Rattle.span_self_time.specs.Closed.{span_of}
-use Rattle.span_self_time.specs.Division.{Owners, bare, owner_of, owners_of, taken, IsNew, CanAdd}
-use Rattle.span_self_time.specs.Division.TimeMap.{IsTimeMap}
-use Rattle.span_self_time.proofs.SelfSums.{lasts-read, IsInTime-read}
-use Rattle.span_self_time.proofs.SpanTimes.{AreSettled-owners_of, IsNew-read, owners_of-more}
+use Rattle.span_self_time.specs.{Closed.span_of, Division.{Owners, bare, owner_of, owners_of, taken, IsNew, CanAdd, TimeMap.IsTimeMap}, Spans.Span}
+use Rattle.span_self_time.proofs.{SelfSums.{lasts-read, IsInTime-read}, SpanTimes.{AreSettled-owners_of, IsNew-read, owners_of-more}}
 use Rattle.span_self_time.proofs.division.time_map_of.Goals as goal
 
 pub add-requires : goal.add-requires

@@ -1,7 +1,5 @@
 use Rattle.std.proofs.Common.{map, take}
-use Rattle.span_self_time.specs.Closed.{span_of}
-use Rattle.span_self_time.specs.Division.{owners_of}
-use Rattle.span_self_time.specs.Division.TimeMap.{IsTimeMap}
+use Rattle.span_self_time.specs.{Closed.span_of, Division.{owners_of, TimeMap.IsTimeMap}}
 use Rattle.span_self_time.proofs.division.time_map_of.Given as goal
 
 abbrev pub invariant-loop-span : goal.invariant-loop-span

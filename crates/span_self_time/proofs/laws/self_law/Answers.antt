@@ -1,5 +1,4 @@
-use Rattle.span_self_time.proofs.SelfTimes.{sum_by-self_time}
-use Rattle.span_self_time.proofs.Children.{self_time-add-direct_children}
+use Rattle.span_self_time.proofs.{Children.self_time-add-direct_children, SelfTimes.sum_by-self_time}
 use Rattle.span_self_time.proofs.laws.self_law.Goals as goal
 
 pub returns-clause-busy : goal.returns-clause-busy

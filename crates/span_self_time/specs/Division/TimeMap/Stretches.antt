@@ -1,13 +1,6 @@
 -- Time cut into stretches: from each key of a map up to the next, time is of one span or of none.
-use Rattle.std.specs.Prelude.{◌≡◌, ◌≢◌, ℕ, ℤ, ◌≤ℤ◌, ◌<ℤ◌, IsSome, List, [], ◌∷◌, Option, Some, None}
-use Rattle.std.specs.Ordering.{int_cmp}
-use Rattle.std.specs.BTreeMap.{get, values}
-use Rattle.span_self_time.specs.declared.segment.OwnedSegment.{OwnedSegment}
-use Rattle.span_self_time.specs.declared.division.time_map.stretches.Stretches.{Stretches}
-use Rattle.span_self_time.specs.Spans.{Span}
-use Rattle.span_event.specs.Event.{least_time}
-use Rattle.span_self_time.specs.Closed.{greatest_until}
-use Rattle.span_self_time.specs.Division.{Owners, owner_of, Belong}
+use Rattle.std.specs.{BTreeMap.{get, values}, Ordering.int_cmp, Prelude.{◌≡◌, ◌≢◌, ℕ, ℤ, ◌≤ℤ◌, ◌<ℤ◌, IsSome, List, [], ◌∷◌, Option, Some, None}}
+use Rattle.span_self_time.specs.{least_time, Closed.greatest_until, Division.{Owners, owner_of, Belong}, Spans.Span, declared.{division.time_map.stretches.Stretches.Stretches, segment.OwnedSegment.OwnedSegment}}
 
 -- what starts at each time, if anything
 abbrev pub Starts : Type 0

@@ -1,8 +1,6 @@
 -- Where spans that start together leave no time to others.
 use Rattle.std.specs.Prelude.{◌≡◌, ◌⊎◌, ℕ, false, ℤ, ◌≤ℤ◌, ◌<ℤ◌, All}
-use Rattle.span_self_time.specs.declared.division.time_map.ties.Ties.{Ties}
-use Rattle.span_self_time.specs.Spans.{Span}
-use Rattle.span_self_time.specs.Division.{Owners, claims}
+use Rattle.span_self_time.specs.{Division.{Owners, claims}, Spans.Span, declared.division.time_map.ties.Ties.Ties}
 
 -- from a to before e no span takes anything that starts sooner, or starts at a and ends later than e
 abbrev pub IsBarred : Owners → ℤ → ℤ → Type 0

@@ -1,15 +1,6 @@
 //! Time cut into stretches, each of one span or of none, so that any span finds its place quickly.
-ghost use Rattle.std.specs.Prelude.{◌≡◌, ◌≢◌, ◌⊎◌, ℕ, ℤ, ◌≤ℤ◌, ◌<ℤ◌, IsSome, MatchOption, OnOk, OnErr, Some, None, length, map, slice_get, option_copied};
-ghost use Rattle.std.specs.BTreeMap.{IsOrdered};
-ghost use Rattle.std.specs.Option.{option_map};
-ghost use Rattle.std.specs.Ordering.{int_cmp};
-ghost use Rattle.span_self_time.specs.declared.segment.OwnedSegment.{OwnedSegment};
-ghost use Rattle.span_self_time.specs.Spans.{Span};
-ghost use Rattle.span_event.specs.Event.{least_time};
-ghost use Rattle.span_self_time.specs.Closed.{greatest_until};
-ghost use Rattle.span_self_time.specs.Division.{Owners, owner_of, ForSome};
-ghost use Rattle.span_self_time.specs.Division.Lengths.{CanGain, Gains};
-ghost use Rattle.span_self_time.specs.Division.TimeMap.Stretches.{at, IsLast, IsDivided, IsEnd, IsNext, IsPut, AreWhole, segments_in};
+ghost use Rattle.std.specs.{BTreeMap.IsOrdered, Option.option_map, Ordering.int_cmp, Prelude.{◌≡◌, ◌≢◌, ◌⊎◌, ℕ, ℤ, ◌≤ℤ◌, ◌<ℤ◌, IsSome, MatchOption, OnOk, OnErr, Some, None, length, map, slice_get, option_copied}};
+ghost use Rattle.span_self_time.specs.{least_time, Closed.greatest_until, Division.{Owners, owner_of, ForSome, Lengths.{CanGain, Gains}, TimeMap.Stretches.{at, IsLast, IsDivided, IsEnd, IsNext, IsPut, AreWhole, segments_in}}, Spans.Span, declared.segment.OwnedSegment.OwnedSegment};
 
 use crate::division::lengths::Lengths;
 use crate::segment::{OwnedSegment, Segment};

@@ -1,7 +1,6 @@
 //! The ends of spans that start together.
 ghost use Rattle.std.specs.Prelude.{◌≡◌, ◌<ℤ◌, [], IfSome};
-ghost use Rattle.span_self_time.specs.Division.{Owners};
-ghost use Rattle.span_self_time.specs.Division.TimeMap.Ties.{IsBarred, AreBarred};
+ghost use Rattle.span_self_time.specs.Division.{Owners, TimeMap.Ties.{IsBarred, AreBarred}};
 
 use std::alloc::Global;
 use std::collections::BTreeSet;

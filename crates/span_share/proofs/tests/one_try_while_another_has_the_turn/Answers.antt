@@ -1,8 +1,6 @@
 use Rattle.std.proofs.Common.{◌∙◌, arith}
-use Rattle.span_share.specs.Entries.{caller_of}
-use Rattle.span_share.specs.Seats.{IsLegalOn, IsBook}
-use Rattle.span_share.proofs.Telling.{HasTurn-takes, at_table}
-use Rattle.span_share.proofs.Turning.{returns}
+use Rattle.span_share.specs.{Entries.caller_of, Seats.{IsLegalOn, IsBook}}
+use Rattle.span_share.proofs.{Telling.{HasTurn-takes, at_table}, Turning.returns}
 use Rattle.span_share.proofs.tests.one_try_while_another_has_the_turn.Goals as goal
 
 pub fetch_sub-requires : goal.fetch_sub-requires

@@ -1,11 +1,6 @@
-use Rattle.std.proofs.Common.{◌≡◌, ◌+◌, ◌*◌, ◌^◌, ◌∷◌, [], ◌++◌, length, map, take, sym, ap, subst, ◌∙◌, append_assoc, arith}
-use Rattle.std.proofs.lemmas.List.{map_more, take_all}
-use Rattle.span_journal.specs.Rows.{async_rows}
-use Rattle.span_table.specs.Collected.{AllWithin}
-use Rattle.span_table.specs.Columns.{Run}
-use Rattle.span_table.specs.Tables.{keyed_async, summed}
-use Rattle.span_table.proofs.FewRows.{length-async_rows}
-use Rattle.span_table.proofs.Summing.{AllWithin-le}
+use Rattle.std.proofs.{Common.{◌≡◌, ◌+◌, ◌*◌, ◌^◌, ◌∷◌, [], ◌++◌, length, map, take, sym, ap, subst, ◌∙◌, append_assoc, arith}, lemmas.List.{map_more, take_all}}
+use Rattle.span_table.specs.{async_rows, Collected.AllWithin, Columns.Run, Tables.{keyed_async, summed}}
+use Rattle.span_table.proofs.{FewRows.length-async_rows, Summing.AllWithin-le}
 use Rattle.span_table.proofs.collected.add_async_rows.Goals as goal
 
 pub add_async_row-requires : goal.add_async_row-requires

@@ -1,6 +1,5 @@
 use Rattle.std.proofs.Common.{◌*◌, ◌^◌, map, take}
-use Rattle.span_table.specs.Collected.{GrowsBy, Takes}
-use Rattle.span_table.specs.Tables.{keyed_async}
+use Rattle.span_table.specs.{Collected.{GrowsBy, Takes}, Tables.keyed_async}
 use Rattle.span_table.proofs.collected.add_async_rows.Given as goal
 
 -- the rows so far are kept with what was kept before, each of at most 128 bits

@@ -1,6 +1,5 @@
 use Rattle.std.proofs.Common.{sym, ◌∙◌}
-use Rattle.span_table.proofs.ByName.{row_sums-alike}
-use Rattle.span_table.proofs.Kept.{OnOk-alike}
+use Rattle.span_table.proofs.{ByName.row_sums-alike, Kept.OnOk-alike}
 use Rattle.span_table.proofs.collected.add_closed.Goals as goal
 
 pub returns-clause-takes : goal.returns-clause-takes

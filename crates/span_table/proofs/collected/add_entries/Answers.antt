@@ -1,13 +1,7 @@
-use Rattle.std.proofs.Common.{◌≡◌, ◌+◌, ◌^◌, ◌∷◌, [], ◌++◌, append-nil, append_assoc, map, refl, sym, ap, subst, suc, ◌∙◌, arith}
 use Rattle.std.specs.Vec.Iter.{into_iter_items}
-use Rattle.span_keyed_tracks.specs.Keyed.{Keyed}
-use Rattle.span_table.specs.declared.sums.Sums.{Sums}
-use Rattle.span_table.specs.Adding.{keyed_rows}
-use Rattle.span_table.specs.Collected.{AllWithin}
-use Rattle.span_table.specs.Keys.{TableKey}
-use Rattle.span_table.specs.Tables.{SumsByKey, row_of, summed}
-use Rattle.span_table.proofs.Kept.{AllWithin-done}
-use Rattle.span_table.proofs.Summing.{AllWithin-le, IsWithin-le}
+use Rattle.std.proofs.Common.{◌≡◌, ◌+◌, ◌^◌, ◌∷◌, [], ◌++◌, append-nil, append_assoc, map, refl, sym, ap, subst, suc, ◌∙◌, arith}
+use Rattle.span_table.specs.{Keyed, Adding.keyed_rows, Collected.AllWithin, Keys.TableKey, Tables.{SumsByKey, row_of, summed}, declared.sums.Sums.Sums}
+use Rattle.span_table.proofs.{Kept.AllWithin-done, Summing.{AllWithin-le, IsWithin-le}}
 use Rattle.span_table.proofs.collected.add_entries.Goals as goal
 
 pub loop-key-init : goal.loop-key-init

@@ -1,8 +1,6 @@
-use Rattle.std.proofs.Common.{◌≡◌, ◌++◌, ◌^◌, map}
 use Rattle.std.specs.Vec.Iter.{into_iter_items}
-use Rattle.span_table.specs.Adding.{keyed_rows}
-use Rattle.span_table.specs.Collected.{AllWithin, Takes}
-use Rattle.span_table.specs.Tables.{KeyedSums, row_of}
+use Rattle.std.proofs.Common.{◌≡◌, ◌++◌, ◌^◌, map}
+use Rattle.span_table.specs.{Adding.keyed_rows, Collected.{AllWithin, Takes}, Tables.{KeyedSums, row_of}}
 use Rattle.span_table.proofs.collected.add_entries.Given as goal
 
 -- some of the entries are kept with what was kept before, and the others are left

@@ -1,11 +1,6 @@
-use Rattle.std.proofs.Common.{◌≡◌, ◌+◌, ◌*◌, ◌^◌, ◌∷◌, [], ◌++◌, length, map, take, sym, ap, subst, ◌∙◌, append_assoc, arith}
-use Rattle.std.proofs.lemmas.List.{map_more, take_all}
-use Rattle.span_journal.specs.Rows.{span_rows}
-use Rattle.span_table.specs.Collected.{AllWithin, keyed_span_row}
-use Rattle.span_table.specs.Columns.{Run}
-use Rattle.span_table.specs.Tables.{summed}
-use Rattle.span_table.proofs.FewRows.{length-span_rows}
-use Rattle.span_table.proofs.Summing.{AllWithin-le}
+use Rattle.std.proofs.{Common.{◌≡◌, ◌+◌, ◌*◌, ◌^◌, ◌∷◌, [], ◌++◌, length, map, take, sym, ap, subst, ◌∙◌, append_assoc, arith}, lemmas.List.{map_more, take_all}}
+use Rattle.span_table.specs.{span_rows, Collected.{AllWithin, keyed_span_row}, Columns.Run, Tables.summed}
+use Rattle.span_table.proofs.{FewRows.length-span_rows, Summing.AllWithin-le}
 use Rattle.span_table.proofs.collected.add_rows.Goals as goal
 
 pub add_row-requires : goal.add_row-requires

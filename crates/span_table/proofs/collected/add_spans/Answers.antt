@@ -1,16 +1,7 @@
-use Rattle.std.proofs.Common.{◌≡◌, ◌+◌, ◌*◌, ◌^◌, List, ◌∷◌, [], ◌++◌, length, map, take, refl, sym, ap, subst, ◌∙◌, append_assoc, arith}
 use Rattle.std.specs.Prelude.{flat_map}
-use Rattle.std.proofs.lemmas.List.{flat_map_more, length-map, take_all, take_more}
-use Rattle.span_event.specs.declared.thread.Thread.{Thread}
-use Rattle.span_journal.specs.declared.rows.ThreadRow.{ThreadRow}
-use Rattle.span_journal.specs.Journal.{accepted}
-use Rattle.span_journal.specs.Order.{thread_of_row}
-use Rattle.span_journal.specs.Rows.{thread_keys, thread_row, thread_rows}
-use Rattle.span_table.specs.Collected.{AllWithin}
-use Rattle.span_table.specs.Columns.{Run}
-use Rattle.span_table.specs.Tables.{KeyedSums, summed, thread_sums}
-use Rattle.span_table.proofs.FewRows.{length-thread_keys}
-use Rattle.span_table.proofs.Summing.{AllWithin-le}
+use Rattle.std.proofs.{Common.{◌≡◌, ◌+◌, ◌*◌, ◌^◌, List, ◌∷◌, [], ◌++◌, length, map, take, refl, sym, ap, subst, ◌∙◌, append_assoc, arith}, lemmas.List.{flat_map_more, length-map, take_all, take_more}}
+use Rattle.span_table.specs.{Thread, ThreadRow, accepted, thread_of_row, thread_keys, thread_row, thread_rows, Collected.AllWithin, Columns.Run, Tables.{KeyedSums, summed, thread_sums}}
+use Rattle.span_table.proofs.{FewRows.length-thread_keys, Summing.AllWithin-le}
 use Rattle.span_table.proofs.collected.add_spans.Goals as goal
 
 pub add_thread-requires : goal.add_thread-requires

@@ -1,9 +1,6 @@
-use Rattle.std.proofs.Common.{◌*◌, ◌^◌, take}
 use Rattle.std.specs.Prelude.{flat_map}
-use Rattle.span_journal.specs.declared.rows.ThreadRow.{ThreadRow}
-use Rattle.span_journal.specs.Order.{thread_of_row}
-use Rattle.span_table.specs.Collected.{GrowsBy, Takes}
-use Rattle.span_table.specs.Tables.{thread_sums}
+use Rattle.std.proofs.Common.{◌*◌, ◌^◌, take}
+use Rattle.span_table.specs.{ThreadRow, thread_of_row, Collected.{GrowsBy, Takes}, Tables.thread_sums}
 use Rattle.span_table.proofs.collected.add_spans.Given as goal
 
 -- the spans of the threads so far are kept with what was kept before, each thread's of at most 128 bits

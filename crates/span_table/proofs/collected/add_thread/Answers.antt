@@ -1,7 +1,5 @@
-use Rattle.std.proofs.Common.{◌≡◌, ◌+◌, ◌*◌, ◌^◌, ◌∷◌, [], ◌++◌, map, take, sym, ap, subst, ◌∙◌, append_assoc, arith}
-use Rattle.std.proofs.lemmas.List.{map_more, take_all}
-use Rattle.span_table.specs.Collected.{AllWithin}
-use Rattle.span_table.specs.Tables.{keyed_span, summed}
+use Rattle.std.proofs.{Common.{◌≡◌, ◌+◌, ◌*◌, ◌^◌, ◌∷◌, [], ◌++◌, map, take, sym, ap, subst, ◌∙◌, append_assoc, arith}, lemmas.List.{map_more, take_all}}
+use Rattle.span_table.specs.{Collected.AllWithin, Tables.{keyed_span, summed}}
 use Rattle.span_table.proofs.Summing.{AllWithin-le}
 use Rattle.span_table.proofs.collected.add_thread.Goals as goal
 

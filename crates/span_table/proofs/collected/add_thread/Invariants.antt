@@ -1,6 +1,5 @@
 use Rattle.std.proofs.Common.{◌*◌, ◌^◌, map, take}
-use Rattle.span_table.specs.Collected.{GrowsBy, Takes}
-use Rattle.span_table.specs.Tables.{keyed_span}
+use Rattle.span_table.specs.{Collected.{GrowsBy, Takes}, Tables.keyed_span}
 use Rattle.span_table.proofs.collected.add_thread.Given as goal
 
 -- the spans so far are kept with what was kept before, each of at most 64 bits

@@ -1,9 +1,6 @@
+use Rattle.std.specs.{Map.lookup, Ordering.eq_by_cmp}
 use Rattle.std.proofs.Common.{◌≡◌, false, Option, Some, None, refl, sym, ap, subst, ◌∙◌, is_some}
-use Rattle.std.specs.Map.{lookup}
-use Rattle.std.specs.Ordering.{eq_by_cmp}
-use Rattle.span_table.specs.Collected.{IsKeptAs, IsPlaceOf}
-use Rattle.span_table.specs.KeyLaws.{key_eq-same}
-use Rattle.span_table.specs.Keys.{TableKey, key_cmp}
+use Rattle.span_table.specs.{Collected.{IsKeptAs, IsPlaceOf}, KeyLaws.key_eq-same, Keys.{TableKey, key_cmp}}
 use Rattle.span_table.proofs.KeyPlaces.{absent-place, found-place}
 use Rattle.span_table.proofs.groups.place_of.Goals as goal
 

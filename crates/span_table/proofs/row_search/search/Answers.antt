@@ -1,9 +1,6 @@
-use Rattle.std.proofs.Common.{rules, ◌<◌, ◌≤◌, ℕ, ap, sym, ◌∙◌, arith, inl, inr, ◌⊎◌}
 use Rattle.std.specs.Ordering.{is_eq}
-use Rattle.span_table.specs.declared.table.Row.{Row}
-use Rattle.span_table.specs.RowSearch.{found_at}
-use Rattle.span_table.specs.KeyLaws.{key_cmp-same}
-use Rattle.span_table.specs.Keys.{key_cmp}
+use Rattle.std.proofs.Common.{rules, ◌<◌, ◌≤◌, ℕ, ap, sym, ◌∙◌, arith, inl, inr, ◌⊎◌}
+use Rattle.span_table.specs.{KeyLaws.key_cmp-same, Keys.key_cmp, RowSearch.found_at, declared.table.Row.Row}
 use Rattle.span_table.proofs.Searched.{answers_by, found_at-none, found_at-own, searchable}
 use Rattle.span_table.proofs.row_search.search.Goals as goal
 

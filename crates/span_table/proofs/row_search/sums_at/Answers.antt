@@ -1,8 +1,6 @@
+use Rattle.std.specs.{Option.option_map, Prelude.unwrap_or}
 use Rattle.std.proofs.Common.{[], sym, ap, ◌∙◌}
-use Rattle.std.specs.Prelude.{unwrap_or}
-use Rattle.std.specs.Option.{option_map}
-use Rattle.span_table.specs.declared.table.Row.{Row}
-use Rattle.span_table.specs.Tables.{sums_together}
+use Rattle.span_table.specs.{Tables.sums_together, declared.table.Row.Row}
 use Rattle.span_table.proofs.Searched.{sums_at-found}
 use Rattle.span_table.proofs.row_search.sums_at.Goals as goal
 

@@ -1,5 +1,5 @@
-use Rattle.std.proofs.Common.{◌≡◌, ◌++◌, map}
 use Rattle.std.specs.Vec.Iter.{into_iter_items}
+use Rattle.std.proofs.Common.{◌≡◌, ◌++◌, map}
 use Rattle.span_table.specs.Tables.{row_of}
 use Rattle.span_table.proofs.table.rows_of.Given as goal
 

@@ -1,9 +1,6 @@
-use Rattle.std.proofs.Common.{◌++◌, ◌∷◌, List, map, string_bytes, sym, ap, ◌∙◌, append_assoc}
-use Rattle.std.specs.Prelude.{flat_map}
-use Rattle.std.specs.List.{join_with_byte}
-use Rattle.std.proofs.lemmas.List.{take_all}
-use Rattle.span_table.specs.declared.column.Column.{Column}
-use Rattle.span_table_text.specs.Json.{column_json}
+use Rattle.std.specs.{List.join_with_byte, Prelude.flat_map}
+use Rattle.std.proofs.{Common.{◌++◌, ◌∷◌, List, map, string_bytes, sym, ap, ◌∙◌, append_assoc}, lemmas.List.take_all}
+use Rattle.span_table_text.specs.{Column, Json.column_json}
 use Rattle.span_table_text.proofs.Pieces.{join_with_byte-each}
 use Rattle.span_table_text.proofs.json_lines.put_names.Goals as goal
 

@@ -1,9 +1,6 @@
+use Rattle.std.specs.{Prelude.{OnOk, Result, Ok, Err, codes, is_ok, string_bytes}, declared.alloc.AllocError.AllocError}
 use Rattle.std.proofs.Common.{◌≡◌, ◌++◌, if◌then◌else◌, ap, refl, ◌∙◌, append_assoc}
-use Rattle.std.specs.Prelude.{OnOk, Result, Ok, Err, codes, is_ok, string_bytes}
-use Rattle.std.specs.declared.alloc.AllocError.{AllocError}
-use Rattle.span_event.specs.Text.{Bytes}
-use Rattle.span_table_text.specs.Json.{of_member, unit_member}
-use Rattle.span_table_text.specs.JsonPieces.{start_text}
+use Rattle.span_table_text.specs.{Bytes, Json.{of_member, unit_member}, JsonPieces.start_text}
 use Rattle.span_table_text.proofs.json_lines.put_start.Goals as goal
 
 -- what was appended last, where there was room

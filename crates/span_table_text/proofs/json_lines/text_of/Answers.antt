@@ -1,14 +1,6 @@
-use Rattle.std.proofs.Common.{◌≡◌, ◌+◌, List, [], ◌∷◌, ◌++◌, length, take, sym, ap, subst, ◌∙◌, append_assoc, append-nil}
 use Rattle.std.specs.Prelude.{flat_map}
-use Rattle.std.proofs.lemmas.Grind.{flat_map-append}
-use Rattle.std.proofs.lemmas.List.{take_more}
-use Rattle.std.proofs.lemmas.List.Elements.{All-push}
-use Rattle.span_event.specs.Text.{Bytes}
-use Rattle.span_table.specs.declared.column.Column.{Column}
-use Rattle.span_table.specs.declared.of.Of.{Of}
-use Rattle.span_table.specs.declared.table.Row.{Row}
-use Rattle.span_table_text.specs.Json.{json_head, json_line}
-use Rattle.span_table_text.specs.Printed.{KeyFits}
+use Rattle.std.proofs.{Common.{◌≡◌, ◌+◌, List, [], ◌∷◌, ◌++◌, length, take, sym, ap, subst, ◌∙◌, append_assoc, append-nil}, lemmas.{Grind.flat_map-append, List.{take_more, Elements.All-push}}}
+use Rattle.span_table_text.specs.{Bytes, Column, Of, Row, Json.{json_head, json_line}, Printed.KeyFits}
 use Rattle.span_table_text.proofs.json_lines.text_of.Goals as goal
 
 pub loop-shown-preserved : goal.loop-shown-preserved

@@ -1,7 +1,6 @@
-use Rattle.std.proofs.Common.{◌≡◌, ◌++◌, length, take, flat_map}
 use Rattle.std.specs.Prelude.{All}
-use Rattle.span_table_text.specs.Json.{json_head, json_line}
-use Rattle.span_table_text.specs.Printed.{KeyFits}
+use Rattle.std.proofs.Common.{◌≡◌, ◌++◌, length, take, flat_map}
+use Rattle.span_table_text.specs.{Json.{json_head, json_line}, Printed.KeyFits}
 use Rattle.span_table_text.proofs.json_lines.text_of.Given as goal
 
 -- the first line, and the lines of those so far, whose keys fit

@@ -1,5 +1,5 @@
 use Rattle.std.proofs.Common.{◌≡◌, map, take}
-use Rattle.span_table.specs.Columns.{column_name}
+use Rattle.span_table_text.specs.{column_name}
 use Rattle.span_table_text.proofs.json_rows.column_names.Given as goal
 
 -- the names of the columns so far

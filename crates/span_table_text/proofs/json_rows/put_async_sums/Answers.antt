@@ -1,9 +1,7 @@
+use Rattle.std.specs.{Prelude.{OnOk, Result, Ok, Err}, declared.alloc.AllocError.AllocError}
 use Rattle.std.proofs.Common.{◌≡◌, List, ◌++◌, ap, refl, ◌∙◌, append_assoc, codes}
-use Rattle.std.specs.Prelude.{OnOk, Result, Ok, Err}
-use Rattle.std.specs.declared.alloc.AllocError.{AllocError}
 use Rattle.json.specs.Token.{Token}
-use Rattle.span_table.specs.declared.of.Of.TheVariants.{Async}
-use Rattle.span_table_text.specs.Tokens.{number_tokens, sums_tokens}
+use Rattle.span_table_text.specs.{Async, Tokens.{number_tokens, sums_tokens}}
 use Rattle.span_table_text.proofs.json_rows.put_async_sums.Goals as goal
 
 -- what was written last, where there was room

@@ -1,5 +1,4 @@
-use Rattle.std.proofs.Common.{◌≡◌, ◌-◌, length, append_assoc, arith}
-use Rattle.std.proofs.lemmas.Grind.{common_steps}
+use Rattle.std.proofs.{Common.{◌≡◌, ◌-◌, length, append_assoc, arith}, lemmas.Grind.common_steps}
 use Rattle.span_table_text.proofs.lines.put_right.Goals as goal
 
 pub returns : goal.returns

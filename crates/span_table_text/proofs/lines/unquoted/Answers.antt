@@ -1,5 +1,4 @@
-use Rattle.std.proofs.Common.{◌++◌, ◌∷◌, [], None, arith}
-use Rattle.std.proofs.lemmas.Str.Pattern.{strip_prefix_char}
+use Rattle.std.proofs.{Common.{◌++◌, ◌∷◌, [], None, arith}, lemmas.Str.Pattern.strip_prefix_char}
 use Rattle.json.specs.Print.{escape}
 use Rattle.span_table_text.proofs.lines.unquoted.Goals as goal
 

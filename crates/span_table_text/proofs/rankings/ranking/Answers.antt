@@ -1,8 +1,6 @@
+use Rattle.std.specs.{List.IsDistinct, Ordering.eq_by_cmp}
 use Rattle.std.proofs.Common.{sym, ap, subst, ◌∙◌}
-use Rattle.std.specs.List.{IsDistinct}
-use Rattle.std.specs.Ordering.{eq_by_cmp}
-use Rattle.span_table_text.specs.Ranks.{ranking_order}
-use Rattle.span_table_text.specs.Shown.{shown_rows}
+use Rattle.span_table_text.specs.{Ranks.ranking_order, Shown.shown_rows}
 use Rattle.span_table_text.proofs.Ranked.{shown_rows-distinct}
 use Rattle.span_table_text.proofs.rankings.ranking.Goals as goal
 

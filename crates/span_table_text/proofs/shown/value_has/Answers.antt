@@ -1,5 +1,4 @@
-use Rattle.std.proofs.Common.{rules, ◌≡◌, ap₂, ◌∙◌}
-use Rattle.std.proofs.lemmas.Str.Pattern.{contains_text}
+use Rattle.std.proofs.{Common.{rules, ◌≡◌, ap₂, ◌∙◌}, lemmas.Str.Pattern.contains_text}
 use Rattle.span_table_text.specs.Shown.{has_bytes}
 use Rattle.span_table_text.proofs.Substrings.{has_bytes-is}
 use Rattle.span_table_text.proofs.shown.value_has.Goals as goal

@@ -1,5 +1,4 @@
-use Rattle.std.proofs.Common.{take, sym}
-use Rattle.std.proofs.lemmas.List.{take_all, take_more}
+use Rattle.std.proofs.{Common.{take, sym}, lemmas.List.{take_all, take_more}}
 use Rattle.tracebook.proofs.Adding.{AddsMore-none, AddsMore-push, StopsMore-at}
 use Rattle.tracebook.proofs.added.add_names.Goals as goal
 

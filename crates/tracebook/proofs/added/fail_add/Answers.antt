@@ -1,9 +1,7 @@
 use Rattle.std.proofs.Common.{subst}
-use Rattle.span_collect.specs.FaultLines.{fault_line}
-use Rattle.span_faults.specs.FaultLines.{SaysOrMemory, run_line}
 use Rattle.span_faults.proofs.FaultLines.{SaysAndHints-alone}
+use Rattle.tracebook.specs.{fault_line, SaysOrMemory, run_line, AddStops.stop_text}
 use Rattle.tracebook.specs.declared.added.AddStop.TheVariants as add
-use Rattle.tracebook.specs.AddStops.{stop_text}
 use Rattle.tracebook.proofs.added.fail_add.Goals as goal
 
 pub returns-in-NotTable-clause-said : goal.returns-in-NotTable-clause-said

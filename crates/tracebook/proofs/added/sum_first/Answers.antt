@@ -1,7 +1,5 @@
 use Rattle.std.proofs.Common.{ap, sym, ◌∙◌}
-use Rattle.span_table.specs.declared.of.Of.{Of}
-use Rattle.span_request.specs.Numbers.{goes_by}
-use Rattle.tracebook.specs.AddStops.{BeginsWith}
+use Rattle.tracebook.specs.{Of, goes_by, AddStops.BeginsWith}
 use Rattle.tracebook.proofs.Adding.{StopsAt-number}
 use Rattle.tracebook.proofs.added.sum_first.Goals as goal
 

@@ -1,8 +1,5 @@
 use Rattle.std.proofs.Common.{ap, ◌∙◌}
-use Rattle.span_table.specs.declared.of.Of.{Of}
-use Rattle.span_table.specs.declared.sums.By.{By}
-use Rattle.span_comparisons.specs.Comparison.{comparison_of}
-use Rattle.tracebook.specs.Tables.{asked_by}
+use Rattle.tracebook.specs.{Of, By, comparison_of, Tables.asked_by}
 use Rattle.tracebook.proofs.comparison.changes_text.Goals as goal
 
 -- the comparison is what the form asks for

@@ -1,8 +1,6 @@
 use Rattle.std.proofs.Common.{◌≡◌, refl, sym, ◌∙◌, arith}
 use Rattle.tracebook.specs.Comparison.{greater}
-use Rattle.tracebook.proofs.Changes.{ComparisonLeaves-text}
-use Rattle.tracebook.proofs.RunPairs.{HasEnded-le, greater-lt}
-use Rattle.tracebook.proofs.InTurn.{changes_of_runs-in_turn}
+use Rattle.tracebook.proofs.{Changes.ComparisonLeaves-text, InTurn.changes_of_runs-in_turn, RunPairs.{HasEnded-le, greater-lt}}
 use Rattle.tracebook.proofs.comparison.run_comparison.Goals as goal
 
 -- one run ended with 2, and nothing was written

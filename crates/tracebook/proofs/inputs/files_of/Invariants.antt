@@ -1,4 +1,4 @@
-use Rattle.span_runs.specs.Inputs.{AreFiles}
+use Rattle.tracebook.specs.{AreFiles}
 use Rattle.tracebook.proofs.inputs.files_of.Given as goal
 
 -- the files of the names so far

@@ -1,5 +1,4 @@
-use Rattle.std.proofs.Common.{take, sym}
-use Rattle.std.proofs.lemmas.List.{take_all, take_more}
+use Rattle.std.proofs.{Common.{take, sym}, lemmas.List.{take_all, take_more}}
 use Rattle.tracebook.proofs.RunPages.{AreHeld-none, AreHeld-push}
 use Rattle.tracebook.proofs.pages.show_in_turn.Goals as goal
 

@@ -1,5 +1,5 @@
-use Rattle.std.proofs.Common.{take}
 use Rattle.std.specs.Prelude.{map}
+use Rattle.std.proofs.Common.{take}
 use Rattle.tracebook.specs.Pages.{AreHeld, shown_alone}
 use Rattle.tracebook.proofs.pages.show_in_turn.Given as goal
 

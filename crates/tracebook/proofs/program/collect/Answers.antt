@@ -1,5 +1,4 @@
-use Rattle.std.proofs.Common.{sym, arith, inl, inr}
-use Rattle.std.proofs.lemmas.Slice.Zip.{AllZip-long}
+use Rattle.std.proofs.{Common.{sym, arith, inl, inr}, lemmas.Slice.Zip.AllZip-long}
 use Rattle.span_faults.proofs.FaultLines.{Reports-status}
 use Rattle.tracebook.proofs.Written.{LeavesPartly-ended}
 use Rattle.tracebook.proofs.program.collect.Goals as goal

@@ -1,7 +1,6 @@
-use Rattle.std.proofs.Common.{sym, ◌∙◌}
-use Rattle.std.proofs.lemmas.Slice.Zip.{AllZip-long}
-use Rattle.tracebook.proofs.RunPairs.{ComparisonPartly-ended, HasEnded-le, greater-le, greater-none, greater-statuses}
+use Rattle.std.proofs.{Common.{sym, ◌∙◌}, lemmas.Slice.Zip.AllZip-long}
 use Rattle.span_faults.proofs.FaultLines.{Reports-le, Reports-status}
+use Rattle.tracebook.proofs.RunPairs.{ComparisonPartly-ended, HasEnded-le, greater-le, greater-none, greater-statuses}
 use Rattle.tracebook.proofs.program.compare.Goals as goal
 
 -- there is one end for each file

@@ -1,5 +1,4 @@
-use Rattle.std.proofs.Common.{take, sym}
-use Rattle.std.proofs.lemmas.List.{take_more}
+use Rattle.std.proofs.{Common.{take, sym}, lemmas.List.take_more}
 use Rattle.tracebook.proofs.RepeatedSides.{AreTablesBeside-push}
 use Rattle.tracebook.proofs.repeated_tables.tables_beside.Goals as goal
 

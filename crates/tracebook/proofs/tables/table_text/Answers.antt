@@ -1,8 +1,5 @@
 use Rattle.std.proofs.Common.{ap, ◌∙◌}
-use Rattle.span_table.specs.declared.of.Of.{Of}
-use Rattle.span_table.specs.declared.sums.By.{By}
-use Rattle.span_table_text.specs.Ranking.{ranking_of}
-use Rattle.tracebook.specs.Tables.{asked_by}
+use Rattle.tracebook.specs.{Of, By, ranking_of, Tables.asked_by}
 use Rattle.tracebook.proofs.tables.table_text.Goals as goal
 
 -- the ranking is what the form asks for

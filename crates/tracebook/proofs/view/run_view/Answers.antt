@@ -1,11 +1,7 @@
-use Rattle.std.proofs.Common.{[], sym}
-use Rattle.std.proofs.lemmas.Slice.Zip.{AllZip-long}
-use Rattle.span_collect.specs.InTurn.{WritesAsInTurn}
-use Rattle.span_collect.proofs.InTurn.Texts.{WritesAsInTurn-same}
-use Rattle.span_collect.proofs.OneFile.{WritesOneFile-in_turn}
-use Rattle.tracebook.specs.View.{text_of}
-use Rattle.tracebook.proofs.InTurn.{text_of-in_turn}
-use Rattle.tracebook.proofs.Views.{ViewLeaves-text}
+use Rattle.std.proofs.{Common.{[], sym}, lemmas.Slice.Zip.AllZip-long}
+use Rattle.span_collect.proofs.{InTurn.Texts.WritesAsInTurn-same, OneFile.WritesOneFile-in_turn}
+use Rattle.tracebook.specs.{WritesAsInTurn, View.text_of}
+use Rattle.tracebook.proofs.{InTurn.text_of-in_turn, Views.ViewLeaves-text}
 use Rattle.tracebook.proofs.view.run_view.Goals as goal
 
 -- there is one end for each file

@@ -1,9 +1,6 @@
-use Rattle.std.proofs.Common.{List, ap, subst, ◌∙◌}
 use Rattle.std.specs.Prelude.{OnOk}
-use Rattle.span_runs.specs.Runs.{run_of_files, table_of_run}
-use Rattle.span_table.specs.declared.column.Column.{Column}
-use Rattle.span_table.specs.Tables.{SpanTable}
-use Rattle.tracebook.specs.Tables.{TableFits}
+use Rattle.std.proofs.Common.{List, ap, subst, ◌∙◌}
+use Rattle.tracebook.specs.{run_of_files, table_of_run, Column, SpanTable, Tables.TableFits}
 use Rattle.tracebook.proofs.view.text_of_run.Goals as goal
 
 pub returns-clause-fits : goal.returns-clause-fits

@@ -1,8 +1,6 @@
-use Rattle.std.proofs.Common.{rules, ◌≤◌, List, subst}
 use Rattle.std.specs.Prelude.{OnOk}
-use Rattle.span_report.specs.declared.stacks.label.SpanColumn.{SpanColumn}
-use Rattle.span_report.specs.Stacks.Bounds.{most_names}
-use Rattle.span_report.specs.Stacks.Folded.{names_of}
+use Rattle.std.proofs.Common.{rules, ◌≤◌, List, subst}
+use Rattle.tracebook.specs.{SpanColumn, most_names, names_of}
 use Rattle.tracebook.proofs.view.write_view.Goals as goal
 
 -- the labels are those of the view

@@ -1,15 +1,7 @@
-use Rattle.std.proofs.Common.{rules, w64, to_z, of_z, ◌≡◌, ℕ, ◌+◌, ◌<◌, ◌≢◌, ◌^◌, List, [], ◌∷◌, ◌++◌, map, length, sym, ap, ◌∙◌, subst, arith, All}
-use Rattle.std.proofs.lemmas.List.{map_push}
-use Rattle.span_self_time.specs.declared.span.ClosedSpan.{ClosedSpan}
-use Rattle.span_self_time.specs.Spans.{Span, length_of}
-use Rattle.span_self_time.specs.Closed.{span_of, AreClosed}
-use Rattle.span_self_time.specs.Division.Ways.{Divides}
+use Rattle.std.proofs.{Common.{rules, w64, to_z, of_z, ◌≡◌, ℕ, ◌+◌, ◌<◌, ◌≢◌, ◌^◌, List, [], ◌∷◌, ◌++◌, map, length, sym, ap, ◌∙◌, subst, arith, All}, lemmas.List.map_push}
 use Rattle.span_self_time.proofs.Apart.{AreClosed-append}
-use Rattle.span_closed_spans.specs.declared.name_totals.NameTotal.{NameTotal}
-use Rattle.span_closed_spans.specs.Totals.{Totals, AreTotals}
-use Rattle.span_closed_spans.specs.TotalsKept.{entries_of}
-use Rattle.span_closed_spans.proofs.Totals.{AreTotals-append, count-le-length, total-le, length_of-le}
-use Rattle.span_closed_spans.proofs.closed.ClosedSpans.add.Goals.{After-deref, After-distance-length}
+use Rattle.span_closed_spans.specs.{ClosedSpan, Span, length_of, span_of, AreClosed, Divides, Totals.{Totals, AreTotals}, TotalsKept.entries_of, declared.name_totals.NameTotal.NameTotal}
+use Rattle.span_closed_spans.proofs.{Totals.{AreTotals-append, count-le-length, total-le, length_of-le}, closed.ClosedSpans.add.Goals.{After-deref, After-distance-length}}
 use Rattle.span_closed_spans.proofs.closed.ClosedSpans.add.Goals as goal
 
 few : (c : After-deref) → length (map span_of c.self.inside.list.items) + 1 < 2 ^ 32

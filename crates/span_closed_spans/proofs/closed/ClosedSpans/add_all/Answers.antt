@@ -1,11 +1,6 @@
-use Rattle.std.proofs.Common.{◌≡◌, ℕ, List, ◌++◌, map, take, length, sym, ap, ◌∙◌, subst, arith}
-use Rattle.std.proofs.Math.Seq.{take-append_seam}
-use Rattle.std.proofs.lemmas.List.{take-map, length-map}
-use Rattle.span_self_time.specs.Closed.{span_of, AreClosed, CanJoin}
-use Rattle.span_closed_spans.specs.Totals.{Totals, AreTotals}
-use Rattle.span_self_time.specs.Spans.{Span}
-use Rattle.span_self_time.specs.declared.span.ClosedSpan.{ClosedSpan}
+use Rattle.std.proofs.{Common.{◌≡◌, ℕ, List, ◌++◌, map, take, length, sym, ap, ◌∙◌, subst, arith}, Math.Seq.take-append_seam, lemmas.List.{take-map, length-map}}
 use Rattle.span_self_time.proofs.Apart.{AreClosed-join}
+use Rattle.span_closed_spans.specs.{span_of, AreClosed, CanJoin, Span, ClosedSpan, Totals.{Totals, AreTotals}}
 use Rattle.span_closed_spans.proofs.closed.ClosedSpans.add_all.Goals.{After-truncate}
 use Rattle.span_closed_spans.proofs.closed.ClosedSpans.add_all.Goals as goal
 

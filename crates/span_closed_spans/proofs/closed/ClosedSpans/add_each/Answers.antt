@@ -1,10 +1,7 @@
-use Rattle.std.proofs.Common.{◌≡◌, ℕ, List, ◌∷◌, ◌++◌, map, sym, ap, ◌∙◌, subst, append_assoc}
-use Rattle.std.proofs.lemmas.List.{map-append}
 use Rattle.std.specs.Vec.Iter.{into_iter_items}
-use Rattle.span_self_time.specs.declared.span.ClosedSpan.{ClosedSpan}
-use Rattle.span_self_time.specs.Spans.{Span}
-use Rattle.span_self_time.specs.Closed.{span_of, AreClosed}
+use Rattle.std.proofs.{Common.{◌≡◌, ℕ, List, ◌∷◌, ◌++◌, map, sym, ap, ◌∙◌, subst, append_assoc}, lemmas.List.map-append}
 use Rattle.span_self_time.proofs.Apart.{AreClosed-next}
+use Rattle.span_closed_spans.specs.{ClosedSpan, Span, span_of, AreClosed}
 use Rattle.span_closed_spans.proofs.closed.ClosedSpans.add_each.Goals as goal
 
 -- the spans so far, before the others

@@ -1,6 +1,6 @@
-use Rattle.std.proofs.Common.{◌≡◌, ◌++◌, map, length}
 use Rattle.std.specs.Vec.Iter.{into_iter_items, into_iter_len}
-use Rattle.span_self_time.specs.Closed.{span_of}
+use Rattle.std.proofs.Common.{◌≡◌, ◌++◌, map, length}
+use Rattle.span_closed_spans.specs.{span_of}
 use Rattle.span_closed_spans.proofs.closed.ClosedSpans.add_each.Given as goal
 
 -- the spans that were passed are added, and the others are left

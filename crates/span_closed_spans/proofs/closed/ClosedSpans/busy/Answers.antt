@@ -1,5 +1,5 @@
 use Rattle.std.proofs.Common.{ap, ◌∙◌}
-use Rattle.span_self_time.specs.Spans.{busy_time}
+use Rattle.span_closed_spans.specs.{busy_time}
 use Rattle.span_closed_spans.proofs.closed.ClosedSpans.busy.Goals as goal
 
 pub returns : goal.returns

@@ -1,7 +1,5 @@
-use Rattle.std.proofs.Common.{ap, length, map, arith}
-use Rattle.std.proofs.lemmas.Map.Entries.{length-keys_of}
-use Rattle.span_self_time.specs.Closed.{span_of}
-use Rattle.span_closed_spans.specs.TotalsKept.{entries_of}
+use Rattle.std.proofs.{Common.{ap, length, map, arith}, lemmas.Map.Entries.length-keys_of}
+use Rattle.span_closed_spans.specs.{span_of, TotalsKept.entries_of}
 use Rattle.span_closed_spans.proofs.Names.{length-names_of-le}
 use Rattle.span_closed_spans.proofs.closed.ClosedSpans.name_count.Goals as goal
 

@@ -1,10 +1,6 @@
 use Rattle.std.proofs.Common.{map, slice_get, option_copied, IfSome, sym, ap, ◌∙◌, subst, List}
-use Rattle.span_self_time.specs.declared.segment.Segment.{Segment}
-use Rattle.span_self_time.specs.Spans.{Span}
-use Rattle.span_self_time.specs.Closed.{span_of}
-use Rattle.span_self_time.specs.Segments.{AreSegments, HasEnds}
-use Rattle.span_closed_spans.proofs.SameSegments.{AreSegments-same}
-use Rattle.span_closed_spans.proofs.SegmentEnds.{HasEnds-segments, IfSome-slice_get}
+use Rattle.span_closed_spans.specs.{Segment, Span, span_of, AreSegments, HasEnds}
+use Rattle.span_closed_spans.proofs.{SameSegments.AreSegments-same, SegmentEnds.{HasEnds-segments, IfSome-slice_get}}
 use Rattle.span_closed_spans.proofs.closed.ClosedSpans.segment.Goals as goal
 
 pub returns-clause-segment : goal.returns-clause-segment

@@ -1,9 +1,7 @@
-use Rattle.std.proofs.Common.{length, ◌≤◌, ◌*◌, ◌-◌, arith, sym, ap, ◌∙◌, subst, List}
 use Rattle.std.specs.List.{count_by}
-use Rattle.span_self_time.specs.Spans.{Span}
-use Rattle.span_self_time.specs.Segments.{lasts, AreSegments, HasSegments}
-use Rattle.span_closed_spans.proofs.SameSegments.{AreSegments-same}
-use Rattle.span_closed_spans.proofs.SegmentEnds.{length-segments}
+use Rattle.std.proofs.Common.{length, ◌≤◌, ◌*◌, ◌-◌, arith, sym, ap, ◌∙◌, subst, List}
+use Rattle.span_closed_spans.specs.{Span, lasts, AreSegments, HasSegments}
+use Rattle.span_closed_spans.proofs.{SameSegments.AreSegments-same, SegmentEnds.length-segments}
 use Rattle.span_closed_spans.proofs.closed.ClosedSpans.segment_count.Goals as goal
 
 pub returns-clause-count : goal.returns-clause-count

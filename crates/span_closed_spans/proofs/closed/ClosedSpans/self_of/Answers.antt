@@ -1,5 +1,5 @@
 use Rattle.std.proofs.Common.{nat_eq, ap, ◌∙◌}
-use Rattle.span_self_time.specs.Spans.{self_of}
+use Rattle.span_closed_spans.specs.{self_of}
 use Rattle.span_closed_spans.proofs.closed.ClosedSpans.self_of.Goals as goal
 
 pub returns : goal.returns

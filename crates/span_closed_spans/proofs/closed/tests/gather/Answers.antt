@@ -1,10 +1,6 @@
-use Rattle.std.proofs.Common.{rules, ◌≡◌, ◌+◌, ◌<◌, ◌≢◌, ◌^◌, ◌≤ℤ◌, ℕ, [], ◌∷◌, ◌++◌, map, length, ap, ◌∙◌, arith, All, length-append}
-use Rattle.std.proofs.lemmas.Int.{ints}
-use Rattle.std.proofs.lemmas.List.{map_push, length-map}
-use Rattle.std.proofs.lemmas.List.Elements.{All-push, All-map}
-use Rattle.span_self_time.specs.Spans.{Span}
-use Rattle.span_self_time.specs.Closed.{span_of, IsInTime}
+use Rattle.std.proofs.{Common.{rules, ◌≡◌, ◌+◌, ◌<◌, ◌≢◌, ◌^◌, ◌≤ℤ◌, ℕ, [], ◌∷◌, ◌++◌, map, length, ap, ◌∙◌, arith, All, length-append}, lemmas.{Int.ints, List.{map_push, length-map, Elements.{All-push, All-map}}}}
 use Rattle.span_self_time.proofs.Apart.{AreSpans-append}
+use Rattle.span_closed_spans.specs.{Span, span_of, IsInTime}
 use Rattle.span_closed_spans.proofs.closed.tests.gather.Goals as goal
 
 pub returns : goal.returns

@@ -1,7 +1,5 @@
-use Rattle.std.proofs.Common.{arith, ap, length}
-use Rattle.std.proofs.lemmas.List.{length-map}
-use Rattle.std.proofs.lemmas.List.Elements.{All-nil}
-use Rattle.span_self_time.specs.Closed.{span_of}
+use Rattle.std.proofs.{Common.{arith, ap, length}, lemmas.List.{length-map, Elements.All-nil}}
+use Rattle.span_closed_spans.specs.{span_of}
 use Rattle.span_closed_spans.proofs.closed.tests.gather_all.Goals as goal
 
 pub overflow_cast-at : goal.overflow_cast-at

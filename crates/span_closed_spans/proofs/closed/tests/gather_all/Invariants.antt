@@ -1,5 +1,5 @@
 use Rattle.std.proofs.Common.{map}
-use Rattle.span_self_time.specs.Closed.{span_of, CanJoin}
+use Rattle.span_closed_spans.specs.{span_of, CanJoin}
 use Rattle.span_closed_spans.proofs.closed.tests.gather_all.Given as goal
 
 -- those so far can be added to the others

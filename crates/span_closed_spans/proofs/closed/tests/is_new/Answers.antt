@@ -1,7 +1,5 @@
-use Rattle.std.proofs.Common.{◌≢◌, ℕ, List, subst, All}
-use Rattle.std.proofs.lemmas.List.Elements.{All-map}
-use Rattle.span_self_time.specs.Spans.{Span}
-use Rattle.span_self_time.specs.Closed.{span_of}
+use Rattle.std.proofs.{Common.{◌≢◌, ℕ, List, subst, All}, lemmas.List.Elements.All-map}
+use Rattle.span_closed_spans.specs.{Span, span_of}
 use Rattle.span_closed_spans.proofs.closed.tests.is_new.Goals as goal
 
 pub returns : goal.returns

@@ -1,5 +1,4 @@
-use Rattle.std.proofs.Common.{◌≡◌, ℕ, sym, ap, ◌∙◌}
-use Rattle.std.proofs.lemmas.Map.Entries.{entries_from_clone}
+use Rattle.std.proofs.{Common.{◌≡◌, ℕ, sym, ap, ◌∙◌}, lemmas.Map.Entries.entries_from_clone}
 use Rattle.span_closed_spans.specs.TotalsKept.{entries_of}
 use Rattle.span_closed_spans.proofs.name_totals.NameTotals.try_clone.Goals as goal
 

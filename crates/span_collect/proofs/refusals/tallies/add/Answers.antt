@@ -1,8 +1,7 @@
+use Rattle.std.specs.{BTreeMap.{BTreeMap, insert_entry}, Ordering.nat_cmp}
 use Rattle.std.proofs.Common.{ℕ, sym, ap, ◌∙◌}
-use Rattle.std.specs.BTreeMap.{BTreeMap, insert_entry}
-use Rattle.std.specs.Ordering.{nat_cmp}
-use Rattle.span_collect.specs.Refusals.Tallies.{Tallied}
 use Rattle.span_keyed_tracks.proofs.Results.{on_ok-map}
+use Rattle.span_collect.specs.Refusals.Tallies.{Tallied}
 use Rattle.span_collect.proofs.RefusalLemmas.Tallying.{HasRoom-found, tallies_of-first, tallies_of-written}
 use Rattle.span_collect.proofs.refusals.tallies.add.Goals as goal
 

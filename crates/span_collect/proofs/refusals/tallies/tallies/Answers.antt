@@ -1,10 +1,7 @@
-use Rattle.std.proofs.Common.{◌≤◌, ◌<◌, ◌++◌, ◌∷◌, [], length, take, sym, ap, ◌∙◌, arith}
-use Rattle.std.proofs.lemmas.List.{length-take-le, take_all, take_more}
-use Rattle.std.proofs.lemmas.Option.{get_or_from_slice_get}
+use Rattle.std.proofs.{Common.{◌≤◌, ◌<◌, ◌++◌, ◌∷◌, [], length, take, sym, ap, ◌∙◌, arith}, lemmas.{List.{length-take-le, take_all, take_more}, Option.get_or_from_slice_get}}
 use Rattle.span_collect.specs.Refusals.Tallies.{tallies_of}
-use Rattle.span_collect.proofs.RefusalLemmas.Tallying.{slice_get-within}
+use Rattle.span_collect.proofs.{RefusalLemmas.Tallying.slice_get-within, refusals.tallies.tallies.Goals.{in-Some+in_ok-add, in_default}}
 use Rattle.span_collect.proofs.refusals.tallies.tallies.Goals as goal
-use Rattle.span_collect.proofs.refusals.tallies.tallies.Goals.{in-Some+in_ok-add, in_default}
 
 pub add-requires : goal.add-requires
 add-requires c =

@@ -1,8 +1,6 @@
 use Rattle.std.proofs.Common.{◌≡◌, ◌++◌, Some, string_bytes, flat_map, sym, ap, ◌∙◌, append-nil}
-use Rattle.span_collect.specs.Account.{caller_named}
 use Rattle.span_keyed_tracks.proofs.Results.{on_ok-map}
-use Rattle.span_collect.specs.Refusals.{refused_by}
-use Rattle.span_collect.specs.Refusals.Text.{caller_lines, refused_line}
+use Rattle.span_collect.specs.{Account.caller_named, Refusals.{refused_by, Text.{caller_lines, refused_line}}}
 use Rattle.span_collect.proofs.RefusalLemmas.Tallying.{answers_of-absent, refused_by-found}
 use Rattle.span_collect.proofs.refusals.text.put_file.Goals as goal
 

@@ -1,10 +1,6 @@
 use Rattle.std.proofs.Common.{◌∙◌, append_assoc, get_or, take}
-use Rattle.span_collect.specs.declared.files.FileEnd.TheVariants.{Read}
-use Rattle.span_collect.specs.FaultLines.{lines_of_ends}
-use Rattle.span_journal.specs.Rows.{count_row}
-use Rattle.span_report.specs.Report.{head_lines}
+use Rattle.span_collect.specs.{count_row, head_lines, FaultLines.lines_of_ends, Refusals.Text.file_lines, declared.files.FileEnd.TheVariants.Read}
 use Rattle.span_collect.proofs.EndLines.{lines_of_ends-take_more}
-use Rattle.span_collect.specs.Refusals.Text.{file_lines}
 use Rattle.span_collect.proofs.refusals.text.refusals_text.Goals as goal
 
 -- the lines that were put are those of the next file

@@ -1,8 +1,5 @@
 use Rattle.std.proofs.Common.{◌≡◌, ◌++◌, string_bytes, take}
-use Rattle.span_collect.specs.FaultLines.{lines_of_ends}
-use Rattle.span_journal.specs.Rows.{count_row}
-use Rattle.span_report.specs.Report.{head_lines}
-use Rattle.span_collect.specs.Refusals.Text.{file_lines}
+use Rattle.span_collect.specs.{count_row, head_lines, FaultLines.lines_of_ends, Refusals.Text.file_lines}
 use Rattle.span_collect.proofs.refusals.text.refusals_text.Given as goal
 
 -- the head, and the lines of the files so far

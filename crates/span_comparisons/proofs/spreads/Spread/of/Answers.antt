@@ -1,5 +1,4 @@
-use Rattle.std.proofs.Common.{rules, ◌≡◌, ◌-◌, ◌/◌, ℕ, List, get_or, length, ap, ap₂, ◌∙◌, arith}
-use Rattle.std.proofs.lemmas.Cmp.{nat_cmp_total}
+use Rattle.std.proofs.{Common.{rules, ◌≡◌, ◌-◌, ◌/◌, ℕ, List, get_or, length, ap, ap₂, ◌∙◌, arith}, lemmas.Cmp.nat_cmp_total}
 use Rattle.span_keyed_tracks.proofs.Sorting.{IsSorted-from_sort_by}
 use Rattle.span_comparisons.specs.Spreads.{sorted}
 use Rattle.span_comparisons.proofs.Sorts.{sorted-ends, sorted-from_sort}

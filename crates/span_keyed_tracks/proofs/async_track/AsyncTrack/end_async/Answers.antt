@@ -1,12 +1,6 @@
 use Rattle.std.proofs.Common.{rules, ◌≡◌, ◌∷◌, [], sym, subst}
-use Rattle.span_keyed_tracks.specs.Matching.{closes}
-use Rattle.span_keyed_tracks.specs.Fault.{Answers, refusal_of}
-use Rattle.span_keyed_tracks.specs.Last.{last_of}
-use Rattle.span_keyed_tracks.specs.Async.{async_end_refusal, async_matched, async_spans, length_closed_by}
-use Rattle.span_keyed_tracks.proofs.Async.{async_spans-EndsLast, length_closed_by-EndsLast}
-use Rattle.span_keyed_tracks.proofs.KeyChange.{ChangesAt-answered, ChangesAt-refusal, ChangesAt-stands}
-use Rattle.span_keyed_tracks.proofs.Matching.Open.{opener-open_of}
-use Rattle.span_keyed_tracks.proofs.Orders.{async_cmp-total, async_cmp-same}
+use Rattle.span_keyed_tracks.specs.{Async.{async_end_refusal, async_matched, async_spans, length_closed_by}, Fault.{Answers, refusal_of}, Last.last_of, Matching.closes}
+use Rattle.span_keyed_tracks.proofs.{Async.{async_spans-EndsLast, length_closed_by-EndsLast}, KeyChange.{ChangesAt-answered, ChangesAt-refusal, ChangesAt-stands}, Matching.Open.opener-open_of, Orders.{async_cmp-total, async_cmp-same}}
 use Rattle.span_keyed_tracks.proofs.async_track.AsyncTrack.end_async.Goals as goal
 
 pub returns-clause-refusal : goal.returns-clause-refusal

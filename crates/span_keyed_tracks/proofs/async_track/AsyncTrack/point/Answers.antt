@@ -1,9 +1,6 @@
 use Rattle.std.proofs.Common.{rules}
-use Rattle.span_keyed_tracks.specs.Matching.{other}
-use Rattle.span_keyed_tracks.specs.Async.{HasStepRoom, async_cmp, async_spans}
-use Rattle.span_keyed_tracks.proofs.Async.{async_spans-other}
-use Rattle.span_keyed_tracks.proofs.KeyChange.{kept_at-holds, ChangesAt-stands, by_third}
-use Rattle.span_keyed_tracks.proofs.Orders.{async_cmp-total, async_cmp-same}
+use Rattle.span_keyed_tracks.specs.{Async.{HasStepRoom, async_cmp, async_spans}, Matching.other}
+use Rattle.span_keyed_tracks.proofs.{Async.async_spans-other, KeyChange.{kept_at-holds, ChangesAt-stands, by_third}, Orders.{async_cmp-total, async_cmp-same}}
 use Rattle.span_keyed_tracks.proofs.async_track.AsyncTrack.point.Goals as goal
 
 pub change_at-requires-clause-can : goal.change_at-requires-clause-can

@@ -1,13 +1,7 @@
-use Rattle.std.proofs.Common.{rules, map, refl, ap, subst, ◌∙◌}
-use Rattle.std.specs.List.Sorted.{IsPermutation}
-use Rattle.std.specs.Map.{keys_of}
-use Rattle.std.proofs.lemmas.Cmp.{on_total}
-use Rattle.span_keyed_tracks.specs.declared.async_track.AsyncRow.{AsyncRow}
-use Rattle.span_keyed_tracks.specs.Async.{async_row}
-use Rattle.span_keyed_tracks.proofs.InKeyOrder.{AreApart-distinct}
-use Rattle.span_keyed_tracks.proofs.KeyOrder.{IsDistinct-rows, ascending-rows}
-use Rattle.span_keyed_tracks.proofs.Orders.{async_cmp-total, async_cmp-same}
-use Rattle.span_keyed_tracks.proofs.Sorting.{IsSorted-from_sort_by, sorted-ascending}
+use Rattle.std.specs.{List.Sorted.IsPermutation, Map.keys_of}
+use Rattle.std.proofs.{Common.{rules, map, refl, ap, subst, ◌∙◌}, lemmas.Cmp.on_total}
+use Rattle.span_keyed_tracks.specs.{Async.async_row, declared.async_track.AsyncRow.AsyncRow}
+use Rattle.span_keyed_tracks.proofs.{InKeyOrder.AreApart-distinct, KeyOrder.{IsDistinct-rows, ascending-rows}, Orders.{async_cmp-total, async_cmp-same}, Sorting.{IsSorted-from_sort_by, sorted-ascending}}
 use Rattle.span_keyed_tracks.proofs.async_track.AsyncTrack.rows.Goals as goal
 
 pub returns : goal.returns

@@ -1,7 +1,6 @@
-use Rattle.std.proofs.Common.{sym, subst}
 use Rattle.std.specs.List.{IsDistinct}
-use Rattle.span_keyed_tracks.specs.Keyed.{AreDistinct}
-use Rattle.span_keyed_tracks.specs.Async.{async_cmp}
+use Rattle.std.proofs.Common.{sym, subst}
+use Rattle.span_keyed_tracks.specs.{Async.async_cmp, Keyed.AreDistinct}
 use Rattle.span_keyed_tracks.proofs.async_track.AsyncTrack.with_keys.Goals as goal
 
 pub invariant_of-result : goal.invariant_of-result

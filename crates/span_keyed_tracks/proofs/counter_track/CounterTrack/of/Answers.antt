@@ -1,5 +1,5 @@
-use Rattle.std.proofs.Common.{Some, ap, ◌∙◌}
 use Rattle.std.specs.Option.{option_map}
+use Rattle.std.proofs.Common.{Some, ap, ◌∙◌}
 use Rattle.span_keyed_tracks.specs.Counters.{Series}
 use Rattle.span_keyed_tracks.proofs.SeriesKept.{found_at-is}
 use Rattle.span_keyed_tracks.proofs.counter_track.CounterTrack.of.Goals as goal

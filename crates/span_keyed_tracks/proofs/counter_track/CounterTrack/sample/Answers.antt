@@ -1,7 +1,6 @@
 use Rattle.std.proofs.Common.{rules, ◌≡◌, map, ap, ap₂, ◌∙◌}
 use Rattle.indexmap.specs.IndexMap.{insert_all}
-use Rattle.span_event.specs.Args.{AllWhole}
-use Rattle.span_keyed_tracks.specs.CountersKept.{kept_series, next_entry, same_series}
+use Rattle.span_keyed_tracks.specs.{AllWhole, CountersKept.{kept_series, next_entry, same_series}}
 use Rattle.span_keyed_tracks.proofs.SeriesKept.{TakesCounter-all}
 use Rattle.span_keyed_tracks.proofs.counter_track.CounterTrack.sample.Goals as goal
 

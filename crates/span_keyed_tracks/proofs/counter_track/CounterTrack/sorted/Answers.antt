@@ -1,12 +1,7 @@
-use Rattle.std.proofs.Common.{rules, map, refl, subst, ◌∙◌}
 use Rattle.std.specs.List.Sorted.{IsPermutation}
-use Rattle.std.proofs.lemmas.Cmp.{on_total}
-use Rattle.span_keyed_tracks.specs.declared.counter_track.SeriesRow.{SeriesRow}
-use Rattle.span_keyed_tracks.specs.CountersKept.{kept_row}
-use Rattle.span_keyed_tracks.proofs.Orders.{series_cmp-total, series_cmp-same}
-use Rattle.span_keyed_tracks.proofs.KeyOrder.{IsDistinct-rows, ascending-rows}
-use Rattle.span_keyed_tracks.proofs.SeriesKept.{AreApart-kept, rows-ascending}
-use Rattle.span_keyed_tracks.proofs.Sorting.{IsSorted-from_sort_by, sorted-ascending}
+use Rattle.std.proofs.{Common.{rules, map, refl, subst, ◌∙◌}, lemmas.Cmp.on_total}
+use Rattle.span_keyed_tracks.specs.{CountersKept.kept_row, declared.counter_track.SeriesRow.SeriesRow}
+use Rattle.span_keyed_tracks.proofs.{KeyOrder.{IsDistinct-rows, ascending-rows}, Orders.{series_cmp-total, series_cmp-same}, SeriesKept.{AreApart-kept, rows-ascending}, Sorting.{IsSorted-from_sort_by, sorted-ascending}}
 use Rattle.span_keyed_tracks.proofs.counter_track.CounterTrack.sorted.Goals as goal
 
 pub returns : goal.returns

@@ -1,10 +1,7 @@
-use Rattle.std.proofs.Common.{rules, ◌≡◌, sym, ap₂, ◌∙◌}
 use Rattle.std.specs.Prelude.{Some}
-use Rattle.span_keyed_tracks.specs.Keyed.{in_key_order, kept_at}
-use Rattle.span_keyed_tracks.specs.Flow.{HasPointRoom, flow_chains, flow_closed, flow_cmp, finished}
-use Rattle.span_keyed_tracks.proofs.Flow.{flow_chains-closed_at}
-use Rattle.span_keyed_tracks.proofs.KeyChange.{kept_at-holds, ChangesAt-answer, ChangesAt-stands, by_third}
-use Rattle.span_keyed_tracks.proofs.Orders.{flow_cmp-total, flow_cmp-same}
+use Rattle.std.proofs.Common.{rules, ◌≡◌, sym, ap₂, ◌∙◌}
+use Rattle.span_keyed_tracks.specs.{Flow.{HasPointRoom, flow_chains, flow_closed, flow_cmp, finished}, Keyed.{in_key_order, kept_at}}
+use Rattle.span_keyed_tracks.proofs.{Flow.flow_chains-closed_at, KeyChange.{kept_at-holds, ChangesAt-answer, ChangesAt-stands, by_third}, Orders.{flow_cmp-total, flow_cmp-same}}
 use Rattle.span_keyed_tracks.proofs.flow_track.FlowTrack.end_flow.Goals as goal
 
 pub change_at-requires-clause-can : goal.change_at-requires-clause-can

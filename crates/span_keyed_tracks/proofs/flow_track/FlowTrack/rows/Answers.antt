@@ -1,13 +1,7 @@
-use Rattle.std.proofs.Common.{rules, map, refl, ap, subst, ◌∙◌}
-use Rattle.std.specs.List.Sorted.{IsPermutation}
-use Rattle.std.specs.Map.{keys_of}
-use Rattle.std.proofs.lemmas.Cmp.{on_total}
-use Rattle.span_keyed_tracks.specs.declared.flow_track.FlowRow.{FlowRow}
-use Rattle.span_keyed_tracks.specs.Flow.{flow_row}
-use Rattle.span_keyed_tracks.proofs.InKeyOrder.{AreApart-distinct}
-use Rattle.span_keyed_tracks.proofs.KeyOrder.{IsDistinct-rows, ascending-rows}
-use Rattle.span_keyed_tracks.proofs.Orders.{flow_cmp-total, flow_cmp-same}
-use Rattle.span_keyed_tracks.proofs.Sorting.{IsSorted-from_sort_by, sorted-ascending}
+use Rattle.std.specs.{List.Sorted.IsPermutation, Map.keys_of}
+use Rattle.std.proofs.{Common.{rules, map, refl, ap, subst, ◌∙◌}, lemmas.Cmp.on_total}
+use Rattle.span_keyed_tracks.specs.{Flow.flow_row, declared.flow_track.FlowRow.FlowRow}
+use Rattle.span_keyed_tracks.proofs.{InKeyOrder.AreApart-distinct, KeyOrder.{IsDistinct-rows, ascending-rows}, Orders.{flow_cmp-total, flow_cmp-same}, Sorting.{IsSorted-from_sort_by, sorted-ascending}}
 use Rattle.span_keyed_tracks.proofs.flow_track.FlowTrack.rows.Goals as goal
 
 pub returns : goal.returns

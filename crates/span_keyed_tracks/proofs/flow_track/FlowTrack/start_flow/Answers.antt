@@ -1,8 +1,6 @@
 use Rattle.std.proofs.Common.{rules}
 use Rattle.span_keyed_tracks.specs.Flow.{HasPointRoom, flow_chains, flow_cmp, started}
-use Rattle.span_keyed_tracks.proofs.Flow.{flow_chains-started}
-use Rattle.span_keyed_tracks.proofs.KeyChange.{kept_at-holds, ChangesAt-stands, by_third}
-use Rattle.span_keyed_tracks.proofs.Orders.{flow_cmp-total, flow_cmp-same}
+use Rattle.span_keyed_tracks.proofs.{Flow.flow_chains-started, KeyChange.{kept_at-holds, ChangesAt-stands, by_third}, Orders.{flow_cmp-total, flow_cmp-same}}
 use Rattle.span_keyed_tracks.proofs.flow_track.FlowTrack.start_flow.Goals as goal
 
 pub change_at-requires-clause-can : goal.change_at-requires-clause-can

@@ -1,7 +1,6 @@
-use Rattle.std.proofs.Common.{sym, subst}
 use Rattle.std.specs.List.{IsDistinct}
-use Rattle.span_keyed_tracks.specs.Keyed.{AreDistinct}
-use Rattle.span_keyed_tracks.specs.Flow.{flow_cmp}
+use Rattle.std.proofs.Common.{sym, subst}
+use Rattle.span_keyed_tracks.specs.{Flow.flow_cmp, Keyed.AreDistinct}
 use Rattle.span_keyed_tracks.proofs.flow_track.FlowTrack.with_keys.Goals as goal
 
 pub invariant_of-result : goal.invariant_of-result

@@ -1,12 +1,7 @@
-use Rattle.std.proofs.Common.{◌≡◌, [], ◌∷◌, ◌++◌, Some, sym, ap, ◌∙◌}
 use Rattle.std.specs.Option.{option_map}
-use Rattle.span_keyed_tracks.specs.Instants.{TakesInstant, instant_of, instants_counted, instants_in}
-use Rattle.span_keyed_tracks.specs.Keyed.{entries_in}
-use Rattle.span_keyed_tracks.specs.Meta.{MetaKept, holder_cmp, names_of}
-use Rattle.span_keyed_tracks.proofs.Instants.{few_instants, instants_in-instant}
-use Rattle.span_keyed_tracks.proofs.Results.{on_ok-map}
-use Rattle.span_keyed_tracks.proofs.Meta.{settings_in-instant}
-use Rattle.span_event.specs.Thread.{thread_of}
+use Rattle.std.proofs.Common.{◌≡◌, [], ◌∷◌, ◌++◌, Some, sym, ap, ◌∙◌}
+use Rattle.span_keyed_tracks.specs.{thread_of, Instants.{TakesInstant, instant_of, instants_counted, instants_in}, Keyed.entries_in, Meta.{MetaKept, holder_cmp, names_of}}
+use Rattle.span_keyed_tracks.proofs.{Instants.{few_instants, instants_in-instant}, Meta.settings_in-instant, Results.on_ok-map}
 use Rattle.span_keyed_tracks.proofs.meta_track.MetaTrack.instant.Goals as goal
 
 pub add-requires : goal.add-requires

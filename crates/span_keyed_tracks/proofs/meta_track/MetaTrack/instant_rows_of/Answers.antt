@@ -1,11 +1,7 @@
 use Rattle.std.proofs.Common.{[], ap, ◌∙◌}
-use Rattle.span_event.specs.Orders.{thread_cmp}
 use Rattle.span_event.proofs.Orders.{thread_cmp-same, thread_cmp-total}
-use Rattle.span_keyed_tracks.specs.Instants.{InstantsKept, instants_in, names_counted, rows_of_thread}
-use Rattle.span_keyed_tracks.specs.Keyed.{kept_at}
-use Rattle.span_keyed_tracks.specs.Meta.{MetaKept}
-use Rattle.span_keyed_tracks.proofs.Keyed.{kept_at-entries_in}
-use Rattle.span_keyed_tracks.proofs.Results.{if_ok-map}
+use Rattle.span_keyed_tracks.specs.{thread_cmp, Instants.{InstantsKept, instants_in, names_counted, rows_of_thread}, Keyed.kept_at, Meta.MetaKept}
+use Rattle.span_keyed_tracks.proofs.{Keyed.kept_at-entries_in, Results.if_ok-map}
 use Rattle.span_keyed_tracks.proofs.meta_track.MetaTrack.instant_rows_of.Goals as goal
 
 pub returns : goal.returns

@@ -1,12 +1,6 @@
 use Rattle.std.proofs.Common.{ℤ, [], ap, ap₂, ◌∙◌, to_z-of_z}
-use Rattle.span_keyed_tracks.specs.Instants.{counts_of}
-use Rattle.span_keyed_tracks.specs.InstantsKept.{count_at}
-use Rattle.span_keyed_tracks.specs.Keyed.{kept_at}
-use Rattle.span_keyed_tracks.specs.Meta.{MetaKept}
+use Rattle.span_keyed_tracks.specs.{Thread, thread_cmp, text_cmp, Instants.counts_of, InstantsKept.count_at, Keyed.kept_at, Meta.MetaKept}
 use Rattle.span_keyed_tracks.proofs.Instants.{count_at-instants_of}
-use Rattle.span_event.specs.declared.thread.Thread.{Thread}
-use Rattle.span_event.specs.Orders.{thread_cmp}
-use Rattle.span_event.specs.Text.{text_cmp}
 use Rattle.span_keyed_tracks.proofs.meta_track.MetaTrack.instants_of.Goals as goal
 
 pub returns : goal.returns

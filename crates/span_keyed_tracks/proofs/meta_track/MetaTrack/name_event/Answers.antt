@@ -1,13 +1,7 @@
+use Rattle.std.specs.{List.cons_option, Option.option_map}
 use Rattle.std.proofs.Common.{◌≡◌, [], ◌++◌, Some, None, sym, ap, ◌∙◌, append-nil}
-use Rattle.std.specs.List.{cons_option}
-use Rattle.std.specs.Option.{option_map}
-use Rattle.span_keyed_tracks.specs.Instants.{instants_counted}
-use Rattle.span_keyed_tracks.specs.Keyed.{entries_in}
-use Rattle.span_keyed_tracks.specs.Meta.{TakesSetting, holder_cmp, names_of, setting_of, settings_in}
-use Rattle.span_keyed_tracks.specs.MetaKept.{keyed_setting}
-use Rattle.span_keyed_tracks.proofs.Instants.{instants_in-meta}
-use Rattle.span_keyed_tracks.proofs.Meta.{settings_in-push}
-use Rattle.span_keyed_tracks.proofs.Results.{on_ok-map}
+use Rattle.span_keyed_tracks.specs.{Instants.instants_counted, Keyed.entries_in, Meta.{TakesSetting, holder_cmp, names_of, setting_of, settings_in}, MetaKept.keyed_setting}
+use Rattle.span_keyed_tracks.proofs.{Instants.instants_in-meta, Meta.settings_in-push, Results.on_ok-map}
 use Rattle.span_keyed_tracks.proofs.meta_track.MetaTrack.name_event.Goals as goal
 
 pub returns-in-Some-clause-stands : goal.returns-in-Some-clause-stands

@@ -1,8 +1,6 @@
 use Rattle.std.proofs.Common.{rules, ap}
-use Rattle.span_keyed_tracks.specs.Meta.{MetaKept, names_of}
-use Rattle.span_keyed_tracks.specs.MetaKept.{setting}
-use Rattle.span_keyed_tracks.proofs.KeyChange.{ChangesAt-stands, by_third}
-use Rattle.span_keyed_tracks.proofs.Meta.{holder_cmp-total, holder_cmp-same, names_of-push}
+use Rattle.span_keyed_tracks.specs.{Meta.{MetaKept, names_of}, MetaKept.setting}
+use Rattle.span_keyed_tracks.proofs.{KeyChange.{ChangesAt-stands, by_third}, Meta.{holder_cmp-total, holder_cmp-same, names_of-push}}
 use Rattle.span_keyed_tracks.proofs.meta_track.MetaTrack.set.Goals as goal
 
 pub returns-clause-takes : goal.returns-clause-takes

@@ -1,7 +1,6 @@
 use Rattle.std.proofs.Common.{rules, ◌≡◌, false, codes, cond, sym, ap, ◌∙◌}
-use Rattle.span_keyed_tracks.specs.Meta.{is_meta, setting_of}
+use Rattle.span_keyed_tracks.specs.{same_text, Meta.{is_meta, setting_of}}
 use Rattle.span_keyed_tracks.proofs.Meta.{is_of_thread, is_of_thread-other}
-use Rattle.span_event.specs.Text.{same_text}
 use Rattle.span_keyed_tracks.proofs.meta_track.setting.names_thread.Goals as goal
 
 pub returns : goal.returns

@@ -1,10 +1,8 @@
+use Rattle.std.specs.{BTreeSet.insert_key, Ordering.{int_cmp, int_eq}}
 use Rattle.std.proofs.Common.{◌≡◌, rules, ap, ◌∙◌, to_z, of_z, w64}
-use Rattle.std.specs.Ordering.{int_cmp, int_eq}
-use Rattle.std.specs.BTreeSet.{insert_key}
 use Rattle.indexmap.specs.IndexSet.{insert_key as add_key}
 use Rattle.span_keyed_tracks.proofs.Results.{if_ok-there}
-use Rattle.span_keyed_tracks.specs.Keyed.{ascending}
-use Rattle.span_ledger.specs.Tracked.{ListedKept}
+use Rattle.span_ledger.specs.{ascending, Tracked.ListedKept}
 use Rattle.span_ledger.proofs.Listing.{ascending-process, have_processes-process}
 use Rattle.span_ledger.proofs.listed.Listed.add_process.Goals as goal
 

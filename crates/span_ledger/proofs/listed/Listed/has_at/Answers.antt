@@ -1,14 +1,6 @@
-use Rattle.std.proofs.Common.{◌≡◌, ◌<◌, ℕ, List, length, true, Some, slice_get, rules, subst, sym, ap, ◌∙◌}
-use Rattle.std.proofs.lemmas.List.Folds.{list_any_at}
-use Rattle.std.proofs.lemmas.Option.{get_or_from_slice_get}
-use Rattle.std.specs.List.{list_any}
-use Rattle.std.specs.Ordering.{int_cmp}
-use Rattle.std.specs.BTreeSet.{insert_key}
-use Rattle.span_event.specs.declared.thread.Thread.{Thread}
-use Rattle.span_event.specs.Orders.{thread_cmp}
-use Rattle.span_event.specs.Thread.{same_thread}
-use Rattle.span_keyed_tracks.specs.Keyed.{ascending}
-use Rattle.span_ledger.specs.Tracked.{ListedKept}
+use Rattle.std.specs.{BTreeSet.insert_key, List.list_any, Ordering.int_cmp}
+use Rattle.std.proofs.{Common.{◌≡◌, ◌<◌, ℕ, List, length, true, Some, slice_get, rules, subst, sym, ap, ◌∙◌}, lemmas.{List.Folds.list_any_at, Option.get_or_from_slice_get}}
+use Rattle.span_ledger.specs.{Thread, thread_cmp, same_thread, ascending, Tracked.ListedKept}
 use Rattle.span_ledger.proofs.Listing.{ascending-listed_process, ascending-listed_thread}
 use Rattle.span_ledger.proofs.listed.Listed.has_at.Goals as goal
 

@@ -1,13 +1,8 @@
+use Rattle.std.specs.{BTreeSet.insert_key, List.list_any, Ordering.{int_cmp, int_eq}}
 use Rattle.std.proofs.Common.{◌≡◌, Bool, true, false, not, rules, sym, ap, ◌∙◌, to_z, of_z, w64}
-use Rattle.std.specs.List.{list_any}
-use Rattle.std.specs.Ordering.{int_cmp, int_eq}
-use Rattle.std.specs.BTreeSet.{insert_key}
 use Rattle.indexmap.specs.IndexSet.{insert_key as add_key}
-use Rattle.span_event.specs.Orders.{thread_cmp}
-use Rattle.span_event.specs.Thread.{same_thread}
 use Rattle.span_keyed_tracks.proofs.Results.{if_ok-there}
-use Rattle.span_keyed_tracks.specs.Keyed.{ascending}
-use Rattle.span_ledger.specs.Tracked.{ListedKept}
+use Rattle.span_ledger.specs.{thread_cmp, same_thread, ascending, Tracked.ListedKept}
 use Rattle.span_ledger.proofs.Listing.{add_key-listed, ascending-process, ascending-thread, have_processes-thread}
 use Rattle.span_ledger.proofs.listed.Listed.list.Goals as goal
 

@@ -1,6 +1,5 @@
+use Rattle.std.specs.{BTreeSet.insert_key, Ordering.int_cmp}
 use Rattle.std.proofs.Common.{◌≡◌, rules, sym, ap, ◌∙◌, to_z, of_z, w64}
-use Rattle.std.specs.Ordering.{int_cmp}
-use Rattle.std.specs.BTreeSet.{insert_key}
 use Rattle.span_ledger.proofs.Ascending.{ascending-passed}
 use Rattle.span_ledger.proofs.listed.Listed.ordered_processes.Goals as goal
 

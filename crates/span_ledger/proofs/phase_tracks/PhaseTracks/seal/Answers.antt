@@ -1,9 +1,5 @@
 use Rattle.std.proofs.Common.{◌≡◌, refl, subst, to_z, of_z, w64, to_z-of_z}
-use Rattle.span_journal.specs.Journal.{Accepted, a_seal}
-use Rattle.span_track.specs.Thread.{any_name}
-use Rattle.span_journal.specs.Told.{thread_seal}
-use Rattle.span_ledger.specs.Tracked.{PhasesKept}
-use Rattle.span_ledger.specs.Telling.{accepted_at, TellsPhase}
+use Rattle.span_ledger.specs.{Accepted, a_seal, any_name, thread_seal, Telling.{accepted_at, TellsPhase}, Tracked.PhasesKept}
 use Rattle.span_ledger.proofs.PhaseTelling.{TellsPhase-spans}
 use Rattle.span_ledger.proofs.phase_tracks.PhaseTracks.seal.Goals as goal
 

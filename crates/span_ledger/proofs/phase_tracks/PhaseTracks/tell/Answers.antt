@@ -1,8 +1,5 @@
 use Rattle.std.proofs.Common.{◌≡◌, rules, sym, ap, subst}
-use Rattle.span_journal.specs.Journal.{an_event}
-use Rattle.span_journal.specs.Told.{async_event, flow_event, span_event, to_async, to_flow, to_thread, suits_end, told_at}
-use Rattle.span_ledger.specs.Tracked.{HasPhaseRoom, PhasesKept}
-use Rattle.span_ledger.specs.Telling.{accepted_at, TellsPhase}
+use Rattle.span_ledger.specs.{an_event, async_event, flow_event, span_event, to_async, to_flow, to_thread, suits_end, told_at, Telling.{accepted_at, TellsPhase}, Tracked.{HasPhaseRoom, PhasesKept}}
 use Rattle.span_ledger.proofs.PhaseTelling.{TellsPhase-spans, TellsPhase-async, TellsPhase-counter, TellsPhase-flow, TellsPhase-meta}
 use Rattle.span_ledger.proofs.phase_tracks.PhaseTracks.tell.Goals as goal
 

@@ -1,8 +1,5 @@
 use Rattle.std.proofs.Common.{◌≡◌, subst, to_z, of_z, w64, to_z-of_z}
-use Rattle.span_track.specs.Thread.{any_name}
-use Rattle.span_journal.specs.Told.{thread_seal}
-use Rattle.span_ledger.specs.Tracked.{SpansKept}
-use Rattle.span_ledger.specs.Telling.{TellsSpans}
+use Rattle.span_ledger.specs.{any_name, thread_seal, Telling.TellsSpans, Tracked.SpansKept}
 use Rattle.span_ledger.proofs.ThreadTelling.{TellsSpans-seal}
 use Rattle.span_ledger.proofs.thread_tracks.ThreadTracks.seal.Goals as goal
 

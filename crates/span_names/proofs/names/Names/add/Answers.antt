@@ -1,10 +1,8 @@
+use Rattle.std.specs.{Cmp.Lexicographic.nat_list_eq_equiv, List.{position_or_len, list_any}}
 use Rattle.std.proofs.Common.{rules, ◌≡◌, ℕ, List, [], ◌∷◌, ◌++◌, false, Some, None, length, ap, ◌∙◌, refl}
-use Rattle.std.specs.List.{position_or_len, list_any}
-use Rattle.std.specs.Cmp.Lexicographic.{nat_list_eq_equiv}
 use Rattle.indexmap.specs.IndexSet.{insert_key}
-use Rattle.span_names.specs.Numbering.{number_in}
+use Rattle.span_names.specs.{same_text, Numbering.number_in}
 use Rattle.span_names.proofs.Places.{position_or_len-None, list_any-None, position-append}
-use Rattle.span_event.specs.Text.{same_text}
 use Rattle.span_names.proofs.names.Names.add.Goals as goal
 
 -- a text that is new goes last, under the number of its place

@@ -1,6 +1,6 @@
-use Rattle.std.proofs.Common.{◌<◌, length, rules, sym, ap, ◌∙◌, ltb-true}
 use Rattle.std.specs.Cmp.Lexicographic.{nat_list_eq_equiv}
-use Rattle.span_event.specs.Text.{same_text}
+use Rattle.std.proofs.Common.{◌<◌, length, rules, sym, ap, ◌∙◌, ltb-true}
+use Rattle.span_names.specs.{same_text}
 use Rattle.span_names.proofs.Places.{position-IsDistinct}
 use Rattle.span_names.proofs.names.Names.has_at.Goals as goal
 

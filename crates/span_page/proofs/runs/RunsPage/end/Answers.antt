@@ -1,6 +1,5 @@
 use Rattle.std.proofs.Common.{◌++◌, ◌∙◌, ℕ, List, codes, string_bytes, ap}
-use Rattle.span_report.specs.Lines.{json_text_of}
-use Rattle.span_page.specs.Safe.{safe}
+use Rattle.span_page.specs.{json_text_of, Safe.safe}
 use Rattle.span_page.proofs.RunsSoFar.{page_of_runs-begun}
 use Rattle.span_page.proofs.runs.RunsPage.end.Goals as goal
 

@@ -1,13 +1,6 @@
 use Rattle.std.proofs.Common.{◌≡◌, ◌++◌, ◌∙◌, ℕ, List, codes, ap, sym, append-nil, append_assoc, refl}
-use Rattle.span_event.specs.declared.thread.Thread.{Thread}
-use Rattle.span_report.specs.Lines.{json_text_of}
-use Rattle.span_report.specs.Report.{report_of}
-use Rattle.span_page.specs.Data.{left_behind, rest_of}
-use Rattle.span_page.specs.Runs.{BegunPage, ShownRun, left_behind_run, run_json}
-use Rattle.span_page.specs.Safe.{safe}
-use Rattle.span_page.proofs.RunsSoFar.{Holds-push, comma}
-use Rattle.span_page.proofs.SafePieces.{safe-report}
-use Rattle.span_page.proofs.runs.RunsPage.with_run.Goals.{then-has_run+in_ok-push, else-has_run}
+use Rattle.span_page.specs.{Thread, json_text_of, report_of, Data.{left_behind, rest_of}, Runs.{BegunPage, ShownRun, left_behind_run, run_json}, Safe.safe}
+use Rattle.span_page.proofs.{RunsSoFar.{Holds-push, comma}, SafePieces.safe-report, runs.RunsPage.with_run.Goals.{then-has_run+in_ok-push, else-has_run}}
 use Rattle.span_page.proofs.runs.RunsPage.with_run.Goals as goal
 
 pub returns : goal.returns

@@ -1,10 +1,6 @@
 use Rattle.std.proofs.Common.{List, sym, subst, ◌∙◌}
-use Rattle.span_event.specs.declared.unit.Unit.{Unit as TimeUnit}
-use Rattle.span_table.specs.declared.column.Column.{Column}
-use Rattle.span_table.specs.declared.of.Of.{Of}
-use Rattle.span_parts.specs.Sum.{IsAdded, PartFails, PartSum, TakesPart}
-use Rattle.span_parts.proofs.Lists.{no-both}
-use Rattle.span_parts.proofs.Taken.{IsByThese-added, PartFails-others, PartFails-sum, TakesPart-added}
+use Rattle.span_parts.specs.{Unit as TimeUnit, Column, Of, Sum.{IsAdded, PartFails, PartSum, TakesPart}}
+use Rattle.span_parts.proofs.{Lists.no-both, Taken.{IsByThese-added, PartFails-others, PartFails-sum, TakesPart-added}}
 use Rattle.span_parts.proofs.parts.Parts.add.Goals as goal
 
 pub invariant_of-result : goal.invariant_of-result

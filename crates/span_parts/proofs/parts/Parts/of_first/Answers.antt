@@ -1,9 +1,6 @@
 use Rattle.std.proofs.Common.{[], sym, ap, subst, ◌∙◌}
-use Rattle.span_table.specs.Adding.{add_tables}
-use Rattle.span_table.specs.Tables.{SpanTable}
-use Rattle.span_parts.specs.Sum.{AreAt, FindsPlaces, IsAdded, chosen}
-use Rattle.span_parts.proofs.Places.{picked-at}
-use Rattle.span_parts.proofs.Taken.{FirstFails-others, FirstFails-sum, IsByThese-added, TakesFirst-added}
+use Rattle.span_parts.specs.{add_tables, SpanTable, Sum.{AreAt, FindsPlaces, IsAdded, chosen}}
+use Rattle.span_parts.proofs.{Places.picked-at, Taken.{FirstFails-others, FirstFails-sum, IsByThese-added, TakesFirst-added}}
 use Rattle.span_parts.proofs.parts.Parts.of_first.Goals as goal
 
 pub invariant_of-result : goal.invariant_of-result

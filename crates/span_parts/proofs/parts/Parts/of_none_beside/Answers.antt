@@ -1,9 +1,5 @@
-use Rattle.std.proofs.Common.{[], sym, ap, subst, ◌∙◌}
-use Rattle.std.proofs.lemmas.List.Elements.{All-nil}
-use Rattle.span_table.specs.Adding.{add_tables, picked}
-use Rattle.span_table_text.specs.Printed.{AreColumns}
-use Rattle.span_table.specs.Tables.{SpanTable}
-use Rattle.span_parts.specs.Sum.{PartSum}
+use Rattle.std.proofs.{Common.{[], sym, ap, subst, ◌∙◌}, lemmas.List.Elements.All-nil}
+use Rattle.span_parts.specs.{add_tables, picked, AreColumns, SpanTable, Sum.PartSum}
 use Rattle.span_parts.proofs.parts.Parts.of_none_beside.Goals as goal
 
 pub invariant_of-result : goal.invariant_of-result

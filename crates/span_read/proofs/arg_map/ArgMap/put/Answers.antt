@@ -1,7 +1,6 @@
 use Rattle.std.proofs.Common.{Result, Ok, Err, OnOk, OnErr, sym, subst}
-use Rattle.span_event.specs.Args.{IsInNameOrder}
-use Rattle.span_read.specs.ArgMap.{pairs_in}
 use Rattle.span_event.proofs.Merged.{IsInNameOrder-insert_entry}
+use Rattle.span_read.specs.{IsInNameOrder, ArgMap.pairs_in}
 use Rattle.span_read.proofs.arg_map.ArgMap.put.Goals as goal
 
 either_way : {A E P Q R : Type 0} (r : Result A E) → OnOk r P → OnErr r Q → (P → R) → (Q → R) → R

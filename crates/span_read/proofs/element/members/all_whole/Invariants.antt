@@ -1,5 +1,5 @@
 use Rattle.std.proofs.Common.{◌≡◌, drop}
-use Rattle.span_event.specs.Args.{all_whole}
+use Rattle.span_read.specs.{all_whole}
 use Rattle.span_read.proofs.element.members.all_whole.Given as goal
 
 -- the values passed so far are whole

@@ -1,5 +1,5 @@
-use Rattle.std.proofs.Common.{◌≡◌, ℕ, suc, ◌+◌, ◌/◌, ◌^◌, sym, ap, ◌∙◌, arith}
 use Rattle.std.specs.Float.Ieee.{nearest}
+use Rattle.std.proofs.Common.{◌≡◌, ℕ, suc, ◌+◌, ◌/◌, ◌^◌, sym, ap, ◌∙◌, arith}
 use Rattle.span_read.proofs.Times.{compare-lt, compare-eq, compare-gt, unit_is, masked}
 use Rattle.span_read.proofs.element.time.shifted_to_nearest.Goals as goal
 

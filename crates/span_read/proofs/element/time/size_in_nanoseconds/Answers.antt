@@ -1,7 +1,6 @@
 use Rattle.std.proofs.Common.{sym, subst, ◌∙◌, arith}
+use Rattle.span_read.proofs.{FloatBits.not_nan, Times.{tiny, shifted, huge}}
 use lib.Dec.{T}
-use Rattle.span_read.proofs.FloatBits.{not_nan}
-use Rattle.span_read.proofs.Times.{tiny, shifted, huge}
 use Rattle.span_read.proofs.element.time.size_in_nanoseconds.Goals as goal
 
 pub float_to_bits-bits : goal.float_to_bits-bits

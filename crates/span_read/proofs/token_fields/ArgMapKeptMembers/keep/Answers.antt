@@ -1,7 +1,6 @@
-use Rattle.std.proofs.Common.{◌≡◌, ℕ, List, sym, ap, ap₂, ◌∙◌}
 use Rattle.std.specs.BTreeMap.{insert_entry}
-use Rattle.span_event.specs.Text.{text_cmp}
-use Rattle.span_read.specs.Fields.{pairs_of}
+use Rattle.std.proofs.Common.{◌≡◌, ℕ, List, sym, ap, ap₂, ◌∙◌}
+use Rattle.span_read.specs.{text_cmp, Fields.pairs_of}
 use Rattle.span_read.proofs.NameOrder.{pairs_of-put}
 use Rattle.span_read.proofs.token_fields.ArgMapKeptMembers.keep.Goals as goal
 

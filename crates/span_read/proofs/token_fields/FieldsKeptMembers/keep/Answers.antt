@@ -1,7 +1,6 @@
 use Rattle.std.proofs.Common.{sym, ap, ◌∙◌}
 use Rattle.serde_json.specs.Data.{put}
-use Rattle.span_read.specs.Fields.{fields_of}
-use Rattle.span_read.specs.Slots.{slots, names, put_at}
+use Rattle.span_read.specs.{Fields.fields_of, Slots.{slots, names, put_at}}
 use Rattle.span_read.proofs.Slots.{places, put_at-places, slots_injective}
 use Rattle.span_read.proofs.token_fields.FieldsKeptMembers.keep.Goals as goal
 

@@ -1,10 +1,7 @@
 use Rattle.std.proofs.Common.{◌≡◌, ◌∷◌, None, refl, sym, ap, ◌∙◌, arith}
-use Rattle.json.specs.Token.{Token}
-use Rattle.json.specs.Json.{value}
-use Rattle.json.specs.Reads.{token_of}
+use Rattle.json.specs.{Json.value, Reads.token_of, Token.Token}
+use Rattle.serde_json.specs.{Data.{string, boolean, null}, Read.{of_json, number_of, converted}}
 use Rattle.json.proofs.Grammar.{value_is}
-use Rattle.serde_json.specs.Data.{string, boolean, null}
-use Rattle.serde_json.specs.Read.{of_json, number_of, converted}
 use Rattle.span_read.specs.Tokens.{data_at}
 use Rattle.span_read.proofs.Leaves.{number_taken, number_refused}
 use Rattle.span_read.proofs.tokens.beginning.beginning_of.Goals as goal

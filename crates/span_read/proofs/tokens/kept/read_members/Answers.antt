@@ -1,7 +1,6 @@
 use Rattle.std.proofs.Common.{◌≡◌, ◌-◌, Some, arith}
 use Rattle.json.specs.Json.{read_key}
-use Rattle.span_read.proofs.Grammar.{data_at-too_deep_object}
-use Rattle.span_read.proofs.Turns.{members_smaller, members_start, members_turn, members_key_refused, members_value_refused, members_finish}
+use Rattle.span_read.proofs.{Grammar.data_at-too_deep_object, Turns.{members_smaller, members_start, members_turn, members_key_refused, members_value_refused, members_finish}}
 use Rattle.span_read.proofs.tokens.kept.read_members.Goals as goal
 
 pub returns-then-depth-eq0-clause-refused : goal.returns-then-depth-eq0-clause-refused

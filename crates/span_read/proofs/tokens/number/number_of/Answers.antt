@@ -1,9 +1,7 @@
 use Rattle.std.proofs.Common.{◌≡◌, ℕ, List, drop, get_or, Bool, true, false, ◌==◌, if◌then◌else◌, option_map, sym, ap, ◌∙◌, arith, take_all, length-drop}
 use Rattle.fast_float.specs.Text.{Parts, scan}
-use Rattle.serde_json.specs.Data.{Num, number}
-use Rattle.serde_json.specs.Read.{number_of, number_from}
-use Rattle.span_read.specs.declared.fields.FieldValue.{FieldValue}
-use Rattle.span_read.specs.Fields.{field_value}
+use Rattle.serde_json.specs.{Data.{Num, number}, Read.{number_of, number_from}}
+use Rattle.span_read.specs.{Fields.field_value, declared.fields.FieldValue.FieldValue}
 use Rattle.span_read.proofs.tokens.number.number_of.Goals as goal
 
 abbrev kind : Num → FieldValue

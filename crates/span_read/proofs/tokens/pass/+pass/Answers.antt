@@ -1,13 +1,8 @@
-use Rattle.std.proofs.Common.{◌≡◌, ◌-◌, [], ◌∷◌, Some, ap, ◌∙◌, arith}
 use Rattle.std.specs.Prelude.{⊤}
-use Rattle.std.proofs.lemmas.Result.{on_ok_weaker}
-use Rattle.json.specs.Token.{Token}
-use Rattle.json.specs.Json.{read_key}
-use Rattle.json.specs.Reads.{token_of}
+use Rattle.std.proofs.{Common.{◌≡◌, ◌-◌, [], ◌∷◌, Some, ap, ◌∙◌, arith}, lemmas.Result.on_ok_weaker}
+use Rattle.json.specs.{Json.read_key, Reads.token_of, Token.Token}
 use Rattle.span_read.specs.Tokens.{data_at}
-use Rattle.span_read.proofs.Grammar.{data_at-nothing, data_at-too_deep_array, data_at-too_deep_object}
-use Rattle.span_read.proofs.Leaves.{on_err}
-use Rattle.span_read.proofs.Turns.{items_smaller, items_start, items_turn, items_refused, items_finish, members_smaller, members_start, members_turn, members_key_refused, members_value_refused, members_finish, array_value, object_value}
+use Rattle.span_read.proofs.{Grammar.{data_at-nothing, data_at-too_deep_array, data_at-too_deep_object}, Leaves.on_err, Turns.{items_smaller, items_start, items_turn, items_refused, items_finish, members_smaller, members_start, members_turn, members_key_refused, members_value_refused, members_finish, array_value, object_value}}
 use Rattle.span_read.proofs.tokens.pass.+pass.Goals as goal
 
 pub pass_array-returns-then-depth-eq0-clause-refused : goal.pass_array-returns-then-depth-eq0-clause-refused

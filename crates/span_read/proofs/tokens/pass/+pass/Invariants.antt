@@ -1,5 +1,5 @@
-use Rattle.std.proofs.Common.{◌+◌, ◌*◌, ◌-◌, length}
 use Rattle.std.specs.Prelude.{⊤}
+use Rattle.std.proofs.Common.{◌+◌, ◌*◌, ◌-◌, length}
 use Rattle.span_read.specs.Tokens.{ItemsSoFar, MembersSoFar}
 use Rattle.span_read.proofs.tokens.pass.+pass.Given as goal
 

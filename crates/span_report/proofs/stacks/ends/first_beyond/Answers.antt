@@ -1,10 +1,7 @@
-use Rattle.std.proofs.Common.{◌≡◌, ◌<◌, ◌≤ℤ◌, int_le, true, get_or, arith, rules, sym, subst, ◌∙◌, to_z, of_z, w64, inl, inr}
 use Rattle.std.specs.Int.{int_max}
-use Rattle.std.proofs.lemmas.Int.{ints}
-use Rattle.span_report.specs.declared.stacks.ends.Link.{Link}
-use Rattle.span_report.specs.Stacks.Pending.{IsOnward, NoneCovers}
-use Rattle.span_report.proofs.StackLemmas.Links.{NoneCovers-jump}
-use Rattle.span_report.proofs.StackLemmas.Standing.{NoneCovers-later}
+use Rattle.std.proofs.{Common.{◌≡◌, ◌<◌, ◌≤ℤ◌, int_le, true, get_or, arith, rules, sym, subst, ◌∙◌, to_z, of_z, w64, inl, inr}, lemmas.Int.ints}
+use Rattle.span_report.specs.{Stacks.Pending.{IsOnward, NoneCovers}, declared.stacks.ends.Link.Link}
+use Rattle.span_report.proofs.StackLemmas.{Links.NoneCovers-jump, Standing.NoneCovers-later}
 use Rattle.span_report.proofs.stacks.ends.first_beyond.Goals as goal
 
 -- a span that ends by then leads to the next that may not, or jumps to one that does too

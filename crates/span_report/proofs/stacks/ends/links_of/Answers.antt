@@ -1,6 +1,5 @@
 use Rattle.std.proofs.Common.{◌≡◌, ◌+◌, ◌-◌, ◌<◌, List, length, arith, rules, sym, subst, to_z, of_z, w64}
-use Rattle.span_report.specs.declared.stacks.ends.Link.{Link}
-use Rattle.span_report.specs.Stacks.Pending.{AreLinks, IsFirstBeyond, IsLinkTo}
+use Rattle.span_report.specs.{Stacks.Pending.{AreLinks, IsFirstBeyond, IsLinkTo}, declared.stacks.ends.Link.Link}
 use Rattle.span_report.proofs.StackLemmas.Links.{AreLinks-set}
 use Rattle.span_report.proofs.stacks.ends.links_of.Goals as goal
 

@@ -1,7 +1,5 @@
-use Rattle.std.proofs.Common.{◌≡◌, ◌∷◌, [], ◌++◌, List, length, arith, sym, ap, subst, rules}
-use Rattle.std.proofs.lemmas.List.{length_push}
-use Rattle.span_report.specs.Stacks.Descent.{Visits}
-use Rattle.span_report.specs.Stacks.Framed.{Framed}
+use Rattle.std.proofs.{Common.{◌≡◌, ◌∷◌, [], ◌++◌, List, length, arith, sym, ap, subst, rules}, lemmas.List.length_push}
+use Rattle.span_report.specs.Stacks.{Descent.Visits, Framed.Framed}
 use Rattle.span_report.proofs.StackLemmas.Counting.{AreVisited, AreVisited-next, AreVisited-none, count-all, folded-all, visited-fewer}
 use Rattle.span_report.proofs.stacks.framed.frames_of.Goals as goal
 

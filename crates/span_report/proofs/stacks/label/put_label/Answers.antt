@@ -1,11 +1,8 @@
-use Rattle.std.proofs.Common.{◌∷◌, [], ◌++◌, Bool, cond, string_bytes, take, sym, ap, ap₂, ◌∙◌, append_assoc}
 use Rattle.std.specs.List.{filter_map, join_with_byte}
-use Rattle.span_event.specs.Text.{Bytes}
-use Rattle.span_report.specs.Stacks.Labelled.{then_word}
-use Rattle.span_report.specs.Stacks.Labels.{word_in}
-use Rattle.span_report.proofs.StackLemmas.Labelling.{join-then, separator-then, separator_after, words-more}
+use Rattle.std.proofs.Common.{◌∷◌, [], ◌++◌, Bool, cond, string_bytes, take, sym, ap, ap₂, ◌∙◌, append_assoc}
+use Rattle.span_report.specs.{Bytes, Stacks.{Labelled.then_word, Labels.word_in}}
+use Rattle.span_report.proofs.{StackLemmas.Labelling.{join-then, separator-then, separator_after, words-more}, stacks.label.put_label.Goals.{then-branch, else-branch}}
 use Rattle.span_report.proofs.stacks.label.put_label.Goals as goal
-use Rattle.span_report.proofs.stacks.label.put_label.Goals.{then-branch, else-branch}
 
 pub loop-column-preserved : goal.loop-column-preserved
 loop-column-preserved c =

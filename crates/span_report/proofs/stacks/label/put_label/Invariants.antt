@@ -1,5 +1,5 @@
-use Rattle.std.proofs.Common.{◌≡◌, ◌++◌, string_bytes, take}
 use Rattle.std.specs.List.{filter_map, join_with_byte}
+use Rattle.std.proofs.Common.{◌≡◌, ◌++◌, string_bytes, take}
 use Rattle.span_report.specs.Stacks.Labels.{word_in}
 use Rattle.span_report.proofs.StackLemmas.Labelling.{separator_after}
 use Rattle.span_report.proofs.stacks.label.put_label.Given as goal

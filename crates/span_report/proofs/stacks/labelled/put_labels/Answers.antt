@@ -1,8 +1,5 @@
 use Rattle.std.proofs.Common.{List, add-one, get_or, slice_set, sym, ap, ◌∙◌, take}
-use Rattle.span_event.specs.Text.{Bytes}
-use Rattle.span_self_time.specs.Spans.{Span}
-use Rattle.span_report.specs.Stacks.Labelled.{relabelled}
-use Rattle.span_report.specs.Stacks.Labels.{named_by}
+use Rattle.span_report.specs.{Bytes, Span, Stacks.{Labelled.relabelled, Labels.named_by}}
 use Rattle.span_report.proofs.StackLemmas.Labelling.{relabelled-set}
 use Rattle.span_report.proofs.stacks.labelled.put_labels.Goals as goal
 

@@ -1,12 +1,8 @@
-use Rattle.std.proofs.Common.{◌≡◌, ◌+◌, ◌∷◌, [], ◌++◌, List, cond, arith, rules, refl, sym, subst, ◌∙◌, to_z, of_z, w64}
 use Rattle.std.specs.List.{AllByRecursion}
-use Rattle.std.proofs.lemmas.Int.{ints}
-use Rattle.span_event.specs.Time.{distance}
+use Rattle.std.proofs.{Common.{◌≡◌, ◌+◌, ◌∷◌, [], ◌++◌, List, cond, arith, rules, refl, sym, subst, ◌∙◌, to_z, of_z, w64}, lemmas.Int.ints}
 use Rattle.span_self_time.proofs.Counts.{add-distance, distance-add}
 use Rattle.span_journal.proofs.Sorted.{AllByRecursion-append}
-use Rattle.span_report.specs.declared.stacks.pending.PendingFrame.{PendingFrame}
-use Rattle.span_report.specs.Stacks.Ticks.{same_stack}
-use Rattle.span_report.specs.Stacks.Pending.{IsSound, left, times_on}
+use Rattle.span_report.specs.{distance, Stacks.{Pending.{IsSound, left, times_on}, Ticks.same_stack}, declared.stacks.pending.PendingFrame.PendingFrame}
 use Rattle.span_report.proofs.StackLemmas.Splitting.{counts-bare, counts-push, rest_of}
 use Rattle.span_report.proofs.stacks.pending.split.Goals as goal
 

@@ -1,8 +1,6 @@
-use Rattle.std.proofs.Common.{◌≡◌, ◌+◌, ◌-◌, ◌≤◌, ◌≤ℤ◌, cond, length}
 use Rattle.std.specs.List.{AllByRecursion}
-use Rattle.span_event.specs.Time.{distance}
-use Rattle.span_report.specs.Stacks.Ticks.{Stack, same_stack}
-use Rattle.span_report.specs.Stacks.Pending.{IsSound, left, times_on}
+use Rattle.std.proofs.Common.{◌≡◌, ◌+◌, ◌-◌, ◌≤◌, ◌≤ℤ◌, cond, length}
+use Rattle.span_report.specs.{distance, Stacks.{Pending.{IsSound, left, times_on}, Ticks.{Stack, same_stack}}}
 use Rattle.span_report.proofs.stacks.pending.split.Given as goal
 
 -- what was found, the time without a span, and the rest have together what the stretch has

@@ -1,7 +1,6 @@
-use Rattle.std.proofs.Common.{◌≡◌, ◌+◌, drop, take}
 use Rattle.std.specs.Prelude.{flat_map, sum_by}
-use Rattle.span_report.specs.Stacks.Bounds.{most_names}
-use Rattle.span_report.specs.Stacks.Folded.{process_lines, process_names}
+use Rattle.std.proofs.Common.{◌≡◌, ◌+◌, drop, take}
+use Rattle.span_report.specs.Stacks.{Bounds.most_names, Folded.{process_lines, process_names}}
 use Rattle.span_report.proofs.stacks.text.folded.Given as goal
 
 -- the lines of the processes so far; the names of the others are to be taken from those that are left

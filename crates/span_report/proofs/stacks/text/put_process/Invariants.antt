@@ -1,5 +1,5 @@
-use Rattle.std.proofs.Common.{◌≡◌, ◌++◌, ◌+◌, drop, take}
 use Rattle.std.specs.Prelude.{flat_map, sum_by}
+use Rattle.std.proofs.Common.{◌≡◌, ◌++◌, ◌+◌, drop, take}
 use Rattle.span_report.specs.Stacks.Folded.{thread_lines, thread_names}
 use Rattle.span_report.proofs.stacks.text.put_process.Given as goal
 

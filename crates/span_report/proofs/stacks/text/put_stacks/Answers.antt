@@ -1,16 +1,7 @@
-use Rattle.std.proofs.Common.{◌≡◌, ◌+◌, ◌<◌, ◌∷◌, [], ◌++◌, Bor, List, length, map, arith, add-zero, rules, sym, ap, subst, ◌∙◌, append-nil, append_assoc}
 use Rattle.std.specs.Prelude.{Err}
-use Rattle.std.proofs.lemmas.Grind.{flat_map-append}
-use Rattle.std.proofs.lemmas.List.Sums.{sum_by-append}
-use Rattle.span_event.specs.Text.{Bytes}
-use Rattle.span_report.specs.declared.stacks.fault.StacksFault.TheVariants.{TooLarge}
-use Rattle.span_report.specs.Stacks.Bounds.{names_in}
-use Rattle.span_report.specs.Stacks.Descent.{Visits, last_visited}
-use Rattle.span_report.specs.Stacks.Folded.{stack_line, stack_lines}
-use Rattle.span_report.specs.Stacks.Ticks.{Folded, Stack}
-use Rattle.span_report.specs.Stacks.Framed.{Framed, folded_after, folded_if, last_stack, stack_after}
-use Rattle.span_report.proofs.StackLemmas.Counting.{AreVisited-next, AreVisited-none, above-next, folded-all, visited-names}
-use Rattle.span_report.proofs.StackLemmas.Visiting.{folded_after-push}
+use Rattle.std.proofs.{Common.{◌≡◌, ◌+◌, ◌<◌, ◌∷◌, [], ◌++◌, Bor, List, length, map, arith, add-zero, rules, sym, ap, subst, ◌∙◌, append-nil, append_assoc}, lemmas.{Grind.flat_map-append, List.Sums.sum_by-append}}
+use Rattle.span_report.specs.{Bytes, Stacks.{Bounds.names_in, Descent.{Visits, last_visited}, Folded.{stack_line, stack_lines}, Framed.{Framed, folded_after, folded_if, last_stack, stack_after}, Ticks.{Folded, Stack}}, declared.stacks.fault.StacksFault.TheVariants.TooLarge}
+use Rattle.span_report.proofs.StackLemmas.{Counting.{AreVisited-next, AreVisited-none, above-next, folded-all, visited-names}, Visiting.folded_after-push}
 use Rattle.span_report.proofs.stacks.text.put_stacks.Goals as goal
 
 pub loop-descent-init : goal.loop-descent-init

@@ -1,8 +1,5 @@
 use Rattle.std.proofs.Common.{◌≡◌, ◌+◌, ◌++◌, [], List}
-use Rattle.span_report.specs.Stacks.Bounds.{frames_of, names_in}
-use Rattle.span_report.specs.Stacks.Descent.{last_visited}
-use Rattle.span_report.specs.Stacks.Folded.{stack_lines}
-use Rattle.span_report.specs.Stacks.Framed.{Framed, folded_after}
+use Rattle.span_report.specs.Stacks.{Bounds.{frames_of, names_in}, Descent.last_visited, Folded.stack_lines, Framed.{Framed, folded_after}}
 use Rattle.span_report.proofs.StackLemmas.Counting.{AreVisited, above}
 use Rattle.span_report.proofs.stacks.text.put_stacks.Given as goal
 

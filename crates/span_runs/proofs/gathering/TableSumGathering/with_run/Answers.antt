@@ -1,8 +1,5 @@
-use Rattle.std.proofs.Common.{[], ◌∷◌, ◌∙◌}
-use Rattle.std.proofs.lemmas.Result.{IfOk-weaker}
-use Rattle.span_table.specs.Adding.{TakesRuns}
-use Rattle.span_runs.specs.Apart.{run_of}
-use Rattle.span_runs.specs.Gathering.{IsTableOf, TakesAlike}
+use Rattle.std.proofs.{Common.{[], ◌∷◌, ◌∙◌}, lemmas.Result.IfOk-weaker}
+use Rattle.span_runs.specs.{TakesRuns, Apart.run_of, Gathering.{IsTableOf, TakesAlike}}
 use Rattle.span_runs.proofs.AlikeRuns.{table_of-last}
 use Rattle.span_runs.proofs.gathering.TableSumGathering.with_run.Goals as goal
 

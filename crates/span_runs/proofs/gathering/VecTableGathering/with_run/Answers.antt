@@ -1,8 +1,5 @@
-use Rattle.std.proofs.Common.{List, [], ◌∷◌, ◌++◌, ap₂, sym, ◌∙◌}
-use Rattle.std.proofs.lemmas.List.{map_push}
-use Rattle.span_table.specs.Tables.{SpanTable}
-use Rattle.span_runs.specs.Apart.{run_of}
-use Rattle.span_runs.specs.Runs.{table_of_run}
+use Rattle.std.proofs.{Common.{List, [], ◌∷◌, ◌++◌, ap₂, sym, ◌∙◌}, lemmas.List.map_push}
+use Rattle.span_runs.specs.{SpanTable, Apart.run_of, Runs.table_of_run}
 use Rattle.span_runs.proofs.AlikeRuns.{table_of-last}
 use Rattle.span_runs.proofs.gathering.VecTableGathering.with_run.Goals as goal
 

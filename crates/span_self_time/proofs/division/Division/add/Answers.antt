@@ -1,12 +1,6 @@
 use Rattle.std.proofs.Common.{◌≡◌, ℕ, List, [], ◌∷◌, ◌++◌, map, sym, ap, subst}
-use Rattle.span_self_time.specs.Spans.{Span}
-use Rattle.span_self_time.specs.Closed.{span_of}
-use Rattle.span_self_time.specs.Division.{bare, owner_of, taken, owners_of, IsNew, CanAdd, Adds}
-use Rattle.span_self_time.specs.Division.Ways.{IsWay}
-use Rattle.span_self_time.proofs.Owners.{owners_of-append, owners_of-apart}
-use Rattle.span_self_time.proofs.SpanTimes.{AreSettled-owners_of}
-use Rattle.span_self_time.proofs.TimeMap.Searching.{on_err}
-use Rattle.span_self_time.proofs.division.Division.add.Goals.{After-suit}
+use Rattle.span_self_time.specs.{Closed.span_of, Division.{bare, owner_of, taken, owners_of, IsNew, CanAdd, Adds, Ways.IsWay}, Spans.Span}
+use Rattle.span_self_time.proofs.{Owners.{owners_of-append, owners_of-apart}, SpanTimes.AreSettled-owners_of, TimeMap.Searching.on_err, division.Division.add.Goals.After-suit}
 use Rattle.span_self_time.proofs.division.Division.add.Goals as goal
 
 owners_of-push : (spans : List (Span ℕ)) (s : Span ℕ) → owners_of (spans ++ s ∷ []) ≡ taken (bare s) (owners_of spans)

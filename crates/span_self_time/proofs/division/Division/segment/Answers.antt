@@ -1,11 +1,6 @@
 use Rattle.std.proofs.Common.{◌≡◌, slice_get, option_copied, List, sym, subst}
-use Rattle.span_self_time.specs.declared.segment.Segment.{Segment}
-use Rattle.span_self_time.specs.Division.{owners_of}
-use Rattle.span_self_time.specs.Division.SegmentStacks.{AreSegmentStacks}
-use Rattle.span_self_time.specs.Division.TimeMap.{IsTimeMap}
-use Rattle.span_self_time.specs.Division.Ways.{IsWay}
-use Rattle.span_self_time.proofs.Lone.{AreOwnedSegments-lone}
-use Rattle.span_self_time.proofs.Segments.{HasSegmentsWith-owned}
+use Rattle.span_self_time.specs.{Division.{owners_of, SegmentStacks.AreSegmentStacks, TimeMap.IsTimeMap, Ways.IsWay}, declared.segment.Segment.Segment}
+use Rattle.span_self_time.proofs.{Lone.AreOwnedSegments-lone, Segments.HasSegmentsWith-owned}
 use Rattle.span_self_time.proofs.division.Division.segment.Goals as goal
 
 pub returns-in-Stacked : goal.returns-in-Stacked

@@ -1,13 +1,6 @@
-use Rattle.std.proofs.Common.{◌≡◌, length, List, sym, ◌∙◌, subst}
-use Rattle.std.proofs.lemmas.List.{length-map}
-use Rattle.span_self_time.specs.declared.segment.OwnedSegment.{OwnedSegment}
-use Rattle.span_self_time.specs.declared.segment.Segment.{Segment}
-use Rattle.span_self_time.specs.Division.{owners_of}
-use Rattle.span_self_time.specs.Division.SegmentStacks.{AreSegmentStacks}
-use Rattle.span_self_time.specs.Division.TimeMap.{IsTimeMap}
-use Rattle.span_self_time.specs.Division.Ways.{IsWay}
-use Rattle.span_self_time.proofs.Lone.{AreOwnedSegments-lone}
-use Rattle.span_self_time.proofs.Segments.{HasSegmentsWith-owned}
+use Rattle.std.proofs.{Common.{◌≡◌, length, List, sym, ◌∙◌, subst}, lemmas.List.length-map}
+use Rattle.span_self_time.specs.{Division.{owners_of, SegmentStacks.AreSegmentStacks, TimeMap.IsTimeMap, Ways.IsWay}, declared.segment.{OwnedSegment.OwnedSegment, Segment.Segment}}
+use Rattle.span_self_time.proofs.{Lone.AreOwnedSegments-lone, Segments.HasSegmentsWith-owned}
 use Rattle.span_self_time.proofs.division.Division.segment_count.Goals as goal
 
 pub returns-in-Stacked : goal.returns-in-Stacked

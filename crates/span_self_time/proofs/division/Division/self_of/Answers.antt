@@ -1,9 +1,6 @@
 use Rattle.std.proofs.Common.{◌∙◌, sym, subst}
-use Rattle.span_self_time.specs.Division.{owners_of}
-use Rattle.span_self_time.specs.Division.SegmentStacks.{AreSegmentStacks}
-use Rattle.span_self_time.specs.Division.Ways.{IsWay}
-use Rattle.span_self_time.proofs.Lone.{AreOwnedSegments-lone}
-use Rattle.span_self_time.proofs.SegmentStacks.SegmentLengths.{named_length-self_of}
+use Rattle.span_self_time.specs.Division.{owners_of, SegmentStacks.AreSegmentStacks, Ways.IsWay}
+use Rattle.span_self_time.proofs.{Lone.AreOwnedSegments-lone, SegmentStacks.SegmentLengths.named_length-self_of}
 use Rattle.span_self_time.proofs.division.Division.self_of.Goals as goal
 
 pub returns-in-Stacked : goal.returns-in-Stacked

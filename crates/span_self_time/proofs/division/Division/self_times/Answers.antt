@@ -1,11 +1,5 @@
-use Rattle.std.proofs.Common.{◌≡◌, ℕ, List, [], ◌∷◌, map, take, get_or, refl, sym, ap, ap₂, ◌∙◌, subst, take_all, arith, All, OnOk}
-use Rattle.std.proofs.lemmas.List.Elements.{All-head, All-tail}
-use Rattle.std.proofs.lemmas.Simd.{map-map}
-use Rattle.span_self_time.specs.declared.span.ClosedSpan.{ClosedSpan}
-use Rattle.span_self_time.specs.Closed.{span_of}
-use Rattle.span_self_time.specs.Division.{owners_of}
-use Rattle.span_self_time.specs.Division.Lengths.{time_at, Gains}
-use Rattle.span_self_time.specs.Spans.{Span, self_time}
+use Rattle.std.proofs.{Common.{◌≡◌, ℕ, List, [], ◌∷◌, map, take, get_or, refl, sym, ap, ap₂, ◌∙◌, subst, take_all, arith, All, OnOk}, lemmas.{List.Elements.{All-head, All-tail}, Simd.map-map}}
+use Rattle.span_self_time.specs.{Closed.span_of, Division.{owners_of, Lengths.{time_at, Gains}}, Spans.{Span, self_time}, declared.span.ClosedSpan.ClosedSpan}
 use Rattle.span_self_time.proofs.Lengths.{length_at-self_time}
 use Rattle.span_self_time.proofs.division.Division.self_times.Goals as goal
 

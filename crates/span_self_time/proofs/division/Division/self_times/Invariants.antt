@@ -1,6 +1,5 @@
 use Rattle.std.proofs.Common.{◌≡◌, map, take}
-use Rattle.span_self_time.specs.declared.span.ClosedSpan.{ClosedSpan}
-use Rattle.span_self_time.specs.Division.Lengths.{time_at}
+use Rattle.span_self_time.specs.{Division.Lengths.time_at, declared.span.ClosedSpan.ClosedSpan}
 use Rattle.span_self_time.proofs.division.Division.self_times.Given as goal
 
 abbrev pub invariant-loop-span : goal.invariant-loop-span

@@ -1,9 +1,6 @@
 use Rattle.std.proofs.Common.{sym, subst}
-use Rattle.span_self_time.specs.Division.SegmentStacks.{AreSegmentStacks}
-use Rattle.span_self_time.specs.Division.TimeMap.{IsTimeMap}
-use Rattle.span_self_time.specs.Division.Ways.{IsWay}
-use Rattle.span_self_time.proofs.Lengths.{CanGain-none}
-use Rattle.span_self_time.proofs.TimeMap.Listing.{AreOwnedSegments-stretches}
+use Rattle.span_self_time.specs.Division.{SegmentStacks.AreSegmentStacks, TimeMap.IsTimeMap, Ways.IsWay}
+use Rattle.span_self_time.proofs.{Lengths.CanGain-none, TimeMap.Listing.AreOwnedSegments-stretches}
 use Rattle.span_self_time.proofs.division.Way.add_lengths.Goals as goal
 
 pub add_lengths-requires-in-Stacked : goal.add_lengths-requires-in-Stacked

@@ -1,8 +1,5 @@
-use Rattle.std.proofs.Common.{◌≡◌, ℕ, ℤ, rules, sym, subst}
-use Rattle.std.proofs.lemmas.List.Elements.{same_from_all_zip}
-use Rattle.std.proofs.lemmas.Map.Entries.{entries_from_clone}
-use Rattle.span_self_time.specs.Division.Ways.{IsWay}
-use Rattle.span_self_time.specs.Division.TimeMap.{IsTimeMap}
+use Rattle.std.proofs.{Common.{◌≡◌, ℕ, ℤ, rules, sym, subst}, lemmas.{List.Elements.same_from_all_zip, Map.Entries.entries_from_clone}}
+use Rattle.span_self_time.specs.Division.{TimeMap.IsTimeMap, Ways.IsWay}
 use Rattle.span_self_time.proofs.division.Way.try_clone.Goals as goal
 
 pub returns-in_ok-new-in-Searched : goal.returns-in_ok-new-in-Searched

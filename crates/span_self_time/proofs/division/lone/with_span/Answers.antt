@@ -1,10 +1,6 @@
-use Rattle.std.proofs.Common.{Some, sym, subst, arith}
-use Rattle.std.proofs.lemmas.Int.{ints}
-use Rattle.span_self_time.specs.Division.{Owners, owner_of, taken}
-use Rattle.span_self_time.specs.Division.Lone.{IsLone}
-use Rattle.span_self_time.specs.Division.SegmentStacks.{AreSegmentStacks}
-use Rattle.span_self_time.proofs.Lone.{nobody, AreSettled-nobody, IsNew-nobody, taken-nothing}
-use Rattle.span_self_time.proofs.division.lone.with_span.Goals.{In_ok-add}
+use Rattle.std.proofs.{Common.{Some, sym, subst, arith}, lemmas.Int.ints}
+use Rattle.span_self_time.specs.Division.{Owners, owner_of, taken, Lone.IsLone, SegmentStacks.AreSegmentStacks}
+use Rattle.span_self_time.proofs.{Lone.{nobody, AreSettled-nobody, IsNew-nobody, taken-nothing}, division.lone.with_span.Goals.In_ok-add}
 use Rattle.span_self_time.proofs.division.lone.with_span.Goals as goal
 
 pub returns-then-span : goal.returns-then-span

@@ -1,12 +1,7 @@
-use Rattle.std.proofs.Common.{◌≡◌, ◌-◌, ◌<◌, ◌++◌, [], ◌∷◌, Some, length, get_or, slice_get, reverse, sym, ap, ◌∙◌, subst, arith, rules, vec_len, w64, to_z, of_z}
 use Rattle.std.specs.Option.{option_to_list}
-use Rattle.std.proofs.lemmas.Int.{to_z-of_z}
-use Rattle.std.proofs.lemmas.Option.{slice_get_within, get_or_from_slice_get, same_Some}
-use Rattle.span_self_time.specs.declared.segment.OwnedSegment.{OwnedSegment}
-use Rattle.span_self_time.specs.Division.{Owners, owner_of}
-use Rattle.span_self_time.specs.Division.SegmentStacks.{ArePast, IsOnly, IsTakenBack}
-use Rattle.span_self_time.proofs.SegmentStacks.Gaining.{IsTakenBack-last, IsTakenBack-apart}
-use Rattle.span_self_time.proofs.division.segment_stacks.take_back.Goals.{In-Some}
+use Rattle.std.proofs.{Common.{◌≡◌, ◌-◌, ◌<◌, ◌++◌, [], ◌∷◌, Some, length, get_or, slice_get, reverse, sym, ap, ◌∙◌, subst, arith, rules, vec_len, w64, to_z, of_z}, lemmas.{Int.to_z-of_z, Option.{slice_get_within, get_or_from_slice_get, same_Some}}}
+use Rattle.span_self_time.specs.{Division.{Owners, owner_of, SegmentStacks.{ArePast, IsOnly, IsTakenBack}}, declared.segment.OwnedSegment.OwnedSegment}
+use Rattle.span_self_time.proofs.{SegmentStacks.Gaining.{IsTakenBack-last, IsTakenBack-apart}, division.segment_stacks.take_back.Goals.In-Some}
 use Rattle.span_self_time.proofs.division.segment_stacks.take_back.Goals as goal
 
 last_is : (c : In-Some) → slice_get c.args.past.now.items (length c.args.past.now.items - 1) ≡ Some c.in-Some.last.now

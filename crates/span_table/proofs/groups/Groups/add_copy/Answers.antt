@@ -1,7 +1,6 @@
-use Rattle.std.proofs.Common.{ℕ, subst}
 use Rattle.std.specs.Prelude.{OnOk}
-use Rattle.span_table.specs.Collected.{GrowsBy, IsWithin}
-use Rattle.span_table.specs.Tables.{SumsByKey}
+use Rattle.std.proofs.Common.{ℕ, subst}
+use Rattle.span_table.specs.{Collected.{GrowsBy, IsWithin}, Tables.SumsByKey}
 use Rattle.span_table.proofs.groups.Groups.add_copy.Goals as goal
 
 pub returns-then-add_known-clause-bound : goal.returns-then-add_known-clause-bound

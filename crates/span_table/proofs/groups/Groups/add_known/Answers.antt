@@ -1,17 +1,10 @@
+use Rattle.std.specs.{BTreeMap.insert_entry, List.IsDistinct, Ordering.eq_by_cmp}
 use Rattle.std.proofs.Common.{◌^◌, Some, None, true≢false, refl, sym, ap, subst, ◌∙◌}
-use Rattle.std.specs.BTreeMap.{insert_entry}
-use Rattle.std.specs.List.{IsDistinct}
-use Rattle.std.specs.Ordering.{eq_by_cmp}
 use Rattle.indexmap.specs.IndexMap.{with_value_at}
 use Rattle.indexmap.proofs.CallerLemmas.{keys-with_value_at}
-use Rattle.span_keyed_tracks.specs.Keyed.{in_key_order}
 use Rattle.span_keyed_tracks.proofs.InKeyOrder.{found-in_key_order}
-use Rattle.span_table.specs.Collected.{IsWithin}
-use Rattle.span_table.specs.KeyLaws.{key_cmp_total, key_cmp-same}
-use Rattle.span_table.specs.Keys.{key_cmp}
-use Rattle.span_table.specs.Tables.{SumsByKey}
-use Rattle.span_table.proofs.KeyPlaces.{kept-found, place-none, place-value, written-at}
-use Rattle.span_table.proofs.Summing.{found-within, sums-added}
+use Rattle.span_table.specs.{in_key_order, Collected.IsWithin, KeyLaws.{key_cmp_total, key_cmp-same}, Keys.key_cmp, Tables.SumsByKey}
+use Rattle.span_table.proofs.{KeyPlaces.{kept-found, place-none, place-value, written-at}, Summing.{found-within, sums-added}}
 use Rattle.span_table.proofs.groups.Groups.add_known.Goals as goal
 
 pub returns-in_default-clause-new : goal.returns-in_default-clause-new

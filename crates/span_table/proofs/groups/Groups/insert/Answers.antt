@@ -1,13 +1,7 @@
+use Rattle.std.specs.{BTreeMap.insert_entry, Prelude.unwrap_or}
 use Rattle.std.proofs.Common.{◌≡◌, ℕ, ◌+◌, [], refl, ap, ◌∙◌, arith}
-use Rattle.std.specs.Prelude.{unwrap_or}
-use Rattle.std.specs.BTreeMap.{insert_entry}
-use Rattle.span_keyed_tracks.specs.Keyed.{in_key_order}
 use Rattle.span_keyed_tracks.proofs.InKeyOrder.{in_key_order-put}
-use Rattle.span_table.specs.declared.sums.Sums.{Sums}
-use Rattle.span_table.specs.Collected.{with_sums}
-use Rattle.span_table.specs.KeyLaws.{key_cmp_total, key_cmp-same}
-use Rattle.span_table.specs.Keys.{key_cmp}
-use Rattle.span_table.specs.Tables.{SumsByKey, sums_together}
+use Rattle.span_table.specs.{in_key_order, Collected.with_sums, KeyLaws.{key_cmp_total, key_cmp-same}, Keys.key_cmp, Tables.{SumsByKey, sums_together}, declared.sums.Sums.Sums}
 use Rattle.span_table.proofs.Summing.{sums-added}
 use Rattle.span_table.proofs.groups.Groups.insert.Goals as goal
 

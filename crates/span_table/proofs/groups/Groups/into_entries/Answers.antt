@@ -1,16 +1,7 @@
-use Rattle.std.proofs.Common.{rules, ◌≡◌, List, [], ◌∷◌, map, refl, ap, subst, sym, ◌∙◌}
-use Rattle.std.specs.Ordering.{eq_by_cmp}
-use Rattle.std.specs.List.{IsDistinct}
-use Rattle.std.specs.List.Sorted.{IsPermutation}
-use Rattle.std.specs.Map.{keys_of}
-use Rattle.std.proofs.lemmas.Cmp.{on_total}
-use Rattle.span_keyed_tracks.specs.Keyed.{ascending, in_key_order}
-use Rattle.span_keyed_tracks.proofs.InKeyOrder.{AreApart-distinct}
-use Rattle.span_keyed_tracks.proofs.KeyOrder.{IsDistinct-rows, ascending-rows}
-use Rattle.span_keyed_tracks.proofs.Sorting.{IsSorted-from_sort_by, sorted-ascending}
-use Rattle.span_table.specs.declared.sums.Sums.{Sums}
-use Rattle.span_table.specs.KeyLaws.{key_cmp_total, key_cmp-same}
-use Rattle.span_table.specs.Keys.{TableKey, key_cmp}
+use Rattle.std.specs.{List.{IsDistinct, Sorted.IsPermutation}, Map.keys_of, Ordering.eq_by_cmp}
+use Rattle.std.proofs.{Common.{rules, ◌≡◌, List, [], ◌∷◌, map, refl, ap, subst, sym, ◌∙◌}, lemmas.Cmp.on_total}
+use Rattle.span_keyed_tracks.proofs.{InKeyOrder.AreApart-distinct, KeyOrder.{IsDistinct-rows, ascending-rows}, Sorting.{IsSorted-from_sort_by, sorted-ascending}}
+use Rattle.span_table.specs.{ascending, in_key_order, KeyLaws.{key_cmp_total, key_cmp-same}, Keys.{TableKey, key_cmp}, declared.sums.Sums.Sums}
 use Rattle.span_table.proofs.groups.Groups.into_entries.Goals as goal
 
 as_they_are : {A : Type 0} (xs : List A) → map (λ x. x) xs ≡ xs

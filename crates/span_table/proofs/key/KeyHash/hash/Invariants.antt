@@ -1,5 +1,5 @@
-use Rattle.std.proofs.Common.{◌≡◌, take}
 use Rattle.std.specs.Prelude.{fold}
+use Rattle.std.proofs.Common.{◌≡◌, take}
 use Rattle.span_table.specs.KeyWrites.{key_writes}
 use Rattle.span_table.proofs.key.KeyHash.hash.Given as goal
 

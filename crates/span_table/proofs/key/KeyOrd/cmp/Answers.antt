@@ -1,6 +1,5 @@
+use Rattle.std.specs.{Cmp.Lexicographic.slice_cmp, Option.option_cmp}
 use Rattle.std.proofs.Common.{ap₂, ◌∙◌}
-use Rattle.std.specs.Cmp.Lexicographic.{slice_cmp}
-use Rattle.std.specs.Option.{option_cmp}
 use Rattle.span_event.proofs.Values.{value_cmp-is}
 use Rattle.span_table.specs.Keys.{key_cmp}
 use Rattle.span_table.proofs.key.KeyOrd.cmp.Goals as goal

@@ -1,5 +1,4 @@
-use Rattle.std.proofs.Common.{arith}
-use Rattle.std.proofs.lemmas.Grind.{common_steps}
+use Rattle.std.proofs.{Common.arith, lemmas.Grind.common_steps}
 use Rattle.span_table.proofs.SumText.{decimal_high_low}
 use Rattle.span_table.proofs.sum.Sum.shown.Goals as goal
 

@@ -1,7 +1,6 @@
-use Rattle.std.proofs.Common.{◌≡◌, [], subst, ◌∙◌}
 use Rattle.std.specs.Prelude.{option_copied, IfOk}
-use Rattle.span_table.specs.Columns.{run_of}
-use Rattle.span_table.specs.Tables.{SpanTable}
+use Rattle.std.proofs.Common.{◌≡◌, [], subst, ◌∙◌}
+use Rattle.span_table.specs.{Columns.run_of, Tables.SpanTable}
 use Rattle.span_table.proofs.Kept.{with_run-runs}
 use Rattle.span_table.proofs.table.Table.of.Goals as goal
 

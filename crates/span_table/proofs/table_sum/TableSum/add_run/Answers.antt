@@ -1,5 +1,5 @@
-use Rattle.std.proofs.Common.{◌∙◌}
 use Rattle.std.specs.Prelude.{option_copied}
+use Rattle.std.proofs.Common.{◌∙◌}
 use Rattle.span_table.specs.Columns.{run_of}
 use Rattle.span_table.proofs.Kept.{with_run-runs}
 use Rattle.span_table.proofs.table_sum.TableSum.add_run.Goals as goal

@@ -1,9 +1,5 @@
 use Rattle.std.proofs.Common.{◌≡◌, ◌+◌, ◌*◌, ◌^◌, ◌<◌, ◌∷◌, [], map, sym, ap, ap₂, subst, ◌∙◌, arith}
-use Rattle.span_table.specs.declared.counts.TableCounts.{TableCounts}
-use Rattle.span_table.specs.Adding.{add_tables, keyed_rows}
-use Rattle.span_table.specs.Collected.{AllWithin, Takes}
-use Rattle.span_table.specs.Kept.{IsKept}
-use Rattle.span_table.specs.Tables.{SpanTable, SumsByKey, row_of}
+use Rattle.span_table.specs.{Adding.{add_tables, keyed_rows}, Collected.{AllWithin, Takes}, Kept.IsKept, Tables.{SpanTable, SumsByKey, row_of}, declared.counts.TableCounts.TableCounts}
 use Rattle.span_table.proofs.Kept.{IsKept-taken, add_tables-taken, table_kept}
 use Rattle.span_table.proofs.table_sum.TableSum.joined.Goals as goal
 

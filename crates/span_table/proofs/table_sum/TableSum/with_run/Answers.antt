@@ -1,11 +1,5 @@
 use Rattle.std.proofs.Common.{◌≡◌, ◌+◌, ◌*◌, ◌^◌, ◌<◌, List, [], ◌∷◌, sym, ap, subst, ◌∙◌, arith}
-use Rattle.span_table.specs.declared.column.Column.{Column}
-use Rattle.span_table.specs.declared.counts.TableCounts.{TableCounts}
-use Rattle.span_table.specs.Adding.{with_run}
-use Rattle.span_table.specs.Collected.{AllWithin, Takes}
-use Rattle.span_table.specs.Counts.{AreCountsWithin}
-use Rattle.span_table.specs.Kept.{IsKept}
-use Rattle.span_table.specs.Tables.{SpanTable, counts_together, run_sums}
+use Rattle.span_table.specs.{Adding.with_run, Collected.{AllWithin, Takes}, Counts.AreCountsWithin, Kept.IsKept, Tables.{SpanTable, counts_together, run_sums}, declared.{column.Column.Column, counts.TableCounts.TableCounts}}
 use Rattle.span_table.proofs.Kept.{IsKept-taken, table_kept, with_run-taken}
 use Rattle.span_table.proofs.table_sum.TableSum.with_run.Goals as goal
 

@@ -1,11 +1,6 @@
-use Rattle.std.proofs.Common.{rules, ◌≡◌, ℕ, [], ◌∷◌, ◌++◌, false, map, sym, ap, ◌∙◌, subst, w64, to_z, of_z, to_z-of_z}
-use Rattle.std.proofs.lemmas.List.{map_push}
-use Rattle.span_track.specs.declared.thread.OpenSpan.{OpenSpan}
-use Rattle.span_track.specs.Nesting.{Begin, later}
-use Rattle.span_track.specs.Thread.{ThreadSpans, thread_spans, HasRoom, IsNext, goes_back}
-use Rattle.span_track.specs.Kept.{begin_of, IsSound}
-use Rattle.span_track.proofs.Threads.Sound.{IsSound-with_begin}
-use Rattle.span_track.proofs.Threads.Spans.{with_begin, thread_spans-began}
+use Rattle.std.proofs.{Common.{rules, ◌≡◌, ℕ, [], ◌∷◌, ◌++◌, false, map, sym, ap, ◌∙◌, subst, w64, to_z, of_z, to_z-of_z}, lemmas.List.map_push}
+use Rattle.span_track.specs.{Kept.{begin_of, IsSound}, Nesting.{Begin, later}, Thread.{ThreadSpans, thread_spans, HasRoom, IsNext, goes_back}, declared.thread.OpenSpan.OpenSpan}
+use Rattle.span_track.proofs.Threads.{Sound.IsSound-with_begin, Spans.{with_begin, thread_spans-began}}
 use Rattle.span_track.proofs.thread.ThreadTrack.begin_span.Goals as goal
 
 pub invariant_of-self-2 : goal.invariant_of-self-2

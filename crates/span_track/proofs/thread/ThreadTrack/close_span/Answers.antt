@@ -1,16 +1,7 @@
-use Rattle.std.proofs.Common.{rules, ◌≡◌, ℕ, ◌-◌, false, [], ◌∷◌, ◌++◌, length, take, Some, slice_get, refl, sym, ap, ◌∙◌, subst, w64, to_z, of_z, to_z-of_z, arith}
 use Rattle.std.specs.Option.{option_map}
-use Rattle.std.proofs.lemmas.Int.{ints}
-use Rattle.span_event.specs.Args.{merged}
-use Rattle.span_self_time.specs.Spans.{Span}
-use Rattle.span_track.specs.Nesting.{Begin, later}
-use Rattle.span_track.specs.Thread.{ThreadSpans, any_name, goes_back}
-use Rattle.span_track.specs.Kept.{begin_of}
-use Rattle.span_self_time.specs.Closed.{span_of}
-use Rattle.span_track.proofs.Threads.Sound.{IsSound-with_end, MayClose, MayClose-sound}
-use Rattle.span_track.proofs.Threads.Closing.{opened-last, sound_with_last, opener_of_last, goes_back-taken, merged_args-open}
-use Rattle.span_track.proofs.Threads.Spans.{thread_spans-closing}
-use Rattle.span_track.proofs.thread.ThreadTrack.close_span.Goals.{In-Some}
+use Rattle.std.proofs.{Common.{rules, ◌≡◌, ℕ, ◌-◌, false, [], ◌∷◌, ◌++◌, length, take, Some, slice_get, refl, sym, ap, ◌∙◌, subst, w64, to_z, of_z, to_z-of_z, arith}, lemmas.Int.ints}
+use Rattle.span_track.specs.{merged, Span, span_of, Kept.begin_of, Nesting.{Begin, later}, Thread.{ThreadSpans, any_name, goes_back}}
+use Rattle.span_track.proofs.{Threads.{Closing.{opened-last, sound_with_last, opener_of_last, goes_back-taken, merged_args-open}, Sound.{IsSound-with_end, MayClose, MayClose-sound}, Spans.thread_spans-closing}, thread.ThreadTrack.close_span.Goals.In-Some}
 use Rattle.span_track.proofs.thread.ThreadTrack.close_span.Goals as goal
 
 read : (c : In-Some) → Some c.in-Some.last_open.now ≡ slice_get c.self.inside.opened.items (length c.self.inside.opened.items - 1)

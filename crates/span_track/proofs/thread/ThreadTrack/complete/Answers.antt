@@ -1,11 +1,6 @@
-use Rattle.std.proofs.Common.{rules, ◌≡◌, ℕ, pos, ◌+ℤ◌, [], ◌∷◌, ◌++◌, map, refl, sym, ap, ◌∙◌, subst, w64, to_z, of_z, to_z-of_z, arith}
-use Rattle.std.proofs.lemmas.Int.{ints}
-use Rattle.span_self_time.specs.Spans.{Span}
-use Rattle.span_track.specs.Nesting.{later}
-use Rattle.span_track.specs.Thread.{ThreadSpans, thread_spans, HasRoom, IsNext, IsSealTime}
-use Rattle.span_track.specs.Kept.{begin_of}
-use Rattle.span_track.proofs.Threads.Sound.{IsSound-with_whole}
-use Rattle.span_track.proofs.Threads.Spans.{with_whole, thread_spans-completed}
+use Rattle.std.proofs.{Common.{rules, ◌≡◌, ℕ, pos, ◌+ℤ◌, [], ◌∷◌, ◌++◌, map, refl, sym, ap, ◌∙◌, subst, w64, to_z, of_z, to_z-of_z, arith}, lemmas.Int.ints}
+use Rattle.span_track.specs.{Span, Kept.begin_of, Nesting.later, Thread.{ThreadSpans, thread_spans, HasRoom, IsNext, IsSealTime}}
+use Rattle.span_track.proofs.Threads.{Sound.IsSound-with_whole, Spans.{with_whole, thread_spans-completed}}
 use Rattle.span_track.proofs.thread.ThreadTrack.complete.Goals as goal
 
 pub invariant_of-self-2 : goal.invariant_of-self-2

@@ -1,7 +1,6 @@
 use Rattle.std.proofs.Common.{rules, ◌≡◌, ℕ, ◌-◌, Bool, cond, length, Option, Some, None, slice_get, refl, sym, ap, ap₂, ◌∙◌, to_z-of_z}
 use Rattle.span_track.specs.Thread.{ThreadSpans, suits, goes_back, end_refusal}
-use Rattle.span_track.proofs.Threads.Closing.{end_refusal-last}
-use Rattle.span_track.proofs.thread.ThreadTrack.end_refusal.Goals.{In-Some}
+use Rattle.span_track.proofs.{Threads.Closing.end_refusal-last, thread.ThreadTrack.end_refusal.Goals.In-Some}
 use Rattle.span_track.proofs.thread.ThreadTrack.end_refusal.Goals as goal
 
 -- the rule of an end, where a span is open

@@ -1,8 +1,5 @@
 use Rattle.std.proofs.Common.{rules, ◌≡◌, ℕ, ◌-◌, [], ◌∷◌, ◌++◌, length, Some, slice_get, refl, sym, ap, ◌∙◌, subst, w64, to_z, of_z, to_z-of_z}
-use Rattle.span_event.specs.Args.{merged}
-use Rattle.span_track.specs.Nesting.{ended}
-use Rattle.span_track.specs.Thread.{ThreadSpans, StandsFor, merged_args}
-use Rattle.span_track.specs.Kept.{begin_of}
+use Rattle.span_track.specs.{merged, Kept.begin_of, Nesting.ended, Thread.{ThreadSpans, StandsFor, merged_args}}
 use Rattle.span_track.proofs.Threads.Closing.{opened-last, opener_of_last, merged_args-open}
 use Rattle.span_track.proofs.thread.ThreadTrack.end_span.Goals as goal
 

@@ -1,7 +1,6 @@
 use Rattle.std.proofs.Common.{rules, ◌≡◌, ◌-◌, ℕ, length, Some, slice_get, sym, ap, ◌∙◌}
-use Rattle.span_track.specs.Kept.{begin_of}
-use Rattle.span_track.specs.Thread.{ThreadSpans}
 use Rattle.span_keyed_tracks.proofs.Results.{if_ok-map}
+use Rattle.span_track.specs.{Kept.begin_of, Thread.ThreadSpans}
 use Rattle.span_track.proofs.Threads.Closing.{opened-last, merged_args-open}
 use Rattle.span_track.proofs.thread.ThreadTrack.merged_args.Goals as goal
 

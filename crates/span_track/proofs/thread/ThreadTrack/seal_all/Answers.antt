@@ -1,11 +1,6 @@
 use Rattle.std.proofs.Common.{rules, ◌≡◌, ℕ, false, None, [], ◌++◌, map, sym, ap, subst, ◌∙◌, w64, to_z, of_z, to_z-of_z}
-use Rattle.span_self_time.specs.Closed.{span_of}
-use Rattle.span_track.specs.Kept.{begin_of}
-use Rattle.span_track.specs.Nesting.{later}
-use Rattle.span_track.specs.Thread.{ThreadSpans, thread_spans, any_name, goes_back, end_refusal}
-use Rattle.span_track.proofs.Threads.Closing.{goes_back-taken}
-use Rattle.span_track.proofs.Threads.Sealing.{sealed_spans, CanJoin-sealed_spans}
-use Rattle.span_track.proofs.Threads.Spans.{with_seal, thread_spans-sealed}
+use Rattle.span_track.specs.{span_of, Kept.begin_of, Nesting.later, Thread.{ThreadSpans, thread_spans, any_name, goes_back, end_refusal}}
+use Rattle.span_track.proofs.Threads.{Closing.goes_back-taken, Sealing.{sealed_spans, CanJoin-sealed_spans}, Spans.{with_seal, thread_spans-sealed}}
 use Rattle.span_track.proofs.thread.ThreadTrack.seal_all.Goals as goal
 
 pub add_all-requires : goal.add_all-requires

@@ -1,13 +1,6 @@
-use Rattle.std.proofs.Common.{◌≡◌, ℕ, map, reverse, take, sym, ap, ◌∙◌, w64, to_z, of_z, to_z-of_z}
-use Rattle.std.proofs.lemmas.List.{take_all}
-use Rattle.std.proofs.lemmas.Simd.{map-map}
+use Rattle.std.proofs.{Common.{◌≡◌, ℕ, map, reverse, take, sym, ap, ◌∙◌, w64, to_z, of_z, to_z-of_z}, lemmas.{List.take_all, Simd.map-map}}
 use Rattle.span_keyed_tracks.proofs.Matching.Mapped.{map-reverse}
-use Rattle.span_self_time.specs.Closed.{span_of}
-use Rattle.span_self_time.specs.Spans.{Span}
-use Rattle.span_track.specs.declared.thread.OpenSpan.{OpenSpan}
-use Rattle.span_track.specs.Kept.{begin_of}
-use Rattle.span_track.specs.Nesting.{Begin, span_sealed}
-use Rattle.span_track.specs.Thread.{ThreadSpans}
+use Rattle.span_track.specs.{span_of, Span, Kept.begin_of, Nesting.{Begin, span_sealed}, Thread.ThreadSpans, declared.thread.OpenSpan.OpenSpan}
 use Rattle.span_track.proofs.thread.ThreadTrack.sealed_at.Goals as goal
 
 pub returns : goal.returns

@@ -1,7 +1,5 @@
 use Rattle.std.proofs.Common.{◌≡◌, map, take}
-use Rattle.span_self_time.specs.Closed.{span_of}
-use Rattle.span_track.specs.Kept.{begin_of}
-use Rattle.span_track.specs.Nesting.{span_sealed}
+use Rattle.span_track.specs.{span_of, Kept.begin_of, Nesting.span_sealed}
 use Rattle.span_track.proofs.thread.ThreadTrack.sealed_at.Given as goal
 
 -- the spans of the begins so far

@@ -1,13 +1,8 @@
-use Rattle.std.proofs.Common.{◌-◌, ◌^◌, ◌+◌, ◌<◌, ◌∙◌, [], sym, ap, subst}
 use Rattle.std.specs.Ordering.{nat_cmp}
-use Rattle.span_keyed_tracks.specs.Keyed.{kept_at}
-use Rattle.span_collect.specs.declared.refusals.tally.Refused.{Refused}
-use Rattle.span_collect.specs.declared.refusals.tally.Tally.TheInside.{Inside}
-use Rattle.span_collect.specs.Refusals.{refused_at}
-use Rattle.span_collect.specs.Refusals.Tallies.{Tallied}
-use Rattle.span_collect.proofs.RefusalLemmas.Tallying.{Takes-other, Takes-refusal, count-kept_at}
+use Rattle.std.proofs.Common.{◌-◌, ◌^◌, ◌+◌, ◌<◌, ◌∙◌, [], sym, ap, subst}
+use Rattle.span_collect.specs.{kept_at, Refusals.{refused_at, Tallies.Tallied}, declared.refusals.tally.{Refused.Refused, Tally.TheInside.Inside}}
+use Rattle.span_collect.proofs.{RefusalLemmas.Tallying.{Takes-other, Takes-refusal, count-kept_at}, refusals.tally.Tally.add.Goals.{in-Some+in_ok-insert, in_default}}
 use Rattle.span_collect.proofs.refusals.tally.Tally.add.Goals as goal
-use Rattle.span_collect.proofs.refusals.tally.Tally.add.Goals.{in-Some+in_ok-insert, in_default}
 
 pub and-refused-requires : goal.and-refused-requires
 and-refused-requires c = subst (λ (r : Refused). r.count < 2 ^ 32 - 1) (sym c.refused_with.ensures) (count-kept_at c.args.self.now _ c.requires)

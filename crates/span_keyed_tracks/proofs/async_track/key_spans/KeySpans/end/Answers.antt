@@ -1,13 +1,7 @@
-use Rattle.std.proofs.Common.{rules, ◌≡◌, ◌-◌, ◌-ℤ◌, ℤ, true, false, List, length, take, slice_get, Some, refl, sym, ap, ap₂, ◌∙◌, w64, to_z, of_z, arith}
 use Rattle.std.specs.Prelude.{nat_abs, int_lt}
-use Rattle.std.proofs.lemmas.Int.{ints}
-use Rattle.span_event.specs.Event.{IsTime}
-use Rattle.span_event.specs.Time.{distance}
-use Rattle.span_keyed_tracks.specs.Last.{last_of, without_last}
-use Rattle.span_keyed_tracks.specs.Async.{AsyncSpans}
-use Rattle.span_keyed_tracks.specs.AsyncKept.{with_end}
-use Rattle.span_keyed_tracks.proofs.Lists.Last.{slice_get-last, take-without_last, All-last_of}
-use Rattle.span_keyed_tracks.proofs.Async.{AreBounded-with_end, nat_abs-distance}
+use Rattle.std.proofs.{Common.{rules, ◌≡◌, ◌-◌, ◌-ℤ◌, ℤ, true, false, List, length, take, slice_get, Some, refl, sym, ap, ap₂, ◌∙◌, w64, to_z, of_z, arith}, lemmas.Int.ints}
+use Rattle.span_keyed_tracks.specs.{IsTime, distance, Async.AsyncSpans, AsyncKept.with_end, Last.{last_of, without_last}}
+use Rattle.span_keyed_tracks.proofs.{Async.{AreBounded-with_end, nat_abs-distance}, Lists.Last.{slice_get-last, take-without_last, All-last_of}}
 use Rattle.span_keyed_tracks.proofs.async_track.key_spans.KeySpans.end.Goals as goal
 
 last_of-read : (items : List ℤ) (begin : ℤ) → Some begin ≡ slice_get items (length items - 1) → last_of items ≡ Some begin

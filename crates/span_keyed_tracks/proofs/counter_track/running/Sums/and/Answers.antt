@@ -1,8 +1,7 @@
+use Rattle.std.specs.{Int.{int_min, int_max}, Prelude.{int_lt, if◌then◌else◌}}
 use Rattle.std.proofs.Common.{rules, ◌≡◌, sym, ap, ap₂, ◌∙◌, w64, to_z, of_z, to_z-of_z, refl}
-use Rattle.std.specs.Int.{int_min, int_max}
-use Rattle.std.specs.Prelude.{int_lt, if◌then◌else◌}
-use Rattle.span_keyed_tracks.proofs.counter_track.running.Sums.and.Goals as goal
 use Rattle.span_keyed_tracks.proofs.counter_track.running.Sums.and.Goals.{then-ts-self, else-ts-self}
+use Rattle.span_keyed_tracks.proofs.counter_track.running.Sums.and.Goals as goal
 
 pub returns : goal.returns
 returns c =

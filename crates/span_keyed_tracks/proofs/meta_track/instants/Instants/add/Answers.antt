@@ -1,9 +1,7 @@
 use Rattle.std.proofs.Common.{rules, refl}
-use Rattle.span_event.specs.Orders.{thread_cmp}
 use Rattle.span_event.proofs.Orders.{thread_cmp-same, thread_cmp-total}
-use Rattle.span_keyed_tracks.specs.Instants.{HasNameRoom, NamedReach, TakesName, names_counted}
-use Rattle.span_keyed_tracks.proofs.Instants.{few_names}
-use Rattle.span_keyed_tracks.proofs.KeyChange.{kept_at-holds, ChangesAt-stands}
+use Rattle.span_keyed_tracks.specs.{thread_cmp, Instants.{HasNameRoom, NamedReach, TakesName, names_counted}}
+use Rattle.span_keyed_tracks.proofs.{Instants.few_names, KeyChange.{kept_at-holds, ChangesAt-stands}}
 use Rattle.span_keyed_tracks.proofs.meta_track.instants.Instants.add.Goals as goal
 
 pub change_at-requires-clause-can : goal.change_at-requires-clause-can

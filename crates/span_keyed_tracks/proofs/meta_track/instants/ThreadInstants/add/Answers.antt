@@ -1,11 +1,7 @@
-use Rattle.std.proofs.Common.{rules, ◌-◌, ◌<◌, ◌^◌}
-use Rattle.std.proofs.lemmas.Cmp.{nat_list_cmp_total}
+use Rattle.std.proofs.{Common.{rules, ◌-◌, ◌<◌, ◌^◌}, lemmas.Cmp.nat_list_cmp_total}
 use Rattle.span_event.proofs.Orders.{text_same}
-use Rattle.span_event.specs.Text.{text_cmp}
-use Rattle.span_keyed_tracks.specs.Instants.{ReachCounts, counts_of}
-use Rattle.span_keyed_tracks.specs.InstantsKept.{count_at}
-use Rattle.span_keyed_tracks.proofs.Instants.{counts_of-push, few_reaches}
-use Rattle.span_keyed_tracks.proofs.KeyChange.{kept_at-holds, ChangesAt-stands, by_third}
+use Rattle.span_keyed_tracks.specs.{text_cmp, Instants.{ReachCounts, counts_of}, InstantsKept.count_at}
+use Rattle.span_keyed_tracks.proofs.{Instants.{counts_of-push, few_reaches}, KeyChange.{kept_at-holds, ChangesAt-stands, by_third}}
 use Rattle.span_keyed_tracks.proofs.meta_track.instants.ThreadInstants.add.Goals as goal
 
 pub change_at-requires-clause-can : goal.change_at-requires-clause-can

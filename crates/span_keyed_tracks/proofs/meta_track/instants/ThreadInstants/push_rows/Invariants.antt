@@ -1,5 +1,5 @@
-use Rattle.std.proofs.Common.{◌≡◌, ◌++◌, map}
 use Rattle.std.specs.Prelude.{flat_map}
+use Rattle.std.proofs.Common.{◌≡◌, ◌++◌, map}
 use Rattle.span_keyed_tracks.specs.Instants.{rows_of_name}
 use Rattle.span_keyed_tracks.proofs.meta_track.instants.ThreadInstants.push_rows.Given as goal
 

@@ -1,17 +1,8 @@
-use Rattle.std.proofs.Common.{◌<◌, ◌^◌, List, arith, rules, refl, subst}
-use Rattle.std.proofs.lemmas.Int.{ints}
-use Rattle.span_event.specs.Event.{least_time}
-use Rattle.span_event.specs.Time.{distance}
-use Rattle.span_self_time.specs.Closed.{greatest_until}
+use Rattle.std.proofs.{Common.{◌<◌, ◌^◌, List, arith, rules, refl, subst}, lemmas.Int.ints}
 use Rattle.span_self_time.proofs.Counts.{add-distance}
 use Rattle.span_ledger.proofs.Sorting.{IsSorted-from_sort_by}
-use Rattle.span_report.specs.declared.stacks.descent.Descent.{Descent}
-use Rattle.span_report.specs.declared.stacks.pending.PendingFrame.{PendingFrame}
-use Rattle.span_report.specs.declared.stacks.pending.Stretch.{Stretch}
-use Rattle.span_report.specs.Stacks.Pending.{IsSplit}
-use Rattle.span_report.proofs.StackLemmas.Descending.{IsReady-new, StartsWith-new}
-use Rattle.span_report.proofs.StackLemmas.Nearing.{nearness-total}
-use Rattle.span_report.proofs.StackLemmas.Starts.{latest-le-greatest, least-le-earliest}
+use Rattle.span_report.specs.{least_time, distance, greatest_until, Stacks.Pending.IsSplit, declared.stacks.{descent.Descent.Descent, pending.{PendingFrame.PendingFrame, Stretch.Stretch}}}
+use Rattle.span_report.proofs.StackLemmas.{Descending.{IsReady-new, StartsWith-new}, Nearing.nearness-total, Starts.{latest-le-greatest, least-le-earliest}}
 use Rattle.span_report.proofs.stacks.descent.Descent.new.Goals as goal
 
 -- all the time in which spans may lie

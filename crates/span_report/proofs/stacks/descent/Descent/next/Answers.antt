@@ -1,15 +1,9 @@
-use Rattle.std.proofs.Common.{◌≡◌, ◌-◌, ◌∷◌, [], ◌++◌, Bor, List, Some, length, map, take, rules, refl, sym, ap, subst, ◌∙◌}
 use Rattle.std.specs.Prelude.{slice_get}
-use Rattle.std.proofs.lemmas.List.{map_push, take-map}
-use Rattle.span_event.specs.Text.{Bytes}
-use Rattle.span_ledger.proofs.Sorting.{IsSorted-from_sort_by}
+use Rattle.std.proofs.{Common.{◌≡◌, ◌-◌, ◌∷◌, [], ◌++◌, Bor, List, Some, length, map, take, rules, refl, sym, ap, subst, ◌∙◌}, lemmas.List.{map_push, take-map}}
 use Rattle.span_keyed_tracks.proofs.Lists.Last.{take-last}
-use Rattle.span_report.specs.declared.stacks.descent.Descent.{Descent}
-use Rattle.span_report.specs.declared.stacks.pending.PendingFrame.{PendingFrame}
-use Rattle.span_report.specs.Stacks.Descent.{last_visited}
-use Rattle.span_report.specs.Stacks.Pending.{pending_stack}
-use Rattle.span_report.proofs.StackLemmas.Descending.{IsReady-next, VisitsFrame-next}
-use Rattle.span_report.proofs.StackLemmas.Nearing.{nearness-total}
+use Rattle.span_ledger.proofs.Sorting.{IsSorted-from_sort_by}
+use Rattle.span_report.specs.{Bytes, Stacks.{Descent.last_visited, Pending.pending_stack}, declared.stacks.{descent.Descent.Descent, pending.PendingFrame.PendingFrame}}
+use Rattle.span_report.proofs.StackLemmas.{Descending.{IsReady-next, VisitsFrame-next}, Nearing.nearness-total}
 use Rattle.span_report.proofs.stacks.descent.Descent.next.Goals as goal
 
 pub returns-clause-ready : goal.returns-clause-ready

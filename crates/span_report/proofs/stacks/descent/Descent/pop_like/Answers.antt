@@ -1,13 +1,9 @@
+use Rattle.std.specs.{Cmp.Lexicographic.nat_list_eq_equiv, Prelude.slice_get}
 use Rattle.std.proofs.Common.{◌≡◌, ◌-◌, List, Some, length, sym, ap, subst, ◌∙◌, take, refl, true≢false}
-use Rattle.std.specs.Prelude.{slice_get}
-use Rattle.std.specs.Cmp.Lexicographic.{nat_list_eq_equiv}
-use Rattle.span_event.specs.Text.{same_text}
-use Rattle.span_keyed_tracks.specs.Last.{last_of}
 use Rattle.span_keyed_tracks.proofs.Lists.Last.{last_of-append, take-last}
-use Rattle.span_report.specs.declared.stacks.pending.PendingFrame.{PendingFrame}
-use Rattle.span_report.proofs.StackLemmas.Nearing.{tied-pending}
+use Rattle.span_report.specs.{same_text, last_of, declared.stacks.pending.PendingFrame.PendingFrame}
+use Rattle.span_report.proofs.{StackLemmas.Nearing.tied-pending, stacks.descent.Descent.pop_like.Goals.{else-frame-first-via-then-frame-first+else-eq, else-frame-first-via-else-frame-first}}
 use Rattle.span_report.proofs.stacks.descent.Descent.pop_like.Goals as goal
-use Rattle.span_report.proofs.stacks.descent.Descent.pop_like.Goals.{else-frame-first-via-then-frame-first+else-eq, else-frame-first-via-else-frame-first}
 
 pub returns-else-frame-first : goal.returns-else-frame-first
 returns-else-frame-first c =

@@ -1,16 +1,7 @@
-use Rattle.std.proofs.Common.{Bor, ◌≡◌, ℕ, Bool, true, false, ◌+◌, ◌≤◌, ◌∷◌, [], ◌++◌, List, cond, length, arith, refl, sym, ap, subst, ◌∙◌, append_assoc, append-nil}
 use Rattle.std.specs.List.{AllByRecursion}
-use Rattle.std.proofs.lemmas.List.{length_push, length-map}
-use Rattle.std.proofs.lemmas.Int.{ints}
-use Rattle.span_event.specs.Text.{Bytes}
-use Rattle.span_self_time.specs.Spans.{Span}
-use Rattle.span_report.specs.declared.stacks.pending.PendingFrame.{PendingFrame}
-use Rattle.span_report.specs.Stacks.Descent.{IsNextSplit, last_visited, left_of}
-use Rattle.span_report.specs.Stacks.Ticks.{Stack, same_stack}
-use Rattle.span_report.specs.Stacks.Pending.{IsSound, IsSplit, left, pending_stack}
-use Rattle.span_report.proofs.StackLemmas.Nearing.{AllByRecursion-front, AllByRecursion-last}
-use Rattle.span_report.proofs.StackLemmas.Splitting.{counts-popped, own-small}
-use Rattle.span_report.proofs.stacks.descent.Descent.split_next.Goals.{In_ok-time}
+use Rattle.std.proofs.{Common.{Bor, ◌≡◌, ℕ, Bool, true, false, ◌+◌, ◌≤◌, ◌∷◌, [], ◌++◌, List, cond, length, arith, refl, sym, ap, subst, ◌∙◌, append_assoc, append-nil}, lemmas.{Int.ints, List.{length_push, length-map}}}
+use Rattle.span_report.specs.{Bytes, Span, Stacks.{Descent.{IsNextSplit, last_visited, left_of}, Pending.{IsSound, IsSplit, left, pending_stack}, Ticks.{Stack, same_stack}}, declared.stacks.pending.PendingFrame.PendingFrame}
+use Rattle.span_report.proofs.{StackLemmas.{Nearing.{AllByRecursion-front, AllByRecursion-last}, Splitting.{counts-popped, own-small}}, stacks.descent.Descent.split_next.Goals.In_ok-time}
 use Rattle.span_report.proofs.stacks.descent.Descent.split_next.Goals as goal
 
 pub loop-frame-init : goal.loop-frame-init

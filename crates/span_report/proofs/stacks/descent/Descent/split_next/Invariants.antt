@@ -1,9 +1,6 @@
-use Rattle.std.proofs.Common.{◌≡◌, ◌+◌, ◌++◌, List, cond, length}
 use Rattle.std.specs.List.{AllByRecursion}
-use Rattle.span_report.specs.declared.stacks.pending.PendingFrame.{PendingFrame}
-use Rattle.span_report.specs.Stacks.Descent.{last_visited, left_of}
-use Rattle.span_report.specs.Stacks.Ticks.{Stack, same_stack}
-use Rattle.span_report.specs.Stacks.Pending.{IsSound, left, pending_stack}
+use Rattle.std.proofs.Common.{◌≡◌, ◌+◌, ◌++◌, List, cond, length}
+use Rattle.span_report.specs.{Stacks.{Descent.{last_visited, left_of}, Pending.{IsSound, left, pending_stack}, Ticks.{Stack, same_stack}}, declared.stacks.pending.PendingFrame.PendingFrame}
 use Rattle.span_report.proofs.stacks.descent.Descent.split_next.Given as goal
 
 -- what the frames that were taken off had is had by those found, and as own time

@@ -1,10 +1,6 @@
-use Rattle.std.proofs.Common.{◌≡◌, ◌+◌, ◌<◌, ◌≤ℤ◌, ◌<ℤ◌, List, length, arith, rules, refl, ap, subst, ◌∙◌, to_z, of_z, w64}
 use Rattle.std.specs.Int.{int_max, int_min}
-use Rattle.std.proofs.lemmas.Int.{clamps, ints}
-use Rattle.span_event.specs.Text.{Bytes}
-use Rattle.span_self_time.specs.Spans.{Span}
-use Rattle.span_report.specs.declared.stacks.pending.PendingFrame.{PendingFrame}
-use Rattle.span_report.specs.Stacks.Pending.{IsBare, IsFirstBeyond, IsFirstPending}
+use Rattle.std.proofs.{Common.{◌≡◌, ◌+◌, ◌<◌, ◌≤ℤ◌, ◌<ℤ◌, List, length, arith, rules, refl, ap, subst, ◌∙◌, to_z, of_z, w64}, lemmas.Int.{clamps, ints}}
+use Rattle.span_report.specs.{Bytes, Span, Stacks.Pending.{IsBare, IsFirstBeyond, IsFirstPending}, declared.stacks.pending.PendingFrame.PendingFrame}
 use Rattle.span_report.proofs.StackLemmas.Standing.{IsBare-end, IsBare-late, IsFirstPending-first}
 use Rattle.span_report.proofs.stacks.ends.RankedSpans.first_pending.Goals as goal
 

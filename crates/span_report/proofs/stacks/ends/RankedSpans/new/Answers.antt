@@ -1,9 +1,5 @@
-use Rattle.std.proofs.Common.{◌≡◌, List, length, rules, sym, ap, subst, ◌∙◌}
-use Rattle.std.proofs.lemmas.List.{take_at}
-use Rattle.span_event.specs.Text.{Bytes}
-use Rattle.span_self_time.specs.Spans.{Span}
-use Rattle.span_report.specs.Stacks.Ticks.{ranked}
-use Rattle.span_report.specs.Stacks.Pending.{AreLinks, Rise}
+use Rattle.std.proofs.{Common.{◌≡◌, List, length, rules, sym, ap, subst, ◌∙◌}, lemmas.List.take_at}
+use Rattle.span_report.specs.{Bytes, Span, Stacks.{Pending.{AreLinks, Rise}, Ticks.ranked}}
 use Rattle.span_report.proofs.StackLemmas.Starts.{Rise-ranked}
 use Rattle.span_report.proofs.stacks.ends.RankedSpans.new.Goals as goal
 

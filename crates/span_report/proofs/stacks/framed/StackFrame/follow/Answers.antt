@@ -1,7 +1,5 @@
-use Rattle.std.proofs.Common.{◌++◌, ◌∷◌, [], Bor, List, map, take, sym, ap, ◌∙◌}
-use Rattle.std.proofs.lemmas.List.{map_push, take-map}
-use Rattle.span_event.specs.Text.{Bytes}
-use Rattle.span_report.specs.Stacks.Framed.{Framed, stack_after}
+use Rattle.std.proofs.{Common.{◌++◌, ◌∷◌, [], Bor, List, map, take, sym, ap, ◌∙◌}, lemmas.List.{map_push, take-map}}
+use Rattle.span_report.specs.{Bytes, Stacks.Framed.{Framed, stack_after}}
 use Rattle.span_report.proofs.stacks.framed.StackFrame.follow.Goals as goal
 
 -- so many frames of the stack before stay, and the frame's own is on them

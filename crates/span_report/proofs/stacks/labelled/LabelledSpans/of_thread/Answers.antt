@@ -1,16 +1,7 @@
-use Rattle.std.proofs.Common.{◌≡◌, List, length, map, arith, rules, sym, ap, ap₂, ◌∙◌, to_z, of_z, w64}
-use Rattle.std.proofs.lemmas.List.{length-map}
-use Rattle.span_event.specs.declared.thread.Thread.{Thread}
-use Rattle.span_event.specs.Text.{Bytes}
-use Rattle.span_self_time.specs.Spans.{Span}
-use Rattle.span_track.specs.Nesting.{closed_spans}
-use Rattle.span_journal.specs.Told.{thread_events}
-use Rattle.span_report.specs.declared.stacks.label.SpanColumn.{SpanColumn}
-use Rattle.span_report.specs.Stacks.Labelled.{relabelled}
-use Rattle.span_report.specs.Stacks.Labels.{by_name, label_of, labelled}
-use Rattle.span_report.proofs.StackLemmas.Labelling.{labelled-by_name, relabelled-labels}
+use Rattle.std.proofs.{Common.{◌≡◌, List, length, map, arith, rules, sym, ap, ap₂, ◌∙◌, to_z, of_z, w64}, lemmas.List.length-map}
+use Rattle.span_report.specs.{Thread, Bytes, Span, closed_spans, thread_events, Stacks.{Labelled.relabelled, Labels.{by_name, label_of, labelled}}, declared.stacks.label.SpanColumn.SpanColumn}
+use Rattle.span_report.proofs.{StackLemmas.Labelling.{labelled-by_name, relabelled-labels}, stacks.labelled.LabelledSpans.of_thread.Goals.{then-are_names, else-are_names+in_ok-spans+in_ok-labels}}
 use Rattle.span_report.proofs.stacks.labelled.LabelledSpans.of_thread.Goals as goal
-use Rattle.span_report.proofs.stacks.labelled.LabelledSpans.of_thread.Goals.{then-are_names, else-are_names+in_ok-spans+in_ok-labels}
 
 pub invariant_of-result : goal.invariant_of-result
 invariant_of-result c =

@@ -1,12 +1,5 @@
-use Rattle.std.proofs.Common.{◌≡◌, List, length, rules, sym, ap, ap₂, subst, ◌∙◌, to_z, of_z, w64}
-use Rattle.std.proofs.lemmas.List.{take_at}
-use Rattle.span_event.specs.declared.thread.Thread.{Thread}
-use Rattle.span_event.specs.Text.{Bytes}
-use Rattle.span_self_time.specs.Spans.{Span}
-use Rattle.span_track.specs.Nesting.{closed_spans}
-use Rattle.span_ledger.specs.Named.{AreThreadSpans}
-use Rattle.span_journal.specs.Told.{thread_events}
-use Rattle.span_report.specs.Stacks.Labelled.{relabelled}
+use Rattle.std.proofs.{Common.{◌≡◌, List, length, rules, sym, ap, ap₂, subst, ◌∙◌, to_z, of_z, w64}, lemmas.List.take_at}
+use Rattle.span_report.specs.{Thread, Bytes, Span, closed_spans, AreThreadSpans, thread_events, Stacks.Labelled.relabelled}
 use Rattle.span_report.proofs.StackLemmas.Labelling.{AreThreadSpans-relabelled}
 use Rattle.span_report.proofs.stacks.labelled.LabelledSpans.spans.Goals as goal
 

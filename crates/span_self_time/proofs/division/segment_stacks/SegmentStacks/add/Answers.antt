@@ -1,11 +1,6 @@
-use Rattle.std.proofs.Common.{rules, ◌≡◌, ◌≤ℤ◌, ℕ, w64, to_z, of_z, sym, ap, ◌∙◌, subst, arith, List}
-use Rattle.std.proofs.lemmas.Int.{ints}
-use Rattle.span_self_time.specs.declared.segment.OwnedSegment.{OwnedSegment}
-use Rattle.span_self_time.specs.declared.division.segment_stacks.SegmentStacks.{SegmentStacks}
-use Rattle.span_self_time.specs.Division.{Owners, owner_of, own_in, IsNew, AreOwnedSegments}
-use Rattle.span_self_time.specs.Division.SegmentStacks.{AreSegmentStacks, IsAtStart, IsEntering}
-use Rattle.span_self_time.proofs.SegmentStacks.Taking.{AreOwnedSegments-empty}
-use Rattle.span_self_time.proofs.division.segment_stacks.SegmentStacks.add.Goals.{In_ok-advance, After-keep_name}
+use Rattle.std.proofs.{Common.{rules, ◌≡◌, ◌≤ℤ◌, ℕ, w64, to_z, of_z, sym, ap, ◌∙◌, subst, arith, List}, lemmas.Int.ints}
+use Rattle.span_self_time.specs.{Division.{Owners, owner_of, own_in, IsNew, AreOwnedSegments, SegmentStacks.{AreSegmentStacks, IsAtStart, IsEntering}}, declared.{division.segment_stacks.SegmentStacks.SegmentStacks, segment.OwnedSegment.OwnedSegment}}
+use Rattle.span_self_time.proofs.{SegmentStacks.Taking.AreOwnedSegments-empty, division.segment_stacks.SegmentStacks.add.Goals.{In_ok-advance, After-keep_name}}
 use Rattle.span_self_time.proofs.division.segment_stacks.SegmentStacks.add.Goals as goal
 
 pub returns-then-span-clause-ok : goal.returns-then-span-clause-ok

@@ -1,7 +1,5 @@
 use Rattle.std.proofs.Common.{◌≡◌, ◌+◌, ℕ, cond, nat_eq, List, ap, arith}
-use Rattle.span_self_time.specs.declared.segment.OwnedSegment.{OwnedSegment}
-use Rattle.span_self_time.specs.Division.Lengths.{length_at}
-use Rattle.span_self_time.specs.Division.SegmentStacks.{segment_length, segments_of}
+use Rattle.span_self_time.specs.{Division.{Lengths.length_at, SegmentStacks.{segment_length, segments_of}}, declared.segment.OwnedSegment.OwnedSegment}
 use Rattle.span_self_time.proofs.SegmentStacks.SegmentSums.{sum_by-segments_of}
 use Rattle.span_self_time.proofs.division.segment_stacks.SegmentStacks.add_lengths.Goals as goal
 

@@ -1,13 +1,7 @@
-use Rattle.std.proofs.Common.{rules, ◌≡◌, ◌++◌, w64, to_z, of_z, ap, arith}
-use Rattle.std.specs.Int.{int_min}
-use Rattle.std.specs.Vec.{vec_len, vec_capacity}
-use Rattle.std.proofs.lemmas.Int.{ints}
-use Rattle.span_event.specs.Time.{distance}
-use Rattle.span_self_time.specs.Division.{owner_of, taken}
-use Rattle.span_self_time.specs.Division.SegmentStacks.{piece}
-use Rattle.span_self_time.proofs.SegmentStacks.Taking.{IsTakenUpTo, IsTakenTo-ceded, IsOnly-taken, IsTakenUpTo-next, piece-none, ArePast-ceded, Belong-ceded}
-use Rattle.span_self_time.proofs.SegmentStacks.SegmentSums.{AreSums-ceded, ceded-small, segment-le-own, distance-positive}
-use Rattle.span_self_time.proofs.division.segment_stacks.SegmentStacks.cede.Goals.{After-min-until}
+use Rattle.std.specs.{Int.int_min, Vec.{vec_len, vec_capacity}}
+use Rattle.std.proofs.{Common.{rules, ◌≡◌, ◌++◌, w64, to_z, of_z, ap, arith}, lemmas.Int.ints}
+use Rattle.span_self_time.specs.{distance, Division.{owner_of, taken, SegmentStacks.piece}}
+use Rattle.span_self_time.proofs.{SegmentStacks.{SegmentSums.{AreSums-ceded, ceded-small, segment-le-own, distance-positive}, Taking.{IsTakenUpTo, IsTakenTo-ceded, IsOnly-taken, IsTakenUpTo-next, piece-none, ArePast-ceded, Belong-ceded}}, division.segment_stacks.SegmentStacks.cede.Goals.After-min-until}
 use Rattle.span_self_time.proofs.division.segment_stacks.SegmentStacks.cede.Goals as goal
 
 -- how far the span takes the segment

@@ -1,12 +1,6 @@
-use Rattle.std.proofs.Common.{rules, ◌≡◌, true, false, int_lt, reverse, w64, to_z, of_z, sym, ◌∙◌, arith}
-use Rattle.std.proofs.lemmas.Int.{ints}
-use Rattle.span_self_time.specs.declared.division.segment_stacks.SegmentStacks.{SegmentStacks}
-use Rattle.span_self_time.specs.Division.{Owners, owner_of}
-use Rattle.span_self_time.specs.Division.SegmentStacks.{starts_before, IsEntering, IsPassing}
-use Rattle.span_self_time.proofs.SegmentStacks.Cursor.{StartsFrom-starts_before}
-use Rattle.span_self_time.proofs.SegmentStacks.Taking.{IsTakenTo-start, starts_before-last}
-use Rattle.span_self_time.proofs.SegmentStacks.Passing.{IsPassing-entering}
-use Rattle.span_self_time.proofs.division.segment_stacks.SegmentStacks.enter.Goals.{In-Some}
+use Rattle.std.proofs.{Common.{rules, ◌≡◌, true, false, int_lt, reverse, w64, to_z, of_z, sym, ◌∙◌, arith}, lemmas.Int.ints}
+use Rattle.span_self_time.specs.{Division.{Owners, owner_of, SegmentStacks.{starts_before, IsEntering, IsPassing}}, declared.division.segment_stacks.SegmentStacks.SegmentStacks}
+use Rattle.span_self_time.proofs.{SegmentStacks.{Cursor.StartsFrom-starts_before, Passing.IsPassing-entering, Taking.{IsTakenTo-start, starts_before-last}}, division.segment_stacks.SegmentStacks.enter.Goals.In-Some}
 use Rattle.span_self_time.proofs.division.segment_stacks.SegmentStacks.enter.Goals as goal
 
 pub returns-then-not-starts_before : goal.returns-then-not-starts_before

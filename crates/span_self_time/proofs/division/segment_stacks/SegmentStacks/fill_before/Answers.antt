@@ -1,10 +1,7 @@
-use Rattle.std.proofs.Common.{rules, ◌≡◌, ◌<ℤ◌, w64, to_z, of_z, ap, arith}
 use Rattle.std.specs.Vec.{vec_len, vec_capacity}
-use Rattle.std.proofs.lemmas.Int.{ints}
-use Rattle.span_event.specs.Time.{distance}
-use Rattle.span_self_time.specs.Division.{owner_of, taken}
-use Rattle.span_self_time.proofs.SegmentStacks.Taking.{IsGapBefore-taken, IsNextSegment-filled, IsNextSegment-at, IsOnly-taken, piece-none}
-use Rattle.span_self_time.proofs.SegmentStacks.SegmentSums.{AreSums-filled_before, AreSmall-before}
+use Rattle.std.proofs.{Common.{rules, ◌≡◌, ◌<ℤ◌, w64, to_z, of_z, ap, arith}, lemmas.Int.ints}
+use Rattle.span_self_time.specs.{distance, Division.{owner_of, taken}}
+use Rattle.span_self_time.proofs.SegmentStacks.{SegmentSums.{AreSums-filled_before, AreSmall-before}, Taking.{IsGapBefore-taken, IsNextSegment-filled, IsNextSegment-at, IsOnly-taken, piece-none}}
 use Rattle.span_self_time.proofs.division.segment_stacks.SegmentStacks.fill_before.Goals as goal
 
 pub overflow_add-self : goal.overflow_add-self

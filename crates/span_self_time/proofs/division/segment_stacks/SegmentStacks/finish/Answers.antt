@@ -1,10 +1,6 @@
-use Rattle.std.proofs.Common.{rules, ◌≡◌, reverse, w64, to_z, of_z, arith}
-use Rattle.std.proofs.lemmas.Int.{ints}
-use Rattle.span_event.specs.Time.{distance}
-use Rattle.span_self_time.specs.Division.{owner_of, taken}
-use Rattle.span_self_time.proofs.SegmentStacks.Cursor.{StartsFrom-starts_before}
-use Rattle.span_self_time.proofs.SegmentStacks.Taking.{AreOwnedSegments-taken, AreOwnedSegments-filled, Belong-gap, IsOnly-taken}
-use Rattle.span_self_time.proofs.SegmentStacks.SegmentSums.{AreSums-filled, AreSmall-gap}
+use Rattle.std.proofs.{Common.{rules, ◌≡◌, reverse, w64, to_z, of_z, arith}, lemmas.Int.ints}
+use Rattle.span_self_time.specs.{distance, Division.{owner_of, taken}}
+use Rattle.span_self_time.proofs.SegmentStacks.{Cursor.StartsFrom-starts_before, SegmentSums.{AreSums-filled, AreSmall-gap}, Taking.{AreOwnedSegments-taken, AreOwnedSegments-filled, Belong-gap, IsOnly-taken}}
 use Rattle.span_self_time.proofs.division.segment_stacks.SegmentStacks.finish.Goals as goal
 
 pub overflow_add-self : goal.overflow_add-self

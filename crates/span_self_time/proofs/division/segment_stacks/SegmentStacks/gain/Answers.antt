@@ -1,7 +1,5 @@
-use Rattle.std.proofs.Common.{◌≡◌, ◌++◌, [], ◌∷◌, reverse, sym, ap, ap₂, ◌∙◌, subst, rules, w64, to_z, of_z}
-use Rattle.std.proofs.lemmas.Int.{to_z-of_z}
-use Rattle.span_self_time.specs.Division.{owner_of, between}
-use Rattle.span_self_time.specs.Division.SegmentStacks.{ArePast, IsTakenBack, IsGained}
+use Rattle.std.proofs.{Common.{◌≡◌, ◌++◌, [], ◌∷◌, reverse, sym, ap, ap₂, ◌∙◌, subst, rules, w64, to_z, of_z}, lemmas.Int.to_z-of_z}
+use Rattle.span_self_time.specs.Division.{owner_of, between, SegmentStacks.{ArePast, IsTakenBack, IsGained}}
 use Rattle.span_self_time.proofs.SegmentStacks.Gaining.{IsGained-taken_back}
 use Rattle.span_self_time.proofs.division.segment_stacks.SegmentStacks.gain.Goals as goal
 

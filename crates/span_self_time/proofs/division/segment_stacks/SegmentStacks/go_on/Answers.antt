@@ -1,11 +1,6 @@
-use Rattle.std.proofs.Common.{rules, ◌≡◌, ◌<ℤ◌, true, int_lt, w64, to_z, of_z, sym, ◌∙◌, arith}
-use Rattle.std.proofs.lemmas.Int.{ints}
-use Rattle.span_self_time.specs.declared.division.segment_stacks.SegmentStacks.{SegmentStacks}
-use Rattle.span_self_time.specs.Division.{Owners, owner_of}
-use Rattle.span_self_time.specs.Division.SegmentStacks.{IsTaking, IsAhead}
-use Rattle.span_self_time.proofs.SegmentStacks.Taking.{IsGapBefore-taken, starts_before-last}
-use Rattle.span_self_time.proofs.SegmentStacks.Passing.{IsAhead-taking}
-use Rattle.span_self_time.proofs.division.segment_stacks.SegmentStacks.go_on.Goals.{In-Some}
+use Rattle.std.proofs.{Common.{rules, ◌≡◌, ◌<ℤ◌, true, int_lt, w64, to_z, of_z, sym, ◌∙◌, arith}, lemmas.Int.ints}
+use Rattle.span_self_time.specs.{Division.{Owners, owner_of, SegmentStacks.{IsTaking, IsAhead}}, declared.division.segment_stacks.SegmentStacks.SegmentStacks}
+use Rattle.span_self_time.proofs.{SegmentStacks.{Passing.IsAhead-taking, Taking.{IsGapBefore-taken, starts_before-last}}, division.segment_stacks.SegmentStacks.go_on.Goals.In-Some}
 use Rattle.span_self_time.proofs.division.segment_stacks.SegmentStacks.go_on.Goals as goal
 
 -- the stacks without the segment that comes next

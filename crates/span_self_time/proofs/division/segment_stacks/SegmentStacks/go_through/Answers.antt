@@ -1,8 +1,6 @@
-use Rattle.std.proofs.Common.{◌≡◌, ◌<ℤ◌, true, reverse, rules, sym, ap, ◌∙◌, w64, to_z, of_z}
-use Rattle.std.proofs.lemmas.Int.{to_z-of_z}
+use Rattle.std.proofs.{Common.{◌≡◌, ◌<ℤ◌, true, reverse, rules, sym, ap, ◌∙◌, w64, to_z, of_z}, lemmas.Int.to_z-of_z}
 use Rattle.span_self_time.specs.Division.SegmentStacks.{starts_before}
-use Rattle.span_self_time.proofs.Counts.{distance-later}
-use Rattle.span_self_time.proofs.SegmentStacks.Ends.{starts_before-future}
+use Rattle.span_self_time.proofs.{Counts.distance-later, SegmentStacks.Ends.starts_before-future}
 use Rattle.span_self_time.proofs.division.segment_stacks.SegmentStacks.go_through.Goals as goal
 
 pub go_on-time-requires-clause-taken : goal.go_on-time-requires-clause-taken

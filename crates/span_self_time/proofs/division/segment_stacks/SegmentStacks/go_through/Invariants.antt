@@ -1,6 +1,4 @@
-use Rattle.span_event.specs.Time.{distance}
-use Rattle.span_self_time.specs.Division.{Owners, owner_of}
-use Rattle.span_self_time.specs.Division.SegmentStacks.{IsTaking}
+use Rattle.span_self_time.specs.{distance, Division.{Owners, owner_of, SegmentStacks.IsTaking}}
 use Rattle.span_self_time.proofs.division.segment_stacks.SegmentStacks.go_through.Given as goal
 
 abbrev pub invariant-loop-self : goal.invariant-loop-self

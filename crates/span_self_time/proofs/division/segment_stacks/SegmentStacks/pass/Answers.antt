@@ -1,8 +1,6 @@
 use Rattle.std.proofs.Common.{rules, ◌≡◌, false, w64, to_z, of_z, arith}
-use Rattle.span_self_time.specs.Spans.{outranks}
-use Rattle.span_self_time.specs.Division.{owner_of}
-use Rattle.span_self_time.proofs.SegmentStacks.Taking.{IsTakenTo-kept}
-use Rattle.span_self_time.proofs.SegmentStacks.SegmentSums.{AreSums-push}
+use Rattle.span_self_time.specs.{Division.owner_of, Spans.outranks}
+use Rattle.span_self_time.proofs.SegmentStacks.{SegmentSums.AreSums-push, Taking.IsTakenTo-kept}
 use Rattle.span_self_time.proofs.division.segment_stacks.SegmentStacks.pass.Goals as goal
 
 pub returns-then-outranks-clause-taken : goal.returns-then-outranks-clause-taken

@@ -1,8 +1,6 @@
-use Rattle.std.proofs.Common.{◌≡◌, ◌≤◌, ◌+◌, ◌-◌, length, get_or, sym, ap, ◌∙◌, arith, vec_len, rules}
 use Rattle.std.specs.Option.{option_map}
-use Rattle.std.proofs.lemmas.Option.{slice_get-map, slice_get_read, slice_get_past}
-use Rattle.span_self_time.specs.declared.segment.OwnedSegment.{OwnedSegment}
-use Rattle.span_self_time.specs.Division.SegmentStacks.{segments_of}
+use Rattle.std.proofs.{Common.{◌≡◌, ◌≤◌, ◌+◌, ◌-◌, length, get_or, sym, ap, ◌∙◌, arith, vec_len, rules}, lemmas.Option.{slice_get-map, slice_get_read, slice_get_past}}
+use Rattle.span_self_time.specs.{Division.SegmentStacks.segments_of, declared.segment.OwnedSegment.OwnedSegment}
 use Rattle.span_self_time.proofs.SegmentStacks.Ends.{get_or-segments_of, length-segments_of}
 use Rattle.span_self_time.proofs.division.segment_stacks.SegmentStacks.segment.Goals as goal
 

@@ -1,13 +1,6 @@
-use Rattle.std.proofs.Common.{rules, ◌≡◌, ◌≤ℤ◌, ℕ, ◌∙◌, subst, w64, to_z, of_z, arith}
-use Rattle.std.proofs.lemmas.Int.{ints}
-use Rattle.span_self_time.specs.declared.division.time_map.TimeMap.{TimeMap}
-use Rattle.span_self_time.specs.Division.{Owners, owner_of, own_in, taken, IsNew, AreSettled}
-use Rattle.span_self_time.specs.Division.TimeMap.{IsTimeMap, IsEntrant, IsTaking}
-use Rattle.span_self_time.proofs.TimeMap.Searching.{on_err}
-use Rattle.span_self_time.proofs.TimeMap.Barring.{IsBarred-own}
-use Rattle.span_self_time.proofs.TimeMap.Advancing.{taken-empty}
-use Rattle.span_self_time.proofs.TimeMap.Charging.{IsJoining, IsTaking-start, IsTimeMap-taken}
-use Rattle.span_self_time.proofs.division.time_map.TimeMap.add.Goals.{Else-span, After-keep_name}
+use Rattle.std.proofs.{Common.{rules, ◌≡◌, ◌≤ℤ◌, ℕ, ◌∙◌, subst, w64, to_z, of_z, arith}, lemmas.Int.ints}
+use Rattle.span_self_time.specs.{Division.{Owners, owner_of, own_in, taken, IsNew, AreSettled, TimeMap.{IsTimeMap, IsEntrant, IsTaking}}, declared.division.time_map.TimeMap.TimeMap}
+use Rattle.span_self_time.proofs.{TimeMap.{Advancing.taken-empty, Barring.IsBarred-own, Charging.{IsJoining, IsTaking-start, IsTimeMap-taken}, Searching.on_err}, division.time_map.TimeMap.add.Goals.{Else-span, After-keep_name}}
 use Rattle.span_self_time.proofs.division.time_map.TimeMap.add.Goals as goal
 
 pub returns-then-span-clause-ok : goal.returns-then-span-clause-ok

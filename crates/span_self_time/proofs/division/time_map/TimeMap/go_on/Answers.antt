@@ -1,8 +1,6 @@
-use Rattle.std.proofs.Common.{rules, ◌≡◌, false, true, Some, sym, ap, ◌∙◌, w64, to_z, of_z, ◌<ℤ◌, arith}
 use Rattle.std.specs.Option.{option_map}
-use Rattle.std.proofs.lemmas.Int.{ints, by_lt_z}
-use Rattle.span_self_time.specs.Division.{Owners, owner_of, claims}
-use Rattle.span_self_time.specs.Division.TimeMap.{IsEntrant, IsTaking, taken_to}
+use Rattle.std.proofs.{Common.{rules, ◌≡◌, false, true, Some, sym, ap, ◌∙◌, w64, to_z, of_z, ◌<ℤ◌, arith}, lemmas.Int.{ints, by_lt_z}}
+use Rattle.span_self_time.specs.Division.{Owners, owner_of, claims, TimeMap.{IsEntrant, IsTaking, taken_to}}
 use Rattle.span_self_time.proofs.TimeMap.Advancing.{IsTaking-over, claimed-starts, claims-covered, taken_to-after, covers-start, covers-until}
 use Rattle.span_self_time.proofs.division.time_map.TimeMap.go_on.Goals as goal
 

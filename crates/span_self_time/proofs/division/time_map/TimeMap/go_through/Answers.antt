@@ -1,8 +1,6 @@
-use Rattle.std.proofs.Common.{rules, ◌≡◌, ◌<ℤ◌, ◌≤ℤ◌, w64, to_z, of_z, arith}
-use Rattle.std.proofs.lemmas.Int.{ints}
+use Rattle.std.proofs.{Common.{rules, ◌≡◌, ◌<ℤ◌, ◌≤ℤ◌, w64, to_z, of_z, arith}, lemmas.Int.ints}
 use Rattle.span_self_time.specs.Division.{owner_of}
-use Rattle.span_self_time.proofs.Counts.{distance-later}
-use Rattle.span_self_time.proofs.TimeMap.Charging.{IsTaking-end}
+use Rattle.span_self_time.proofs.{Counts.distance-later, TimeMap.Charging.IsTaking-end}
 use Rattle.span_self_time.proofs.division.time_map.TimeMap.go_through.Goals as goal
 
 pub go_on-time-requires-clause-taking : goal.go_on-time-requires-clause-taking

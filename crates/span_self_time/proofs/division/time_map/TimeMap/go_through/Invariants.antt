@@ -1,6 +1,4 @@
-use Rattle.span_event.specs.Time.{distance}
-use Rattle.span_self_time.specs.Division.{Owners, owner_of}
-use Rattle.span_self_time.specs.Division.TimeMap.{IsEntrant, IsTaking}
+use Rattle.span_self_time.specs.{distance, Division.{Owners, owner_of, TimeMap.{IsEntrant, IsTaking}}}
 use Rattle.span_self_time.proofs.division.time_map.TimeMap.go_through.Given as goal
 
 abbrev pub invariant-loop-time : goal.invariant-loop-time

@@ -1,11 +1,7 @@
-use Rattle.std.proofs.Common.{rules, List, ℤ, All, subst, ◌≡◌, None, sym, ◌∙◌, refl}
 use Rattle.std.specs.Option.{is_some}
-use Rattle.span_self_time.specs.Division.{own_in}
-use Rattle.std.proofs.lemmas.List.Elements.{All-nil}
-use Rattle.span_self_time.specs.Division.TimeMap.Ties.{IsBarred}
-use Rattle.span_self_time.specs.Division.TimeMap.{has_name}
-use Rattle.span_self_time.proofs.TimeMap.StretchOwners.{IsSome-None, IsSome-Some}
-use Rattle.span_self_time.proofs.TimeMap.Times.{time_of-none}
+use Rattle.std.proofs.{Common.{rules, List, ℤ, All, subst, ◌≡◌, None, sym, ◌∙◌, refl}, lemmas.List.Elements.All-nil}
+use Rattle.span_self_time.specs.Division.{own_in, TimeMap.{has_name, Ties.IsBarred}}
+use Rattle.span_self_time.proofs.TimeMap.{StretchOwners.{IsSome-None, IsSome-Some}, Times.time_of-none}
 use Rattle.span_self_time.proofs.division.time_map.TimeMap.new.Goals as goal
 
 pub returns : goal.returns

@@ -1,9 +1,6 @@
-use Rattle.std.proofs.Common.{rules, ◌≡◌, inl, inr, ◌≤ℤ◌, ◌<ℤ◌, w64, to_z, of_z, arith}
-use Rattle.std.proofs.lemmas.Int.{ints, clamps}
-use Rattle.span_self_time.specs.Division.{owner_of}
-use Rattle.span_self_time.specs.Division.TimeMap.Ties.{IsBarred}
-use Rattle.span_self_time.proofs.TimeMap.Barring.{outranks-start}
-use Rattle.span_self_time.proofs.division.time_map.TimeMap.over.Goals.{then-span-owned, else-span-owned}
+use Rattle.std.proofs.{Common.{rules, ◌≡◌, inl, inr, ◌≤ℤ◌, ◌<ℤ◌, w64, to_z, of_z, arith}, lemmas.Int.{ints, clamps}}
+use Rattle.span_self_time.specs.Division.{owner_of, TimeMap.Ties.IsBarred}
+use Rattle.span_self_time.proofs.{TimeMap.Barring.outranks-start, division.time_map.TimeMap.over.Goals.{then-span-owned, else-span-owned}}
 use Rattle.span_self_time.proofs.division.time_map.TimeMap.over.Goals as goal
 
 pub returns-in-Some-clause-barred : goal.returns-in-Some-clause-barred

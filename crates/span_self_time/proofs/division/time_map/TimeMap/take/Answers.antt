@@ -1,15 +1,7 @@
-use Rattle.std.proofs.Common.{option_map, eq-eqb, rules, ◌≡◌, Some, sym, ap, subst, w64, to_z, of_z, IsSome, refl}
 use Rattle.std.specs.Option.{is_some}
-use Rattle.span_self_time.specs.declared.segment.OwnedSegment.{OwnedSegment}
-use Rattle.span_self_time.specs.declared.division.time_map.stretches.Stretches.{Stretches}
-use Rattle.span_event.specs.Time.{distance}
-use Rattle.span_self_time.specs.Division.{owner_of, between}
-use Rattle.span_self_time.specs.Division.TimeMap.Stretches.{at, IsPut}
-use Rattle.span_self_time.specs.Division.TimeMap.{IsTaking, taken_to, has_name}
-use Rattle.span_self_time.proofs.TimeMap.Advancing.{IsClaimed, IsReplaced-taken}
-use Rattle.span_self_time.proofs.TimeMap.Times.{IsReplaced}
-use Rattle.span_self_time.proofs.TimeMap.Charging.{held-length, charged-small, is_some-owner, AreTimes-charged, IsJoining, IsGiven, IsTaking-taken}
-use Rattle.span_self_time.proofs.division.time_map.TimeMap.take.Goals.{After-distance}
+use Rattle.std.proofs.Common.{option_map, eq-eqb, rules, ◌≡◌, Some, sym, ap, subst, w64, to_z, of_z, IsSome, refl}
+use Rattle.span_self_time.specs.{distance, Division.{owner_of, between, TimeMap.{IsTaking, taken_to, has_name, Stretches.{at, IsPut}}}, declared.{division.time_map.stretches.Stretches.Stretches, segment.OwnedSegment.OwnedSegment}}
+use Rattle.span_self_time.proofs.{TimeMap.{Advancing.{IsClaimed, IsReplaced-taken}, Charging.{held-length, charged-small, is_some-owner, AreTimes-charged, IsJoining, IsGiven, IsTaking-taken}, Times.IsReplaced}, division.time_map.TimeMap.take.Goals.After-distance}
 use Rattle.span_self_time.proofs.division.time_map.TimeMap.take.Goals as goal
 
 pub end_of-until-requires-clause-divided : goal.end_of-until-requires-clause-divided

@@ -1,8 +1,6 @@
-use Rattle.std.proofs.Common.{rules, ◌≡◌, pos, ◌-ℤ◌, Some, None, ap, ◌∙◌, subst, w64, to_z, of_z, arith}
 use Rattle.std.specs.Option.{is_some}
-use Rattle.std.proofs.lemmas.Int.{ints}
-use Rattle.span_self_time.specs.Division.TimeMap.Stretches.{at, IsLast, IsPut}
-use Rattle.span_self_time.specs.Division.{between}
+use Rattle.std.proofs.{Common.{rules, ◌≡◌, pos, ◌-ℤ◌, Some, None, ap, ◌∙◌, subst, w64, to_z, of_z, arith}, lemmas.Int.ints}
+use Rattle.span_self_time.specs.Division.{between, TimeMap.Stretches.{at, IsLast, IsPut}}
 use Rattle.span_self_time.proofs.TimeMap.Joining.{apart-free, apart-none, segment-last, apart-other, IsJoined, IsJoined-put, keeps-joined, IsDivided-joined, IsEnd-joined, apart-joined}
 use Rattle.span_self_time.proofs.division.time_map.stretches.Stretches.join.Goals as goal
 

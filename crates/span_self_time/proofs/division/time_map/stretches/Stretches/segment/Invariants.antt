@@ -1,6 +1,5 @@
 use Rattle.std.proofs.Common.{◌≡◌, slice_get, map}
-use Rattle.span_self_time.specs.declared.segment.OwnedSegment.{OwnedSegment}
-use Rattle.span_self_time.specs.Division.TimeMap.Stretches.{present, segments_in}
+use Rattle.span_self_time.specs.{Division.TimeMap.Stretches.{present, segments_in}, declared.segment.OwnedSegment.OwnedSegment}
 use Rattle.span_self_time.proofs.division.time_map.stretches.Stretches.segment.Given as goal
 
 abbrev pub invariant-loop-owned : goal.invariant-loop-owned

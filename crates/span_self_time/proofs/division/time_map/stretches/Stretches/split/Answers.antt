@@ -1,10 +1,7 @@
-use Rattle.std.proofs.Common.{rules, ◌≡◌, inr, ℤ, Some, None, ap, ◌∙◌, subst, w64, to_z, of_z, ◌≤ℤ◌, ◌<ℤ◌, arith}
 use Rattle.std.specs.Option.{is_some}
-use Rattle.std.proofs.lemmas.Int.{ints, by_lt_z}
-use Rattle.span_self_time.specs.Division.TimeMap.Stretches.{at, IsLast, IsPut}
-use Rattle.span_self_time.specs.Division.{between}
-use Rattle.span_self_time.proofs.TimeMap.StretchOwners.{owner-last, owner-before}
-use Rattle.span_self_time.proofs.TimeMap.Cutting.{IsCut, IsCut-put, keeps-cut, IsDivided-cut, IsEnd-cut, IsOpened, IsDivided-free, IsEnd-free}
+use Rattle.std.proofs.{Common.{rules, ◌≡◌, inr, ℤ, Some, None, ap, ◌∙◌, subst, w64, to_z, of_z, ◌≤ℤ◌, ◌<ℤ◌, arith}, lemmas.Int.{ints, by_lt_z}}
+use Rattle.span_self_time.specs.Division.{between, TimeMap.Stretches.{at, IsLast, IsPut}}
+use Rattle.span_self_time.proofs.TimeMap.{Cutting.{IsCut, IsCut-put, keeps-cut, IsDivided-cut, IsEnd-cut, IsOpened, IsDivided-free, IsEnd-free}, StretchOwners.{owner-last, owner-before}}
 use Rattle.span_self_time.proofs.division.time_map.stretches.Stretches.split.Goals as goal
 
 pub returns-in_default-clause-divided : goal.returns-in_default-clause-divided

@@ -1,6 +1,5 @@
 use Rattle.std.proofs.Common.{rules, ◌≡◌, sym, ap, ◌∙◌, subst, w64, to_z, of_z, inl, inr}
-use Rattle.span_self_time.specs.Division.{Owners}
-use Rattle.span_self_time.specs.Division.TimeMap.Stretches.{at, Starts, IsDivided, IsEnd, AreWhole}
+use Rattle.span_self_time.specs.Division.{Owners, TimeMap.Stretches.{at, Starts, IsDivided, IsEnd, AreWhole}}
 use Rattle.span_self_time.proofs.TimeMap.Searching.{on_err}
 use Rattle.span_self_time.proofs.division.time_map.stretches.Stretches.split_both.Goals as goal
 

@@ -1,5 +1,4 @@
-use Rattle.std.proofs.Common.{rules, ◌≡◌, ℤ, List, w64, to_z, of_z, sym, ap, ◌∙◌, subst, All}
-use Rattle.std.proofs.lemmas.List.Elements.{All-filter}
+use Rattle.std.proofs.{Common.{rules, ◌≡◌, ℤ, List, w64, to_z, of_z, sym, ap, ◌∙◌, subst, All}, lemmas.List.Elements.All-filter}
 use Rattle.span_self_time.specs.Division.TimeMap.Ties.{IsBarred}
 use Rattle.span_self_time.proofs.TimeMap.Barring.{All-last}
 use Rattle.span_self_time.proofs.division.time_map.ties.Ties.last_before.Goals as goal

@@ -1,5 +1,4 @@
-use Rattle.std.proofs.Common.{rules, ◌≡◌, w64, to_z, of_z, sym, subst, All, ℤ, List}
-use Rattle.std.proofs.lemmas.Map.Views.{All-insert_key}
+use Rattle.std.proofs.{Common.{rules, ◌≡◌, w64, to_z, of_z, sym, subst, All, ℤ, List}, lemmas.Map.Views.All-insert_key}
 use Rattle.span_self_time.specs.Division.TimeMap.Ties.{IsBarred}
 use Rattle.span_self_time.proofs.division.time_map.ties.Ties.note.Goals as goal
 
