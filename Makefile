@@ -23,7 +23,7 @@ demo:
 test:
 	scripts/tools
 	rt ci
-	tests/run crates/tracebook/out/tracebook
+	tests/run --gate crates/tracebook/out/tracebook
 
 # What a program does that is built already, without the gate.
 check:
