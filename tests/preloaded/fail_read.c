@@ -1,4 +1,4 @@
-// Preloaded, lets the read of the number FAIL_AT of a program fail with the error FAIL_WITH.
+// Preloaded, lets the read of the number FAIL_AT of a program fail with the error FAIL_WITH; with MOST_BYTES each read gives at most so many.
 #define _GNU_SOURCE
 #include <dlfcn.h>
 #include <errno.h>
@@ -11,8 +11,10 @@ ssize_t read(int file, void *bytes, size_t count)
     static long reads = 0;
     if (!next)
         next = dlsym(RTLD_NEXT, "read");
-    if (++reads != atol(getenv("FAIL_AT")))
-        return next(file, bytes, count);
-    errno = atoi(getenv("FAIL_WITH"));
-    return -1;
+    if (++reads == atol(getenv("FAIL_AT"))) {
+        errno = atoi(getenv("FAIL_WITH"));
+        return -1;
+    }
+    const char *most = getenv("MOST_BYTES");
+    return next(file, bytes, most && count > (size_t)atol(most) ? (size_t)atol(most) : count);
 }
