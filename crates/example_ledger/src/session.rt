@@ -110,10 +110,6 @@ fn apply(rt: &HostRuntime, ledger: &mut Ledger, caller: u32, op: Op) -> Result<(
         }
         Err(back) => {
             let Back { op, cause } = back;
-            if cause == Cause::Memory {
-                drop(op);
-                return Err(Fault::Memory);
-            }
             let printed = println!(rt; "not taken, {}: {op:?}", cause.code());
             drop(op);
             printed
