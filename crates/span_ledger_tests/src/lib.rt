@@ -1,4 +1,4 @@
-//! What `span_ledger` promises, tried through its public calls.
+//! What no line of the example can say of the ledger and its tracks.
 #![tactic(auto)]
 
 #[cfg(test)]

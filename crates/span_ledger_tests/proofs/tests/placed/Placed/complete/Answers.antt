@@ -1,6 +1,6 @@
 use Rattle.std.proofs.Common.{arith}
-use Rattle.span_track_tests.proofs.Placed.{IsPlaced-told}
-use Rattle.span_track_tests.proofs.tests.thread.placed.Placed.complete.Goals as goal
+use Rattle.span_ledger_tests.proofs.Placed.{IsPlaced-told}
+use Rattle.span_ledger_tests.proofs.tests.placed.Placed.complete.Goals as goal
 
 pub invariant_of-self : goal.invariant_of-self
 invariant_of-self g c =

@@ -3,7 +3,7 @@ use Rattle.std.proofs.Common.{ℕ, ◌+◌, ◌<◌, ◌≡◌, ◌-◌, ◌^◌
 use Rattle.span_track.specs.Nesting.{ThreadEvent}
 use Rattle.span_track.specs.Thread.{ThreadSpans, TakesEvent, HasRoom, IsNext, IsBefore}
 use Rattle.span_track.proofs.Threads.Room.{IsNext-thread_spans, HasRoom-thread_spans, AreBefore-later, AreBefore-push}
-use Rattle.span_track_tests.specs.Placed.{IsPlaced}
+use Rattle.span_ledger_tests.specs.Placed.{IsPlaced}
 
 module _ (next : ℕ) (track : ThreadSpans ℕ) (is : IsPlaced next track) where
   pub IsNext-IsPlaced : IsNext next track

@@ -1,7 +1,0 @@
-use Rattle.std.proofs.Common.{arith}
-use Rattle.span_track_tests.proofs.Placed.{IsPlaced-told}
-use Rattle.span_track_tests.proofs.tests.thread.placed.Placed.begin.Goals as goal
-
-pub invariant_of-self : goal.invariant_of-self
-invariant_of-self g c =
-    IsPlaced-told c.self.inside.next c.self.inside.track c.self.invariant c.begin_span.result _ c.begin_span.new.self (omega arith) c.begin_span.ensures.stands c.begin_span.ensures.err
