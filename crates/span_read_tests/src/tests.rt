@@ -1,38 +1,81 @@
-// What the definitions are compared with: texts and their items, worked out by hand.
-mod agreement;
-mod documents;
-mod elements;
-mod times;
-mod values;
+//! What no text of a trace shows: the item of a value, and the copy of an event. The rest is shown by cases of `example_ledger`, by those
+//! of the program, and by tests/many_files.
+use serde_json::Value;
+use span_read::{Event, Item, Unit, item_of, read_items_in};
+use std::alloc::{AllocError, AllocGlobal, Global};
+use std::process::Abort;
+use std::test::Fail;
 
-use span_read::{Item, Unit, read_items_in};
-use std::alloc::{AllocError, Global};
+// Each field has a value of its own, so that none can stand for another. Of the texts of one event one lies in the value, and one is shared.
+const EVENTS: [&str; 3] = [
+    r#"{"ph":"b","ts":1,"pid":2,"tid":3,"name":"fourteen bytes","cat":"fifteen bytes..","id2":{"local":4},"scope":"s","args":{"x":5,"y":"w"}}"#,
+    r#"{"ph":"X","ts":6,"dur":7,"pid":8,"tid":9,"args":{"n":null,"f":true,"o":{},"d":0.5}}"#,
+    r#"{"ph":"i","ts":-1.5,"pid":-2,"tid":-3,"id":0,"s":"p"}"#,
+];
 
-// One word for each item of a text, or the word of its refusal.
-fn described(alloc: Global, bytes: &[u8]) -> Result<String, AllocError> {
-    described_in(alloc, Unit::Microseconds, bytes)
+const OTHERS: [&str; 4] = [
+    "5",
+    r#"{"ph":"R","ts":1}"#,
+    r#"{"ph":"X","ts":1}"#,
+    r#"{"ph":"b","ts":1,"pid":1e3,"id":"a"}"#,
+];
+
+fn item_of_value(alloc: Global, unit: Unit, text: &str) -> Result<Item, Fail> {
+    let value = Value::from_str(alloc, text)?;
+    let item = item_of(alloc, unit, &value);
+    drop(value);
+    Ok(item?)
 }
 
-fn described_in(alloc: Global, unit: Unit, bytes: &[u8]) -> Result<String, AllocError> {
-    match read_items_in(alloc, unit, bytes) {
-        Ok(items) => {
-            let mut words = String::new(alloc);
-            for item in items.into_list() {
-                let word = word_of(alloc, &item);
-                drop(item);
-                words.push_str(word?.as_str())?;
-                words.push(' ')?;
-            }
-            Ok(words)
+fn shown(alloc: Global, item: Option<&Item>) -> Result<String, AllocError> {
+    format!(in alloc; "{item:?}")
+}
+
+// The file that has this element alone has the item of its value alone.
+fn agrees(rt: &(impl Abort + AllocGlobal), unit: Unit, text: &str) -> Result<(), Fail> {
+    let alloc = rt.alloc();
+    let item = item_of_value(alloc, unit, text)?;
+    let by_value = shown(alloc, Some(&item));
+    drop(item);
+    let file = format!(in alloc; "[{text}]")?;
+    let items = read_items_in(alloc, unit, file.as_bytes())?;
+    assert!(rt; !items.is_empty() && items.len() == 1 && items.get(1).is_none());
+    let by_text = shown(alloc, items.get(0));
+    drop(items);
+    assert_eq!(rt; by_value?.as_str(), by_text?.as_str());
+    Ok(())
+}
+
+#[test]
+fn a_value_has_the_item_of_its_text(rt: HostRuntime) -> Result<(), Fail> {
+    for text in EVENTS.iter().chain(&OTHERS) {
+        agrees(&rt, Unit::Microseconds, text)?;
+        agrees(&rt, Unit::Nanoseconds, text)?;
+    }
+    Ok(())
+}
+
+fn event_of(alloc: Global, text: &str) -> Result<Event, Fail> {
+    match item_of_value(alloc, Unit::Nanoseconds, text)? {
+        Item::Good(event) => Ok(event),
+        other => {
+            drop(other);
+            Err("no event")?
         }
-        Err(error) => format!(in alloc; "{error:?}"),
     }
 }
 
-fn word_of(alloc: Global, item: &Item) -> Result<String, AllocError> {
-    match item {
-        Item::Good(_) => String::from_str(alloc, "Good"),
-        Item::Bad(fault) => format!(in alloc; "{fault:?}"),
-        Item::Other => String::from_str(alloc, "Other"),
+#[test]
+fn a_copy_outlives_its_event(rt: HostRuntime) -> Result<(), Fail> {
+    for text in &EVENTS {
+        let event = event_of(rt.alloc(), text)?;
+        let wanted = format!(in rt.alloc(); "{event:?}");
+        let copy = event.try_clone(rt.alloc());
+        drop(event);
+        let copy = copy?;
+        let copied = format!(in rt.alloc(); "{copy:?}");
+        drop(copy);
+        assert_eq!(rt; copied?.as_str(), wanted?.as_str());
     }
+    Ok(())
 }
