@@ -1,4 +1,4 @@
-//! What `span_report` promises, tried through its public calls.
+//! What `span_report`, `span_page` and `span_comparisons` promise, where no run of the program shows it.
 #![tactic(auto)]
 
 #[cfg(test)]

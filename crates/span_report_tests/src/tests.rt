@@ -1,5 +1,5 @@
-//! Each text where an output or memory cuts it off. What the texts say is tried by the cases of tests/acceptance.
+//! Outputs that fail or take few bytes, and repeated runs of which a side has none.
 
-mod printed;
-mod report;
-mod stacks;
+mod outputs;
+mod repetitions;
+mod told;

@@ -1,8 +1,6 @@
-//! What tests of several crates share: ledgers that are told texts, and an output that fails.
+//! What tests of several crates share: an output that fails, and room for one.
 #![tactic(auto)]
 
 mod output;
-mod telling;
 
-pub use output::{End, Output, is_whole_or_none, room_at_last};
-pub use telling::{seals, told, told_at_last};
+pub use output::{End, Output, room_at_last};

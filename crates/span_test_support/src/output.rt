@@ -1,6 +1,5 @@
 //! An output that takes so many bytes, and then fails.
 
-use span_report::WriteFault;
 use std::alloc::{AllocError, Global};
 use std::io;
 use std::io::{ErrorKind, Write};
@@ -41,21 +40,6 @@ impl Output {
     pub fn of_room(alloc: Global, room: usize) -> Output {
         Output::new(alloc, room, End::Broken, true)
     }
-
-    /// Whether it failed once it had the first `count` bytes of the text, as the writer says, and was not flushed.
-    pub fn is_cut_off(&self, written: Result<(), WriteFault>, text: &str, count: usize) -> bool {
-        let fault = WriteFault::Output {
-            written: count as u64,
-        };
-        written == Err(fault)
-            && Some(self.taken.as_slice()) == text.as_bytes().get(..count)
-            && self.flushes == 0
-    }
-
-    /// Whether it has the whole text, as the writer says, and was flushed once.
-    pub fn is_whole(&self, written: Result<(), WriteFault>, text: &str) -> bool {
-        written == Ok(()) && self.taken.as_slice() == text.as_bytes() && self.flushes == 1
-    }
 }
 
 impl Write for Output {
@@ -89,13 +73,5 @@ pub fn room_at_last(alloc: Global) -> Result<Vec<u8>, AllocError> {
     match Vec::with_capacity(alloc, 1000) {
         Ok(room) => Ok(room),
         Err(_) => Vec::with_capacity(alloc, 1000),
-    }
-}
-
-/// Whether there is no part of the text: it is whole, or memory was refused and nothing is written.
-pub fn is_whole_or_none(written: Result<(), WriteFault>, out: &[u8], text: &str) -> bool {
-    match written {
-        Ok(()) => out == text.as_bytes(),
-        Err(fault) => fault == WriteFault::Memory && out.is_empty(),
     }
 }
