@@ -1,12 +1,12 @@
 //! Outputs that take a text, or fail. What the texts say is tried by the cases of tests/acceptance.
 
+use super::output::{End, Output};
 use super::told::told;
 use span_event::Unit;
 use span_ledger::Ledger;
 use span_page::write_page;
 use span_report::stacks::{FoldedFault, SpanColumn, write_folded};
 use span_report::{WriteFault, Writer, write_report};
-use span_test_support::{End, Output};
 use std::alloc::{AllocGlobal, Global};
 use std::process::Abort;
 use std::test::Fail;

@@ -1,12 +1,12 @@
 //! An output that takes so many bytes, and then fails.
 
-use std::alloc::{AllocError, Global};
+use std::alloc::Global;
 use std::io;
 use std::io::{ErrorKind, Write};
 
 /// How an output fails that has taken all for which it has room.
 #[derive(Clone, Copy, Debug, PartialEq, Eq)]
-pub enum End {
+pub(super) enum End {
     Broken,
     Interrupted,
     TakesNothing,
@@ -14,7 +14,7 @@ pub enum End {
 
 /// Keeps what it took, and counts the calls.
 #[derive(Drop)]
-pub struct Output {
+pub(super) struct Output {
     pub taken: Vec<u8>,
     pub writes: u64,
     pub flushes: u64,
@@ -25,7 +25,7 @@ pub struct Output {
 
 impl Output {
     /// An output that takes so many bytes, fails so at the next write, and can be flushed or not.
-    pub fn new(alloc: Global, room: usize, end: End, can_flush: bool) -> Output {
+    pub(super) fn new(alloc: Global, room: usize, end: End, can_flush: bool) -> Output {
         Output {
             taken: Vec::new(alloc),
             writes: 0,
@@ -37,7 +37,7 @@ impl Output {
     }
 
     /// An output that takes so many bytes, and is broken then.
-    pub fn of_room(alloc: Global, room: usize) -> Output {
+    pub(super) fn of_room(alloc: Global, room: usize) -> Output {
         Output::new(alloc, room, End::Broken, true)
     }
 }
@@ -65,13 +65,5 @@ impl Write for Output {
         } else {
             Err(io::Error::from(ErrorKind::BrokenPipe))
         }
-    }
-}
-
-/// Room for 1,000 bytes, asked for once more where it was refused.
-pub fn room_at_last(alloc: Global) -> Result<Vec<u8>, AllocError> {
-    match Vec::with_capacity(alloc, 1000) {
-        Ok(room) => Ok(room),
-        Err(_) => Vec::with_capacity(alloc, 1000),
     }
 }
