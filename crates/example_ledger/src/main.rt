@@ -30,7 +30,7 @@ fn run(rt: &HostRuntime, text: &str) -> Result<(), (usize, Fault)> {
 
 // Nothing can be done where standard error fails.
 fn fail(rt: &HostRuntime, index: usize, fault: Fault) -> ExitCode {
-    let number = index as u64 + 1;
+    let number = index.saturating_add(1);
     let _ = eprintln!(rt; "example_ledger: line {number}: {fault}");
     match fault {
         Fault::Line(_) => ExitCode::from(2),

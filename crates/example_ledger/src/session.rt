@@ -32,10 +32,11 @@ impl Session {
     /// Performs a line; nothing if it is empty or a comment.
     pub(crate) fn perform(&mut self, rt: &HostRuntime, line: &str) -> Result<(), Fault> {
         let (word, rest) = word_of(line);
+        let (limit, strict) = (self.ledger.limit(), self.ledger.strict());
         match word {
             "" | "#" => Ok(()),
-            "limit" => self.begin(rt.alloc(), count_of(rest)?.0, self.ledger.strict()),
-            "strict" => self.begin(rt.alloc(), self.ledger.limit(), true),
+            "limit" => self.begin(rt.alloc(), count_of(rest)?.0, strict),
+            "strict" => self.begin(rt.alloc(), limit, true),
             "nanoseconds" => {
                 self.unit = Unit::Nanoseconds;
                 Ok(())
