@@ -123,7 +123,7 @@ fn files_at_last(alloc: Global) -> Result<Vec<Input>, AllocError> {
 #[test]
 fn memory_is_refused_before_the_first_step(rt: HostRuntime) -> Result<(), Fail> {
     let files = files_at_last(rt.alloc())?;
-    let gate = Steps::new(FREE);
+    let gate = Steps::new(&FREE);
     let collected = collect(&rt, rt.alloc(), &files, &ASKS, &gate, &up_to(9));
     drop(files);
     match collected {

@@ -63,7 +63,7 @@ fn report_in(
     settings: &Settings,
     order: &(Order, Option<u32>),
 ) -> Result<Vec<u8>, Fail> {
-    let gate = Steps::new(order.0);
+    let gate = Steps::new(&order.0);
     let outcome = collect(rt, rt.alloc(), files, &ASKS, &gate, settings)?;
     is_whole(rt, &outcome, order.1);
     let text = report(rt.alloc(), settings.unit, &outcome.ledger);

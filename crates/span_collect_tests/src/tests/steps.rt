@@ -13,32 +13,48 @@ pub const FREE: Order = [[[0; 3]; 3]; 3];
 const TURNS: u32 = 50_000_000;
 
 #[derive(Drop)]
-pub struct Steps {
-    order: Order,
-    counts: [AtomicU32; 3],
+pub struct Steps<'a> {
+    order: &'a Order,
+    first: AtomicU32,
+    second: AtomicU32,
+    asking: AtomicU32,
     // Whether a caller waited in vain, or came to a step that isn't its next.
     wrong: AtomicBool,
 }
 
-impl Steps {
-    pub fn new(order: Order) -> Steps {
+impl<'a> Steps<'a> {
+    pub fn new(order: &'a Order) -> Steps<'a> {
         Steps {
             order,
-            counts: [AtomicU32::new(0), AtomicU32::new(0), AtomicU32::new(0)],
+            first: AtomicU32::new(0),
+            second: AtomicU32::new(0),
+            asking: AtomicU32::new(0),
             wrong: AtomicBool::new(false),
         }
     }
 
+    // The steps that a caller came to.
+    fn count_of(&self, caller: u32) -> Option<&AtomicU32> {
+        match caller {
+            0 => Some(&self.first),
+            1 => Some(&self.second),
+            2 => Some(&self.asking),
+            _ => None,
+        }
+    }
+
+    fn counts(&self) -> [u32; 3] {
+        [&self.first, &self.second, &self.asking].map(|count| count.load(Ordering::SeqCst))
+    }
+
     /// Whether each caller came to these many steps, one after the other.
     pub fn are(&self, counts: [u32; 3]) -> bool {
-        let [first, second, asking] = &self.counts;
-        let came = [first, second, asking].map(|count| count.load(Ordering::SeqCst));
-        came == counts && !self.wrong.load(Ordering::SeqCst)
+        self.counts() == counts && !self.wrong.load(Ordering::SeqCst)
     }
 
     fn have_come(&self, needs: &[u32; 3]) -> bool {
-        let mut pairs = self.counts.iter().zip(needs);
-        pairs.all(|(count, need)| *need <= count.load(Ordering::SeqCst))
+        let counts = self.counts();
+        counts.iter().zip(needs).all(|(count, need)| need <= count)
     }
 
     fn wait_for(&self, needs: &[u32; 3]) {
@@ -52,8 +68,8 @@ impl Steps {
     }
 
     fn come_to(&self, caller: u32, step: u32) {
-        let count = self.counts.get(caller as usize);
-        let orders = self.order.get(caller as usize);
+        let (count, order) = (self.count_of(caller), self.order);
+        let orders = order.get(caller as usize);
         let needs = orders.and_then(|steps| steps.get(step as usize));
         let (Some(count), Some(needs)) = (count, needs) else {
             self.wrong.store(true, Ordering::SeqCst);
@@ -67,7 +83,7 @@ impl Steps {
     }
 }
 
-impl Gate for Steps {
+impl<'a> Gate for Steps<'a> {
     fn read(&self, worker: u32) {
         self.come_to(worker, 0);
     }
