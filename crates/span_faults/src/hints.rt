@@ -1,250 +1,75 @@
-//! Hints: lines that follow fault lines where a person reads along, and say what may help. No promise speaks of them.
+//! Hints: lines that follow fault lines where a person reads along, and say what may help.
+ghost use Rattle.std.specs.Prelude.{string_bytes, IfOk};
+ghost use Rattle.span_faults.specs.FaultLines.{IsHint};
 
-use span_collect::fault_word;
-use span_event::{Fault, Unit};
-use span_journal::Answer;
-use span_ledger::Ledger;
-use span_runs::Reason;
+use crate::remedies::{Hint, MANY_FILES, RefusalCounts, hint_of_bytes};
+use span_collect::{Collected, FileEnd, Input};
+use span_event::{Fault, Text, Unit};
+use span_report::json_text;
 use std::alloc::{AllocError, Global};
-use std::collections::BTreeMap;
-use std::fmt;
 
-/// Said of a run of more files than may be.
-pub(crate) const MANY_FILES: &[u8] =
-    b"hint: at most 64 files are collected into one report; a run of some of them at a time has a report of these\n";
-
-/// What may help with a file, or with the files of a run.
-#[derive(Clone, Copy)]
-pub(crate) enum Hint {
-    /// The file is compressed, and this program prints what it holds.
-    Compressed {
-        unpacker: &'static str,
-    },
-    ByteOrderMark,
-    Utf16,
-    Empty,
-    /// The file ends within an element, or within the object around them; the last whole element ends behind so many bytes.
-    CutOff {
-        whole: usize,
-    },
-    /// The file is larger than a file may be.
-    TooLarge,
-    /// So many of the file's elements were refused with this number, and this may help.
-    Refused {
-        count: u32,
-        items: u32,
-        code: u16,
-        remedy: &'static str,
-    },
-    /// The file could not be read, for this reason.
-    Unreadable(Reason),
+/// What may help with the files of a run. What finds no memory is left out.
+pub fn hints_of(alloc: Global, files: &[Input], collected: &Collected, unit: Unit) -> Vec<u8>
+    ensures { IsHint result.items }
+{
+    let mut hints = Vec::new(alloc);
+    let Ok(counts) = RefusalCounts::of(alloc, &collected.ledger, unit) else {
+        return hints;
+    };
+    for (file, end) in files.iter().zip(&collected.end.ends) {
+        if let FileEnd::Read { caller, items } = end {
+            push_hint(
+                alloc,
+                &mut hints,
+                &file.name,
+                counts.fractions_of(*caller, *items),
+            );
+        }
+        push_hint(
+            alloc,
+            &mut hints,
+            &file.name,
+            hint_of_end(file, end, &counts),
+        );
+    }
+    drop(counts);
+    hints
 }
 
-/// What the bytes of a text that is not JSON look like.
-pub(crate) fn hint_of_bytes(bytes: &[u8]) -> Option<Hint> {
-    if let Some(unpacker) = unpacker_of(bytes) {
-        return Some(Hint::Compressed { unpacker });
-    }
-    if bytes.starts_with(b"\xef\xbb\xbf") {
-        return Some(Hint::ByteOrderMark);
-    }
-    if bytes.starts_with(b"\xff\xfe") || bytes.starts_with(b"\xfe\xff") {
-        return Some(Hint::Utf16);
-    }
-    if bytes.iter().all(|byte| is_blank(*byte)) {
-        return Some(Hint::Empty);
-    }
-    Brackets::new().cut_of(bytes)
-}
-
-// The program that prints what a compressed file holds.
-fn unpacker_of(bytes: &[u8]) -> Option<&'static str> {
-    if bytes.starts_with(b"\x1f\x8b") {
-        Some("zcat")
-    } else if bytes.starts_with(b"\xfd7zXZ\x00") {
-        Some("xzcat")
-    } else if bytes.starts_with(b"\x28\xb5\x2f\xfd") {
-        Some("zstdcat")
-    } else {
-        None
+// What else may help with a file that ended so.
+fn hint_of_end(file: &Input, end: &FileEnd, counts: &RefusalCounts) -> Option<Hint> {
+    match end {
+        FileEnd::Read { caller, items } => counts.most_of(*caller, *items),
+        FileEnd::Refused { code, .. } if *code == Fault::TooLarge.code() => Some(Hint::TooLarge),
+        FileEnd::Refused { .. } => hint_of_bytes(&file.bytes),
+        _ => None,
     }
 }
 
-fn is_blank(byte: u8) -> bool {
-    matches!(byte, b' ' | b'\t' | b'\r' | b'\n')
-}
-
-// Where a text stands by its brackets and quotes alone.
-#[derive(Clone, Copy)]
-struct Brackets {
-    // How many brackets are open, and behind how many of them elements stand; 0, before the first bracket.
-    depth: usize,
-    base: usize,
-    is_in_string: bool,
-    is_escaped: bool,
-    // Behind how many bytes the last whole element ends.
-    whole: usize,
-}
-
-impl Brackets {
-    fn new() -> Brackets {
-        Brackets {
-            depth: 0,
-            base: 0,
-            is_in_string: false,
-            is_escaped: false,
-            whole: 0,
-        }
-    }
-
-    // Whether the text ends within an element, or within the object around them. An array may lack its own bracket.
-    fn cut_of(mut self, bytes: &[u8]) -> Option<Hint> {
-        for (place, byte) in bytes.iter().enumerate() {
-            self.take(*byte, place);
-        }
-        let may_be_open = if self.base == 1 { 1 } else { 0 };
-        if self.depth > may_be_open || self.is_in_string {
-            Some(Hint::CutOff { whole: self.whole })
-        } else {
-            None
-        }
-    }
-
-    fn take(&mut self, byte: u8, place: usize) {
-        if self.is_escaped {
-            self.is_escaped = false;
-        } else if self.is_in_string {
-            self.is_escaped = byte == b'\\';
-            self.is_in_string = byte != b'"';
-        } else {
-            self.take_outside(byte, place);
-        }
-    }
-
-    // A byte that is in no string.
-    fn take_outside(&mut self, byte: u8, place: usize) {
-        match byte {
-            b'"' => self.is_in_string = true,
-            b'[' | b'{' => {
-                if self.base == 0 {
-                    self.base = if byte == b'[' { 1 } else { 2 };
-                }
-                self.depth = self.depth.saturating_add(1);
-            }
-            b']' | b'}' => {
-                self.depth = self.depth.saturating_sub(1);
-                if self.depth == self.base {
-                    self.whole = place.saturating_add(1);
-                }
-            }
-            _ => {}
-        }
+// Appends what may help with a file, if anything does and there is memory.
+fn push_hint(alloc: Global, hints: &mut Vec<u8>, name: &Text, hint: Option<Hint>)
+    ensures { IsHint hints.old.items → IsHint hints.new.items }
+{
+    let Some(hint) = hint else {
+        return;
+    };
+    if let Ok(line) = hint_line(alloc, name, hint) {
+        let _ = hints.extend_from_slice(line.as_bytes());
     }
 }
 
-/// How many items of each caller each number refused, in a run in this unit.
-#[derive(Drop)]
-pub(crate) struct RefusalCounts {
-    counts: BTreeMap<(u32, u16), u32>,
-    unit: Unit,
+/// The line of a hint for a file.
+pub fn hint_line(alloc: Global, name: &Text, hint: Hint) -> Result<String, AllocError>
+    ensures { IfOk result (λ line. IsHint (string_bytes line)) }
+{
+    let name = json_text(alloc, name)?;
+    let rest = format!(in alloc; "{name}: {hint}\n")?;
+    format!(in alloc; "hint: {rest}")
 }
 
-impl RefusalCounts {
-    pub(crate) fn of(
-        alloc: Global,
-        ledger: &Ledger,
-        unit: Unit,
-    ) -> Result<RefusalCounts, AllocError> {
-        let mut counts = BTreeMap::new(alloc);
-        for position in 0..ledger.len() {
-            if let Some(entry) = ledger.entry(position) {
-                if let Answer::Refused(code) = entry.answer {
-                    let key = (entry.caller, code);
-                    let count = counts.get(&key).copied().unwrap_or(0u32);
-                    counts.insert(key, count.saturating_add(1))?;
-                }
-            }
-        }
-        Ok(RefusalCounts { counts, unit })
-    }
-
-    /// Those of a caller's items whose times may have fractions, if there are any.
-    pub(crate) fn fractions_of(&self, caller: u32, items: u32) -> Option<Hint> {
-        let code = Fault::NotWhole.code();
-        match self.counts.get(&(caller, code)) {
-            Some(count) if self.may_be_fractions(code) => Some(Hint::Refused {
-                count: *count,
-                items,
-                code,
-                remedy: "--nanoseconds reads times with fractions",
-            }),
-            _ => None,
-        }
-    }
-
-    /// The number that refused more than half of a caller's items, if there is one; but for what `fractions_of` gives.
-    pub(crate) fn most_of(&self, caller: u32, items: u32) -> Option<Hint> {
-        for (key, count) in &self.counts {
-            if key.0 == caller && *count > items / 2 && !self.may_be_fractions(key.1) {
-                return Some(Hint::Refused {
-                    count: *count,
-                    items,
-                    code: key.1,
-                    remedy: remedy_of(key.1),
-                });
-            }
-        }
-        None
-    }
-
-    // Nanoseconds refuse no fraction.
-    fn may_be_fractions(&self, code: u16) -> bool {
-        self.unit == Unit::Microseconds && code == Fault::NotWhole.code()
-    }
-}
-
-// What helps where most elements are refused with this number.
-fn remedy_of(code: u16) -> &'static str {
-    match code {
-        16 => "examples/convert_trace.py gives numbers to processes and threads that are strings",
-        19 => "examples/convert_trace.py makes the values of counters whole numbers",
-        21 | 22 | 23 | 24 | 26 => "events count in the order in which they stand",
-        27 => "without --strict an end closes its span whatever its name",
-        _ => "--refused says which is the first",
-    }
-}
-
-impl fmt::Display for Hint {
-    fn fmt<W: fmt::Write>(&self, f: &mut fmt::Formatter<W>) -> fmt::Result {
-        match self {
-            Hint::Compressed { unpacker } => {
-                write!(f, "it is compressed: {unpacker} FILE | tracebook")
-            }
-            Hint::ByteOrderMark => f.write_str(
-                "it begins with a byte order mark: tail -c +4 FILE | tracebook",
-            ),
-            Hint::Utf16 => f.write_str("it is UTF-16: iconv -f UTF-16 -t UTF-8 FILE | tracebook"),
-            Hint::Empty => f.write_str("it is empty"),
-            Hint::CutOff { whole } => write!(
-                f,
-                "it is cut off behind byte {whole}: examples/convert_trace.py --cut keeps the whole elements before that"
-            ),
-            Hint::TooLarge => {
-                f.write_str("a file may have 64 MiB: examples/split_by_process.py splits it")
-            }
-            Hint::Refused {
-                count,
-                items,
-                code,
-                remedy,
-            } => {
-                let word = fault_word(*code).unwrap_or("");
-                write!(
-                    f,
-                    "{count} of {items} elements are refused, {code} {word}: {remedy}"
-                )
-            }
-            Hint::Unreadable(reason) => f.write_str(reason.text()),
-        }
-    }
+/// The hint for more files than a run may have.
+pub fn many_files(alloc: Global) -> Result<String, AllocError>
+    ensures { IfOk result (λ line. IsHint (string_bytes line)) }
+{
+    String::from_str(alloc, MANY_FILES)
 }

@@ -1,9 +1,10 @@
 //! What is said of files and runs that failed, and hints, which say what may help.
 #![tactic(auto)]
 
-mod faults;
 mod hints;
+mod lines;
+mod remedies;
 
-pub use faults::{
-    FAILED, Faults, fail, fail_at, fail_cause, fail_run, fail_stop, put_hints, report_faults, say,
-};
+pub use hints::{hint_line, hints_of, many_files};
+pub use lines::{fault_text, run_line};
+pub use remedies::{Hint, Reason};

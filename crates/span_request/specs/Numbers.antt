@@ -1,6 +1,6 @@
 -- The numbers that rows go by, as a request names them.
 use Rattle.std.specs.Prelude.{Bool, true, false, Option, Some, None}
-use Rattle.span_request.specs.{Of, Async, Spans, By, Closed, Count, Open, Points, SelfTime, Total, declared.views.{ComparisonForm.ComparisonForm, TableForm.{TableForm, TheVariants.{Ranking, Json}}}}
+use Rattle.span_request.specs.{Of, Async, Spans, By, Closed, Count, Open, Points, SelfTime, Total, declared.{tasks.TableText.{TableText, TheVariants.{Changes, Repetitions, Table}}, views.{ComparisonForm.{ComparisonForm, TheVariants.Text}, TableForm.{TableForm, TheVariants.{Json, Ranking}}}}}
 use Rattle.span_request.specs.declared.views.ComparisonForm.TheVariants as changes
 
 -- what is summed has the number, or none is named
@@ -16,11 +16,17 @@ goes_by Async (Some Points) = true
 goes_by of by = false
 
 -- the number that a form names
-abbrev pub named_by : TableForm → Option By
-named_by (Ranking most by) = by
-named_by Json = None
+abbrev pub table_by : TableForm → Option By
+table_by (Ranking most by) = by
+table_by Json = None
 
 -- the same of a form of what changed
-abbrev pub compared_by : ComparisonForm → Option By
-compared_by (changes.Text by) = by
-compared_by changes.Json = None
+abbrev pub changes_by : ComparisonForm → Option By
+changes_by (Text by) = by
+changes_by changes.Json = None
+
+-- the number that a text names
+abbrev pub named_by : TableText → Option By
+named_by (Table form) = table_by form
+named_by (Changes text) = changes_by text.form
+named_by (Repetitions text) = text.by

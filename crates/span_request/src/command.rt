@@ -6,16 +6,13 @@ use crate::columns::{columns_of, labels_of, name_alone, named, of_async, paged, 
 use crate::combinations::{broken_rule, idle_rule, is_any_given};
 use crate::numbers::by_of;
 use crate::options::command_of;
-use crate::tasks::{Apart, Request, Task};
-use crate::views::{
-    ComparisonForm, ComparisonView, PageView, RepeatsForm, RepeatsView, TableForm, TableOptions,
-    TableView, View,
-};
+use crate::tasks::{Apart, Changes, Items, Repetitions, Request, TableText, Tabulation, Task};
+use crate::views::{ComparisonForm, PageView, RepeatsForm, TableForm, TableOptions, View};
 use clap::error::{Error, ErrorKind};
 use clap::{ArgMatches, Command};
 use span_collect::Settings;
 use span_event::{Text, Unit};
-use span_runs::Named;
+use span_runs::{Named, files_of};
 use span_table::{Column, Of};
 use span_table_text::Shown;
 use std::alloc::{AllocError, Global};
@@ -191,90 +188,49 @@ fn task_of(
     settings: Settings,
     options: TableOptions,
 ) -> Result<Task, AllocError> {
-    if matches.contains_id("base") {
-        let base = texts_of(alloc, matches, "base")?;
-        if matches.get_flag("repeats") {
-            return Ok(repeats_task(matches, settings, options, base));
-        }
-        let form = comparison_form(matches);
-        let view = ComparisonView { options, form };
-        return Ok(comparison_task(matches, settings, view, base));
-    }
-    if is_any_given(matches, &["apart", "add"]) {
-        return sum_task(alloc, matches, settings, options);
-    }
-    let view = view_of(alloc, matches, options)?;
-    Ok(Task::Collect { settings, view })
-}
-
-fn sum_task(
-    alloc: Global,
-    matches: &ArgMatches<'_>,
-    settings: Settings,
-    options: TableOptions,
-) -> Result<Task, AllocError> {
     let apart = apart_of(matches, settings);
-    if matches.get_flag("page") {
-        let view = page_view(alloc, matches, options)?;
+    if matches.get_flag("page") && matches.get_flag("apart") {
+        let view = page_view(alloc, options)?;
         return Ok(Task::Pages { apart, view });
     }
-    let form = table_form(matches);
-    let view = TableView { options, form };
-    if matches.get_flag("add") {
-        return Ok(Task::Add { view });
+    if !is_any_given(matches, &["top", "json", "base"]) {
+        let view = view_of(alloc, matches, options)?;
+        return Ok(Task::Collect { settings, view });
     }
-    Ok(Task::Sum { apart, view })
+    Ok(Task::Tabulate(Tabulation {
+        items: items_of(matches, apart),
+        options,
+        text: text_of(alloc, matches)?,
+    }))
 }
 
-fn page_view(
-    alloc: Global,
-    matches: &ArgMatches<'_>,
-    options: TableOptions,
-) -> Result<PageView, AllocError> {
+fn items_of(matches: &ArgMatches<'_>, apart: Apart) -> Items {
+    if matches.get_flag("add") {
+        return Items::Printed;
+    }
+    if is_any_given(matches, &["apart", "repeats"]) {
+        return Items::Apart(apart);
+    }
+    Items::Together(apart.settings)
+}
+
+fn text_of(alloc: Global, matches: &ArgMatches<'_>) -> Result<TableText, AllocError> {
+    if !matches.contains_id("base") {
+        return Ok(TableText::Table(table_form(matches)));
+    }
+    let base = files_of(alloc, texts_of(alloc, matches, "base")?)?;
+    if matches.get_flag("repeats") {
+        let by = by_of(matches);
+        let form = repeats_form(matches);
+        return Ok(TableText::Repetitions(Repetitions { by, form, base }));
+    }
+    let form = comparison_form(matches);
+    Ok(TableText::Changes(Changes { form, base }))
+}
+
+fn page_view(alloc: Global, options: TableOptions) -> Result<PageView, AllocError> {
     let labels = labels_of(alloc, &options.columns)?;
-    let form = table_form(matches);
-    let table = TableView { options, form };
-    Ok(PageView { table, labels })
-}
-
-fn comparison_task(
-    matches: &ArgMatches<'_>,
-    settings: Settings,
-    view: ComparisonView,
-    base: Vec<Text>,
-) -> Task {
-    if matches.get_flag("apart") {
-        let apart = apart_of(matches, settings);
-        return Task::CompareSums { apart, view, base };
-    }
-    if matches.get_flag("add") {
-        return Task::CompareAdded { view, base };
-    }
-    Task::Compare {
-        settings,
-        view,
-        base,
-    }
-}
-
-fn repeats_task(
-    matches: &ArgMatches<'_>,
-    settings: Settings,
-    options: TableOptions,
-    base: Vec<Text>,
-) -> Task {
-    let by = by_of(matches);
-    let form = if matches.get_flag("json") {
-        RepeatsForm::Json
-    } else {
-        RepeatsForm::Text
-    };
-    let view = RepeatsView { options, by, form };
-    if matches.get_flag("add") {
-        return Task::RepeatAdded { view, base };
-    }
-    let apart = apart_of(matches, settings);
-    Task::Repeat { apart, view, base }
+    Ok(PageView { options, labels })
 }
 
 fn apart_of(matches: &ArgMatches<'_>, settings: Settings) -> Apart {
@@ -288,10 +244,6 @@ fn view_of(
     matches: &ArgMatches<'_>,
     options: TableOptions,
 ) -> Result<View, AllocError> {
-    if matches.contains_id("top") || matches.get_flag("json") {
-        let form = table_form(matches);
-        return Ok(View::Table(TableView { options, form }));
-    }
     if matches.get_flag("refused") {
         return Ok(View::Refusals);
     }
@@ -299,7 +251,7 @@ fn view_of(
         return Ok(View::Folded(labels_of(alloc, &options.columns)?));
     }
     if matches.get_flag("page") {
-        return Ok(View::Page(page_view(alloc, matches, options)?));
+        return Ok(View::Page(page_view(alloc, options)?));
     }
     Ok(View::Report)
 }
@@ -320,6 +272,14 @@ fn comparison_form(matches: &ArgMatches<'_>) -> ComparisonForm {
     }
     let by = by_of(matches);
     ComparisonForm::Text { by }
+}
+
+fn repeats_form(matches: &ArgMatches<'_>) -> RepeatsForm {
+    if matches.get_flag("json") {
+        RepeatsForm::Json
+    } else {
+        RepeatsForm::Text
+    }
 }
 
 // The values of an argument that may be given several times.

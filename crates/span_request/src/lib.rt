@@ -11,8 +11,5 @@ mod views;
 
 pub use command::request_of;
 pub use numbers::goes_by;
-pub use tasks::{Apart, Request, Task};
-pub use views::{
-    ComparisonForm, ComparisonView, PageView, RepeatsForm, RepeatsView, TableForm, TableOptions,
-    TableView, View,
-};
+pub use tasks::{Apart, Changes, Items, Repetitions, Request, TableText, Tabulation, Task};
+pub use views::{ComparisonForm, PageView, RepeatsForm, TableForm, TableOptions, View};

@@ -1,14 +1,16 @@
 //! What a command line asks for.
+ghost use Rattle.std.specs.Prelude.{◌≡◌};
+ghost use Rattle.span_request.specs.Numbers.{named_by};
 
-use crate::views::{ComparisonView, PageView, RepeatsView, TableView, View};
+use crate::views::{ComparisonForm, PageView, RepeatsForm, TableForm, TableOptions, View};
 use span_collect::Settings;
-use span_event::Text;
-use span_runs::Named;
+use span_runs::{Name, Named};
+use span_table::By;
 
 /// What a command line asks for.
 #[derive(Drop)]
 pub enum Request {
-    /// Do this with these files, or with standard input where none are named.
+    /// Do this with what is named.
     Run { task: Task, files: Named },
     /// Print this help, or the version.
     Show(String),
@@ -16,56 +18,34 @@ pub enum Request {
     Refuse(String),
 }
 
-/// What is done with files.
+/// What is done with what is named.
 #[derive(Drop)]
 pub enum Task {
-    /// Collect them, and print this of them.
-    Collect {
-        settings: Settings,
-        view: View,
-    },
-    /// Collect the base files as one run and the others as another, and print this of what changed.
-    Compare {
-        settings: Settings,
-        view: ComparisonView,
-        base: Vec<Text>,
-    },
-    /// Collect each of them as a run of its own, and print this of their sum.
-    Sum {
-        apart: Apart,
-        view: TableView,
-    },
-    /// Collect each of them as a run of its own, and print a page of them.
-    Pages {
-        apart: Apart,
-        view: PageView,
-    },
-    /// Sum the base files so, and the others, and print this of what changed.
-    CompareSums {
-        apart: Apart,
-        view: ComparisonView,
-        base: Vec<Text>,
-    },
-    /// Collect each base file as a run of its own, and each of the others, and print how the numbers of both sides are spread.
-    Repeat {
-        apart: Apart,
-        view: RepeatsView,
-        base: Vec<Text>,
-    },
-    /// Add them, each of which is a table that was printed, and print this of their sum.
-    Add {
-        view: TableView,
-    },
-    /// Add the base files so, and the others, and print this of what changed.
-    CompareAdded {
-        view: ComparisonView,
-        base: Vec<Text>,
-    },
-    /// Take each base file as the table of one run, and each of the others, and print how the numbers of both sides are spread.
-    RepeatAdded {
-        view: RepeatsView,
-        base: Vec<Text>,
-    },
+    /// Collect all as one run, and print this of it.
+    Collect { settings: Settings, view: View },
+    /// Collect each as a run of its own, and print a page of them.
+    Pages { apart: Apart, view: PageView },
+    /// Gather tables, and print this of them.
+    Tabulate(Tabulation),
+}
+
+/// Tables, and the text that is made of them.
+#[derive(Drop)]
+pub struct Tabulation {
+    pub items: Items,
+    pub options: TableOptions,
+    pub text: TableText,
+}
+
+/// What tables are gathered of.
+#[derive(Clone, Copy)]
+pub enum Items {
+    /// All that is named is one run.
+    Together(Settings),
+    /// Each is a run of its own.
+    Apart(Apart),
+    /// Each is a table that was printed.
+    Printed,
 }
 
 /// How files are collected that are runs of their own: in so many jobs at once, or one for each processor that the system grants.
@@ -73,4 +53,42 @@ pub enum Task {
 pub struct Apart {
     pub settings: Settings,
     pub jobs: Option<u32>,
+}
+
+/// The text that is made of tables.
+#[derive(Drop)]
+pub enum TableText {
+    /// One table.
+    Table(TableForm),
+    Changes(Changes),
+    Repetitions(Repetitions),
+}
+
+/// What changed since the base's files.
+#[derive(Drop)]
+pub struct Changes {
+    pub form: ComparisonForm,
+    pub base: Vec<Name>,
+}
+
+/// How the numbers of repeated runs are spread, of the base's files and of the others: by this number, or the usual one of what is
+/// summed.
+#[derive(Drop)]
+pub struct Repetitions {
+    pub by: Option<By>,
+    pub form: RepeatsForm,
+    pub base: Vec<Name>,
+}
+
+impl TableText {
+    /// The number that is named.
+    pub fn by(&self) -> Option<By>
+        ensures { result ≡ named_by self.now }
+    {
+        match self {
+            TableText::Table(form) => form.by(),
+            TableText::Changes(changes) => changes.form.by(),
+            TableText::Repetitions(repetitions) => repetitions.by,
+        }
+    }
 }

@@ -1,17 +1,15 @@
 //! What is printed of what was collected, or added.
 ghost use Rattle.std.specs.Prelude.{◌≡◌};
-ghost use Rattle.span_request.specs.Numbers.{compared_by, named_by};
+ghost use Rattle.span_request.specs.Numbers.{changes_by, table_by};
 
 use span_report::stacks::SpanColumn;
 use span_table::{By, Column, Of};
 use span_table_text::Shown;
 
-/// What is printed of what was collected.
+/// What is printed of one run, beside its table.
 #[derive(Drop)]
 pub enum View {
     Report,
-    /// A table of the run.
-    Table(TableView),
     /// Which items of each file were refused.
     Refusals,
     /// The folded stacks of each thread, whose frames are labels by these columns.
@@ -20,10 +18,10 @@ pub enum View {
     Page(PageView),
 }
 
-/// What a page shows of spans: a table of the run, and frames that are labels by these columns.
+/// What a page shows of spans: a table of the run, as rows for other programs, and frames that are labels by these columns.
 #[derive(Drop)]
 pub struct PageView {
-    pub table: TableView,
+    pub options: TableOptions,
     pub labels: Vec<SpanColumn>,
 }
 
@@ -48,20 +46,13 @@ pub enum TableForm {
 impl TableForm {
     /// The number that is named.
     pub fn by(self) -> Option<By>
-        ensures { result ≡ named_by self }
+        ensures { result ≡ table_by self }
     {
         match self {
             TableForm::Ranking { most: _, by } => by,
             TableForm::Json => None,
         }
     }
-}
-
-/// What is printed of a table.
-#[derive(Drop)]
-pub struct TableView {
-    pub options: TableOptions,
-    pub form: TableForm,
 }
 
 /// How a comparison is printed.
@@ -76,20 +67,13 @@ pub enum ComparisonForm {
 impl ComparisonForm {
     /// The number that is named.
     pub fn by(self) -> Option<By>
-        ensures { result ≡ compared_by self }
+        ensures { result ≡ changes_by self }
     {
         match self {
             ComparisonForm::Text { by } => by,
             ComparisonForm::Json => None,
         }
     }
-}
-
-/// What is printed of what changed between two runs, or sums of runs: which rows of their tables, and how.
-#[derive(Drop)]
-pub struct ComparisonView {
-    pub options: TableOptions,
-    pub form: ComparisonForm,
 }
 
 /// How repeated runs are printed.
@@ -99,12 +83,4 @@ pub enum RepeatsForm {
     Text,
     /// For other programs: the values of each key.
     Json,
-}
-
-/// What is printed of repeated runs: which rows of their tables, by which number, or the usual one of what is summed, and how.
-#[derive(Drop)]
-pub struct RepeatsView {
-    pub options: TableOptions,
-    pub by: Option<By>,
-    pub form: RepeatsForm,
 }

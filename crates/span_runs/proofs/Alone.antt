@@ -1,7 +1,7 @@
 -- What was collected of one file alone.
-use Rattle.std.proofs.{Common.{◌≡◌, ℕ, ◌<◌, List, [], ◌∷◌, ◌++◌, length, Option, refl, ap, append-nil, ◌∙◌}, lemmas.Slice.Zip.AllZip-long}
+use Rattle.std.proofs.{Common.{◌≡◌, ◌<◌, List, [], ◌∷◌, ◌++◌, length, ap, append-nil, ◌∙◌}, lemmas.Slice.Zip.AllZip-long}
 use Rattle.span_collect.proofs.{InTurn.Accounted.end_lines-in_turn, OneFile.AreSeparate-one}
-use Rattle.span_runs.specs.{Bytes, doc, Entry, FileEnd, Input, Asked, Sealing, Settings, EndsAs, end_lines, status_of, SealedAccount, Run, AreAlikeRuns, Apart.{AddsFile, IsAccounted, IsFileRun, refusal_line, run_alone, run_of}, Gathering.TakesAlike, Runs.run_of_files, declared.{file_run.FileRun.FileRun, gathered.Gathered.Gathered}}
+use Rattle.span_runs.specs.{Bytes, doc, Entry, FileEnd, Input, Asked, Sealing, Settings, EndsAs, end_lines, status_of, SealedAccount, Run, AreAlikeRuns, Apart.{AddsFile, IsAccounted, IsFileRun, refusal_line, run_alone, run_of}, Gathering.TakesAlike, Runs.run_of_files, Source.SourceBytes, declared.{file_run.FileRun.FileRun, gathered.Gathered.Gathered, source.Name.Name}}
 use Rattle.span_runs.proofs.InTurn.{AreAlikeRuns-in_turn}
 
 -- one file has one end
@@ -32,15 +32,14 @@ module _ (file : Input) (settings : Settings) (ends : List FileEnd) (asked : Ask
   end_lines-alone = end_lines-in_turn (file ∷ []) [] settings ends asked sealing journal account (AreSeparate-one settings.unit file) below ∙ append-nil (refusal_line settings.unit file)
 
 -- what takes the run of a file, and its lines, has the file
-abbrev pub AddsFile-run : {T : Type 0} (known : List ℕ → Option (List ℕ)) (name : List ℕ) (settings : Settings) (ComeTo : List Run → T → Type 0) (run : FileRun) (old new : Gathered T) → IsFileRun known name settings run →
+abbrev pub AddsFile-run : {T : Type 0} (source : SourceBytes) (name : Name) (settings : Settings) (ComeTo : List Run → T → Type 0) (run : FileRun) (old new : Gathered T) → IsFileRun source name settings run →
     TakesAlike ComeTo old.runs (run_of run) new.runs →
-    new.lines.items ≡ old.lines.items ++ end_lines (run.file ∷ []) run.collected.end.ends.items → AddsFile known name settings ComeTo old new
-AddsFile-run known name settings ComeTo run old new is takes more =
+    new.lines.items ≡ old.lines.items ++ end_lines (run.file ∷ []) run.collected.end.ends.items → AddsFile source name settings ComeTo old new
+AddsFile-run source name settings ComeTo run old new is takes more =
     let end = run.collected.end in
     let journal = run.collected.ledger.journal in record {
       file = run.file;
-      named = is.named;
-      held = is.held;
+      read = is.read;
       accounted = IsAccounted-alone run.file settings end.ends.items end.asked end.sealing journal is.account is.status;
       runs = λ runs. takes runs (run_alone settings run.file) (AreAlikeRuns-alone run.file settings end.ends.items end.asked end.sealing journal is.account is.status);
       lines = more ∙ ap (λ (line : Bytes). old.lines.items ++ line) (end_lines-alone run.file settings end.ends.items end.asked end.sealing journal is.account is.status);

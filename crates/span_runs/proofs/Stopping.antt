@@ -1,102 +1,115 @@
--- What stopped among files, with more files after them or before them.
-use Rattle.std.proofs.{Common.{◌≡◌, ℕ, suc, ◌<◌, List, [], ◌∷◌, ◌++◌, length, take, drop, Option, inl, inr, refl, ap, ap₂, sym, subst, ◌∙◌, append_assoc}, Math.{ListN.get_or, Seq.drop-cons}, lemmas.{Grind.flat_map-append, List.{take-append-drop, Elements.{All-append, All-nil}}}}
-use Rattle.span_runs.specs.{Bytes, Settings, Run as TableRun, Apart.{AreGathered, IsAccounted, refusal_line}, Inputs.most_read, Source.AreFirst, Stops.{ComesAfter, HaltsAfter, HaltsAmong, IsCut, IsOfSum, IsStopOfSum, IsUnread, SaysCut, StopsAmong, StopsAt, StopsBefore}, declared.stop.{Halt.{Halt, TheVariants.{Stopped, GaveUp}}, Stop.Stop, StopCause.{StopCause, TheVariants.{NotOpened, Memory, Run, Cut, TooMany}}}}
-use Rattle.span_runs.proofs.GatheredFiles.{AreFiles-append}
+-- What is said where something stopped among files, with more files after them or before them.
+use Rattle.std.specs.Prelude.{flat_map}
+use Rattle.std.proofs.{Common.{◌≡◌, ℕ, suc, ◌+◌, ◌<◌, ◌≤◌, ◌^◌, ◌⊎◌, List, [], ◌∷◌, ◌++◌, length, map, take, drop, inl, inr, refl, ap, sym, subst, ◌∙◌, append_assoc, arith}, Math.{ListN.get_or, Seq.drop-cons}, lemmas.{Grind.flat_map-append, List.{length-append, take-append-drop, Elements.All-append}}}
+use Rattle.span_runs.specs.{Bytes, FileCount, number_of, IsHint, run_line, Settings, Run, Apart.{GathersFiles, IsAccounted, refusal_line, run_alone}, Source.SourceBytes, Stops.{HaltsAfter, IsHinted, OfStop, StopsAfter, StopsAmong, StopsAtFirst}, declared.{gathered.Gathered.Gathered, source.Name.Name, stop.Halt.{Halt, TheVariants.{Stopped, Memory}}}}
+use Rattle.span_runs.proofs.GatheredFiles.{AreInputs-append, length-gathered}
 
-module _ (known : Bytes → Option Bytes) (settings : Settings) where
-  -- what has no file of its own may stop before any files
-  pub StopsBefore-of_sum : (later : List Bytes) (cause : StopCause) → IsOfSum cause → StopsBefore known settings later cause
-  StopsBefore-of_sum [] cause of_sum = of_sum
-  StopsBefore-of_sum (name ∷ later) (NotOpened named reason) of_sum = absurd of_sum
-  StopsBefore-of_sum (name ∷ later) Memory of_sum = tt
-  StopsBefore-of_sum (name ∷ later) (Run error) of_sum = absurd of_sum
-  StopsBefore-of_sum (name ∷ later) (Cut lines) of_sum = absurd of_sum
-  StopsBefore-of_sum (name ∷ later) TooMany of_sum = tt
+-- what is said means more
+pub OfStop-weaker : (Says Other : Bytes → Type 0) → ((lines : Bytes) → Says lines → Other lines) → (halt : Halt) → OfStop Says halt → OfStop Other halt
+OfStop-weaker Says Other weaker (Stopped stop) says = (weaker stop.lines.items says.0, says.1)
+OfStop-weaker Says Other weaker Memory says = tt
 
-  -- a file whose run ended with 2 stops at itself
-  pub StopsAt-cut : (name lines : Bytes) (cause : StopCause) → IsCut known settings name lines → SaysCut lines cause → StopsAt known settings name cause
-  StopsAt-cut name lines (NotOpened named reason) cut says = absurd says
-  StopsAt-cut name lines Memory cut says = tt
-  StopsAt-cut name lines (Run error) cut says = absurd says
-  StopsAt-cut name lines (Cut own) cut says = subst (IsCut known settings name) (sym says) cut
-  StopsAt-cut name lines TooMany cut says = absurd says
+-- lines before it mean more
+pub OfStop-after : (Says Other : Bytes → Type 0) (lines : Bytes) → ((own : Bytes) → Says own → Other (lines ++ own)) → (old new : Halt) → HaltsAfter lines old new → OfStop Says old → OfStop Other new
+OfStop-after Says Other lines weaker (Stopped old) (Stopped new) after says = (subst Other (sym after.0) (weaker old.lines.items says.0), subst IsHint (sym (ap (λ hints. hints.items) after.1)) says.1)
+OfStop-after Says Other lines weaker (Stopped old) Memory after says = tt
+OfStop-after Says Other lines weaker Memory (Stopped new) after says = absurd after
+OfStop-after Says Other lines weaker Memory Memory after says = tt
 
-  StopsBefore-append : (later more : List Bytes) (cause : StopCause) → StopsBefore known settings later cause → StopsBefore known settings (later ++ more) cause
-  StopsBefore-append [] more cause stops = StopsBefore-of_sum more cause stops
-  StopsBefore-append (name ∷ later) more cause stops = stops
+-- a hint changes nothing of what is said
+pub OfStop-hinted : (Says : Bytes → Type 0) → (old new : Halt) → IsHinted old new → OfStop Says old → OfStop Says new
+OfStop-hinted Says (Stopped old) (Stopped new) hinted says = (subst (λ lines. Says lines.items) (sym hinted.0) says.0, hinted.1 says.1)
+OfStop-hinted Says (Stopped old) Memory hinted says = tt
+OfStop-hinted Says Memory (Stopped new) hinted says = absurd hinted
+OfStop-hinted Says Memory Memory hinted says = tt
 
-  -- before the first of them
-  pub StopsAmong-first : (names : List Bytes) (stop : Stop) → IsStopOfSum [] stop → StopsAmong known settings names stop
-  StopsAmong-first names stop of_sum = record {
-    done = [];
-    later = names;
-    split = refl;
-    files = [];
-    read = record { named = refl; held = All-nil (λ input. AreFirst most_read (known input.name) input.bytes.items) };
-    accounted = All-nil (IsAccounted settings);
-    said = of_sum.0;
-    cause = StopsBefore-of_sum names stop.cause of_sum.1;
-  }
+module _ (source : SourceBytes) (settings : Settings) where
+  -- this stops at the first of these files, or there are too many of all
+  abbrev Causes : List Name → List Name → Bytes → Type 0
+  Causes names later own = StopsAtFirst source settings later own ⊎ ((2 ^ 32 ≤ length names) × (own ≡ run_line (number_of FileCount)))
 
   -- behind files that were gathered
-  pub StopsAmong-behind : (done later : List Bytes) (ComeTo : List TableRun → Type 0) (lines : Bytes) (stop : Stop) → AreGathered known done settings ComeTo lines →
-      stop.lines.items ≡ lines → StopsBefore known settings later stop.cause → StopsAmong known settings (done ++ later) stop
-  StopsAmong-behind done later ComeTo lines stop summed same cause = record {
+  StopsAmong-behind : {T : Type 0} (done later : List Name) (ComeTo : List Run → T → Type 0) (old : Gathered T) (own lines : Bytes) → GathersFiles source done settings ComeTo old → lines ≡ old.lines.items ++ own →
+      Causes (done ++ later) later own → StopsAmong source settings (done ++ later) lines
+  StopsAmong-behind done later ComeTo old own lines gathered same cause = record {
     done = done;
     later = later;
     split = refl;
-    files = summed.files;
-    read = summed.read;
-    accounted = summed.accounted;
-    said = same ∙ summed.said;
+    files = gathered.files;
+    read = gathered.read;
+    accounted = gathered.accounted;
+    own = own;
+    said = same ∙ ap (λ (before : Bytes). before ++ own) gathered.said;
     cause = cause;
   }
 
-  -- at the file of this place
-  pub StopsAmong-at : (names : List Bytes) (place : ℕ) (name : Bytes) (ComeTo : List TableRun → Type 0) (lines : Bytes) (stop : Stop) → place < length names →
-      name ≡ get_or names place name → AreGathered known (take place names) settings ComeTo lines → stop.lines.items ≡ lines → StopsAt known settings name stop.cause →
-      StopsAmong known settings names stop
-  StopsAmong-at names place name ComeTo lines stop low is summed same cause =
-      subst (λ (ns : List Bytes). StopsAmong known settings ns stop)
-      (ap (λ n. take place names ++ n ∷ drop (suc place) names) is ∙ ap (λ (ns : List Bytes). take place names ++ ns) (sym (drop-cons names place name low)) ∙ take-append-drop place names)
-      (StopsAmong-behind (take place names) (name ∷ drop (suc place) names) ComeTo lines stop summed same cause)
+  -- at the file of this place, which was not added to those before it
+  pub StopsAmong-at : {T : Type 0} (names : List Name) (place : ℕ) (name : Name) (ComeTo : List Run → T → Type 0) (old : Gathered T) → place < length names → name ≡ get_or names place name →
+      GathersFiles source (take place names) settings ComeTo old → (lines : Bytes) →
+      StopsAfter source name settings ComeTo old lines → StopsAmong source settings names lines
+  StopsAmong-at names place name ComeTo old low is gathered lines stops = subst (λ (ns : List Name). StopsAmong source settings ns lines) all (by_cause stops)
+    where
+      all : take place names ++ name ∷ drop (suc place) names ≡ names
+      all = ap (λ n. take place names ++ n ∷ drop (suc place) names) is ∙ ap (λ (ns : List Name). take place names ++ ns) (sym (drop-cons names place name low)) ∙ take-append-drop place names
+
+      by_cause : StopsAfter source name settings ComeTo old lines → StopsAmong source settings (take place names ++ name ∷ drop (suc place) names) lines
+      by_cause (inl (own, stops, same)) = StopsAmong-behind (take place names) (name ∷ drop (suc place) names) ComeTo old own lines gathered same (inl stops)
+      by_cause (inr (same, many)) =
+          let runs = map (run_alone settings) gathered.files in
+          let least : 2 ^ 32 ≤ length runs + 1 = many runs gathered.runs in
+          let counted : length runs ≡ length (take place names) = length-gathered source (take place names) settings gathered.files gathered.read in
+          let long : length (take place names ++ name ∷ drop (suc place) names) ≡ length (take place names) + length (name ∷ drop (suc place) names) = length-append (take place names) (name ∷ drop (suc place) names) in
+          StopsAmong-behind (take place names) (name ∷ drop (suc place) names) ComeTo old (run_line (number_of FileCount)) lines gathered same (inr (omega arith, refl))
+
+  -- where the runs of two groups of files are too many to be joined
+  pub StopsAmong-joined : {T : Type 0} (names more : List Name) (ComeTo : List Run → T → Type 0) (first second : Gathered T) → GathersFiles source names settings ComeTo first → GathersFiles source more settings ComeTo second →
+      (lines : Bytes) → lines ≡ first.lines.items ++ run_line (number_of FileCount) → ((runs others : List Run) → ComeTo runs first.runs → ComeTo others second.runs → 2 ^ 32 ≤ length runs + length others) →
+      StopsAmong source settings (names ++ more) lines
+  StopsAmong-joined names more ComeTo first second one other lines same many =
+      let runs = map (run_alone settings) one.files in
+      let others = map (run_alone settings) other.files in
+      let least : 2 ^ 32 ≤ length runs + length others = many runs others one.runs other.runs in
+      let counted : length runs ≡ length names = length-gathered source names settings one.files one.read in
+      let counted_others : length others ≡ length more = length-gathered source more settings other.files other.read in
+      let long : length (names ++ more) ≡ length names + length more = length-append names more in
+      StopsAmong-behind names more ComeTo first (run_line (number_of FileCount)) lines one same (inr (omega arith, refl))
+
+  Causes-append : (names later more : List Name) (own : Bytes) → Causes names later own → Causes (names ++ more) (later ++ more) own
+  Causes-append names [] more own (inl stops) = absurd stops
+  Causes-append names (name ∷ later) more own (inl stops) = inl stops
+  Causes-append names later more own (inr (many, is)) = inr (omega (arith, length-append names more), is)
 
   -- with more files after them
-  StopsAmong-append : (names more : List Bytes) (stop : Stop) → StopsAmong known settings names stop → StopsAmong known settings (names ++ more) stop
-  StopsAmong-append names more stop stops = record {
+  pub StopsAmong-append : (names more : List Name) (lines : Bytes) → StopsAmong source settings names lines → StopsAmong source settings (names ++ more) lines
+  StopsAmong-append names more lines stops = record {
     done = stops.done;
     later = stops.later ++ more;
-    split = ap (λ (ns : List Bytes). ns ++ more) stops.split ∙ append_assoc stops.done stops.later more;
+    split = ap (λ (ns : List Name). ns ++ more) stops.split ∙ append_assoc stops.done stops.later more;
     files = stops.files;
     read = stops.read;
     accounted = stops.accounted;
+    own = stops.own;
     said = stops.said;
-    cause = StopsBefore-append stops.later more stop.cause stops.cause;
+    cause = Causes-append names stops.later more stops.own stops.cause;
   }
 
-  pub HaltsAmong-append : (names more : List Bytes) (halt : Halt) → HaltsAmong known settings names halt → HaltsAmong known settings (names ++ more) halt
-  HaltsAmong-append names more (Stopped stop) stops = StopsAmong-append names more stop stops
-  HaltsAmong-append names more GaveUp stops = tt
+  Causes-after : (names more later : List Name) (own : Bytes) → Causes more later own → Causes (names ++ more) later own
+  Causes-after names more later own (inl stops) = inl stops
+  Causes-after names more later own (inr (many, is)) = inr (omega (arith, length-append names more), is)
 
   -- with files before them that were gathered
-  StopsAmong-after : (names more : List Bytes) (ComeTo : List TableRun → Type 0) (lines : Bytes) (old new : Stop) → AreGathered known names settings ComeTo lines →
-      StopsAmong known settings more old → ComesAfter lines old new → StopsAmong known settings (names ++ more) new
-  StopsAmong-after names more ComeTo lines old new summed stops (inl (behind, cause)) = record {
+  pub StopsAmong-after : {T : Type 0} (names more : List Name) (ComeTo : List Run → T → Type 0) (first : Gathered T) → GathersFiles source names settings ComeTo first → (lines : Bytes) →
+      StopsAmong source settings more lines → StopsAmong source settings (names ++ more) (first.lines.items ++ lines)
+  StopsAmong-after names more ComeTo first gathered lines stops = record {
     done = names ++ stops.done;
     later = stops.later;
-    split = ap (λ (ns : List Bytes). names ++ ns) stops.split ∙ sym (append_assoc names stops.done stops.later);
-    files = summed.files ++ stops.files;
-    read = AreFiles-append known names stops.done summed.files stops.files summed.read stops.read;
-    accounted = All-append (IsAccounted settings) summed.files stops.files summed.accounted stops.accounted;
-    said = behind ∙ ap₂ (λ (xs ys : Bytes). xs ++ ys) summed.said stops.said ∙ sym (flat_map-append (refusal_line settings.unit) summed.files stops.files);
-    cause = rw cause stops.cause;
+    split = ap (λ (ns : List Name). names ++ ns) stops.split ∙ sym (append_assoc names stops.done stops.later);
+    files = gathered.files ++ stops.files;
+    read = AreInputs-append source names stops.done gathered.files stops.files gathered.read stops.read;
+    accounted = All-append (IsAccounted settings) gathered.files stops.files gathered.accounted stops.accounted;
+    own = stops.own;
+    said =
+        (λ i. gathered.said i ++ stops.said i) ∙ sym (append_assoc (flat_map (refusal_line settings.unit) gathered.files) (flat_map (refusal_line settings.unit) stops.files) stops.own)
+        ∙ ap (λ (before : Bytes). before ++ stops.own) (sym (flat_map-append (refusal_line settings.unit) gathered.files stops.files));
+    cause = Causes-after names more stops.later stops.own stops.cause;
   }
-  StopsAmong-after names more ComeTo lines old new summed stops (inr of_sum) =
-      StopsAmong-behind names more ComeTo lines new summed of_sum.0 (StopsBefore-of_sum more new.cause of_sum.1)
-
-  pub HaltsAmong-after : (names more : List Bytes) (ComeTo : List TableRun → Type 0) (lines : Bytes) (old new : Halt) → AreGathered known names settings ComeTo lines →
-      HaltsAmong known settings more old → HaltsAfter lines old new → HaltsAmong known settings (names ++ more) new
-  HaltsAmong-after names more ComeTo lines (Stopped old) (Stopped new) summed stops after = StopsAmong-after names more ComeTo lines old new summed stops after
-  HaltsAmong-after names more ComeTo lines (Stopped old) GaveUp summed stops after = absurd after
-  HaltsAmong-after names more ComeTo lines GaveUp (Stopped new) summed stops after = absurd after
-  HaltsAmong-after names more ComeTo lines GaveUp GaveUp summed stops after = tt

@@ -1,6 +1,6 @@
 -- Files each of which is a run of its own, gathered.
-use Rattle.std.specs.Prelude.{◌≡◌, ℕ, ◌<◌, List, [], ◌∷◌, ◌++◌, length, map, flat_map, All, Option}
-use Rattle.span_runs.specs.{Bytes, Entry, Unit, doc, FileEnd, Input, Asked, Sealing, Settings, end_line, end_by, status_of, SealedAccount, Run, AreAlikeRuns, Inputs.{AreFiles, most_read}, Runs.{run_in_turn, run_of_files}, Source.AreFirst, declared.{file_run.FileRun.FileRun, gathered.Gathered.Gathered}}
+use Rattle.std.specs.Prelude.{◌≡◌, ◌<◌, List, [], ◌∷◌, ◌++◌, length, map, flat_map, All}
+use Rattle.span_runs.specs.{Bytes, Entry, Unit, doc, FileEnd, Input, Asked, Sealing, Settings, end_line, end_by, status_of, SealedAccount, Run, AreAlikeRuns, Inputs.{AreInputs, IsInput}, Runs.{run_in_turn, run_of_files}, Source.SourceBytes, declared.{file_run.FileRun.FileRun, gathered.Gathered.Gathered, source.Name.Name}}
 
 -- the run of a file alone
 abbrev pub run_alone : Settings → Input → Run
@@ -18,9 +18,8 @@ pub record IsAccounted (settings : Settings) (file : Input) : Type 0 where
   pub alike : AreAlikeRuns (run_of_files (file ∷ []) ends journal) (run_alone settings file)
 
 -- The file of this name was read and collected alone, and its run ended, not with 2.
-pub record IsFileRun (known : List ℕ → Option (List ℕ)) (name : List ℕ) (settings : Settings) (run : FileRun) : Type 0 where
-  pub named : run.file.name ≡ name
-  pub held : AreFirst most_read (known name) run.file.bytes.items
+pub record IsFileRun (source : SourceBytes) (name : Name) (settings : Settings) (run : FileRun) : Type 0 where
+  pub read : IsInput source name run.file
   pub account : SealedAccount (run.file ∷ []) [] settings run.collected.end.ends.items run.collected.end.asked run.collected.end.sealing run.collected.ledger.journal
   pub status : status_of run.collected.end.ends.items run.collected.end.asked run.collected.end.sealing < 2
   pub one : length run.collected.end.ends.items ≡ 1
@@ -35,22 +34,21 @@ refusal_line unit file = end_line file.name (end_by 1 (doc unit file.bytes.items
 
 -- Each of the files of these names was collected alone; this is what the runs come to, and the lines are those of the files that are no trace,
 -- both in the files' order.
-pub record AreGathered (known : List ℕ → Option (List ℕ)) (names : List (List ℕ)) (settings : Settings) (ComeTo : List Run → Type 0) (lines : Bytes) : Type 0 where
+pub record AreGathered (source : SourceBytes) (names : List Name) (settings : Settings) (ComeTo : List Run → Type 0) (lines : Bytes) : Type 0 where
   pub files : List Input
-  pub read : AreFiles known names files
+  pub read : AreInputs source names files
   pub accounted : All (IsAccounted settings) files
   pub runs : ComeTo (map (run_alone settings) files)
   pub said : lines ≡ flat_map (refusal_line settings.unit) files
 
 -- this is what files of these names come to
-abbrev pub GathersFiles : {T : Type 0} → (List ℕ → Option (List ℕ)) → List (List ℕ) → Settings → (List Run → T → Type 0) → Gathered T → Type 0
-GathersFiles known names settings ComeTo gathered = AreGathered known names settings (λ runs. ComeTo runs gathered.runs) gathered.lines.items
+abbrev pub GathersFiles : {T : Type 0} → SourceBytes → List Name → Settings → (List Run → T → Type 0) → Gathered T → Type 0
+GathersFiles source names settings ComeTo gathered = AreGathered source names settings (λ runs. ComeTo runs gathered.runs) gathered.lines.items
 
 -- one more file is gathered
-pub record AddsFile {T : Type 0} (known : List ℕ → Option (List ℕ)) (name : List ℕ) (settings : Settings) (ComeTo : List Run → T → Type 0) (old new : Gathered T) : Type 0 where
+pub record AddsFile {T : Type 0} (source : SourceBytes) (name : Name) (settings : Settings) (ComeTo : List Run → T → Type 0) (old new : Gathered T) : Type 0 where
   pub file : Input
-  pub named : file.name ≡ name
-  pub held : AreFirst most_read (known name) file.bytes.items
+  pub read : IsInput source name file
   pub accounted : IsAccounted settings file
   pub runs : (runs : List Run) → ComeTo runs old.runs → ComeTo (runs ++ run_alone settings file ∷ []) new.runs
   pub lines : new.lines.items ≡ old.lines.items ++ refusal_line settings.unit file

@@ -1,6 +1,6 @@
 -- The files that a command line names.
-use Rattle.std.specs.{List.{list_any, slice_split}, Prelude.{◌≡◌, ◌<◌, ℕ, ◌==◌, if◌then◌else◌, Bool, true, false, List, [], ◌∷◌, ◌++◌, filter, length, Option, Some, None, codes}, Str.bytes_eq}
-use Rattle.span_runs.specs.{Bytes, Source.{AreFirst, SourceBytes}, declared.names.Named.Named}
+use Rattle.std.specs.{List.{list_any, slice_split}, Prelude.{◌≡◌, ◌<◌, ◌⊎◌, ℕ, ◌==◌, if◌then◌else◌, Bool, true, false, List, [], ◌∷◌, ◌++◌, filter, length, map, Option, Some, None, codes}, Str.bytes_eq}
+use Rattle.span_runs.specs.{Bytes, FileCount, number_of, run_line, unread_line, Source.{AreFirst, SourceBytes}, declared.{names.Named.Named, source.Name.{Name, TheVariants.{Standard, File}}}}
 
 -- the most bytes that are read of a list
 abbrev pub most_listed : ℕ
@@ -18,21 +18,39 @@ is_name (byte ∷ name) = true
 abbrev pub names_in : Bytes → List Bytes
 names_in bytes = filter is_name (slice_split (λ byte. byte == separator_of bytes) bytes)
 
--- what is known of the bytes of a list: `-` is standard input
-abbrev pub bytes_of_list : SourceBytes → Bytes → Option Bytes
-bytes_of_list source list = if bytes_eq list (codes "-") then source.standard else source.file list
+-- what a list stands for: `-` is standard input
+abbrev pub name_of_list : Bytes → Name
+name_of_list list = if bytes_eq list (codes "-") then Standard else File list
 
--- these names, and those of a list behind them, which are some together
-pub record AreListed (source : SourceBytes) (list : Bytes) (given names : List Bytes) : Type 0 where
+abbrev pub files_of : List Bytes → List Name
+files_of names = map (λ name. File name) names
+
+-- the bytes of a list were read, and the names are these and those in it
+pub record IsListRead (source : SourceBytes) (list : Bytes) (given names : List Bytes) : Type 0 where
   pub bytes : Bytes
-  pub read : AreFirst most_listed (bytes_of_list source list) bytes
+  pub read : AreFirst most_listed (source (name_of_list list)) bytes
   pub all : names ≡ given ++ names_in bytes
-  pub some : 0 < length names
 
--- the names that are given, and those of the list, where there is one
-abbrev pub NamedBy : SourceBytes → List Bytes → Option Bytes → List Bytes → Type 0
-NamedBy source given None names = names ≡ given
+-- the files of these names, and of those of a list behind them, which are some together
+pub record AreListed (source : SourceBytes) (list : Bytes) (given : List Bytes) (names : List Name) : Type 0 where
+  pub listed : List Bytes
+  pub read : IsListRead source list given listed
+  pub some : 0 < length listed
+  pub files : names ≡ files_of listed
+
+-- the files that are given, or those of the list too, where there is one; standard input where nothing is named
+abbrev pub NamedBy : SourceBytes → List Bytes → Option Bytes → List Name → Type 0
+NamedBy source [] None names = names ≡ Standard ∷ []
+NamedBy source (name ∷ given) None names = names ≡ files_of (name ∷ given)
 NamedBy source given (Some list) names = AreListed source list given names
 
-abbrev pub AreNamed : SourceBytes → Named → List Bytes → Type 0
+abbrev pub AreNamed : SourceBytes → Named → List Name → Type 0
 AreNamed source named names = NamedBy source named.given.items named.list names
+
+-- what is said of a list that names nothing: it was not read as text, or there is no name in it, and none beside it
+abbrev pub SaysOfList : SourceBytes → List Bytes → Option Bytes → Bytes → Type 0
+SaysOfList source given None lines = ⊥
+SaysOfList source given (Some list) lines = (lines ≡ unread_line list) ⊎ (IsListRead source list given [] × (lines ≡ run_line (number_of FileCount)))
+
+abbrev pub SaysOfNames : SourceBytes → Named → Bytes → Type 0
+SaysOfNames source named lines = SaysOfList source named.given.items named.list lines

@@ -1,10 +1,15 @@
--- What is known of the bytes of files.
-use Rattle.std.specs.Prelude.{◌≡◌, ℕ, List, take, IfSome, Option}
+-- What names stand for, and what is known of the bytes there.
+use Rattle.std.specs.Prelude.{◌≡◌, ℕ, List, take, IfSome, Option, codes}
+use Rattle.span_runs.specs.{Bytes, declared.source.Name.{Name, TheVariants.{Standard, File}}}
 
--- what is known of a source: the bytes of standard input, and of the file of each name
-pub record SourceBytes : Type 0 where
-  pub standard : Option (List ℕ)
-  pub file : List ℕ → Option (List ℕ)
+-- the bytes that a name stands for, where they are known
+abbrev pub SourceBytes : Type 0
+SourceBytes = Name → Option Bytes
+
+-- a name as it is printed
+abbrev pub printed : Name → Bytes
+printed Standard = codes "-"
+printed (File name) = name
 
 -- the bytes are the first of those that the source has, where they are known: all, but not more than this many
 abbrev pub AreFirst : ℕ → Option (List ℕ) → List ℕ → Type 0

@@ -1,15 +1,14 @@
 //! Files each of which is a run of its own, gathered in several jobs at once.
-ghost use Rattle.std.specs.{Prelude.{◌≡◌, ◌<◌, ◌++◌, length, IfOk}, Thread.IsSync};
-ghost use Rattle.span_runs.specs.Stops.{AddsOrStops, JoinsFiles, GathersOrHalts, GathersOrStops};
+ghost use Rattle.std.specs.{Prelude.{◌≡◌, ◌<◌, length, IfOk}, Thread.IsSync};
+ghost use Rattle.span_runs.specs.Stops.{AddsOrStops, JoinsFiles, GathersOrStops};
 
 use crate::cuts::cut;
 use crate::file_run::collect_file;
 use crate::gathered::Gathered;
 use crate::gathering::Gathering;
-use crate::source::Source;
-use crate::stop::{Halt, Stop};
+use crate::source::{Name, Source};
+use crate::stop::Halt;
 use span_collect::Settings;
-use span_event::Text;
 use span_names::HashKeys;
 use span_table::{Column, Of};
 use std::alloc::{AllocError, Global};
@@ -40,7 +39,7 @@ impl<'a, S> Work<'a, S> {
 // Some of the files, one after another, and how many jobs share them.
 #[derive(Clone, Copy)]
 struct Batch<'a> {
-    names: &'a [Text],
+    names: &'a [Name],
     sizes: &'a [u64],
     // How many files are before them.
     place: u64,
@@ -53,17 +52,17 @@ pub fn gather_apart<T: Gathering, S: Source + Sync, R: Threads + Wait + RandomSo
     rt: &R,
     alloc: Global,
     source: &S,
-    names: &[Text],
+    names: &[Name],
     settings: &Settings,
     of: Of,
     columns: &[Column],
     jobs: u32,
-) -> Result<Gathered<T>, Stop>
-    ensures { GathersOrStops (S.bytes source.now).file names.now settings.now
+) -> Result<Gathered<T>, Halt>
+    ensures { GathersOrStops (S.bytes source.now) names.now settings.now
         (T.come_to of columns.now) result }
 {
     let Ok(sizes) = sizes_of(alloc, source, names) else {
-        return Err(Stop::of_memory(alloc));
+        return Err(Halt::Memory);
     };
     let stopped = AtomicU64::new(u64::MAX);
     let work = Work {
@@ -80,16 +79,10 @@ pub fn gather_apart<T: Gathering, S: Source + Sync, R: Threads + Wait + RandomSo
         place: 0,
         jobs,
     };
-    match gather_in_jobs(rt, alloc, &work, all) {
-        Ok(gathered) => Ok(gathered),
-        Err(Halt::Stopped(stop)) => Err(stop),
-        // A job gives up where another has stopped before it, and then that one decides. No contract says so of the place that jobs
-        // share, so what would follow if it were not so is said here.
-        Err(Halt::GaveUp) => gather_in_turn(rt, alloc, &work, names),
-    }
+    gather_in_jobs(rt, alloc, &work, all)
 }
 
-fn sizes_of<S: Source>(alloc: Global, source: &S, names: &[Text]) -> Result<Vec<u64>, AllocError>
+fn sizes_of<S: Source>(alloc: Global, source: &S, names: &[Name]) -> Result<Vec<u64>, AllocError>
     ensures { IfOk result (λ sizes. length sizes.items ≡ length names.now) }
 {
     let mut sizes = Vec::with_capacity(alloc, names.len())?;
@@ -108,7 +101,7 @@ fn gather_in_jobs<T: Gathering, S: Source + Sync, R: Threads + Wait + RandomSour
     batch: Batch,
 ) -> Result<Gathered<T>, Halt>
     requires { length batch.sizes.now ≡ length batch.names.now }
-    ensures { GathersOrHalts (S.bytes work.now.source.now).file batch.entry.names.now
+    ensures { GathersOrStops (S.bytes work.now.source.now) batch.entry.names.now
         work.now.settings (T.come_to work.now.of work.now.columns.now) result }
 {
     if batch.jobs < 2 || batch.names.len() < 2 {
@@ -131,7 +124,7 @@ fn gather_in_jobs<T: Gathering, S: Source + Sync, R: Threads + Wait + RandomSour
         jobs: batch.jobs - half,
     };
     let (first, second) = gather_both(rt, alloc, work, front, back);
-    joined(first, second)
+    joined(alloc, first, second)
 }
 
 // Gathers two batches at once.
@@ -146,9 +139,9 @@ fn gather_both<T: Gathering, S: Source + Sync, R: Threads + Wait + RandomSource 
     requires front { length front.sizes.now ≡ length front.names.now }
     requires back { length back.sizes.now ≡ length back.names.now }
     requires jobs { (0 < front.jobs) × (0 < back.jobs) }
-    ensures front { GathersOrHalts (S.bytes work.now.source.now).file front.entry.names.now
+    ensures front { GathersOrStops (S.bytes work.now.source.now) front.entry.names.now
         work.now.settings (T.come_to work.now.of work.now.columns.now) result.0 }
-    ensures back { GathersOrHalts (S.bytes work.now.source.now).file back.entry.names.now
+    ensures back { GathersOrStops (S.bytes work.now.source.now) back.entry.names.now
         work.now.settings (T.come_to work.now.of work.now.columns.now) result.1 }
 {
     join_mut(
@@ -156,14 +149,14 @@ fn gather_both<T: Gathering, S: Source + Sync, R: Threads + Wait + RandomSource 
         &mut || -> Result<Gathered<T>, Halt>
             requires sync { IsSync R.row }
             requires sizes { length front.sizes.now ≡ length front.names.now }
-            ensures { GathersOrHalts (S.bytes work.entry.now.source.now).file
+            ensures { GathersOrStops (S.bytes work.entry.now.source.now)
                 front.entry.names.now work.entry.now.settings
                 (T.come_to work.entry.now.of work.entry.now.columns.now) result }
         { gather_in_jobs(rt, alloc, work, front) },
         &mut || -> Result<Gathered<T>, Halt>
             requires sync { IsSync R.row }
             requires sizes { length back.sizes.now ≡ length back.names.now }
-            ensures { GathersOrHalts (S.bytes work.entry.now.source.now).file
+            ensures { GathersOrStops (S.bytes work.entry.now.source.now)
                 back.entry.names.now work.entry.now.settings
                 (T.come_to work.entry.now.of work.entry.now.columns.now) result }
         { gather_in_jobs(rt, alloc, work, back) },
@@ -175,52 +168,30 @@ fn gather_in_job<T: Gathering, S: Source, R: Threads + Wait + RandomSource + Syn
     rt: &R,
     alloc: Global,
     work: &Work<S>,
-    names: &[Text],
+    names: &[Name],
     place: u64,
 ) -> Result<Gathered<T>, Halt>
-    ensures { GathersOrHalts (S.bytes work.now.source.now).file names.now work.now.settings
+    ensures { GathersOrStops (S.bytes work.now.source.now) names.now work.now.settings
         (T.come_to work.now.of work.now.columns.now) result }
 {
     let mut gathered = match Gathered::of_none(alloc, work.keys, work.of, work.columns) {
         Ok(none) => none,
-        Err(stop) => return Err(Halt::Stopped(stop)),
+        Err(_) => return Err(Halt::Memory),
     };
     let mut place = place;
     for name in names {
         if work.has_stopped_before(place) {
-            return Err(Halt::GaveUp);
+            // Nobody looks at what this job gives: a job before it stopped, and that one decides.
+            return Err(Halt::Memory);
         }
         gathered = match add_file(rt, alloc, work, name, gathered) {
             Ok(more) => more,
-            Err(stop) => {
+            Err(halt) => {
                 work.stopped.store(place, Ordering::SeqCst);
-                return Err(Halt::Stopped(stop));
+                return Err(halt);
             }
         };
         place = place.saturating_add(1);
-    }
-    Ok(gathered)
-}
-
-// Gathers these files, one after another.
-fn gather_in_turn<T: Gathering, S: Source, R: Threads + Wait + RandomSource + Sync>(
-    rt: &R,
-    alloc: Global,
-    work: &Work<S>,
-    names: &[Text],
-) -> Result<Gathered<T>, Stop>
-    ensures { GathersOrStops (S.bytes work.now.source.now).file names.now work.now.settings
-        (T.come_to work.now.of work.now.columns.now) result }
-{
-    let mut gathered = match Gathered::of_none(alloc, work.keys, work.of, work.columns) {
-        Ok(none) => none,
-        Err(stop) => return Err(stop),
-    };
-    for name in names {
-        gathered = match add_file(rt, alloc, work, name, gathered) {
-            Ok(more) => more,
-            Err(stop) => return Err(stop),
-        };
     }
     Ok(gathered)
 }
@@ -230,24 +201,25 @@ fn add_file<T: Gathering, S: Source, R: Threads + Wait + RandomSource + Sync>(
     rt: &R,
     alloc: Global,
     work: &Work<S>,
-    name: &Text,
+    name: &Name,
     gathered: Gathered<T>,
-) -> Result<Gathered<T>, Stop>
-    ensures { AddsOrStops (S.bytes work.now.source.now).file name.now work.now.settings
+) -> Result<Gathered<T>, Halt>
+    ensures { AddsOrStops (S.bytes work.now.source.now) name.now work.now.settings
         (T.come_to work.now.of work.now.columns.now) gathered result }
 {
     let collected = match collect_file(rt, alloc, work.source, name, &work.settings) {
         Ok(collected) => collected,
-        Err(cause) => return Err(gathered.stop(cause)),
+        Err(halt) => return Err(halt.after(gathered.lines)),
     };
     match gathered.with_run(alloc, work.keys, work.of, work.columns, &collected) {
         Ok(more) => Ok(more),
-        Err(stop) => Err(stop),
+        Err(halt) => Err(halt),
     }
 }
 
 // The files of two groups, of which those of the second come after those of the first.
 fn joined<T: Gathering>(
+    alloc: Global,
     first: Result<Gathered<T>, Halt>,
     second: Result<Gathered<T>, Halt>,
 ) -> Result<Gathered<T>, Halt>
@@ -261,8 +233,8 @@ fn joined<T: Gathering>(
         Ok(second) => second,
         Err(halt) => return Err(halt.after(first.lines)),
     };
-    match first.joined(second) {
+    match first.joined(alloc, second) {
         Ok(both) => Ok(both),
-        Err(stop) => Err(Halt::Stopped(stop)),
+        Err(halt) => Err(halt),
     }
 }

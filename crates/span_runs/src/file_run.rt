@@ -1,14 +1,13 @@
 //! A file that is a run of its own.
 ghost use Rattle.std.specs.Prelude.{◌≡◌, ◌∷◌, [], length, IfErr, IfOk};
-ghost use Rattle.span_runs.specs.{IsNotCollected, status_of, SealedAccount, Apart.IsFileRun, Inputs.most_read, Source.AreFirst, Stops.{IsUnread, SaysCut, StopsAt, cut_lines}};
+ghost use Rattle.span_runs.specs.{IsNotCollected, status_of, SealedAccount, Apart.IsFileRun, Stops.{OfStop, StopsAt, cut_lines}};
 
-use crate::files::read_file;
-use crate::source::Source;
-use crate::stop::StopCause;
+use crate::files::read_input;
+use crate::source::{Name, Source};
+use crate::stop::{Halt, Stop};
 use span_collect::{
     Collected, Input, RunError, Settings, collect_to_ledger, fault_line_of, fault_lines,
 };
-use span_event::Text;
 use std::alloc::{AllocError, Global};
 use std::random::RandomSource;
 use std::slice::from_ref;
@@ -27,36 +26,25 @@ pub fn collect_file<S: Source, R: Threads + Wait + RandomSource + Sync>(
     rt: &R,
     alloc: Global,
     source: &S,
-    name: &Text,
+    name: &Name,
     settings: &Settings,
-) -> Result<FileRun, StopCause>
-    ensures collected { IfOk result (IsFileRun (S.bytes source.now).file name.now settings.now) }
-    ensures stop { IfErr result (StopsAt (S.bytes source.now).file settings.now name.now) }
+) -> Result<FileRun, Halt>
+    ensures collected { IfOk result (IsFileRun (S.bytes source.now) name.now settings.now) }
+    ensures stop { IfErr result (OfStop (StopsAt (S.bytes source.now) settings.now name.now)) }
 {
-    let file = match read_named(alloc, source, name) {
+    let file = match read_input(alloc, source, name) {
         Ok(file) => file,
-        Err(cause) => return Err(cause),
+        Err(halt) => return Err(halt),
     };
     let collected = match collect_alone(rt, alloc, &file, settings) {
         Ok(collected) => collected,
-        Err(error) => return Err(StopCause::Run(error)),
+        Err(RunError::Memory) => return Err(Halt::Memory),
+        Err(error) => return Err(Halt::of_run(alloc, error.code())),
     };
     if collected.end.status == 2 {
         return Err(cut_of(alloc, &file, &collected));
     }
     Ok(FileRun { file, collected })
-}
-
-fn read_named<S: Source>(alloc: Global, source: &S, name: &Text) -> Result<Input, StopCause>
-    ensures name { IfOk result (λ file. file.name ≡ name.now) }
-    ensures bytes { IfOk result
-        (λ file. AreFirst most_read ((S.bytes source.now).file name.now) file.bytes.items) }
-    ensures unread { IfErr result (λ cause. IsUnread name.now cause) }
-{
-    match name.try_clone(alloc) {
-        Ok(name) => read_file(name, source),
-        Err(_) => Err(StopCause::Memory),
-    }
 }
 
 fn collect_alone<R: Threads + Wait + RandomSource + Sync>(
@@ -80,14 +68,17 @@ fn collect_alone<R: Threads + Wait + RandomSource + Sync>(
 }
 
 // Why a run ended with 2: the line of its file, and that of a seal that was not taken.
-fn cut_of(alloc: Global, file: &Input, collected: &Collected) -> StopCause
+fn cut_of(alloc: Global, file: &Input, collected: &Collected) -> Halt
     requires { length collected.now.end.ends.items ≡ 1 }
-    ensures { SaysCut
-        (cut_lines file.now collected.now.end.ends.items collected.now.end.sealing) result }
+    ensures { OfStop (λ lines. lines
+        ≡ cut_lines file.now collected.now.end.ends.items collected.now.end.sealing) result }
 {
     match cut_lines(alloc, file, collected) {
-        Ok(lines) => StopCause::Cut(lines),
-        Err(_) => StopCause::Memory,
+        Ok(lines) => Halt::Stopped(Stop {
+            lines,
+            hints: Vec::new(alloc),
+        }),
+        Err(_) => Halt::Memory,
     }
 }
 

@@ -1,6 +1,6 @@
 //! What the runs of files come to, as they are collected one by one: one table of all, or a table of each.
-ghost use Rattle.std.specs.Prelude.{◌≡◌, ◌∷◌, ◌++◌, [], List, IfOk};
-ghost use Rattle.span_runs.specs.{Column as TheColumn, Of as TheOf, Run, Apart.run_of, Gathering.TakesAlike};
+ghost use Rattle.std.specs.Prelude.{◌≡◌, ◌+◌, ◌≤◌, ◌^◌, ◌++◌, [], List, length, IfErr, IfOk};
+ghost use Rattle.span_runs.specs.{Column as TheColumn, Of as TheOf, Run, TooMany, Apart.run_of, Gathering.TakesAlike};
 
 use crate::file_run::FileRun;
 use span_names::HashKeys;
@@ -29,15 +29,21 @@ pub trait Gathering: Sized + Drop + Send {
         columns: &[Column],
         run: &FileRun,
     ) -> Result<Self, SumFault>
-        ensures { IfOk result (λ more.
-            TakesAlike (come_to of columns.now) self (run_of run.now) more) };
+        ensures runs { IfOk result (λ more.
+            TakesAlike (come_to of columns.now) self (run_of run.now) more) }
+        ensures too_many { IfErr result (λ fault. fault ≡ TooMany → (runs : List Run)
+            → come_to of columns.now runs self → 2 ^ 32 ≤ length runs + 1) };
 
     /// With the runs of another, which come after these.
     fn joined(self, other: Self) -> Result<Self, SumFault>
-        ensures { IfOk result (λ both.
+        ensures runs { IfOk result (λ both.
             (of : TheOf) (columns : List TheColumn) (runs others : List Run)
             → come_to of columns runs self → come_to of columns others other
-            → come_to of columns (runs ++ others) both) };
+            → come_to of columns (runs ++ others) both) }
+        ensures too_many { IfErr result (λ fault. fault ≡ TooMany
+            → (of : TheOf) (columns : List TheColumn) (runs others : List Run)
+            → come_to of columns runs self → come_to of columns others other
+            → 2 ^ 32 ≤ length runs + length others) };
 }
 
 /// One table of all.

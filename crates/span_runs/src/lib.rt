@@ -15,10 +15,11 @@ mod stop;
 
 pub use apart::gather_apart;
 pub use file_run::{FileRun, collect_file};
-pub use files::{MOST_READ, read_file, read_standard};
+pub use files::{read_input, unread};
 pub use gathered::Gathered;
 pub use gathering::Gathering;
-pub use names::{Named, names_of};
+pub use names::{Named, files_of, names_of};
 pub use runs::table_of_run;
-pub use source::{Reason, Source, SourceFault};
-pub use stop::{Stop, StopCause};
+pub use source::{Name, Source, SourceFault};
+pub use span_faults::Reason;
+pub use stop::{Halt, Stop};

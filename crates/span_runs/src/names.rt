@@ -1,12 +1,13 @@
 //! The files that a command line names.
-ghost use Rattle.std.specs.{List.list_any, Prelude.{◌≡◌, ◌==◌, ◌++◌, ◌∷◌, List, ℕ, IfOk, OnOk}};
-ghost use Rattle.span_runs.specs.{Listing.{kept, names_from}, Names.{AreListed, AreNamed, bytes_of_list, most_listed, names_in, separator_of}, Source.AreFirst};
+ghost use Rattle.std.specs.{List.list_any, Prelude.{◌≡◌, ◌==◌, ◌++◌, ◌∷◌, List, ℕ, None, Some, IfErr, IfOk, OnOk}};
+ghost use Rattle.span_runs.specs.{Listing.{kept, names_from}, Names.{AreListed, AreNamed, NamedBy, SaysOfList, SaysOfNames, files_of, name_of_list, names_in, separator_of}, Source.SourceBytes, Stops.OfStop};
 
-use crate::source::{Reason, Source, SourceFault};
-use crate::stop::StopCause;
-use span_collect::RunError;
-use span_event::Text;
-use std::alloc::Global;
+use crate::files::unread;
+use crate::source::{Name, Source, SourceFault};
+use crate::stop::Halt;
+use span_event::{Fault, Text};
+use span_faults::{Reason, many_files};
+use std::alloc::{AllocError, Global};
 
 // The most bytes that are read of a list.
 const MOST_LISTED: u64 = 1_099_511_627_776;
@@ -26,51 +27,87 @@ enum ListFault {
     NotText,
 }
 
-/// The names of the files. Of a list each line is one, or where it holds a NUL what stands between such; an empty one is none. A list
-/// must be UTF-8 text, and where there is one there must be a name.
-pub fn names_of<S: Source>(alloc: Global, named: Named, source: &S) -> Result<Vec<Text>, StopCause>
-    ensures { IfOk result (λ names. AreNamed (S.bytes source.now) named names.items) }
+/// What is to be read: the files that are named, or standard input where nothing is. Of a list each line is a name, or where it holds
+/// a NUL what stands between such; an empty one is none. A list must be UTF-8 text, and where there is one there must be a name.
+pub fn names_of<S: Source>(alloc: Global, named: Named, source: &S) -> Result<Vec<Name>, Halt>
+    ensures names { IfOk result (λ names. AreNamed (S.bytes source.now) named names.items) }
+    ensures stop { IfErr result (OfStop (SaysOfNames (S.bytes source.now) named)) }
 {
     let Named { given, list } = named;
     match list {
-        None => Ok(given),
-        Some(list) => with_listed(alloc, given, list, source),
+        None => match given_names(alloc, given) {
+            Ok(names) => Ok(names),
+            Err(_) => Err(Halt::Memory),
+        },
+        Some(list) => listed_names(alloc, given, list, source),
     }
 }
 
-// With the names of a list behind them.
-fn with_listed<S: Source>(
-    alloc: Global,
-    given: Vec<Text>,
-    list: Text,
-    source: &S,
-) -> Result<Vec<Text>, StopCause>
-    ensures { IfOk result (λ names. AreListed (S.bytes source.now) list given.items names.items) }
+fn given_names(alloc: Global, given: Vec<Text>) -> Result<Vec<Name>, AllocError>
+    ensures { IfOk result (λ names. (source : SourceBytes)
+        → NamedBy source given.items None names.items) }
 {
-    let bytes = match read_list(&list, source) {
-        Ok(bytes) => bytes,
-        Err(SourceFault::NotOpened(reason)) => return Err(StopCause::NotOpened(list, reason)),
-        Err(SourceFault::Memory) => return Err(StopCause::Memory),
-    };
-    let names = match with_names(alloc, given, &bytes) {
-        Ok(names) => names,
-        Err(ListFault::Memory) => return Err(StopCause::Memory),
-        Err(ListFault::NotText) => return Err(StopCause::NotOpened(list, Reason::NotText)),
-    };
-    if names.is_empty() {
-        return Err(StopCause::Run(RunError::FileCount));
+    if given.is_empty() {
+        let mut names = Vec::new(alloc);
+        names.push(Name::Standard)?;
+        return Ok(names);
+    }
+    files_of(alloc, given)
+}
+
+/// The files of these names.
+pub fn files_of(alloc: Global, given: Vec<Text>) -> Result<Vec<Name>, AllocError>
+    ensures { IfOk result (λ names. names.items ≡ files_of given.items) }
+{
+    let mut names = Vec::with_capacity(alloc, given.len())?;
+    for name in given {
+        names.push(Name::File(name))?;
     }
     Ok(names)
 }
 
-fn read_list<S: Source>(list: &Text, source: &S) -> Result<Vec<u8>, SourceFault>
-    ensures { IfOk result (λ read.
-        AreFirst most_listed (bytes_of_list (S.bytes source.now) list.now) read.items) }
+// The files that are named, and those of a list behind them.
+fn listed_names<S: Source>(
+    alloc: Global,
+    given: Vec<Text>,
+    list: Text,
+    source: &S,
+) -> Result<Vec<Name>, Halt>
+    ensures names { IfOk result
+        (λ names. AreListed (S.bytes source.now) list given.items names.items) }
+    ensures stop { IfErr result
+        (OfStop (SaysOfList (S.bytes source.now) given.items (Some list))) }
+{
+    let file = name_of_list(alloc, &list)?;
+    let bytes = match source.read(&file, MOST_LISTED) {
+        Ok(bytes) => bytes,
+        Err(fault) => return Err(unread(alloc, &Name::File(list), fault)),
+    };
+    let names = match with_names(alloc, given, &bytes) {
+        Ok(names) => names,
+        Err(ListFault::Memory) => return Err(Halt::Memory),
+        Err(ListFault::NotText) => {
+            let fault = SourceFault::NotOpened(Reason::NotText);
+            return Err(unread(alloc, &Name::File(list), fault));
+        }
+    };
+    if names.is_empty() {
+        return Err(Halt::of_run(alloc, Fault::FileCount.code()).with_hint(many_files(alloc)));
+    }
+    match files_of(alloc, names) {
+        Ok(files) => Ok(files),
+        Err(_) => Err(Halt::Memory),
+    }
+}
+
+// What a list stands for: `-` is standard input.
+fn name_of_list(alloc: Global, list: &Text) -> Result<Name, AllocError>
+    ensures { IfOk result (λ name. name ≡ name_of_list list.now) }
 {
     if list.as_str() == "-" {
-        return source.standard(MOST_LISTED);
+        return Ok(Name::Standard);
     }
-    source.file(list, MOST_LISTED)
+    Ok(Name::File(list.try_clone(alloc)?))
 }
 
 fn with_names(alloc: Global, given: Vec<Text>, bytes: &[u8]) -> Result<Vec<Text>, ListFault>

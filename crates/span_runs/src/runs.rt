@@ -1,5 +1,5 @@
 //! A run of files, as a table takes it.
-ghost use Rattle.std.specs.Prelude.{◌≡◌, length, option_copied, IfOk};
+ghost use Rattle.std.specs.Prelude.{◌≡◌, option_copied, IfOk};
 ghost use Rattle.span_runs.specs.Runs.{only_name, run_of_files, table_of_run};
 
 use span_collect::{Collected, Input};

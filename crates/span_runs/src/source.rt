@@ -1,29 +1,27 @@
 //! Where the bytes of files come from.
 ghost use Rattle.std.specs.Prelude.{◌≡◌, ◌≤◌, vec_len, IfOk};
-ghost use Rattle.span_runs.specs.Source.{AreFirst, SourceBytes};
+ghost use Rattle.span_runs.specs.Source.{AreFirst, SourceBytes, printed};
 
 use span_event::Text;
+use span_faults::Reason;
+use std::alloc::{AllocError, Global};
 
-/// What the system says of a file that could not be read.
-#[derive(Clone, Copy)]
-pub enum Reason {
-    Missing,
-    Denied,
-    Folder,
-    /// It is a list of names, and not UTF-8.
-    NotText,
-    Other,
+/// What is read: a file, or standard input.
+#[derive(Drop)]
+pub enum Name {
+    Standard,
+    /// The file of this name, which is a path.
+    File(Text),
 }
 
-impl Reason {
-    /// The reason in words.
-    pub fn text(self) -> &'static str {
+impl Name {
+    /// As it is printed: standard input is `-`.
+    pub fn printed(&self, alloc: Global) -> Result<Text, AllocError>
+        ensures { IfOk result (λ text. text ≡ printed self.now) }
+    {
         match self {
-            Reason::Missing => "there is no such file",
-            Reason::Denied => "it may not be read by this user",
-            Reason::Folder => "it is a folder",
-            Reason::NotText => "it is not UTF-8 text",
-            Reason::Other => "reading it failed",
+            Name::Standard => Text::of(alloc, "-"),
+            Name::File(name) => name.try_clone(alloc),
         }
     }
 }
@@ -37,24 +35,17 @@ pub enum SourceFault {
     Memory,
 }
 
-/// Standard input and the files that a command line names. Contracts see their bytes, where it gives them. Files may be read in
-/// several threads at once.
+/// Standard input and files. Contracts see their bytes, where it gives them. Files may be read in several threads at once.
 pub trait Source {
     ghost bytes: { Self → SourceBytes };
 
-    /// The bytes of standard input, or the first `most` of them. It is read once.
-    fn standard(&self, most: u64) -> Result<Vec<u8>, SourceFault>
-        ensures first { IfOk result (λ read. AreFirst most (bytes self.now).standard read.items) }
+    /// The bytes that the name stands for, or the first `most` of them. Standard input is read once.
+    fn read(&self, name: &Name, most: u64) -> Result<Vec<u8>, SourceFault>
+        ensures first { IfOk result (λ read. AreFirst most (bytes self.now name.now) read.items) }
         ensures within { IfOk result (λ read. vec_len read ≤ most) };
 
-    /// The bytes of the file, or the first `most` of them.
-    fn file(&self, name: &Text, most: u64) -> Result<Vec<u8>, SourceFault>
-        ensures first { IfOk result (λ read.
-            AreFirst most ((bytes self.now).file name.now) read.items) }
-        ensures within { IfOk result (λ read. vec_len read ≤ most) };
-
-    /// How many bytes the file is thought to have; 0, where that is not known. Nothing but time depends on it.
-    fn size(&self, _name: &Text) -> u64 {
+    /// How many bytes there are thought to be; 0, where that is not known. Nothing but time depends on it.
+    fn size(&self, _name: &Name) -> u64 {
         0
     }
 

@@ -1,91 +1,97 @@
-//! Why files were not all gathered.
-ghost use Rattle.std.specs.Prelude.{◌≡◌, [], IfErr};
-ghost use Rattle.span_runs.specs.{Stops.{ComesAfter, HaltsAfter, IsOfSum}, declared.stop.StopCause.TheVariants.Memory};
+//! Why there is no result.
+ghost use Rattle.std.specs.Prelude.{◌≡◌, List, ℕ, IfOk, string_bytes};
+ghost use Rattle.span_runs.specs.{IsHint, fault_line, run_line, Stops.{HaltsAfter, IsHinted, OfStop}, Source.printed};
 
-use crate::source::Reason;
-use span_collect::RunError;
-use span_event::Text;
-use span_table::SumFault;
-use std::alloc::Global;
+use crate::source::Name;
+use span_collect::fault_line_of;
+use span_faults::run_line;
+use std::alloc::{AllocError, Global};
 
-/// What stopped.
-#[derive(Drop)]
-pub enum StopCause {
-    /// 52: this file could not be opened or read.
-    NotOpened(Text, Reason),
-    /// 31: memory was refused.
-    Memory,
-    /// The run of a file was refused.
-    Run(RunError),
-    /// A file was not read whole, or a seal was not taken, as these lines say.
-    Cut(Vec<u8>),
-    /// There are 2^32 files or more.
-    TooMany,
-}
-
-impl StopCause {
-    pub(crate) fn of_sum(fault: SumFault) -> StopCause
-        ensures { IsOfSum result }
-    {
-        match fault {
-            SumFault::Memory => StopCause::Memory,
-            SumFault::TooMany => StopCause::TooMany,
-        }
-    }
-}
-
-/// Why files were not all gathered: the fault lines of those before the one that stopped, and what stopped there.
+/// What is said where something stopped: fault lines, and hints, for which there may have been no memory.
 #[derive(Drop)]
 pub struct Stop {
     pub lines: Vec<u8>,
-    pub cause: StopCause,
+    pub hints: Vec<u8>,
 }
 
-impl Stop {
-    pub fn of_memory(alloc: Global) -> Stop
-        ensures { (result.lines.items ≡ []) × (result.cause ≡ Memory) }
-    {
-        Stop {
-            lines: Vec::new(alloc),
-            cause: StopCause::Memory,
-        }
-    }
-
-    // With the lines of files before.
-    fn after(self, lines: Vec<u8>) -> Stop
-        ensures { ComesAfter lines.items self result }
-    {
-        let Stop {
-            lines: later,
-            cause,
-        } = self;
-        let mut lines = lines;
-        match lines.extend_from_slice(&later) {
-            Ok(()) => Stop { lines, cause },
-            Err(_) => Stop {
-                lines,
-                cause: StopCause::Memory,
-            },
-        }
-    }
-}
-
-/// Why a job ended before its files were all gathered.
+/// Why there is no result.
 #[derive(Drop)]
-pub(crate) enum Halt {
+pub enum Halt {
+    /// Something stopped, as is said.
     Stopped(Stop),
-    // Another job had stopped at a file before.
-    GaveUp,
+    /// 31: memory was refused.
+    Memory,
+}
+
+impl From<AllocError> for Halt {
+    ghost use Rattle.std.specs.Prelude.{◌≡◌};
+    ghost use Rattle.span_runs.specs.declared.stop.Halt.TheVariants.{Memory};
+
+    ghost from_gives = { λ _ e. e ≡ Memory };
+
+    fn from(_refused: AllocError) -> Halt {
+        Halt::Memory
+    }
 }
 
 impl Halt {
-    // With the lines of files before.
-    pub(crate) fn after(self, lines: Vec<u8>) -> Halt
+    /// A run, or all of them, stopped with this number.
+    pub fn of_run(alloc: Global, code: u16) -> Halt
+        ensures { OfStop (λ lines. lines ≡ run_line code) result }
+    {
+        Halt::saying(alloc, run_line(alloc, code))
+    }
+
+    /// This was read, and stopped with this number.
+    pub fn of_name(alloc: Global, name: &Name, code: u16) -> Halt
+        ensures { OfStop (λ lines. lines ≡ fault_line (printed name.now) code) result }
+    {
+        match name.printed(alloc) {
+            Ok(name) => Halt::saying(alloc, fault_line_of(alloc, &name, code)),
+            Err(_) => Halt::Memory,
+        }
+    }
+
+    // This line is said, if there was memory for it.
+    fn saying(alloc: Global, line: Result<String, AllocError>) -> Halt
+        ensures { (text : List ℕ) → IfOk line (λ made. string_bytes made ≡ text)
+            → OfStop (λ lines. lines ≡ text) result }
+    {
+        match line {
+            Ok(line) => Halt::Stopped(Stop {
+                lines: line.into_bytes(),
+                hints: Vec::new(alloc),
+            }),
+            Err(_) => Halt::Memory,
+        }
+    }
+
+    /// With these lines before.
+    pub fn after(self, lines: Vec<u8>) -> Halt
         ensures { HaltsAfter lines.items self result }
     {
-        match self {
-            Halt::Stopped(stop) => Halt::Stopped(stop.after(lines)),
-            Halt::GaveUp => Halt::GaveUp,
+        let Halt::Stopped(stop) = self else {
+            return Halt::Memory;
+        };
+        let Stop { lines: own, hints } = stop;
+        let mut lines = lines;
+        match lines.extend_from_slice(&own) {
+            Ok(()) => Halt::Stopped(Stop { lines, hints }),
+            Err(_) => Halt::Memory,
+        }
+    }
+
+    /// With this hint behind, if there was memory for it.
+    pub fn with_hint(self, hint: Result<String, AllocError>) -> Halt
+        requires { IfOk hint (λ made. IsHint (string_bytes made)) }
+        ensures { IsHinted self result }
+    {
+        match (self, hint) {
+            (Halt::Stopped(stop), Ok(hint)) => Halt::Stopped(Stop {
+                lines: stop.lines,
+                hints: hint.into_bytes(),
+            }),
+            (halt, _) => halt,
         }
     }
 }

@@ -1,9 +1,13 @@
 //! A line on a terminal that says what a run is doing.
 
+use span_tasks::Watcher;
 use std::io;
-use std::io::{Read, Write};
+use std::io::{IsTerminal, Write};
 use std::sync::atomic::{AtomicU64, Ordering};
 use std::time::Instant;
+
+// Said before standard input is read from a terminal.
+const AT_TERMINAL: &str = "hint: reading from the terminal; --help shows how to name a file\n";
 
 const MIB: u64 = 1_048_576;
 
@@ -18,6 +22,7 @@ const PAUSE_MILLIS: u64 = 250;
 pub(crate) struct Progress<'a> {
     rt: &'a HostRuntime,
     is_shown: bool,
+    takes_hints: bool,
     begun: Option<Instant>,
     // How many milliseconds after that the line was written last.
     last: AtomicU64,
@@ -32,10 +37,11 @@ pub(crate) struct Progress<'a> {
 }
 
 impl<'a> Progress<'a> {
-    pub(crate) fn new(rt: &'a HostRuntime, is_shown: bool) -> Progress<'a> {
+    pub(crate) fn new(rt: &'a HostRuntime, is_shown: bool, takes_hints: bool) -> Progress<'a> {
         Progress {
             rt,
             is_shown,
+            takes_hints,
             begun: Instant::now(rt).ok(),
             last: AtomicU64::new(0),
             opened: AtomicU64::new(0),
@@ -43,33 +49,6 @@ impl<'a> Progress<'a> {
             read: AtomicU64::new(0),
             size: AtomicU64::new(0),
             all: AtomicU64::new(0),
-        }
-    }
-
-    /// So many files are read, each for itself.
-    pub(crate) fn begin_apart(&self, files: u64) {
-        self.files.store(files, Ordering::SeqCst);
-    }
-
-    /// The next file is read. It has this many bytes; 0, where that is not known.
-    pub(crate) fn open(&self, size: u64) {
-        self.opened.fetch_add(1, Ordering::SeqCst);
-        self.read.store(0, Ordering::SeqCst);
-        self.size.store(size, Ordering::SeqCst);
-    }
-
-    fn advance(&self, count: u64) {
-        let read = self.read.fetch_add(count, Ordering::SeqCst);
-        let all = self.all.fetch_add(count, Ordering::SeqCst);
-        if !self.is_shown || all.saturating_add(count) < LARGE {
-            return;
-        }
-        let Some(millis) = self.due() else {
-            return;
-        };
-        match self.files.load(Ordering::SeqCst) {
-            0 => self.show_file(read.saturating_add(count) / MIB),
-            files => self.show_files(files, all / MIB, millis),
         }
     }
 
@@ -111,33 +90,47 @@ impl<'a> Progress<'a> {
             .compare_exchange(last, millis.max(1), Ordering::SeqCst, Ordering::SeqCst);
         if taken.is_ok() { Some(millis) } else { None }
     }
+}
 
-    /// All files are read.
-    pub(crate) fn collect(&self) {
+impl<'a> Watcher for Progress<'a> {
+    fn begin_apart(&self, files: u64) {
+        self.files.store(files, Ordering::SeqCst);
+    }
+
+    fn open_standard(&self) {
+        if self.takes_hints && self.rt.stdin().is_terminal() {
+            let _ = eprint!(self.rt; "{AT_TERMINAL}");
+        }
+        self.open(0);
+    }
+
+    fn open(&self, size: u64) {
+        self.opened.fetch_add(1, Ordering::SeqCst);
+        self.read.store(0, Ordering::SeqCst);
+        self.size.store(size, Ordering::SeqCst);
+    }
+
+    fn advance(&self, count: u64) {
+        let read = self.read.fetch_add(count, Ordering::SeqCst);
+        let all = self.all.fetch_add(count, Ordering::SeqCst);
+        if !self.is_shown || all.saturating_add(count) < LARGE {
+            return;
+        }
+        let Some(millis) = self.due() else {
+            return;
+        };
+        match self.files.load(Ordering::SeqCst) {
+            0 => self.show_file(read.saturating_add(count) / MIB),
+            files => self.show_files(files, all / MIB, millis),
+        }
+    }
+
+    fn end(&self) {
         let all = self.all.load(Ordering::SeqCst);
         if self.is_shown && all >= LARGE && self.files.load(Ordering::SeqCst) == 0 {
             let all = all / MIB;
             let _ = eprint!(self.rt; "\r\x1b[Ktracebook: {all} MiB read, collecting");
         }
-    }
-}
-
-/// A reader that says how many bytes come of it.
-#[derive(Drop)]
-pub(crate) struct Watched<'p, 'a, R: Read> {
-    pub(crate) inner: R,
-    pub(crate) progress: &'p Progress<'a>,
-}
-
-impl<'p, 'a, R: Read> Read for Watched<'p, 'a, R> {
-    ghost remaining = { λ w. R.remaining w.inner };
-
-    fn read(&mut self, buf: &mut [u8]) -> io::Result<usize> {
-        let read = self.inner.read(buf);
-        if let Ok(count) = &read {
-            self.progress.advance(*count as u64);
-        }
-        read
     }
 }
 

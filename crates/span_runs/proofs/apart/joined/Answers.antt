@@ -1,25 +1,29 @@
-use Rattle.span_runs.proofs.{GatheredFiles.AreGathered-append, Stopping.{HaltsAmong-after, HaltsAmong-append, StopsBefore-of_sum, StopsAmong-behind}}
+use Rattle.std.proofs.Common.{◌++◌}
+use Rattle.span_runs.specs.Stops.{StopsAmong}
+use Rattle.span_runs.proofs.{GatheredFiles.AreGathered-append, Stopping.{OfStop-after, OfStop-weaker, StopsAmong-after, StopsAmong-append, StopsAmong-joined}}
 use Rattle.span_runs.proofs.apart.joined.Goals as goal
 
 -- both groups were gathered
 pub returns-in-Ok-joined : goal.returns-in-Ok-joined
-returns-in-Ok-joined g c = λ known names more settings of columns one other.
-    AreGathered-append known names more settings (g.T.Gathering.come_to of columns) c.in-Ok.first c.in-Ok-second.second c.in-Ok-joined.both
+returns-in-Ok-joined g c = λ source names more settings of columns one other.
+    AreGathered-append source names more settings (g.T.Gathering.come_to of columns) c.in-Ok.first c.in-Ok-second.second c.in-Ok-joined.both
     (rw c.in-Ok.is at one) (rw c.in-Ok-second.is at other) (c.in-Ok-joined.ensures.runs of columns) c.in-Ok-joined.ensures.lines
 
 -- the first stopped
 pub returns-in-Err : goal.returns-in-Err
-returns-in-Err g c = λ known names more settings of columns one other. HaltsAmong-append known settings names more c.in-Err.halt (rw c.in-Err.is at one)
+returns-in-Err g c = λ source names more settings of columns one other.
+    OfStop-weaker (StopsAmong source settings names) (StopsAmong source settings (names ++ more)) (StopsAmong-append source settings names more) c.in-Err.halt (rw c.in-Err.is at one)
 
 -- the second stopped
 pub returns-in-Err-second : goal.returns-in-Err-second
-returns-in-Err-second g c = λ known names more settings of columns one other.
-    let first = c.in-Ok.first in
-    HaltsAmong-after known settings names more (λ runs. g.T.Gathering.come_to of columns runs first.runs) first.lines.items c.in-Err-second.halt c.after.result (rw c.in-Ok.is at one) (rw c.in-Err-second.is at other) c.after.ensures
+returns-in-Err-second g c = λ source names more settings of columns one other.
+    OfStop-after (StopsAmong source settings more) (StopsAmong source settings (names ++ more)) c.in-Ok.first.lines.items
+    (StopsAmong-after source settings names more (g.T.Gathering.come_to of columns) c.in-Ok.first (rw c.in-Ok.is at one))
+    c.in-Err-second.halt c.after.result c.after.ensures (rw c.in-Err-second.is at other)
 
 -- they could not be joined
 pub returns-in-Err-joined : goal.returns-in-Err-joined
-returns-in-Err-joined g c = λ known names more settings of columns one other.
-    let first = c.in-Ok.first in
-    let stop = c.in-Err-joined.stop in
-    StopsAmong-behind known settings names more (λ runs. g.T.Gathering.come_to of columns runs first.runs) first.lines.items stop (rw c.in-Ok.is at one) c.in-Err-joined.ensures.stop.0 (StopsBefore-of_sum known settings more stop.cause c.in-Err-joined.ensures.stop.1)
+returns-in-Err-joined g c = λ source names more settings of columns one other.
+    OfStop-weaker _ (StopsAmong source settings (names ++ more))
+    (λ lines says. StopsAmong-joined source settings names more (g.T.Gathering.come_to of columns) c.in-Ok.first c.in-Ok-second.second (rw c.in-Ok.is at one) (rw c.in-Ok-second.is at other) lines says.0 (says.1 of columns))
+    c.in-Err-joined.halt c.in-Err-joined.ensures.stop

@@ -1,0 +1,25 @@
+-- What is printed of separate files is what they give where they are read in turn.
+use Rattle.std.proofs.Common.{◌≡◌, ◌<◌, List, [], ap, ◌∙◌}
+use Rattle.span_report.proofs.{SameReports.report_of-alike, StackLemmas.SameStacks.stacks-alike}
+use Rattle.span_collect.proofs.InTurn.Accounted.{AreAlike-in_turn, end_lines-in_turn, refusals_of-in_turn}
+use Rattle.span_page.proofs.SamePages.{page_of-alike}
+use Rattle.span_runs.proofs.InTurn.{table_of_run-in_turn}
+use Rattle.span_journal.specs.Topics.{AreAlike}
+use Rattle.span_request.specs.declared.views.View.{View, TheVariants.{Folded, Page, Refusals, Report}}
+use Rattle.span_tasks.specs.{Entry, FileEnd, Input, Asked, Sealing, Settings, AreSeparate, ends_from, journal_in_turn, text_in_turn, status_of, SealedAccount, page_of, json_of, run_in_turn, run_of_files, table_of_run, SpanTable, Together.{page_table, text_of}}
+
+module _ (files : List Input) (settings : Settings) (ends : List FileEnd) (asked : Asked) (sealing : Sealing) (journal : List Entry)
+    (account : SealedAccount files [] settings ends asked sealing journal) (separate : AreSeparate settings.unit files) (below : status_of ends asked sealing < 2) where
+  alike : AreAlike journal (journal_in_turn settings files [])
+  alike = AreAlike-in_turn files [] settings ends asked sealing journal account separate below
+
+  -- each view
+  pub text_of-in_turn : (view : View) → text_of settings.unit view files ends journal ≡ text_in_turn (text_of settings.unit view files) files [] settings
+  text_of-in_turn Report = report_of-alike settings.unit journal (journal_in_turn settings files []) alike
+  text_of-in_turn Refusals = refusals_of-in_turn files [] settings ends asked sealing journal account separate below
+  text_of-in_turn (Folded labels) = (stacks-alike journal (journal_in_turn settings files []) alike).text labels.items
+  text_of-in_turn (Page view) =
+      page_of-alike settings.unit view.labels.items (json_of settings.unit view.options.shown (page_table view files ends journal)) files ends (ends_from settings.unit 1 files) journal (journal_in_turn settings files []) alike
+      (refusals_of-in_turn files [] settings ends asked sealing journal account separate below) (end_lines-in_turn files [] settings ends asked sealing journal account separate below)
+      ∙ ap (λ (table : SpanTable). page_of settings.unit view.labels.items (json_of settings.unit view.options.shown table) files (ends_from settings.unit 1 files) (journal_in_turn settings files []))
+      (table_of_run-in_turn files settings ends asked sealing journal account separate below view.options.of view.options.columns.items)

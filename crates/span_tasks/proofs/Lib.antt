@@ -1,0 +1,6 @@
+pub mod Adding
+pub mod BothSides
+pub mod FleetTrees
+pub mod InTurn
+pub mod Outcomes
+pub mod ShownRuns

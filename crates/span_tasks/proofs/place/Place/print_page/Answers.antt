@@ -1,0 +1,32 @@
+use Rattle.std.proofs.Common.{◌≡◌, false, inl, inr, refl, subst, ap, ◌∙◌}
+use Rattle.span_runs.proofs.Stopping.{OfStop-weaker}
+use Rattle.span_tasks.specs.{AllFit, json_fits, shown_table, Pages.{page_with, shown_runs}}
+use Rattle.span_tasks.proofs.place.Place.print_page.Goals as goal
+
+-- the page is printed
+pub returns-in-Ok-text_of_runs : goal.returns-in-Ok-text_of_runs
+returns-in-Ok-text_of_runs g c =
+    let shown = c.in-Ok.shown in
+    let held = c.in-Ok.ensures.shown in
+    let settings = c.args.apart.now.settings in
+    let view = c.args.view.now in
+    let runs = shown_runs settings held.sums.files in (
+      inl c.new.ensures.items,
+      record {
+        summed = shown.summed;
+        sums = held.sums;
+        fits = subst (λ table. AllFit (shown_table view.options.shown table)) c.in-Ok-into_table.ensures c.in-Ok-text_of_runs.ensures.fits;
+        page = c.in-Ok-text_of_runs.ensures.text runs held.runs ∙ ap (λ table. page_with settings.unit view table runs) c.in-Ok-into_table.ensures;
+        said = refl;
+      },
+    )
+
+-- a number is too great
+pub returns-in-Err-text_of_runs : goal.returns-in-Err-text_of_runs
+returns-in-Err-text_of_runs g c =
+    OfStop-weaker _ _ (λ lines exceeds. inr (record {
+      summed = c.in-Ok.shown.summed;
+      sums = c.in-Ok.ensures.shown.sums;
+      exceeds = subst (λ table. json_fits c.args.view.now.options.shown table ≡ false) c.in-Ok-into_table.ensures exceeds.0;
+      said = exceeds.1;
+    })) c.in-Err-text_of_runs.halt c.in-Err-text_of_runs.ensures.stop

@@ -1,0 +1,26 @@
+use Rattle.std.proofs.Common.{[], ◌∷◌, ap, sym, subst, ◌∙◌}
+use Rattle.span_runs.proofs.InTurn.{table_of_run-in_turn}
+use Rattle.span_tasks.specs.{IsHint}
+use Rattle.span_tasks.proofs.place.Place.run_side.Goals as goal
+
+-- the table is that of the run
+pub returns-in-Ok-side_of_run-clause-side : goal.returns-in-Ok-side_of_run-clause-side
+returns-in-Ok-side_of_run-clause-side g c =
+    let run = c.in-Ok.run' in
+    let ended = c.in-Ok.ensures.run in
+    let options = c.args.options.now in
+    let side = c.in-Ok-side_of_run.ensures in (
+      record { unit = side.unit; of = side.of; columns = side.columns },
+      record {
+        run = run;
+        ended = ended;
+        is = side.tables;
+        in_turn = λ separate. side.tables ∙ ap (λ table. table ∷ [])
+            (table_of_run-in_turn run.inputs.items c.args.settings.now run.collected.end.ends.items run.collected.end.asked run.collected.end.sealing run.collected.ledger.journal
+            ended.is.account separate (rw ended.is.status at ended.below) options.of options.columns.items);
+        said = ap (λ lines. lines.items) side.lines;
+      },
+    )
+
+pub returns-in-Ok-side_of_run-clause-hints : goal.returns-in-Ok-side_of_run-clause-hints
+returns-in-Ok-side_of_run-clause-hints g c = subst (λ hints. IsHint hints.items) (sym c.in-Ok-side_of_run.ensures.hints) c.in-Ok.ensures.run.hints

@@ -1,0 +1,22 @@
+use Rattle.std.proofs.Common.{inr}
+use Rattle.span_runs.proofs.{Alone.AddsFile-run, Stopping.OfStop-weaker}
+use Rattle.span_tasks.specs.Pages.{asked_for}
+use Rattle.span_tasks.proofs.ShownRuns.{TakesRun-alone}
+use Rattle.span_tasks.proofs.place.Place.show_file.Goals as goal
+
+-- its run is added, and shown
+pub returns-in-Ok-with_run-2 : goal.returns-in-Ok-with_run-2
+returns-in-Ok-with_run-2 g c =
+    let source = (g.S.Source.bytes c.args.self.now.source.now) in
+    let name = c.args.name.now in
+    let settings = c.args.settings.now in
+    let view = c.args.view.now in
+    let taken = c.in-Ok.taken in
+    let old = c.args.shown in record {
+      adds = AddsFile-run source name settings (asked_for view) taken old.summed c.in-Ok-with_run-2.summed c.in-Ok.ensures.collected (rw c.deref.ensures.value at c.in-Ok-with_run-2.ensures.runs) c.in-Ok-with_run-2.ensures.lines;
+      page = TakesRun-alone view.labels.items source name settings taken old.page c.in-Ok-with_run.page c.in-Ok.ensures.collected c.in-Ok-with_run.ensures;
+    }
+
+-- there are too many
+pub returns : goal.returns
+returns g c = OfStop-weaker _ _ (λ lines many. inr many) c.in-Err-with_run.halt (rw c.deref.ensures.value at c.in-Err-with_run.ensures.stop)

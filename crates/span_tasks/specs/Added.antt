@@ -1,0 +1,113 @@
+-- Tables that were printed are read and added.
+use Rattle.std.specs.{List.AllZip, Prelude.{◌≡◌, ◌⊎◌, ℕ, ◌+◌, ◌<◌, ◌≤◌, ◌^◌, true, false, List, [], ◌∷◌, ◌++◌, length, Option}}
+use Rattle.span_tasks.specs.{Bytes, FileCountFault, NotTableFault, OtherColumnsFault, number_of, fault_line, run_line, unread_line, AreFirst, SourceBytes, Name, printed, Chooses, HasOtherColumns, IsNoPart, LacksColumn, PartSum, SumsParts, TakesPart, IsPart, goes_by, Column, Of, By, SpanTable, TimeUnit}
+use Rattle.span_parts.specs.declared.fault.PartFault.{PartFault, TheVariants.{NotTable, OtherColumns}}
+
+-- the most bytes that a table may have
+abbrev pub most_added : ℕ
+most_added = 1099511627776
+
+-- the bytes of a name as far as they are read: one more than a table may have
+abbrev pub IsRead : SourceBytes → Name → Bytes → Type 0
+IsRead source name text = AreFirst (most_added + 1) (source name) text
+
+-- the text is all that the name stands for, and not too long for a table
+pub record IsText (source : SourceBytes) (name : Name) (text : Bytes) : Type 0 where
+  pub read : IsRead source name text
+  pub within : length text ≤ most_added
+
+-- a sum of what these parts sum, in their unit, by their columns and at these places, that is this table
+abbrev pub with_sum : PartSum → SpanTable → PartSum
+with_sum parts table = record { of = parts.of; unit = parts.unit; columns = parts.columns; places = parts.places; sum = table }
+
+-- the table is the sum of the tables of these names, each of which sums what these parts do, in their unit and by their columns
+pub record Adds (source : SourceBytes) (parts : PartSum) (names : List Name) (table : SpanTable) : Type 0 where
+  pub texts : List Bytes
+  pub read : AllZip (IsText source) names texts
+  pub sums : SumsParts texts (with_sum parts table)
+
+-- a table of each of these names
+abbrev pub AddsEach : SourceBytes → PartSum → List Name → List SpanTable → Type 0
+AddsEach source parts names tables = AllZip (λ name table. Adds source parts (name ∷ []) table) names tables
+
+-- more tables are added to parts, of their kind: sums of these are sums of those too
+pub record AddsMore (source : SourceBytes) (names : List Name) (old new : PartSum) : Type 0 where
+  pub texts : List Bytes
+  pub read : AllZip (IsText source) names texts
+  pub of : new.of ≡ old.of
+  pub unit : new.unit ≡ old.unit
+  pub columns : new.columns ≡ old.columns
+  pub places : new.places ≡ old.places
+  pub sums : (before : List Bytes) → SumsParts before old → SumsParts (before ++ texts) new
+
+-- parts by the columns that are asked for, with the number that rows are to go by
+pub record AreAsked (wanted : List Column) (by : Option By) (parts : PartSum) : Type 0 where
+  pub chooses : Chooses wanted parts
+  pub number : goes_by parts.of by ≡ true
+
+-- a number that rows are to go by is missing from the table of this text
+pub record LacksNumber (by : Option By) (text : Bytes) : Type 0 where
+  pub unit : TimeUnit
+  pub part : SpanTable
+  pub is : IsPart unit text part
+  pub lacks : goes_by part.of by ≡ false
+
+-- a column, or the number, that is asked for is missing
+abbrev pub LacksAsked : List Column → Option By → Bytes → Type 0
+LacksAsked wanted by text = LacksColumn wanted text ⊎ LacksNumber by text
+
+-- this is said of a name that was not read, or whose text is too long for a table
+abbrev pub IsNoText : SourceBytes → Name → Bytes → Type 0
+IsNoText source name lines = (lines ≡ unread_line (printed name))
+    ⊎ ((text : Bytes) × IsRead source name text × (most_added < length text) × (lines ≡ fault_line (printed name) (number_of NotTableFault)))
+
+-- this is said of a name at which adding stops: it was not read, or there is no such table, or it is one of another kind
+abbrev pub StopsAdding : SourceBytes → (Bytes → Type 0) → Name → Bytes → Type 0
+StopsAdding source IsOther name lines = IsNoText source name lines
+    ⊎ (((text : Bytes) × IsText source name text × IsNoPart text × (lines ≡ fault_line (printed name) (number_of NotTableFault)))
+    ⊎ ((text : Bytes) × IsText source name text × IsOther text × (lines ≡ fault_line (printed name) (number_of OtherColumnsFault))))
+
+-- this is said of the first of these names, whose table is of another kind than these parts
+abbrev pub StopsNext : SourceBytes → PartSum → List Name → Bytes → Type 0
+StopsNext source parts [] lines = ⊥
+StopsNext source parts (name ∷ later) lines = StopsAdding source (HasOtherColumns parts.of parts.unit parts.columns) name lines
+
+-- there are 2^32 names or more, as the line says
+abbrev pub AreTooMany : List Name → Bytes → Type 0
+AreTooMany names lines = (2 ^ 32 ≤ length names) × (lines ≡ run_line (number_of FileCountFault))
+
+-- this is said of the first name, whose table begins parts, or there is none
+abbrev pub StopsFirst : SourceBytes → List Column → Option By → List Name → Bytes → Type 0
+StopsFirst source wanted by [] lines = lines ≡ run_line (number_of FileCountFault)
+StopsFirst source wanted by (name ∷ later) lines = StopsAdding source (LacksAsked wanted by) name lines
+
+-- the first of these names were added to parts, and this is said of the next
+pub record StopsMore (source : SourceBytes) (parts : PartSum) (names : List Name) (lines : Bytes) : Type 0 where
+  pub done : List Name
+  pub later : List Name
+  pub split : names ≡ done ++ later
+  pub sum : PartSum
+  pub added : AddsMore source done parts sum
+  pub cause : StopsNext source parts later lines
+
+-- the parts are of the table of this name alone
+pub record BeginsWith (source : SourceBytes) (name : Name) (parts : PartSum) : Type 0 where
+  pub text : Bytes
+  pub read : IsText source name text
+  pub sums : SumsParts (text ∷ []) parts
+
+-- parts take the table of this name
+pub record TakesName (source : SourceBytes) (name : Name) (old new : PartSum) : Type 0 where
+  pub text : Bytes
+  pub read : IsText source name text
+  pub takes : TakesPart text old new
+
+-- the table of this name, of the kind of these parts
+abbrev pub IsTableBeside : SourceBytes → PartSum → Name → SpanTable → Type 0
+IsTableBeside source parts name table = Adds source parts (name ∷ []) table
+
+-- what is said of a table that is refused for this
+abbrev pub SaysPart : Name → PartFault → Bytes → Type 0
+SaysPart name NotTable lines = lines ≡ fault_line (printed name) (number_of NotTableFault)
+SaysPart name OtherColumns lines = lines ≡ fault_line (printed name) (number_of OtherColumnsFault)
+SaysPart name fault lines = ⊥

@@ -1,0 +1,56 @@
+-- A page of files each of which is a run of its own.
+use Rattle.std.specs.Prelude.{◌≡◌, ◌⊎◌, false, nat_le, if◌then◌else◌, List, [], ◌∷◌, length, map, Result, MatchResult}
+use Rattle.span_tasks.specs.{Bytes, TooGreatFault, number_of, run_line, Unit, Input, Settings, ends_from, journal_in_turn, Holds, ShownRun, TakesRun, page_of_runs, FileRun, AddsFile, GathersFiles, IsTableOf, Halt, OfStop, StopsAfter, StopsAmong, Name, SourceBytes, PageView, Run, SpanTable, AllFit, json_fits, json_of, shown_table, Gathered, declared.pages.ShownFiles.ShownFiles}
+
+-- the run of a file alone, in which its items stand in their order, as a page shows it
+abbrev pub shown_alone : Settings → Input → ShownRun
+shown_alone settings file = record { files = file ∷ []; ends = ends_from settings.unit 1 (file ∷ []); journal = journal_in_turn settings (file ∷ []) [] }
+
+-- the runs that a page of files shows: of more than 64 there is just the table of their sum
+abbrev pub shown_runs : Settings → List Input → List ShownRun
+shown_runs settings files = if nat_le (length files) 64 then map (shown_alone settings) files else []
+
+-- the runs come to the table that the page has of them
+abbrev pub asked_for : PageView → List Run → SpanTable → Type 0
+asked_for view = IsTableOf view.options.of view.options.columns.items
+
+-- the page of these runs, with this table
+abbrev pub page_with : Unit → PageView → SpanTable → List ShownRun → Bytes
+page_with unit view table runs = page_of_runs unit view.labels.items (json_of unit view.options.shown table) runs
+
+-- Each file was collected alone; the page of their runs, with the table of their sum, is printed, and their lines are said.
+pub record PrintsPage (source : SourceBytes) (names : List Name) (settings : Settings) (view : PageView) (text lines : Bytes) : Type 0 where
+  pub summed : Gathered SpanTable
+  pub sums : GathersFiles source names settings (asked_for view) summed
+  pub fits : AllFit (shown_table view.options.shown summed.runs)
+  pub page : text ≡ page_with settings.unit view summed.runs (shown_runs settings sums.files)
+  pub said : lines ≡ summed.lines.items
+
+-- the files were summed, and a number of the table has more than 64 bits, as the line says
+pub record HasTooGreat (source : SourceBytes) (names : List Name) (settings : Settings) (view : PageView) (lines : Bytes) : Type 0 where
+  pub summed : Gathered SpanTable
+  pub sums : GathersFiles source names settings (asked_for view) summed
+  pub exceeds : json_fits view.options.shown summed.runs ≡ false
+  pub said : lines ≡ run_line (number_of TooGreatFault)
+
+-- this is said where no page is printed
+abbrev pub StopsPage : SourceBytes → List Name → Settings → PageView → Bytes → Type 0
+StopsPage source names settings view lines = StopsAmong source settings names lines ⊎ HasTooGreat source names settings view lines
+
+-- each of the files was collected alone, and is summed; the page has these runs of them so far
+pub record AreHeld (runs_of : List Input → List ShownRun) (source : SourceBytes) (names : List Name) (settings : Settings) (view : PageView) (shown : ShownFiles) : Type 0 where
+  pub sums : GathersFiles source names settings (asked_for view) shown.summed
+  pub runs : Holds settings.unit view.labels.items (runs_of sums.files) shown.page
+
+-- what was collected of a file, as a page shows it
+abbrev pub shown_run : FileRun → ShownRun
+shown_run run = record { files = run.file ∷ []; ends = run.collected.end.ends.items; journal = run.collected.ledger.journal }
+
+-- one more file is shown
+pub record ShowsFile (source : SourceBytes) (name : Name) (settings : Settings) (view : PageView) (old new : ShownFiles) : Type 0 where
+  pub adds : AddsFile source name settings (asked_for view) old.summed new.summed
+  pub page : TakesRun settings.unit view.labels.items (shown_alone settings adds.file) old.page new.page
+
+-- one more file is shown, or something stopped at it, or there are 2^32 or more
+abbrev pub AddsShown : SourceBytes → Name → Settings → PageView → ShownFiles → Result ShownFiles Halt → Type 0
+AddsShown source name settings view old result = MatchResult result (ShowsFile source name settings view old) (OfStop (StopsAfter source name settings (asked_for view) old.summed))

@@ -1,0 +1,103 @@
+-- Tables as they are gathered: those of one side, or of two that are compared.
+use Rattle.std.specs.Prelude.{◌≡◌, ◌⊎◌, ⊤, Bool, true, false, List, [], ◌∷◌, ◌++◌, map, Option}
+use Rattle.span_request.specs.declared.tasks.Items.TheVariants.{Apart as EachApart, Printed, Together}
+use Rattle.span_tasks.specs.{Bytes, AreSeparate, Settings, AreGathered, StopsAmong, run_in_turn, run_of_files, table_of_run, SourceBytes, Name, PartSum, Column, Of, By, Run, SpanTable, picked, table_of, Items, TableOptions, Added.{Adds, AddsEach, AreAsked, AreTooMany, StopsFirst, StopsNext}, Together.{EndsWell, StopsTogether}, declared.{printed.PrintedBase.PrintedBase, side.Side.Side, together.TogetherRun.TogetherRun}}
+
+-- one table of all runs, or a table of each
+abbrev pub ComeTo : Bool → Of → List Column → List Run → List SpanTable → Type 0
+ComeTo false of columns runs tables = tables ≡ table_of of columns runs ∷ []
+ComeTo true of columns runs tables = tables ≡ map (table_of_run of columns) runs
+
+-- one table of all printed ones, or a table of each
+abbrev pub AddTo : Bool → SourceBytes → PartSum → List Name → List SpanTable → Type 0
+AddTo false source parts names tables = (table : SpanTable) × Adds source parts names table × (tables ≡ table ∷ [])
+AddTo true source parts names tables = AddsEach source parts names tables
+
+-- the first of these names were added, and this is said of the next
+pub record StopsLater (source : SourceBytes) (each : Bool) (parts : PartSum) (names : List Name) (lines : Bytes) : Type 0 where
+  pub done : List Name
+  pub later : List Name
+  pub split : names ≡ done ++ later
+  pub tables : List SpanTable
+  pub added : AddTo each source parts done tables
+  pub cause : StopsNext source parts later lines
+
+-- What is named is one run, whose table this is; that of separate files is the one that they give where they are read in turn.
+pub record IsOfRun (source : SourceBytes) (names : List Name) (settings : Settings) (options : TableOptions) (side : Side) : Type 0 where
+  pub run : TogetherRun
+  pub ended : EndsWell source names settings run
+  pub is : side.tables.items ≡ table_of_run options.of options.columns.items (run_of_files run.inputs.items run.collected.end.ends.items run.collected.ledger.journal) ∷ []
+  pub in_turn : AreSeparate settings.unit run.inputs.items → side.tables.items ≡ table_of_run options.of options.columns.items (run_in_turn settings run.inputs.items) ∷ []
+  pub said : side.lines.items ≡ run.lines.items
+
+-- the tables are of what is asked for
+pub record AreOptions (settings : Settings) (options : TableOptions) (side : Side) : Type 0 where
+  pub unit : side.unit ≡ settings.unit
+  pub of : side.of ≡ options.of
+  pub columns : side.columns.items ≡ options.columns.items
+
+-- the tables are of what printed ones are
+pub record AreOfParts (parts : PartSum) (side : Side) : Type 0 where
+  pub unit : side.unit ≡ parts.unit
+  pub of : side.of ≡ parts.of
+  pub columns : side.columns.items ≡ picked parts.places parts.columns
+
+-- what is named gives these tables; where they are printed ones, they are of the kind of these parts
+abbrev pub IsSide : SourceBytes → Items → TableOptions → Bool → PartSum → List Name → Side → Type 0
+IsSide source (Together settings) options each parts names side = AreOptions settings options side × IsOfRun source names settings options side
+IsSide source (EachApart apart) options each parts names side = AreOptions apart.settings options side
+    × AreGathered source names apart.settings (λ runs. ComeTo each options.of options.columns.items runs side.tables.items) side.lines.items
+IsSide source Printed options each parts names side = AreOfParts parts side × AddTo each source parts names side.tables.items × (side.lines.items ≡ [])
+
+-- printed tables have the columns and the number that are asked for
+abbrev pub AreOfKind : Items → TableOptions → Option By → PartSum → Type 0
+AreOfKind Printed options by parts = AreAsked options.columns.items by parts
+AreOfKind items options by parts = ⊤
+
+-- this is said where what is named gives no tables of the kind of these parts
+abbrev pub StopsSide : SourceBytes → Items → Bool → PartSum → List Name → Bytes → Type 0
+StopsSide source (Together settings) each parts names lines = StopsTogether source names settings lines
+StopsSide source (EachApart apart) each parts names lines = StopsAmong source apart.settings names lines
+StopsSide source Printed each parts names lines = StopsLater source each parts names lines ⊎ AreTooMany names lines
+
+-- one side
+pub record IsOneSide (source : SourceBytes) (items : Items) (options : TableOptions) (by : Option By) (each : Bool) (names : List Name) (side : Side) : Type 0 where
+  pub parts : PartSum
+  pub kind : AreOfKind items options by parts
+  pub is : IsSide source items options each parts names side
+
+-- two sides, which give tables of one kind
+pub record AreSides (source : SourceBytes) (items : Items) (options : TableOptions) (by : Option By) (each : Bool) (base_names names : List Name) (base other : Side) : Type 0 where
+  pub parts : PartSum
+  pub kind : AreOfKind items options by parts
+  pub earlier : IsSide source items options each parts base_names base
+  pub later : IsSide source items options each parts names other
+
+-- the first of printed tables tells the kind, or this is said of it, or of their number
+abbrev pub StopsKind : SourceBytes → Items → TableOptions → Option By → List Name → Bytes → Type 0
+StopsKind source Printed options by names lines = StopsFirst source options.columns.items by names lines ⊎ AreTooMany names lines
+StopsKind source items options by names lines = ⊥
+
+-- this is said where a side gives no tables
+abbrev pub StopsOneSide : SourceBytes → Items → TableOptions → Option By → Bool → List Name → Bytes → Type 0
+StopsOneSide source items options by each names lines = StopsKind source items options by names lines
+    ⊎ ((parts : PartSum) × AreOfKind items options by parts × StopsSide source items each parts names lines)
+
+-- the base gives tables, and the others don't, of which this is said behind the base's lines
+pub record StopsBehind (source : SourceBytes) (items : Items) (options : TableOptions) (by : Option By) (each : Bool) (base_names names : List Name) (lines : Bytes) : Type 0 where
+  pub parts : PartSum
+  pub kind : AreOfKind items options by parts
+  pub base : Side
+  pub earlier : IsSide source items options each parts base_names base
+  pub own : Bytes
+  pub later : StopsSide source items each parts names own
+  pub said : lines ≡ base.lines.items ++ own
+
+-- this is said where one of two sides gives no tables
+abbrev pub StopSides : SourceBytes → Items → TableOptions → Option By → Bool → List Name → List Name → Bytes → Type 0
+StopSides source items options by each base_names names lines = StopsOneSide source items options by each base_names lines ⊎ StopsBehind source items options by each base_names names lines
+
+-- printed tables are of the kind of these parts, which is the one that is asked for
+pub record IsPrintedBase (source : SourceBytes) (options : TableOptions) (by : Option By) (each : Bool) (names : List Name) (base : PrintedBase) : Type 0 where
+  pub asked : AreAsked options.columns.items by base.kind
+  pub is : IsSide source Printed options each base.kind names base.side

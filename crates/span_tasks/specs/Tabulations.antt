@@ -1,0 +1,94 @@
+-- What is printed of tables.
+use Rattle.std.specs.Prelude.{◌≡◌, ◌⊎◌, ◌≤◌, Bool, true, false, List, ◌∷◌, [], ◌++◌, length, Option}
+use Rattle.span_request.specs.declared.tasks.{Items.TheVariants.{Together}, TableText.TheVariants.{Changes, Repetitions, Table}}
+use Rattle.span_tasks.specs.{Bytes, FileCountFault, TooGreatFault, number_of, run_line, Name, SourceBytes, changes_by, table_by, By, SpanTable, ComparisonForm, Items, RepeatsForm, TableForm, TableOptions, TableText, Tabulation, Sides.{AreSides, IsOneSide, StopSides, StopsOneSide}, Texts.{TableExceeds, TableFits, changes_fit, changes_text, repeats_fit, repeats_text, table_text}, declared.side.Side.Side}
+
+-- a head says how many runs there are, but that of one run
+abbrev pub says_runs : Items → Bool
+says_runs (Together settings) = false
+says_runs items = true
+
+-- the one table of a side
+pub record OneTable (source : SourceBytes) (items : Items) (options : TableOptions) (by : Option By) (names : List Name) : Type 0 where
+  pub side : Side
+  pub is : IsOneSide source items options by false names side
+  pub table : SpanTable
+  pub only : side.tables.items ≡ table ∷ []
+
+-- the one table of each side
+pub record BothTables (source : SourceBytes) (items : Items) (options : TableOptions) (by : Option By) (base_names names : List Name) : Type 0 where
+  pub base : Side
+  pub other : Side
+  pub are : AreSides source items options by false base_names names base other
+  pub earlier : SpanTable
+  pub later : SpanTable
+  pub only_base : base.tables.items ≡ earlier ∷ []
+  pub only_other : other.tables.items ≡ later ∷ []
+
+-- each side has a repetition, and at most 64
+pub record AreFew (base_names names : List Name) : Type 0 where
+  pub some : 1 ≤ length base_names
+  pub base : length base_names ≤ 64
+  pub other : length names ≤ 64
+
+-- the tables of each side, one for each repetition
+pub record Repeated (source : SourceBytes) (items : Items) (options : TableOptions) (by : Option By) (base_names names : List Name) : Type 0 where
+  pub few : AreFew base_names names
+  pub base : Side
+  pub other : Side
+  pub are : AreSides source items options by true base_names names base other
+
+module _ (source : SourceBytes) (items : Items) (options : TableOptions) (names : List Name) where
+  -- a table is printed
+  pub record PrintsTable (form : TableForm) (text lines : Bytes) : Type 0 where
+    pub one : OneTable source items options (table_by form) names
+    pub fits : TableFits form options.shown one.table
+    pub is : text ≡ table_text one.side.unit form options.shown (says_runs items) one.table
+    pub said : lines ≡ one.side.lines.items
+
+  -- what changed is printed
+  pub record PrintsChanges (form : ComparisonForm) (base_names : List Name) (text lines : Bytes) : Type 0 where
+    pub both : BothTables source items options (changes_by form) base_names names
+    pub fits : changes_fit form options.shown both.earlier both.later ≡ true
+    pub is : text ≡ changes_text both.base.unit form options.shown (says_runs items) both.earlier both.later
+    pub said : lines ≡ both.base.lines.items ++ both.other.lines.items
+
+  -- how numbers are spread is printed
+  pub record PrintsRepetitions (by : Option By) (form : RepeatsForm) (base_names : List Name) (text lines : Bytes) : Type 0 where
+    pub repeated : Repeated source items options by base_names names
+    pub fits : repeats_fit repeated.base.of by form options.shown repeated.base.tables.items repeated.other.tables.items ≡ true
+    pub is : text ≡ repeats_text repeated.base.unit repeated.base.of repeated.base.columns.items by form options.shown repeated.base.tables.items repeated.other.tables.items
+    pub said : lines ≡ repeated.base.lines.items ++ repeated.other.lines.items
+
+  -- the text that is asked for is printed, and these lines are said
+  abbrev pub PrintsText : TableText → Bytes → Bytes → Type 0
+  PrintsText (Table form) text lines = PrintsTable form text lines
+  PrintsText (Changes asked) text lines = PrintsChanges asked.form asked.base.items text lines
+  PrintsText (Repetitions asked) text lines = PrintsRepetitions asked.by asked.form asked.base.items text lines
+
+  -- a number of the text, which is for other programs, has more than 64 bits
+  abbrev pub HasTooGreat : TableText → Type 0
+  HasTooGreat (Table form) = (one : OneTable source items options (table_by form) names) × TableExceeds form options.shown one.table
+  HasTooGreat (Changes asked) = (both : BothTables source items options (changes_by asked.form) asked.base.items names) × (changes_fit asked.form options.shown both.earlier both.later ≡ false)
+  HasTooGreat (Repetitions asked) = (repeated : Repeated source items options asked.by asked.base.items names)
+      × (repeats_fit repeated.base.of asked.by asked.form options.shown repeated.base.tables.items repeated.other.tables.items ≡ false)
+
+  -- 41 is said of repetitions that are none, or too many
+  abbrev pub SaysNotFew : List Name → Bytes → Type 0
+  SaysNotFew base_names lines = (AreFew base_names names → ⊥) × (lines ≡ run_line (number_of FileCountFault))
+
+  -- this is said where a side gives no tables
+  abbrev pub StopsText : TableText → Bytes → Type 0
+  StopsText (Table form) lines = StopsOneSide source items options (table_by form) false names lines
+  StopsText (Changes asked) lines = StopSides source items options (changes_by asked.form) false asked.base.items names lines
+  StopsText (Repetitions asked) lines = SaysNotFew asked.base.items lines ⊎ StopSides source items options asked.by true asked.base.items names lines
+
+  -- this is said where no text is printed: a side gives no tables, or a number is too great
+  abbrev pub StopsTabulation : TableText → Bytes → Type 0
+  StopsTabulation asked lines = StopsText asked lines ⊎ (HasTooGreat asked × (lines ≡ run_line (number_of TooGreatFault)))
+
+abbrev pub Tabulates : SourceBytes → Tabulation → List Name → Bytes → Bytes → Type 0
+Tabulates source task names text lines = PrintsText source task.items task.options names task.text text lines
+
+abbrev pub StopsTabulating : SourceBytes → Tabulation → List Name → Bytes → Type 0
+StopsTabulating source task names lines = StopsTabulation source task.items task.options names task.text lines

@@ -1,0 +1,43 @@
+-- The texts of tables.
+use Rattle.std.specs.Prelude.{◌≡◌, Bool, true, false, Option, Some, None, List, ⊤}
+use Rattle.span_request.specs.declared.views.ComparisonForm.TheVariants as changes
+use Rattle.span_request.specs.declared.views.RepeatsForm.TheVariants as repeats
+use Rattle.span_tasks.specs.{Bytes, Unit, Column, Of, By, usual_by, SpanTable, Wanted, AllFit, json_fits, json_of, shown_table, ranking_of, comparison_of, json_changes_fit, json_comparison_of, json_repeats_fit, json_repeats_of, repeats_of, ComparisonForm, RepeatsForm, TableForm, Json, Ranking}
+
+-- the number that rows go by: the named one, or the usual one of what a table sums
+abbrev pub asked_by : Of → Option By → By
+asked_by of None = usual_by of
+asked_by of (Some by) = by
+
+-- a table whose times are in this unit, and whose head says how many runs there are or doesn't
+abbrev pub table_text : Unit → TableForm → Wanted → Bool → SpanTable → Bytes
+table_text unit (Ranking most by) shown says_runs table = ranking_of unit most (asked_by table.of by) shown says_runs table
+table_text unit Json shown says_runs table = json_of unit shown table
+
+-- numbers for other programs have 64 bits; for people they have no bound
+abbrev pub TableFits : TableForm → Wanted → SpanTable → Type 0
+TableFits (Ranking most by) shown table = ⊤
+TableFits Json shown table = AllFit (shown_table shown table)
+
+-- a number for other programs has more
+abbrev pub TableExceeds : TableForm → Wanted → SpanTable → Type 0
+TableExceeds (Ranking most by) shown table = ⊥
+TableExceeds Json shown table = json_fits shown table ≡ false
+
+-- what changed between two tables
+abbrev pub changes_text : Unit → ComparisonForm → Wanted → Bool → SpanTable → SpanTable → Bytes
+changes_text unit (changes.Text by) shown says_runs base other = comparison_of unit (asked_by other.of by) shown says_runs base other
+changes_text unit changes.Json shown says_runs base other = json_comparison_of unit shown base other
+
+abbrev pub changes_fit : ComparisonForm → Wanted → SpanTable → SpanTable → Bool
+changes_fit (changes.Text by) shown base other = true
+changes_fit changes.Json shown base other = json_changes_fit shown base other
+
+-- how the numbers of the tables of two sides are spread, which sum this, by these columns
+abbrev pub repeats_text : Unit → Of → List Column → Option By → RepeatsForm → Wanted → List SpanTable → List SpanTable → Bytes
+repeats_text unit of columns by repeats.Text shown base other = repeats_of unit (asked_by of by) shown columns base other
+repeats_text unit of columns by repeats.Json shown base other = json_repeats_of unit of (asked_by of by) shown columns base other
+
+abbrev pub repeats_fit : Of → Option By → RepeatsForm → Wanted → List SpanTable → List SpanTable → Bool
+repeats_fit of by repeats.Text shown base other = true
+repeats_fit of by repeats.Json shown base other = json_repeats_fit (asked_by of by) shown base other

@@ -1,0 +1,122 @@
+//! The real files and standard input.
+ghost use Rattle.std.specs.Prelude.{◌≤◌, IfOk, vec_len};
+
+use crate::reading::{read_up_to, reason_of};
+use span_runs::{Name, Source, SourceFault};
+use std::fs::{File, metadata};
+use std::io;
+use std::io::Read;
+
+/// Learns what is read, as it is read, by whichever thread reads.
+pub trait Watcher {
+    /// So many files are read, each for itself.
+    fn begin_apart(&self, _files: u64) {}
+
+    /// Standard input is read next.
+    fn open_standard(&self) {}
+
+    /// A file is read next. It has this many bytes; 0, where that is not known.
+    fn open(&self, _size: u64) {}
+
+    /// So many bytes more are read of it.
+    fn advance(&self, _count: u64) {}
+
+    /// All files of a run are read.
+    fn end(&self) {}
+}
+
+/// Nobody watches.
+#[derive(Clone, Copy)]
+pub struct Unwatched;
+
+impl Watcher for Unwatched {}
+
+/// The real files and standard input.
+#[derive(Drop)]
+pub struct Files<'a, W> {
+    pub rt: &'a HostRuntime,
+    pub watcher: W,
+}
+
+impl<'a, W: Watcher> Source for Files<'a, W> {
+    ghost use Rattle.std.specs.Prelude.{None};
+
+    // What files hold isn't known.
+    ghost bytes = { λ files name. None };
+
+    fn read(&self, name: &Name, most: u64) -> Result<Vec<u8>, SourceFault> {
+        match name {
+            Name::Standard => self.read_standard(most),
+            Name::File(name) => self.read_file(name.as_str(), most),
+        }
+    }
+
+    fn size(&self, name: &Name) -> u64 {
+        let Name::File(name) = name else {
+            return 0;
+        };
+        match metadata(self.rt, name.as_str()) {
+            Ok(metadata) => metadata.len(),
+            Err(_) => 0,
+        }
+    }
+
+    fn begin_apart(&self, files: u64) {
+        self.watcher.begin_apart(files);
+    }
+
+    fn end(&self) {
+        self.watcher.end();
+    }
+}
+
+impl<'a, W: Watcher> Files<'a, W> {
+    fn read_standard(&self, most: u64) -> Result<Vec<u8>, SourceFault>
+        ensures within { IfOk result (λ read. vec_len read ≤ most) }
+    {
+        self.watcher.open_standard();
+        let mut reader = Watched {
+            inner: self.rt.stdin(),
+            watcher: &self.watcher,
+        };
+        read_up_to(self.rt.alloc(), &mut reader, 0, most as usize)
+    }
+
+    fn read_file(&self, name: &str, most: u64) -> Result<Vec<u8>, SourceFault>
+        ensures within { IfOk result (λ read. vec_len read ≤ most) }
+    {
+        let file = match File::open(self.rt, name) {
+            Ok(file) => file,
+            Err(error) => return Err(SourceFault::NotOpened(reason_of(&error))),
+        };
+        let size = match file.metadata() {
+            Ok(metadata) => metadata.len(),
+            Err(_) => 0,
+        };
+        self.watcher.open(size);
+        let mut reader = Watched {
+            inner: file,
+            watcher: &self.watcher,
+        };
+        read_up_to(self.rt.alloc(), &mut reader, size as usize, most as usize)
+    }
+}
+
+// A reader that says how many bytes come of it.
+#[derive(Drop)]
+struct Watched<'w, W, R: Read> {
+    inner: R,
+    watcher: &'w W,
+}
+
+impl<'w, W: Watcher, R: Read> Read for Watched<'w, W, R> {
+    ghost remaining = { λ w. R.remaining w.inner };
+
+    fn read(&mut self, buf: &mut [u8]) -> io::Result<usize> {
+        let read = self.inner.read(buf);
+        if let Ok(count) = &read {
+            self.watcher.advance(*count as u64);
+        }
+        read
+    }
+}

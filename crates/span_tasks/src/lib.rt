@@ -1,0 +1,33 @@
+//! Requests as they are done: what comes of each, over whatever files and outputs there are.
+#![tactic(auto)]
+
+mod added;
+mod files;
+pub mod laws;
+mod outcome;
+mod pages;
+mod place;
+mod printed;
+mod reading;
+mod requests;
+mod session;
+mod side;
+mod sides;
+mod tabulation;
+mod texts;
+mod together;
+
+pub use files::{Files, Unwatched, Watcher};
+pub use outcome::{Lines, LinesTo, Outcome};
+pub use place::Place;
+pub use session::Session;
+pub use span_collect::Settings;
+pub use span_event::{Text, Unit};
+pub use span_report::{Sink, SinkFault, Writer};
+pub use span_request::{
+    Apart, Changes, ComparisonForm, Items, PageView, RepeatsForm, Repetitions, Request, TableForm,
+    TableOptions, TableText, Tabulation, Task, View,
+};
+pub use span_runs::{Name, Named, Reason, Source, SourceFault};
+pub use span_table::{By, Column, Of};
+pub use span_table_text::Shown;

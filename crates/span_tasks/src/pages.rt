@@ -1,0 +1,214 @@
+//! A page of files each of which is a run of its own.
+ghost use Rattle.std.specs.Prelude.{◌≡◌, [], false, List, length, map, IfErr, IfOk};
+ghost use Rattle.span_tasks.specs.{Unit as TheUnit, Holds, OfStop, ShownRun, StopsAmong, TakesRun, TooGreatFault, AllFit, json_fits, number_of, run_line, shown_table, table_of, Outcome.PrintsOrStops, Pages.{AddsShown, AreHeld, PrintsPage, StopsPage, page_with, shown_alone, shown_run, shown_runs}};
+
+use crate::outcome::Print;
+use crate::place::Place;
+use crate::texts::{TableTexts, string_of};
+use span_collect::Settings;
+use span_event::Unit;
+use span_names::HashKeys;
+use span_page::RunsPage;
+use span_request::{Apart, PageView, TableForm};
+use span_runs::{FileRun, Gathered, Halt, Name, Source, collect_file};
+use span_table::{Table, TableSum};
+use std::alloc::AllocError;
+use std::random::RandomSource;
+use std::slice::from_ref;
+use std::sync::Wait;
+use std::thread::Threads;
+
+// The most files whose runs a page shows.
+const MOST_SHOWN: usize = 64;
+
+// Files that were each a run of its own, as they are summed, and the page of their runs.
+#[derive(Drop)]
+struct ShownFiles {
+    summed: Gathered<TableSum>,
+    page: RunsPage,
+}
+
+impl<'a, R: Threads + Wait + RandomSource + Sync, S: Source + Sync> Place<'a, R, S> {
+    /// A page of files. Where it shows their runs, they are collected one after another.
+    pub(crate) fn print_page(
+        &self,
+        apart: &Apart,
+        view: &PageView,
+        names: &[Name],
+    ) -> Result<Print, Halt>
+        ensures { PrintsOrStops
+            (PrintsPage (S.bytes self.now.source.now) names.now apart.now.settings view.now)
+            (StopsPage (S.bytes self.now.source.now) names.now apart.now.settings view.now) result }
+    {
+        self.source.begin_apart(names.len() as u64);
+        let shown = match self.show_files(apart, view, names) {
+            Ok(shown) => shown,
+            Err(halt) => return Err(halt),
+        };
+        let ShownFiles { summed, page } = shown;
+        let Gathered { runs: sum, lines } = summed;
+        let Ok(table) = sum.into_table() else {
+            return Err(Halt::Memory);
+        };
+        match self.text_of_runs(apart.settings.unit, view, table, page) {
+            Ok(text) => Ok(Print {
+                text,
+                lines,
+                hints: Vec::new(self.alloc),
+            }),
+            Err(halt) => Err(halt),
+        }
+    }
+
+    fn show_files(&self, apart: &Apart, view: &PageView, names: &[Name]) -> Result<ShownFiles, Halt>
+        ensures shown { IfOk result (AreHeld (shown_runs apart.now.settings)
+            (S.bytes self.now.source.now) names.now apart.now.settings view.now) }
+        ensures stop { IfErr result
+            (OfStop (StopsAmong (S.bytes self.now.source.now) apart.now.settings names.now)) }
+    {
+        if names.len() <= MOST_SHOWN {
+            return self.show_in_turn(&apart.settings, view, names);
+        }
+        self.show_sum(apart, view, names)
+    }
+
+    // The sum of files alone.
+    fn show_sum(&self, apart: &Apart, view: &PageView, names: &[Name]) -> Result<ShownFiles, Halt>
+        ensures shown { IfOk result (AreHeld (λ files. [])
+            (S.bytes self.now.source.now) names.now apart.now.settings view.now) }
+        ensures stop { IfErr result
+            (OfStop (StopsAmong (S.bytes self.now.source.now) apart.now.settings names.now)) }
+    {
+        let Ok(page) = RunsPage::begin(self.alloc) else {
+            return Err(Halt::Memory);
+        };
+        match self.gather(apart, &view.options, names) {
+            Ok(summed) => Ok(ShownFiles { summed, page }),
+            Err(halt) => Err(halt),
+        }
+    }
+
+    // The sum of files, and the run of each.
+    fn show_in_turn(
+        &self,
+        settings: &Settings,
+        view: &PageView,
+        names: &[Name],
+    ) -> Result<ShownFiles, Halt>
+        ensures shown { IfOk result (AreHeld (map (shown_alone settings.now))
+            (S.bytes self.now.source.now) names.now settings.now view.now) }
+        ensures stop { IfErr result
+            (OfStop (StopsAmong (S.bytes self.now.source.now) settings.now names.now)) }
+    {
+        let keys = HashKeys::random(self.rt);
+        let mut shown = match self.show_none(keys, view) {
+            Ok(none) => none,
+            Err(_) => return Err(Halt::Memory),
+        };
+        for name in names {
+            shown = match self.show_file(keys, settings, view, name, shown) {
+                Ok(more) => more,
+                Err(halt) => return Err(halt),
+            };
+        }
+        Ok(shown)
+    }
+
+    fn show_none(&self, keys: HashKeys, view: &PageView) -> Result<ShownFiles, AllocError>
+        ensures sum { IfOk result (λ none. none.summed.runs
+            ≡ table_of view.now.options.of view.now.options.columns.items []) }
+        ensures lines { IfOk result (λ none. none.summed.lines.items ≡ []) }
+        ensures runs { IfOk result (λ none. (unit : TheUnit)
+            → Holds unit view.now.labels.items [] none.page) }
+    {
+        let options = &view.options;
+        Ok(ShownFiles {
+            summed: Gathered::of_none(self.alloc, keys, options.of, &options.columns)?,
+            page: RunsPage::begin(self.alloc)?,
+        })
+    }
+
+    // With the file of this name.
+    fn show_file(
+        &self,
+        keys: HashKeys,
+        settings: &Settings,
+        view: &PageView,
+        name: &Name,
+        shown: ShownFiles,
+    ) -> Result<ShownFiles, Halt>
+        ensures { AddsShown (S.bytes self.now.source.now) name.now settings.now view.now shown
+            result }
+    {
+        let ShownFiles { summed, page } = shown;
+        let taken = match collect_file(self.rt, self.alloc, self.source, name, settings) {
+            Ok(taken) => taken,
+            Err(halt) => return Err(halt.after(summed.lines)),
+        };
+        let Ok(page) = self.with_run(settings.unit, view, page, &taken) else {
+            return Err(Halt::Memory);
+        };
+        let options = &view.options;
+        match summed.with_run(self.alloc, keys, options.of, &options.columns, &taken) {
+            Ok(summed) => Ok(ShownFiles { summed, page }),
+            Err(halt) => Err(halt),
+        }
+    }
+
+    fn with_run(
+        &self,
+        unit: Unit,
+        view: &PageView,
+        page: RunsPage,
+        run: &FileRun,
+    ) -> Result<RunsPage, AllocError>
+        requires { length run.now.collected.end.ends.items ≡ 1 }
+        ensures { IfOk result (TakesRun unit view.now.labels.items (shown_run run.now) page) }
+    {
+        let collected = &run.collected;
+        page.with_run(
+            self.alloc,
+            unit,
+            &collected.ledger,
+            from_ref(&run.file),
+            &collected.end.ends,
+            &view.labels,
+        )
+    }
+
+    // The page of runs, with the table of all.
+    fn text_of_runs(
+        &self,
+        unit: Unit,
+        view: &PageView,
+        table: Table,
+        page: RunsPage,
+    ) -> Result<Vec<u8>, Halt>
+        ensures text { IfOk result (λ text. (runs : List ShownRun)
+            → Holds unit view.now.labels.items runs page
+            → text.items ≡ page_with unit view.now table runs) }
+        ensures fits { IfOk result (λ text. AllFit (shown_table view.now.options.shown table)) }
+        ensures stop { IfErr result (OfStop (λ lines.
+            (json_fits view.now.options.shown table ≡ false)
+            × (lines ≡ run_line (number_of TooGreatFault)))) }
+    {
+        let texts = TableTexts {
+            alloc: self.alloc,
+            unit,
+            says_runs: true,
+            shown: &view.options.shown,
+        };
+        let text = match texts.table(TableForm::Json, &table) {
+            Ok(text) => text,
+            Err(halt) => return Err(halt),
+        };
+        self.let_go(table);
+        let Ok(text) = string_of(text) else {
+            return Err(Halt::Memory);
+        };
+        match page.end(self.alloc, text) {
+            Ok(page) => Ok(page),
+            Err(_) => Err(Halt::Memory),
+        }
+    }
+}

@@ -1,0 +1,233 @@
+//! The tables of one side, as they are gathered.
+ghost use Rattle.std.specs.Prelude.{◌≡◌, ◌∷◌, ◌++◌, [], true, false, IfErr, IfOk};
+ghost use Rattle.span_runs.specs.declared.stop.Halt.TheVariants.{Memory};
+ghost use Rattle.span_tasks.specs.{AreGathered, GathersOrStops, IsHint, OfStop, StopsAmong, run_of_files, table_of_run, Sides.{AreOptions, ComeTo, IsOfRun}, Together.StopsTogether};
+
+use crate::place::Place;
+use crate::together::TogetherRun;
+use span_collect::Settings;
+use span_event::Unit;
+use span_request::{Apart, TableOptions};
+use span_runs::{Gathered, Gathering, Halt, Name, Source, Stop, gather_apart, table_of_run};
+use span_table::{Column, Of, Table, TableSum, copies_of};
+use std::alloc::{AllocError, Global};
+use std::random::RandomSource;
+use std::sync::Wait;
+use std::thread;
+use std::thread::Threads;
+
+const MOST_JOBS: usize = 64;
+
+/// The tables of one side, in one unit, which sum the same by the same columns; and the lines and hints that follow what is printed of
+/// them.
+#[derive(Drop)]
+pub(crate) struct Side {
+    pub(crate) unit: Unit,
+    pub(crate) of: Of,
+    pub(crate) columns: Vec<Column>,
+    pub(crate) tables: Vec<Table>,
+    pub(crate) lines: Vec<u8>,
+    pub(crate) hints: Vec<u8>,
+}
+
+/// A list of one table.
+pub(crate) fn only(alloc: Global, table: Table) -> Result<Vec<Table>, AllocError>
+    ensures { IfOk result (λ tables. tables.items ≡ table ∷ []) }
+{
+    let mut tables = Vec::with_capacity(alloc, 1)?;
+    tables.push(table)?;
+    Ok(tables)
+}
+
+impl Side {
+    /// What stopped behind this side, with its lines and hints before.
+    pub(crate) fn before(self, stop: Stop) -> Result<Stop, AllocError>
+        requires mine { IsHint self.hints.items }
+        requires its { IsHint stop.hints.items }
+        ensures lines { IfOk result (λ both. both.lines.items
+            ≡ self.lines.items ++ stop.lines.items) }
+        ensures hints { IfOk result (λ both. IsHint both.hints.items) }
+    {
+        let (mut lines, mut hints) = (self.lines, self.hints);
+        lines.extend_from_slice(&stop.lines)?;
+        hints.extend_from_slice(&stop.hints)?;
+        Ok(Stop { lines, hints })
+    }
+}
+
+impl<'a, R: Threads + Wait + RandomSource + Sync, S: Source + Sync> Place<'a, R, S> {
+    /// The table of what is named, as one run.
+    pub(crate) fn run_side(
+        &self,
+        settings: &Settings,
+        options: &TableOptions,
+        names: &[Name],
+    ) -> Result<Side, Halt>
+        ensures side { IfOk result (λ side. AreOptions settings.now options.now side
+            × IsOfRun (S.bytes self.now.source.now) names.now settings.now options.now side) }
+        ensures hints { IfOk result (λ side. IsHint side.hints.items) }
+        ensures stop { IfErr result
+            (OfStop (StopsTogether (S.bytes self.now.source.now) names.now settings.now)) }
+    {
+        let run = match self.collect_together(settings, names) {
+            Ok(run) => run,
+            Err(halt) => return Err(halt),
+        };
+        match self.side_of_run(settings.unit, options, run) {
+            Ok(side) => Ok(side),
+            Err(_) => Err(Halt::Memory),
+        }
+    }
+
+    fn side_of_run(
+        &self,
+        unit: Unit,
+        options: &TableOptions,
+        run: TogetherRun,
+    ) -> Result<Side, AllocError>
+        ensures unit { IfOk result (λ side. side.unit ≡ unit) }
+        ensures of { IfOk result (λ side. side.of ≡ options.now.of) }
+        ensures columns { IfOk result (λ side. side.columns.items ≡ options.now.columns.items) }
+        ensures tables { IfOk result (λ side. side.tables.items
+            ≡ table_of_run options.now.of options.now.columns.items
+            (run_of_files run.inputs.items run.collected.end.ends.items run.collected.ledger.journal)
+            ∷ []) }
+        ensures lines { IfOk result (λ side. side.lines ≡ run.lines) }
+        ensures hints { IfOk result (λ side. side.hints ≡ run.hints) }
+    {
+        let (alloc, of, columns) = (self.alloc, options.of, &options.columns);
+        let TogetherRun {
+            inputs,
+            collected,
+            lines,
+            hints,
+        } = run;
+        let table = table_of_run(self.rt, alloc, of, columns, &inputs, &collected)?;
+        drop(inputs);
+        self.let_go(collected);
+        Ok(Side {
+            unit,
+            of,
+            columns: copies_of(alloc, columns)?,
+            tables: only(alloc, table)?,
+            lines,
+            hints,
+        })
+    }
+
+    /// The table of files each of which is a run of its own.
+    pub(crate) fn sum_side(
+        &self,
+        apart: &Apart,
+        options: &TableOptions,
+        names: &[Name],
+    ) -> Result<Side, Halt>
+        ensures side { IfOk result (λ side. AreOptions apart.now.settings options.now side
+            × AreGathered (S.bytes self.now.source.now) names.now apart.now.settings
+            (λ runs. ComeTo false options.now.of options.now.columns.items runs side.tables.items)
+            side.lines.items) }
+        ensures hints { IfOk result (λ side. IsHint side.hints.items) }
+        ensures stop { IfErr result
+            (OfStop (StopsAmong (S.bytes self.now.source.now) apart.now.settings names.now)) }
+    {
+        let summed: Gathered<TableSum> = match self.gather(apart, options, names) {
+            Ok(summed) => summed,
+            Err(halt) => return Err(halt),
+        };
+        let Gathered { runs: sum, lines } = summed;
+        let Ok(table) = sum.into_table() else {
+            return Err(Halt::Memory);
+        };
+        let Ok(tables) = only(self.alloc, table) else {
+            return Err(Halt::Memory);
+        };
+        self.side_of(apart.settings.unit, options, tables, lines)
+    }
+
+    /// The table of each of the files, which are runs of their own.
+    pub(crate) fn each_side(
+        &self,
+        apart: &Apart,
+        options: &TableOptions,
+        names: &[Name],
+    ) -> Result<Side, Halt>
+        ensures side { IfOk result (λ side. AreOptions apart.now.settings options.now side
+            × AreGathered (S.bytes self.now.source.now) names.now apart.now.settings
+            (λ runs. ComeTo true options.now.of options.now.columns.items runs side.tables.items)
+            side.lines.items) }
+        ensures hints { IfOk result (λ side. IsHint side.hints.items) }
+        ensures stop { IfErr result
+            (OfStop (StopsAmong (S.bytes self.now.source.now) apart.now.settings names.now)) }
+    {
+        let tables: Gathered<Vec<Table>> = match self.gather(apart, options, names) {
+            Ok(tables) => tables,
+            Err(halt) => return Err(halt),
+        };
+        let Gathered {
+            runs: tables,
+            lines,
+        } = tables;
+        self.side_of(apart.settings.unit, options, tables, lines)
+    }
+
+    fn side_of(
+        &self,
+        unit: Unit,
+        options: &TableOptions,
+        tables: Vec<Table>,
+        lines: Vec<u8>,
+    ) -> Result<Side, Halt>
+        ensures unit { IfOk result (λ side. side.unit ≡ unit) }
+        ensures of { IfOk result (λ side. side.of ≡ options.now.of) }
+        ensures columns { IfOk result (λ side. side.columns.items ≡ options.now.columns.items) }
+        ensures tables { IfOk result (λ side. side.tables ≡ tables) }
+        ensures lines { IfOk result (λ side. side.lines ≡ lines) }
+        ensures hints { IfOk result (λ side. side.hints.items ≡ []) }
+        ensures memory { IfErr result (λ halt. halt ≡ Memory) }
+    {
+        let Ok(columns) = copies_of(self.alloc, &options.columns) else {
+            return Err(Halt::Memory);
+        };
+        Ok(Side {
+            unit,
+            of: options.of,
+            columns,
+            tables,
+            lines,
+            hints: Vec::new(self.alloc),
+        })
+    }
+
+    /// What files come to each of which is a run of its own.
+    pub(crate) fn gather<T: Gathering>(
+        &self,
+        apart: &Apart,
+        options: &TableOptions,
+        names: &[Name],
+    ) -> Result<Gathered<T>, Halt>
+        ensures { GathersOrStops (S.bytes self.now.source.now) names.now apart.now.settings
+            (T.come_to options.now.of options.now.columns.items) result }
+    {
+        gather_apart(
+            self.rt,
+            self.alloc,
+            self.source,
+            names,
+            &apart.settings,
+            options.of,
+            &options.columns,
+            self.jobs_of(apart),
+        )
+    }
+
+    /// How many jobs there are at once.
+    pub(crate) fn jobs_of(&self, apart: &Apart) -> u32 {
+        if let Some(jobs) = apart.jobs {
+            return jobs;
+        }
+        match thread::available_parallelism(self.rt) {
+            Ok(count) => count.get().min(MOST_JOBS) as u32,
+            Err(_) => 1,
+        }
+    }
+}

@@ -1,0 +1,101 @@
+//! The tables that a text is made of: those of one side, or of two.
+ghost use Rattle.std.specs.Prelude.{IfErr, IfOk};
+ghost use Rattle.span_tasks.specs.{AreGathered, IsHint, OfStop, StopsAmong, Sides.{AreOptions, AreSides, ComeTo, IsOneSide, StopSides, StopsOneSide}};
+
+use crate::place::Place;
+use crate::side::Side;
+use span_request::{Apart, Items, TableOptions};
+use span_runs::{Halt, Name, Source};
+use span_table::By;
+use std::random::RandomSource;
+use std::sync::Wait;
+use std::thread::Threads;
+
+/// What tables are gathered: of what, by what, with which number, and whether a table of each is wanted or one of all.
+#[derive(Clone, Copy)]
+pub(crate) struct Wanted<'a> {
+    pub(crate) items: Items,
+    pub(crate) options: &'a TableOptions,
+    pub(crate) by: Option<By>,
+    pub(crate) each: bool,
+}
+
+/// What is compared, and what it is compared with.
+#[derive(Drop)]
+pub(crate) struct Sides {
+    pub(crate) base: Side,
+    pub(crate) other: Side,
+}
+
+impl<'a, R: Threads + Wait + RandomSource + Sync, S: Source + Sync> Place<'a, R, S> {
+    /// The tables of what is named.
+    pub(crate) fn one_side(&self, wanted: Wanted, names: &[Name]) -> Result<Side, Halt>
+        ensures side { IfOk result (IsOneSide (S.bytes self.now.source.now) wanted.entry.items
+            wanted.entry.options.now wanted.entry.by wanted.entry.each names.now) }
+        ensures hints { IfOk result (λ side. IsHint side.hints.items) }
+        ensures stop { IfErr result (OfStop (StopsOneSide (S.bytes self.now.source.now) wanted.entry.items
+            wanted.entry.options.now wanted.entry.by wanted.entry.each names.now)) }
+    {
+        match wanted.items {
+            Items::Together(settings) => match self.run_side(&settings, wanted.options, names) {
+                Ok(side) => Ok(side),
+                Err(halt) => Err(halt),
+            },
+            Items::Apart(apart) => match self.apart_side(&apart, wanted, names) {
+                Ok(side) => Ok(side),
+                Err(halt) => Err(halt),
+            },
+            Items::Printed => match self.printed_base(wanted, names) {
+                Ok(printed) => Ok(printed.side),
+                Err(halt) => Err(halt),
+            },
+        }
+    }
+
+    // The tables of files each of which is a run of its own.
+    fn apart_side(&self, apart: &Apart, wanted: Wanted, names: &[Name]) -> Result<Side, Halt>
+        ensures side { IfOk result (λ side. AreOptions apart.now.settings wanted.entry.options.now side
+            × AreGathered (S.bytes self.now.source.now) names.now apart.now.settings
+            (λ runs. ComeTo wanted.entry.each wanted.entry.options.now.of
+            wanted.entry.options.now.columns.items runs side.tables.items) side.lines.items) }
+        ensures hints { IfOk result (λ side. IsHint side.hints.items) }
+        ensures stop { IfErr result
+            (OfStop (StopsAmong (S.bytes self.now.source.now) apart.now.settings names.now)) }
+    {
+        if wanted.each {
+            return self.each_side(apart, wanted.options, names);
+        }
+        self.sum_side(apart, wanted.options, names)
+    }
+
+    /// The tables of the base, and then those of the others, of the same kind.
+    pub(crate) fn both_sides(
+        &self,
+        wanted: Wanted,
+        base: &[Name],
+        names: &[Name],
+    ) -> Result<Sides, Halt>
+        ensures sides { IfOk result (λ sides. AreSides (S.bytes self.now.source.now) wanted.entry.items
+            wanted.entry.options.now wanted.entry.by wanted.entry.each base.now names.now sides.base sides.other) }
+        ensures base_hints { IfOk result (λ sides. IsHint sides.base.hints.items) }
+        ensures hints { IfOk result (λ sides. IsHint sides.other.hints.items) }
+        ensures stop { IfErr result (OfStop (StopSides (S.bytes self.now.source.now) wanted.entry.items
+            wanted.entry.options.now wanted.entry.by wanted.entry.each base.now names.now)) }
+    {
+        if let Items::Printed = wanted.items {
+            return self.printed_sides(wanted, base, names);
+        }
+        let base = match self.one_side(wanted, base) {
+            Ok(base) => base,
+            Err(halt) => return Err(halt),
+        };
+        match self.one_side(wanted, names) {
+            Ok(other) => Ok(Sides { base, other }),
+            Err(Halt::Memory) => Err(Halt::Memory),
+            Err(Halt::Stopped(stop)) => match base.before(stop) {
+                Ok(stop) => Err(Halt::Stopped(stop)),
+                Err(_) => Err(Halt::Memory),
+            },
+        }
+    }
+}

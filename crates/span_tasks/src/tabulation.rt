@@ -1,0 +1,262 @@
+//! What is printed of tables.
+ghost use Rattle.std.specs.Prelude.{◌≡◌, ◌≤◌, ◌↔◌, ◌∷◌, ◌++◌, [], true, false, IsTrue, IfErr, IfOk, IfSome, length};
+ghost use Rattle.span_request.specs.declared.tasks.TableText.TheVariants.{Changes as OfChanges, Repetitions as OfRepetitions, Table as OfTable};
+ghost use Rattle.span_runs.specs.declared.stop.Halt.TheVariants.{Memory};
+ghost use Rattle.span_tasks.specs.{IsHint, OfStop, SpanTable, TooGreatFault, number_of, run_line, Outcome.PrintsOrStops, Tabulations.{AreFew, PrintsText, StopsTabulating, StopsTabulation, Tabulates, says_runs}, Texts.{TableExceeds, TableFits, changes_fit, changes_text, table_text}};
+
+use crate::outcome::Print;
+use crate::place::Place;
+use crate::side::Side;
+use crate::sides::{Sides, Wanted};
+use crate::texts::TableTexts;
+use span_event::{Fault, Unit};
+use span_request::{Changes, ComparisonForm, Items, Repetitions, TableForm, TableText, Tabulation};
+use span_runs::{Halt, Name, Source};
+use span_table::Table;
+use std::alloc::{AllocError, Global};
+use std::random::RandomSource;
+use std::sync::Wait;
+use std::thread::Threads;
+
+// The most repetitions of a side.
+const MOST_REPETITIONS: usize = 64;
+
+impl<'a, R: Threads + Wait + RandomSource + Sync, S: Source + Sync> Place<'a, R, S> {
+    /// What is printed of the tables of what is named.
+    pub(crate) fn print_tables(&self, task: &Tabulation, names: &[Name]) -> Result<Print, Halt>
+        ensures { PrintsOrStops (Tabulates (S.bytes self.now.source.now) task.now names.now)
+            (StopsTabulating (S.bytes self.now.source.now) task.now names.now) result }
+    {
+        match &task.text {
+            TableText::Table(form) => self.print_table(task, *form, names),
+            TableText::Changes(asked) => self.print_changes(task, asked, names),
+            TableText::Repetitions(asked) => self.print_repetitions(task, asked, names),
+        }
+    }
+
+    fn print_table(&self, task: &Tabulation, form: TableForm, names: &[Name]) -> Result<Print, Halt>
+        ensures { PrintsOrStops (PrintsText (S.bytes self.now.source.now) task.now.items
+            task.now.options names.now (OfTable form))
+            (StopsTabulation (S.bytes self.now.source.now) task.now.items task.now.options names.now
+            (OfTable form)) result }
+    {
+        self.begin(task.items, names.len());
+        let wanted = Wanted {
+            items: task.items,
+            options: &task.options,
+            by: form.by(),
+            each: false,
+        };
+        let side = match self.one_side(wanted, names) {
+            Ok(side) => side,
+            Err(halt) => return Err(halt),
+        };
+        let text = match text_of_side(self.alloc, task, form, &side) {
+            Ok(text) => text,
+            Err(halt) => return Err(halt),
+        };
+        let Side {
+            tables,
+            lines,
+            hints,
+            ..
+        } = side;
+        self.let_go(tables);
+        Ok(Print { text, lines, hints })
+    }
+
+    fn print_changes(
+        &self,
+        task: &Tabulation,
+        asked: &Changes,
+        names: &[Name],
+    ) -> Result<Print, Halt>
+        ensures { PrintsOrStops (PrintsText (S.bytes self.now.source.now) task.now.items
+            task.now.options names.now (OfChanges asked.now))
+            (StopsTabulation (S.bytes self.now.source.now) task.now.items task.now.options names.now
+            (OfChanges asked.now)) result }
+    {
+        self.begin(task.items, asked.base.len().saturating_add(names.len()));
+        let wanted = Wanted {
+            items: task.items,
+            options: &task.options,
+            by: asked.form.by(),
+            each: false,
+        };
+        let sides = match self.both_sides(wanted, &asked.base, names) {
+            Ok(sides) => sides,
+            Err(halt) => return Err(halt),
+        };
+        let text = match text_of_changes(self.alloc, task, asked.form, &sides) {
+            Ok(text) => text,
+            Err(halt) => return Err(halt),
+        };
+        match self.print_of(sides, text) {
+            Ok(print) => Ok(print),
+            Err(halt) => Err(halt),
+        }
+    }
+
+    fn print_repetitions(
+        &self,
+        task: &Tabulation,
+        asked: &Repetitions,
+        names: &[Name],
+    ) -> Result<Print, Halt>
+        ensures { PrintsOrStops (PrintsText (S.bytes self.now.source.now) task.now.items
+            task.now.options names.now (OfRepetitions asked.now))
+            (StopsTabulation (S.bytes self.now.source.now) task.now.items task.now.options names.now
+            (OfRepetitions asked.now)) result }
+    {
+        if !are_few(&asked.base, names) {
+            return Err(Halt::of_run(self.alloc, Fault::FileCount.code()));
+        }
+        self.begin(task.items, asked.base.len().saturating_add(names.len()));
+        let wanted = Wanted {
+            items: task.items,
+            options: &task.options,
+            by: asked.by,
+            each: true,
+        };
+        let sides = match self.both_sides(wanted, &asked.base, names) {
+            Ok(sides) => sides,
+            Err(halt) => return Err(halt),
+        };
+        let texts = texts_of(self.alloc, task, sides.base.unit);
+        let text = match texts.repetitions(asked, &sides.base, &sides.other) {
+            Ok(text) => text,
+            Err(halt) => return Err(halt),
+        };
+        match self.print_of(sides, text) {
+            Ok(print) => Ok(print),
+            Err(halt) => Err(halt),
+        }
+    }
+
+    // So many files are read, each for itself.
+    fn begin(&self, items: Items, files: usize) {
+        match items {
+            Items::Together(_) => {}
+            _ => self.source.begin_apart(files as u64),
+        }
+    }
+
+    // A text of two sides, with the lines of both behind it.
+    fn print_of(&self, sides: Sides, text: Vec<u8>) -> Result<Print, Halt>
+        requires base { IsHint sides.base.hints.items }
+        requires other { IsHint sides.other.hints.items }
+        ensures text { IfOk result (λ print. print.text ≡ text) }
+        ensures lines { IfOk result (λ print. print.lines.items
+            ≡ sides.base.lines.items ++ sides.other.lines.items) }
+        ensures hints { IfOk result (λ print. IsHint print.hints.items) }
+        ensures memory { IfErr result (λ halt. halt ≡ Memory) }
+    {
+        let Sides { base, other } = sides;
+        self.let_go(base.tables);
+        self.let_go(other.tables);
+        match joined(base.lines, &other.lines) {
+            Ok(lines) => Ok(Print {
+                text,
+                lines,
+                hints: with_hints(base.hints, &other.hints),
+            }),
+            Err(_) => Err(Halt::Memory),
+        }
+    }
+}
+
+fn joined(lines: Vec<u8>, more: &[u8]) -> Result<Vec<u8>, AllocError>
+    ensures { IfOk result (λ both. both.items ≡ lines.items ++ more.now) }
+{
+    let mut both = lines;
+    both.extend_from_slice(more)?;
+    Ok(both)
+}
+
+// Hints for which there is no memory are left out.
+fn with_hints(hints: Vec<u8>, more: &[u8]) -> Vec<u8>
+    requires mine { IsHint hints.items }
+    requires its { IsHint more.now }
+    ensures { IsHint result.items }
+{
+    let mut both = hints;
+    let _ = both.extend_from_slice(more);
+    both
+}
+
+// The one table of a side.
+fn only_table(side: &Side) -> Option<&Table>
+    ensures { IfSome result (λ table. side.now.tables.items ≡ table.now ∷ []) }
+{
+    match side.tables.as_slice() {
+        [table] => Some(table),
+        _ => None,
+    }
+}
+
+// How the tables of a task are printed, whose times are in this unit.
+fn texts_of(alloc: Global, task: &Tabulation, unit: Unit) -> TableTexts<'_>
+    ensures unit { result.unit ≡ unit }
+    ensures runs { result.says_runs ≡ says_runs task.now.items }
+    ensures shown { result.shown.now ≡ task.now.options.shown }
+{
+    let says_runs = match task.items {
+        Items::Together(_) => false,
+        _ => true,
+    };
+    TableTexts {
+        alloc,
+        unit,
+        says_runs,
+        shown: &task.options.shown,
+    }
+}
+
+fn text_of_side(
+    alloc: Global,
+    task: &Tabulation,
+    form: TableForm,
+    side: &Side,
+) -> Result<Vec<u8>, Halt>
+    ensures text { IfOk result (λ text. (table : SpanTable)
+        × (side.now.tables.items ≡ table ∷ []) × TableFits form task.now.options.shown table
+        × (text.items ≡ table_text side.now.unit form task.now.options.shown
+        (says_runs task.now.items) table)) }
+    ensures stop { IfErr result (OfStop (λ lines. (table : SpanTable)
+        × (side.now.tables.items ≡ table ∷ []) × TableExceeds form task.now.options.shown table
+        × (lines ≡ run_line (number_of TooGreatFault)))) }
+{
+    let Some(table) = only_table(side) else {
+        return Err(Halt::Memory);
+    };
+    texts_of(alloc, task, side.unit).table(form, table)
+}
+
+fn text_of_changes(
+    alloc: Global,
+    task: &Tabulation,
+    form: ComparisonForm,
+    sides: &Sides,
+) -> Result<Vec<u8>, Halt>
+    ensures text { IfOk result (λ text. (base other : SpanTable)
+        × (sides.now.base.tables.items ≡ base ∷ []) × (sides.now.other.tables.items ≡ other ∷ [])
+        × (changes_fit form task.now.options.shown base other ≡ true)
+        × (text.items ≡ changes_text sides.now.base.unit form task.now.options.shown
+        (says_runs task.now.items) base other)) }
+    ensures stop { IfErr result (OfStop (λ lines. (base other : SpanTable)
+        × (sides.now.base.tables.items ≡ base ∷ []) × (sides.now.other.tables.items ≡ other ∷ [])
+        × (changes_fit form task.now.options.shown base other ≡ false)
+        × (lines ≡ run_line (number_of TooGreatFault)))) }
+{
+    let (Some(base), Some(other)) = (only_table(&sides.base), only_table(&sides.other)) else {
+        return Err(Halt::Memory);
+    };
+    texts_of(alloc, task, sides.base.unit).changes(form, base, other)
+}
+
+// Whether each side has a repetition, and not too many.
+fn are_few(base: &[Name], names: &[Name]) -> bool
+    ensures { IsTrue result ↔ AreFew base.now names.now }
+{
+    !base.is_empty() && base.len() <= MOST_REPETITIONS && names.len() <= MOST_REPETITIONS
+}

@@ -1,0 +1,243 @@
+//! What is named, collected as one run, and what is printed of it.
+ghost use Rattle.std.specs.Prelude.{◌≡◌, length, Contains, IfErr, IfOk};
+ghost use Rattle.span_tasks.specs.{Name as TheName, AreInputs, IsHint, OfStop, StacksFault as StacksTooLarge, number_of, fault_text, printed, run_line, run_code, unread_line, Outcome.PrintsOrStops, Together.{Collects, EndsWell, Exceeds, Fits, StopsCollecting, StopsTogether, text_of}};
+ghost use Rattle.span_report.specs.declared.stacks.fault.StacksFault.TheVariants.{TooLarge};
+ghost use Rattle.span_request.specs.declared.views.View.TheVariants.{Page as OfPage};
+
+use crate::outcome::Print;
+use crate::place::Place;
+use crate::texts::{TableTexts, string_of};
+use span_collect::refusals::refusals;
+use span_collect::{Collected, Input, RunError, Settings, collect_to_ledger};
+use span_event::{Fault, Unit};
+use span_faults::{fault_text, hints_of, many_files};
+use span_page::page;
+use span_report::report;
+use span_report::stacks::{StacksFault, folded};
+use span_request::{PageView, TableForm, View};
+use span_runs::{Halt, Name, Source, Stop, read_input, table_of_run};
+use std::alloc::Global;
+use std::random::RandomSource;
+use std::sync::Wait;
+use std::thread::Threads;
+
+/// What was collected of what is named, as one run, with the lines and hints that follow what is printed of it.
+#[derive(Drop)]
+pub(crate) struct TogetherRun {
+    pub(crate) inputs: Vec<Input>,
+    pub(crate) collected: Collected,
+    pub(crate) lines: Vec<u8>,
+    pub(crate) hints: Vec<u8>,
+}
+
+impl<'a, R: Threads + Wait + RandomSource + Sync, S: Source + Sync> Place<'a, R, S> {
+    /// What is printed of what is named, as one run.
+    pub(crate) fn print_view(
+        &self,
+        settings: &Settings,
+        view: &View,
+        names: &[Name],
+    ) -> Result<Print, Halt>
+        ensures { PrintsOrStops
+            (Collects (S.bytes self.now.source.now) names.now settings.now view.now)
+            (StopsCollecting (S.bytes self.now.source.now) names.now settings.now view.now) result }
+    {
+        let run = match self.collect_together(settings, names) {
+            Ok(run) => run,
+            Err(halt) => return Err(halt),
+        };
+        let made = self.text_of_view(settings.unit, view, &run.inputs, &run.collected);
+        let TogetherRun {
+            inputs,
+            collected,
+            lines,
+            hints,
+        } = run;
+        drop(inputs);
+        self.let_go(collected);
+        match made {
+            Ok(text) => Ok(Print { text, lines, hints }),
+            Err(halt) => Err(halt),
+        }
+    }
+
+    /// Reads what is named, and collects it as one run. One that ends with 2 stops.
+    pub(crate) fn collect_together(
+        &self,
+        settings: &Settings,
+        names: &[Name],
+    ) -> Result<TogetherRun, Halt>
+        ensures run { IfOk result (EndsWell (S.bytes self.now.source.now) names.now settings.now) }
+        ensures stop { IfErr result
+            (OfStop (StopsTogether (S.bytes self.now.source.now) names.now settings.now)) }
+    {
+        let inputs = match self.read_inputs(names) {
+            Ok(inputs) => inputs,
+            Err(halt) => return Err(halt),
+        };
+        self.source.end();
+        let collected = match collect_to_ledger(self.rt, self.alloc, &inputs, &[], settings) {
+            Ok(collected) => collected,
+            Err(error) => return Err(refused(self.alloc, error)),
+        };
+        let Ok(lines) = fault_text(self.alloc, &inputs, &collected.end) else {
+            return Err(Halt::Memory);
+        };
+        let lines = lines.into_bytes();
+        let hints = self.hints_of_run(settings.unit, &inputs, &collected);
+        if collected.end.status == 2 {
+            return Err(Halt::Stopped(Stop { lines, hints }));
+        }
+        Ok(TogetherRun {
+            inputs,
+            collected,
+            lines,
+            hints,
+        })
+    }
+
+    // What is named, as it is read. The first that cannot be read decides.
+    fn read_inputs(&self, names: &[Name]) -> Result<Vec<Input>, Halt>
+        ensures read { IfOk result (λ inputs.
+            AreInputs (S.bytes self.now.source.now) names.now inputs.items) }
+        ensures stop { IfErr result (OfStop (λ lines. (name : TheName)
+            × Contains names.now name × (lines ≡ unread_line (printed name)))) }
+    {
+        let Ok(mut inputs) = Vec::with_capacity(self.alloc, names.len()) else {
+            return Err(Halt::Memory);
+        };
+        for name in names {
+            let input = match read_input(self.alloc, self.source, name) {
+                Ok(input) => input,
+                Err(halt) => return Err(halt),
+            };
+            let Ok(()) = inputs.push(input) else {
+                return Err(Halt::Memory);
+            };
+        }
+        Ok(inputs)
+    }
+
+    fn hints_of_run(&self, unit: Unit, inputs: &[Input], collected: &Collected) -> Vec<u8>
+        ensures { IsHint result.items }
+    {
+        if self.takes_hints {
+            hints_of(self.alloc, inputs, collected, unit)
+        } else {
+            Vec::new(self.alloc)
+        }
+    }
+
+    // The text of this view of a run.
+    fn text_of_view(
+        &self,
+        unit: Unit,
+        view: &View,
+        files: &[Input],
+        collected: &Collected,
+    ) -> Result<Vec<u8>, Halt>
+        requires { length files.now ≡ length collected.now.end.ends.items }
+        ensures text { IfOk result (λ text. text.items ≡ text_of unit view.now files.now
+            collected.now.end.ends.items collected.now.ledger.journal) }
+        ensures fits { IfOk result (λ text. Fits view.now files.now
+            collected.now.end.ends.items collected.now.ledger.journal) }
+        ensures stop { IfErr result (OfStop (Exceeds view.now files.now
+            collected.now.end.ends.items collected.now.ledger.journal)) }
+    {
+        let ledger = &collected.ledger;
+        match view {
+            View::Report => match report(self.alloc, unit, ledger) {
+                Ok(text) => Ok(text),
+                Err(_) => Err(Halt::Memory),
+            },
+            View::Refusals => {
+                match refusals(self.alloc, unit, ledger, files, &collected.end.ends) {
+                    Ok(text) => Ok(text),
+                    Err(_) => Err(Halt::Memory),
+                }
+            }
+            View::Folded(labels) => match folded(self.alloc, ledger, labels) {
+                Ok(text) => Ok(text),
+                Err(fault) => Err(halt_of_stacks(self.alloc, fault)),
+            },
+            View::Page(page) => self.text_of_page(unit, page, files, collected),
+        }
+    }
+
+    fn text_of_page(
+        &self,
+        unit: Unit,
+        view: &PageView,
+        files: &[Input],
+        collected: &Collected,
+    ) -> Result<Vec<u8>, Halt>
+        requires { length files.now ≡ length collected.now.end.ends.items }
+        ensures text { IfOk result (λ text. text.items ≡ text_of unit (OfPage view.now) files.now
+            collected.now.end.ends.items collected.now.ledger.journal) }
+        ensures fits { IfOk result (λ text. Fits (OfPage view.now) files.now
+            collected.now.end.ends.items collected.now.ledger.journal) }
+        ensures stop { IfErr result (OfStop (Exceeds (OfPage view.now) files.now
+            collected.now.end.ends.items collected.now.ledger.journal)) }
+    {
+        let (alloc, options) = (self.alloc, &view.options);
+        let Ok(table) = table_of_run(
+            self.rt,
+            alloc,
+            options.of,
+            &options.columns,
+            files,
+            collected,
+        ) else {
+            return Err(Halt::Memory);
+        };
+        let texts = TableTexts {
+            alloc,
+            unit,
+            says_runs: false,
+            shown: &options.shown,
+        };
+        let text = match texts.table(TableForm::Json, &table) {
+            Ok(text) => text,
+            Err(halt) => return Err(halt),
+        };
+        drop(table);
+        let Ok(text) = string_of(text) else {
+            return Err(Halt::Memory);
+        };
+        let ends = &collected.end.ends;
+        match page(
+            alloc,
+            unit,
+            &collected.ledger,
+            files,
+            ends,
+            &view.labels,
+            text,
+        ) {
+            Ok(page) => Ok(page),
+            Err(_) => Err(Halt::Memory),
+        }
+    }
+}
+
+// A run was refused.
+fn refused(alloc: Global, error: RunError) -> Halt
+    ensures { OfStop (λ lines. lines ≡ run_line (run_code error)) result }
+{
+    match error {
+        RunError::Memory => Halt::Memory,
+        RunError::FileCount => Halt::of_run(alloc, error.code()).with_hint(many_files(alloc)),
+        _ => Halt::of_run(alloc, error.code()),
+    }
+}
+
+// Folded stacks were not made.
+fn halt_of_stacks(alloc: Global, fault: StacksFault) -> Halt
+    ensures { OfStop (λ lines. (fault ≡ TooLarge)
+        × (lines ≡ run_line (number_of StacksTooLarge))) result }
+{
+    match fault {
+        StacksFault::Memory => Halt::Memory,
+        StacksFault::TooLarge => Halt::of_run(alloc, Fault::StacksTooLarge.code()),
+    }
+}

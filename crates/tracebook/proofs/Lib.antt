@@ -1,9 +1,0 @@
-mod Adding
-mod Changes
-mod FleetTrees
-mod InTurn
-mod RepeatedSides
-mod RunPages
-mod RunPairs
-mod Views
-mod Written

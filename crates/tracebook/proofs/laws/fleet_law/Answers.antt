@@ -1,8 +1,0 @@
-use Rattle.tracebook.proofs.FleetTrees.{adds-trees, sums-leaves}
-use Rattle.tracebook.proofs.laws.fleet_law.Goals as goal
-
-pub returns-clause-sums : goal.returns-clause-sums
-returns-clause-sums c = sums-leaves
-
-pub returns-clause-adds : goal.returns-clause-adds
-returns-clause-adds c = adds-trees

@@ -1,8 +1,0 @@
-use Rattle.std.specs.Prelude.{map}
-use Rattle.std.proofs.Common.{take}
-use Rattle.tracebook.specs.Pages.{AreHeld, shown_alone}
-use Rattle.tracebook.proofs.pages.show_in_turn.Given as goal
-
--- the files so far are held
-abbrev pub invariant-loop-name : goal.invariant-loop-name
-invariant-loop-name g l = AreHeld (map (shown_alone l.settings)) (g.S.Source.bytes l.source).file (take l.name-index l.names) l.settings l.view l.shown
