@@ -1,7 +1,7 @@
 -- Rows that are added one by one, and the part that they make.
 use Rattle.std.specs.Prelude.{flat_map, sum_by}
-use Rattle.std.proofs.{Common.{◌≡◌, ℕ, ◌+◌, List, [], ◌∷◌, ◌++◌, map, refl, sym, ap, ◌∙◌, append_assoc, append-nil, arith}, lemmas.{Grind.flat_map-append, List.{map-append, Sums.sum_by-append}}}
-use Rattle.span_table.proofs.{AddedTables.{counts-same, rows-back, rows_of-alike}, Alike.{AddUpAlike-append, AddUpAlike-refl, AddUpAlike-sym}, OwnRows.rows_of-own}
+use Rattle.std.proofs.{Common.{◌≡◌, ℕ, ◌+◌, List, [], ◌∷◌, ◌++◌, map, refl, sym, ap, ap₂, ◌∙◌, append_assoc, append-nil, arith}, lemmas.{Grind.flat_map-append, List.{map-append, Sums.sum_by-append}}}
+use Rattle.span_table.proofs.{AddedTables.{counts-same, rows-back, rows_of-alike}, Alike.{AddUpAlike-append, AddUpAlike-refl, AddUpAlike-sym}, Kept.counts_together-one, OwnRows.rows_of-own}
 use Rattle.span_parts.specs.{Column, TableCounts, Of, Row, add_tables, keyed_by, keyed_rows, with_columns, with_counts, with_row, KeyedSums, RowsRise, SpanTable, counts_together, rows_of, Rows.{row_at, with_rows}}
 
 -- rows of rows and of more are those of all
@@ -20,30 +20,29 @@ with_rows-of places (row ∷ rows) table sums =
     ∙ with_rows-of places rows table (sums ++ keyed_by places row ∷ [])
     ∙ ap (table_with table) (append_assoc sums (keyed_by places row ∷ []) (map (keyed_by places) rows))
 
+-- rows of sums and of the rows of more are those of all
+rows-with : (sums more : KeyedSums) → rows_of (sums ++ more) ≡ rows_of (sums ++ (keyed_rows (rows_of more) ++ []))
+rows-with sums more =
+    rows_of-alike (sums ++ more) (sums ++ keyed_rows (rows_of more))
+    (AddUpAlike-append sums more sums (keyed_rows (rows_of more)) (AddUpAlike-refl sums) (AddUpAlike-sym (keyed_rows (rows_of more)) more (rows-back more)))
+    ∙ ap (λ l. rows_of (sums ++ l)) (sym (append-nil (keyed_rows (rows_of more))))
+
 -- the counts and the rows of a part added are the part added
 pub with_rows-part : (places : List ℕ) (old part : SpanTable) → RowsRise old.rows →
     with_rows places part.rows (with_counts old part.counts) ≡ add_tables old.of old.columns (old ∷ with_columns places part ∷ [])
 with_rows-part places old part rise =
     ap (λ l. with_rows places part.rows (record { of = old.of; columns = old.columns; counts = counts_together (old.counts ∷ part.counts ∷ []); rows = l })) (sym (rows_of-own old.rows rise))
     ∙ with_rows-of places part.rows (with_counts old part.counts) (keyed_rows old.rows)
-    ∙ (λ i. record { of = old.of; columns = old.columns; counts = counts_together (old.counts ∷ part.counts ∷ []); rows = all i })
-  where
-    more : KeyedSums
-    more = map (keyed_by places) part.rows
-
-    all : rows_of (keyed_rows old.rows ++ more) ≡ rows_of (keyed_rows old.rows ++ (keyed_rows (rows_of more) ++ []))
-    all = rows_of-alike (keyed_rows old.rows ++ more) (keyed_rows old.rows ++ keyed_rows (rows_of more))
-        (AddUpAlike-append (keyed_rows old.rows) more (keyed_rows old.rows) (keyed_rows (rows_of more)) (AddUpAlike-refl (keyed_rows old.rows)) (AddUpAlike-sym (keyed_rows (rows_of more)) more (rows-back more)))
-        ∙ ap (λ l. rows_of (keyed_rows old.rows ++ l)) (sym (append-nil (keyed_rows (rows_of more))))
+    ∙ (λ i. record { of = old.of; columns = old.columns; counts = counts_together (old.counts ∷ part.counts ∷ []); rows = rows-with (keyed_rows old.rows) (map (keyed_by places) part.rows) i })
 
 -- one row more
 pub with_rows-push : (places : List ℕ) (rows : List Row) (row : Row) (table : SpanTable) → with_rows places (rows ++ row ∷ []) table ≡ with_row (with_rows places rows table) (row_at places row)
 with_rows-push places [] row table = refl
 with_rows-push places (first ∷ rows) row table = with_rows-push places rows row (with_row table (row_at places first))
 
--- a table added to a sum is one more of those that it has
-pub add_tables-more : (of : Of) (columns : List Column) (tables : List SpanTable) (table : SpanTable) → add_tables of columns (add_tables of columns tables ∷ table ∷ []) ≡ add_tables of columns (tables ++ table ∷ [])
-add_tables-more of columns tables table = λ i. record { of = of; columns = columns; counts = all_counts i; rows = rows i }
+-- two sums added are the sum of the tables of both
+pub add_tables-both : (of : Of) (columns : List Column) (tables more : List SpanTable) → add_tables of columns (add_tables of columns tables ∷ add_tables of columns more ∷ []) ≡ add_tables of columns (tables ++ more)
+add_tables-both of columns tables more = λ i. record { of = of; columns = columns; counts = all_counts i; rows = rows i }
   where
     counts_in : SpanTable → TableCounts
     counts_in t = t.counts
@@ -51,15 +50,31 @@ add_tables-more of columns tables table = λ i. record { of = of; columns = colu
     sums_in : SpanTable → KeyedSums
     sums_in t = keyed_rows t.rows
 
-    all_counts : counts_together (counts_together (map counts_in tables) ∷ table.counts ∷ []) ≡ counts_together (map counts_in (tables ++ table ∷ []))
-    all_counts = counts-same (counts_together (counts_together (map counts_in tables) ∷ table.counts ∷ [])) (counts_together (map counts_in (tables ++ table ∷ []))) (λ f adds.
-        adds (counts_together (map counts_in tables) ∷ table.counts ∷ [])
-        ∙ sum_by-append f (counts_together (map counts_in tables) ∷ []) (table.counts ∷ [])
-        ∙ ap (λ n. n + sum_by f (table.counts ∷ [])) (one f (counts_together (map counts_in tables)) ∙ adds (map counts_in tables))
-        ∙ sym (adds (map counts_in (tables ++ table ∷ [])) ∙ ap (sum_by f) (map-append counts_in tables (table ∷ [])) ∙ sum_by-append f (map counts_in tables) (table.counts ∷ [])))
-      where
-        one : (f : TableCounts → ℕ) (counts : TableCounts) → sum_by f (counts ∷ []) ≡ f counts
-        one f counts = omega arith
+    first : TableCounts
+    first = counts_together (map counts_in tables)
 
-    rows : rows_of (keyed_rows (rows_of (flat_map sums_in tables)) ++ (keyed_rows table.rows ++ [])) ≡ rows_of (flat_map sums_in (tables ++ table ∷ []))
-    rows = rows-then (flat_map sums_in tables) (keyed_rows table.rows ++ []) ∙ ap rows_of (sym (flat_map-append sums_in tables (table ∷ [])))
+    second : TableCounts
+    second = counts_together (map counts_in more)
+
+    all_counts : counts_together (first ∷ second ∷ []) ≡ counts_together (map counts_in (tables ++ more))
+    all_counts = counts-same (counts_together (first ∷ second ∷ [])) (counts_together (map counts_in (tables ++ more))) (λ f adds.
+        adds (first ∷ second ∷ []) ∙ two f ∙ ap₂ (λ m n. m + n) (adds (map counts_in tables)) (adds (map counts_in more))
+        ∙ sym (adds (map counts_in (tables ++ more)) ∙ ap (sum_by f) (map-append counts_in tables more) ∙ sum_by-append f (map counts_in tables) (map counts_in more)))
+      where
+        two : (f : TableCounts → ℕ) → sum_by f (first ∷ second ∷ []) ≡ f first + f second
+        two f = omega arith
+
+    rows : rows_of (keyed_rows (rows_of (flat_map sums_in tables)) ++ (keyed_rows (rows_of (flat_map sums_in more)) ++ [])) ≡ rows_of (flat_map sums_in (tables ++ more))
+    rows = rows-then (flat_map sums_in tables) (keyed_rows (rows_of (flat_map sums_in more)) ++ []) ∙ sym (rows-with (flat_map sums_in tables) (flat_map sums_in more))
+        ∙ ap rows_of (sym (flat_map-append sums_in tables more))
+
+-- a table added to a sum is one more of those that it has
+pub add_tables-more : (of : Of) (columns : List Column) (tables : List SpanTable) (table : SpanTable) → add_tables of columns (add_tables of columns tables ∷ table ∷ []) ≡ add_tables of columns (tables ++ table ∷ [])
+add_tables-more of columns tables table =
+    (λ i. record {
+      of = of;
+      columns = columns;
+      counts = counts_together (counts_together (map (λ (t : SpanTable). t.counts) tables) ∷ sym (counts_together-one table.counts) i ∷ []);
+      rows = rows-with (keyed_rows (rows_of (flat_map (λ (t : SpanTable). keyed_rows t.rows) tables))) (keyed_rows table.rows ++ []) i;
+    })
+    ∙ add_tables-both of columns tables (table ∷ [])

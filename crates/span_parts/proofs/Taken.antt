@@ -1,9 +1,9 @@
 -- A part that is added makes the sum of it and of those before.
 use Rattle.std.specs.Prelude.{flat_map}
-use Rattle.std.proofs.{Common.{◌≡◌, ◌≢◌, ℕ, List, [], ◌∷◌, ◌++◌, map, refl, sym, ap, subst, ◌∙◌}, lemmas.List.{map-append, Elements.{All-cons, All-nil, All-push}}}
+use Rattle.std.proofs.{Common.{◌≡◌, ◌≢◌, ℕ, List, [], ◌∷◌, ◌++◌, map, refl, sym, ap, subst, ◌∙◌}, lemmas.List.{map-append, Elements.{All-append, All-cons, All-nil, All-push}}}
 use Rattle.span_table.proofs.Rows.{RowsRise-rows_of}
-use Rattle.span_parts.specs.{Bytes, Unit as TimeUnit, Column, Of, Row, add_tables, keyed_rows, picked, with_columns, with_counts, with_row, IsPart, RowsRise, SpanTable, Rows.{row_at, with_rows}, Sum.{AreAt, AreParts, FailsToBegin, FirstFails, IsAdded, IsByThese, PartFails, PartSum, RefusesOthers, SumFails, TakesFirst, TakesPart, chosen}, declared.fault.PartFault.{PartFault, TheVariants.{NotTable, OtherColumns, Memory, TooMany}}}
-use Rattle.span_parts.proofs.{Places.picked-at, Summing.{add_tables-more, with_rows-part}}
+use Rattle.span_parts.specs.{Bytes, Unit as TimeUnit, Column, Of, Row, add_tables, keyed_rows, picked, with_columns, with_counts, with_row, RowsRise, SpanTable, Rows.{row_at, with_rows}, Sum.{AreAt, AreParts, FirstFails, IsAdded, IsByThese, JoinsParts, PartFails, PartSum, RefusesOthers, SumFails, SumsParts, TakesFirst, TakesPart, chosen}, declared.fault.PartFault.{PartFault, TheVariants.{NotTable, OtherColumns, Memory, TooMany}}}
+use Rattle.span_parts.proofs.{Places.picked-at, Summing.{add_tables-both, add_tables-more, with_rows-part}}
 
 -- rows that are added leave the columns
 with_rows-columns : (places : List ℕ) (rows : List Row) (table : SpanTable) → (with_rows places rows table).columns ≡ table.columns
@@ -23,11 +23,12 @@ IsByThese-added of unit columns places text old new by added = record {
   by = ap (λ (t : SpanTable). t.columns) added.sum ∙ with_rows-columns places added.part.rows (with_counts old added.part.counts) ∙ by.by;
 }
 
-AreParts-push : (unit : TimeUnit) (texts : List Bytes) (parts : List SpanTable) (text : Bytes) (part : SpanTable) → AreParts unit texts parts → IsPart unit text part → AreParts unit (texts ++ text ∷ []) (parts ++ part ∷ [])
-AreParts-push unit [] [] text part are is = (is, tt)
-AreParts-push unit [] (other ∷ parts) text part are is = absurd are
-AreParts-push unit (other ∷ texts) [] text part are is = absurd are
-AreParts-push unit (other ∷ texts) (one ∷ parts) text part are is = (are.0, AreParts-push unit texts parts text part are.1 is)
+-- the parts of two lists of texts
+AreParts-append : (unit : TimeUnit) (texts more : List Bytes) (parts others : List SpanTable) → AreParts unit texts parts → AreParts unit more others → AreParts unit (texts ++ more) (parts ++ others)
+AreParts-append unit [] more [] others first second = second
+AreParts-append unit [] more (part ∷ parts) others first second = absurd first
+AreParts-append unit (text ∷ texts) more [] others first second = absurd first
+AreParts-append unit (text ∷ texts) more (part ∷ parts) others first second = (first.0, AreParts-append unit texts more parts others first.1 second)
 
 -- a sum of tables, with a part
 added-more : (of : Of) (columns : List Column) (places : List ℕ) (tables : List SpanTable) (old part : SpanTable) → old ≡ add_tables of columns tables →
@@ -45,12 +46,34 @@ TakesPart-added old text new added = record {
   places = refl;
   sums = λ texts sums. record {
     parts = sums.parts ++ added.part ∷ [];
-    are = AreParts-push old.unit texts sums.parts text added.part sums.are added.is;
+    are = AreParts-append old.unit texts (text ∷ []) sums.parts (added.part ∷ []) sums.are (added.is, tt);
     kinds = All-push (λ (part : SpanTable). part.of ≡ old.of) sums.parts added.part sums.kinds added.kind;
     columns = All-push (λ (part : SpanTable). part.columns ≡ old.columns) sums.parts added.part sums.columns added.by;
     adds = added.sum ∙ added-more old.of (picked old.places old.columns) old.places (map (with_columns old.places) sums.parts) old.sum added.part sums.adds
         ∙ ap (add_tables old.of (picked old.places old.columns)) (sym (map-append (with_columns old.places) sums.parts (added.part ∷ [])));
   };
+}
+
+-- the parts of another sum are added to those of a sum
+pub JoinsParts-added : (one other : PartSum) (both : SpanTable) → both ≡ add_tables one.sum.of one.sum.columns (one.sum ∷ other.sum ∷ []) → JoinsParts one other (record { of = one.of; unit = one.unit; columns = one.columns; places = one.places; sum = both })
+JoinsParts-added one other both is = record {
+  of = refl;
+  unit = refl;
+  columns = refl;
+  places = refl;
+  sums = λ texts more of unit columns places first given.
+      let second = subst (SumsParts more) (λ i. record { of = of i; unit = unit i; columns = columns i; places = places i; sum = other.sum }) given in
+      let by = picked one.places one.columns in
+      let tables = map (with_columns one.places) first.parts in
+      let others = map (with_columns one.places) second.parts in
+      record {
+        parts = first.parts ++ second.parts;
+        are = AreParts-append one.unit texts more first.parts second.parts first.are second.are;
+        kinds = All-append (λ (part : SpanTable). part.of ≡ one.of) first.parts second.parts first.kinds second.kinds;
+        columns = All-append (λ (part : SpanTable). part.columns ≡ one.columns) first.parts second.parts first.columns second.columns;
+        adds = is ∙ ap (λ (t : SpanTable). add_tables t.of t.columns (t ∷ other.sum ∷ [])) first.adds ∙ ap (λ t. add_tables one.of by (add_tables one.of by tables ∷ t ∷ [])) second.adds
+            ∙ add_tables-both one.of by tables others ∙ ap (add_tables one.of by) (sym (map-append (with_columns one.places) first.parts second.parts));
+      };
 }
 
 pub TakesFirst-added : (of : Of) (unit : TimeUnit) (wanted columns : List Column) (places : List ℕ) (text : Bytes) (old new : SpanTable) → AreAt places (chosen wanted columns) columns → old ≡ add_tables of (chosen wanted columns) [] →

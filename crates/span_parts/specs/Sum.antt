@@ -64,6 +64,14 @@ pub record TakesNone (other sum : PartSum) : Type 0 where
   pub places : sum.places ≡ other.places
   pub sums : SumsParts [] sum
 
+-- the sum of the parts of two sums, where these sum the same, in the same unit and by the same columns at the same places
+pub record JoinsParts (one other both : PartSum) : Type 0 where
+  pub of : both.of ≡ one.of
+  pub unit : both.unit ≡ one.unit
+  pub columns : both.columns ≡ one.columns
+  pub places : both.places ≡ one.places
+  pub sums : (texts more : List Bytes) → other.of ≡ one.of → other.unit ≡ one.unit → other.columns ≡ one.columns → other.places ≡ one.places → SumsParts texts one → SumsParts more other → SumsParts (texts ++ more) both
+
 -- the text is of no table
 abbrev pub IsNoPart : Bytes → Type 0
 IsNoPart text = (unit : TimeUnit) (part : SpanTable) → IsPart unit text part → ⊥

@@ -1,6 +1,6 @@
 //! Parts that are added.
 ghost use Rattle.std.specs.Prelude.{◌↔◌, ◌≡◌, IfErr, IfOk, IsTrue};
-ghost use Rattle.span_parts.specs.{Bytes, First.{Begins, MayBegin}, Sum.{FirstFails, PartFails, RefusesOthers, TakesFirst, TakesNone, TakesPart}};
+ghost use Rattle.span_parts.specs.{Bytes, First.{Begins, MayBegin}, Sum.{FirstFails, JoinsParts, PartFails, RefusesOthers, TakesFirst, TakesNone, TakesPart}};
 
 use crate::choice::{are_same, chosen, copy_of_places, places_of};
 use crate::fault::PartFault;
@@ -10,7 +10,7 @@ use crate::room::LineRoom;
 use crate::sums::{add_part, look_through};
 use span_event::Unit;
 use span_names::HashKeys;
-use span_table::{Addition, Column, Of, Table, copies_of};
+use span_table::{Addition, Column, Of, SumFault, Table, copies_of};
 use std::alloc::{AllocError, Global};
 use std::marker::Model;
 
@@ -119,6 +119,38 @@ impl Parts {
                 sum,
             }),
             Err(fault) => Err(fault),
+        }
+    }
+
+    /// With the parts of another sum, which sum the same, in the same unit and by the same columns. It costs a look-up for each row
+    /// of the other.
+    pub fn join(self, other: Parts) -> Result<Parts, PartFault>
+        ensures { IfOk result (JoinsParts self other) }
+    {
+        let Parts {
+            of,
+            unit,
+            columns,
+            places,
+            sum,
+        } = self;
+        let Parts {
+            of: _,
+            unit: _,
+            columns: _,
+            places: _,
+            sum: more,
+        } = other;
+        match sum.join(more) {
+            Ok(sum) => Ok(Parts {
+                of,
+                unit,
+                columns,
+                places,
+                sum,
+            }),
+            Err(SumFault::Memory) => Err(PartFault::Memory),
+            Err(SumFault::TooMany) => Err(PartFault::TooMany),
         }
     }
 

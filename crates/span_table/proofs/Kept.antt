@@ -62,7 +62,8 @@ rows-taken old new more rise takes = ap (map row_of) (takes (keyed_rows (map row
 rise-taken : (old new : SumsByKey) (more : KeyedSums) → RowsRise (map row_of old) → Takes old new more → RowsRise (map row_of new)
 rise-taken old new more rise takes = subst RowsRise (sym (rows-taken old new more rise takes)) (RowsRise-rows_of (keyed_rows (map row_of old) ++ more))
 
-counts_together-one : (a : TableCounts) → counts_together (a ∷ []) ≡ a
+-- the counts of one table, added, are these
+pub counts_together-one : (a : TableCounts) → counts_together (a ∷ []) ≡ a
 counts_together-one a =
     let one : (f : TableCounts → ℕ) → 0 + f a ≡ f a = λ f. omega arith in
     let runs = one (λ counts. counts.runs) in
@@ -191,6 +192,19 @@ IsAdded-row tables rows counts old new row fits kept takes grows =
       numbers = kept.numbers;
       rise = rise-taken old new (keyed_row row ∷ []) kept.rise takes;
       within = subst (λ n. AllWithin n new) more (grows (2 ^ 64) (fit-within row.sums fits) (rows * 2 ^ 64) kept.within);
+    }
+
+-- what is kept stays within its bounds with the counts and rows of more tables
+pub IsAdded-taken : (tables others rows later : ℕ) (counts more : TableCounts) (old new : SumsByKey) (taken : KeyedSums) → tables + others < 2 ^ 32 → IsAdded tables rows counts old → AreCountsWithin (others * 2 ^ 64) more → Takes old new taken →
+    AllWithin (rows * 2 ^ 64 + later * 2 ^ 64) new → IsAdded (tables + others) (rows + later) (counts_together (counts ∷ more ∷ [])) new
+IsAdded-taken tables others rows later counts more old new taken few kept numbers takes within =
+    let all : tables * 2 ^ 64 + others * 2 ^ 64 ≡ (tables + others) * 2 ^ 64 = omega arith in
+    let sums : rows * 2 ^ 64 + later * 2 ^ 64 ≡ (rows + later) * 2 ^ 64 = omega arith in
+    record {
+      few = few;
+      numbers = subst (λ n. AreCountsWithin n (counts_together (counts ∷ more ∷ []))) all (counts_together-within (tables * 2 ^ 64) (others * 2 ^ 64) counts more kept.numbers numbers);
+      rise = rise-taken old new taken kept.rise takes;
+      within = subst (λ n. AllWithin n new) sums within;
     }
 
 -- a row that is taken makes the table with this row

@@ -1,7 +1,8 @@
 //! Tables that are added as their rows come.
-ghost use Rattle.std.specs.Prelude.{◌≡◌, ◌+◌, ◌^◌, ◌≤◌, [], true, IfErr, IfOk, OnErr, OnOk};
+ghost use Rattle.std.specs.Prelude.{◌≡◌, ◌+◌, ◌^◌, ◌≤◌, ◌∷◌, [], true, IfErr, IfOk, OnErr, OnOk};
 ghost use Rattle.span_table.specs.{Adding.{add_tables, with_counts, with_row}, Counts.counts_fit, Sums.fit, declared.table_sum.SumFault.TheVariants.TooMany};
 
+use crate::collected::add_entries;
 use crate::column::{Column, copies_of};
 use crate::counts::TableCounts;
 use crate::groups::Groups;
@@ -108,6 +109,45 @@ impl Addition {
             }
             Err(_) => Err(SumFault::Memory),
         }
+    }
+
+    /// With the tables of another sum of the same by the same columns: where there are fewer than 2^32 tables together, and fewer than
+    /// 2^64 rows. It costs a look-up for each row of the other.
+    pub fn join(self, other: Addition) -> Result<Addition, SumFault>
+        ensures { IfOk result (λ sum. sum ≡ add_tables self.of self.columns (self ∷ other ∷ [])) }
+    {
+        if self.tables + other.tables >= TABLES {
+            return Err(SumFault::TooMany);
+        }
+        let Some(rows) = self.rows.checked_add(other.rows) else {
+            return Err(SumFault::TooMany);
+        };
+        let Addition {
+            of,
+            columns,
+            mut counts,
+            mut groups,
+            tables,
+            rows: _,
+        } = self;
+        let Addition {
+            of: _,
+            columns: _,
+            counts: more,
+            groups: others,
+            tables: other_tables,
+            rows: _,
+        } = other;
+        add_entries(&mut groups, others.into_entries()?)?;
+        counts.add(&more);
+        Ok(Addition {
+            of,
+            columns,
+            counts,
+            groups,
+            tables: tables + other_tables,
+            rows,
+        })
     }
 
     /// The table, its rows put in order.

@@ -27,6 +27,17 @@ pub enum SumFault {
     TooMany,
 }
 
+impl From<AllocError> for SumFault {
+    ghost use Rattle.std.specs.Prelude.{◌≡◌};
+    ghost use Rattle.span_table.specs.declared.table_sum.SumFault.TheVariants.{Memory};
+
+    ghost from_gives = { λ _ e. e ≡ Memory };
+
+    fn from(_refused: AllocError) -> SumFault {
+        SumFault::Memory
+    }
+}
+
 /// The table of the runs so far. A run costs a look-up for each of its rows, however many there were before.
 #[derive(Drop)]
 pub struct TableSum {
