@@ -1,9 +1,7 @@
 //! Why items of a run's files were refused: which numbers refused how many of each file, and which first, as a text.
 
-mod output;
 mod tallies;
 mod tally;
 mod text;
 
-pub use output::write_refusals;
 pub use text::{refusals, refusals_text};

@@ -4,13 +4,11 @@
 mod data;
 mod fixed;
 pub mod laws;
-mod output;
 mod runs;
 mod safe;
 mod stacks;
 mod text;
 
-pub use output::write_page;
 pub use runs::RunsPage;
 pub use span_collect::{FileEnd, Input, Ledger, Sink, WriteFault};
 pub use span_event::Unit;

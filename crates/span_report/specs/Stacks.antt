@@ -1,7 +1,6 @@
 -- The stacks of threads, each with how many ticks have it, and all of them as a text.
 pub mod Bounds
 pub mod Descent
-pub mod Faults
 pub mod Folded
 pub mod Framed
 pub mod Frames

@@ -10,7 +10,7 @@ mod text;
 mod writer;
 
 pub use lines::{first_line, json_text, put_counts, put_seals, put_unit, shown_name};
-pub use output::{WriteFault, write_bytes, write_made, write_report};
+pub use output::{WriteFault, write_bytes, write_report};
 pub use sink::{Sink, SinkFault};
 pub use span_event::Unit;
 pub use span_journal::CountRow;

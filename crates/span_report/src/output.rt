@@ -44,8 +44,8 @@ pub fn write_report<O: Sink>(
     write_made(report(alloc, unit, ledger), out)
 }
 
-/// Writes a text, if there was memory to make it. The first fault of the output ends it, and nothing is tried again.
-pub fn write_made<O: Sink>(made: Result<Vec<u8>, AllocError>, out: &mut O) -> Result<(), WriteFault>
+// Writes a text, if there was memory to make it. The first fault of the output ends it, and nothing is tried again.
+fn write_made<O: Sink>(made: Result<Vec<u8>, AllocError>, out: &mut O) -> Result<(), WriteFault>
     ensures ok { (text : List ℕ) → IfOk made (λ bytes. bytes.items ≡ text)
         → OnOk result (TakesBytes (O.state out.old) (O.state out.new) text) }
     ensures fault { (text : List ℕ) → IfOk made (λ bytes. bytes.items ≡ text)

@@ -1,4 +1,4 @@
-//! What `span_report`, `span_page` and `span_comparisons` promise, where no run of the program shows it.
+//! What `span_report` and `span_comparisons` promise, where no run of the program shows it.
 #![tactic(auto)]
 
 #[cfg(test)]
