@@ -5,4 +5,5 @@ pub mod GatheredFiles
 pub mod InTurn
 pub mod Listing
 pub mod Naming
+pub mod Sharing
 pub mod Stopping

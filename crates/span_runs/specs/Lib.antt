@@ -1,6 +1,7 @@
 pub mod Apart
 pub mod Gathering
 pub mod Inputs
+pub mod Jobs
 pub mod Listing
 pub mod Names
 pub mod Runs

@@ -1,5 +1,5 @@
 //! Where the bytes of files come from.
-ghost use Rattle.std.specs.Prelude.{◌≡◌, ◌≤◌, vec_len, IfOk};
+ghost use Rattle.std.specs.Prelude.{◌≡◌, ◌≤◌, length, vec_len, IfOk};
 ghost use Rattle.span_runs.specs.Source.{AreFirst, SourceBytes, printed};
 
 use span_event::Text;
@@ -54,4 +54,19 @@ pub trait Source {
 
     /// Called once, after the last file was read.
     fn end(&self) {}
+}
+
+/// How many bytes there are thought to be under each of these names.
+pub fn sizes_of<S: Source>(
+    alloc: Global,
+    source: &S,
+    names: &[Name],
+) -> Result<Vec<u64>, AllocError>
+    ensures { IfOk result (λ sizes. length sizes.items ≡ length names.now) }
+{
+    let mut sizes = Vec::with_capacity(alloc, names.len())?;
+    for name in names {
+        sizes.push(source.size(name))?;
+    }
+    Ok(sizes)
 }
