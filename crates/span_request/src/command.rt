@@ -6,7 +6,7 @@ use crate::columns::{columns_of, labels_of, name_alone, named, of_async, paged, 
 use crate::combinations::{broken_rule, idle_rule, is_any_given};
 use crate::numbers::by_of;
 use crate::options::command_of;
-use crate::tasks::{Apart, Changes, Items, Repetitions, Request, TableText, Tabulation, Task};
+use crate::tasks::{Changes, Items, Repetitions, Request, TableText, Tabulation, Task};
 use crate::views::{ComparisonForm, PageView, RepeatsForm, TableForm, TableOptions, View};
 use clap::error::{Error, ErrorKind};
 use clap::{ArgMatches, Command};
@@ -20,6 +20,14 @@ use std::alloc::{AllocError, Global};
 /// The most entries of the journal, where the command line does not say.
 pub(crate) const DEFAULT_LIMIT: u32 = 16_777_216;
 
+/// The settings where the command line does not say.
+pub const DEFAULT_SETTINGS: Settings = Settings {
+    unit: Unit::Microseconds,
+    limit: DEFAULT_LIMIT,
+    seal: false,
+    strict: false,
+};
+
 /// What the words ask for; they leave out the program's own name. Words of which none begins with a hyphen name files.
 pub fn request_of(alloc: Global, words: Vec<Text>) -> Result<Request, AllocError>
     ensures { IfOk result (AsksFor words.items) }
@@ -27,12 +35,7 @@ pub fn request_of(alloc: Global, words: Vec<Text>) -> Result<Request, AllocError
     if has_options(&words) {
         return parsed_request(alloc, &words);
     }
-    let settings = Settings {
-        unit: Unit::Microseconds,
-        limit: DEFAULT_LIMIT,
-        seal: false,
-        strict: false,
-    };
+    let settings = DEFAULT_SETTINGS;
     let files = Named {
         given: words,
         list: None,
@@ -188,30 +191,35 @@ fn task_of(
     settings: Settings,
     options: TableOptions,
 ) -> Result<Task, AllocError> {
-    let apart = apart_of(matches, settings);
+    let jobs = matches.get_one::<u32>("jobs");
     if matches.get_flag("page") && matches.get_flag("apart") {
         let view = page_view(alloc, options)?;
-        return Ok(Task::Pages { apart, view });
+        return Ok(Task::Pages {
+            settings,
+            jobs,
+            view,
+        });
     }
     if !is_any_given(matches, &["top", "json", "base"]) {
         let view = view_of(alloc, matches, options)?;
         return Ok(Task::Collect { settings, view });
     }
     Ok(Task::Tabulate(Tabulation {
-        items: items_of(matches, apart),
+        items: items_of(matches, settings),
+        jobs,
         options,
         text: text_of(alloc, matches)?,
     }))
 }
 
-fn items_of(matches: &ArgMatches<'_>, apart: Apart) -> Items {
+fn items_of(matches: &ArgMatches<'_>, settings: Settings) -> Items {
     if matches.get_flag("add") {
         return Items::Printed;
     }
     if is_any_given(matches, &["apart", "repeats"]) {
-        return Items::Apart(apart);
+        return Items::Apart(settings);
     }
-    Items::Together(apart.settings)
+    Items::Together(settings)
 }
 
 fn text_of(alloc: Global, matches: &ArgMatches<'_>) -> Result<TableText, AllocError> {
@@ -231,11 +239,6 @@ fn text_of(alloc: Global, matches: &ArgMatches<'_>) -> Result<TableText, AllocEr
 fn page_view(alloc: Global, options: TableOptions) -> Result<PageView, AllocError> {
     let labels = labels_of(alloc, &options.columns)?;
     Ok(PageView { options, labels })
-}
-
-fn apart_of(matches: &ArgMatches<'_>, settings: Settings) -> Apart {
-    let jobs = matches.get_one::<u32>("jobs");
-    Apart { settings, jobs }
 }
 
 // What is printed instead of the report.

@@ -9,7 +9,7 @@ mod options;
 mod tasks;
 mod views;
 
-pub use command::request_of;
+pub use command::{DEFAULT_SETTINGS, request_of};
 pub use numbers::goes_by;
-pub use tasks::{Apart, Changes, Items, Repetitions, Request, TableText, Tabulation, Task};
+pub use tasks::{Changes, Items, Repetitions, Request, TableText, Tabulation, Task};
 pub use views::{ComparisonForm, PageView, RepeatsForm, TableForm, TableOptions, View};

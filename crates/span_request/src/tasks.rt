@@ -22,9 +22,16 @@ pub enum Request {
 #[derive(Drop)]
 pub enum Task {
     /// Collect all as one run, and print this of it.
-    Collect { settings: Settings, view: View },
-    /// Collect each as a run of its own, and print a page of them.
-    Pages { apart: Apart, view: PageView },
+    Collect {
+        settings: Settings,
+        view: View,
+    },
+    /// Collect each as a run of its own, in so many jobs at once, and print a page of them.
+    Pages {
+        settings: Settings,
+        jobs: Option<u32>,
+        view: PageView,
+    },
     /// Gather tables, and print this of them.
     Tabulate(Tabulation),
 }
@@ -33,6 +40,8 @@ pub enum Task {
 #[derive(Drop)]
 pub struct Tabulation {
     pub items: Items,
+    /// How many jobs gather them at once; if nothing is said, one for each processor that the system grants.
+    pub jobs: Option<u32>,
     pub options: TableOptions,
     pub text: TableText,
 }
@@ -43,16 +52,9 @@ pub enum Items {
     /// All that is named is one run.
     Together(Settings),
     /// Each is a run of its own.
-    Apart(Apart),
+    Apart(Settings),
     /// Each is a table that was printed.
     Printed,
-}
-
-/// How files are collected that are runs of their own: in so many jobs at once, or one for each processor that the system grants.
-#[derive(Clone, Copy)]
-pub struct Apart {
-    pub settings: Settings,
-    pub jobs: Option<u32>,
 }
 
 /// The text that is made of tables.
