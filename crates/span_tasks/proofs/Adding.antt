@@ -1,8 +1,10 @@
 -- Tables that are added, one more, and what stopped among them.
 use Rattle.std.specs.{List.AllZip, Prelude.{All, Bool, Option, true, false}}
-use Rattle.span_parts.specs.{Sum.{FirstFails, PartFails}, declared.fault.PartFault.{PartFault, TheVariants.{Memory, NotTable, OtherColumns, TooMany}}}
-use Rattle.std.proofs.{Common.{◌≡◌, ℕ, suc, ◌<◌, List, [], ◌∷◌, ◌++◌, length, take, drop, inl, inr, refl, ap, sym, subst, ◌∙◌, append_assoc, append-nil}, Math.{ListN.get_or, Seq.drop-cons}, lemmas.List.{take-append-drop, Elements.All-head}}
-use Rattle.span_tasks.specs.{Bytes, Chooses, HasOtherColumns, PartSum, SumsParts, TakesNone, chosen, AreAt, AreParts, SourceBytes, Name, TimeUnit, Column, Of, By, SpanTable, goes_by, Added.{Adds, AddsEach, AddsMore, AreAsked, BeginsWith, IsText, LacksAsked, LacksNumber, SaysPart, StopsAdding, StopsMore, StopsNext, TakesName, with_sum}, Sides.{AddTo, StopsLater}}
+use Rattle.span_table.specs.Adding.{add_tables}
+use Rattle.span_parts.specs.{Sum.{FirstFails, JoinsParts, PartFails}, declared.fault.PartFault.{PartFault, TheVariants.{Memory, NotTable, OtherColumns, TooMany}}}
+use Rattle.std.proofs.{Common.{◌≡◌, ℕ, suc, ◌<◌, List, [], ◌∷◌, ◌++◌, length, take, drop, inl, inr, refl, ap, sym, subst, ◌∙◌, append_assoc}, Math.{ListN.get_or, Seq.drop-cons}, lemmas.List.{take-append-drop, Elements.All-head}}
+use Rattle.span_parts.proofs.Taken.{JoinsParts-added}
+use Rattle.span_tasks.specs.{Bytes, Chooses, HasOtherColumns, PartSum, SumsParts, TakesNone, chosen, AreAt, AreParts, SourceBytes, Name, TimeUnit, Column, Of, By, SpanTable, goes_by, Added.{Adds, AddsBeside, AddsEach, BeginsWith, IsText, LacksAsked, LacksNumber, SaysPart, StopsAdding, StopsNext, TakesName, with_sum}, Sides.{AddTo, StopsLater}}
 
 pub AllZip-append : {A B : Type 0} (R : A → B → Type 0) (xs more : List A) (ys others : List B) → AllZip R xs ys → AllZip R more others → AllZip R (xs ++ more) (ys ++ others)
 AllZip-append R [] more [] others one other = other
@@ -38,59 +40,95 @@ module _ (source : SourceBytes) where
   pub Adds-same : (one other : PartSum) (names : List Name) (table : SpanTable) → with_sum other table ≡ with_sum one table → Adds source other names table → Adds source one names table
   Adds-same one other names table same adds = record { texts = adds.texts; read = adds.read; sums = subst (SumsParts adds.texts) same adds.sums }
 
-  -- no more
-  pub AddsMore-none : (sum : PartSum) → AddsMore source [] sum sum
-  AddsMore-none sum = record {
-    texts = [];
-    read = tt;
-    of = refl;
-    unit = refl;
-    columns = refl;
-    places = refl;
-    sums = λ before sums. subst (λ (texts : List Bytes). SumsParts texts sum) (sym (append-nil before)) sums;
-  }
+  -- none beside a kind
+  pub AddsBeside-none : (kind none : PartSum) → TakesNone kind none → AddsBeside source kind [] none
+  AddsBeside-none kind none takes = record { texts = []; read = tt; of = takes.of; unit = takes.unit; columns = takes.columns; places = takes.places; sums = takes.sums }
+
+  -- the first alone
+  pub AddsBeside-first : (name : Name) (first : PartSum) → BeginsWith source name first → AddsBeside source first (name ∷ []) first
+  AddsBeside-first name first begins = record { texts = begins.text ∷ []; read = (begins.read, tt); of = refl; unit = refl; columns = refl; places = refl; sums = begins.sums }
 
   -- one more, behind others
-  pub AddsMore-push : (names : List Name) (name : Name) (old middle new : PartSum) → AddsMore source names old middle → TakesName source name middle new → AddsMore source (names ++ name ∷ []) old new
-  AddsMore-push names name old middle new more takes = record {
-    texts = more.texts ++ takes.text ∷ [];
-    read = AllZip-append (IsText source) names (name ∷ []) more.texts (takes.text ∷ []) more.read (takes.read, tt);
-    of = takes.takes.of ∙ more.of;
-    unit = takes.takes.unit ∙ more.unit;
-    columns = takes.takes.columns ∙ more.columns;
-    places = takes.takes.places ∙ more.places;
-    sums = λ before sums. subst (λ (texts : List Bytes). SumsParts texts new) (append_assoc before more.texts (takes.text ∷ [])) (takes.takes.sums (before ++ more.texts) (more.sums before sums));
+  pub AddsBeside-push : (kind : PartSum) (names : List Name) (name : Name) (old new : PartSum) → AddsBeside source kind names old → TakesName source name old new → AddsBeside source kind (names ++ name ∷ []) new
+  AddsBeside-push kind names name old new beside takes = record {
+    texts = beside.texts ++ takes.text ∷ [];
+    read = AllZip-append (IsText source) names (name ∷ []) beside.texts (takes.text ∷ []) beside.read (takes.read, tt);
+    of = takes.takes.of ∙ beside.of;
+    unit = takes.takes.unit ∙ beside.unit;
+    columns = takes.takes.columns ∙ beside.columns;
+    places = takes.takes.places ∙ beside.places;
+    sums = takes.takes.sums beside.texts beside.sums;
   }
 
+  -- two sums of one kind, joined
+  pub AddsBeside-append : (kind : PartSum) (names more : List Name) (one other both : PartSum) → AddsBeside source kind names one → AddsBeside source kind more other → JoinsParts one other both → AddsBeside source kind (names ++ more) both
+  AddsBeside-append kind names more one other both first second joins = record {
+    texts = first.texts ++ second.texts;
+    read = AllZip-append (IsText source) names more first.texts second.texts first.read second.read;
+    of = joins.of ∙ first.of;
+    unit = joins.unit ∙ first.unit;
+    columns = joins.columns ∙ first.columns;
+    places = joins.places ∙ first.places;
+    sums = joins.sums first.texts second.texts (second.of ∙ sym first.of) (second.unit ∙ sym first.unit) (second.columns ∙ sym first.columns) (second.places ∙ sym first.places) first.sums second.sums;
+  }
+
+  -- what is added beside a kind is added to it
+  pub Adds-beside : (kind : PartSum) (names : List Name) (sum : PartSum) → AddsBeside source kind names sum → Adds source kind names sum.sum
+  Adds-beside kind names sum beside = record {
+    texts = beside.texts;
+    read = beside.read;
+    sums = subst (SumsParts beside.texts) (with_sum-same kind sum sum.sum beside.of beside.unit beside.columns beside.places) beside.sums;
+  }
+
+  -- and the other way round
+  AddsBeside-of : (kind : PartSum) (names : List Name) (table : SpanTable) → Adds source kind names table → AddsBeside source kind names (with_sum kind table)
+  AddsBeside-of kind names table adds = record { texts = adds.texts; read = adds.read; of = refl; unit = refl; columns = refl; places = refl; sums = adds.sums }
+
   -- at the name of this place
-  pub StopsMore-at : (names : List Name) (place : ℕ) (name : Name) (old middle : PartSum) (lines : Bytes) → place < length names → name ≡ get_or names place name →
-      AddsMore source (take place names) old middle → StopsAdding source (HasOtherColumns middle.of middle.unit middle.columns) name lines → StopsMore source old names lines
-  StopsMore-at names place name old middle lines low is more stops = record {
+  pub StopsLater-sum : (names : List Name) (place : ℕ) (name : Name) (kind middle : PartSum) (lines : Bytes) → place < length names → name ≡ get_or names place name →
+      AddsBeside source kind (take place names) middle → StopsAdding source (HasOtherColumns middle.of middle.unit middle.columns) name lines → StopsLater source false kind names lines
+  StopsLater-sum names place name kind middle lines low is beside stops = record {
     done = take place names;
     later = name ∷ drop (suc place) names;
     split = split-at names place name low is;
-    sum = middle;
-    added = more;
-    cause = subst (λ (columns : List Column). StopsAdding source (HasOtherColumns old.of old.unit columns) name lines) more.columns
-        (subst (λ (unit : TimeUnit). StopsAdding source (HasOtherColumns old.of unit middle.columns) name lines) more.unit
-        (subst (λ (of : Of). StopsAdding source (HasOtherColumns of middle.unit middle.columns) name lines) more.of stops));
+    tables = middle.sum ∷ [];
+    added = (middle.sum, Adds-beside kind (take place names) middle beside, refl);
+    cause = subst (λ (columns : List Column). StopsAdding source (HasOtherColumns kind.of kind.unit columns) name lines) beside.columns
+        (subst (λ (unit : TimeUnit). StopsAdding source (HasOtherColumns kind.of unit middle.columns) name lines) beside.unit
+        (subst (λ (of : Of). StopsAdding source (HasOtherColumns of middle.unit middle.columns) name lines) beside.of stops));
   }
 
-  -- more behind a first
-  pub Adds-first : (name : Name) (names : List Name) (first sum : PartSum) → BeginsWith source name first → AddsMore source names first sum → Adds source first (name ∷ names) sum.sum
-  Adds-first name names first sum begins more = record {
-    texts = begins.text ∷ more.texts;
-    read = (begins.read, more.read);
-    sums = subst (SumsParts (begins.text ∷ more.texts)) (with_sum-same first sum sum.sum more.of more.unit more.columns more.places) (more.sums (begins.text ∷ []) begins.sums);
+  -- with more names after them
+  pub StopsLater-append : (each : Bool) (kind : PartSum) (names more : List Name) (lines : Bytes) → StopsLater source each kind names lines → StopsLater source each kind (names ++ more) lines
+  StopsLater-append each kind names more lines stops = record {
+    done = stops.done;
+    later = stops.later ++ more;
+    split = ap (λ (ns : List Name). ns ++ more) stops.split ∙ append_assoc stops.done stops.later more;
+    tables = stops.tables;
+    added = stops.added;
+    cause = next stops.later stops.cause;
   }
+    where
+      next : (later : List Name) → StopsNext source kind later lines → StopsNext source kind (later ++ more) lines
+      next [] cause = absurd cause
+      next (name ∷ later) cause = cause
 
-  -- more beside parts of which there are none
-  pub Adds-beside : (names : List Name) (kind none sum : PartSum) → TakesNone kind none → AddsMore source names none sum → Adds source kind names sum.sum
-  Adds-beside names kind none sum takes more = record {
-    texts = more.texts;
-    read = more.read;
-    sums = subst (SumsParts more.texts) (with_sum-same kind sum sum.sum (more.of ∙ takes.of) (more.unit ∙ takes.unit) (more.columns ∙ takes.columns) (more.places ∙ takes.places)) (more.sums [] takes.sums);
-  }
+  -- behind names that were added
+  pub StopsLater-behind : (kind : PartSum) (names more : List Name) (one : PartSum) (lines : Bytes) → AddsBeside source kind names one → StopsLater source false kind more lines → StopsLater source false kind (names ++ more) lines
+  StopsLater-behind kind names more one lines first stops =
+      let table = stops.added.0 in
+      let both = add_tables one.sum.of one.sum.columns (one.sum ∷ table ∷ []) in
+      let other = with_sum kind table in
+      let joins = JoinsParts-added one other both refl in
+      let sum : PartSum = record { of = one.of; unit = one.unit; columns = one.columns; places = one.places; sum = both } in
+      record {
+        done = names ++ stops.done;
+        later = stops.later;
+        split = ap (λ (ns : List Name). names ++ ns) stops.split ∙ sym (append_assoc names stops.done stops.later);
+        tables = both ∷ [];
+        added = (both, Adds-beside kind (names ++ stops.done) sum (AddsBeside-append kind names stops.done one other sum first (AddsBeside-of kind stops.done table stops.added.1) joins), refl);
+        cause = stops.cause;
+      }
 
   -- the first alone
   pub Adds-only : (name : Name) (first : PartSum) → BeginsWith source name first → Adds source first (name ∷ []) first.sum
@@ -112,17 +150,6 @@ module _ (source : SourceBytes) where
     cause = stops;
   }
 
-  -- behind a first, where all are added
-  pub StopsLater-sum : (name : Name) (names : List Name) (first : PartSum) (lines : Bytes) → BeginsWith source name first → StopsMore source first names lines → StopsLater source false first (name ∷ names) lines
-  StopsLater-sum name names first lines begins stops = record {
-    done = name ∷ stops.done;
-    later = stops.later;
-    split = ap (λ (ns : List Name). name ∷ ns) stops.split;
-    tables = stops.sum.sum ∷ [];
-    added = (stops.sum.sum, Adds-first name stops.done first stops.sum begins stops.added, refl);
-    cause = stops.cause;
-  }
-
   -- behind a first, where each stands for itself
   pub StopsLater-each : (name : Name) (names : List Name) (first : PartSum) (lines : Bytes) → BeginsWith source name first → StopsLater source true first names lines → StopsLater source true first (name ∷ names) lines
   StopsLater-each name names first lines begins stops = record {
@@ -133,23 +160,6 @@ module _ (source : SourceBytes) where
     added = (Adds-only name first begins, stops.added);
     cause = stops.cause;
   }
-
-  -- beside parts
-  pub StopsLater-beside : (names : List Name) (kind none : PartSum) (lines : Bytes) → TakesNone kind none → StopsMore source none names lines → StopsLater source false kind names lines
-  StopsLater-beside names kind none lines takes stops = record {
-    done = stops.done;
-    later = stops.later;
-    split = stops.split;
-    tables = stops.sum.sum ∷ [];
-    added = (stops.sum.sum, Adds-beside stops.done kind none stops.sum takes stops.added, refl);
-    cause = same stops.later stops.cause;
-  }
-    where
-      same : (later : List Name) → StopsNext source none later lines → StopsNext source kind later lines
-      same [] cause = cause
-      same (name ∷ later) cause = subst (λ (columns : List Column). StopsAdding source (HasOtherColumns kind.of kind.unit columns) name lines) takes.columns
-          (subst (λ (unit : TimeUnit). StopsAdding source (HasOtherColumns kind.of unit none.columns) name lines) takes.unit
-          (subst (λ (of : Of). StopsAdding source (HasOtherColumns of none.unit none.columns) name lines) takes.of cause))
 
   -- why a table was not added
   pub StopsAdding-part : (name : Name) (text : Bytes) (of : Of) (unit : TimeUnit) (columns : List Column) (fault : PartFault) → IsText source name text → PartFails of unit columns text fault → (lines : Bytes) →

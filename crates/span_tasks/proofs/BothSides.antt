@@ -1,10 +1,10 @@
 -- Sides as they come together.
-use Rattle.std.proofs.{Common.{◌≡◌, ◌≤◌, ◌⊎◌, Bool, true, List, [], ◌∷◌, ◌++◌, length, map, Option, inl, inr, refl, ap, ◌∙◌, arith}, lemmas.{List.length-map, Slice.Zip.AllZip-long}}
+use Rattle.std.proofs.{Common.{◌≡◌, ◌≤◌, Bool, true, List, [], ◌∷◌, ◌++◌, length, map, Option, inl, inr, refl, ap, ◌∙◌, arith}, lemmas.{List.length-map, Slice.Zip.AllZip-long}}
 use Rattle.span_event.specs.declared.unit.Unit.TheVariants.{Microseconds}
 use Rattle.span_table.specs.declared.of.Of.TheVariants.{Spans}
 use Rattle.span_runs.proofs.GatheredFiles.{length-gathered}
 use Rattle.span_request.specs.declared.tasks.Items.TheVariants.{Apart as EachApart, Printed, Together}
-use Rattle.span_tasks.specs.{Bytes, By, Name, SourceBytes, Items, PartSum, SpanTable, TableOptions, run_alone, table_of, table_of_run, Added.Adds, Sides.{AreOfKind, AreSides, IsOneSide, IsSide, StopSides, StopsBehind, StopsOneSide, StopsSide}, declared.side.Side.Side}
+use Rattle.span_tasks.specs.{Bytes, By, Name, SourceBytes, Items, PartSum, SpanTable, TableOptions, run_alone, table_of, table_of_run, Added.Adds, Sides.{AreOfKind, AreSides, IsOneSide, IsSide, StopSides, StopsOneSide, StopsSide}, declared.side.Side.Side}
 
 -- parts of no tables, where no kind is asked for
 pub no-parts : PartSum
@@ -13,8 +13,8 @@ no-parts = record { of = Spans; unit = Microseconds; columns = []; places = []; 
 -- a side that has a table of each name has few where there are few names
 pub length-side : (source : SourceBytes) (items : Items) (options : TableOptions) (parts : PartSum) (names : List Name) (side : Side) → IsSide source items options true parts names side → length names ≤ 64 → length side.tables.items ≤ 64
 length-side source (Together settings) options parts names side is few = let one = ap length is.1.is in omega (arith, one)
-length-side source (EachApart apart) options parts names side is few =
-    let same = ap length is.1.runs ∙ length-map (map (run_alone apart.settings) is.1.files) (table_of_run options.of options.columns.items) ∙ length-gathered source names apart.settings is.1.files is.1.read in
+length-side source (EachApart settings) options parts names side is few =
+    let same = ap length is.1.runs ∙ length-map (map (run_alone settings) is.1.files) (table_of_run options.of options.columns.items) ∙ length-gathered source names settings is.1.files is.1.read in
     omega (arith, same, few)
 length-side source Printed options parts names side is few =
     let same = AllZip-long (λ (name : Name) (table : SpanTable). Adds source parts (name ∷ []) table) names side.tables.items is.1 in omega (arith, same, few)
@@ -23,19 +23,19 @@ module _ (source : SourceBytes) (options : TableOptions) (by : Option By) (each 
   -- runs ask for no kind
   kind-runs : (items : Items) (parts : PartSum) → (items ≡ Printed → ⊥) → AreOfKind items options by parts
   kind-runs (Together settings) parts runs = tt
-  kind-runs (EachApart apart) parts runs = tt
+  kind-runs (EachApart settings) parts runs = tt
   kind-runs Printed parts runs = absurd (runs refl)
 
   IsSide-runs : (items : Items) (one other : PartSum) (names : List Name) (side : Side) → (items ≡ Printed → ⊥) → IsSide source items options each one names side → IsSide source items options each other names side
   IsSide-runs (Together settings) one other names side runs is = is
-  IsSide-runs (EachApart apart) one other names side runs is = is
+  IsSide-runs (EachApart settings) one other names side runs is = is
   IsSide-runs Printed one other names side runs is = absurd (runs refl)
 
   StopsSide-runs : (items : Items) (parts : PartSum) (names : List Name) (lines : Bytes) → (items ≡ Printed → ⊥) → StopsOneSide source items options by each names lines → StopsSide source items each parts names lines
   StopsSide-runs (Together settings) parts names lines runs (inl kind) = absurd kind
   StopsSide-runs (Together settings) parts names lines runs (inr (other, kind, stops)) = stops
-  StopsSide-runs (EachApart apart) parts names lines runs (inl kind) = absurd kind
-  StopsSide-runs (EachApart apart) parts names lines runs (inr (other, kind, stops)) = stops
+  StopsSide-runs (EachApart settings) parts names lines runs (inl kind) = absurd kind
+  StopsSide-runs (EachApart settings) parts names lines runs (inr (other, kind, stops)) = stops
   StopsSide-runs Printed parts names lines runs stops = absurd (runs refl)
 
   -- both sides of runs are two sides

@@ -1,21 +1,20 @@
 -- What is printed of files apart, and of tables that are added, is what is printed of trees of the files' runs.
-use Rattle.std.specs.Prelude.{true}
-use Rattle.std.proofs.Common.{◌≡◌, List, [], ◌∷◌, map, refl, sym, ap, subst, ◌∙◌}
+use Rattle.std.proofs.Common.{◌≡◌, [], ◌∷◌, map, refl, sym, subst, ◌∙◌}
 use Rattle.span_table_text.proofs.RunTables.{json_of-print}
-use Rattle.span_tasks.specs.{run_alone, IsPrint, TimeUnit, SpanTable, table_of, Added.with_sum, Fleet.{AddsAreTrees, SumsAreLeaves}}
+use Rattle.span_tasks.specs.{run_alone, IsPrint, TimeUnit, SpanTable, table_of, Added.with_sum, Fleet.{AddsAreTrees, SumsArePrinted}}
 
 -- the one table of a list
 only-same : (one other : SpanTable) → one ∷ [] ≡ other ∷ [] → one ≡ other
 only-same one other same = cc
 
-pub sums-leaves : SumsAreLeaves
-sums-leaves source apart options names text lines all prints =
+pub sums-leaves : SumsArePrinted
+sums-leaves source settings options names text lines all prints =
     let side = prints.one.is.is in
     let files = side.1.files in
-    let table = only-same prints.one.table (table_of options.of options.columns.items (map (run_alone apart.settings) files)) (sym prints.one.only ∙ side.1.runs) in (
-      map (run_alone apart.settings) files,
+    let table = only-same prints.one.table (table_of options.of options.columns.items (map (run_alone settings) files)) (sym prints.one.only ∙ side.1.runs) in (
+      map (run_alone settings) files,
       record { files = files; read = side.1.read; accounted = side.1.accounted; are = refl },
-      subst (λ (unit : TimeUnit). IsPrint unit text (table_of options.of options.columns.items (map (run_alone apart.settings) files))) side.0.unit
+      subst (λ (unit : TimeUnit). IsPrint unit text (table_of options.of options.columns.items (map (run_alone settings) files))) side.0.unit
           (subst (IsPrint prints.one.side.unit text) table
           (subst (λ t. IsPrint prints.one.side.unit t prints.one.table) (sym prints.is)
           (json_of-print prints.one.side.unit options.shown prints.one.table all prints.fits))),

@@ -6,7 +6,7 @@ use Rattle.span_page.proofs.SamePages.{page_of-alike}
 use Rattle.span_runs.proofs.InTurn.{table_of_run-in_turn}
 use Rattle.span_journal.specs.Topics.{AreAlike}
 use Rattle.span_request.specs.declared.views.View.{View, TheVariants.{Folded, Page, Refusals, Report}}
-use Rattle.span_tasks.specs.{Entry, FileEnd, Input, Asked, Sealing, Settings, AreSeparate, ends_from, journal_in_turn, text_in_turn, status_of, SealedAccount, page_of, json_of, run_in_turn, run_of_files, table_of_run, SpanTable, Together.{page_table, text_of}}
+use Rattle.span_tasks.specs.{Entry, FileEnd, Input, Asked, Sealing, Settings, AreSeparate, ends_from, journal_in_turn, text_in_turn, status_of, SealedAccount, page_of, json_of, SpanTable, Together.{page_table, text_of}}
 
 module _ (files : List Input) (settings : Settings) (ends : List FileEnd) (asked : Asked) (sealing : Sealing) (journal : List Entry)
     (account : SealedAccount files [] settings ends asked sealing journal) (separate : AreSeparate settings.unit files) (below : status_of ends asked sealing < 2) where

@@ -1,6 +1,6 @@
 -- The outcome of what was made.
 use Rattle.std.specs.Prelude.{length, ◌==◌, if◌then◌else◌, Result, Ok, Err}
-use Rattle.std.proofs.Common.{◌≡◌, ℕ, List, inl, inr, ap, sym, subst, ◌∙◌}
+use Rattle.std.proofs.Common.{ℕ, inl, inr, ap, sym, subst, ◌∙◌}
 use Rattle.span_runs.specs.declared.stop.Halt.TheVariants.{Memory, Stopped}
 use Rattle.span_tasks.specs.{Bytes, Halt, IsHint, Outcome.{DeliversOne, Ends, IsOf, Outside, PrintsOrStops}, declared.outcome.{Outcome.Outcome, Print.Print}}
 

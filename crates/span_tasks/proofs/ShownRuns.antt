@@ -1,6 +1,6 @@
 -- Files that are shown, one after another.
 use Rattle.std.specs.Prelude.{map, nat_le}
-use Rattle.std.proofs.{Common.{◌≡◌, ℕ, ◌<◌, ◌≤◌, true, false, cond, List, [], ◌∷◌, ◌++◌, length, ap, sym, subst, arith}, lemmas.{Bool.Decides.nat_tests, List.map_push, Slice.Zip.AllZip-long}}
+use Rattle.std.proofs.{Common.{◌≡◌, ◌<◌, ◌≤◌, true, false, cond, List, [], ◌∷◌, ◌++◌, length, ap, sym, subst, arith}, lemmas.{Bool.Decides.nat_tests, List.map_push, Slice.Zip.AllZip-long}}
 use Rattle.span_collect.proofs.{InTurn.Accounted.{AreAlike-in_turn, end_lines-in_turn, refusals_of-in_turn}, OneFile.AreSeparate-one}
 use Rattle.span_page.proofs.{RunsSoFar.Holds-alike, SamePages.{left_behind-follows, run_json-alike}}
 use Rattle.span_runs.proofs.GatheredFiles.{AreGathered-none, AreGathered-push}

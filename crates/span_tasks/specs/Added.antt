@@ -1,6 +1,6 @@
 -- Tables that were printed are read and added.
-use Rattle.std.specs.{List.AllZip, Prelude.{◌≡◌, ◌⊎◌, ℕ, ◌+◌, ◌<◌, ◌≤◌, ◌^◌, true, false, List, [], ◌∷◌, ◌++◌, length, Option}}
-use Rattle.span_tasks.specs.{Bytes, FileCountFault, NotTableFault, OtherColumnsFault, number_of, fault_line, run_line, unread_line, AreFirst, SourceBytes, Name, printed, Chooses, HasOtherColumns, IsNoPart, LacksColumn, PartSum, SumsParts, TakesPart, IsPart, goes_by, Column, Of, By, SpanTable, TimeUnit}
+use Rattle.std.specs.{List.AllZip, Prelude.{◌≡◌, ◌⊎◌, ℕ, ◌+◌, ◌<◌, ◌≤◌, ◌^◌, true, false, List, [], ◌∷◌, length, Option}}
+use Rattle.span_tasks.specs.{Bytes, FileCountFault, NotTableFault, OtherColumnsFault, number_of, fault_line, run_line, unread_line, AreFirst, SourceBytes, Name, printed, Chooses, HasOtherColumns, IsNoPart, LacksColumn, PartSum, SumsParts, TakesPart, IsPart, goes_by, Column, By, SpanTable, TimeUnit}
 use Rattle.span_parts.specs.declared.fault.PartFault.{PartFault, TheVariants.{NotTable, OtherColumns}}
 
 -- the most bytes that a table may have
@@ -30,15 +30,15 @@ pub record Adds (source : SourceBytes) (parts : PartSum) (names : List Name) (ta
 abbrev pub AddsEach : SourceBytes → PartSum → List Name → List SpanTable → Type 0
 AddsEach source parts names tables = AllZip (λ name table. Adds source parts (name ∷ []) table) names tables
 
--- more tables are added to parts, of their kind: sums of these are sums of those too
-pub record AddsMore (source : SourceBytes) (names : List Name) (old new : PartSum) : Type 0 where
+-- the sum of the tables of these names, each of which is of the kind of these parts
+pub record AddsBeside (source : SourceBytes) (kind : PartSum) (names : List Name) (sum : PartSum) : Type 0 where
   pub texts : List Bytes
   pub read : AllZip (IsText source) names texts
-  pub of : new.of ≡ old.of
-  pub unit : new.unit ≡ old.unit
-  pub columns : new.columns ≡ old.columns
-  pub places : new.places ≡ old.places
-  pub sums : (before : List Bytes) → SumsParts before old → SumsParts (before ++ texts) new
+  pub of : sum.of ≡ kind.of
+  pub unit : sum.unit ≡ kind.unit
+  pub columns : sum.columns ≡ kind.columns
+  pub places : sum.places ≡ kind.places
+  pub sums : SumsParts texts sum
 
 -- parts by the columns that are asked for, with the number that rows are to go by
 pub record AreAsked (wanted : List Column) (by : Option By) (parts : PartSum) : Type 0 where
@@ -80,15 +80,6 @@ AreTooMany names lines = (2 ^ 32 ≤ length names) × (lines ≡ run_line (numbe
 abbrev pub StopsFirst : SourceBytes → List Column → Option By → List Name → Bytes → Type 0
 StopsFirst source wanted by [] lines = lines ≡ run_line (number_of FileCountFault)
 StopsFirst source wanted by (name ∷ later) lines = StopsAdding source (LacksAsked wanted by) name lines
-
--- the first of these names were added to parts, and this is said of the next
-pub record StopsMore (source : SourceBytes) (parts : PartSum) (names : List Name) (lines : Bytes) : Type 0 where
-  pub done : List Name
-  pub later : List Name
-  pub split : names ≡ done ++ later
-  pub sum : PartSum
-  pub added : AddsMore source done parts sum
-  pub cause : StopsNext source parts later lines
 
 -- the parts are of the table of this name alone
 pub record BeginsWith (source : SourceBytes) (name : Name) (parts : PartSum) : Type 0 where

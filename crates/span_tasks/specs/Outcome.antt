@@ -1,5 +1,5 @@
 -- What comes of a request, and how it reaches the outside.
-use Rattle.std.specs.Prelude.{◌≡◌, ℕ, ◌<◌, ◌≤◌, ◌⊎◌, ◌==◌, if◌then◌else◌, List, [], length, take, Result, Ok, Err, MatchResult}
+use Rattle.std.specs.Prelude.{◌≡◌, ℕ, ◌<◌, ◌≤◌, ◌⊎◌, ◌==◌, if◌then◌else◌, [], length, take, Result, Ok, Err, MatchResult}
 use Rattle.span_runs.specs.declared.stop.Halt.TheVariants.{Memory, Stopped}
 use Rattle.span_tasks.specs.{Bytes, OutputFault, MemoryFault, number_of, SinkState, TakesBytes, Fails, IsHint, run_line, OfStop, Halt, declared.outcome.{Outcome.Outcome, Print.Print}}
 

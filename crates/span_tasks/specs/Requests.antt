@@ -1,18 +1,18 @@
 -- What a request means.
 use Rattle.std.specs.Prelude.{◌≡◌, ◌⊎◌, List, [], string_bytes}
 use Rattle.span_request.specs.declared.tasks.{Request.{Request, TheVariants.{Refuse, Run, Show}}, Task.{Task, TheVariants.{Collect, Pages, Tabulate}}}
-use Rattle.span_tasks.specs.{AsksFor, Bytes, Name, Named, SourceBytes, AreNamed, SaysOfNames, Outcome.{DeliversOne, Ends, Outside}, Pages.{PrintsPage, StopsPage}, Tabulations.{StopsTabulating, Tabulates}, Together.{Collects, StopsCollecting}, declared.outcome.Outcome.Outcome}
+use Rattle.span_tasks.specs.{AsksFor, Bytes, Name, Named, SourceBytes, AreNamed, SaysOfNames, Outcome.{Ends}, Pages.{PrintsPage, StopsPage}, Tabulations.{StopsTabulating, Tabulates}, Together.{Collects, StopsCollecting}, declared.outcome.Outcome.Outcome}
 
 -- the text that a task prints of what is named, and the lines that are said behind it
 abbrev pub Prints : SourceBytes → Task → List Name → Bytes → Bytes → Type 0
 Prints source (Collect settings view) names text lines = Collects source names settings view text lines
-Prints source (Pages apart view) names text lines = PrintsPage source names apart.settings view text lines
+Prints source (Pages settings jobs view) names text lines = PrintsPage source names settings view text lines
 Prints source (Tabulate task) names text lines = Tabulates source task names text lines
 
 -- what is said where it prints nothing
 abbrev pub Stops : SourceBytes → Task → List Name → Bytes → Type 0
 Stops source (Collect settings view) names lines = StopsCollecting source names settings view lines
-Stops source (Pages apart view) names lines = StopsPage source names apart.settings view lines
+Stops source (Pages settings jobs view) names lines = StopsPage source names settings view lines
 Stops source (Tabulate task) names lines = StopsTabulating source task names lines
 
 -- the text of what the words name, and what is said where there is none

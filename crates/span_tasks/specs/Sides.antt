@@ -1,7 +1,7 @@
 -- Tables as they are gathered: those of one side, or of two that are compared.
-use Rattle.std.specs.Prelude.{◌≡◌, ◌⊎◌, ⊤, Bool, true, false, List, [], ◌∷◌, ◌++◌, map, Option}
+use Rattle.std.specs.Prelude.{◌≡◌, ◌⊎◌, ⊤, Bool, true, false, List, [], ◌∷◌, ◌++◌, map, Option, MatchResult, Result}
 use Rattle.span_request.specs.declared.tasks.Items.TheVariants.{Apart as EachApart, Printed, Together}
-use Rattle.span_tasks.specs.{Bytes, AreSeparate, Settings, AreGathered, StopsAmong, run_in_turn, run_of_files, table_of_run, SourceBytes, Name, PartSum, Column, Of, By, Run, SpanTable, picked, table_of, Items, TableOptions, Added.{Adds, AddsEach, AreAsked, AreTooMany, StopsFirst, StopsNext}, Together.{EndsWell, StopsTogether}, declared.{printed.PrintedBase.PrintedBase, side.Side.Side, together.TogetherRun.TogetherRun}}
+use Rattle.span_tasks.specs.{Bytes, AreSeparate, Settings, AreGathered, Halt, OfStop, StopsAmong, run_in_turn, run_of_files, table_of_run, SourceBytes, Name, PartSum, Column, Of, By, Run, SpanTable, picked, table_of, Items, TableOptions, Added.{Adds, AddsBeside, AddsEach, AreAsked, AreTooMany, StopsFirst, StopsNext}, Together.{EndsWell, StopsTogether}, declared.{printed.PrintedBase.PrintedBase, side.Side.Side, together.TogetherRun.TogetherRun}}
 
 -- one table of all runs, or a table of each
 abbrev pub ComeTo : Bool → Of → List Column → List Run → List SpanTable → Type 0
@@ -21,6 +21,14 @@ pub record StopsLater (source : SourceBytes) (each : Bool) (parts : PartSum) (na
   pub tables : List SpanTable
   pub added : AddTo each source parts done tables
   pub cause : StopsNext source parts later lines
+
+-- the tables of these names are added, or this is said of one
+abbrev pub AddsOrStops : SourceBytes → PartSum → List Name → Result PartSum Halt → Type 0
+AddsOrStops source kind names result = MatchResult result (AddsBeside source kind names) (OfStop (StopsLater source false kind names))
+
+-- where this is what becomes of the tables of these names, and that of those, the result is what becomes of them together
+abbrev pub JoinsSums : Result PartSum Halt → Result PartSum Halt → Result PartSum Halt → Type 0
+JoinsSums first second both = (source : SourceBytes) (kind : PartSum) (names more : List Name) → AddsOrStops source kind names first → AddsOrStops source kind more second → AddsOrStops source kind (names ++ more) both
 
 -- What is named is one run, whose table this is; that of separate files is the one that they give where they are read in turn.
 pub record IsOfRun (source : SourceBytes) (names : List Name) (settings : Settings) (options : TableOptions) (side : Side) : Type 0 where
@@ -45,8 +53,8 @@ pub record AreOfParts (parts : PartSum) (side : Side) : Type 0 where
 -- what is named gives these tables; where they are printed ones, they are of the kind of these parts
 abbrev pub IsSide : SourceBytes → Items → TableOptions → Bool → PartSum → List Name → Side → Type 0
 IsSide source (Together settings) options each parts names side = AreOptions settings options side × IsOfRun source names settings options side
-IsSide source (EachApart apart) options each parts names side = AreOptions apart.settings options side
-    × AreGathered source names apart.settings (λ runs. ComeTo each options.of options.columns.items runs side.tables.items) side.lines.items
+IsSide source (EachApart settings) options each parts names side = AreOptions settings options side
+    × AreGathered source names settings (λ runs. ComeTo each options.of options.columns.items runs side.tables.items) side.lines.items
 IsSide source Printed options each parts names side = AreOfParts parts side × AddTo each source parts names side.tables.items × (side.lines.items ≡ [])
 
 -- printed tables have the columns and the number that are asked for
@@ -57,7 +65,7 @@ AreOfKind items options by parts = ⊤
 -- this is said where what is named gives no tables of the kind of these parts
 abbrev pub StopsSide : SourceBytes → Items → Bool → PartSum → List Name → Bytes → Type 0
 StopsSide source (Together settings) each parts names lines = StopsTogether source names settings lines
-StopsSide source (EachApart apart) each parts names lines = StopsAmong source apart.settings names lines
+StopsSide source (EachApart settings) each parts names lines = StopsAmong source settings names lines
 StopsSide source Printed each parts names lines = StopsLater source each parts names lines ⊎ AreTooMany names lines
 
 -- one side

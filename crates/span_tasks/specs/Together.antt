@@ -1,7 +1,7 @@
 -- What is named, collected as one run, and what is printed of it.
-use Rattle.std.specs.Prelude.{◌≡◌, ◌<◌, ◌≤◌, ◌⊎◌, ⊤, false, List, [], length, Contains}
+use Rattle.std.specs.Prelude.{◌≡◌, ◌<◌, ◌≤◌, ◌⊎◌, ⊤, false, List, [], Contains}
 use Rattle.span_request.specs.declared.views.View.{View, TheVariants.{Folded, Page, Refusals, Report}}
-use Rattle.span_tasks.specs.{Bytes, Entry, FileEnd, Input, Settings, RunEnd, RunError, StacksFault, TooGreatFault, number_of, report_of, refusals_of, most_names, folded_of, names_of, page_of, AreSeparate, IsNotCollected, SealedAccount, TextOf, run_code, status_of, text_in_turn, IsHint, fault_text, run_line, unread_line, AreInputs, SourceBytes, Name, printed, run_of_files, table_of_run, Unit, PageView, SpanTable, AllFit, json_fits, json_of, shown_table, declared.together.TogetherRun.TogetherRun}
+use Rattle.span_tasks.specs.{Bytes, Entry, FileEnd, Input, Settings, RunError, StacksFault, TooGreatFault, number_of, report_of, refusals_of, most_names, folded_of, names_of, page_of, AreSeparate, IsNotCollected, SealedAccount, TextOf, run_code, status_of, text_in_turn, IsHint, fault_text, run_line, unread_line, AreInputs, SourceBytes, Name, printed, run_of_files, table_of_run, Unit, PageView, SpanTable, AllFit, json_fits, json_of, shown_table, declared.together.TogetherRun.TogetherRun}
 
 -- what is named was read and collected as one run, and a journal accounts for it
 pub record IsTogether (source : SourceBytes) (names : List Name) (settings : Settings) (run : TogetherRun) : Type 0 where

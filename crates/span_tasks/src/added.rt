@@ -1,20 +1,33 @@
-//! Tables that were printed: they are read back and added.
-ghost use Rattle.std.specs.Prelude.{true, IfErr, IfOk};
-ghost use Rattle.span_tasks.specs.{HasOtherColumns, OfStop, Added.{AddsEach, AddsMore, AreAsked, BeginsWith, IsNoText, IsTableBeside, IsText, LacksAsked, SaysPart, StopsAdding, StopsMore, TakesName}, Sides.StopsLater};
+//! Tables that were printed: they are read back, and added in several jobs at once.
+ghost use Rattle.std.specs.Prelude.{◌≡◌, ◌≤◌, length, true, IfErr, IfOk};
+ghost use Rattle.span_tasks.specs.{HasOtherColumns, OfStop, Added.{AddsEach, AreAsked, BeginsWith, IsNoText, IsTableBeside, IsText, LacksAsked, SaysPart, StopsAdding, TakesName}, Sides.{AddsOrStops, JoinsSums, StopsLater}, places};
 
 use crate::place::Place;
 use span_event::Fault;
 use span_names::HashKeys;
 use span_parts::{PartFault, Parts};
 use span_request::{TableOptions, goes_by};
-use span_runs::{Halt, Name, Source, unread};
+use span_runs::{Halt, Name, Source, Stopped, in_jobs, sizes_of, unread};
 use span_table::{By, Table};
 use std::alloc::Global;
+use std::random::RandomSource;
+use std::sync::Wait;
+use std::thread::Threads;
 
 // The most bytes that a table may have.
 const MOST_ADDED: u64 = 1_099_511_627_776;
 
-impl<'a, R, S: Source> Place<'a, R, S> {
+// What jobs have in common that add tables of one kind. Maps that files fill are hashed by these keys.
+#[derive(Drop)]
+struct AddWork<'a, S> {
+    alloc: Global,
+    source: &'a S,
+    keys: HashKeys,
+    kind: &'a Parts,
+    stopped: &'a Stopped,
+}
+
+impl<'a, R: Threads + Wait + RandomSource + Sync, S: Source + Sync> Place<'a, R, S> {
     /// The table of this name, by the columns and with the number that are asked for. Maps that files fill are hashed by these keys.
     pub(crate) fn first_parts(
         &self,
@@ -28,7 +41,7 @@ impl<'a, R, S: Source> Place<'a, R, S> {
         ensures stop { IfErr result (OfStop (StopsAdding (S.bytes self.now.source.now)
             (LacksAsked options.now.columns.items by) name.now)) }
     {
-        let text = match self.read_table(name) {
+        let text = match read_table(self.alloc, self.source, name) {
             Ok(text) => text,
             Err(halt) => return Err(halt),
         };
@@ -42,20 +55,27 @@ impl<'a, R, S: Source> Place<'a, R, S> {
         Ok(parts)
     }
 
-    /// Parts with the tables of these names added.
-    pub(crate) fn add_names(&self, parts: Parts, names: &[Name]) -> Result<Parts, Halt>
-        ensures sum { IfOk result (AddsMore (S.bytes self.now.source.now) names.now parts) }
-        ensures stop { IfErr result
-            (OfStop (StopsMore (S.bytes self.now.source.now) parts names.now)) }
+    /// The sum of the tables of these names, each of which is of the kind of these parts.
+    pub(crate) fn sum_beside(
+        &self,
+        keys: HashKeys,
+        kind: &Parts,
+        names: &[Name],
+    ) -> Result<Parts, Halt>
+        ensures { AddsOrStops (S.bytes self.now.source.now) kind.now names.now result }
     {
-        let mut added = parts;
-        for name in names {
-            added = match self.add_name(added, name) {
-                Ok(more) => more,
-                Err(halt) => return Err(halt),
-            };
-        }
-        Ok(added)
+        let Ok(sizes) = sizes_of(self.alloc, self.source, names) else {
+            return Err(Halt::Memory);
+        };
+        let stopped = Stopped::nowhere();
+        let work = AddWork {
+            alloc: self.alloc,
+            source: self.source,
+            keys,
+            kind,
+            stopped: &stopped,
+        };
+        add_in_jobs(self.rt, &work, names, &sizes, self.jobs_of(None))
     }
 
     /// The tables of these names, each of which is of the kind of these parts.
@@ -86,14 +106,15 @@ impl<'a, R, S: Source> Place<'a, R, S> {
     }
 
     fn table_beside(&self, keys: HashKeys, parts: &Parts, name: &Name) -> Result<Table, Halt>
-        ensures table { IfOk result (IsTableBeside (S.bytes self.now.source.now) parts.now name.now) }
+        ensures table { IfOk result
+            (IsTableBeside (S.bytes self.now.source.now) parts.now name.now) }
         ensures stop { IfErr result (OfStop (StopsAdding (S.bytes self.now.source.now)
             (HasOtherColumns parts.now.of parts.now.unit parts.now.columns) name.now)) }
     {
         let Ok(none) = parts.of_none_beside(self.alloc, keys) else {
             return Err(Halt::Memory);
         };
-        let sum = match self.add_name(none, name) {
+        let sum = match add_name(self.alloc, self.source, none, name) {
             Ok(sum) => sum,
             Err(halt) => return Err(halt),
         };
@@ -102,38 +123,103 @@ impl<'a, R, S: Source> Place<'a, R, S> {
             Err(_) => Err(Halt::Memory),
         }
     }
+}
 
-    // Parts with the table of this name added.
-    fn add_name(&self, parts: Parts, name: &Name) -> Result<Parts, Halt>
-        ensures sum { IfOk result (TakesName (S.bytes self.now.source.now) name.now parts) }
-        ensures stop { IfErr result (OfStop (StopsAdding (S.bytes self.now.source.now)
-            (HasOtherColumns parts.of parts.unit parts.columns) name.now)) }
-    {
-        let text = match self.read_table(name) {
-            Ok(text) => text,
-            Err(halt) => return Err(halt),
-        };
-        match parts.add(self.alloc, &text) {
-            Ok(more) => Ok(more),
-            Err(fault) => Err(halt_of_part(self.alloc, name, fault)),
-        }
-    }
+// Adds the tables of these names, whose texts are so large, in so many jobs.
+fn add_in_jobs<R: Threads + Sync, S: Source + Sync>(
+    rt: &R,
+    work: &AddWork<S>,
+    names: &[Name],
+    sizes: &[u64],
+    jobs: u32,
+) -> Result<Parts, Halt>
+    requires { length sizes.now ≡ length names.now }
+    ensures { AddsOrStops (S.bytes work.now.source.now) work.now.kind.now names.now result }
+{
+    let take = move |from: usize, to: usize| -> Result<Parts, Halt>
+        requires { (from ≤ to) × (to ≤ length names.now) }
+        ensures { AddsOrStops (S.bytes work.entry.now.source.now) work.entry.now.kind.now
+            (places from to names.entry.now) result }
+    { add_in_job(work, &names[from..to], from as u64) };
+    let join = move |first, second| -> Result<Parts, Halt>
+        ensures { JoinsSums first second result }
+    { joined(first, second) };
+    in_jobs(rt, sizes, jobs, &take, &join)
+}
 
-    // The text that the name stands for, unless it is too long for a table.
-    fn read_table(&self, name: &Name) -> Result<Vec<u8>, Halt>
-        ensures text { IfOk result (λ text.
-            IsText (S.bytes self.now.source.now) name.now text.items) }
-        ensures stop { IfErr result (OfStop (IsNoText (S.bytes self.now.source.now) name.now)) }
-    {
-        let text = match self.source.read(name, MOST_ADDED + 1) {
-            Ok(text) => text,
-            Err(fault) => return Err(unread(self.alloc, name, fault)),
-        };
-        if text.len() as u64 > MOST_ADDED {
-            return Err(Halt::of_name(self.alloc, name, Fault::NotTable.code()));
+// Adds the tables from this place on, one after another, unless one before has stopped in another job.
+fn add_in_job<S: Source>(work: &AddWork<S>, names: &[Name], place: u64) -> Result<Parts, Halt>
+    ensures { AddsOrStops (S.bytes work.now.source.now) work.now.kind.now names.now result }
+{
+    let mut added = match work.kind.of_none_beside(work.alloc, work.keys) {
+        Ok(none) => none,
+        Err(_) => return Err(Halt::Memory),
+    };
+    let mut place = place;
+    for name in names {
+        if work.stopped.is_before(place) {
+            // Nobody looks at what this job gives: a job before it stopped, and that one decides.
+            return Err(Halt::Memory);
         }
-        Ok(text)
+        added = match add_name(work.alloc, work.source, added, name) {
+            Ok(more) => more,
+            Err(halt) => {
+                work.stopped.at(place);
+                return Err(halt);
+            }
+        };
+        place = place.saturating_add(1);
     }
+    Ok(added)
+}
+
+// The sum of two groups of names, of which those of the second come after those of the first.
+fn joined(first: Result<Parts, Halt>, second: Result<Parts, Halt>) -> Result<Parts, Halt>
+    ensures { JoinsSums first second result }
+{
+    let first = match first {
+        Ok(first) => first,
+        Err(halt) => return Err(halt),
+    };
+    let second = match second {
+        Ok(second) => second,
+        Err(halt) => return Err(halt),
+    };
+    match first.join(second) {
+        Ok(both) => Ok(both),
+        Err(_) => Err(Halt::Memory),
+    }
+}
+
+// Parts with the table of this name added.
+fn add_name<S: Source>(alloc: Global, source: &S, parts: Parts, name: &Name) -> Result<Parts, Halt>
+    ensures sum { IfOk result (TakesName (S.bytes source.now) name.now parts) }
+    ensures stop { IfErr result (OfStop (StopsAdding (S.bytes source.now)
+        (HasOtherColumns parts.of parts.unit parts.columns) name.now)) }
+{
+    let text = match read_table(alloc, source, name) {
+        Ok(text) => text,
+        Err(halt) => return Err(halt),
+    };
+    match parts.add(alloc, &text) {
+        Ok(more) => Ok(more),
+        Err(fault) => Err(halt_of_part(alloc, name, fault)),
+    }
+}
+
+// The text that the name stands for, unless it is too long for a table.
+fn read_table<S: Source>(alloc: Global, source: &S, name: &Name) -> Result<Vec<u8>, Halt>
+    ensures text { IfOk result (λ text. IsText (S.bytes source.now) name.now text.items) }
+    ensures stop { IfErr result (OfStop (IsNoText (S.bytes source.now) name.now)) }
+{
+    let text = match source.read(name, MOST_ADDED + 1) {
+        Ok(text) => text,
+        Err(fault) => return Err(unread(alloc, name, fault)),
+    };
+    if text.len() as u64 > MOST_ADDED {
+        return Err(Halt::of_name(alloc, name, Fault::NotTable.code()));
+    }
+    Ok(text)
 }
 
 // The table of this name was not added.

@@ -25,8 +25,8 @@ pub use span_collect::Settings;
 pub use span_event::{Text, Unit};
 pub use span_report::{Sink, SinkFault, Writer};
 pub use span_request::{
-    Apart, Changes, ComparisonForm, Items, PageView, RepeatsForm, Repetitions, Request, TableForm,
-    TableOptions, TableText, Tabulation, Task, View,
+    Changes, ComparisonForm, DEFAULT_SETTINGS, Items, PageView, RepeatsForm, Repetitions, Request,
+    TableForm, TableOptions, TableText, Tabulation, Task, View,
 };
 pub use span_runs::{Name, Named, Reason, Source, SourceFault};
 pub use span_table::{By, Column, Of};

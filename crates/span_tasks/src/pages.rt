@@ -4,12 +4,13 @@ ghost use Rattle.span_tasks.specs.{Unit as TheUnit, Holds, OfStop, ShownRun, Sto
 
 use crate::outcome::Print;
 use crate::place::Place;
+use crate::side::Apart;
 use crate::texts::{TableTexts, string_of};
 use span_collect::Settings;
 use span_event::Unit;
 use span_names::HashKeys;
 use span_page::RunsPage;
-use span_request::{Apart, PageView, TableForm};
+use span_request::{PageView, TableForm};
 use span_runs::{FileRun, Gathered, Halt, Name, Source, collect_file};
 use span_table::{Table, TableSum};
 use std::alloc::AllocError;
@@ -24,6 +25,8 @@ const MOST_SHOWN: usize = 64;
 // Files that were each a run of its own, as they are summed, and the page of their runs.
 #[derive(Drop)]
 struct ShownFiles {
+    // Maps that files fill are hashed by these.
+    keys: HashKeys,
     summed: Gathered<TableSum>,
     page: RunsPage,
 }
@@ -32,20 +35,20 @@ impl<'a, R: Threads + Wait + RandomSource + Sync, S: Source + Sync> Place<'a, R,
     /// A page of files. Where it shows their runs, they are collected one after another.
     pub(crate) fn print_page(
         &self,
-        apart: &Apart,
+        apart: Apart,
         view: &PageView,
         names: &[Name],
     ) -> Result<Print, Halt>
         ensures { PrintsOrStops
-            (PrintsPage (S.bytes self.now.source.now) names.now apart.now.settings view.now)
-            (StopsPage (S.bytes self.now.source.now) names.now apart.now.settings view.now) result }
+            (PrintsPage (S.bytes self.now.source.now) names.now apart.settings view.now)
+            (StopsPage (S.bytes self.now.source.now) names.now apart.settings view.now) result }
     {
         self.source.begin_apart(names.len() as u64);
         let shown = match self.show_files(apart, view, names) {
             Ok(shown) => shown,
             Err(halt) => return Err(halt),
         };
-        let ShownFiles { summed, page } = shown;
+        let ShownFiles { summed, page, .. } = shown;
         let Gathered { runs: sum, lines } = summed;
         let Ok(table) = sum.into_table() else {
             return Err(Halt::Memory);
@@ -60,11 +63,11 @@ impl<'a, R: Threads + Wait + RandomSource + Sync, S: Source + Sync> Place<'a, R,
         }
     }
 
-    fn show_files(&self, apart: &Apart, view: &PageView, names: &[Name]) -> Result<ShownFiles, Halt>
-        ensures shown { IfOk result (AreHeld (shown_runs apart.now.settings)
-            (S.bytes self.now.source.now) names.now apart.now.settings view.now) }
+    fn show_files(&self, apart: Apart, view: &PageView, names: &[Name]) -> Result<ShownFiles, Halt>
+        ensures shown { IfOk result (AreHeld (shown_runs apart.settings)
+            (S.bytes self.now.source.now) names.now apart.settings view.now) }
         ensures stop { IfErr result
-            (OfStop (StopsAmong (S.bytes self.now.source.now) apart.now.settings names.now)) }
+            (OfStop (StopsAmong (S.bytes self.now.source.now) apart.settings names.now)) }
     {
         if names.len() <= MOST_SHOWN {
             return self.show_in_turn(&apart.settings, view, names);
@@ -73,17 +76,21 @@ impl<'a, R: Threads + Wait + RandomSource + Sync, S: Source + Sync> Place<'a, R,
     }
 
     // The sum of files alone.
-    fn show_sum(&self, apart: &Apart, view: &PageView, names: &[Name]) -> Result<ShownFiles, Halt>
+    fn show_sum(&self, apart: Apart, view: &PageView, names: &[Name]) -> Result<ShownFiles, Halt>
         ensures shown { IfOk result (AreHeld (λ files. [])
-            (S.bytes self.now.source.now) names.now apart.now.settings view.now) }
+            (S.bytes self.now.source.now) names.now apart.settings view.now) }
         ensures stop { IfErr result
-            (OfStop (StopsAmong (S.bytes self.now.source.now) apart.now.settings names.now)) }
+            (OfStop (StopsAmong (S.bytes self.now.source.now) apart.settings names.now)) }
     {
         let Ok(page) = RunsPage::begin(self.alloc) else {
             return Err(Halt::Memory);
         };
-        match self.gather(apart, &view.options, names) {
-            Ok(summed) => Ok(ShownFiles { summed, page }),
+        match self.gather(&apart, &view.options, names) {
+            Ok(summed) => Ok(ShownFiles {
+                keys: HashKeys::random(self.rt),
+                summed,
+                page,
+            }),
             Err(halt) => Err(halt),
         }
     }
@@ -100,13 +107,12 @@ impl<'a, R: Threads + Wait + RandomSource + Sync, S: Source + Sync> Place<'a, R,
         ensures stop { IfErr result
             (OfStop (StopsAmong (S.bytes self.now.source.now) settings.now names.now)) }
     {
-        let keys = HashKeys::random(self.rt);
-        let mut shown = match self.show_none(keys, view) {
+        let mut shown = match self.show_none(view) {
             Ok(none) => none,
             Err(_) => return Err(Halt::Memory),
         };
         for name in names {
-            shown = match self.show_file(keys, settings, view, name, shown) {
+            shown = match self.show_file(settings, view, name, shown) {
                 Ok(more) => more,
                 Err(halt) => return Err(halt),
             };
@@ -114,7 +120,7 @@ impl<'a, R: Threads + Wait + RandomSource + Sync, S: Source + Sync> Place<'a, R,
         Ok(shown)
     }
 
-    fn show_none(&self, keys: HashKeys, view: &PageView) -> Result<ShownFiles, AllocError>
+    fn show_none(&self, view: &PageView) -> Result<ShownFiles, AllocError>
         ensures sum { IfOk result (λ none. none.summed.runs
             ≡ table_of view.now.options.of view.now.options.columns.items []) }
         ensures lines { IfOk result (λ none. none.summed.lines.items ≡ []) }
@@ -122,7 +128,9 @@ impl<'a, R: Threads + Wait + RandomSource + Sync, S: Source + Sync> Place<'a, R,
             → Holds unit view.now.labels.items [] none.page) }
     {
         let options = &view.options;
+        let keys = HashKeys::random(self.rt);
         Ok(ShownFiles {
+            keys,
             summed: Gathered::of_none(self.alloc, keys, options.of, &options.columns)?,
             page: RunsPage::begin(self.alloc)?,
         })
@@ -131,7 +139,6 @@ impl<'a, R: Threads + Wait + RandomSource + Sync, S: Source + Sync> Place<'a, R,
     // With the file of this name.
     fn show_file(
         &self,
-        keys: HashKeys,
         settings: &Settings,
         view: &PageView,
         name: &Name,
@@ -140,7 +147,7 @@ impl<'a, R: Threads + Wait + RandomSource + Sync, S: Source + Sync> Place<'a, R,
         ensures { AddsShown (S.bytes self.now.source.now) name.now settings.now view.now shown
             result }
     {
-        let ShownFiles { summed, page } = shown;
+        let ShownFiles { keys, summed, page } = shown;
         let taken = match collect_file(self.rt, self.alloc, self.source, name, settings) {
             Ok(taken) => taken,
             Err(halt) => return Err(halt.after(summed.lines)),
@@ -150,7 +157,7 @@ impl<'a, R: Threads + Wait + RandomSource + Sync, S: Source + Sync> Place<'a, R,
         };
         let options = &view.options;
         match summed.with_run(self.alloc, keys, options.of, &options.columns, &taken) {
-            Ok(summed) => Ok(ShownFiles { summed, page }),
+            Ok(summed) => Ok(ShownFiles { keys, summed, page }),
             Err(halt) => Err(halt),
         }
     }

@@ -14,6 +14,8 @@ use span_runs::{Halt, Name, Source};
 use span_table::{Table, copies_of};
 use std::alloc::{AllocError, Global};
 use std::random::RandomSource;
+use std::sync::Wait;
+use std::thread::Threads;
 
 // Fewer printed tables than this are added.
 const TABLES: u64 = 1 << 32;
@@ -32,7 +34,7 @@ struct Taking {
     keys: HashKeys,
 }
 
-impl<'a, R: RandomSource, S: Source> Place<'a, R, S> {
+impl<'a, R: Threads + Wait + RandomSource + Sync, S: Source + Sync> Place<'a, R, S> {
     /// The tables of the base, and then those of the others, of the same kind.
     pub(crate) fn printed_sides(
         &self,
@@ -121,9 +123,13 @@ impl<'a, R: RandomSource, S: Source> Place<'a, R, S> {
                 Err(halt) => Err(halt),
             };
         }
-        match self.add_names(first, later) {
+        let rest = match self.sum_beside(taking.keys, &first, later) {
+            Ok(rest) => rest,
+            Err(halt) => return Err(halt),
+        };
+        match first.join(rest) {
             Ok(sum) => only_sum(self.alloc, sum),
-            Err(halt) => Err(halt),
+            Err(_) => Err(Halt::Memory),
         }
     }
 
@@ -145,10 +151,7 @@ impl<'a, R: RandomSource, S: Source> Place<'a, R, S> {
                 Err(halt) => Err(halt),
             };
         }
-        let Ok(none) = kind.of_none_beside(self.alloc, taking.keys) else {
-            return Err(Halt::Memory);
-        };
-        match self.add_names(none, names) {
+        match self.sum_beside(taking.keys, kind, names) {
             Ok(sum) => only_sum(self.alloc, sum),
             Err(halt) => Err(halt),
         }

@@ -4,6 +4,7 @@ ghost use Rattle.span_tasks.specs.{IsHint, Outcome.PrintsOrStops, Requests.{IsOu
 
 use crate::outcome::{Outcome, Print};
 use crate::place::Place;
+use crate::side::Apart;
 use span_request::{Request, Task};
 use span_runs::{Halt, Name, Named, Source, Stop, names_of};
 use std::alloc::AllocError;
@@ -55,7 +56,18 @@ impl<'a, R: Threads + Wait + RandomSource + Sync, S: Source + Sync> Place<'a, R,
     {
         match task {
             Task::Collect { settings, view } => self.print_view(settings, view, names),
-            Task::Pages { apart, view } => self.print_page(apart, view, names),
+            Task::Pages {
+                settings,
+                jobs,
+                view,
+            } => self.print_page(
+                Apart {
+                    settings: *settings,
+                    jobs: *jobs,
+                },
+                view,
+                names,
+            ),
             Task::Tabulate(task) => self.print_tables(task, names),
         }
     }

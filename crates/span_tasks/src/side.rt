@@ -7,7 +7,7 @@ use crate::place::Place;
 use crate::together::TogetherRun;
 use span_collect::Settings;
 use span_event::Unit;
-use span_request::{Apart, TableOptions};
+use span_request::TableOptions;
 use span_runs::{Gathered, Gathering, Halt, Name, Source, Stop, gather_apart, table_of_run};
 use span_table::{Column, Of, Table, TableSum, copies_of};
 use std::alloc::{AllocError, Global};
@@ -28,6 +28,13 @@ pub(crate) struct Side {
     pub(crate) tables: Vec<Table>,
     pub(crate) lines: Vec<u8>,
     pub(crate) hints: Vec<u8>,
+}
+
+/// How files are collected that are runs of their own: in so many jobs at once, or one for each processor that the system grants.
+#[derive(Clone, Copy)]
+pub(crate) struct Apart {
+    pub(crate) settings: Settings,
+    pub(crate) jobs: Option<u32>,
 }
 
 /// A list of one table.
@@ -216,13 +223,13 @@ impl<'a, R: Threads + Wait + RandomSource + Sync, S: Source + Sync> Place<'a, R,
             &apart.settings,
             options.of,
             &options.columns,
-            self.jobs_of(apart),
+            self.jobs_of(apart.jobs),
         )
     }
 
-    /// How many jobs there are at once.
-    pub(crate) fn jobs_of(&self, apart: &Apart) -> u32 {
-        if let Some(jobs) = apart.jobs {
+    /// How many jobs there are at once: so many, or one for each processor that the system grants.
+    pub(crate) fn jobs_of(&self, jobs: Option<u32>) -> u32 {
+        if let Some(jobs) = jobs {
             return jobs;
         }
         match thread::available_parallelism(self.rt) {

@@ -3,18 +3,20 @@ ghost use Rattle.std.specs.Prelude.{IfErr, IfOk};
 ghost use Rattle.span_tasks.specs.{AreGathered, IsHint, OfStop, StopsAmong, Sides.{AreOptions, AreSides, ComeTo, IsOneSide, StopSides, StopsOneSide}};
 
 use crate::place::Place;
-use crate::side::Side;
-use span_request::{Apart, Items, TableOptions};
+use crate::side::{Apart, Side};
+use span_collect::Settings;
+use span_request::{Items, TableOptions};
 use span_runs::{Halt, Name, Source};
 use span_table::By;
 use std::random::RandomSource;
 use std::sync::Wait;
 use std::thread::Threads;
 
-/// What tables are gathered: of what, by what, with which number, and whether a table of each is wanted or one of all.
+/// What tables are gathered: of what, in how many jobs, by what, with which number, and whether a table of each is wanted or one of all.
 #[derive(Clone, Copy)]
 pub(crate) struct Wanted<'a> {
     pub(crate) items: Items,
+    pub(crate) jobs: Option<u32>,
     pub(crate) options: &'a TableOptions,
     pub(crate) by: Option<By>,
     pub(crate) each: bool,
@@ -41,7 +43,7 @@ impl<'a, R: Threads + Wait + RandomSource + Sync, S: Source + Sync> Place<'a, R,
                 Ok(side) => Ok(side),
                 Err(halt) => Err(halt),
             },
-            Items::Apart(apart) => match self.apart_side(&apart, wanted, names) {
+            Items::Apart(settings) => match self.apart_side(settings, wanted, names) {
                 Ok(side) => Ok(side),
                 Err(halt) => Err(halt),
             },
@@ -53,19 +55,23 @@ impl<'a, R: Threads + Wait + RandomSource + Sync, S: Source + Sync> Place<'a, R,
     }
 
     // The tables of files each of which is a run of its own.
-    fn apart_side(&self, apart: &Apart, wanted: Wanted, names: &[Name]) -> Result<Side, Halt>
-        ensures side { IfOk result (λ side. AreOptions apart.now.settings wanted.entry.options.now side
-            × AreGathered (S.bytes self.now.source.now) names.now apart.now.settings
+    fn apart_side(&self, settings: Settings, wanted: Wanted, names: &[Name]) -> Result<Side, Halt>
+        ensures side { IfOk result (λ side. AreOptions settings wanted.entry.options.now side
+            × AreGathered (S.bytes self.now.source.now) names.now settings
             (λ runs. ComeTo wanted.entry.each wanted.entry.options.now.of
             wanted.entry.options.now.columns.items runs side.tables.items) side.lines.items) }
         ensures hints { IfOk result (λ side. IsHint side.hints.items) }
         ensures stop { IfErr result
-            (OfStop (StopsAmong (S.bytes self.now.source.now) apart.now.settings names.now)) }
+            (OfStop (StopsAmong (S.bytes self.now.source.now) settings names.now)) }
     {
+        let apart = Apart {
+            settings,
+            jobs: wanted.jobs,
+        };
         if wanted.each {
-            return self.each_side(apart, wanted.options, names);
+            return self.each_side(&apart, wanted.options, names);
         }
-        self.sum_side(apart, wanted.options, names)
+        self.sum_side(&apart, wanted.options, names)
     }
 
     /// The tables of the base, and then those of the others, of the same kind.

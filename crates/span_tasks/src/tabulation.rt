@@ -43,6 +43,7 @@ impl<'a, R: Threads + Wait + RandomSource + Sync, S: Source + Sync> Place<'a, R,
         self.begin(task.items, names.len());
         let wanted = Wanted {
             items: task.items,
+            jobs: task.jobs,
             options: &task.options,
             by: form.by(),
             each: false,
@@ -79,6 +80,7 @@ impl<'a, R: Threads + Wait + RandomSource + Sync, S: Source + Sync> Place<'a, R,
         self.begin(task.items, asked.base.len().saturating_add(names.len()));
         let wanted = Wanted {
             items: task.items,
+            jobs: task.jobs,
             options: &task.options,
             by: asked.form.by(),
             each: false,
@@ -114,6 +116,7 @@ impl<'a, R: Threads + Wait + RandomSource + Sync, S: Source + Sync> Place<'a, R,
         self.begin(task.items, asked.base.len().saturating_add(names.len()));
         let wanted = Wanted {
             items: task.items,
+            jobs: task.jobs,
             options: &task.options,
             by: asked.by,
             each: true,

@@ -1,4 +1,3 @@
-use Rattle.std.proofs.Common.{◌∙◌}
 use Rattle.span_tasks.proofs.BothSides.{StopSides-runs}
 use Rattle.span_tasks.proofs.place.Place.both_sides.Goals as goal
 

@@ -1,5 +1,5 @@
 use Rattle.std.proofs.lemmas.Result.{IfOk-weaker}
-use Rattle.span_tasks.specs.{IsHint, Outcome.IsOf, Requests.{PrintsNamed, StopsNamed}}
+use Rattle.span_tasks.specs.{Outcome.IsOf, Requests.{PrintsNamed, StopsNamed}}
 use Rattle.span_tasks.proofs.Outcomes.{Ends-of}
 use Rattle.span_tasks.proofs.place.Place.outcome_of.Goals as goal
 

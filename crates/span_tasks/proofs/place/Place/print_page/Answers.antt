@@ -8,7 +8,7 @@ pub returns-in-Ok-text_of_runs : goal.returns-in-Ok-text_of_runs
 returns-in-Ok-text_of_runs g c =
     let shown = c.in-Ok.shown in
     let held = c.in-Ok.ensures.shown in
-    let settings = c.args.apart.now.settings in
+    let settings = c.args.apart.settings in
     let view = c.args.view.now in
     let runs = shown_runs settings held.sums.files in (
       inl c.new.ensures.items,

@@ -1,4 +1,4 @@
-use Rattle.std.proofs.{Common.{[], length, inr, sym, ap, refl, ◌∙◌}, lemmas.Slice.Zip.AllZip-long}
+use Rattle.std.proofs.{Common.{length, inr, sym, ap, refl, ◌∙◌}, lemmas.Slice.Zip.AllZip-long}
 use Rattle.span_runs.proofs.Stopping.{OfStop-weaker}
 use Rattle.span_tasks.proofs.InTurn.{text_of-in_turn}
 use Rattle.span_tasks.proofs.place.Place.print_view.Goals as goal

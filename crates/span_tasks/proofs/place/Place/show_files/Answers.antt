@@ -9,7 +9,7 @@ pub returns-then-names-le-MOST_SHOWN-clause-shown : goal.returns-then-names-le-M
 returns-then-names-le-MOST_SHOWN-clause-shown g c =
     let source = (g.S.Source.bytes c.args.self.now.source.now) in
     let names = c.args.names.now in
-    let settings = c.args.apart.now.settings in
+    let settings = c.args.apart.settings in
     let view = c.args.view.now in
     IfOk-weaker c.show_in_turn.result (AreHeld (map (shown_alone settings)) source names settings view) (AreHeld (shown_runs settings) source names settings view)
     (λ shown. AreHeld-few source settings view names shown c.if-names-le-MOST_SHOWN.true) c.show_in_turn.ensures.shown
@@ -19,7 +19,7 @@ pub returns-clause-shown : goal.returns-clause-shown
 returns-clause-shown g c =
     let source = (g.S.Source.bytes c.args.self.now.source.now) in
     let names = c.args.names.now in
-    let settings = c.args.apart.now.settings in
+    let settings = c.args.apart.settings in
     let view = c.args.view.now in
     IfOk-weaker c.show_sum.result (AreHeld (λ files. []) source names settings view) (AreHeld (shown_runs settings) source names settings view)
     (λ shown. AreHeld-many source settings view names shown c.if-names-le-MOST_SHOWN.false) c.show_sum.ensures.shown

@@ -1,4 +1,4 @@
-use Rattle.std.proofs.{Common.{take, sym}, lemmas.List.{take_all, take_more}}
+use Rattle.std.proofs.{Common.{take, sym}, lemmas.List.{take_more}}
 use Rattle.span_runs.proofs.Stopping.{OfStop-weaker}
 use Rattle.span_tasks.proofs.Adding.{AddsEach-push, StopsLater-at}
 use Rattle.span_tasks.proofs.place.Place.tables_beside.Goals as goal

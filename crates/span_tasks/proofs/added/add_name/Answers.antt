@@ -1,6 +1,6 @@
 use Rattle.span_runs.proofs.Stopping.{OfStop-weaker}
 use Rattle.span_tasks.proofs.Adding.{StopsAdding-part}
-use Rattle.span_tasks.proofs.place.Place.add_name.Goals as goal
+use Rattle.span_tasks.proofs.added.add_name.Goals as goal
 
 -- the text is one part more
 pub returns-in-Ok-add-clause-sum : goal.returns-in-Ok-add-clause-sum
@@ -13,5 +13,5 @@ returns-in-Ok-add-clause-sum g c = record {
 -- it was refused
 pub returns-clause-stop : goal.returns-clause-stop
 returns-clause-stop g c =
-    OfStop-weaker _ _ (StopsAdding-part (g.S.Source.bytes c.args.self.now.source.now) c.args.name.now c.in-Ok.text.items c.args.parts.of c.args.parts.unit c.args.parts.columns c.in-Err-add.fault c.in-Ok.ensures.text
+    OfStop-weaker _ _ (StopsAdding-part (g.S.Source.bytes c.args.source.now) c.args.name.now c.in-Ok.text.items c.args.parts.of c.args.parts.unit c.args.parts.columns c.in-Err-add.fault c.in-Ok.ensures.text
     (rw c.deref.ensures.value at c.in-Err-add.ensures.fault)) c.halt_of_part.result c.halt_of_part.ensures

@@ -1,6 +1,6 @@
 use Rattle.std.proofs.Common.{inl}
 use Rattle.span_runs.proofs.Stopping.{OfStop-weaker}
-use Rattle.span_tasks.proofs.place.Place.read_table.Goals as goal
+use Rattle.span_tasks.proofs.added.read_table.Goals as goal
 
 -- nothing was read
 pub returns-in-Err-clause-stop : goal.returns-in-Err-clause-stop
