@@ -1,53 +1,37 @@
-//! Sums the spans of trace event files, each of which is a run of its own, by name, and prints the ten names with the greatest total.
+//! Sums trace event files by name, each a run of its own, and prints the ten names with the greatest total.
 #![tactic(auto)]
 
 use span_tasks::{
-    Apart, By, Column, Files, Items, LinesTo, Named, Of, Place, Request, Session, Settings, Shown,
-    TableForm, TableOptions, TableText, Tabulation, Task, Text, Unit, Unwatched, Writer,
+    By, Column, DEFAULT_SETTINGS, Files, Items, LinesTo, Named, Of, Place, Request, Session, Shown,
+    TableForm, TableOptions, TableText, Tabulation, Task, Text, Unwatched, Writer,
 };
 use std::alloc::{AllocError, Global};
 use std::process::ExitCode;
 use std::{env, io};
 
-fn request_of(alloc: Global, files: Vec<Text>) -> Result<Request, AllocError> {
-    let mut columns = Vec::new(alloc);
-    columns.push(Column::Name)?;
-    let settings = Settings {
-        unit: Unit::Microseconds,
-        limit: 16_777_216,
-        seal: false,
-        strict: false,
+fn request_of(alloc: Global, given: Vec<Text>) -> Result<Request, AllocError> {
+    let (only, skip) = (Vec::new(alloc), Vec::new(alloc));
+    let options = TableOptions {
+        of: Of::Spans,
+        columns: Vec::from_array(alloc, [Column::Name])?,
+        shown: Shown { only, skip },
     };
-    Ok(Request::Run {
-        task: Task::Tabulate(Tabulation {
-            items: Items::Apart(Apart {
-                settings,
-                jobs: None,
-            }),
-            options: TableOptions {
-                of: Of::Spans,
-                columns,
-                shown: Shown {
-                    only: Vec::new(alloc),
-                    skip: Vec::new(alloc),
-                },
-            },
-            text: TableText::Table(TableForm::Ranking {
-                most: 10,
-                by: Some(By::Total),
-            }),
-        }),
-        files: Named {
-            given: files,
-            list: None,
-        },
-    })
+    let by = Some(By::Total);
+    let task = Task::Tabulate(Tabulation {
+        items: Items::Apart(DEFAULT_SETTINGS),
+        jobs: None,
+        options,
+        text: TableText::Table(TableForm::Ranking { most: 10, by }),
+    });
+    let files = Named { given, list: None };
+    Ok(Request::Run { task, files })
 }
 
 fn main(rt: HostRuntime) -> io::Result<ExitCode> {
-    let mut files = Vec::new(rt.alloc());
+    let alloc = rt.alloc();
+    let mut files = Vec::new(alloc);
     for word in env::args(&rt)?.skip(1) {
-        files.push(Text::of(rt.alloc(), word.as_str())?)?;
+        files.push(Text::of(alloc, word.as_str())?)?;
     }
     let source = Files {
         rt: &rt,
@@ -56,7 +40,7 @@ fn main(rt: HostRuntime) -> io::Result<ExitCode> {
     let mut session = Session {
         place: Place {
             rt: &rt,
-            alloc: rt.alloc(),
+            alloc,
             source: &source,
             takes_hints: false,
             ends: true,
@@ -67,6 +51,5 @@ fn main(rt: HostRuntime) -> io::Result<ExitCode> {
             takes_hints: false,
         },
     };
-    let status = session.perform(request_of(rt.alloc(), files)?);
-    Ok(ExitCode::from(status))
+    Ok(ExitCode::from(session.perform(request_of(alloc, files)?)))
 }
