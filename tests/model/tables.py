@@ -361,7 +361,7 @@ def wanted_columns(line, table):
 # The command line
 
 
-def words_of_line():
+def words_of_line(words):
     parser = argparse.ArgumentParser(allow_abbrev=False)
     for switch in "--seal", "--strict", "--nanoseconds", "--json", "--apart", "--add":
         parser.add_argument(switch, action="store_true")
@@ -372,7 +372,7 @@ def words_of_line():
     for several in "--only", "--skip", "--base":
         parser.add_argument(several, action="append", default=[])
     parser.add_argument("files", nargs="*")
-    return parser.parse_args()
+    return parser.parse_args(words)
 
 
 def run_of(line, files, name=""):
@@ -427,18 +427,22 @@ def text_of_line(line):
     return text, faults
 
 
-def print_text(make):
-    """Prints the text that is made of the command line, with the lines of files that are refused, and gives the status."""
-    gc.disable()  # Nothing here is let go in rings, and to look for them takes long.
+def outcome_of(make, words):
+    """The status of a command line, the text that is made of it, and the lines of files that are refused, or that of what stops."""
     try:
-        text, faults = make(words_of_line())
+        text, faults = make(words_of_line(words))
     except Stopped as stopped:
-        print(stopped, file=sys.stderr)
-        return 2
+        return 2, b"", f"{stopped}\n"
+    return 1 if faults else 0, text, "".join(f"{fault}\n" for fault in faults)
+
+
+def print_text(make):
+    """Prints the outcome of the command line, and gives its status."""
+    gc.disable()  # Nothing here is let go in rings, and to look for them takes long.
+    status, text, lines = outcome_of(make, sys.argv[1:])
     sys.stdout.buffer.write(text)
-    for fault in faults:
-        print(fault, file=sys.stderr)
-    return 1 if faults else 0
+    sys.stderr.write(lines)
+    return status
 
 
 if __name__ == "__main__":
