@@ -25,8 +25,9 @@ test:
 	rt ci
 	tests/run --gate crates/tracebook/out/tracebook
 
-# What a program does that is built already, without the gate.
+# What a program does that is built already, without the gate. What the checks need is installed first, as above.
 check:
+	-scripts/tools
 	tests/run
 
 # Times the reading of traces beside that of other readers, the division of a thread's time, a report beside its reading, names
