@@ -23,19 +23,12 @@ fn fails_after(
 ) {
     let result = write(rt.alloc(), ledger, &mut output);
     let written = count as u64;
-    assert!(rt;
-        result == Err(WriteFault::Output { written }),
-        "at {count}"
-    );
+    assert!(rt; result == Err(WriteFault::Output { written }), "at {count}");
     assert!(rt;
         Some(output.taken.as_slice()) == text.get(..count),
         "at {count}"
     );
-    assert_eq!(rt;
-        (output.writes, output.flushes),
-        calls,
-        "at {count}"
-    );
+    assert_eq!(rt; (output.writes, output.flushes), calls, "at {count}");
 }
 
 fn fails_wherever(rt: &(impl Abort + AllocGlobal), ledger: &Ledger, text: &[u8]) {
