@@ -14,9 +14,9 @@ Finds a rest None = ⊥
 Finds a rest (Some found) = Found a rest found
 
 -- these tokens are left
-abbrev pub Leaves : List spec.Token → Option (Bor (List Token)) → Type 0
-Leaves rest None = ⊥
-Leaves rest (Some left) = map token_of left.now ≡ rest
+abbrev pub Remains : List spec.Token → Option (Bor (List Token)) → Type 0
+Remains rest None = ⊥
+Remains rest (Some left) = map token_of left.now ≡ rest
 
 -- these columns may come behind those
 pub record MayFollow (columns later : List Column) : Type 0 where

@@ -2,7 +2,7 @@
 //! missed is what the contracts say.
 ghost use Rattle.std.specs.{Fmt.signed_decimal, Int.w64, Prelude.{◌≡◌, ◌≢◌, ◌<◌, ◌^◌, ◌++◌, ◌∷◌, ℕ, ℤ, FitsSigned, List, None, Some, true, codes, map, IfOk}};
 ghost use Rattle.json.specs.{Reads.token_of, Token.{Token as TheToken, end_array, key}};
-ghost use Rattle.span_parts.specs.{Bytes, ArgValue as TheValue, Whole, Unit as TheUnit, Column as TheColumn, TableCounts as TheCounts, Of as TheOf, Async, Spans, Sums as TheSums, Row as TheRow, column_name, counts_fit, fit, TableKey, AreColumns, AreDistinct, HasOwn, IsKeyOf, IsOfArgument, IsRowOf, entry_counts_tokens, head_tokens, key_tokens, name_tokens, number_tokens, numbers_tokens, of_tokens, row_tokens, sums_tokens, unit_tokens, value_tokens, First.{MayBegin, Says}, Guess.{Finds, Found, Leaves, MayFollow}};
+ghost use Rattle.span_parts.specs.{Bytes, ArgValue as TheValue, Whole, Unit as TheUnit, Column as TheColumn, TableCounts as TheCounts, Of as TheOf, Async, Spans, Sums as TheSums, Row as TheRow, column_name, counts_fit, fit, TableKey, AreColumns, AreDistinct, HasOwn, IsKeyOf, IsOfArgument, IsRowOf, entry_counts_tokens, head_tokens, key_tokens, name_tokens, number_tokens, numbers_tokens, of_tokens, row_tokens, sums_tokens, unit_tokens, value_tokens, First.{MayBegin, Says}, Guess.{Finds, Found, MayFollow, Remains}};
 
 use crate::heads::MOST_COLUMNS;
 use crate::tokens::{after_one, key_after, number_after, text_after};
@@ -92,7 +92,7 @@ fn put_columns<'t, 'a>(
     ensures { IfOk result (λ left. (later : List TheColumn) (rest : List TheToken)
         → MayFollow columns.old.items later
         → map token_of tokens.now ≡ name_tokens later ++ end_array ∷ rest
-        → Leaves (end_array ∷ rest) left × (columns.new.items ≡ columns.old.items ++ later)) }
+        → Remains (end_array ∷ rest) left × (columns.new.items ≡ columns.old.items ++ later)) }
 {
     if columns.len() > MOST_COLUMNS {
         return Ok(None);

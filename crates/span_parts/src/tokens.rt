@@ -1,7 +1,7 @@
 //! The tokens of a line.
 ghost use Rattle.std.specs.Prelude.{◌≡◌, ◌≢◌, ◌<◌, ◌^◌, ◌++◌, ◌∷◌, ℕ, List, Some, decimal, map, IfNone, IfOk, IfSome, IsNone};
 ghost use Rattle.json.specs.{Lex.tokens, Reads.token_of, Token.{Token as TheToken, key, string}};
-ghost use Rattle.span_parts.specs.{Bytes, number_tokens, Guess.{Finds, Leaves}};
+ghost use Rattle.span_parts.specs.{Bytes, number_tokens, Guess.{Finds, Remains}};
 
 use json::{Reader, Scratch, Token};
 use std::alloc::{AllocError, Global};
@@ -28,7 +28,7 @@ pub(crate) fn tokens_of<'a>(
 /// What is behind this key, if it is next.
 pub(crate) fn key_after<'t, 'a>(tokens: &'t [Token<'a>], name: &str) -> Option<&'t [Token<'a>]>
     ensures there { (rest : List TheToken) → map token_of tokens.now ≡ key name.now ∷ rest
-        → Leaves rest result }
+        → Remains rest result }
     ensures missing { (other : Bytes) (rest : List TheToken) → other ≢ name.now
         → map token_of tokens.now ≡ key other ∷ rest → IsNone result }
 {
@@ -81,7 +81,7 @@ fn number_of(text: &str) -> Option<u64>
 /// What is behind one token, whatever it is.
 pub(crate) fn after_one<'t, 'a>(tokens: &'t [Token<'a>]) -> Option<&'t [Token<'a>]>
     ensures { (token : TheToken) (rest : List TheToken) → map token_of tokens.now ≡ token ∷ rest
-        → Leaves rest result }
+        → Remains rest result }
 {
     let (_, rest) = tokens.split_first()?;
     Some(rest)

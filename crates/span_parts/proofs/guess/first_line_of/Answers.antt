@@ -1,6 +1,6 @@
 use Rattle.std.proofs.Common.{[], ◌∷◌, ◌++◌, ap, subst, ◌∙◌, arith, length}
 use Rattle.json.specs.Token.{end_array, end_object}
-use Rattle.span_parts.specs.{numbers_tokens, Guess.{Leaves, MayFollow}}
+use Rattle.span_parts.specs.{numbers_tokens, Guess.{MayFollow, Remains}}
 use Rattle.span_parts.proofs.Lists.{Some-pair}
 use Rattle.span_parts.proofs.guess.first_line_of.Goals as goal
 
@@ -12,7 +12,7 @@ returns-in_default-2 c = λ of unit columns rows counts may is.
     let numbers = numbers_tokens rows counts ++ end_object ∷ [] in
     let follow : MayFollow c.new-columns.result.items columns = record { each = may.columns_fit.each; few = omega (arith, ap length none, may.columns_fit.few) } in
     let named = c.in_ok-rest.ensures columns numbers follow started.1 in
-    subst (Leaves (end_array ∷ numbers)) c.in_default-2.is named.0
+    subst (Remains (end_array ∷ numbers)) c.in_default-2.is named.0
 
 pub returns-in_default-after_one : goal.returns-in_default-after_one
 returns-in_default-after_one c = λ of unit columns rows counts may is.
@@ -22,7 +22,7 @@ returns-in_default-after_one c = λ of unit columns rows counts may is.
     let numbers = numbers_tokens rows counts ++ end_object ∷ [] in
     let follow : MayFollow c.new-columns.result.items columns = record { each = may.columns_fit.each; few = omega (arith, ap length none, may.columns_fit.few) } in
     let named = c.in_ok-rest.ensures columns numbers follow started.1 in
-    c.in_default-after_one.ensures end_array numbers (subst (Leaves (end_array ∷ numbers)) c.in-Some-2.is named.0)
+    c.in_default-after_one.ensures end_array numbers (subst (Remains (end_array ∷ numbers)) c.in-Some-2.is named.0)
 
 pub returns-in-Some-numbers_of : goal.returns-in-Some-numbers_of
 returns-in-Some-numbers_of c = λ of unit columns rows counts may is.
@@ -32,7 +32,7 @@ returns-in-Some-numbers_of c = λ of unit columns rows counts may is.
     let numbers = numbers_tokens rows counts ++ end_object ∷ [] in
     let follow : MayFollow c.new-columns.result.items columns = record { each = may.columns_fit.each; few = omega (arith, ap length none, may.columns_fit.few) } in
     let named = c.in_ok-rest.ensures columns numbers follow started.1 in
-    let after = c.in-Some-after_one.ensures end_array numbers (subst (Leaves (end_array ∷ numbers)) c.in-Some-2.is named.0) in
+    let after = c.in-Some-after_one.ensures end_array numbers (subst (Remains (end_array ∷ numbers)) c.in-Some-2.is named.0) in
     let found = c.in-Some-numbers_of.ensures rows counts (end_object ∷ []) may.few may.counts_fit after in
     let same = Some-pair c.in-Some-numbers_of.rows rows c.in-Some-numbers_of.counts counts found in
     (kind.0, started.0, named.1 ∙ ap (λ l. l ++ columns) none, same.0, same.1)
@@ -45,6 +45,6 @@ returns-in-None c = λ of unit columns rows counts may is.
     let numbers = numbers_tokens rows counts ++ end_object ∷ [] in
     let follow : MayFollow c.new-columns.result.items columns = record { each = may.columns_fit.each; few = omega (arith, ap length none, may.columns_fit.few) } in
     let named = c.in_ok-rest.ensures columns numbers follow started.1 in
-    let after = c.in-Some-after_one.ensures end_array numbers (subst (Leaves (end_array ∷ numbers)) c.in-Some-2.is named.0) in
+    let after = c.in-Some-after_one.ensures end_array numbers (subst (Remains (end_array ∷ numbers)) c.in-Some-2.is named.0) in
     let found = c.in-None.ensures rows counts (end_object ∷ []) may.few may.counts_fit after in
     absurd cc
