@@ -1,0 +1,11 @@
+//! The options of the command line, and what words give each of them.
+#![tactic(auto)]
+
+mod command;
+mod help;
+mod options;
+mod parsing;
+
+pub use command::DEFAULT_LIMIT;
+pub use options::Options;
+pub use parsing::{Parsed, options_of, refusal};
