@@ -1,3 +1,4 @@
 pub mod Command
 pub mod Given
+pub mod Laws
 pub mod Parsing

@@ -1,7 +1,7 @@
 -- What the words of a command line come to.
-use Rattle.std.specs.Prelude.{◌≡◌, Bool, false, true, List, []}
+use Rattle.std.specs.Prelude.{◌≡◌, Bool, false, true, IsSomeAnd, List, None, Option, slice_get}
 use Rattle.clap.specs.Faults.{fault_of}
-use Rattle.clap.specs.Kinds.{IsAmong, Kinds}
+use Rattle.clap.specs.Kinds.{Kinds}
 use Rattle.clap.specs.Simple.{matches_of}
 use Rattle.clap.specs.Walk.{Text}
 use Rattle.clap.specs.declared.error.kind.ErrorKind.{ErrorKind}
@@ -15,15 +15,19 @@ is_shown DisplayHelp = true
 is_shown DisplayVersion = true
 is_shown kind = false
 
--- why the words give no options; empty where they do
+-- why the words give no options: one kind of fault, or none where they do
 abbrev pub faults : List Text → Kinds
 faults words = fault_of command words
 
+-- the fault of the words, if they have one: none has two (`specs/Laws.antt`)
+abbrev pub fault : List Text → Option ErrorKind
+fault words = slice_get (faults words) 0
+
 -- options, where nothing is wrong with the words; else help or the version, or a refusal, as the kind of the fault has it
 abbrev pub ParsesTo : List Text → Parsed → Type 0
-ParsesTo words (parsed.Options options) = (faults words ≡ []) × IsGiven (matches_of command words) options
-ParsesTo words (parsed.Show text) = (kind : ErrorKind) × IsAmong kind (faults words) × (is_shown kind ≡ true)
-ParsesTo words (parsed.Refuse text) = (kind : ErrorKind) × IsAmong kind (faults words) × (is_shown kind ≡ false)
+ParsesTo words (parsed.Options options) = (fault words ≡ None) × IsGiven (matches_of command words) options
+ParsesTo words (parsed.Show text) = IsSomeAnd (fault words) (λ kind. is_shown kind ≡ true)
+ParsesTo words (parsed.Refuse text) = IsSomeAnd (fault words) (λ kind. is_shown kind ≡ false)
 
 -- what is said for this kind of fault
 abbrev pub SaysOf : ErrorKind → Parsed → Type 0

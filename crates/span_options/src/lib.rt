@@ -3,6 +3,7 @@
 
 mod command;
 mod help;
+pub mod laws;
 mod options;
 mod parsing;
 

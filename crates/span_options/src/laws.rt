@@ -1,0 +1,8 @@
+//! What holds of all words.
+ghost use Rattle.span_options.specs.Laws.{FaultsAreAlone};
+
+/// Words have one fault at most, so they give options, are shown something, or are refused, by one reason alone. The function does
+/// nothing: its contract is the law.
+pub fn fault_law()
+    ensures { FaultsAreAlone }
+{}
