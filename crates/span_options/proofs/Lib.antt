@@ -1,3 +1,4 @@
 mod Reading
 mod Building
 mod OneFault
+mod PlainWords
