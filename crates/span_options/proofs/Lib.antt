@@ -2,3 +2,4 @@ mod Reading
 mod Building
 mod OneFault
 mod PlainWords
+mod Examples
