@@ -27,7 +27,7 @@ pub(crate) const OF_HELP: &str =
     r#"What a table sums: the spans of threads, or async spans, whose columns
 are cat, scope, id, name, and with --apart file; without --group-by
 these are summed by cat and name; with --top, --json and --base
-[default: spans]"#;
+[default: spans] [possible values: spans, async]"#;
 
 pub(crate) const GROUP_BY_HELP: &str =
     r#"Sum the spans of a table by these columns, 1 to 8 of them: pid, tid,
