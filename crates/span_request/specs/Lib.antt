@@ -1,5 +1,13 @@
+pub mod Columns
+pub mod Laws
 pub mod Numbers
 pub mod Request
-pub use Rattle.span_event.specs.declared.unit.Unit.TheVariants.{Microseconds}
+pub mod Rules
+pub mod Tasks
+pub use Rattle.span_event.specs.{Text.Bytes, declared.unit.Unit.TheVariants.{Microseconds, Nanoseconds}}
+pub use Rattle.span_report.specs.declared.stacks.label.SpanColumn.{SpanColumn}
 pub use Rattle.span_collect.specs.declared.settings.Settings.{Settings}
-pub use Rattle.span_table.specs.declared.{of.Of.{Of, TheVariants.{Async, Spans}}, sums.By.{By, TheVariants.{Closed, Count, Open, Points, SelfTime, Total}}}
+pub use Rattle.span_table.specs.{Columns.{column_name, goes_with, is_argument, is_column}, declared.{column.Column.{Column, TheVariants.{Argument, Cat, File, Name, Pid, Process, Thread, Tid}}, of.Of.{Of, TheVariants.{Async, Spans}}, sums.By.{By, TheVariants.{Closed, Count, Open, Points, SelfTime, Total}}}}
+pub use Rattle.span_table_text.specs.Printed.{AreColumns, AreDistinct}
+pub use Rattle.span_runs.specs.{Names.files_of, declared.names.Named.Named}
+pub use Rattle.span_options.specs.{Parsing.ParsesTo, declared.options.Options.Options}

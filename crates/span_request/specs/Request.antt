@@ -1,22 +1,31 @@
 -- What the words of a command line ask for.
-use Rattle.std.specs.{List.{list_any, starts_with}, Prelude.{◌≡◌, ℕ, Bool, false, List, codes, nat_eq, None}}
-use Rattle.span_request.specs.{Microseconds, Settings, declared.{tasks.{Request.{Request, TheVariants.{Run, Show, Refuse}}, Task.TheVariants.Collect}, views.View.TheVariants.Report}}
+use Rattle.std.specs.Prelude.{◌≡◌, ◌⊎◌, false, List, Some}
+use Rattle.span_request.specs.{Bytes, Column, Of, Options, ParsesTo, Columns.AreAsked, Numbers.of_of, Rules.{excluded, idle, is_broken, unsuited}, Tasks.{AreFiles, IsTask}}
+use Rattle.span_options.specs.declared.parsing.Parsed.TheVariants as parsed
+use Rattle.span_request.specs.declared.tasks.{Request.{Request, TheVariants.{Run, Show, Refuse}}, Task.Task}
 
--- the word begins with a hyphen
-abbrev pub is_option : List ℕ → Bool
-is_option word = starts_with nat_eq word (codes "-")
+-- no rule is broken by options that ask for a table of this, by these columns
+pub record AreSound (options : Options) (of : Of) (columns : List Column) : Type 0 where
+  pub apart : is_broken (excluded options) ≡ false
+  pub busy : is_broken (idle options) ≡ false
+  pub summed : of_of options ≡ Some of
+  pub asked : AreAsked of options columns
+  pub suited : is_broken (unsuited options of columns) ≡ false
 
--- the settings where the command line doesn't say
-abbrev pub default_settings : Settings
-default_settings = record { unit = Microseconds; limit = 16777216; seal = false; strict = false }
+abbrev pub AreUnsound : Options → Type 0
+AreUnsound options = (of : Of) (columns : List Column) → AreSound options of columns → ⊥
 
--- the files of these names are to be collected, with the default settings, and reported
-abbrev pub NamesFiles : List (List ℕ) → Request → Type 0
-NamesFiles words (Run (Collect settings view) files) = (settings ≡ default_settings) × (view ≡ Report) × (files.given.items ≡ words) × (files.list ≡ None)
-NamesFiles words (Run task files) = ⊥
-NamesFiles words (Show text) = ⊥
-NamesFiles words (Refuse text) = ⊥
+-- what options ask for, where they break no rule
+abbrev pub Asks : Options → Task → Type 0
+Asks options task = (of : Of) × (columns : List Column) × AreSound options of columns × IsTask options of columns task
 
--- words without options ask for the files that they name
-abbrev pub AsksFor : List (List ℕ) → Request → Type 0
-AsksFor words request = list_any is_option words ≡ false → NamesFiles words request
+abbrev pub IsOf : Options → Request → Type 0
+IsOf options (Run task files) = Asks options task × AreFiles options files
+IsOf options (Show text) = ⊥
+IsOf options (Refuse text) = AreUnsound options
+
+-- what words ask for: what their options do; where they give none, help or a refusal
+abbrev pub AsksFor : List Bytes → Request → Type 0
+AsksFor words (Run task files) = (options : Options) × ParsesTo words (parsed.Options options) × Asks options task × AreFiles options files
+AsksFor words (Show text) = ParsesTo words (parsed.Show text)
+AsksFor words (Refuse text) = ParsesTo words (parsed.Refuse text) ⊎ ((options : Options) × ParsesTo words (parsed.Options options) × AreUnsound options)

@@ -1,5 +1,8 @@
 //! The columns of a table, as the command line names them.
+ghost use Rattle.std.specs.{List.{list_all, list_any}, Prelude.{◌≡◌, false, IfOk, map}, Str.bytes_eq};
+ghost use Rattle.span_request.specs.{goes_with, Columns.{AreAsked, AreEach, AreNamed, Finds, has_comma, has_twice, is_file, is_of_span, names_in, usual_columns}, Tasks.{label_of, labels_of}};
 
+use span_options::Options;
 use span_report::stacks::SpanColumn;
 use span_table::{Column, Of};
 use std::alloc::{AllocError, Global};
@@ -50,74 +53,153 @@ pub(crate) fn file_rule_of(of: Of) -> &'static str {
     }
 }
 
-/// The columns with these names, which stand between commas. None where they are no columns.
-pub(crate) fn columns_of(alloc: Global, names: &str) -> Result<Option<Vec<Column>>, AllocError> {
+/// The columns that the options ask for, or those of the text where they name none. None where what they name are no columns.
+pub(crate) fn columns_asked(
+    alloc: Global,
+    options: &Options,
+    of: Of,
+) -> Result<Option<Vec<Column>>, AllocError>
+    ensures { IfOk result (Finds (AreAsked of options.now)) }
+{
+    match &options.group_by {
+        Some(names) => columns_of(alloc, names.as_str()),
+        None => Ok(Some(usual_columns(alloc, of, options)?)),
+    }
+}
+
+fn usual_columns(alloc: Global, of: Of, options: &Options) -> Result<Vec<Column>, AllocError>
+    ensures { IfOk result (λ columns. columns.items ≡ usual_columns of options.now) }
+{
+    if options.add {
+        return Ok(Vec::new(alloc));
+    }
+    if let Of::Async = of {
+        return Ok(vec![in alloc; Column::Cat, Column::Name]?);
+    }
+    if options.top.is_some() {
+        return Ok(vec![in alloc; Column::Pid, Column::Tid, Column::Thread, Column::Name]?);
+    }
+    if options.folded {
+        return Ok(vec![in alloc; Column::Name]?);
+    }
+    if options.page {
+        return Ok(vec![in alloc;
+            Column::Pid,
+            Column::Process,
+            Column::Tid,
+            Column::Thread,
+            Column::Name,
+        ]?);
+    }
+    Ok(vec![in alloc; Column::Process, Column::Thread, Column::Name]?)
+}
+
+// The columns with these names, which stand between commas.
+fn columns_of(alloc: Global, text: &str) -> Result<Option<Vec<Column>>, AllocError>
+    ensures { IfOk result (Finds (AreNamed (names_in text.now))) }
+{
+    let names = names_in(alloc, text)?;
+    if names.len() > MOST || has_twice(&names) {
+        return Ok(None);
+    }
+    columns_named(alloc, &names)
+}
+
+// What stands between commas.
+fn names_in(alloc: Global, text: &str) -> Result<Vec<&str>, AllocError>
+    ensures { IfOk result (λ names. map (λ name. name.now) names.items ≡ names_in text.now) }
+{
+    text.split(',').collect(alloc)
+}
+
+fn has_twice(names: &[&str]) -> bool
+    ensures { result ≡ has_twice (map (λ name. name.now) names.now) }
+{
+    match names {
+        [] => false,
+        [name, more @ ..] => is_among(name, more) | has_twice(more),
+    }
+}
+
+fn is_among(name: &str, names: &[&str]) -> bool
+    ensures { result ≡ list_any (λ other. bytes_eq other name.now) (map (λ other. other.now) names.now) }
+{
+    match names {
+        [] => false,
+        [other, more @ ..] => (*other == name) | is_among(name, more),
+    }
+}
+
+// Each of these is a column.
+fn columns_named(alloc: Global, names: &[&str]) -> Result<Option<Vec<Column>>, AllocError>
+    requires { list_any has_comma (map (λ name. name.now) names.now) ≡ false }
+    ensures { IfOk result (Finds (AreEach (map (λ name. name.now) names.now))) }
+{
     let mut columns = Vec::new(alloc);
-    for name in names.split(',') {
+    for name in names {
         let Some(column) = Column::named(alloc, name)? else {
             return Ok(None);
         };
-        if columns.len() == MOST || columns.contains(&column) {
-            return Ok(None);
-        }
         columns.push(column)?;
     }
     Ok(Some(columns))
 }
 
-/// Those of a ranking, where the command line names none.
-pub(crate) fn ranked(alloc: Global) -> Result<Vec<Column>, AllocError> {
-    Ok(vec![in alloc; Column::Pid, Column::Tid, Column::Thread, Column::Name]?)
-}
-
-/// Those of a page: what its report has of a span.
-pub(crate) fn paged(alloc: Global) -> Result<Vec<Column>, AllocError> {
-    Ok(vec![in alloc;
-        Column::Pid,
-        Column::Process,
-        Column::Tid,
-        Column::Thread,
-        Column::Name,
-    ]?)
-}
-
-/// Those of a comparison and of JSON Lines: numbers differ from run to run.
-pub(crate) fn named(alloc: Global) -> Result<Vec<Column>, AllocError> {
-    Ok(vec![in alloc; Column::Process, Column::Thread, Column::Name]?)
-}
-
-/// Those of a table of asynchronous spans: ids differ from run to run.
-pub(crate) fn of_async(alloc: Global) -> Result<Vec<Column>, AllocError> {
-    Ok(vec![in alloc; Column::Cat, Column::Name]?)
-}
-
 /// Whether what is summed has all of the columns.
-pub(crate) fn go_with(of: Of, columns: &[Column]) -> bool {
+pub(crate) fn go_with(of: Of, columns: &[Column]) -> bool
+    ensures { result ≡ list_all (goes_with of) columns.now }
+{
     columns.iter().all(|column| column.goes_with(of))
 }
 
-/// That of folded stacks.
-pub(crate) fn name_alone(alloc: Global) -> Result<Vec<Column>, AllocError> {
-    Ok(vec![in alloc; Column::Name]?)
+/// Whether the name of the only file is a column.
+pub(crate) fn have_file(columns: &[Column]) -> bool
+    ensures { result ≡ list_any is_file columns.now }
+{
+    columns.iter().any(|column| is_file(column))
+}
+
+fn is_file(column: &Column) -> bool
+    ensures { result ≡ is_file column.now }
+{
+    matches!(column, Column::File)
 }
 
 /// Whether a span has values of its own in each of the columns, and not those of its process, thread or file.
-pub(crate) fn are_of_spans(columns: &[Column]) -> bool {
-    columns.iter().all(|column| matches!(column, Column::Name | Column::Argument(_)))
+pub(crate) fn are_of_spans(columns: &[Column]) -> bool
+    ensures { result ≡ list_all is_of_span columns.now }
+{
+    columns.iter().all(|column| is_of_span(column))
+}
+
+fn is_of_span(column: &Column) -> bool
+    ensures { result ≡ is_of_span column.now }
+{
+    matches!(column, Column::Name | Column::Argument(_))
 }
 
 /// The columns in which a span has a value of its own, by which frames are labelled; where there is none, its name.
-pub(crate) fn labels_of(alloc: Global, columns: &[Column]) -> Result<Vec<SpanColumn>, AllocError> {
+pub(crate) fn labels_of(alloc: Global, columns: &[Column]) -> Result<Vec<SpanColumn>, AllocError>
+    ensures { IfOk result (λ labels. labels.items ≡ labels_of columns.now) }
+{
     let mut labels = Vec::new(alloc);
     for column in columns {
-        match column {
-            Column::Name => labels.push(SpanColumn::Name)?,
-            Column::Argument(key) => labels.push(SpanColumn::Argument(key.try_clone(alloc)?))?,
-            _ => {}
+        if let Some(label) = label_of(alloc, column)? {
+            labels.push(label)?;
         }
     }
     if labels.is_empty() {
         labels.push(SpanColumn::Name)?;
     }
     Ok(labels)
+}
+
+fn label_of(alloc: Global, column: &Column) -> Result<Option<SpanColumn>, AllocError>
+    ensures { IfOk result (λ label. label ≡ label_of column.now) }
+{
+    Ok(match column {
+        Column::Name => Some(SpanColumn::Name),
+        Column::Argument(key) => Some(SpanColumn::Argument(key.try_clone(alloc)?)),
+        _ => None,
+    })
 }

@@ -2,14 +2,14 @@
 #![tactic(auto)]
 
 mod columns;
-mod combinations;
-mod command;
+pub mod laws;
 mod numbers;
-mod options;
+mod request;
+mod rules;
 mod tasks;
 mod views;
 
-pub use command::{DEFAULT_SETTINGS, request_of};
 pub use numbers::goes_by;
+pub use request::{DEFAULT_SETTINGS, request_of};
 pub use tasks::{Changes, Items, Repetitions, Request, TableText, Tabulation, Task};
 pub use views::{ComparisonForm, PageView, RepeatsForm, TableForm, TableOptions, View};

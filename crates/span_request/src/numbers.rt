@@ -1,21 +1,51 @@
 //! The numbers that rows go by, as the command line names them.
 ghost use Rattle.std.specs.Prelude.{◌≡◌};
-ghost use Rattle.span_request.specs.Numbers.{goes_by};
+ghost use Rattle.span_request.specs.Numbers.{by_named, by_of, goes_by, of_named, of_of};
 
-use clap::ArgMatches;
+use span_options::Options;
 use span_table::{By, Of};
 
 /// Said of a number that what is summed doesn't have.
 pub(crate) const NUMBER_RULE: &str =
     "the sums of '--by' are self, total, count, and with '--of async' total, closed, open, points";
 
-/// The number that the words name.
-pub(crate) fn by_of(matches: &ArgMatches<'_>) -> Option<By> {
-    number_named(matches.get_str("by")?)
+/// Said of a word that is nothing to be summed.
+pub(crate) const OF_RULE: &str = "the values of '--of <spans|async>' are spans, async";
+
+/// What is summed; spans, where nothing is said. None where the word is not known.
+pub(crate) fn of_of(options: &Options) -> Option<Of>
+    ensures { result ≡ of_of options.now }
+{
+    match &options.of {
+        Some(word) => of_named(word.as_str()),
+        None => Some(Of::Spans),
+    }
 }
 
-fn number_named(name: &str) -> Option<By> {
-    match name {
+fn of_named(word: &str) -> Option<Of>
+    ensures { result ≡ of_named word.now }
+{
+    match word {
+        "spans" => Some(Of::Spans),
+        "async" => Some(Of::Async),
+        _ => None,
+    }
+}
+
+/// The number that is named, if there is one that is known.
+pub(crate) fn by_of(options: &Options) -> Option<By>
+    ensures { result ≡ by_of options.now }
+{
+    match &options.by {
+        Some(word) => by_named(word.as_str()),
+        None => None,
+    }
+}
+
+fn by_named(word: &str) -> Option<By>
+    ensures { result ≡ by_named word.now }
+{
+    match word {
         "self" => Some(By::SelfTime),
         "total" => Some(By::Total),
         "count" => Some(By::Count),

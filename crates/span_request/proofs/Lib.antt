@@ -1,0 +1,3 @@
+mod ColumnNames
+mod Suited
+mod Unsound

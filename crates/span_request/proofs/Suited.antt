@@ -1,0 +1,78 @@
+-- The columns that sound options ask for are those of a table.
+use Rattle.std.proofs.Common.{◌≡◌, ◌≢◌, ◌∙◌, ◌<◌, ◌≤◌, ◌&&◌, Bool, true, false, not, cond, List, [], ◌∷◌, map, Option, Some, None, ap, arith, length, refl, subst, sym, true≢false, is_some}
+use Rattle.std.specs.List.{All, list_all, list_any}
+use Rattle.std.specs.Str.{bytes_eq}
+use Rattle.std.proofs.lemmas.List.{length-map}
+use Rattle.std.proofs.lemmas.List.Splits.{length-slice_split}
+use Rattle.std.proofs.lemmas.List.Sums.{AllPass-from_list_all, list_all-from_AllPass}
+use Rattle.std.proofs.lemmas.List.Elements.{All-cons, All-nil}
+use Rattle.std.proofs.lemmas.Slice.Eq.{bytes_eq-Decides}
+use Rattle.span_request.specs.{AreDistinct, Async, Bytes, Column, Name, Of, Options, Spans, column_name, goes_with, is_column, Columns.{AreGiven, AreNamed, alike, has_twice, is_comma, names_in, paged, ranked, usual_columns}, Laws.TablesMayHaveThem, Rules.{is_broken, unsuited}}
+use Rattle.span_request.proofs.ColumnNames.{neither}
+
+-- a name that is none of the others differs from each
+differs : (name : Bytes) (names : List Bytes) → list_any (λ other. bytes_eq other name) names ≡ false → All (λ other. name ≢ other) names
+differs name [] none = All-nil (λ other. name ≢ other)
+differs name (other ∷ names) none =
+    let both = neither (bytes_eq other name) _ none in
+    All-cons (λ another. name ≢ another) other names
+    (λ same. true≢false (sym ((bytes_eq-Decides name name).1 refl) ∙ ap (λ another. bytes_eq another name) same ∙ both.0)) (differs name names both.1)
+
+-- names of which none comes twice are distinct
+AreDistinct-once : (names : List Bytes) → has_twice names ≡ false → AreDistinct names
+AreDistinct-once [] once = tt
+AreDistinct-once (name ∷ names) once =
+    let both = neither (list_any (λ other. bytes_eq other name) names) _ once in
+    (differs name names both.0, AreDistinct-once names both.1)
+
+-- what a table may have in whatever it sums
+record MayHave (columns : List Column) : Type 0 where
+  some : 0 < length columns
+  few : length columns ≤ 8
+  each : list_all is_column columns ≡ true
+  once : has_twice (map column_name columns) ≡ false
+
+usual : (of : Of) (options : Options) → options.add ≡ false → MayHave (usual_columns of options)
+usual Async options own = rw own (record { some = omega arith; few = omega arith; each = refl; once = refl })
+usual Spans options own = rw own (go (is_some options.top) options.folded options.page)
+  where
+    go : (top folded page : Bool) → MayHave (cond top ranked (cond folded (Name ∷ []) (cond page paged alike)))
+    go true folded page = record { some = omega arith; few = omega arith; each = refl; once = refl }
+    go false true page = record { some = omega arith; few = omega arith; each = refl; once = refl }
+    go false false true = record { some = omega arith; few = omega arith; each = refl; once = refl }
+    go false false false = record { some = omega arith; few = omega arith; each = refl; once = refl }
+
+named : (names : Bytes) (columns : List Column) → AreNamed (names_in names) columns → MayHave columns
+named names columns are =
+    let many : length columns ≡ length (names_in names) = sym (length-map columns column_name) ∙ ap length are.each.0 in
+    let parts = length-slice_split is_comma names in
+    record {
+      some = omega (arith, many, parts);
+      few = omega (arith, many, are.few);
+      each = list_all-from_AllPass is_column columns are.each.1;
+      once = ap has_twice are.each.0 ∙ are.once;
+    }
+
+may_have : (of : Of) (options : Options) (group_by : Option Bytes) (columns : List Column) → AreGiven of options group_by columns → options.add ≡ false → MayHave columns
+may_have of options None columns are own = subst MayHave (sym are) (usual of options own)
+may_have of options (Some names) columns are own = named names columns are
+
+-- if tables aren't added, the columns are those of what is summed
+suited : (options : Options) (of : Of) (columns : List Column) → is_broken (unsuited options of columns) ≡ false → options.add ≡ false
+    → list_all (goes_with of) columns ≡ true
+suited options of columns whole own = go (list_all (goes_with of) columns) (neither _ _ (neither _ _ whole).1).0
+  where
+    go : (all : Bool) → (not options.add && not all) ≡ false → all ≡ true
+    go true e = refl
+    go false e = absurd (true≢false (sym (ap (λ add. not add && true) own) ∙ e))
+
+pub tables-may : TablesMayHaveThem
+tables-may options of columns sound own =
+    let may = may_have of options options.group_by columns sound.asked own in
+    record {
+      some = may.some;
+      few = may.few;
+      each = AllPass-from_list_all is_column columns may.each;
+      suited = AllPass-from_list_all (goes_with of) columns (suited options of columns sound.suited own);
+      distinct = AreDistinct-once (map column_name columns) may.once;
+    }

@@ -1,0 +1,75 @@
+-- Which options go together, and which columns and numbers go with them: a rule a line. Each says what must not hold.
+use Rattle.std.specs.{List.{list_all, list_any}, Prelude.{◌&&◌, ◌||◌, not, nat_lt, Bool, false, List, [], ◌∷◌, is_some, length}}
+use Rattle.span_request.specs.{Bytes, Column, Of, Options, goes_with, Columns.{is_file, is_of_span}, Numbers.{by_of, goes_by}}
+
+-- one of the rules holds
+abbrev pub is_broken : List Bool → Bool
+is_broken rules = list_any (λ holds. holds) rules
+
+-- it is given once or more
+abbrev pub are_given : List Bytes → Bool
+are_given texts = nat_lt 0 (length texts)
+
+-- a table is printed
+abbrev pub prints_table : Options → Bool
+prints_table options = is_some options.top || options.json || are_given options.base.items
+
+-- a table is printed, or shown on a page
+abbrev pub has_table : Options → Bool
+has_table options = prints_table options || options.page
+
+-- each file is a run of its own
+abbrev pub takes_apart : Options → Bool
+takes_apart options = options.apart || options.repeats
+
+-- the texts that are printed instead of the report; rows for other programs may be those of a comparison
+abbrev pub texts : Options → List Bool
+texts options = is_some options.top ∷ options.refused ∷ options.folded ∷ options.page ∷ are_given options.base.items ∷ []
+
+-- two of them hold
+abbrev pub are_several : List Bool → Bool
+are_several [] = false
+are_several (given ∷ more) = (given && is_broken more) || are_several more
+
+-- options that exclude one another
+abbrev pub excluded : Options → List Bool
+excluded options =
+    are_several (texts options)
+    ∷ (options.json && is_some options.top)
+    ∷ (options.json && options.refused)
+    ∷ (options.json && options.folded)
+    ∷ (options.json && options.page)
+    ∷ (options.repeats && options.apart)
+    ∷ (options.add && is_some options.limit)
+    ∷ (options.add && options.nanoseconds)
+    ∷ (options.add && options.seal)
+    ∷ (options.add && options.strict)
+    ∷ (options.add && is_some options.of)
+    ∷ (options.add && options.apart)
+    ∷ (options.add && is_some options.jobs)
+    ∷ []
+
+-- options that have no effect on the text that is asked for
+abbrev pub idle : Options → List Bool
+idle options =
+    (is_some options.by && not (is_some options.top || are_given options.base.items))
+    ∷ (is_some options.of && not (prints_table options))
+    ∷ (is_some options.group_by && not (has_table options || options.folded))
+    ∷ (are_given options.only.items && not (prints_table options))
+    ∷ (are_given options.skip.items && not (prints_table options))
+    ∷ (options.add && not (prints_table options))
+    ∷ (options.apart && not (has_table options))
+    ∷ (options.repeats && not (are_given options.base.items))
+    ∷ (is_some options.jobs && not (takes_apart options))
+    ∷ []
+
+-- columns and numbers that what is summed doesn't have, or the text that is asked for; tables that are added say themselves what they sum
+abbrev pub unsuited : Options → Of → List Column → List Bool
+unsuited options of columns =
+    (is_some options.by && not (is_some (by_of options)))
+    ∷ (not options.add && not (list_all (goes_with of) columns))
+    ∷ (list_any is_file columns && not (options.apart || options.add))
+    ∷ (options.folded && not (list_all is_of_span columns))
+    ∷ (not options.add && not (goes_by of (by_of options)))
+    ∷ (options.json && is_some options.by && not options.repeats)
+    ∷ []

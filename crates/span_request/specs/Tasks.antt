@@ -1,0 +1,84 @@
+-- The task that the options ask for, by these columns.
+use Rattle.std.specs.{Prelude.{◌≡◌, ◌&&◌, ◌||◌, if◌then◌else◌, ℕ, true, false, List, [], ◌∷◌, Option, Some, None, filter_map, unwrap_or}, Option.option_map_or}
+use Rattle.span_request.specs.{Argument, Column, Microseconds, Name, Named, Nanoseconds, Of, Options, Settings, SpanColumn, files_of, Numbers.by_of, Rules.{are_given, prints_table, takes_apart}}
+use Rattle.span_request.specs.declared.tasks.{Items.{Items, TheVariants.{Apart, Printed, Together}}, TableText.{TableText, TheVariants.{Changes, Repetitions, Table}}, Task.{Task, TheVariants.{Collect, Pages, Tabulate}}}
+use Rattle.span_request.specs.declared.views.{ComparisonForm.ComparisonForm, PageView.PageView, RepeatsForm.RepeatsForm, TableForm.{TableForm, TheVariants.{Json, Ranking}}, TableOptions.TableOptions, View.{View, TheVariants.{Folded, Page, Refusals, Report}}}
+use Rattle.span_report.specs.declared.stacks.label.SpanColumn.TheVariants as label
+use Rattle.span_request.specs.declared.views.ComparisonForm.TheVariants as changes
+use Rattle.span_request.specs.declared.views.RepeatsForm.TheVariants as repeats
+
+-- the most entries of a journal, where the command line doesn't say
+abbrev pub default_limit : ℕ
+default_limit = 16777216
+
+abbrev pub settings_of : Options → Settings
+settings_of options = record {
+  unit = if options.nanoseconds then Nanoseconds else Microseconds;
+  limit = unwrap_or options.limit default_limit;
+  seal = options.seal;
+  strict = options.strict;
+}
+
+-- what is summed, by which columns, and which rows are shown
+abbrev pub IsOptions : Options → Of → List Column → TableOptions → Type 0
+IsOptions options of columns asked =
+    (asked.of ≡ of) × (asked.columns.items ≡ columns) × (asked.shown ≡ record { only = options.only.items; skip = options.skip.items })
+
+-- what a frame is called: the values of these columns that a span has for itself
+abbrev pub label_of : Column → Option SpanColumn
+label_of Name = Some label.Name
+label_of (Argument key) = Some (label.Argument key)
+label_of column = None
+
+-- its name, where there is none of them
+abbrev pub or_name : List SpanColumn → List SpanColumn
+or_name [] = label.Name ∷ []
+or_name (first ∷ more) = first ∷ more
+
+abbrev pub labels_of : List Column → List SpanColumn
+labels_of columns = or_name (filter_map label_of columns)
+
+abbrev pub IsPageView : Options → Of → List Column → PageView → Type 0
+IsPageView options of columns view = IsOptions options of columns view.options × (view.labels.items ≡ labels_of columns)
+
+-- the text of one run, beside its table
+abbrev pub IsView : Options → Of → List Column → View → Type 0
+IsView options of columns Report = (options.refused || options.folded || options.page) ≡ false
+IsView options of columns Refusals = options.refused ≡ true
+IsView options of columns (Folded labels) = (options.folded ≡ true) × (labels.items ≡ labels_of columns)
+IsView options of columns (Page view) = (options.page ≡ true) × IsPageView options of columns view
+
+-- what tables are gathered of
+abbrev pub items_of : Options → Items
+items_of options = if options.add then Printed else if takes_apart options then Apart (settings_of options) else Together (settings_of options)
+
+abbrev pub table_form : Options → TableForm
+table_form options = option_map_or (λ most. Ranking most (by_of options)) options.top Json
+
+abbrev pub comparison_form : Options → ComparisonForm
+comparison_form options = if options.json then changes.Json else changes.Text (by_of options)
+
+abbrev pub repeats_form : Options → RepeatsForm
+repeats_form options = if options.json then repeats.Json else repeats.Text
+
+-- the text that is made of tables
+abbrev pub IsText : Options → TableText → Type 0
+IsText options (Table form) = (are_given options.base.items ≡ false) × (form ≡ table_form options)
+IsText options (Changes since) =
+    (are_given options.base.items ≡ true) × (options.repeats ≡ false) × (since.form ≡ comparison_form options) × (since.base.items ≡ files_of options.base.items)
+IsText options (Repetitions of) =
+    (are_given options.base.items ≡ true) × (options.repeats ≡ true) × (of.by ≡ by_of options) × (of.form ≡ repeats_form options)
+    × (of.base.items ≡ files_of options.base.items)
+
+abbrev pub IsTask : Options → Of → List Column → Task → Type 0
+IsTask options of columns (Collect settings view) =
+    ((prints_table options || (options.page && options.apart)) ≡ false) × (settings ≡ settings_of options) × IsView options of columns view
+IsTask options of columns (Pages settings jobs view) =
+    ((options.page && options.apart) ≡ true) × (settings ≡ settings_of options) × (jobs ≡ options.jobs) × IsPageView options of columns view
+IsTask options of columns (Tabulate tables) =
+    (prints_table options ≡ true) × (tables.items ≡ items_of options) × (tables.jobs ≡ options.jobs) × IsOptions options of columns tables.options
+    × IsText options tables.text
+
+-- the files that are named
+abbrev pub AreFiles : Options → Named → Type 0
+AreFiles options files = (files.given.items ≡ options.files.items) × (files.list ≡ options.files_from)

@@ -1,0 +1,234 @@
+//! What the words of a command line ask for.
+ghost use Rattle.std.specs.Prelude.{◌≡◌, IfOk, MatchResult};
+ghost use Rattle.span_request.specs.{Request.{AreUnsound, Asks, AsksFor, IsOf}, Tasks.{IsOptions, IsPageView, IsTask, IsText, IsView, comparison_form, items_of, repeats_form, settings_of, table_form}};
+
+use crate::columns::{columns_asked, labels_of, rule_of};
+use crate::numbers::{OF_RULE, by_of, of_of};
+use crate::rules::{broken_rule, prints_table, takes_apart, unsuited_rule};
+use crate::tasks::{Changes, Items, Repetitions, Request, TableText, Tabulation, Task};
+use crate::views::{ComparisonForm, PageView, RepeatsForm, TableForm, TableOptions, View};
+use span_collect::Settings;
+use span_event::{Text, Unit};
+use span_options::{DEFAULT_LIMIT, Options, Parsed, options_of, refusal};
+use span_runs::{Named, files_of};
+use span_table::{Column, Of};
+use span_table_text::Shown;
+use std::alloc::{AllocError, Global};
+
+/// The settings where the command line does not say.
+pub const DEFAULT_SETTINGS: Settings = Settings {
+    unit: Unit::Microseconds,
+    limit: DEFAULT_LIMIT,
+    seal: false,
+    strict: false,
+};
+
+/// What the words ask for; they leave out the program's own name.
+pub fn request_of(alloc: Global, words: Vec<Text>) -> Result<Request, AllocError>
+    ensures { IfOk result (AsksFor words.items) }
+{
+    match options_of(alloc, words.as_slice())? {
+        Parsed::Options(options) => request_by(alloc, options),
+        Parsed::Show(text) => Ok(Request::Show(text)),
+        Parsed::Refuse(text) => Ok(Request::Refuse(text)),
+    }
+}
+
+fn request_by(alloc: Global, options: Options) -> Result<Request, AllocError>
+    ensures { IfOk result (IsOf options) }
+{
+    match asked(alloc, &options)? {
+        Ok(task) => {
+            let files = Named {
+                given: options.files,
+                list: options.files_from,
+            };
+            Ok(Request::Run { task, files })
+        }
+        Err(rule) => Ok(Request::Refuse(refusal(alloc, rule)?)),
+    }
+}
+
+// What the options ask for, or what is said of the rule that they break.
+fn asked(alloc: Global, options: &Options) -> Result<Result<Task, &'static str>, AllocError>
+    ensures { IfOk result (λ task. MatchResult task (Asks options.now) (λ rule. AreUnsound options.now)) }
+{
+    if let Some(rule) = broken_rule(options) {
+        return Ok(Err(rule));
+    }
+    let Some(of) = of_of(options) else {
+        return Ok(Err(OF_RULE));
+    };
+    let Some(columns) = columns_asked(alloc, options, of)? else {
+        return Ok(Err(rule_of(of)));
+    };
+    if let Some(rule) = unsuited_rule(options, of, &columns) {
+        return Ok(Err(rule));
+    }
+    Ok(Ok(task_of(alloc, options, of, columns)?))
+}
+
+fn task_of(
+    alloc: Global,
+    options: &Options,
+    of: Of,
+    columns: Vec<Column>,
+) -> Result<Task, AllocError>
+    ensures { IfOk result (IsTask options.now of columns.items) }
+{
+    let settings = settings_of(options);
+    let jobs = options.jobs;
+    if options.page & options.apart {
+        let view = page_view(alloc, options, of, columns)?;
+        return Ok(Task::Pages {
+            settings,
+            jobs,
+            view,
+        });
+    }
+    if !prints_table(options) {
+        let view = view_of(alloc, options, of, columns)?;
+        return Ok(Task::Collect { settings, view });
+    }
+    Ok(Task::Tabulate(Tabulation {
+        items: items_of(options),
+        jobs,
+        options: table_options(alloc, options, of, columns)?,
+        text: text_of(alloc, options)?,
+    }))
+}
+
+fn settings_of(options: &Options) -> Settings
+    ensures { result ≡ settings_of options.now }
+{
+    let unit = if options.nanoseconds {
+        Unit::Nanoseconds
+    } else {
+        Unit::Microseconds
+    };
+    Settings {
+        unit,
+        limit: options.limit.unwrap_or(DEFAULT_LIMIT),
+        seal: options.seal,
+        strict: options.strict,
+    }
+}
+
+fn items_of(options: &Options) -> Items
+    ensures { result ≡ items_of options.now }
+{
+    if options.add {
+        return Items::Printed;
+    }
+    if takes_apart(options) {
+        return Items::Apart(settings_of(options));
+    }
+    Items::Together(settings_of(options))
+}
+
+// What is printed instead of the report.
+fn view_of(
+    alloc: Global,
+    options: &Options,
+    of: Of,
+    columns: Vec<Column>,
+) -> Result<View, AllocError>
+    ensures { IfOk result (IsView options.now of columns.items) }
+{
+    if options.refused {
+        return Ok(View::Refusals);
+    }
+    if options.folded {
+        return Ok(View::Folded(labels_of(alloc, &columns)?));
+    }
+    if options.page {
+        return Ok(View::Page(page_view(alloc, options, of, columns)?));
+    }
+    Ok(View::Report)
+}
+
+fn page_view(
+    alloc: Global,
+    options: &Options,
+    of: Of,
+    columns: Vec<Column>,
+) -> Result<PageView, AllocError>
+    ensures { IfOk result (IsPageView options.now of columns.items) }
+{
+    let labels = labels_of(alloc, &columns)?;
+    let options = table_options(alloc, options, of, columns)?;
+    Ok(PageView { options, labels })
+}
+
+fn table_options(
+    alloc: Global,
+    options: &Options,
+    of: Of,
+    columns: Vec<Column>,
+) -> Result<TableOptions, AllocError>
+    ensures { IfOk result (IsOptions options.now of columns.items) }
+{
+    let shown = Shown {
+        only: copies(alloc, &options.only)?,
+        skip: copies(alloc, &options.skip)?,
+    };
+    Ok(TableOptions { of, columns, shown })
+}
+
+fn text_of(alloc: Global, options: &Options) -> Result<TableText, AllocError>
+    ensures { IfOk result (IsText options.now) }
+{
+    if options.base.is_empty() {
+        return Ok(TableText::Table(table_form(options)));
+    }
+    let base = files_of(alloc, copies(alloc, &options.base)?)?;
+    if options.repeats {
+        let by = by_of(options);
+        let form = repeats_form(options);
+        return Ok(TableText::Repetitions(Repetitions { by, form, base }));
+    }
+    let form = comparison_form(options);
+    Ok(TableText::Changes(Changes { form, base }))
+}
+
+fn table_form(options: &Options) -> TableForm
+    ensures { result ≡ table_form options.now }
+{
+    match options.top {
+        Some(most) => {
+            let by = by_of(options);
+            TableForm::Ranking { most, by }
+        }
+        None => TableForm::Json,
+    }
+}
+
+fn comparison_form(options: &Options) -> ComparisonForm
+    ensures { result ≡ comparison_form options.now }
+{
+    if options.json {
+        return ComparisonForm::Json;
+    }
+    let by = by_of(options);
+    ComparisonForm::Text { by }
+}
+
+fn repeats_form(options: &Options) -> RepeatsForm
+    ensures { result ≡ repeats_form options.now }
+{
+    if options.json {
+        RepeatsForm::Json
+    } else {
+        RepeatsForm::Text
+    }
+}
+
+fn copies(alloc: Global, texts: &[Text]) -> Result<Vec<Text>, AllocError>
+    ensures { IfOk result (λ copied. copied.items ≡ texts.now) }
+{
+    let mut copied = Vec::new(alloc);
+    for text in texts {
+        copied.push(text.try_clone(alloc)?)?;
+    }
+    Ok(copied)
+}

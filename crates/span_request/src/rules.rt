@@ -1,0 +1,214 @@
+//! Which options of the command line go together, and which columns and numbers go with them.
+ghost use Rattle.std.specs.{List.list_any, Prelude.{◌≡◌, ◌||◌, is_some}};
+ghost use Rattle.span_request.specs.Rules.{are_given, are_several, excluded, has_table, idle, is_broken, prints_table, takes_apart, texts, unsuited};
+
+use crate::columns::{LABEL_RULE, are_of_spans, file_rule_of, go_with, have_file, others_rule_of};
+use crate::numbers::{NUMBER_RULE, by_of, goes_by};
+use span_options::Options;
+use span_table::{Column, Of};
+
+// Whether the rule is broken, and what is said then.
+#[derive(Clone, Copy)]
+struct Rule(bool, &'static str);
+
+/// What is said of options that exclude one another, and of those that have no effect on the text that is asked for.
+pub(crate) fn broken_rule(options: &Options) -> Option<&'static str>
+    ensures { is_some result ≡ (is_broken (excluded options.now) || is_broken (idle options.now)) }
+{
+    match excluded_rule(options) {
+        Some(rule) => Some(rule),
+        None => idle_rule(options),
+    }
+}
+
+// The first of these rules that is broken.
+fn first_broken(rules: &[Rule]) -> Option<&'static str>
+    ensures { is_some result ≡ list_any (λ rule. rule.0) rules.now }
+{
+    for rule in rules {
+        if rule.0 {
+            return Some(rule.1);
+        }
+    }
+    None
+}
+
+fn excluded_rule(options: &Options) -> Option<&'static str>
+    ensures { is_some result ≡ is_broken (excluded options.now) }
+{
+    let Options {
+        json,
+        repeats,
+        add,
+        ..
+    } = *options;
+    let top = options.top.is_some();
+    first_broken(&[
+        Rule(are_several(&texts(options)), TEXTS_RULE),
+        Rule(
+            json & top,
+            "the argument '--json' cannot be used with '--top <N>'",
+        ),
+        Rule(
+            json & options.refused,
+            "the argument '--json' cannot be used with '--refused'",
+        ),
+        Rule(
+            json & options.folded,
+            "the argument '--json' cannot be used with '--folded'",
+        ),
+        Rule(
+            json & options.page,
+            "the argument '--json' cannot be used with '--page'",
+        ),
+        Rule(
+            repeats & options.apart,
+            "the argument '--repeats' cannot be used with '--apart'",
+        ),
+        Rule(
+            add & options.limit.is_some(),
+            "the argument '--add' cannot be used with '--limit <N>'",
+        ),
+        Rule(
+            add & options.nanoseconds,
+            "the argument '--add' cannot be used with '--nanoseconds'",
+        ),
+        Rule(
+            add & options.seal,
+            "the argument '--add' cannot be used with '--seal'",
+        ),
+        Rule(
+            add & options.strict,
+            "the argument '--add' cannot be used with '--strict'",
+        ),
+        Rule(
+            add & options.of.is_some(),
+            "the argument '--add' cannot be used with '--of <spans|async>'",
+        ),
+        Rule(
+            add & options.apart,
+            "the argument '--add' cannot be used with '--apart'",
+        ),
+        Rule(
+            add & options.jobs.is_some(),
+            "the argument '--add' cannot be used with '--jobs <N>'",
+        ),
+    ])
+}
+
+const TEXTS_RULE: &str =
+    "only one of the arguments '--top <N>', '--refused', '--folded', '--page' and '--base <FILE>' can be used";
+
+// Which texts are asked for instead of the report.
+fn texts(options: &Options) -> [bool; 5]
+    ensures { result ≡ texts options.now }
+{
+    [
+        options.top.is_some(),
+        options.refused,
+        options.folded,
+        options.page,
+        !options.base.is_empty(),
+    ]
+}
+
+fn are_several(given: &[bool]) -> bool
+    ensures { result ≡ are_several given.now }
+{
+    match given {
+        [] => false,
+        [first, more @ ..] => (*first & is_any(more)) | are_several(more),
+    }
+}
+
+fn is_any(given: &[bool]) -> bool
+    ensures { result ≡ is_broken given.now }
+{
+    given.iter().any(|given| *given)
+}
+
+fn idle_rule(options: &Options) -> Option<&'static str>
+    ensures { is_some result ≡ is_broken (idle options.now) }
+{
+    let table = prints_table(options);
+    let base = !options.base.is_empty();
+    first_broken(&[
+        Rule(
+            options.by.is_some() & !(options.top.is_some() | base),
+            "the argument '--by <SUM>' goes with '--top <N>' and '--base <FILE>' alone",
+        ),
+        Rule(
+            options.of.is_some() & !table,
+            "the argument '--of <spans|async>' goes with '--top <N>', '--json' and '--base <FILE>' alone",
+        ),
+        Rule(
+            options.group_by.is_some() & !(has_table(options) | options.folded),
+            "the argument '--group-by <COLUMNS>' goes with '--top <N>', '--json', '--base <FILE>', '--folded' and '--page' alone",
+        ),
+        Rule(
+            !options.only.is_empty() & !table,
+            "the argument '--only <TEXT>' goes with '--top <N>', '--json' and '--base <FILE>' alone",
+        ),
+        Rule(
+            !options.skip.is_empty() & !table,
+            "the argument '--skip <TEXT>' goes with '--top <N>', '--json' and '--base <FILE>' alone",
+        ),
+        Rule(
+            options.add & !table,
+            "the argument '--add' goes with '--top <N>', '--json' and '--base <FILE>' alone",
+        ),
+        Rule(
+            options.apart & !has_table(options),
+            "the argument '--apart' goes with '--top <N>', '--json', '--base <FILE>' and '--page' alone",
+        ),
+        Rule(
+            options.repeats & !base,
+            "the argument '--repeats' goes with '--base <FILE>' alone",
+        ),
+        Rule(
+            options.jobs.is_some() & !takes_apart(options),
+            "the argument '--jobs <N>' goes with '--apart' and '--repeats' alone",
+        ),
+    ])
+}
+
+/// What is said of columns or a number that what is summed doesn't have, or the text that is asked for.
+pub(crate) fn unsuited_rule(options: &Options, of: Of, columns: &[Column]) -> Option<&'static str>
+    ensures { is_some result ≡ is_broken (unsuited options.now of columns.now) }
+{
+    first_broken(&[
+        Rule(options.by.is_some() & by_of(options).is_none(), NUMBER_RULE),
+        Rule(!options.add & !go_with(of, columns), others_rule_of(of)),
+        Rule(
+            have_file(columns) & !(options.apart | options.add),
+            file_rule_of(of),
+        ),
+        Rule(options.folded & !are_of_spans(columns), LABEL_RULE),
+        Rule(!options.add & !goes_by(of, by_of(options)), NUMBER_RULE),
+        Rule(
+            options.json & options.by.is_some() & !options.repeats,
+            "the argument '--json' cannot be used with '--by <SUM>'",
+        ),
+    ])
+}
+
+/// Whether a table is printed.
+pub(crate) fn prints_table(options: &Options) -> bool
+    ensures { result ≡ prints_table options.now }
+{
+    options.top.is_some() | options.json | !options.base.is_empty()
+}
+
+// Whether a table is printed, or shown on a page.
+fn has_table(options: &Options) -> bool
+    ensures { result ≡ has_table options.now }
+{
+    prints_table(options) | options.page
+}
+
+/// Whether each file is a run of its own.
+pub(crate) fn takes_apart(options: &Options) -> bool
+    ensures { result ≡ takes_apart options.now }
+{
+    options.apart | options.repeats
+}
