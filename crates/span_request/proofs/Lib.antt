@@ -1,3 +1,4 @@
 mod ColumnNames
+mod PlainWords
 mod Suited
 mod Unsound

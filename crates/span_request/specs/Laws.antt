@@ -1,7 +1,22 @@
--- What holds of all that options ask for.
-use Rattle.std.specs.Prelude.{◌≡◌, false, List}
-use Rattle.span_request.specs.{AreColumns, Column, Of, Options, Request.AreSound}
+-- What holds of all that options and words ask for.
+use Rattle.std.specs.{List.list_all, Prelude.{◌≡◌, ◌<◌, ◌^◌, false, true, List, None, length}}
+use Rattle.span_request.specs.{AreColumns, Bytes, Column, Microseconds, Of, Options, Settings, is_plain, Request.{AreSound, AsksFor}, Tasks.default_limit}
+use Rattle.span_request.specs.declared.{tasks.{Request.{Request, TheVariants.Run}, Task.TheVariants.Collect}, views.View.TheVariants.Report}
 
 -- the columns by which a table is made are those that a table may have; of tables that are added none may be named, which are all of theirs
 abbrev pub TablesMayHaveThem : Type 0
 TablesMayHaveThem = (options : Options) (of : Of) (columns : List Column) → AreSound options of columns → options.add ≡ false → AreColumns of columns
+
+-- the settings where the command line doesn't say
+abbrev pub default_settings : Settings
+default_settings = record { unit = Microseconds; limit = default_limit; seal = false; strict = false }
+
+-- the report of the files of these names, collected as one run with the default settings
+abbrev pub IsReport : List Bytes → Request → Type 0
+IsReport names (Run (Collect settings Report) files) = (settings ≡ default_settings) × (files.given.items ≡ names) × (files.list ≡ None)
+IsReport names request = ⊥
+
+-- words that begin with no hyphen, fewer than 2^64, ask for the report of the files that they name
+abbrev pub PlainWordsAskForReports : Type 0
+PlainWordsAskForReports = (words : List Bytes) (request : Request) → list_all is_plain words ≡ true → length words < 2 ^ 64 → AsksFor words request →
+    IsReport words request

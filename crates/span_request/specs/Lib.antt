@@ -10,4 +10,4 @@ pub use Rattle.span_collect.specs.declared.settings.Settings.{Settings}
 pub use Rattle.span_table.specs.{Columns.{column_name, goes_with, is_argument, is_column}, declared.{column.Column.{Column, TheVariants.{Argument, Cat, File, Name, Pid, Process, Thread, Tid}}, of.Of.{Of, TheVariants.{Async, Spans}}, sums.By.{By, TheVariants.{Closed, Count, Open, Points, SelfTime, Total}}}}
 pub use Rattle.span_table_text.specs.Printed.{AreColumns, AreDistinct}
 pub use Rattle.span_runs.specs.{Names.files_of, declared.names.Named.Named}
-pub use Rattle.span_options.specs.{Parsing.ParsesTo, declared.options.Options.Options}
+pub use Rattle.span_options.specs.{Laws.is_plain, Parsing.ParsesTo, declared.options.Options.Options}
