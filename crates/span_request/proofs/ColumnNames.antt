@@ -2,6 +2,7 @@
 use Rattle.std.proofs.Common.{Bor, ◌≡◌, ◌∙◌, ◌<◌, ◌+◌, ◌||◌, ◌&&◌, ℕ, Bool, true, false, not, cond, zero, suc, refl, sym, ap, ap₂, subst, arith, List, [], ◌∷◌, ◌++◌, map, length, take, drop, true≢false, lt-ltb, slice_index_or}
 use Rattle.std.specs.List.{All, cons_option, filter_map, list_any, onto_first, slice_split}
 use Rattle.std.proofs.Math.Seq.{take-suc}
+use Rattle.std.proofs.lemmas.Bool.{or_parts}
 use Rattle.std.proofs.lemmas.List.{map-append}
 use Rattle.std.proofs.lemmas.List.Elements.{All-head, All-tail, All-nil, All-cons, All-append, filter_map-append}
 use Rattle.span_request.specs.{Argument, Bytes, Cat, Column, File, Name, Pid, Process, SpanColumn, Thread, Tid, column_name, is_column, Columns.{AreEach, has_comma, is_comma}, Tasks.label_of}
@@ -10,11 +11,6 @@ use Rattle.span_table.specs.declared.column.Column.TheVariants.{Id, Scope}
 onto : (byte : ℕ) (parts : List Bytes) → is_comma byte ≡ false → list_any has_comma parts ≡ false → list_any has_comma (onto_first byte parts) ≡ false
 onto byte [] other none = rw other refl
 onto byte (part ∷ parts) other none = rw other none
-
--- neither of two holds
-pub neither : (a b : Bool) → (a || b) ≡ false → (a ≡ false) × (b ≡ false)
-neither true b e = absurd (true≢false e)
-neither false b e = (refl, e)
 
 -- no part has a comma
 pub list_any-slice_split : (text : Bytes) → list_any has_comma (slice_split is_comma text) ≡ false
@@ -61,8 +57,8 @@ AreEach-at (name ∷ names) (column ∷ columns) (suc i) d lt each =
 has_comma-at : (names : List (Bor Bytes)) (i : ℕ) (d : Bor Bytes) → i < length names → list_any has_comma (map (λ name. name.now) names) ≡ false
     → has_comma (slice_index_or names i d).now ≡ false
 has_comma-at [] i d lt none = absurd (omega arith)
-has_comma-at (name ∷ names) zero d lt none = (neither (has_comma name.now) _ none).0
-has_comma-at (name ∷ names) (suc i) d lt none = has_comma-at names i d (omega arith) (neither (has_comma name.now) _ none).1
+has_comma-at (name ∷ names) zero d lt none = (or_parts (has_comma name.now) _ none).0
+has_comma-at (name ∷ names) (suc i) d lt none = has_comma-at names i d (omega arith) (or_parts (has_comma name.now) _ none).1
 
 -- the first elements, and one more
 pub take-next : {X : Type 0} (xs : List X) (i : ℕ) (d : X) → i < length xs → take (i + 1) xs ≡ take i xs ++ slice_index_or xs i d ∷ []

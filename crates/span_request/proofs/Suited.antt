@@ -1,5 +1,5 @@
 -- The columns that sound options ask for are those of a table.
-use Rattle.std.proofs.Common.{◌≡◌, ◌≢◌, ◌∙◌, ◌<◌, ◌≤◌, ◌&&◌, Bool, true, false, not, cond, List, [], ◌∷◌, map, Option, Some, None, ap, arith, length, refl, subst, sym, true≢false, is_some}
+use Rattle.std.proofs.Common.{◌≡◌, ◌≢◌, ◌∙◌, ◌⊎◌, ◌<◌, ◌≤◌, ◌&&◌, Bool, true, false, not, cond, List, [], ◌∷◌, map, Option, Some, None, ap, arith, inl, inr, length, refl, subst, sym, true≢false, is_some}
 use Rattle.std.specs.List.{All, list_all, list_any}
 use Rattle.std.specs.Str.{bytes_eq}
 use Rattle.std.proofs.lemmas.List.{length-map}
@@ -7,14 +7,14 @@ use Rattle.std.proofs.lemmas.List.Splits.{length-slice_split}
 use Rattle.std.proofs.lemmas.List.Sums.{AllPass-from_list_all, list_all-from_AllPass}
 use Rattle.std.proofs.lemmas.List.Elements.{All-cons, All-nil}
 use Rattle.std.proofs.lemmas.Slice.Eq.{bytes_eq-Decides}
-use Rattle.span_request.specs.{AreDistinct, Async, Bytes, Column, Name, Of, Options, Spans, column_name, goes_with, is_column, Columns.{AreGiven, AreNamed, alike, has_twice, is_comma, names_in, paged, ranked, usual_columns}, Laws.TablesMayHaveThem, Rules.{is_broken, unsuited}}
-use Rattle.span_request.proofs.ColumnNames.{neither}
+use Rattle.span_request.specs.{AreColumns, AreDistinct, Async, Bytes, Column, Name, Of, Options, Spans, column_name, goes_with, is_column, Columns.{AreGiven, AreNamed, alike, has_twice, is_comma, names_in, paged, ranked, usual_columns}, Laws.{AddedTablesMayHaveThem, TablesMayHaveThem}, Rules.{is_broken, unsuited}}
+use Rattle.std.proofs.lemmas.Bool.{or_parts}
 
 -- a name that is none of the others differs from each
 differs : (name : Bytes) (names : List Bytes) → list_any (λ other. bytes_eq other name) names ≡ false → All (λ other. name ≢ other) names
 differs name [] none = All-nil (λ other. name ≢ other)
 differs name (other ∷ names) none =
-    let both = neither (bytes_eq other name) _ none in
+    let both = or_parts (bytes_eq other name) _ none in
     All-cons (λ another. name ≢ another) other names
     (λ same. true≢false (sym ((bytes_eq-Decides name name).1 refl) ∙ ap (λ another. bytes_eq another name) same ∙ both.0)) (differs name names both.1)
 
@@ -22,7 +22,7 @@ differs name (other ∷ names) none =
 AreDistinct-once : (names : List Bytes) → has_twice names ≡ false → AreDistinct names
 AreDistinct-once [] once = tt
 AreDistinct-once (name ∷ names) once =
-    let both = neither (list_any (λ other. bytes_eq other name) names) _ once in
+    let both = or_parts (list_any (λ other. bytes_eq other name) names) _ once in
     (differs name names both.0, AreDistinct-once names both.1)
 
 -- what a table may have in whatever it sums
@@ -60,19 +60,29 @@ may_have of options (Some names) columns are own = named names columns are
 -- if tables aren't added, the columns are those of what is summed
 suited : (options : Options) (of : Of) (columns : List Column) → is_broken (unsuited options of columns) ≡ false → options.add ≡ false
     → list_all (goes_with of) columns ≡ true
-suited options of columns whole own = go (list_all (goes_with of) columns) (neither _ _ (neither _ _ whole).1).0
+suited options of columns whole own = go (list_all (goes_with of) columns) (or_parts _ _ (or_parts _ _ whole).1).0
   where
     go : (all : Bool) → (not options.add && not all) ≡ false → all ≡ true
     go true e = refl
     go false e = absurd (true≢false (sym (ap (λ add. not add && true) own) ∙ e))
 
+-- so they are columns that a table may have, if what it sums has them
+AreColumns-suited : (of : Of) (columns : List Column) → MayHave columns → All (λ column. goes_with of column ≡ true) columns → AreColumns of columns
+AreColumns-suited of columns may goes =
+    record { some = may.some; few = may.few; each = AllPass-from_list_all is_column columns may.each; suited = goes; distinct = AreDistinct-once (map column_name columns) may.once }
+
 pub tables-may : TablesMayHaveThem
 tables-may options of columns sound own =
-    let may = may_have of options options.group_by columns sound.asked own in
-    record {
-      some = may.some;
-      few = may.few;
-      each = AllPass-from_list_all is_column columns may.each;
-      suited = AllPass-from_list_all (goes_with of) columns (suited options of columns sound.suited own);
-      distinct = AreDistinct-once (map column_name columns) may.once;
-    }
+    AreColumns-suited of columns (may_have of options options.group_by columns sound.asked own)
+    (AllPass-from_list_all (goes_with of) columns (suited options of columns sound.suited own))
+
+pub added-may : AddedTablesMayHaveThem
+added-may options of own columns sound adds goes = by options.group_by sound.asked
+  where
+    none : (of : Of) → usual_columns of options ≡ []
+    none Async = rw adds refl
+    none Spans = rw adds refl
+
+    by : (group_by : Option Bytes) → AreGiven of options group_by columns → (columns ≡ []) ⊎ AreColumns own columns
+    by None are = inl (are ∙ none of)
+    by (Some names) are = inr (AreColumns-suited own columns (named names columns are) goes)

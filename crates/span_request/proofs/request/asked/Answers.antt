@@ -1,6 +1,6 @@
 use Rattle.std.proofs.Common.{◌∙◌, is_some, ap, subst, sym}
 use Rattle.span_request.specs.{Columns.{AreAsked, Finds}, Rules.{excluded, idle, is_broken, unsuited}}
-use Rattle.span_request.proofs.ColumnNames.{neither}
+use Rattle.std.proofs.lemmas.Bool.{or_parts}
 use Rattle.span_request.proofs.Unsound.{AreUnsound-suited}
 use Rattle.span_request.proofs.request.asked.Goals as goal
 
@@ -12,7 +12,7 @@ returns-in-Some-unsuited_rule c = AreUnsound-suited c.args.options.now c.in-Some
 
 pub returns : goal.returns
 returns c =
-    let whole = neither (is_broken (excluded c.args.options.now)) (is_broken (idle c.args.options.now))
+    let whole = or_parts (is_broken (excluded c.args.options.now)) (is_broken (idle c.args.options.now))
     (sym c.broken_rule.ensures ∙ ap (λ rule. is_some rule) c.in_default.is) in (
       c.in-Some-of_of.of,
       c.in-Some-2.columns.items,
