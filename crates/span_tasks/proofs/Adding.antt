@@ -4,7 +4,7 @@ use Rattle.span_table.specs.Adding.{add_tables}
 use Rattle.span_parts.specs.{Sum.{FirstFails, JoinsParts, PartFails}, declared.fault.PartFault.{PartFault, TheVariants.{Memory, NotTable, OtherColumns, TooMany}}}
 use Rattle.std.proofs.{Common.{◌≡◌, ℕ, suc, ◌<◌, List, [], ◌∷◌, ◌++◌, length, take, drop, inl, inr, refl, ap, sym, subst, ◌∙◌, append_assoc}, Math.{ListN.get_or, Seq.drop-cons}, lemmas.List.{take-append-drop, Elements.All-head}}
 use Rattle.span_parts.proofs.Taken.{JoinsParts-added}
-use Rattle.span_tasks.specs.{Bytes, Chooses, HasOtherColumns, PartSum, SumsParts, TakesNone, chosen, AreAt, AreParts, SourceBytes, Name, TimeUnit, Column, Of, By, SpanTable, goes_by, Added.{Adds, AddsBeside, AddsEach, BeginsWith, IsText, LacksAsked, LacksNumber, SaysPart, StopsAdding, StopsNext, TakesName, with_sum}, Sides.{AddTo, StopsLater}}
+use Rattle.span_tasks.specs.{Bytes, Chooses, HasColumns, HasOtherColumns, IsPart, PartSum, SumsParts, TakesNone, chosen, AreAt, AreParts, SourceBytes, Name, TimeUnit, Column, Of, By, SpanTable, goes_by, Added.{Adds, AddsBeside, AddsEach, BeginsWith, IsOfKind, IsText, LacksAsked, LacksNumber, SaysPart, StopsAdding, StopsNext, TakesName, with_sum}, Sides.{AddTo, StopsLater}}
 
 pub AllZip-append : {A B : Type 0} (R : A → B → Type 0) (xs more : List A) (ys others : List B) → AllZip R xs ys → AllZip R more others → AllZip R (xs ++ more) (ys ++ others)
 AllZip-append R [] more [] others one other = other
@@ -31,6 +31,20 @@ LacksNumber-first by text unit of (part ∷ parts) are kinds lacks = record {
   lacks = ap (λ (o : Of). goes_by o by) (All-head (λ (p : SpanTable). p.of ≡ of) part parts kinds) ∙ lacks;
 }
 
+-- the text whose part alone is added is of the kind of its sum
+HasColumns-only : (text : Bytes) (sum : PartSum) → SumsParts (text ∷ []) sum → HasColumns sum.of sum.unit sum.columns text
+HasColumns-only text sum sums = by sums.parts sums.are sums.kinds sums.columns
+  where
+    by : (parts : List SpanTable) → AreParts sum.unit (text ∷ []) parts → All (λ (part : SpanTable). part.of ≡ sum.of) parts → All (λ (part : SpanTable). part.columns ≡ sum.columns) parts →
+        HasColumns sum.of sum.unit sum.columns text
+    by [] are kinds columns = absurd are
+    by (part ∷ parts) are kinds columns = record {
+      part = part;
+      is = are.0;
+      kind = All-head (λ (p : SpanTable). p.of ≡ sum.of) part parts kinds;
+      by = All-head (λ (p : SpanTable). p.columns ≡ sum.columns) part parts columns;
+    }
+
 -- sums of one kind
 pub with_sum-same : (one other : PartSum) (table : SpanTable) → other.of ≡ one.of → other.unit ≡ one.unit → other.columns ≡ one.columns → other.places ≡ one.places → with_sum other table ≡ with_sum one table
 with_sum-same one other table of unit columns places = λ i. record { of = of i; unit = unit i; columns = columns i; places = places i; sum = table }
@@ -47,6 +61,18 @@ module _ (source : SourceBytes) where
   -- the first alone
   pub AddsBeside-first : (name : Name) (first : PartSum) → BeginsWith source name first → AddsBeside source first (name ∷ []) first
   AddsBeside-first name first begins = record { texts = begins.text ∷ []; read = (begins.read, tt); of = refl; unit = refl; columns = refl; places = refl; sums = begins.sums }
+
+  -- the table of the first is of the kind of its sum
+  pub IsOfKind-first : (name : Name) (first : PartSum) → BeginsWith source name first → IsOfKind source name first
+  IsOfKind-first name first begins = (begins.text, begins.read, HasColumns-only begins.text first begins.sums)
+
+  -- and of parts of that kind
+  pub IsOfKind-beside : (name : Name) (first kind : PartSum) → TakesNone first kind → IsOfKind source name first → IsOfKind source name kind
+  IsOfKind-beside name first kind takes (text, read, has) = (
+    text,
+    read,
+    record { part = has.part; is = subst (λ (unit : TimeUnit). IsPart unit text has.part) (sym takes.unit) has.is; kind = has.kind ∙ sym takes.of; by = has.by ∙ sym takes.columns },
+  )
 
   -- one more, behind others
   pub AddsBeside-push : (kind : PartSum) (names : List Name) (name : Name) (old new : PartSum) → AddsBeside source kind names old → TakesName source name old new → AddsBeside source kind (names ++ name ∷ []) new

@@ -1,6 +1,6 @@
 -- Tables that were printed are read and added.
 use Rattle.std.specs.{List.AllZip, Prelude.{◌≡◌, ◌⊎◌, ℕ, ◌+◌, ◌<◌, ◌≤◌, ◌^◌, true, false, List, [], ◌∷◌, length, Option}}
-use Rattle.span_tasks.specs.{Bytes, FileCountFault, NotTableFault, OtherColumnsFault, number_of, fault_line, run_line, unread_line, AreFirst, SourceBytes, Name, printed, Chooses, HasOtherColumns, IsNoPart, LacksColumn, PartSum, SumsParts, TakesPart, IsPart, goes_by, Column, By, SpanTable, TimeUnit}
+use Rattle.span_tasks.specs.{Bytes, FileCountFault, NotTableFault, OtherColumnsFault, number_of, fault_line, run_line, unread_line, AreFirst, SourceBytes, Name, printed, Chooses, HasColumns, HasOtherColumns, IsNoPart, LacksColumn, PartSum, SumsParts, TakesPart, IsPart, goes_by, Column, By, SpanTable, TimeUnit}
 use Rattle.span_parts.specs.declared.fault.PartFault.{PartFault, TheVariants.{NotTable, OtherColumns}}
 
 -- the most bytes that a table may have
@@ -44,6 +44,15 @@ pub record AddsBeside (source : SourceBytes) (kind : PartSum) (names : List Name
 pub record AreAsked (wanted : List Column) (by : Option By) (parts : PartSum) : Type 0 where
   pub chooses : Chooses wanted parts
   pub number : goes_by parts.of by ≡ true
+
+-- the table of this name is of the kind of these parts
+abbrev pub IsOfKind : SourceBytes → Name → PartSum → Type 0
+IsOfKind source name parts = (text : Bytes) × IsText source name text × HasColumns parts.of parts.unit parts.columns text
+
+-- the table of the first of these names is of the kind of these parts, which have what is asked for
+abbrev pub AreOfFirst : SourceBytes → List Column → Option By → List Name → PartSum → Type 0
+AreOfFirst source wanted by [] parts = ⊥
+AreOfFirst source wanted by (name ∷ later) parts = AreAsked wanted by parts × IsOfKind source name parts
 
 -- a number that rows are to go by is missing from the table of this text
 pub record LacksNumber (by : Option By) (text : Bytes) : Type 0 where
