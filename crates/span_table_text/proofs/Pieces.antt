@@ -1,6 +1,6 @@
 -- Lines, from the pieces of which they are made.
 use Rattle.std.specs.{List.join_with_byte, Prelude.{codes, decimal, flat_map}}
-use Rattle.std.proofs.{Common.{◌≡◌, ℕ, ◌-◌, List, [], ◌∷◌, ◌++◌, map, refl, sym, ap, ◌∙◌, append_assoc}, lemmas.List.append-nil}
+use Rattle.std.proofs.{Common.{◌≡◌, ℕ, List, [], ◌∷◌, ◌++◌, map, refl, sym, ap, ◌∙◌, append_assoc}, lemmas.List.append-nil}
 use Rattle.span_table_text.specs.{Bytes, line_of, right_in, Column, Of, Spans, Async, Row, Lines.{column_title, value_text}, Pieces.{sums_names, sums_text, then_title, then_value}, Ranking.{column_line, ranked_line}}
 
 -- texts with a byte between them, from the first and the others with the byte before each

@@ -1,14 +1,14 @@
 -- The rows of a table of runs are those of what it sums, so what is printed of it can be read back.
 use Rattle.std.specs.{Cmp.{IsTotalOrder, eq_by_cmp_equiv}, List.{list_all, list_any}, Ordering.is_eq, declared.cmp.Ordering.Ordering}
-use Rattle.std.proofs.{Common.{◌≡◌, ℕ, ◌+◌, ◌<◌, ◌==◌, Bool, true, false, cond, not, ◌&&◌, ◌||◌, List, [], ◌∷◌, All, Contains, filter, flat_map, get_or, is_some, length, map, sum_by, Option, Some, None, option_map, refl, sym, ap, ap₂, subst, ◌∙◌, arith}, lemmas.{Bool.{and_parts, eqb-true}, List.{length-map, Elements.{All-append, All-contains, All-contains_itself, All-head, All-map, All-nil, All-tail, All-weaker}}, Map.Views.list_any-from_Contains}}
+use Rattle.std.proofs.{Common.{◌≡◌, ℕ, ◌+◌, ◌<◌, ◌==◌, Bool, true, false, cond, not, ◌&&◌, ◌||◌, List, [], ◌∷◌, All, Contains, filter, flat_map, get_or, is_some, length, map, sum_by, Option, Some, None, option_map, refl, sym, ap, ap₂, subst, ◌∙◌, arith}, lemmas.{Bool.{and_parts, eqb-true}, List.{length-map, Elements.{All-append, All-contains, All-contains_itself, All-filter, All-head, All-map, All-nil, All-tail, All-weaker}}, Map.Views.list_any-from_Contains}}
 use Rattle.span_event.specs.declared.thread.Thread.{Thread}
 use Rattle.span_keyed_tracks.proofs.{Keyed.has_key, SameKeys.{All-ascending, step_keys}, Uses.is_eq-turned}
 use Rattle.span_table.proofs.{Rows.RowsRise-rows_of, Tallies.{tally, tally-cons}}
-use Rattle.span_table_text.specs.{Words, Arguments, Bytes, Unit, AsyncRow, AsyncKey, Keyed, entry_of, keys_in, steps_at, accepted, async_rows, names_of, thread_keys, Timed, timed_spans, Column, Pid, Tid, Process, Thread as OfThread, Name, File, Cat, Scope, Id, Argument, Of, Spans, Async, Sums, Row, Run, async_value_at, goes_with, value_at, key_cmp_total, TableKey, key_cmp, KeyedSums, SpanTable, keyed_async, keyed_span, row_of, rows_of, run_sums, sums_together, table_of, thread_sums, Json.{shown_table, text_of}, Printed.{AllFit, AllIsPrinted, AreColumns, HasFile, HasSome, HaveFiles, IsKeyOf, IsName, IsOfArgument, IsPart, IsPrint, IsTable, IsWords, KeyFits, MayHave, PrintsAreParts}, Shown.{Wanted, is_wanted, key_has, wants_all}}
-use Rattle.span_table_text.proofs.{Determined.{HasOwnNumbers, HasWholeKeys, prints-determined}, PrintedLines.numbers_fit-each}
+use Rattle.span_table_text.specs.{Words, Arguments, Bytes, Unit, AsyncRow, AsyncKey, Keyed, entry_of, keys_in, steps_at, accepted, async_rows, names_of, thread_keys, Timed, timed_spans, Column, Pid, Tid, Process, Thread as OfThread, Name, File, Cat, Scope, Id, Argument, Of, Spans, Async, Sums, Row, Run, async_value_at, goes_with, value_at, key_cmp_total, TableKey, key_cmp, KeyedSums, RowsRise, SpanTable, keyed_async, keyed_span, row_of, rows_of, run_sums, sums_together, table_of, thread_sums, Json.shown_table, Printed.{AllFit, AllIsPrinted, AreColumns, HasFile, HasOwn, HasSome, HaveFiles, IsKeyOf, IsName, IsOfArgument, IsPart, IsPrint, IsTable, IsWords, KeyFits, MayHave, PrintsAreParts}, Shown.{Wanted, is_wanted, key_has, wants_all}}
+use Rattle.span_table_text.proofs.{Determined.{HasOwnNumbers, HasWholeKeys, prints-determined}, PrintedLines.numbers_fit-each, Ranked.filter-sorted}
 
 -- what holds of all that each gives holds of all that they give
-All-flat_map : {A B : Type 0} (P : B → Type 0) (f : A → List B) (xs : List A) → All (λ x. All P (f x)) xs → All P (flat_map f xs)
+pub All-flat_map : {A B : Type 0} (P : B → Type 0) (f : A → List B) (xs : List A) → All (λ x. All P (f x)) xs → All P (flat_map f xs)
 All-flat_map P f [] all = All-nil P
 All-flat_map P f (x ∷ xs) all =
     All-append P (f x) (flat_map f xs) (All-head (λ y. All P (f y)) x xs all) (All-flat_map P f xs (All-tail (λ y. All P (f y)) x xs all))
@@ -99,8 +99,72 @@ words None some = absurd cc
 words (Some file) some = tt
 
 -- a key that a table may have, if its numbers have 64 bits
-abbrev MayBeKey : List Column → TableKey → Type 0
+abbrev pub MayBeKey : List Column → TableKey → Type 0
 MayBeKey columns key = KeyFits columns key → IsKeyOf columns key
+
+-- sums under a key that a table by these columns may have, if the numbers of the key have 64 bits
+pub record Suits (of : Of) (columns : List Column) (sums : Keyed TableKey Sums) : Type 0 where
+  pub key : MayBeKey columns sums.key
+  pub own : HasOwn of sums.step
+  pub some : HasSome of sums.step
+
+-- rows are sums, each under its key
+abbrev pub row_sums : Row → Keyed TableKey Sums
+row_sums row = record { key = row.key; step = row.sums }
+
+-- rows that a table may have, if their numbers have 64 bits
+pub record HasRows (table : SpanTable) : Type 0 where
+  pub each : All (λ row. Suits table.of table.columns (row_sums row)) table.rows
+  pub rise : RowsRise table.rows
+
+-- no row has a number that what is summed doesn't have, where no sums have it
+All-own : (of : Of) (es : KeyedSums) → All (λ (e : Keyed TableKey Sums). HasOwn of e.step) es → All (λ (row : Row). HasOwn of row.sums) (rows_of es)
+All-own Spans es own =
+    let unclosed = All-none (λ (s : Sums). s.unclosed) (λ sums. refl) es (λ k d low. (own k d low).0) in
+    let points = All-none (λ (s : Sums). s.points) (λ sums. refl) es (λ k d low. (own k d low).1) in
+    λ k d low. (unclosed k d low, points k d low)
+All-own Async es own = All-none (λ (s : Sums). s.self_time) (λ sums. refl) es own
+
+-- where all sums count a span, so do all rows
+All-some : (of : Of) (es : KeyedSums) → All (λ (e : Keyed TableKey Sums). HasSome of e.step) es → All (λ (row : Row). HasSome of row.sums) (rows_of es)
+All-some Spans es some = All-counts es some
+All-some Async es some = All-every (λ row. HasSome Async row.sums) (λ row. tt) (rows_of es)
+
+-- the rows of sums that suit its columns are those that a table may have
+pub HasRows-rows_of : (table : SpanTable) (es : KeyedSums) → table.rows ≡ rows_of es → All (Suits table.of table.columns) es → HasRows table
+HasRows-rows_of table es are suits =
+    let keys = All-keys (MayBeKey table.columns) es (λ k d low. (suits k d low).key) in
+    let own = All-own table.of es (λ k d low. (suits k d low).own) in
+    let some = All-some table.of es (λ k d low. (suits k d low).some) in
+    record {
+      each = subst (All (λ (row : Row). Suits table.of table.columns (row_sums row))) (sym are) (λ k d low. record { key = keys k d low; own = own k d low; some = some k d low });
+      rise = subst RowsRise (sym are) (RowsRise-rows_of es);
+    }
+
+-- so are those of them that are shown
+pub HasRows-shown : (wanted : Wanted) (table : SpanTable) → HasRows table → HasRows (shown_table wanted table)
+HasRows-shown wanted table has =
+    let shown = λ (row : Row). is_wanted wanted row.key in
+    record {
+      each = All-filter shown (λ (row : Row). Suits table.of table.columns (row_sums row)) table.rows has.each;
+      rise = filter-sorted (λ (a b : Row). key_cmp a.key b.key) shown table.rows has.rise;
+    }
+
+-- a table that has such rows, whose numbers have 64 bits, can be read back
+pub IsTable-fits : (table : SpanTable) → AreColumns table.of table.columns → HasRows table → AllFit table → IsTable table
+IsTable-fits table are has fits =
+    let numbers = numbers_fit-each table fits.numbers in
+    record {
+      columns = are;
+      counts = numbers.0;
+      few = fits.few;
+      rows = λ k d low. let row = has.each k d low in record { key = row.key (fits.keys k d low); own = row.own; some = row.some; fits = numbers.1 k d low };
+      rise = has.rise;
+    }
+
+-- so what is printed of it is a part
+pub IsPart-print : (unit : Unit) (text : Bytes) (table : SpanTable) → AreColumns table.of table.columns → HasRows table → IsPrint unit text table → IsPart unit text table
+IsPart-print unit text table are has print = record { is = IsTable-fits table are has print.fits; utf8 = print.utf8; printed = print.printed }
 
 module _ (run : Run) (thread : Thread) (name : Bytes) (args : Arguments) where
   -- a value that a span has in a column is one that the column may have, if a number has 64 bits
@@ -152,9 +216,14 @@ module _ (columns : List Column) where
   run-whole Spans run = λ thread t. length-map columns (value_at run thread t.span.name t.span.args)
   run-whole Async run = λ row. length-map columns (async_value_at run row.key)
 
-  run-MayBeKey : (of : Of) → All (λ column. goes_with of column ≡ true) columns → (run : Run) → All (HasFile run) columns → OfRun of columns (λ e. MayBeKey columns e.key) run
-  run-MayBeKey Spans suited run files = λ thread t. key-MayBeKey run thread t.span.name t.span.args columns suited files
-  run-MayBeKey Async suited run files = λ row. async_key-MayBeKey run row.key columns suited files
+  -- it has no numbers that are not its own
+  run-own : (of : Of) (run : Run) → OfRun of columns (λ e. HasOwn of e.step) run
+  run-own Spans run = λ thread t. (refl, refl)
+  run-own Async run = λ row. refl
+
+  run-Suits : (of : Of) → All (λ column. goes_with of column ≡ true) columns → (run : Run) → All (HasFile run) columns → OfRun of columns (Suits of columns) run
+  run-Suits Spans suited run files = λ thread t. record { key = key-MayBeKey run thread t.span.name t.span.args columns suited files; own = (refl, refl); some = omega arith }
+  run-Suits Async suited run files = λ row. record { key = async_key-MayBeKey run row.key columns suited files; own = refl; some = tt }
 
   module _ (runs : List Run) where
     pub table_of-HasWholeKeys : (of : Of) → HasWholeKeys (table_of of columns runs)
@@ -162,26 +231,13 @@ module _ (columns : List Column) where
         All-keys (λ key. length key ≡ length columns) (flat_map (run_sums of columns) runs)
         (All-runs-every columns (λ e. length e.key ≡ length columns) of (run-whole of) runs)
 
-    -- each row of spans has one
-    table_of-HasSome : (of : Of) → All (λ row. HasSome of row.sums) (table_of of columns runs).rows
-    table_of-HasSome Spans = All-counts (flat_map (run_sums Spans columns) runs) (All-runs-every columns (λ e. 0 < e.step.count) Spans (λ run thread t. omega arith) runs)
-    table_of-HasSome Async = All-every (λ row. HasSome Async row.sums) (λ row. tt) (table_of Async columns runs).rows
-
     -- no row has a number that what is summed doesn't have
     pub table_of-HasOwnNumbers : (of : Of) → HasOwnNumbers (table_of of columns runs)
-    table_of-HasOwnNumbers Spans =
-        let es = flat_map (run_sums Spans columns) runs in
-        let unclosed = All-none (λ (s : Sums). s.unclosed) (λ sums. refl) es (All-runs-every columns (λ e. e.step.unclosed ≡ 0) Spans (λ run thread t. refl) runs) in
-        let points = All-none (λ (s : Sums). s.points) (λ sums. refl) es (All-runs-every columns (λ e. e.step.points ≡ 0) Spans (λ run thread t. refl) runs) in
-        λ k d low. (unclosed k d low, points k d low)
-    table_of-HasOwnNumbers Async =
-        All-none (λ (s : Sums). s.self_time) (λ sums. refl) (flat_map (run_sums Async columns) runs)
-        (All-runs-every columns (λ e. e.step.self_time ≡ 0) Async (λ run row. refl) runs)
+    table_of-HasOwnNumbers of = All-own of (flat_map (run_sums of columns) runs) (All-runs-every columns (λ e. HasOwn of e.step) of (run-own of) runs)
 
-    table_of-keys : (of : Of) → All (λ column. goes_with of column ≡ true) columns → HaveFiles columns runs → All (λ row. MayBeKey columns row.key) (table_of of columns runs).rows
-    table_of-keys of suited files =
-        let each = All-weaker (λ (run : Run). All (HasFile run) columns) (OfRun of columns (λ e. MayBeKey columns e.key)) (run-MayBeKey of suited) runs files in
-        All-keys (MayBeKey columns) (flat_map (run_sums of columns) runs) (All-runs columns (λ e. MayBeKey columns e.key) of runs each)
+    -- what a table sums of runs that have their files suits its columns
+    runs-Suits : (of : Of) → All (λ column. goes_with of column ≡ true) columns → HaveFiles columns runs → All (Suits of columns) (flat_map (run_sums of columns) runs)
+    runs-Suits of suited files = All-runs columns (Suits of columns) of runs (All-weaker (λ (run : Run). All (HasFile run) columns) (OfRun of columns (Suits of columns)) (run-Suits of suited) runs files)
 
 module _ (of : Of) (columns : List Column) (runs : List Run) where
   -- a table that was read of what is printed of runs is the table of these
@@ -190,24 +246,14 @@ module _ (of : Of) (columns : List Column) (runs : List Run) where
   IsPart-table_of unit second text part is print =
       prints-determined unit second text part (table_of of columns runs) is print (table_of-HasWholeKeys columns runs of) (table_of-HasOwnNumbers columns runs of)
 
-  -- the table of runs that have their files, if its numbers have 64 bits, is one that can be read back
-  pub IsTable-table_of : AreColumns of columns → HaveFiles columns runs → AllFit (table_of of columns runs) → IsTable (table_of of columns runs)
-  IsTable-table_of are files fits =
-      let numbers = numbers_fit-each (table_of of columns runs) fits.numbers in
-      let keys = table_of-keys columns runs of are.suited files in
-      let own = table_of-HasOwnNumbers columns runs of in
-      let some = table_of-HasSome columns runs of in
-      record {
-        columns = are;
-        counts = numbers.0;
-        few = fits.few;
-        rows = λ k d low. record { key = keys k d low (fits.keys k d low); own = own k d low; some = some k d low; fits = numbers.1 k d low };
-        rise = RowsRise-rows_of (flat_map (run_sums of columns) runs);
-      }
+  table_of-HasRows : AreColumns of columns → HaveFiles columns runs → HasRows (table_of of columns runs)
+  table_of-HasRows are files = HasRows-rows_of (table_of of columns runs) (flat_map (run_sums of columns) runs) refl (runs-Suits columns runs of are.suited files)
 
--- so what is printed of such runs is a part
+-- so what is printed of the rows that are shown of such runs is a part
 pub prints-parts : PrintsAreParts
-prints-parts unit of columns runs text are files utf8 print = record { is = IsTable-table_of of columns runs are files print.fits; utf8 = utf8; printed = print.printed }
+prints-parts unit of columns runs wanted text are files print =
+    let table = table_of of columns runs in
+    IsPart-print unit text (shown_table wanted table) are (HasRows-shown wanted table (table_of-HasRows of columns runs are files)) print
 
 filter-every : {A : Type 0} (p : A → Bool) → ((x : A) → p x ≡ true) → (xs : List A) → filter p xs ≡ xs
 filter-every p each [] = refl
@@ -226,6 +272,6 @@ shown_table-all wanted table all = λ i. record { of = table.of; columns = table
         let both = and_parts (length wanted.only == 0) (length wanted.skip == 0) all in
         ap₂ (λ (only skip : List Bytes). list_all (key_has key) only && not (list_any (key_has key) skip)) (none wanted.only both.0) (none wanted.skip both.1)
 
--- so what JSON Lines have of it is its print
-pub json_of-print : AllIsPrinted
-json_of-print unit wanted table all fits = let same = shown_table-all wanted table all in record { fits = subst AllFit same fits; printed = ap (text_of unit) same }
+-- so the print of what is shown is its print
+pub print-shown : AllIsPrinted
+print-shown unit wanted table text all print = subst (IsPrint unit text) (shown_table-all wanted table all) print

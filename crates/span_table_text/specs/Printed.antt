@@ -1,6 +1,6 @@
 -- Tables that are printed as JSON Lines, and those whose text can be read back.
 use Rattle.std.specs.{Int.w64, Prelude.{◌≡◌, ◌≢◌, ◌<◌, ◌≤◌, ◌^◌, true, List, [], ◌∷◌, All, is_some, length, map, Some, None, FitsSigned, ⊤}, Str.IsUtf8}
-use Rattle.span_table_text.specs.{Whole, Words, Bytes, Unit, Column, Pid, Tid, Process, Thread, Name, File, Cat, Scope, Id, Argument, Of, Spans, Async, Sums, Row, Run, Value, column_name, goes_with, is_column, counts_fit, fit, TableKey, RowsRise, SpanTable, table_of, Json.{json_of, numbers_fit, shown_table, text_of}, Shown.{Wanted, wants_all}}
+use Rattle.span_table_text.specs.{Whole, Words, Bytes, Unit, Column, Pid, Tid, Process, Thread, Name, File, Cat, Scope, Id, Argument, Of, Spans, Async, Sums, Row, Run, Value, column_name, goes_with, is_column, counts_fit, fit, TableKey, RowsRise, SpanTable, table_of, Json.{numbers_fit, shown_table, text_of}, Shown.{Wanted, wants_all}}
 
 -- a number, which has 64 bits
 abbrev pub IsWhole : Value → Type 0
@@ -49,6 +49,7 @@ pub record AllFit (table : SpanTable) : Type 0 where
 -- the text of such a table, in this unit
 pub record IsPrint (unit : Unit) (text : Bytes) (table : SpanTable) : Type 0 where
   pub fits : AllFit table
+  pub utf8 : IsUtf8 text
   pub printed : text ≡ text_of unit table
 
 -- the run has a file, if that is the column
@@ -114,11 +115,11 @@ pub record IsPart (unit : Unit) (text : Bytes) (table : SpanTable) : Type 0 wher
 abbrev pub PartsAreDetermined : Type 0
 PartsAreDetermined = (unit second : Unit) (text : Bytes) (one other : SpanTable) → IsPart unit text one → IsPart second text other → (unit ≡ second) × (one ≡ other)
 
--- where all rows are wanted, what JSON Lines have of a table is its print
+-- where all rows are wanted, what is printed of those that are shown is the print of the whole table
 abbrev pub AllIsPrinted : Type 0
-AllIsPrinted = (unit : Unit) (wanted : Wanted) (table : SpanTable) → wants_all wanted ≡ true → AllFit (shown_table wanted table) → IsPrint unit (json_of unit wanted table) table
+AllIsPrinted = (unit : Unit) (wanted : Wanted) (table : SpanTable) (text : Bytes) → wants_all wanted ≡ true → IsPrint unit text (shown_table wanted table) → IsPrint unit text table
 
--- what is printed of runs is a part, if they have their files, and its text is UTF-8
+-- what is printed of the rows that are shown of runs is a part, if the runs have their files
 abbrev pub PrintsAreParts : Type 0
-PrintsAreParts = (unit : Unit) (of : Of) (columns : List Column) (runs : List Run) (text : Bytes) → AreColumns of columns → HaveFiles columns runs → IsUtf8 text →
-    IsPrint unit text (table_of of columns runs) → IsPart unit text (table_of of columns runs)
+PrintsAreParts = (unit : Unit) (of : Of) (columns : List Column) (runs : List Run) (wanted : Wanted) (text : Bytes) → AreColumns of columns → HaveFiles columns runs →
+    IsPrint unit text (shown_table wanted (table_of of columns runs)) → IsPart unit text (shown_table wanted (table_of of columns runs))

@@ -1,6 +1,6 @@
 //! The rows of a table for machines: JSON Lines.
-ghost use Rattle.std.specs.{List.{join_with_byte, list_all}, Prelude.{◌≡◌, ◌<◌, ◌^◌, All, ◌++◌, ◌∷◌, true, false, map, flat_map, length, string_bytes, IfOk, IfErr, OnOk}};
-ghost use Rattle.span_table_text.specs.{fit, Json.{column_json, columns_json, json_fits, json_head, json_line, json_of, of_member, shown_table, unit_member}, JsonPieces.{count_text, counts_text, end_text, events_text, files_text, member_text, members_text, others_text, start_text}, Printed.{AllFit, KeyFits}, declared.json_lines.JsonFault.TheVariants.TooGreat};
+ghost use Rattle.std.specs.{List.{join_with_byte, list_all}, Prelude.{◌≡◌, ◌<◌, ◌^◌, All, ◌++◌, ◌∷◌, true, false, map, flat_map, length, string_bytes, IfOk, IfErr, OnOk, IsUtf8}};
+ghost use Rattle.span_table_text.specs.{fit, Json.{column_json, columns_json, json_fits, json_head, json_line, of_member, shown_table, unit_member}, JsonPieces.{count_text, counts_text, end_text, events_text, files_text, member_text, members_text, others_text, start_text}, Printed.{IsPrint, KeyFits}, declared.json_lines.JsonFault.TheVariants.TooGreat};
 
 use crate::json_rows::{column_names, with_json_row};
 use crate::lines::put_arg;
@@ -37,8 +37,8 @@ pub fn json_table(
     table: &Table,
     shown: &Shown,
 ) -> Result<Vec<u8>, JsonFault>
-    ensures text { IfOk result (λ text. text.items ≡ json_of unit shown.now table.now) }
-    ensures fits { OnOk result (AllFit (shown_table shown.now table.now)) }
+    ensures print { IfOk result (λ text.
+        IsPrint unit text.items (shown_table shown.now table.now)) }
     ensures too_great { IfErr result (λ fault. fault ≡ TooGreat
         → json_fits shown.now table.now ≡ false) }
 {
@@ -70,6 +70,7 @@ fn text_of(
     ensures text { IfOk result (λ text. text.items
         ≡ json_head table.now.of unit table.now.columns (length rows.now) table.now.counts
         ++ flat_map (json_line table.now.of table.now.columns) rows.now) }
+    ensures utf8 { IfOk result (λ text. IsUtf8 text.items) }
     ensures few { OnOk result (length rows.now < 2 ^ 64) }
     ensures keys { OnOk result (All (λ row. KeyFits table.now.columns row.key) rows.now) }
 {

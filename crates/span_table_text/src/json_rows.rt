@@ -1,5 +1,5 @@
 //! The line of a row for machines, as the tokens that it is printed of.
-ghost use Rattle.std.specs.Prelude.{◌≡◌, ◌<◌, ◌^◌, ◌++◌, ◌∷◌, [], true, map, IfOk, OnOk, Some};
+ghost use Rattle.std.specs.Prelude.{◌≡◌, ◌<◌, ◌^◌, ◌++◌, ◌∷◌, [], true, map, IfOk, OnOk, IsUtf8, Some};
 ghost use Rattle.json.specs.Token.{key};
 ghost use Rattle.span_table_text.specs.{Spans, Async, column_name, fit, Json.json_line, Printed.{IsOfArgument, KeyFits}, Tokens.{key_tokens, number_tokens, row_tokens, sums_tokens, value_tokens}};
 
@@ -30,6 +30,7 @@ pub fn with_json_row(
     requires names { names.now ≡ map column_name columns.now }
     requires fits { fit row.now.sums ≡ true }
     ensures line { IfOk result (λ new. new.items ≡ out.items ++ json_line of columns.now row.now) }
+    ensures utf8 { OnOk result (IsUtf8 (json_line of columns.now row.now)) }
     ensures key_fits { OnOk result (KeyFits columns.now row.now.key) }
 {
     let mut writer = Writer::new(out);

@@ -11,8 +11,8 @@ pub fn part_law()
     ensures { PartsAreDetermined }
 {}
 
-/// Where all rows are wanted, what is written of a table is its print; and what is printed of runs is a part, so it may be read back:
-/// if the text is UTF-8, and each run has a file where that is a column. The function does nothing: its contract is the law.
+/// Where all rows are wanted, what is written of a table is its print; and what is printed of runs is a part, so it may be read back,
+/// if each run has a file where that is a column. The function does nothing: its contract is the law.
 pub fn print_law()
     ensures whole { AllIsPrinted }
     ensures parts { PrintsAreParts }

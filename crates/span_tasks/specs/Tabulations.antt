@@ -1,7 +1,7 @@
 -- What is printed of tables.
 use Rattle.std.specs.Prelude.{◌≡◌, ◌⊎◌, ◌≤◌, Bool, true, false, List, ◌∷◌, [], ◌++◌, length, Option}
 use Rattle.span_request.specs.declared.tasks.{Items.TheVariants.{Together}, TableText.TheVariants.{Changes, Repetitions, Table}}
-use Rattle.span_tasks.specs.{Bytes, FileCountFault, TooGreatFault, number_of, run_line, Name, SourceBytes, changes_by, table_by, By, SpanTable, ComparisonForm, Items, RepeatsForm, TableForm, TableOptions, TableText, Tabulation, Sides.{AreSides, IsOneSide, StopSides, StopsOneSide}, Texts.{TableExceeds, TableFits, changes_fit, changes_text, repeats_fit, repeats_text, table_text}, declared.side.Side.Side}
+use Rattle.span_tasks.specs.{Bytes, FileCountFault, TooGreatFault, number_of, run_line, Name, SourceBytes, changes_by, table_by, By, SpanTable, ComparisonForm, Items, RepeatsForm, TableForm, TableOptions, TableText, Tabulation, Sides.{AreSides, IsOneSide, StopSides, StopsOneSide}, Texts.{IsTableText, TableExceeds, changes_fit, changes_text, repeats_fit, repeats_text}, declared.side.Side.Side}
 
 -- a head says how many runs there are, but that of one run
 abbrev pub says_runs : Items → Bool
@@ -42,8 +42,7 @@ module _ (source : SourceBytes) (items : Items) (options : TableOptions) (names 
   -- a table is printed
   pub record PrintsTable (form : TableForm) (text lines : Bytes) : Type 0 where
     pub one : OneTable source items options (table_by form) names
-    pub fits : TableFits form options.shown one.table
-    pub is : text ≡ table_text one.side.unit form options.shown (says_runs items) one.table
+    pub is : IsTableText one.side.unit form options.shown (says_runs items) one.table text
     pub said : lines ≡ one.side.lines.items
 
   -- what changed is printed

@@ -1,25 +1,20 @@
 -- The texts of tables.
-use Rattle.std.specs.Prelude.{◌≡◌, Bool, true, false, Option, Some, None, List, ⊤}
+use Rattle.std.specs.Prelude.{◌≡◌, Bool, true, false, Option, Some, None, List}
 use Rattle.span_request.specs.declared.views.ComparisonForm.TheVariants as changes
 use Rattle.span_request.specs.declared.views.RepeatsForm.TheVariants as repeats
-use Rattle.span_tasks.specs.{Bytes, Unit, Column, Of, By, usual_by, SpanTable, Wanted, AllFit, json_fits, json_of, shown_table, ranking_of, comparison_of, json_changes_fit, json_comparison_of, json_repeats_fit, json_repeats_of, repeats_of, ComparisonForm, RepeatsForm, TableForm, Json, Ranking}
+use Rattle.span_tasks.specs.{Bytes, Unit, Column, Of, By, usual_by, SpanTable, Wanted, IsPrint, json_fits, shown_table, ranking_of, comparison_of, json_changes_fit, json_comparison_of, json_repeats_fit, json_repeats_of, repeats_of, ComparisonForm, RepeatsForm, TableForm, Json, Ranking}
 
 -- the number that rows go by: the named one, or the usual one of what a table sums
 abbrev pub asked_by : Of → Option By → By
 asked_by of None = usual_by of
 asked_by of (Some by) = by
 
--- a table whose times are in this unit, and whose head says how many runs there are or doesn't
-abbrev pub table_text : Unit → TableForm → Wanted → Bool → SpanTable → Bytes
-table_text unit (Ranking most by) shown says_runs table = ranking_of unit most (asked_by table.of by) shown says_runs table
-table_text unit Json shown says_runs table = json_of unit shown table
+-- the text of a table whose times are in this unit, and whose head says how many runs there are or doesn't
+abbrev pub IsTableText : Unit → TableForm → Wanted → Bool → SpanTable → Bytes → Type 0
+IsTableText unit (Ranking most by) shown says_runs table text = text ≡ ranking_of unit most (asked_by table.of by) shown says_runs table
+IsTableText unit Json shown says_runs table text = IsPrint unit text (shown_table shown table)
 
--- numbers for other programs have 64 bits; for people they have no bound
-abbrev pub TableFits : TableForm → Wanted → SpanTable → Type 0
-TableFits (Ranking most by) shown table = ⊤
-TableFits Json shown table = AllFit (shown_table shown table)
-
--- a number for other programs has more
+-- a number for other programs has more than 64 bits; for people it may have any
 abbrev pub TableExceeds : TableForm → Wanted → SpanTable → Type 0
 TableExceeds (Ranking most by) shown table = ⊥
 TableExceeds Json shown table = json_fits shown table ≡ false

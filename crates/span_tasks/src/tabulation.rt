@@ -2,7 +2,7 @@
 ghost use Rattle.std.specs.Prelude.{◌≡◌, ◌≤◌, ◌↔◌, ◌∷◌, ◌++◌, [], true, false, IsTrue, IfErr, IfOk, IfSome, length};
 ghost use Rattle.span_request.specs.declared.tasks.TableText.TheVariants.{Changes as OfChanges, Repetitions as OfRepetitions, Table as OfTable};
 ghost use Rattle.span_runs.specs.declared.stop.Halt.TheVariants.{Memory};
-ghost use Rattle.span_tasks.specs.{IsHint, OfStop, SpanTable, TooGreatFault, number_of, run_line, Outcome.PrintsOrStops, Tabulations.{AreFew, PrintsText, StopsTabulating, StopsTabulation, Tabulates, says_runs}, Texts.{TableExceeds, TableFits, changes_fit, changes_text, table_text}};
+ghost use Rattle.span_tasks.specs.{IsHint, OfStop, SpanTable, TooGreatFault, number_of, run_line, Outcome.PrintsOrStops, Tabulations.{AreFew, PrintsText, StopsTabulating, StopsTabulation, Tabulates, says_runs}, Texts.{IsTableText, TableExceeds, changes_fit, changes_text}};
 
 use crate::outcome::Print;
 use crate::place::Place;
@@ -222,9 +222,8 @@ fn text_of_side(
     side: &Side,
 ) -> Result<Vec<u8>, Halt>
     ensures text { IfOk result (λ text. (table : SpanTable)
-        × (side.now.tables.items ≡ table ∷ []) × TableFits form task.now.options.shown table
-        × (text.items ≡ table_text side.now.unit form task.now.options.shown
-        (says_runs task.now.items) table)) }
+        × (side.now.tables.items ≡ table ∷ []) × IsTableText side.now.unit form
+        task.now.options.shown (says_runs task.now.items) table text.items) }
     ensures stop { IfErr result (OfStop (λ lines. (table : SpanTable)
         × (side.now.tables.items ≡ table ∷ []) × TableExceeds form task.now.options.shown table
         × (lines ≡ run_line (number_of TooGreatFault)))) }

@@ -1,7 +1,7 @@
 //! The texts of tables.
 ghost use Rattle.std.specs.Prelude.{◌≡◌, ◌≤◌, true, false, length, string_bytes, IfOk, IfErr};
 ghost use Rattle.span_table_text.specs.declared.json_lines.JsonFault.TheVariants.{TooGreat};
-ghost use Rattle.span_tasks.specs.{OfStop, TooGreatFault, number_of, run_line, Texts.{TableExceeds, TableFits, asked_by, changes_fit, changes_text, repeats_fit, repeats_text, table_text}};
+ghost use Rattle.span_tasks.specs.{OfStop, TooGreatFault, number_of, run_line, Texts.{IsTableText, TableExceeds, asked_by, changes_fit, changes_text, repeats_fit, repeats_text}};
 
 use crate::side::Side;
 use span_comparisons::{comparison, json_comparison, json_repeats, repeats};
@@ -24,9 +24,8 @@ pub(crate) struct TableTexts<'a> {
 impl<'a> TableTexts<'a> {
     /// The text of a table.
     pub(crate) fn table(&self, form: TableForm, table: &Table) -> Result<Vec<u8>, Halt>
-        ensures text { IfOk result (λ text. text.items
-            ≡ table_text self.now.unit form self.now.shown.now self.now.says_runs table.now) }
-        ensures fits { IfOk result (λ text. TableFits form self.now.shown.now table.now) }
+        ensures text { IfOk result (λ text. IsTableText self.now.unit form self.now.shown.now
+            self.now.says_runs table.now text.items) }
         ensures stop { IfErr result (OfStop (λ lines. TableExceeds form self.now.shown.now table.now
             × (lines ≡ run_line (number_of TooGreatFault)))) }
     {

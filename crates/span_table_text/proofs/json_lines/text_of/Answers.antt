@@ -1,7 +1,14 @@
-use Rattle.std.specs.Prelude.{flat_map}
-use Rattle.std.proofs.{Common.{◌≡◌, ◌+◌, List, [], ◌∷◌, ◌++◌, length, take, sym, ap, subst, ◌∙◌, append_assoc, append-nil}, lemmas.{Grind.flat_map-append, List.{take_more, Elements.All-push}}}
+use Rattle.std.specs.Prelude.{IsUtf8, flat_map}
+use Rattle.std.proofs.{Common.{rules, arith, ◌≡◌, ◌+◌, List, [], ◌∷◌, ◌++◌, length, take, sym, ap, subst, ◌∙◌, append_assoc, append-nil}, lemmas.{Grind.flat_map-append, List.{take_more, Elements.All-push}, Str.{IsUtf8-append, IsUtf8-string_bytes}}}
 use Rattle.span_table_text.specs.{Bytes, Column, Of, Row, Json.{json_head, json_line}, Printed.KeyFits}
 use Rattle.span_table_text.proofs.json_lines.text_of.Goals as goal
+
+pub loop-shown-init : goal.loop-shown-init
+loop-shown-init c = record {
+  text = search rules;
+  utf8 = subst IsUtf8 (ap (λ bytes. bytes.items) (sym c.into_bytes-out.ensures.value)) (IsUtf8-string_bytes c.put_json_head.new.out);
+  keys = λ k d low. absurd (omega (arith, low));
+}
 
 pub loop-shown-preserved : goal.loop-shown-preserved
 loop-shown-preserved c =
@@ -22,9 +29,14 @@ loop-shown-preserved c =
     (subst (λ (r : Row). c.in_ok-line.line.items ≡ c.clear.new.self.items ++ json_line c.kind-of.result c.columns-columns.result.now r) c.shown.view_is c.in_ok-line.ensures.line)) in
     let line : c.in_ok-line.line.items ≡ f row = printed ∙ ap (λ l. l ++ f row) c.clear.ensures.items in
     let appended = c.in_ok-extend_from_slice.ensures.items ∙ ap (λ l. c.loop-shown.out.items ++ l) (c.deref-in-loop-shown.ensures.value ∙ line) in
+    let utf8 : IsUtf8 (f row) =
+    subst (λ (o : Of). IsUtf8 (json_line o columns row)) c.kind-of.ensures
+    (subst (λ (cs : List Column). IsUtf8 (json_line c.kind-of.result cs row)) c.columns-columns.ensures
+    (subst (λ (r : Row). IsUtf8 (json_line c.kind-of.result c.columns-columns.result.now r)) c.shown.view_is c.in_ok-line.ensures.utf8)) in
     let all : flat_map f (take (i + 1) rows) ≡ flat_map f (take i rows) ++ f row =
     ap (flat_map f) more ∙ flat_map-append f (take i rows) (row ∷ []) ∙ ap (λ l. flat_map f (take i rows) ++ l) (append-nil (f row)) in
     record {
       text = appended ∙ ap (λ l. l ++ f row) c.loop-shown.invariant.text ∙ append_assoc head (flat_map f (take i rows)) (f row) ∙ ap (λ l. head ++ l) (sym all);
+      utf8 = subst IsUtf8 (sym appended) (IsUtf8-append c.loop-shown.out.items (f row) c.loop-shown.invariant.utf8 utf8);
       keys = rw more (All-push (λ (r : Row). KeyFits columns r.key) (take i rows) row c.loop-shown.invariant.keys fits);
     }

@@ -1,4 +1,4 @@
-use Rattle.std.specs.Prelude.{All}
+use Rattle.std.specs.Prelude.{All, IsUtf8}
 use Rattle.std.proofs.Common.{◌≡◌, ◌++◌, length, take, flat_map}
 use Rattle.span_table_text.specs.{Json.{json_head, json_line}, Printed.KeyFits}
 use Rattle.span_table_text.proofs.json_lines.text_of.Given as goal
@@ -7,5 +7,6 @@ use Rattle.span_table_text.proofs.json_lines.text_of.Given as goal
 abbrev pub invariant-loop-shown : goal.invariant-loop-shown
 invariant-loop-shown l = record {
   text : l.out.items ≡ json_head l.table.of l.fn.unit l.table.columns (length l.rows) l.table.counts ++ flat_map (json_line l.table.of l.table.columns) (take l.shown-index l.rows);
+  utf8 : IsUtf8 l.out.items;
   keys : All (λ row. KeyFits l.table.columns row.key) (take l.shown-index l.rows);
 }

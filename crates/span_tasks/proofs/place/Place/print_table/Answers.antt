@@ -14,8 +14,7 @@ returns g c =
       c.in-Ok.ensures.hints,
       record {
         one = record { side = c.in-Ok.side; is = rw c.by.ensures at c.in-Ok.ensures.side; table = text.0; only = text.1 };
-        fits = text.2;
-        is = text.3;
+        is = text.2;
         said = refl;
       },
     )
