@@ -1,6 +1,6 @@
 -- What is found among the tokens of a line.
 use Rattle.std.specs.{Borrow.Bor, Prelude.All}
-use Rattle.std.proofs.{Common.{◌≡◌, ◌≢◌, List, [], ◌∷◌, ◌++◌, true, map, refl, sym, ap, subst, ◌∙◌, append_assoc, codes, Some, None, arith, get_or}, lemmas.List.length-append}
+use Rattle.std.proofs.{Common.{◌≡◌, ◌≢◌, List, [], ◌∷◌, ◌++◌, true, map, refl, sym, ap, subst, ◌∙◌, append_assoc, codes, Some, None, arith}, lemmas.List.length-append}
 use Rattle.json.specs.{Reads.token_of, Token.{Token, end_array, key, string}, declared.token.Token.Token as Given}
 use Rattle.span_table_text.proofs.{Determined.{column_name-not_first_number, first_number}, PrintedLines.IsOfArgument-any}
 use Rattle.span_parts.specs.{Bytes, Column, Of, Spans, Async, Sums, ArgValue, Value, column_name, is_column, TableKey, AreDistinct, IsKeyOf, IsOfArgument, key_tokens, name_tokens, sums_tokens, value_tokens, Guess.{Found, MayFollow}}

@@ -4,6 +4,7 @@ pub mod Lines
 pub mod Lists
 pub mod Picked
 pub mod Places
+pub mod PrintedSums
 pub mod Summing
 pub mod Taken
 pub mod Trees

@@ -1,6 +1,6 @@
 -- Parts that are read and added.
 use Rattle.std.specs.{Global.Vec, Prelude.{◌≡◌, ◌≢◌, ℕ, List, [], ◌∷◌, ◌++◌, All, map, slice_get, Option, Some, None}}
-use Rattle.span_parts.specs.{Bytes, Unit as TimeUnit, Column, Of, add_tables, picked, with_columns, with_counts, AreColumns, IsPart, SpanTable, Rows.with_rows, declared.fault.PartFault.{PartFault, TheVariants.{NotTable, OtherColumns, Memory, TooMany}}}
+use Rattle.span_parts.specs.{Bytes, Unit as TimeUnit, Column, Of, add_tables, picked, with_columns, with_counts, AreColumns, IsPart, IsPrint, SpanTable, Wanted, shown_table, Rows.with_rows, declared.fault.PartFault.{PartFault, TheVariants.{NotTable, OtherColumns, Memory, TooMany}}}
 
 -- what a sum of parts is seen as: what each part sums, the unit and the columns of each, which of these the sum has, and the sum
 pub record PartSum : Type 0 where
@@ -145,3 +145,8 @@ RefusesOthers of unit columns text NotTable = IsNoPart text
 RefusesOthers of unit columns text OtherColumns = HasColumns of unit columns text
 RefusesOthers of unit columns text Memory = Unit {0}
 RefusesOthers of unit columns text TooMany = Unit {0}
+
+-- what is printed of the rows that are shown of a sum is a part, if its columns are those that a table may have
+abbrev pub SumsAreParts : Type 0
+SumsAreParts = (texts : List Bytes) (sum : PartSum) (wanted : Wanted) (text : Bytes) → SumsParts texts sum → AreColumns sum.of (picked sum.places sum.columns) →
+    IsPrint sum.unit text (shown_table wanted sum.sum) → IsPart sum.unit text (shown_table wanted sum.sum)
