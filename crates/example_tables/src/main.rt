@@ -2,7 +2,7 @@
 #![tactic(auto)]
 
 use span_tasks::{
-    By, Column, DEFAULT_SETTINGS, Files, Items, LinesTo, Named, Of, Place, Request, Session, Shown,
+    Number, Column, DEFAULT_SETTINGS, Files, Items, LinesTo, Named, Of, Place, Request, Session, Shown,
     TableForm, TableOptions, TableText, Tabulation, Task, Text, Unwatched, Writer,
 };
 use std::alloc::{AllocError, Global};
@@ -16,7 +16,7 @@ fn request_of(alloc: Global, given: Vec<Text>) -> Result<Request, AllocError> {
         columns: Vec::from_array(alloc, [Column::Name])?,
         shown: Shown { only, skip },
     };
-    let by = Some(By::Total);
+    let by = Some(Number::Total);
     let task = Task::Tabulate(Tabulation {
         items: Items::Apart(DEFAULT_SETTINGS),
         jobs: None,

@@ -7,7 +7,7 @@ pub mod Tasks
 pub use Rattle.span_event.specs.{Text.Bytes, declared.unit.Unit.TheVariants.{Microseconds, Nanoseconds}}
 pub use Rattle.span_report.specs.declared.stacks.label.SpanColumn.{SpanColumn}
 pub use Rattle.span_collect.specs.declared.settings.Settings.{Settings}
-pub use Rattle.span_table.specs.{Columns.{column_name, goes_with, is_argument, is_column}, declared.{column.Column.{Column, TheVariants.{Argument, Cat, File, Name, Pid, Process, Thread, Tid}}, of.Of.{Of, TheVariants.{Async, Spans}}, sums.By.{By, TheVariants.{Closed, Count, Open, Points, SelfTime, Total}}}}
+pub use Rattle.span_table.specs.{Columns.{column_name, goes_with, is_argument, is_column}, Numbers.{has_number, number_named}, declared.{column.Column.{Column, TheVariants.{Argument, Cat, File, Name, Pid, Process, Thread, Tid}}, number.Number.Number, of.Of.{Of, TheVariants.{Async, Spans}}}}
 pub use Rattle.span_table_text.specs.Printed.{AreColumns, AreDistinct}
 pub use Rattle.span_runs.specs.{Names.files_of, declared.names.Named.Named}
 pub use Rattle.span_options.specs.{Laws.is_plain, Parsing.ParsesTo, declared.options.Options.Options}

@@ -1,9 +1,9 @@
 //! The numbers that rows go by, as the command line names them.
 ghost use Rattle.std.specs.Prelude.{◌≡◌};
-ghost use Rattle.span_request.specs.Numbers.{by_named, by_of, goes_by, of_named, of_of};
+ghost use Rattle.span_request.specs.Numbers.{by_of, goes_by, of_named, of_of};
 
 use span_options::Options;
-use span_table::{By, Of};
+use span_table::{Number, Of};
 
 /// Said of a number that what is summed doesn't have.
 pub(crate) const NUMBER_RULE: &str =
@@ -33,36 +33,21 @@ fn of_named(word: &str) -> Option<Of>
 }
 
 /// The number that is named, if there is one that is known.
-pub(crate) fn by_of(options: &Options) -> Option<By>
+pub(crate) fn by_of(options: &Options) -> Option<Number>
     ensures { result ≡ by_of options.now }
 {
     match &options.by {
-        Some(word) => by_named(word.as_str()),
+        Some(word) => Number::named(word.as_str()),
         None => None,
     }
 }
 
-fn by_named(word: &str) -> Option<By>
-    ensures { result ≡ by_named word.now }
-{
-    match word {
-        "self" => Some(By::SelfTime),
-        "total" => Some(By::Total),
-        "count" => Some(By::Count),
-        "closed" => Some(By::Closed),
-        "open" => Some(By::Open),
-        "points" => Some(By::Points),
-        _ => None,
-    }
-}
-
 /// Whether rows of what is summed have this number. Where none is named, they go by the usual one.
-pub fn goes_by(of: Of, by: Option<By>) -> bool
+pub fn goes_by(of: Of, by: Option<Number>) -> bool
     ensures { result ≡ goes_by of by }
 {
-    match (of, by) {
-        (_, None) => true,
-        (Of::Spans, Some(by)) => matches!(by, By::SelfTime | By::Total | By::Count),
-        (Of::Async, Some(by)) => matches!(by, By::Total | By::Closed | By::Open | By::Points),
+    match by {
+        Some(number) => of.has(number),
+        None => true,
     }
 }

@@ -5,7 +5,7 @@ ghost use Rattle.span_request.specs.Numbers.{named_by};
 use crate::views::{ComparisonForm, PageView, RepeatsForm, TableForm, TableOptions, View};
 use span_collect::Settings;
 use span_runs::{Name, Named};
-use span_table::By;
+use span_table::Number;
 
 /// What a command line asks for.
 #[derive(Drop)]
@@ -77,14 +77,14 @@ pub struct Changes {
 /// summed.
 #[derive(Drop)]
 pub struct Repetitions {
-    pub by: Option<By>,
+    pub by: Option<Number>,
     pub form: RepeatsForm,
     pub base: Vec<Name>,
 }
 
 impl TableText {
     /// The number that is named.
-    pub fn by(&self) -> Option<By>
+    pub fn by(&self) -> Option<Number>
         ensures { result ≡ named_by self.now }
     {
         match self {

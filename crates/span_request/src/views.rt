@@ -3,7 +3,7 @@ ghost use Rattle.std.specs.Prelude.{◌≡◌};
 ghost use Rattle.span_request.specs.Numbers.{changes_by, table_by};
 
 use span_report::stacks::SpanColumn;
-use span_table::{By, Column, Of};
+use span_table::{Column, Number, Of};
 use span_table_text::Shown;
 
 /// What is printed of one run, beside its table.
@@ -38,14 +38,14 @@ pub struct TableOptions {
 #[derive(Clone, Copy)]
 pub enum TableForm {
     /// The first rows by this number, or by the usual one of what is summed, at most so many.
-    Ranking { most: u32, by: Option<By> },
+    Ranking { most: u32, by: Option<Number> },
     /// The rows for other programs.
     Json,
 }
 
 impl TableForm {
     /// The number that is named.
-    pub fn by(self) -> Option<By>
+    pub fn by(self) -> Option<Number>
         ensures { result ≡ table_by self }
     {
         match self {
@@ -59,14 +59,14 @@ impl TableForm {
 #[derive(Clone, Copy)]
 pub enum ComparisonForm {
     /// For people, with the greatest change of this number first.
-    Text { by: Option<By> },
+    Text { by: Option<Number> },
     /// For other programs.
     Json,
 }
 
 impl ComparisonForm {
     /// The number that is named.
-    pub fn by(self) -> Option<By>
+    pub fn by(self) -> Option<Number>
         ensures { result ≡ changes_by self }
     {
         match self {

@@ -1,20 +1,6 @@
--- The numbers of a row: which one rows go by, how far two lie apart, and which have 64 bits.
+-- How far two numbers of rows lie apart, which sums are equal, and which have 64 bits.
 use Rattle.std.specs.Prelude.{ℕ, ◌+◌, ◌-◌, ◌==◌, ◌&&◌, Bool, ◌^◌, nat_lt}
-use Rattle.span_table.specs.declared.{of.Of.{Of, TheVariants.{Spans, Async}}, sums.{By.{By, TheVariants.{SelfTime, Total, Count, Closed, Open, Points}}, Sums.Sums}}
-
--- the number that a ranking goes by
-abbrev pub number_by : By → Sums → ℕ
-number_by SelfTime sums = sums.self_time
-number_by Total sums = sums.total
-number_by Count sums = sums.count
-number_by Closed sums = sums.count
-number_by Open sums = sums.unclosed
-number_by Points sums = sums.points
-
--- the number that rows go by where none is named
-abbrev pub usual_by : Of → By
-usual_by Spans = SelfTime
-usual_by Async = Total
+use Rattle.span_table.specs.declared.sums.Sums.{Sums}
 
 -- how far two numbers lie apart
 abbrev pub gap : ℕ → ℕ → ℕ

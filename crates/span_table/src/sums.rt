@@ -1,7 +1,8 @@
 //! What spans come to together.
 ghost use Rattle.std.specs.Prelude.{◌≡◌, ◌+◌, ◌≤◌, ◌^◌, ℕ, []};
-ghost use Rattle.span_table.specs.{Collected.{IsWithin, sums_of_row, with_sums}, Sums.{fit, number_by, same_sums}, Tables.{sums_of_async, sums_together}};
+ghost use Rattle.span_table.specs.{Collected.{IsWithin, sums_of_row, with_sums}, Numbers.{number_by, only, with_number}, Sums.{fit, same_sums}, Tables.{sums_of_async, sums_together}};
 
+use crate::number::Number;
 use crate::sum::Sum;
 use span_journal::SpanRow;
 use span_keyed_tracks::AsyncRow;
@@ -15,19 +16,6 @@ pub struct Sums {
     pub self_time: Sum,
     pub unclosed: Sum,
     pub points: Sum,
-}
-
-/// The number that rows go by.
-#[derive(Clone, Copy, Debug, PartialEq, Eq)]
-pub enum By {
-    SelfTime,
-    Total,
-    /// How many spans there are.
-    Count,
-    /// How many asynchronous spans are closed.
-    Closed,
-    Open,
-    Points,
 }
 
 impl Sums {
@@ -104,17 +92,42 @@ impl Sums {
         self.points.add(&more.points);
     }
 
-    /// The number that rows go by.
-    pub fn by(&self, by: By) -> Sum
-        ensures { result ≡ number_by by self.now }
+    /// The value of a number.
+    pub fn by(&self, number: Number) -> Sum
+        ensures { result ≡ number_by number self.now }
     {
-        match by {
-            By::SelfTime => self.self_time,
-            By::Total => self.total,
-            By::Count | By::Closed => self.count,
-            By::Open => self.unclosed,
-            By::Points => self.points,
+        match number {
+            Number::SelfTime => self.self_time,
+            Number::Total => self.total,
+            Number::Count | Number::Closed => self.count,
+            Number::Open => self.unclosed,
+            Number::Points => self.points,
         }
+    }
+
+    /// Gives a number this value.
+    pub fn put(&mut self, number: Number, value: Sum)
+        ensures { self.new ≡ with_number number value self.old }
+    {
+        match number {
+            Number::SelfTime => self.self_time = value,
+            Number::Total => self.total = value,
+            Number::Count | Number::Closed => self.count = value,
+            Number::Open => self.unclosed = value,
+            Number::Points => self.points = value,
+        }
+    }
+
+    /// With these of its numbers; the others are 0.
+    pub fn only(&self, numbers: &[Number]) -> Sums
+        ensures { result ≡ only numbers.now self.now }
+    {
+        let Some((number, numbers)) = numbers.split_first() else {
+            return Sums::of_none();
+        };
+        let mut sums = self.only(numbers);
+        sums.put(*number, self.by(*number));
+        sums
     }
 
     /// Whether all numbers are equal.

@@ -4,7 +4,7 @@ use Rattle.span_table.specs.Adding.{add_tables}
 use Rattle.span_parts.specs.{Sum.{FirstFails, JoinsParts, PartFails}, declared.fault.PartFault.{PartFault, TheVariants.{Memory, NotTable, OtherColumns, TooMany}}}
 use Rattle.std.proofs.{Common.{◌≡◌, ℕ, suc, ◌<◌, List, [], ◌∷◌, ◌++◌, length, take, drop, inl, inr, refl, ap, sym, subst, ◌∙◌, append_assoc}, Math.{ListN.get_or, Seq.drop-cons}, lemmas.List.{take-append-drop, Elements.All-head}}
 use Rattle.span_parts.proofs.Taken.{JoinsParts-added}
-use Rattle.span_tasks.specs.{Bytes, Chooses, HasColumns, HasOtherColumns, IsPart, PartSum, SumsParts, TakesNone, chosen, AreAt, AreParts, SourceBytes, Name, TimeUnit, Column, Of, By, SpanTable, goes_by, Added.{Adds, AddsBeside, AddsEach, BeginsWith, IsOfKind, IsText, LacksAsked, LacksNumber, SaysPart, StopsAdding, StopsNext, TakesName, with_sum}, Sides.{AddTo, StopsLater}}
+use Rattle.span_tasks.specs.{Bytes, Chooses, HasColumns, HasOtherColumns, IsPart, PartSum, SumsParts, TakesNone, chosen, AreAt, AreParts, SourceBytes, Name, TimeUnit, Column, Of, Number, SpanTable, goes_by, Added.{Adds, AddsBeside, AddsEach, BeginsWith, IsOfKind, IsText, LacksAsked, LacksNumber, SaysPart, StopsAdding, StopsNext, TakesName, with_sum}, Sides.{AddTo, StopsLater}}
 
 pub AllZip-append : {A B : Type 0} (R : A → B → Type 0) (xs more : List A) (ys others : List B) → AllZip R xs ys → AllZip R more others → AllZip R (xs ++ more) (ys ++ others)
 AllZip-append R [] more [] others one other = other
@@ -22,7 +22,7 @@ Chooses-same wanted old new columns places chooses =
     subst (λ (cs : List Column). AreAt new.places (chosen wanted cs) cs) (sym columns) (subst (λ (ps : List ℕ). AreAt ps (chosen wanted old.columns) old.columns) (sym places) chooses)
 
 -- the table of a text lacks a number that its sum lacks
-pub LacksNumber-first : (by : Option By) (text : Bytes) (unit : TimeUnit) (of : Of) (parts : List SpanTable) → AreParts unit (text ∷ []) parts → All (λ (part : SpanTable). part.of ≡ of) parts → goes_by of by ≡ false → LacksNumber by text
+pub LacksNumber-first : (by : Option Number) (text : Bytes) (unit : TimeUnit) (of : Of) (parts : List SpanTable) → AreParts unit (text ∷ []) parts → All (λ (part : SpanTable). part.of ≡ of) parts → goes_by of by ≡ false → LacksNumber by text
 LacksNumber-first by text unit of [] are kinds lacks = absurd are
 LacksNumber-first by text unit of (part ∷ parts) are kinds lacks = record {
   unit = unit;
@@ -196,7 +196,7 @@ module _ (source : SourceBytes) where
   StopsAdding-part name text of unit columns TooMany read fails lines says = absurd says
 
   -- why a first table is none of the kind that is asked for
-  pub StopsAdding-first : (name : Name) (text : Bytes) (wanted : List Column) (by : Option By) (fault : PartFault) → IsText source name text → FirstFails wanted text fault → (lines : Bytes) →
+  pub StopsAdding-first : (name : Name) (text : Bytes) (wanted : List Column) (by : Option Number) (fault : PartFault) → IsText source name text → FirstFails wanted text fault → (lines : Bytes) →
       SaysPart name fault lines → StopsAdding source (LacksAsked wanted by) name lines
   StopsAdding-first name text wanted by NotTable read fails lines says = inr (inl (text, read, fails, says))
   StopsAdding-first name text wanted by OtherColumns read fails lines says = inr (inr (text, read, inl fails, says))

@@ -4,7 +4,7 @@ use Rattle.span_event.specs.declared.unit.Unit.TheVariants.{Microseconds}
 use Rattle.span_table.specs.declared.of.Of.TheVariants.{Spans}
 use Rattle.span_runs.proofs.GatheredFiles.{length-gathered}
 use Rattle.span_request.specs.declared.tasks.Items.TheVariants.{Apart as EachApart, Printed, Together}
-use Rattle.span_tasks.specs.{Bytes, By, Name, SourceBytes, Items, PartSum, SpanTable, TableOptions, run_alone, table_of, table_of_run, Added.Adds, Sides.{AreSides, IsOneSide, IsSide, StopSides, StopsOneSide, StopsSide}, declared.side.Side.Side}
+use Rattle.span_tasks.specs.{Bytes, Number, Name, SourceBytes, Items, PartSum, SpanTable, TableOptions, run_alone, table_of, table_of_run, Added.Adds, Sides.{AreSides, IsOneSide, IsSide, StopSides, StopsOneSide, StopsSide}, declared.side.Side.Side}
 
 -- parts of no tables, where no kind is asked for
 pub no-parts : PartSum
@@ -19,7 +19,7 @@ length-side source (EachApart settings) options parts names side is few =
 length-side source Printed options parts names side is few =
     let same = AllZip-long (λ (name : Name) (table : SpanTable). Adds source parts (name ∷ []) table) names side.tables.items is.1 in omega (arith, same, few)
 
-module _ (source : SourceBytes) (options : TableOptions) (by : Option By) (each : Bool) where
+module _ (source : SourceBytes) (options : TableOptions) (by : Option Number) (each : Bool) where
   IsSide-runs : (items : Items) (one other : PartSum) (names : List Name) (side : Side) → (items ≡ Printed → ⊥) → IsSide source items options each one names side → IsSide source items options each other names side
   IsSide-runs (Together settings) one other names side runs is = is
   IsSide-runs (EachApart settings) one other names side runs is = is

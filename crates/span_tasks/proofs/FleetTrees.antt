@@ -1,14 +1,14 @@
 -- What is printed of files apart, and of tables that are added, is what is printed of trees of the files' runs.
 use Rattle.std.proofs.Common.{◌≡◌, List, [], ◌∷◌, map, Option, None, refl, sym, subst, ◌∙◌}
 use Rattle.span_table_text.proofs.RunTables.{print-shown}
-use Rattle.span_tasks.specs.{run_alone, By, Column, IsPrint, Name, PartSum, SourceBytes, TimeUnit, SpanTable, table_of, Added.{AreAsked, AreOfFirst, with_sum}, Fleet.{AddsAreTrees, SumsArePrinted}}
+use Rattle.span_tasks.specs.{run_alone, Number, Column, IsPrint, Name, PartSum, SourceBytes, TimeUnit, SpanTable, table_of, Added.{AreAsked, AreOfFirst, with_sum}, Fleet.{AddsAreTrees, SumsArePrinted}}
 
 -- the one table of a list
 pub only-same : (one other : SpanTable) → one ∷ [] ≡ other ∷ [] → one ≡ other
 only-same one other same = cc
 
 -- what is asked for, a first table has
-pub AreAsked-first : (source : SourceBytes) (wanted : List Column) (by : Option By) (names : List Name) (parts : PartSum) → AreOfFirst source wanted by names parts → AreAsked wanted by parts
+pub AreAsked-first : (source : SourceBytes) (wanted : List Column) (by : Option Number) (names : List Name) (parts : PartSum) → AreOfFirst source wanted by names parts → AreAsked wanted by parts
 AreAsked-first source wanted by [] parts of = absurd of
 AreAsked-first source wanted by (name ∷ later) parts of = of.0
 

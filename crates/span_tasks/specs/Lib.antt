@@ -17,7 +17,7 @@ pub use Rattle.span_collect.specs.{InTurn.{AreSeparate, ends_from, journal_in_tu
 unfoldable pub use Rattle.span_collect.specs.{FaultLines.fault_line, Words.numbered}
 unfoldable pub use Rattle.span_page.specs.{Page.page_of, Runs.page_of_runs}
 pub use Rattle.span_page.specs.Runs.{BegunPage, Holds, ShownRun, TakesRun}
-pub use Rattle.span_table.specs.{Adding.picked, Columns.Run, Sums.usual_by, Tables.{SpanTable, table_of}, declared.{column.Column.Column, of.Of.Of, sums.By.By}}
+pub use Rattle.span_table.specs.{Adding.picked, Columns.Run, Numbers.usual_by, Tables.{SpanTable, table_of}, declared.{column.Column.Column, number.Number.Number, of.Of.Of}}
 pub use Rattle.span_table_text.specs.{Json.{json_fits, json_of, shown_table}, Printed.{AllFit, AreColumns, IsPart, IsPrint}, Ranking.ranking_of, Shown.{Wanted, wants_all}}
 pub use Rattle.span_comparisons.specs.{Comparison.comparison_of, JsonChanges.{json_changes_fit, json_comparison_of}, Repeats.{json_repeats_fit, json_repeats_of, repeats_of}}
 pub use Rattle.span_faults.specs.FaultLines.{IsHint, fault_text, run_line, unread_line}

@@ -1,7 +1,7 @@
 -- Tables as they are gathered: those of one side, or of two that are compared.
 use Rattle.std.specs.Prelude.{◌≡◌, ◌⊎◌, ⊤, Bool, true, false, List, [], ◌∷◌, ◌++◌, map, Option, MatchResult, Result}
 use Rattle.span_request.specs.declared.tasks.Items.TheVariants.{Apart as EachApart, Printed, Together}
-use Rattle.span_tasks.specs.{Bytes, AreSeparate, Settings, AreGathered, Halt, OfStop, StopsAmong, run_in_turn, run_of_files, table_of_run, SourceBytes, Name, PartSum, Column, Of, By, Run, SpanTable, picked, table_of, Items, TableOptions, Added.{Adds, AddsBeside, AddsEach, AreOfFirst, AreTooMany, StopsFirst, StopsNext}, Together.{EndsWell, StopsTogether}, declared.{printed.PrintedBase.PrintedBase, side.Side.Side, together.TogetherRun.TogetherRun}}
+use Rattle.span_tasks.specs.{Bytes, AreSeparate, Settings, AreGathered, Halt, OfStop, StopsAmong, run_in_turn, run_of_files, table_of_run, SourceBytes, Name, PartSum, Column, Of, Number, Run, SpanTable, picked, table_of, Items, TableOptions, Added.{Adds, AddsBeside, AddsEach, AreOfFirst, AreTooMany, StopsFirst, StopsNext}, Together.{EndsWell, StopsTogether}, declared.{printed.PrintedBase.PrintedBase, side.Side.Side, together.TogetherRun.TogetherRun}}
 
 -- one table of all runs, or a table of each
 abbrev pub ComeTo : Bool → Of → List Column → List Run → List SpanTable → Type 0
@@ -58,7 +58,7 @@ IsSide source (EachApart settings) options each parts names side = AreOptions se
 IsSide source Printed options each parts names side = AreOfParts parts side × AddTo each source parts names side.tables.items × (side.lines.items ≡ [])
 
 -- the first of printed tables is of this kind, and has the columns and the number that are asked for
-abbrev pub AreOfKind : SourceBytes → Items → TableOptions → Option By → List Name → PartSum → Type 0
+abbrev pub AreOfKind : SourceBytes → Items → TableOptions → Option Number → List Name → PartSum → Type 0
 AreOfKind source Printed options by names parts = AreOfFirst source options.columns.items by names parts
 AreOfKind source items options by names parts = ⊤
 
@@ -69,30 +69,30 @@ StopsSide source (EachApart settings) each parts names lines = StopsAmong source
 StopsSide source Printed each parts names lines = StopsLater source each parts names lines ⊎ AreTooMany names lines
 
 -- one side
-pub record IsOneSide (source : SourceBytes) (items : Items) (options : TableOptions) (by : Option By) (each : Bool) (names : List Name) (side : Side) : Type 0 where
+pub record IsOneSide (source : SourceBytes) (items : Items) (options : TableOptions) (by : Option Number) (each : Bool) (names : List Name) (side : Side) : Type 0 where
   pub parts : PartSum
   pub kind : AreOfKind source items options by names parts
   pub is : IsSide source items options each parts names side
 
 -- two sides, which give tables of one kind
-pub record AreSides (source : SourceBytes) (items : Items) (options : TableOptions) (by : Option By) (each : Bool) (base_names names : List Name) (base other : Side) : Type 0 where
+pub record AreSides (source : SourceBytes) (items : Items) (options : TableOptions) (by : Option Number) (each : Bool) (base_names names : List Name) (base other : Side) : Type 0 where
   pub parts : PartSum
   pub kind : AreOfKind source items options by base_names parts
   pub earlier : IsSide source items options each parts base_names base
   pub later : IsSide source items options each parts names other
 
 -- the first of printed tables tells the kind, or this is said of it, or of their number
-abbrev pub StopsKind : SourceBytes → Items → TableOptions → Option By → List Name → Bytes → Type 0
+abbrev pub StopsKind : SourceBytes → Items → TableOptions → Option Number → List Name → Bytes → Type 0
 StopsKind source Printed options by names lines = StopsFirst source options.columns.items by names lines ⊎ AreTooMany names lines
 StopsKind source items options by names lines = ⊥
 
 -- this is said where a side gives no tables
-abbrev pub StopsOneSide : SourceBytes → Items → TableOptions → Option By → Bool → List Name → Bytes → Type 0
+abbrev pub StopsOneSide : SourceBytes → Items → TableOptions → Option Number → Bool → List Name → Bytes → Type 0
 StopsOneSide source items options by each names lines = StopsKind source items options by names lines
     ⊎ ((parts : PartSum) × AreOfKind source items options by names parts × StopsSide source items each parts names lines)
 
 -- the base gives tables, and the others don't, of which this is said behind the base's lines
-pub record StopsBehind (source : SourceBytes) (items : Items) (options : TableOptions) (by : Option By) (each : Bool) (base_names names : List Name) (lines : Bytes) : Type 0 where
+pub record StopsBehind (source : SourceBytes) (items : Items) (options : TableOptions) (by : Option Number) (each : Bool) (base_names names : List Name) (lines : Bytes) : Type 0 where
   pub parts : PartSum
   pub kind : AreOfKind source items options by base_names parts
   pub base : Side
@@ -102,10 +102,10 @@ pub record StopsBehind (source : SourceBytes) (items : Items) (options : TableOp
   pub said : lines ≡ base.lines.items ++ own
 
 -- this is said where one of two sides gives no tables
-abbrev pub StopSides : SourceBytes → Items → TableOptions → Option By → Bool → List Name → List Name → Bytes → Type 0
+abbrev pub StopSides : SourceBytes → Items → TableOptions → Option Number → Bool → List Name → List Name → Bytes → Type 0
 StopSides source items options by each base_names names lines = StopsOneSide source items options by each base_names lines ⊎ StopsBehind source items options by each base_names names lines
 
 -- printed tables are of the kind of these parts, which is the one that is asked for
-pub record IsPrintedBase (source : SourceBytes) (options : TableOptions) (by : Option By) (each : Bool) (names : List Name) (base : PrintedBase) : Type 0 where
+pub record IsPrintedBase (source : SourceBytes) (options : TableOptions) (by : Option Number) (each : Bool) (names : List Name) (base : PrintedBase) : Type 0 where
   pub asked : AreOfFirst source options.columns.items by names base.kind
   pub is : IsSide source Printed options each base.kind names base.side

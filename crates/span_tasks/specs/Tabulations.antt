@@ -1,7 +1,7 @@
 -- What is printed of tables.
 use Rattle.std.specs.Prelude.{◌≡◌, ◌⊎◌, ◌≤◌, Bool, true, false, List, ◌∷◌, [], ◌++◌, length, Option}
 use Rattle.span_request.specs.declared.tasks.{Items.TheVariants.{Together}, TableText.TheVariants.{Changes, Repetitions, Table}}
-use Rattle.span_tasks.specs.{Bytes, FileCountFault, TooGreatFault, number_of, run_line, Name, SourceBytes, changes_by, table_by, By, SpanTable, ComparisonForm, Items, RepeatsForm, TableForm, TableOptions, TableText, Tabulation, Sides.{AreSides, IsOneSide, StopSides, StopsOneSide}, Texts.{IsTableText, TableExceeds, changes_fit, changes_text, repeats_fit, repeats_text}, declared.side.Side.Side}
+use Rattle.span_tasks.specs.{Bytes, FileCountFault, TooGreatFault, number_of, run_line, Name, SourceBytes, changes_by, table_by, Number, SpanTable, ComparisonForm, Items, RepeatsForm, TableForm, TableOptions, TableText, Tabulation, Sides.{AreSides, IsOneSide, StopSides, StopsOneSide}, Texts.{IsTableText, TableExceeds, changes_fit, changes_text, repeats_fit, repeats_text}, declared.side.Side.Side}
 
 -- a head says how many runs there are, but that of one run
 abbrev pub says_runs : Items → Bool
@@ -9,14 +9,14 @@ says_runs (Together settings) = false
 says_runs items = true
 
 -- the one table of a side
-pub record OneTable (source : SourceBytes) (items : Items) (options : TableOptions) (by : Option By) (names : List Name) : Type 0 where
+pub record OneTable (source : SourceBytes) (items : Items) (options : TableOptions) (by : Option Number) (names : List Name) : Type 0 where
   pub side : Side
   pub is : IsOneSide source items options by false names side
   pub table : SpanTable
   pub only : side.tables.items ≡ table ∷ []
 
 -- the one table of each side
-pub record BothTables (source : SourceBytes) (items : Items) (options : TableOptions) (by : Option By) (base_names names : List Name) : Type 0 where
+pub record BothTables (source : SourceBytes) (items : Items) (options : TableOptions) (by : Option Number) (base_names names : List Name) : Type 0 where
   pub base : Side
   pub other : Side
   pub are : AreSides source items options by false base_names names base other
@@ -32,7 +32,7 @@ pub record AreFew (base_names names : List Name) : Type 0 where
   pub other : length names ≤ 64
 
 -- the tables of each side, one for each repetition
-pub record Repeated (source : SourceBytes) (items : Items) (options : TableOptions) (by : Option By) (base_names names : List Name) : Type 0 where
+pub record Repeated (source : SourceBytes) (items : Items) (options : TableOptions) (by : Option Number) (base_names names : List Name) : Type 0 where
   pub few : AreFew base_names names
   pub base : Side
   pub other : Side
@@ -53,7 +53,7 @@ module _ (source : SourceBytes) (items : Items) (options : TableOptions) (names 
     pub said : lines ≡ both.base.lines.items ++ both.other.lines.items
 
   -- how numbers are spread is printed
-  pub record PrintsRepetitions (by : Option By) (form : RepeatsForm) (base_names : List Name) (text lines : Bytes) : Type 0 where
+  pub record PrintsRepetitions (by : Option Number) (form : RepeatsForm) (base_names : List Name) (text lines : Bytes) : Type 0 where
     pub repeated : Repeated source items options by base_names names
     pub fits : repeats_fit repeated.base.of by form options.shown repeated.base.tables.items repeated.other.tables.items ≡ true
     pub is : text ≡ repeats_text repeated.base.unit repeated.base.of repeated.base.columns.items by form options.shown repeated.base.tables.items repeated.other.tables.items

@@ -2,10 +2,10 @@
 use Rattle.std.specs.Prelude.{◌≡◌, Bool, true, false, Option, Some, None, List}
 use Rattle.span_request.specs.declared.views.ComparisonForm.TheVariants as changes
 use Rattle.span_request.specs.declared.views.RepeatsForm.TheVariants as repeats
-use Rattle.span_tasks.specs.{Bytes, Unit, Column, Of, By, usual_by, SpanTable, Wanted, IsPrint, json_fits, shown_table, ranking_of, comparison_of, json_changes_fit, json_comparison_of, json_repeats_fit, json_repeats_of, repeats_of, ComparisonForm, RepeatsForm, TableForm, Json, Ranking}
+use Rattle.span_tasks.specs.{Bytes, Unit, Column, Of, Number, usual_by, SpanTable, Wanted, IsPrint, json_fits, shown_table, ranking_of, comparison_of, json_changes_fit, json_comparison_of, json_repeats_fit, json_repeats_of, repeats_of, ComparisonForm, RepeatsForm, TableForm, Json, Ranking}
 
 -- the number that rows go by: the named one, or the usual one of what a table sums
-abbrev pub asked_by : Of → Option By → By
+abbrev pub asked_by : Of → Option Number → Number
 asked_by of None = usual_by of
 asked_by of (Some by) = by
 
@@ -29,10 +29,10 @@ changes_fit (changes.Text by) shown base other = true
 changes_fit changes.Json shown base other = json_changes_fit shown base other
 
 -- how the numbers of the tables of two sides are spread, which sum this, by these columns
-abbrev pub repeats_text : Unit → Of → List Column → Option By → RepeatsForm → Wanted → List SpanTable → List SpanTable → Bytes
+abbrev pub repeats_text : Unit → Of → List Column → Option Number → RepeatsForm → Wanted → List SpanTable → List SpanTable → Bytes
 repeats_text unit of columns by repeats.Text shown base other = repeats_of unit (asked_by of by) shown columns base other
 repeats_text unit of columns by repeats.Json shown base other = json_repeats_of unit of (asked_by of by) shown columns base other
 
-abbrev pub repeats_fit : Of → Option By → RepeatsForm → Wanted → List SpanTable → List SpanTable → Bool
+abbrev pub repeats_fit : Of → Option Number → RepeatsForm → Wanted → List SpanTable → List SpanTable → Bool
 repeats_fit of by repeats.Text shown base other = true
 repeats_fit of by repeats.Json shown base other = json_repeats_fit (asked_by of by) shown base other

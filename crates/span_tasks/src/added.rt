@@ -8,7 +8,7 @@ use span_names::HashKeys;
 use span_parts::{PartFault, Parts};
 use span_request::{TableOptions, goes_by};
 use span_runs::{Halt, Name, Source, Stopped, in_jobs, sizes_of, unread};
-use span_table::{By, Table};
+use span_table::{Number, Table};
 use std::alloc::Global;
 use std::random::RandomSource;
 use std::sync::Wait;
@@ -33,7 +33,7 @@ impl<'a, R: Threads + Wait + RandomSource + Sync, S: Source + Sync> Place<'a, R,
         &self,
         keys: HashKeys,
         options: &TableOptions,
-        by: Option<By>,
+        by: Option<Number>,
         name: &Name,
     ) -> Result<Parts, Halt>
         ensures asked { IfOk result (AreAsked options.now.columns.items by) }

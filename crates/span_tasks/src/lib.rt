@@ -29,5 +29,5 @@ pub use span_request::{
     TableForm, TableOptions, TableText, Tabulation, Task, View,
 };
 pub use span_runs::{Name, Named, Reason, Source, SourceFault};
-pub use span_table::{By, Column, Of};
+pub use span_table::{Column, Number, Of};
 pub use span_table_text::Shown;

@@ -7,7 +7,7 @@ use crate::side::{Apart, Side};
 use span_collect::Settings;
 use span_request::{Items, TableOptions};
 use span_runs::{Halt, Name, Source};
-use span_table::By;
+use span_table::Number;
 use std::random::RandomSource;
 use std::sync::Wait;
 use std::thread::Threads;
@@ -18,7 +18,7 @@ pub(crate) struct Wanted<'a> {
     pub(crate) items: Items,
     pub(crate) jobs: Option<u32>,
     pub(crate) options: &'a TableOptions,
-    pub(crate) by: Option<By>,
+    pub(crate) by: Option<Number>,
     pub(crate) each: bool,
 }
 

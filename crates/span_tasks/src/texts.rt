@@ -8,7 +8,7 @@ use span_comparisons::{comparison, json_comparison, json_repeats, repeats};
 use span_event::{Fault, Unit};
 use span_request::{ComparisonForm, RepeatsForm, Repetitions, TableForm};
 use span_runs::Halt;
-use span_table::{By, Of, Table};
+use span_table::{Number, Of, Table};
 use span_table_text::{JsonFault, Shown, json_table, ranking};
 use std::alloc::{AllocError, Global};
 
@@ -127,7 +127,7 @@ impl<'a> TableTexts<'a> {
 }
 
 // The number that rows go by: the named one, or the usual one of what a table sums.
-fn asked_by(of: Of, by: Option<By>) -> By
+fn asked_by(of: Of, by: Option<Number>) -> Number
     ensures { result ≡ asked_by of by }
 {
     match by {

@@ -4,7 +4,7 @@ use super::told::told;
 use span_comparisons::{json_repeats, repeats};
 use span_event::{Text, Unit};
 use span_names::HashKeys;
-use span_table::{By, Column, Of, Table};
+use span_table::{Number, Column, Of, Table};
 use span_table_text::Shown;
 use std::alloc::Global;
 use std::test::Fail;
@@ -38,7 +38,7 @@ fn table_of_a_file(alloc: Global) -> Option<Table> {
 fn a_side_may_have_no_repetitions(rt: HostRuntime) -> Result<(), Fail> {
     let alloc = rt.alloc();
     let one = [table_of_a_file(alloc).ok_or("no table")?];
-    let (unit, by, columns) = (Unit::Microseconds, By::Total, [Column::File]);
+    let (unit, by, columns) = (Unit::Microseconds, Number::Total, [Column::File]);
     let all = Shown {
         only: Vec::new(alloc),
         skip: Vec::new(alloc),
