@@ -1,9 +1,9 @@
 -- Two tables that are printed alike are the same.
 use Rattle.std.proofs.{Common.{◌≡◌, ◌≢◌, ℕ, ◌^◌, ◌<◌, ◌==◌, cond, true, List, [], ◌∷◌, ◌++◌, All, drop, flat_map, get_or, length, map, refl, sym, ap, subst, ◌∙◌, Some, None, append_assoc, arith, codes}, lemmas.{Fmt.{decimal_injective, signed_decimal_injective}, List.Elements.{All-head, All-tail, All-weaker}}}
 use Rattle.json.specs.{Lex.tokens, Print.print, Token.{Token, end_array, end_object, key}}
-use Rattle.span_table.proofs.Summing.{sums_small}
-use Rattle.span_table_text.specs.{ArgValue, Nil, Flag, Whole, Words, Other, Bytes, Unit, Microseconds, Nanoseconds, Column, Pid, Tid, Process, Thread, Name, File, Cat, Scope, Id, Argument, TableCounts, Of, Spans, Async, Sums, Row, column_name, counts_fit, fit, TableKey, SpanTable, Json.{json_line, text_of}, Printed.{AllFit, AreDistinct, HasOwn, IsOfArgument, IsPart, IsPrint, IsRowOf, IsTable, PartsAreDetermined}, Tokens.{columns_tokens, head_tokens, key_tokens, name_tokens, numbers_tokens, of_tokens, row_tokens, sums_tokens, unit_tokens, value_tokens}}
-use Rattle.span_table_text.proofs.{Printed.{json_head-print, json_line-print}, PrintedLines.{AreSmall, IsDetermined, IsDeterminedKey, IsLine, IsRowOf-determined, counts_small, numbers_fit-each, print_head-IsLine, print_row-IsLine, tokens-head, tokens-row}}
+use Rattle.span_table.specs.Numbers.{with_number}
+use Rattle.span_table_text.specs.{ArgValue, Nil, Flag, Whole, Words, Other, Bytes, Unit, Microseconds, Nanoseconds, Column, Pid, Tid, Process, Thread, Name, File, Cat, Scope, Id, Argument, TableCounts, Number, Of, Spans, Async, Sums, Row, column_name, counts_fit, fit, number_by, numbers_of, only, TableKey, SpanTable, Json.{json_line, text_of}, Printed.{AllFit, AreDistinct, HasOwn, IsOfArgument, IsPart, IsPrint, IsRowOf, IsTable, PartsAreDetermined}, Tokens.{columns_tokens, head_tokens, key_tokens, name_tokens, numbers_tokens, of_tokens, row_tokens, sums_tokens, unit_tokens, value_tokens}}
+use Rattle.span_table_text.proofs.PrintedLines.{AreSmall, IsDetermined, IsDeterminedKey, IsLine, IsRowOf-determined, counts_small, json_head-print, json_line-print, number_by-small, numbers_fit-each, print_head-IsLine, print_row-IsLine, tokens-head, tokens-row}
 
 -- two texts are the same if their first lines are, and what follows these
 line-determined : (a b r s : Bytes) → IsLine a → IsLine b → a ++ 10 ∷ r ≡ b ++ 10 ∷ s → (a ≡ b) × (r ≡ s)
@@ -117,32 +117,20 @@ key-determined of (column ∷ columns) (Some value ∷ values) (Some second ∷ 
     let rest = key-determined of columns values others ts us d.1 (omega (arith, h.0), h.1.1) (omega (arith, k.0), k.1.1) same.1 in
     (λ i. Some (same.0 i) ∷ rest.0 i, rest.1)
 
-sums-determined : (of : Of) (sums others : Sums) → HasOwn of sums → HasOwn of others → fit sums ≡ true → fit others ≡ true
-    → sums_tokens of sums ++ end_object ∷ [] ≡ sums_tokens of others ++ end_object ∷ [] → sums ≡ others
-sums-determined Async sums others own its h k e =
-    let a = sums_small sums h in
-    let b = sums_small others k in
-    let count : sums.count ≡ others.count = decimal_injective sums.count others.count a.0 b.0 (cc e) in
-    let total : sums.total ≡ others.total = decimal_injective sums.total others.total a.1 b.1 (cc e) in
-    let unclosed : sums.unclosed ≡ others.unclosed = decimal_injective sums.unclosed others.unclosed a.3 b.3 (cc e) in
-    let points : sums.points ≡ others.points = decimal_injective sums.points others.points a.4 b.4 (cc e) in
-    let self : sums.self_time ≡ others.self_time = own ∙ sym its in
-    λ i. record { count = count i; total = total i; self_time = self i; unclosed = unclosed i; points = points i }
-sums-determined Spans sums others own its h k e =
-    let a = sums_small sums h in
-    let b = sums_small others k in
-    let count : sums.count ≡ others.count = decimal_injective sums.count others.count a.0 b.0 (cc e) in
-    let total : sums.total ≡ others.total = decimal_injective sums.total others.total a.1 b.1 (cc e) in
-    let self : sums.self_time ≡ others.self_time = decimal_injective sums.self_time others.self_time a.2 b.2 (cc e) in
-    let unclosed : sums.unclosed ≡ others.unclosed = own.0 ∙ sym its.0 in
-    let points : sums.points ≡ others.points = own.1 ∙ sym its.1 in
-    λ i. record { count = count i; total = total i; self_time = self i; unclosed = unclosed i; points = points i }
+-- numbers that are printed alike are the same
+only-determined : (numbers : List Number) (sums others : Sums) (ts us : List Token) → fit sums ≡ true → fit others ≡ true → sums_tokens numbers sums ++ ts ≡ sums_tokens numbers others ++ us →
+    only numbers sums ≡ only numbers others
+only-determined [] sums others ts us h k e = refl
+only-determined (number ∷ numbers) sums others ts us h k e =
+    let value : number_by number sums ≡ number_by number others = decimal_injective _ _ (number_by-small number sums h) (number_by-small number others k) (cc e) in
+    let rest = only-determined numbers sums others ts us h k (ap (drop 2) e) in
+    λ i. with_number number (value i) (rest i)
 
 -- the numbers of a row behind the name of the first
 later_numbers : Of → Sums → List Token
-later_numbers of sums = drop 1 (sums_tokens of sums ++ end_object ∷ [])
+later_numbers of sums = drop 1 (sums_tokens (numbers_of of) sums ++ end_object ∷ [])
 
-sums-first : (of : Of) (sums : Sums) → sums_tokens of sums ++ end_object ∷ [] ≡ key (first_number of) ∷ later_numbers of sums
+sums-first : (of : Of) (sums : Sums) → sums_tokens (numbers_of of) sums ++ end_object ∷ [] ≡ key (first_number of) ∷ later_numbers of sums
 unfolding later_numbers
 sums-first Spans sums = refl
 sums-first Async sums = refl
@@ -153,7 +141,7 @@ row-determined of columns row other d h k e =
     let mine = ap (λ l. key_tokens columns row.key ++ l) (sums-first of row.sums) in
     let its = ap (λ l. key_tokens columns other.key ++ l) (sums-first of other.sums) in
     let same = key-determined of columns row.key other.key (later_numbers of row.sums) (later_numbers of other.sums) d h.key k.key (sym mine ∙ ap (drop 1) e ∙ its) in
-    let sums = sums-determined of row.sums other.sums h.own k.own h.sums k.sums (sums-first of row.sums ∙ ap (λ l. key (first_number of) ∷ l) same.1 ∙ sym (sums-first of other.sums)) in
+    let sums = h.own ∙ only-determined (numbers_of of) row.sums other.sums (end_object ∷ []) (end_object ∷ []) h.sums k.sums (sums-first of row.sums ∙ ap (λ l. key (first_number of) ∷ l) same.1 ∙ sym (sums-first of other.sums)) ∙ sym k.own in
     λ i. record { key = same.0 i; sums = sums i }
 
 -- a line of a row, and what follows it
@@ -242,8 +230,8 @@ tables-determined unit second one other distinct is its e =
     (print_head-IsLine one.of unit one.columns many one.counts is.few is.counts) (print_head-IsLine other.of second other.columns more other.counts its.few its.counts)
     (sym (head-first unit one) ∙ e ∙ head-first second other) in
     let heads = sym (tokens-head one.of unit one.columns many one.counts is.few is.counts) ∙ ap tokens lines.0 ∙ tokens-head other.of second other.columns more other.counts its.few its.counts in
-    let mine = drop 1 (columns_tokens one.columns many one.counts) in
-    let theirs = drop 1 (columns_tokens other.columns more other.counts) in
+    let mine = drop 1 (columns_tokens one.columns (numbers_tokens many one.counts ++ end_object ∷ [])) in
+    let theirs = drop 1 (columns_tokens other.columns (numbers_tokens more other.counts ++ end_object ∷ [])) in
     let kinds = of-determined one.of other.of unit second mine theirs (ap (drop 3) heads) in
     let units = unit-determined unit second mine theirs kinds.1 in
     let columns = names-determined one.columns other.columns (numbers_tokens many one.counts ++ end_object ∷ []) (numbers_tokens more other.counts ++ end_object ∷ []) (ap (drop 1) units.1) in

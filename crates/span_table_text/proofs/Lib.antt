@@ -1,8 +1,7 @@
 pub mod Determined
-pub mod JsonPieces
-pub mod Pieces
-pub mod Printed
+pub mod Joined
 pub mod PrintedLines
 pub mod Ranked
 pub mod RunTables
 pub mod Substrings
+pub mod Written

@@ -1,10 +1,11 @@
 -- The tokens of the lines of a table are read back, and no line feed stands in such a line.
 use Rattle.std.specs.{Char.digit_char, Fmt.signed_decimal, Int.w64, List.{AllByRecursion, list_all}, Prelude.⊤, Str.Parse.AllDigits}
-use Rattle.std.proofs.{Common.{◌≡◌, ◌≢◌, ℕ, ℤ, pos, negsuc, suc, ◌+◌, ◌/◌, ◌%◌, ◌^◌, ◌<◌, ◌≤◌, Bool, true, false, true≢false, cond, ◌&&◌, ◌||◌, ◌==◌, nat_lt, List, [], ◌∷◌, ◌++◌, All, length, refl, sym, ap, ◌∙◌, Some, None, arith, decimal, codes, FitsSigned}, lemmas.{Bool.{and_parts, ltb-false, ltb-true}, Fmt.decimal_is_IsNumeral, List.{Elements.All-from_recursion, Sums.AllPass-from_list_all}, Str.Parse.digit_from_value}}
-use Rattle.json.specs.{Lex.tokens, Print.{ArePrintable, IsNumber, IsPrintable, begins, ends, escape, escape_byte, escape_letter, print, print_from, quoted, separator, token_text}, Token.{Token, begin_object, end_object, begin_array, end_array, key, string, number, boolean, null, bad}, Word.after_number}
+use Rattle.std.proofs.{Common.{◌≡◌, ◌≢◌, ℕ, ℤ, pos, negsuc, suc, ◌+◌, ◌/◌, ◌%◌, ◌^◌, ◌<◌, ◌≤◌, Bool, true, false, true≢false, cond, ◌&&◌, ◌||◌, ◌==◌, nat_lt, List, [], ◌∷◌, ◌++◌, All, length, refl, sym, ap, ◌∙◌, Some, None, arith, decimal, FitsSigned}, lemmas.{Bool.{and_parts, ltb-false, ltb-true}, Fmt.decimal_is_IsNumeral, List.{Elements.All-from_recursion, Sums.AllPass-from_list_all}, Str.Parse.digit_from_value}}
+use Rattle.json.specs.{Lex.tokens, Print.{ArePrintable, IsNumber, IsPrintable, begins, ends, escape, escape_byte, escape_letter, print, print_from, quoted, separator, token_text}, Token.{Token, begin_object, end_object, begin_array, end_array, key, string, number, boolean, null, bad}}
 use Rattle.json.proofs.Printed.{Decimals.{IsNumber-decimal, IsNumber-signed_decimal}, Tokens.tokens-print}
 use Rattle.span_table.proofs.Summing.{sums_small}
-use Rattle.span_table_text.specs.{ArgValue, Nil, Flag, Whole, Words, Other, Bytes, Unit, Microseconds, Nanoseconds, Column, Pid, Tid, Process, Thread, Name, File, Cat, Scope, Id, Argument, TableCounts, Of, Spans, Async, Sums, Row, Value, counts_fit, fit, TableKey, SpanTable, Json.numbers_fit, Printed.{HasOwn, IsKeyOf, IsOfArgument, IsRowOf, KeyFits, MayHave}, Tokens.{columns_tokens, entry_counts_tokens, head_tokens, key_tokens, name_tokens, numbers_tokens, of_tokens, row_tokens, sums_tokens, unit_tokens, value_tokens}}
+use Rattle.span_table.specs.declared.number.Number.TheVariants.{Closed, Count, Open, Points, SelfTime, Total}
+use Rattle.span_table_text.specs.{ArgValue, Nil, Flag, Whole, Words, Other, Bytes, Unit, Microseconds, Nanoseconds, Column, Pid, Tid, Process, Thread, Name, File, Cat, Scope, Id, Argument, TableCounts, Number, Of, Spans, Async, Sums, Row, Value, counts_fit, fit, number_by, numbers_of, TableKey, SpanTable, Json.{json_head, json_line, numbers_fit}, Printed.{HasOwn, IsKeyOf, IsOfArgument, IsRowOf, KeyFits, MayHave}, Tokens.{columns_tokens, entry_counts_tokens, head_tokens, key_tokens, name_tokens, numbers_tokens, of_tokens, row_tokens, sums_tokens, unit_tokens, value_tokens}}
 
 -- no line feed is among the bytes
 abbrev pub IsLine : Bytes → Type 0
@@ -133,13 +134,18 @@ numbers_fit-each table h =
     let both = and_parts (counts_fit table.counts) (list_all fits table.rows) h in
     (both.0, AllPass-from_list_all fits table.rows both.1)
 
-sums-in_line : (of : Of) (sums : Sums) → fit sums ≡ true → AreInLine (sums_tokens of sums)
-sums-in_line Async sums h =
-    let small = sums_small sums h in
-    (tt, (decimal-in_line sums.count small.0, (tt, (decimal-in_line sums.total small.1, (tt, (decimal-in_line sums.unclosed small.3, (tt, (decimal-in_line sums.points small.4, tt))))))))
-sums-in_line Spans sums h =
-    let small = sums_small sums h in
-    (tt, (decimal-in_line sums.count small.0, (tt, (decimal-in_line sums.total small.1, (tt, (decimal-in_line sums.self_time small.2, tt))))))
+-- each number of sums that fit does
+pub number_by-small : (n : Number) (sums : Sums) → fit sums ≡ true → number_by n sums < 2 ^ 64
+number_by-small SelfTime sums h = (sums_small sums h).2
+number_by-small Total sums h = (sums_small sums h).1
+number_by-small Count sums h = (sums_small sums h).0
+number_by-small Closed sums h = (sums_small sums h).0
+number_by-small Open sums h = (sums_small sums h).3
+number_by-small Points sums h = (sums_small sums h).4
+
+sums-in_line : (numbers : List Number) (sums : Sums) → fit sums ≡ true → AreInLine (sums_tokens numbers sums)
+sums-in_line [] sums h = tt
+sums-in_line (first ∷ later) sums h = (tt, (decimal-in_line (number_by first sums) (number_by-small first sums h), sums-in_line later sums h))
 
 -- the numbers of counts
 pub record AreSmall (counts : TableCounts) : Type 0 where
@@ -245,16 +251,13 @@ key-in_line (column ∷ columns) (Some value ∷ values) h = (tt, AreInLine-appe
 
 row-in_line : (of : Of) (columns : List Column) (row : Row) → IsDetermined of columns row → AreInLine (row_tokens of columns row)
 row-in_line of columns row is =
-    let sums = AreInLine-append (sums_tokens of row.sums) (end_object ∷ []) (sums-in_line of row.sums is.sums) (tt, tt) in
-    (tt, AreInLine-append (key_tokens columns row.key) (sums_tokens of row.sums ++ end_object ∷ []) (key-in_line columns row.key is.key.1) sums)
+    let numbers = sums_tokens (numbers_of of) row.sums in
+    let sums = AreInLine-append numbers (end_object ∷ []) (sums-in_line (numbers_of of) row.sums is.sums) (tt, tt) in
+    (tt, AreInLine-append (key_tokens columns row.key) (numbers ++ end_object ∷ []) (key-in_line columns row.key is.key.1) sums)
 
 names-in_line : (columns : List Column) → AreInLine (name_tokens columns)
 names-in_line [] = tt
 names-in_line (column ∷ columns) = (tt, names-in_line columns)
-
-one-in_line : IsInLine (number (codes "1"))
-unfolding after_number
-one-in_line = (refl, ((λ e. omega arith), tt))
 
 of-in_line : (of : Of) → AreInLine (of_tokens of)
 of-in_line Spans = tt
@@ -267,9 +270,19 @@ unit-in_line Nanoseconds = (tt, (tt, tt))
 head-in_line : (of : Of) (unit : Unit) (columns : List Column) (rows : ℕ) (counts : TableCounts) → rows < 2 ^ 64 → AreSmall counts → AreInLine (head_tokens of unit columns rows counts)
 head-in_line of unit columns rows counts few small =
     let numbers = AreInLine-append (numbers_tokens rows counts) (end_object ∷ []) (numbers-in_line rows counts few small) (tt, tt) in
-    let names : AreInLine (columns_tokens columns rows counts) = (tt, (tt, AreInLine-append (name_tokens columns) _ (names-in_line columns) (tt, numbers))) in
-    let more = AreInLine-append (unit_tokens unit) (columns_tokens columns rows counts) (unit-in_line unit) names in
-    (tt, (tt, (one-in_line, AreInLine-append (of_tokens of) (unit_tokens unit ++ columns_tokens columns rows counts) (of-in_line of) more)))
+    let rest = columns_tokens columns (numbers_tokens rows counts ++ end_object ∷ []) in
+    let names : AreInLine rest = (tt, (tt, AreInLine-append (name_tokens columns) _ (names-in_line columns) (tt, numbers))) in
+    let more = AreInLine-append (unit_tokens unit) rest (unit-in_line unit) names in
+    (tt, (tt, (decimal-in_line 1 (omega arith), AreInLine-append (of_tokens of) (unit_tokens unit ++ rest) (of-in_line of) more)))
+
+-- a line is its tokens, printed
+pub json_line-print : (of : Of) (columns : List Column) (row : Row) → json_line of columns row ≡ print (row_tokens of columns row) ++ 10 ∷ []
+unfolding json_line
+json_line-print of columns row = refl
+
+pub json_head-print : (of : Of) (unit : Unit) (columns : List Column) (rows : ℕ) (counts : TableCounts) → json_head of unit columns rows counts ≡ print (head_tokens of unit columns rows counts) ++ 10 ∷ []
+unfolding json_head
+json_head-print of unit columns rows counts = refl
 
 -- the tokens of a row are read back
 pub tokens-row : (of : Of) (columns : List Column) (row : Row) → IsDetermined of columns row → tokens (print (row_tokens of columns row)) ≡ row_tokens of columns row

@@ -3,10 +3,10 @@ use Rattle.std.specs.{Cmp.IsTotalOrder, List.{AllByRecursion, IsDistinct, Sorted
 use Rattle.std.proofs.{Common.{◌≡◌, Bool, true, false, cond, List, [], ◌∷◌, refl, ap}, lemmas.Cmp.{back_total, nat_cmp_total, on_total, then_total}}
 use Rattle.span_keyed_tracks.proofs.{Sorted.ascending-sorted, Sorting.ascending-permutation}
 use Rattle.span_journal.proofs.Sorted.{AllByRecursion-map}
-use Rattle.span_table_text.specs.{By, Row, key_cmp_total, key_cmp, number_by, RowsRise, Ranks.{ranking_order, RankingsHaveEachRow}, Shown.{Wanted, is_wanted, shown_rows}}
+use Rattle.span_table_text.specs.{Number, Row, key_cmp_total, key_cmp, number_by, RowsRise, Ranks.{ranking_order, RankingsHaveEachRow}, Shown.{Wanted, is_wanted, shown_rows}}
 
 -- the order of a ranking is total
-pub ranking_order-total : (by : By) → IsTotalOrder (ranking_order by)
+pub ranking_order-total : (by : Number) → IsTotalOrder (ranking_order by)
 ranking_order-total by = then_total (on_total (λ (row : Row). number_by by row.sums) (back_total nat_cmp_total)) (on_total (λ (row : Row). row.key) key_cmp_total)
 
 filter-all : {A : Type 0} (P : A → Type 0) (p : A → Bool) (xs : List A) → AllByRecursion P xs → AllByRecursion P (filter p xs)
@@ -33,7 +33,7 @@ apart Greater q below = refl
 apart Equal q below = ap is_eq below
 
 -- no two rows that rise rank alike
-pub IsDistinct-rising : (by : By) (rows : List Row) → RowsRise rows → IsDistinct (eq_by_cmp (ranking_order by)) rows
+pub IsDistinct-rising : (by : Number) (rows : List Row) → RowsRise rows → IsDistinct (eq_by_cmp (ranking_order by)) rows
 unfolding IsStrictlySortedBy IsDistinct
 IsDistinct-rising by [] sorted = tt
 IsDistinct-rising by (x ∷ xs) sorted = (
@@ -43,7 +43,7 @@ IsDistinct-rising by (x ∷ xs) sorted = (
 )
 
 -- nor do those of them that are shown
-pub shown_rows-distinct : (by : By) (wanted : Wanted) (rows : List Row) → RowsRise rows → IsDistinct (eq_by_cmp (ranking_order by)) (shown_rows wanted rows)
+pub shown_rows-distinct : (by : Number) (wanted : Wanted) (rows : List Row) → RowsRise rows → IsDistinct (eq_by_cmp (ranking_order by)) (shown_rows wanted rows)
 shown_rows-distinct by wanted rows rise = IsDistinct-rising by (shown_rows wanted rows) (filter-sorted (λ (a b : Row). key_cmp a.key b.key) (λ (row : Row). is_wanted wanted row.key) rows rise)
 
 -- each row has its place, and no two rank alike

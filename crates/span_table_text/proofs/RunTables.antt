@@ -120,10 +120,14 @@ pub record HasRows (table : SpanTable) : Type 0 where
 -- no row has a number that what is summed doesn't have, where no sums have it
 All-own : (of : Of) (es : KeyedSums) → All (λ (e : Keyed TableKey Sums). HasOwn of e.step) es → All (λ (row : Row). HasOwn of row.sums) (rows_of es)
 All-own Spans es own =
-    let unclosed = All-none (λ (s : Sums). s.unclosed) (λ sums. refl) es (λ k d low. (own k d low).0) in
-    let points = All-none (λ (s : Sums). s.points) (λ sums. refl) es (λ k d low. (own k d low).1) in
-    λ k d low. (unclosed k d low, points k d low)
-All-own Async es own = All-none (λ (s : Sums). s.self_time) (λ sums. refl) es own
+    let unclosed = All-none (λ (s : Sums). s.unclosed) (λ sums. refl) es (λ k d low. ap (λ (s : Sums). s.unclosed) (own k d low)) in
+    let points = All-none (λ (s : Sums). s.points) (λ sums. refl) es (λ k d low. ap (λ (s : Sums). s.points) (own k d low)) in
+    λ k d low. let row = get_or (rows_of es) k d in
+    λ i. record { count = row.sums.count; total = row.sums.total; self_time = row.sums.self_time; unclosed = unclosed k d low i; points = points k d low i }
+All-own Async es own =
+    let self = All-none (λ (s : Sums). s.self_time) (λ sums. refl) es (λ k d low. ap (λ (s : Sums). s.self_time) (own k d low)) in
+    λ k d low. let row = get_or (rows_of es) k d in
+    λ i. record { count = row.sums.count; total = row.sums.total; self_time = self k d low i; unclosed = row.sums.unclosed; points = row.sums.points }
 
 -- where all sums count a span, so do all rows
 All-some : (of : Of) (es : KeyedSums) → All (λ (e : Keyed TableKey Sums). HasSome of e.step) es → All (λ (row : Row). HasSome of row.sums) (rows_of es)
@@ -218,11 +222,11 @@ module _ (columns : List Column) where
 
   -- it has no numbers that are not its own
   run-own : (of : Of) (run : Run) → OfRun of columns (λ e. HasOwn of e.step) run
-  run-own Spans run = λ thread t. (refl, refl)
+  run-own Spans run = λ thread t. refl
   run-own Async run = λ row. refl
 
   run-Suits : (of : Of) → All (λ column. goes_with of column ≡ true) columns → (run : Run) → All (HasFile run) columns → OfRun of columns (Suits of columns) run
-  run-Suits Spans suited run files = λ thread t. record { key = key-MayBeKey run thread t.span.name t.span.args columns suited files; own = (refl, refl); some = omega arith }
+  run-Suits Spans suited run files = λ thread t. record { key = key-MayBeKey run thread t.span.name t.span.args columns suited files; own = refl; some = omega arith }
   run-Suits Async suited run files = λ row. record { key = async_key-MayBeKey run row.key columns suited files; own = refl; some = tt }
 
   module _ (runs : List Run) where

@@ -1,23 +1,16 @@
 -- What the texts for people have in common: the names of columns, values, and how many rows are shown.
-use Rattle.std.specs.{Fmt.signed_decimal, Prelude.{ℕ, if◌then◌else◌, Bool, true, false, [], ◌∷◌, codes, decimal}}
-use Rattle.json.specs.Print.{escape}
-use Rattle.span_table_text.specs.{ArgValue, Nil, Flag, Whole, Words, Other, Bytes, json_text_of, line_of, or_dash, Column, TableCounts, Value, column_name, Shown.{Wanted, wants_all}}
+use Rattle.std.specs.Prelude.{ℕ, if◌then◌else◌, Bool, [], ◌∷◌, codes, decimal}
+use Rattle.json.specs.Print.{escape, print}
+use Rattle.span_table_text.specs.{ArgValue, Other, Bytes, line_of, or_dash, Column, TableCounts, Value, column_name, Shown.{Wanted, wants_all}, Tokens.value_tokens}
 
-abbrev pub flag_text : Bool → Bytes
-flag_text true = codes "true"
-flag_text false = codes "false"
-
--- a value that is there, by what stands for those that aren't kept
-abbrev pub value_json : Bytes → ArgValue → Bytes
-value_json other Nil = codes "null"
-value_json other (Flag flag) = flag_text flag
-value_json other (Whole number) = signed_decimal number
-value_json other (Words text) = json_text_of text
-value_json other Other = other
+-- a value that is there: as JSON, `...` for one that isn't kept
+abbrev pub kept_text : ArgValue → Bytes
+kept_text Other = codes "..."
+kept_text value = print (value_tokens value)
 
 -- a value, or `-` where there is none
 unfoldable pub value_text : Value → Bytes
-value_text value = or_dash (value_json (codes "...")) value
+value_text value = or_dash kept_text value
 
 -- the name of a column as JSON writes it, without the quotes
 unfoldable pub column_title : Column → Bytes

@@ -1,6 +1,6 @@
 -- Tables that are printed as JSON Lines, and those whose text can be read back.
 use Rattle.std.specs.{Int.w64, Prelude.{◌≡◌, ◌≢◌, ◌<◌, ◌≤◌, ◌^◌, true, List, [], ◌∷◌, All, is_some, length, map, Some, None, FitsSigned, ⊤}, Str.IsUtf8}
-use Rattle.span_table_text.specs.{Whole, Words, Bytes, Unit, Column, Pid, Tid, Process, Thread, Name, File, Cat, Scope, Id, Argument, Of, Spans, Async, Sums, Row, Run, Value, column_name, goes_with, is_column, counts_fit, fit, TableKey, RowsRise, SpanTable, table_of, Json.{numbers_fit, shown_table, text_of}, Shown.{Wanted, wants_all}}
+use Rattle.span_table_text.specs.{Whole, Words, Bytes, Unit, Column, Pid, Tid, Process, Thread, Name, File, Cat, Scope, Id, Argument, Of, Spans, Async, Sums, Row, Run, Value, column_name, goes_with, is_column, counts_fit, fit, numbers_of, only, TableKey, RowsRise, SpanTable, table_of, Json.{numbers_fit, shown_table, text_of}, Shown.{Wanted, wants_all}}
 
 -- a number, which has 64 bits
 abbrev pub IsWhole : Value → Type 0
@@ -69,8 +69,7 @@ IsKeyOf columns key = ⊥
 
 -- numbers that what is summed doesn't have are 0
 abbrev pub HasOwn : Of → Sums → Type 0
-HasOwn Spans sums = (sums.unclosed ≡ 0) × (sums.points ≡ 0)
-HasOwn Async sums = sums.self_time ≡ 0
+HasOwn of sums = sums ≡ only (numbers_of of) sums
 
 -- a key of spans has one; an asynchronous key may have no closed span
 abbrev pub HasSome : Of → Sums → Type 0

@@ -1,7 +1,20 @@
--- The tokens of the lines of a table.
-use Rattle.std.specs.{Fmt.signed_decimal, Prelude.{ℕ, List, [], ◌∷◌, ◌++◌, map, Some, None, codes, decimal}}
-use Rattle.json.specs.Token.{Token, begin_object, end_object, begin_array, end_array, key, string, number, boolean, null}
-use Rattle.span_table_text.specs.{ArgValue, Nil, Flag, Whole, Words, Other, Unit, Microseconds, Nanoseconds, CountRow, Column, TableCounts, Of, Spans, Async, Sums, Row, column_name, TableKey}
+-- The tokens of the lines for other programs, which are printed on one line each.
+use Rattle.std.specs.{Fmt.signed_decimal, Prelude.{◌≡◌, ℕ, List, [], ◌∷◌, ◌++◌, flat_map, map, OnOk, Result, Some, None, codes, decimal}}
+use Rattle.json.specs.{Print.print, Token.{Token, begin_object, end_object, begin_array, end_array, key, string, number, boolean, null}, Written.Written}
+use Rattle.span_table_text.specs.{ArgValue, Nil, Flag, Whole, Words, Other, Bytes, Unit as TimeUnit, Microseconds, Nanoseconds, CountRow, Column, TableCounts, Number, Of, Spans, Async, Sums, Row, column_name, number_by, number_name, numbers_of, TableKey}
+
+-- the line of these tokens
+abbrev pub token_line : List Token → Bytes
+token_line tokens = print tokens ++ 10 ∷ []
+
+-- these tokens were written behind those that there were
+pub record Follow (old new : Written) (more : List Token) : Type 0 where
+  pub before : new.before ≡ old.before
+  pub tokens : new.tokens ≡ old.tokens ++ more
+
+-- they were, if that succeeded
+abbrev pub Appends : {E : Type 0} → Result (Unit {0}) E → Written → Written → List Token → Type 0
+Appends result old new tokens = OnOk result (Follow old new tokens)
 
 abbrev pub value_tokens : ArgValue → List Token
 value_tokens Nil = null ∷ []
@@ -17,31 +30,32 @@ key_tokens (column ∷ columns) [] = []
 key_tokens (column ∷ columns) (None ∷ values) = key_tokens columns values
 key_tokens (column ∷ columns) (Some value ∷ values) = key (column_name column) ∷ (value_tokens value ++ key_tokens columns values)
 
-abbrev pub number_tokens : List ℕ → ℕ → List Token
+abbrev pub number_tokens : Bytes → ℕ → List Token
 number_tokens name n = key name ∷ number (decimal n) ∷ []
 
-abbrev pub sums_tokens : Of → Sums → List Token
-sums_tokens Spans sums = number_tokens (codes "count") sums.count ++ (number_tokens (codes "total") sums.total ++ number_tokens (codes "self") sums.self_time)
-sums_tokens Async sums =
-    number_tokens (codes "closed") sums.count ++ (number_tokens (codes "total") sums.total ++ (number_tokens (codes "open") sums.unclosed ++ number_tokens (codes "points") sums.points))
+-- these numbers of a row
+abbrev pub sums_tokens : List Number → Sums → List Token
+sums_tokens numbers sums = flat_map (λ n. number_tokens (number_name n) (number_by n sums)) numbers
 
 abbrev pub row_tokens : Of → List Column → Row → List Token
-row_tokens of columns row = begin_object ∷ (key_tokens columns row.key ++ (sums_tokens of row.sums ++ end_object ∷ []))
+row_tokens of columns row = begin_object ∷ (key_tokens columns row.key ++ (sums_tokens (numbers_of of) row.sums ++ end_object ∷ []))
 
 -- the names of columns
 abbrev pub name_tokens : List Column → List Token
-name_tokens columns = map (λ column. string (column_name column)) columns
+name_tokens columns = map string (map column_name columns)
 
 abbrev pub entry_counts_tokens : CountRow → List Token
 entry_counts_tokens entries =
     number_tokens (codes "events") entries.accepted ++ (number_tokens (codes "refused") entries.refused ++ (number_tokens (codes "skipped") entries.skipped
     ++ (number_tokens (codes "queries") entries.queries ++ number_tokens (codes "seals") entries.seals)))
 
+abbrev pub counts_tokens : TableCounts → List Token
+counts_tokens counts =
+    number_tokens (codes "runs") counts.runs ++ (number_tokens (codes "files") counts.files ++ (number_tokens (codes "unread") counts.unread ++ entry_counts_tokens counts.entries))
+
 -- the numbers of the first line
 abbrev pub numbers_tokens : ℕ → TableCounts → List Token
-numbers_tokens rows counts =
-    number_tokens (codes "rows") rows ++ (number_tokens (codes "runs") counts.runs ++ (number_tokens (codes "files") counts.files
-    ++ (number_tokens (codes "unread") counts.unread ++ entry_counts_tokens counts.entries)))
+numbers_tokens rows counts = number_tokens (codes "rows") rows ++ counts_tokens counts
 
 -- what a table sums, where that isn't the spans of threads
 abbrev pub of_tokens : Of → List Token
@@ -49,16 +63,18 @@ of_tokens Spans = []
 of_tokens Async = key (codes "of") ∷ string (codes "async") ∷ []
 
 -- the unit of all times, where it isn't microseconds
-abbrev pub unit_tokens : Unit → List Token
+abbrev pub unit_tokens : TimeUnit → List Token
 unit_tokens Microseconds = []
 unit_tokens Nanoseconds = key (codes "unit") ∷ string (codes "ns") ∷ []
 
--- what is in the first line behind its unit
-abbrev pub columns_tokens : List Column → ℕ → TableCounts → List Token
-columns_tokens columns rows counts =
-    key (codes "columns") ∷ begin_array ∷ (name_tokens columns ++ (end_array ∷ (numbers_tokens rows counts ++ end_object ∷ [])))
+-- the columns, and then these
+abbrev pub columns_tokens : List Column → List Token → List Token
+columns_tokens columns rest = key (codes "columns") ∷ begin_array ∷ (name_tokens columns ++ end_array ∷ rest)
 
--- the first line
-abbrev pub head_tokens : Of → Unit → List Column → ℕ → TableCounts → List Token
-head_tokens of unit columns rows counts =
-    begin_object ∷ key (codes "tracebook") ∷ number (codes "1") ∷ (of_tokens of ++ (unit_tokens unit ++ columns_tokens columns rows counts))
+-- a first line up to its columns, and then these
+abbrev pub start_tokens : Of → TimeUnit → List Column → List Token → List Token
+start_tokens of unit columns rest = begin_object ∷ (number_tokens (codes "tracebook") 1 ++ (of_tokens of ++ (unit_tokens unit ++ columns_tokens columns rest)))
+
+-- the first line of a table
+abbrev pub head_tokens : Of → TimeUnit → List Column → ℕ → TableCounts → List Token
+head_tokens of unit columns rows counts = start_tokens of unit columns (numbers_tokens rows counts ++ end_object ∷ [])

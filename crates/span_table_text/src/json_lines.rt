@@ -1,13 +1,12 @@
 //! The rows of a table for machines: JSON Lines.
-ghost use Rattle.std.specs.{List.{join_with_byte, list_all}, Prelude.{◌≡◌, ◌<◌, ◌^◌, All, ◌++◌, ◌∷◌, true, false, map, flat_map, length, string_bytes, IfOk, IfErr, OnOk, IsUtf8}};
-ghost use Rattle.span_table_text.specs.{fit, Json.{column_json, columns_json, json_fits, json_head, json_line, of_member, shown_table, unit_member}, JsonPieces.{count_text, counts_text, end_text, events_text, files_text, member_text, members_text, others_text, start_text}, Printed.{IsPrint, KeyFits}, declared.json_lines.JsonFault.TheVariants.TooGreat};
+ghost use Rattle.std.specs.{List.list_all, Prelude.{◌≡◌, ◌<◌, ◌^◌, All, ◌++◌, true, false, map, flat_map, length, IfOk, IfErr, OnOk, IsUtf8}};
+ghost use Rattle.span_table_text.specs.{column_name, counts_fit, fit, Json.{json_fits, json_head, json_line, shown_table}, Printed.{IsPrint, KeyFits}, Tokens.{Appends, head_tokens, row_tokens}, declared.json_lines.JsonFault.TheVariants.TooGreat};
 
-use crate::json_rows::{column_names, with_json_row};
-use crate::lines::put_arg;
+use crate::members::{column_names, ended, put_counts, put_key, put_numbers, put_start};
 use crate::shown::{Shown, ShownRow};
-use span_event::{ArgValue, Unit};
-use span_report::json_text;
-use span_table::{Column, EntryCounts, Of, Table, TableCounts, counts_fit, fits};
+use json::Writer;
+use span_event::{Text, Unit};
+use span_table::{Column, Of, Row, Table, TableCounts, counts_fit, fits};
 use std::alloc::{AllocError, Global};
 
 /// Why rows were not printed for a machine.
@@ -66,7 +65,8 @@ fn text_of(
     table: &Table,
     rows: &[ShownRow],
 ) -> Result<Vec<u8>, AllocError>
-    requires { list_all (λ row. fit row.sums) rows.now ≡ true }
+    requires counts { counts_fit table.now.counts ≡ true }
+    requires rows { list_all (λ row. fit row.sums) rows.now ≡ true }
     ensures text { IfOk result (λ text. text.items
         ≡ json_head table.now.of unit table.now.columns (length rows.now) table.now.counts
         ++ flat_map (json_line table.now.of table.now.columns) rows.now) }
@@ -74,20 +74,17 @@ fn text_of(
     ensures few { OnOk result (length rows.now < 2 ^ 64) }
     ensures keys { OnOk result (All (λ row. KeyFits table.now.columns row.key) rows.now) }
 {
-    let mut out = String::new(alloc);
-    let of = table.kind();
-    put_json_head(
-        alloc,
-        &mut out,
+    let (of, columns) = (table.kind(), table.columns());
+    let names = column_names(alloc, columns)?;
+    let head = Head {
         of,
         unit,
-        table.columns(),
-        rows.len(),
-        table.counts(),
-    )?;
-    let columns = table.columns();
-    let names = column_names(alloc, columns)?;
-    let mut out = out.into_bytes();
+        columns,
+        names: &names,
+        rows: rows.len() as u64,
+        counts: table.counts(),
+    };
+    let mut out = with_json_head(Vec::new(alloc), &head)?;
     // Each line is printed by itself, since behind a long text the writer of JSON first fills much room with zeros.
     let mut line = Vec::new(alloc);
     for shown in rows {
@@ -98,180 +95,81 @@ fn text_of(
     Ok(out)
 }
 
-/// Appends the first line of a table of so many rows in a unit, by what it sums.
-#[tactic(auto, using(crate::proofs::JsonPieces::json_head_pieces, std::proofs::Common::append_assoc))]
-pub fn put_json_head(
-    alloc: Global,
-    out: &mut String,
+/// What the first line of a table says. The columns have these names.
+#[derive(Drop)]
+pub struct Head<'a> {
+    pub of: Of,
+    pub unit: Unit,
+    pub columns: &'a [Column],
+    pub names: &'a [Text],
+    pub rows: u64,
+    pub counts: TableCounts,
+}
+
+/// A text with the first line of a table behind it.
+#[tactic(auto, unfolding(crate::specs::Json::json_head))]
+pub fn with_json_head(out: Vec<u8>, head: &Head) -> Result<Vec<u8>, AllocError>
+    requires names { head.now.names.now ≡ map column_name head.now.columns.now }
+    requires counts { counts_fit head.now.counts ≡ true }
+    ensures line { IfOk result (λ new. new.items ≡ out.items ++ json_head head.now.of
+        head.now.unit head.now.columns.now head.now.rows head.now.counts) }
+    ensures utf8 { OnOk result (IsUtf8 (json_head head.now.of head.now.unit
+        head.now.columns.now head.now.rows head.now.counts)) }
+{
+    let mut writer = Writer::new(out);
+    put_head(&mut writer, head)?;
+    ended(writer)
+}
+
+#[tactic(auto, using(std::proofs::Common::append_assoc))]
+fn put_head(writer: &mut Writer, head: &Head) -> Result<(), AllocError>
+    requires names { head.now.names.now ≡ map column_name head.now.columns.now }
+    requires counts { counts_fit head.now.counts ≡ true }
+    ensures { Appends result writer.old writer.new (head_tokens head.now.of head.now.unit
+        head.now.columns.now head.now.rows head.now.counts) }
+{
+    put_start(writer, head.of, head.unit, head.columns, head.names)?;
+    writer.key("rows")?;
+    writer.u64(head.rows)?;
+    put_counts(writer, &head.counts)?;
+    writer.end_object()
+}
+
+/// A text with the line of a row behind it, of a table by columns of these names.
+#[tactic(auto, unfolding(crate::specs::Json::json_line))]
+pub fn with_json_row(
+    out: Vec<u8>,
     of: Of,
-    unit: Unit,
     columns: &[Column],
-    rows: usize,
-    counts: TableCounts,
-) -> Result<(), AllocError>
-    ensures { OnOk result (string_bytes out.new
-        ≡ string_bytes out.old ++ json_head of unit columns.now rows counts) }
+    names: &[Text],
+    row: &Row,
+) -> Result<Vec<u8>, AllocError>
+    requires names { names.now ≡ map column_name columns.now }
+    requires fits { fit row.now.sums ≡ true }
+    ensures line { IfOk result (λ new. new.items ≡ out.items ++ json_line of columns.now row.now) }
+    ensures utf8 { OnOk result (IsUtf8 (json_line of columns.now row.now)) }
+    ensures key_fits { OnOk result (KeyFits columns.now row.now.key) }
 {
-    put_start(out, of, unit)?;
-    put_columns(alloc, out, columns)?;
-    put_count(out, rows)?;
-    put_table_counts(out, counts)?;
-    put_end(out)
+    let mut writer = Writer::new(out);
+    put_row(&mut writer, of, columns, names, row)?;
+    ended(writer)
 }
 
-/// Appends the first line up to its columns.
-pub fn put_start(out: &mut String, of: Of, unit: Unit) -> Result<(), AllocError>
-    ensures { OnOk result (string_bytes out.new ≡ string_bytes out.old ++ start_text of unit) }
-{
-    out.push_str("{\"tracebook\":1")?;
-    put_of(out, of)?;
-    put_unit(out, unit)?;
-    out.push_str(",\"columns\":")
-}
-
-#[tactic(auto, unfolding(crate::specs::Json::of_member))]
-fn put_of(out: &mut String, of: Of) -> Result<(), AllocError>
-    ensures { OnOk result (string_bytes out.new ≡ string_bytes out.old ++ of_member of) }
-{
-    match of {
-        Of::Spans => Ok(()),
-        Of::Async => out.push_str(",\"of\":\"async\""),
-    }
-}
-
-#[tactic(auto, unfolding(crate::specs::Json::unit_member))]
-fn put_unit(out: &mut String, unit: Unit) -> Result<(), AllocError>
-    ensures { OnOk result (string_bytes out.new ≡ string_bytes out.old ++ unit_member unit) }
-{
-    match unit {
-        Unit::Microseconds => Ok(()),
-        Unit::Nanoseconds => out.push_str(",\"unit\":\"ns\""),
-    }
-}
-
-#[tactic(auto, unfolding(crate::specs::JsonPieces::count_text))]
-fn put_count(out: &mut String, rows: usize) -> Result<(), AllocError>
-    ensures { OnOk result (string_bytes out.new ≡ string_bytes out.old ++ count_text rows) }
-{
-    write!(out, ",\"rows\":{rows},")
-}
-
-/// Appends the end of a line.
-#[tactic(auto, unfolding(crate::specs::JsonPieces::end_text))]
-pub fn put_end(out: &mut String) -> Result<(), AllocError>
-    ensures { OnOk result (string_bytes out.new ≡ string_bytes out.old ++ end_text) }
-{
-    out.push_str("}\n")
-}
-
-/// Appends the names of columns.
 #[tactic(auto, using(std::proofs::Common::append_assoc))]
-pub fn put_columns(alloc: Global, out: &mut String, columns: &[Column]) -> Result<(), AllocError>
-    ensures { OnOk result (string_bytes out.new
-        ≡ string_bytes out.old ++ columns_json columns.now) }
-{
-    out.push('[')?;
-    put_names(alloc, out, columns)?;
-    out.push(']')
-}
-
-fn put_names(alloc: Global, out: &mut String, columns: &[Column]) -> Result<(), AllocError>
-    ensures { OnOk result (string_bytes out.new
-        ≡ string_bytes out.old ++ join_with_byte 44 (map column_json columns.now)) }
-{
-    let Some((first, later)) = columns.split_first() else {
-        return Ok(());
-    };
-    put_name(alloc, out, first)?;
-    for column in later {
-        out.push(',')?;
-        put_name(alloc, out, column)?;
-    }
-    Ok(())
-}
-
-fn put_name(alloc: Global, out: &mut String, column: &Column) -> Result<(), AllocError>
-    ensures { OnOk result (string_bytes out.new ≡ string_bytes out.old ++ column_json column.now) }
-{
-    let name = column.name(alloc)?;
-    out.push_str(json_text(alloc, &name)?.as_str())
-}
-
-/// Appends the members of counts.
-#[tactic(auto, using(std::proofs::Common::append_assoc))]
-pub fn put_table_counts(out: &mut String, counts: TableCounts) -> Result<(), AllocError>
-    ensures { OnOk result (string_bytes out.new ≡ string_bytes out.old ++ counts_text counts) }
-{
-    put_files(out, counts)?;
-    put_events(out, &counts.entries)?;
-    put_others(out, &counts.entries)
-}
-
-#[tactic(auto, unfolding(crate::specs::JsonPieces::files_text))]
-fn put_files(out: &mut String, counts: TableCounts) -> Result<(), AllocError>
-    ensures { OnOk result (string_bytes out.new ≡ string_bytes out.old ++ files_text counts) }
-{
-    let (runs, files, unread) = (counts.runs, counts.files, counts.unread);
-    write!(
-        out,
-        "\"runs\":{runs},\"files\":{files},\"unread\":{unread},"
-    )
-}
-
-#[tactic(auto, unfolding(crate::specs::JsonPieces::events_text))]
-fn put_events(out: &mut String, entries: &EntryCounts) -> Result<(), AllocError>
-    ensures { OnOk result (string_bytes out.new ≡ string_bytes out.old ++ events_text entries.now) }
-{
-    let (events, refused, skipped) = (entries.accepted, entries.refused, entries.skipped);
-    write!(
-        out,
-        "\"events\":{events},\"refused\":{refused},\"skipped\":{skipped},"
-    )
-}
-
-#[tactic(auto, unfolding(crate::specs::JsonPieces::others_text))]
-fn put_others(out: &mut String, entries: &EntryCounts) -> Result<(), AllocError>
-    ensures { OnOk result (string_bytes out.new ≡ string_bytes out.old ++ others_text entries.now) }
-{
-    let (queries, seals) = (entries.queries, entries.seals);
-    write!(out, "\"queries\":{queries},\"seals\":{seals}")
-}
-
-/// Appends each column with its value and a comma, if it has a value.
-pub fn put_members(
-    alloc: Global,
-    out: &mut String,
+fn put_row(
+    writer: &mut Writer,
+    of: Of,
     columns: &[Column],
-    values: &[Option<ArgValue>],
+    names: &[Text],
+    row: &Row,
 ) -> Result<(), AllocError>
-    ensures { OnOk result (string_bytes out.new
-        ≡ string_bytes out.old ++ members_text columns.now values.now) }
+    requires names { names.now ≡ map column_name columns.now }
+    requires fits { fit row.now.sums ≡ true }
+    ensures tokens { Appends result writer.old writer.new (row_tokens of columns.now row.now) }
+    ensures key_fits { OnOk result (KeyFits columns.now row.now.key) }
 {
-    let Some((column, columns)) = columns.split_first() else {
-        return Ok(());
-    };
-    let Some((value, values)) = values.split_first() else {
-        return Ok(());
-    };
-    put_member(alloc, out, column, value)?;
-    put_members(alloc, out, columns, values)
-}
-
-#[tactic(auto, using(std::proofs::Common::append_assoc))]
-fn put_member(
-    alloc: Global,
-    out: &mut String,
-    column: &Column,
-    value: &Option<ArgValue>,
-) -> Result<(), AllocError>
-    ensures { OnOk result (string_bytes out.new
-        ≡ string_bytes out.old ++ member_text column.now value.now) }
-{
-    let Some(value) = value else {
-        return Ok(());
-    };
-    put_name(alloc, out, column)?;
-    out.push(':')?;
-    put_arg(alloc, out, value, "{}")?;
-    out.push(',')
+    writer.begin_object()?;
+    put_key(writer, columns, names, row.key.values())?;
+    put_numbers(writer, of.numbers(), &row.sums)?;
+    writer.end_object()
 }

@@ -1,14 +1,15 @@
 //! The texts of a table: a ranking for people, and JSON Lines for machines.
 #![tactic(auto)]
 
-pub mod json_lines;
-mod json_rows;
+mod json_lines;
 pub mod laws;
 pub mod lines;
+pub mod members;
 mod rankings;
+pub mod rows;
 mod shown;
 
-pub use json_lines::{JsonFault, json_table, put_json_head};
-pub use json_rows::{column_names, with_json_row};
+pub use json_lines::{Head, JsonFault, json_table, with_json_head, with_json_row};
+pub use members::column_names;
 pub use rankings::ranking;
 pub use shown::Shown;

@@ -1,12 +1,13 @@
 use Rattle.std.specs.Prelude.{IsUtf8, flat_map}
-use Rattle.std.proofs.{Common.{rules, arith, ◌≡◌, ◌+◌, List, [], ◌∷◌, ◌++◌, length, take, sym, ap, subst, ◌∙◌, append_assoc, append-nil}, lemmas.{Grind.flat_map-append, List.{take_more, Elements.All-push}, Str.{IsUtf8-append, IsUtf8-string_bytes}}}
+use Rattle.std.proofs.{Common.{rules, arith, ◌≡◌, ◌+◌, List, [], ◌∷◌, ◌++◌, length, take, sym, ap, subst, ◌∙◌, append_assoc, append-nil}, lemmas.{Grind.flat_map-append, List.{take_more, Elements.All-push}, Str.{IsUtf8-append}}}
 use Rattle.span_table_text.specs.{Bytes, Column, Of, Row, Json.{json_head, json_line}, Printed.KeyFits}
 use Rattle.span_table_text.proofs.json_lines.text_of.Goals as goal
 
 pub loop-shown-init : goal.loop-shown-init
 loop-shown-init c = record {
   text = search rules;
-  utf8 = subst IsUtf8 (ap (λ bytes. bytes.items) (sym c.into_bytes-out.ensures.value)) (IsUtf8-string_bytes c.put_json_head.new.out);
+  utf8 = subst IsUtf8 (sym c.in_ok-out.ensures.line)
+      (subst (λ l. IsUtf8 (l ++ json_head c.kind-of.result c.args.unit c.columns-columns.result.now (length c.args.rows.now) c.counts.result)) (sym c.new.ensures.items) c.in_ok-out.ensures.utf8);
   keys = λ k d low. absurd (omega (arith, low));
 }
 
@@ -28,7 +29,7 @@ loop-shown-preserved c =
     (subst (λ (cs : List Column). c.in_ok-line.line.items ≡ c.clear.new.self.items ++ json_line c.kind-of.result cs row) c.columns-columns.ensures
     (subst (λ (r : Row). c.in_ok-line.line.items ≡ c.clear.new.self.items ++ json_line c.kind-of.result c.columns-columns.result.now r) c.shown.view_is c.in_ok-line.ensures.line)) in
     let line : c.in_ok-line.line.items ≡ f row = printed ∙ ap (λ l. l ++ f row) c.clear.ensures.items in
-    let appended = c.in_ok-extend_from_slice.ensures.items ∙ ap (λ l. c.loop-shown.out.items ++ l) (c.deref-in-loop-shown.ensures.value ∙ line) in
+    let appended = c.in_ok-extend_from_slice.ensures.items ∙ ap (λ l. c.loop-shown.out.items ++ l) (c.deref-in-loop-shown-2.ensures.value ∙ line) in
     let utf8 : IsUtf8 (f row) =
     subst (λ (o : Of). IsUtf8 (json_line o columns row)) c.kind-of.ensures
     (subst (λ (cs : List Column). IsUtf8 (json_line c.kind-of.result cs row)) c.columns-columns.ensures

@@ -1,0 +1,194 @@
+//! What the lines for other programs are made of, each of which is written by a writer of its own.
+ghost use Rattle.std.specs.Prelude.{◌≡◌, ◌<◌, ◌^◌, ◌++◌, ◌∷◌, [], true, map, IfOk, IsUtf8, OnOk, Some};
+ghost use Rattle.json.specs.Token.{key, string};
+ghost use Rattle.span_table_text.specs.{column_name, counts_fit, entry_counts_fit, fit, Printed.{IsOfArgument, KeyFits}, Tokens.{Appends, counts_tokens, entry_counts_tokens, key_tokens, number_tokens, of_tokens, start_tokens, sums_tokens, token_line, unit_tokens, value_tokens}};
+
+use json::Writer;
+use span_event::{ArgValue, Text, Unit};
+use span_table::{Column, EntryCounts, Number, Of, Sum, Sums, TableCounts};
+use std::alloc::{AllocError, Global};
+
+/// What these columns are called.
+pub fn column_names(alloc: Global, columns: &[Column]) -> Result<Vec<Text>, AllocError>
+    ensures { IfOk result (λ names. names.items ≡ map column_name columns.now) }
+{
+    let mut names = Vec::with_capacity(alloc, columns.len())?;
+    for column in columns {
+        names.push(column.name(alloc)?)?;
+    }
+    Ok(names)
+}
+
+/// What was written before the writer's tokens, and then these as a line.
+pub fn ended(writer: Writer) -> Result<Vec<u8>, AllocError>
+    ensures line { IfOk result (λ line. line.items ≡ writer.before ++ token_line writer.tokens) }
+    ensures utf8 { OnOk result (IsUtf8 (token_line writer.tokens)) }
+{
+    let mut out = writer.into_inner();
+    match out.push(b'\n') {
+        Ok(()) => Ok(out),
+        Err(_) => Err(AllocError),
+    }
+}
+
+/// Writes a first line up to its columns, which have these names.
+#[tactic(auto, using(std::proofs::Common::append_assoc))]
+pub fn put_start(
+    writer: &mut Writer,
+    of: Of,
+    unit: Unit,
+    columns: &[Column],
+    names: &[Text],
+) -> Result<(), AllocError>
+    requires { names.now ≡ map column_name columns.now }
+    ensures { Appends result writer.old writer.new (start_tokens of unit columns.now []) }
+{
+    writer.begin_object()?;
+    writer.key("tracebook")?;
+    writer.u64(1)?;
+    put_of(writer, of)?;
+    put_unit(writer, unit)?;
+    writer.key("columns")?;
+    writer.begin_array()?;
+    put_names(writer, names)?;
+    writer.end_array()
+}
+
+fn put_of(writer: &mut Writer, of: Of) -> Result<(), AllocError>
+    ensures { Appends result writer.old writer.new (of_tokens of) }
+{
+    match of {
+        Of::Spans => Ok(()),
+        Of::Async => {
+            writer.key("of")?;
+            writer.string("async")
+        }
+    }
+}
+
+fn put_unit(writer: &mut Writer, unit: Unit) -> Result<(), AllocError>
+    ensures { Appends result writer.old writer.new (unit_tokens unit) }
+{
+    match unit {
+        Unit::Microseconds => Ok(()),
+        Unit::Nanoseconds => {
+            writer.key("unit")?;
+            writer.string("ns")
+        }
+    }
+}
+
+fn put_names(writer: &mut Writer, names: &[Text]) -> Result<(), AllocError>
+    ensures { Appends result writer.old writer.new (map string names.now) }
+{
+    for name in names {
+        writer.string(name.as_str())?;
+    }
+    Ok(())
+}
+
+/// Writes counts that 64 bits hold.
+#[tactic(auto, using(std::proofs::Common::append_assoc))]
+pub fn put_counts(writer: &mut Writer, counts: &TableCounts) -> Result<(), AllocError>
+    requires { counts_fit counts.now ≡ true }
+    ensures { Appends result writer.old writer.new (counts_tokens counts.now) }
+{
+    put_count(writer, "runs", counts.runs)?;
+    put_count(writer, "files", counts.files)?;
+    put_count(writer, "unread", counts.unread)?;
+    put_entry_counts(writer, &counts.entries)
+}
+
+#[tactic(auto, using(std::proofs::Common::append_assoc))]
+fn put_entry_counts(writer: &mut Writer, entries: &EntryCounts) -> Result<(), AllocError>
+    requires { entry_counts_fit entries.now ≡ true }
+    ensures { Appends result writer.old writer.new (entry_counts_tokens entries.now) }
+{
+    put_count(writer, "events", entries.accepted)?;
+    put_count(writer, "refused", entries.refused)?;
+    put_count(writer, "skipped", entries.skipped)?;
+    put_count(writer, "queries", entries.queries)?;
+    put_count(writer, "seals", entries.seals)
+}
+
+/// Writes a count that 64 bits hold, under its name.
+pub fn put_count(writer: &mut Writer, name: &str, count: u128) -> Result<(), AllocError>
+    requires { count < 2 ^ 64 }
+    ensures { Appends result writer.old writer.new (number_tokens name.now count) }
+{
+    writer.key(name)?;
+    writer.u64(count as u64)
+}
+
+/// Writes these numbers of a row, each under its name.
+pub fn put_numbers(writer: &mut Writer, numbers: &[Number], sums: &Sums) -> Result<(), AllocError>
+    requires { fit sums.now ≡ true }
+    ensures { Appends result writer.old writer.new (sums_tokens numbers.now sums.now) }
+{
+    for number in numbers {
+        put_sum(writer, number.name(), &sums.by(*number))?;
+    }
+    Ok(())
+}
+
+/// Writes a sum that 64 bits hold, under its name.
+pub fn put_sum(writer: &mut Writer, name: &str, sum: &Sum) -> Result<(), AllocError>
+    requires { sum.now < 2 ^ 64 }
+    ensures { Appends result writer.old writer.new (number_tokens name.now sum.now) }
+{
+    let Some(number) = sum.as_u64() else {
+        return Ok(());
+    };
+    writer.key(name)?;
+    writer.u64(number)
+}
+
+/// Writes each column that has a value, with it, of columns of these names.
+pub fn put_key(
+    writer: &mut Writer,
+    columns: &[Column],
+    names: &[Text],
+    values: &[Option<ArgValue>],
+) -> Result<(), AllocError>
+    requires names { names.now ≡ map column_name columns.now }
+    ensures tokens { Appends result writer.old writer.new (key_tokens columns.now values.now) }
+    ensures fits { OnOk result (KeyFits columns.now values.now) }
+{
+    let Some((_, columns)) = columns.split_first() else {
+        return Ok(());
+    };
+    let Some((name, names)) = names.split_first() else {
+        return Ok(());
+    };
+    let Some((value, values)) = values.split_first() else {
+        return Ok(());
+    };
+    if let Some(value) = value {
+        put_member(writer, name, value)?;
+    }
+    put_key(writer, columns, names, values)
+}
+
+fn put_member(writer: &mut Writer, name: &Text, value: &ArgValue) -> Result<(), AllocError>
+    ensures tokens { Appends result writer.old writer.new (key name.now ∷ value_tokens value.now) }
+    ensures fits { OnOk result (IsOfArgument (Some value.now)) }
+{
+    writer.key(name.as_str())?;
+    put_value(writer, value)
+}
+
+fn put_value(writer: &mut Writer, value: &ArgValue) -> Result<(), AllocError>
+    ensures tokens { Appends result writer.old writer.new (value_tokens value.now) }
+    ensures fits { OnOk result (IsOfArgument (Some value.now)) }
+{
+    match value {
+        ArgValue::Nil => writer.null(),
+        ArgValue::Flag(flag) => writer.boolean(*flag),
+        ArgValue::Whole(number) => writer.i64(*number),
+        ArgValue::Words(text) => writer.string(text.as_str()),
+        ArgValue::Other => {
+            writer.begin_object()?;
+            writer.end_object()
+        }
+    }
+}
