@@ -3,7 +3,7 @@ use Rattle.std.specs.{List.{list_any, sum_by, Sorted.IsPermutation}, Prelude.{fi
 use Rattle.std.proofs.{Common.{◌≡◌, ℕ, ◌+◌, ◌-◌, ◌/◌, ◌≤◌, Bool, true, false, cond, ◌||◌, List, [], ◌∷◌, ◌++◌, length, get_or, map, refl, sym, ap, ◌∙◌, arith}, lemmas.List.{Sorted.{IsPermutation-append, IsPermutation-map, length_permutation, list_any-IsPermutation, sum_by-IsPermutation}, Sums.{length-filter, sum_by-cons}}}
 use Rattle.span_keyed_tracks.proofs.{Keyed.has_key, Sorting.ascending-permutation}
 use Rattle.span_table.proofs.{AddedTables.counts-same, Alike.{has_key-append, same_keys}}
-use Rattle.span_comparisons.specs.{first_line, unit_line, By, Row, sums_at, TableKey, key_cmp, shown_line, number_by, is_wanted, SpanTable, Comparison.compared_heads, Laws.{EachKeyIsCounted, RepetitionsHaveNoOrder, ValuesAreSorted}, Repeats.{overlap_line, side_counts, spread_columns, spread_line}, Spreads.{Spreads, all_keys, apart_spreads, has_same_spread, is_apart, is_overlap, keys_of, overlap_count, same_spread_count, shown_keys, shown_spreads, spread_of, spreads_at, values_at}}
+use Rattle.span_comparisons.specs.{first_line, unit_line, Number, Row, sums_at, TableKey, key_cmp, shown_line, number_by, is_wanted, SpanTable, Comparison.compared_heads, Laws.{EachKeyIsCounted, RepetitionsHaveNoOrder, ValuesAreSorted}, Repeats.{overlap_line, side_counts, spread_columns, spread_line}, Spreads.{Spreads, all_keys, apart_spreads, has_same_spread, is_apart, is_overlap, keys_of, overlap_count, same_spread_count, shown_keys, shown_spreads, spread_of, spreads_at, values_at}}
 use Rattle.span_comparisons.proofs.{Sorts.{sorted-ends, sorted-moved, sorted-non_decreasing, sorted-permutation}, SpreadOrder.{spread_order-total, spreads-distinct}}
 
 -- sorted values are these values, and don't fall
@@ -37,7 +37,7 @@ side_counts-moved tables moved is =
     counts-same (side_counts tables) (side_counts moved)
     (λ f adds. adds (map counts tables) ∙ sym (sum_by-IsPermutation f (map counts tables) (map counts moved) (IsPermutation-map counts tables moved is)) ∙ sym (adds (map counts moved)))
 
-side-moved : (by : By) (tables moved : List SpanTable) → IsPermutation tables moved → (key : TableKey) → spread_of (values_at by tables key) ≡ spread_of (values_at by moved key)
+side-moved : (by : Number) (tables moved : List SpanTable) → IsPermutation tables moved → (key : TableKey) → spread_of (values_at by tables key) ≡ spread_of (values_at by moved key)
 side-moved by tables moved is key =
     spread_of-moved (values_at by tables key) (values_at by moved key) (IsPermutation-map (λ (table : SpanTable). number_by by (sums_at table.rows key)) tables moved is)
 

@@ -1,20 +1,20 @@
 -- What is found of the keys of two tables is what is compared.
 use Rattle.std.specs.{Cmp.IsTotalOrder, Option.option_map, Prelude.{filter, is_none, unwrap_or}}
-use Rattle.std.proofs.{Common.{[], ◌≡◌, ◌≤◌, ◌<◌, ℕ, ◌+◌, true, List, Option, Some, None, get_or, length, refl, sym, ap, ◌∙◌, arith}, lemmas.{Cmp.{back_total, nat_cmp_total, on_total, then_total}, List.{Filters.length-filter_both, Sums.{count_by-le-length, length-filter}}}}
+use Rattle.std.proofs.{Common.{[], ◌∷◌, ◌≡◌, ◌≤◌, ◌<◌, ℕ, ◌+◌, true, List, Option, Some, None, get_or, length, refl, sym, ap, ◌∙◌, arith}, lemmas.{Cmp.{back_total, nat_cmp_total, on_total, then_total}, List.{Filters.length-filter_both, Sums.{count_by-le-length, length-filter}}}}
 use Rattle.span_table.proofs.Searched.{sums_at-found, sums_at-own}
-use Rattle.span_comparisons.specs.{Of, Spans, Async, By, SelfTime, Total, Closed, Open, Row, found_at, sums_at, key_cmp_total, Wanted, is_wanted, RowsRise, sums_together, Changed.{Classifies, from_other, is_new}, Changes.{Change, by_gap, change_order, compared_at, gap_by, is_changed, is_same, same_count, shown_changes, usual_order}}
+use Rattle.span_comparisons.specs.{Of, Number, leading_numbers, Row, found_at, sums_at, key_cmp_total, Wanted, is_wanted, RowsRise, sums_together, Changed.{Classifies, from_other, is_new}, Changes.{Change, by_gap, change_order, compared_at, gap_by, gaps_order, is_changed, is_same, same_count, shown_changes}}
 
-by_gap-total : (by : By) → IsTotalOrder (by_gap by)
+by_gap-total : (by : Number) → IsTotalOrder (by_gap by)
 by_gap-total by = on_total (gap_by by) (back_total nat_cmp_total)
 
-usual_order-total : (of : Of) → IsTotalOrder (usual_order of)
-usual_order-total Spans = then_total (by_gap-total SelfTime) (then_total (by_gap-total Total) (on_total (λ (c : Change). c.key) key_cmp_total))
-usual_order-total Async =
-    then_total (by_gap-total Total) (then_total (by_gap-total Open) (then_total (by_gap-total Closed) (on_total (λ (c : Change). c.key) key_cmp_total)))
+-- the order by gaps is total
+gaps_order-total : (numbers : List Number) → IsTotalOrder (gaps_order numbers)
+gaps_order-total [] = on_total (λ (c : Change). c.key) key_cmp_total
+gaps_order-total (number ∷ numbers) = then_total (by_gap-total number) (gaps_order-total numbers)
 
--- the order of changes is total
-pub change_order-total : (of : Of) (by : By) → IsTotalOrder (change_order of by)
-change_order-total of by = then_total (by_gap-total by) (usual_order-total of)
+-- and so is that of changes
+pub change_order-total : (of : Of) (by : Number) → IsTotalOrder (change_order of by)
+change_order-total of by = gaps_order-total (by ∷ leading_numbers of)
 
 -- no more keys are the same than there are
 pub Classifies-few : (wanted : Wanted) (keys found : List Change) (unchanged count : ℕ) → Classifies wanted keys found unchanged count → unchanged ≤ count

@@ -1,9 +1,8 @@
 pub mod AnyOrder
 pub mod Comparing
+pub mod Differences
 pub mod Itself
-pub mod JsonPieces
 pub mod Permuted
-pub mod Pieces
 pub mod RepeatedKeys
 pub mod Sorts
 pub mod SpreadOrder

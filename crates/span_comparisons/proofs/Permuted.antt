@@ -6,7 +6,7 @@ use Rattle.span_journal.proofs.{Selected.filter-ascending, Sorted.{AllByRecursio
 use Rattle.span_ledger.proofs.Sorting.{ascending-permutation}
 use Rattle.span_table.proofs.Alike.{has_key-append, same_keys}
 use Rattle.span_table_text.proofs.Ranked.{filter-sorted}
-use Rattle.span_comparisons.specs.{ascending, Of, Spans, Async, By, SelfTime, Total, Closed, Open, Row, found_at, key_cmp_total, key_cmp-same, TableKey, key_cmp, Wanted, is_wanted, RowsRise, Changed.{base_keys, is_new, new_keys}, Changes.{Change, by_gap, change_order, compared, compared_at, is_changed, is_same, same_count, shown_changes, usual_order}}
+use Rattle.span_comparisons.specs.{ascending, Of, Number, leading_numbers, Row, found_at, key_cmp_total, key_cmp-same, TableKey, key_cmp, Wanted, is_wanted, RowsRise, Changed.{base_keys, is_new, new_keys}, Changes.{Change, by_gap, change_order, compared, compared_at, is_changed, is_same, same_count, shown_changes, gaps_order}}
 
 abbrev pub key_of : Row → TableKey
 key_of row = row.key
@@ -198,21 +198,21 @@ apart Less q differ = refl
 apart Greater q differ = refl
 apart Equal q differ = differ
 
-usual_order-apart : (of : Of) (x y : Change) → key_cmp x.key y.key ≡ Less → is_eq (usual_order of x y) ≡ false
-usual_order-apart Spans x y below = apart (by_gap SelfTime x y) _ (apart (by_gap Total x y) (key_cmp x.key y.key) (ap is_eq below))
-usual_order-apart Async x y below = apart (by_gap Total x y) _ (apart (by_gap Open x y) _ (apart (by_gap Closed x y) (key_cmp x.key y.key) (ap is_eq below)))
+gaps_order-apart : (numbers : List Number) (x y : Change) → key_cmp x.key y.key ≡ Less → is_eq (gaps_order numbers x y) ≡ false
+gaps_order-apart [] x y below = ap is_eq below
+gaps_order-apart (number ∷ numbers) x y below = apart (by_gap number x y) (gaps_order numbers x y) (gaps_order-apart numbers x y below)
 
-IsDistinct-sorted : (of : Of) (by : By) (changes : List Change) → IsStrictlySortedBy (λ (a b : Change). key_cmp a.key b.key) changes → IsDistinct (eq_by_cmp (change_order of by)) changes
+IsDistinct-sorted : (of : Of) (by : Number) (changes : List Change) → IsStrictlySortedBy (λ (a b : Change). key_cmp a.key b.key) changes → IsDistinct (eq_by_cmp (change_order of by)) changes
 unfolding IsStrictlySortedBy IsDistinct
 IsDistinct-sorted of by [] sorted = tt
 IsDistinct-sorted of by (x ∷ xs) sorted = (
   AllByRecursion-map (λ (y : Change). key_cmp x.key y.key ≡ Less) (λ (y : Change). eq_by_cmp (change_order of by) x y ≡ false)
-      (λ (y : Change) (below : key_cmp x.key y.key ≡ Less). apart (by_gap by x y) (usual_order of x y) (usual_order-apart of x y below)) xs sorted.0,
+      (λ (y : Change) (below : key_cmp x.key y.key ≡ Less). gaps_order-apart (by ∷ leading_numbers of) x y below) xs sorted.0,
   IsDistinct-sorted of by xs sorted.1,
 )
 
 -- no two changes stand at one place
-pub changes-distinct : (of : Of) (by : By) (wanted : Wanted) (base other : List Row) → IsDistinct (eq_by_cmp (change_order of by)) (filter is_changed (shown_changes wanted (compared base other)))
+pub changes-distinct : (of : Of) (by : Number) (wanted : Wanted) (base other : List Row) → IsDistinct (eq_by_cmp (change_order of by)) (filter is_changed (shown_changes wanted (compared base other)))
 changes-distinct of by wanted base other =
     let by_key = λ (a b : Change). key_cmp a.key b.key in
     let keys = map key_of (base ++ other) in

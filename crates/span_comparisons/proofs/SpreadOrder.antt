@@ -3,7 +3,7 @@ use Rattle.std.specs.{Cmp.IsTotalOrder, List.{IsDistinct, Sorted.IsStrictlySorte
 use Rattle.std.proofs.{Common.{◌≡◌, ℕ, false, List, [], ◌∷◌, ◌++◌, map, refl, sym, ap, subst, ◌∙◌}, lemmas.Cmp.{back_total, nat_cmp_total, on_total, then_total}}
 use Rattle.span_journal.proofs.Sorted.{AllByRecursion-map, ascending-sorted, map-map, map-sorted}
 use Rattle.span_table_text.proofs.Ranked.{filter-sorted}
-use Rattle.span_comparisons.specs.{By, key_cmp_total, TableKey, key_cmp, Wanted, is_wanted, SpanTable, Sides.ClassifiesSpreads, Spreads.{Spreads, all_keys, is_apart, keys_of, median_gap, shown_keys, shown_spreads, spread_order, spreads_at}}
+use Rattle.span_comparisons.specs.{Number, key_cmp_total, TableKey, key_cmp, Wanted, is_wanted, SpanTable, Sides.ClassifiesSpreads, Spreads.{Spreads, all_keys, is_apart, keys_of, median_gap, shown_keys, shown_spreads, spread_order, spreads_at}}
 use Rattle.span_comparisons.proofs.Permuted.{apart}
 
 -- the order of spreads is total
@@ -20,7 +20,7 @@ IsDistinct-rising (x ∷ xs) rise = (
 )
 
 -- no two keys stand at one place
-pub spreads-distinct : (by : By) (wanted : Wanted) (base other : List SpanTable) → IsDistinct (eq_by_cmp spread_order) (filter is_apart (shown_spreads by wanted base other))
+pub spreads-distinct : (by : Number) (wanted : Wanted) (base other : List SpanTable) → IsDistinct (eq_by_cmp spread_order) (filter is_apart (shown_spreads by wanted base other))
 spreads-distinct by wanted base other =
     let by_key = λ (a b : Spreads). key_cmp a.key b.key in
     let tables = base ++ other in
@@ -30,7 +30,7 @@ spreads-distinct by wanted base other =
     (filter-sorted key_cmp (is_wanted wanted) (all_keys tables) (ascending-sorted key_cmp_total (keys_of tables)))))
 
 -- what classifies the keys that are shown, whatever stands for them, classifies these with their spreads
-pub ClassifiesSpreads-shown : {A : Type 0} (at : A → TableKey) (by : By) (wanted : Wanted) (base other : List SpanTable) (keys : List A) (found : List Spreads) (overlap same : ℕ) →
+pub ClassifiesSpreads-shown : {A : Type 0} (at : A → TableKey) (by : Number) (wanted : Wanted) (base other : List SpanTable) (keys : List A) (found : List Spreads) (overlap same : ℕ) →
     map at keys ≡ shown_keys wanted (base ++ other) → ClassifiesSpreads (map (λ key. spreads_at by base other (at key)) keys) found overlap same →
     ClassifiesSpreads (shown_spreads by wanted base other) found overlap same
 ClassifiesSpreads-shown at by wanted base other keys found overlap same shown classifies =

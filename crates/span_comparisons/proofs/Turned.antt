@@ -4,7 +4,7 @@ use Rattle.std.proofs.{Common.{◌≡◌, ℕ, ◌-◌, ◌&&◌, List, [], ◌�
 use Rattle.span_self_time.proofs.Mapped.{filter-map}
 use Rattle.span_keyed_tracks.proofs.SameKeys.{ascending-members}
 use Rattle.span_journal.proofs.Sorted.{map-map}
-use Rattle.span_comparisons.specs.{ascending, Of, Spans, Async, By, SelfTime, Total, Closed, Open, Row, gap, number_by, key_cmp_total, key_cmp-same, TableKey, key_cmp, Wanted, is_wanted, Changes.{Change, by_gap, change_order, changes_of, compared, compared_at, gap_by, is_changed, is_same, same_count, shown_changes, usual_order}, Laws.{ComparisonsTurn, DifferencesTurn, turned}}
+use Rattle.span_comparisons.specs.{ascending, Of, Number, leading_numbers, Row, gap, number_by, key_cmp_total, key_cmp-same, TableKey, key_cmp, Wanted, is_wanted, Changes.{Change, by_gap, change_order, changes_of, compared, compared_at, gap_by, is_changed, is_same, same_count, shown_changes, gaps_order}, Laws.{ComparisonsTurn, DifferencesTurn, turned}}
 use Rattle.span_comparisons.proofs.{Comparing.length-changes, Permuted.key_of}
 
 keys-turned : (base other : List Row) → ascending key_cmp (map key_of (other ++ base)) ≡ ascending key_cmp (map key_of (base ++ other))
@@ -35,22 +35,21 @@ is_same-turned c =
 filter-turned : (changes : List Change) → filter is_changed (map turned changes) ≡ map turned (filter is_changed changes)
 filter-turned changes = filter-map is_changed turned changes ∙ (λ i. map turned (filter (λ (c : Change). not (is_same-turned c i)) changes))
 
-gap_by-turned : (by : By) (c : Change) → gap_by by (turned c) ≡ gap_by by c
+gap_by-turned : (by : Number) (c : Change) → gap_by by (turned c) ≡ gap_by by c
 gap_by-turned by c = turns (number_by by c.both.base) (number_by by c.both.other)
   where
     turns : (m n : ℕ) → gap n m ≡ gap m n
     turns m n = add_comm (n - m) (m - n)
 
-by_gap-turned : (by : By) (a b : Change) → by_gap by (turned a) (turned b) ≡ by_gap by a b
+by_gap-turned : (by : Number) (a b : Change) → by_gap by (turned a) (turned b) ≡ by_gap by a b
 by_gap-turned by a b = ap₂ nat_cmp (gap_by-turned by b) (gap_by-turned by a)
 
-usual_order-turned : (of : Of) (a b : Change) → usual_order of (turned a) (turned b) ≡ usual_order of a b
-usual_order-turned Spans a b = λ i. ordering_then (by_gap-turned SelfTime a b i) (ordering_then (by_gap-turned Total a b i) (key_cmp a.key b.key))
-usual_order-turned Async a b =
-    λ i. ordering_then (by_gap-turned Total a b i) (ordering_then (by_gap-turned Open a b i) (ordering_then (by_gap-turned Closed a b i) (key_cmp a.key b.key)))
+gaps_order-turned : (numbers : List Number) (a b : Change) → gaps_order numbers (turned a) (turned b) ≡ gaps_order numbers a b
+gaps_order-turned [] a b = refl
+gaps_order-turned (number ∷ numbers) a b = λ i. ordering_then (by_gap-turned number a b i) (gaps_order-turned numbers a b i)
 
-change_order-turned : (of : Of) (by : By) (a b : Change) → change_order of by (turned a) (turned b) ≡ change_order of by a b
-change_order-turned of by a b = λ i. ordering_then (by_gap-turned by a b i) (usual_order-turned of a b i)
+change_order-turned : (of : Of) (by : Number) (a b : Change) → change_order of by (turned a) (turned b) ≡ change_order of by a b
+change_order-turned of by a b = gaps_order-turned (by ∷ leading_numbers of) a b
 
 -- what a function that an order does not see makes of rows in order
 module _ {A B : Type 0} (R : A → A → Ordering) (S : B → B → Ordering) (f : A → B) (same : (x y : A) → S (f x) (f y) ≡ R x y) where
@@ -72,7 +71,7 @@ module _ {A B : Type 0} (R : A → A → Ordering) (S : B → B → Ordering) (f
   ascending-map : (xs : List A) → ascending S (map f xs) ≡ map f (ascending R xs)
   ascending-map xs = fold-map [] xs
 
-changes_of-turned : (of : Of) (by : By) (changes : List Change) → changes_of of by (map turned changes) ≡ map turned (changes_of of by changes)
+changes_of-turned : (of : Of) (by : Number) (changes : List Change) → changes_of of by (map turned changes) ≡ map turned (changes_of of by changes)
 changes_of-turned of by changes =
     ap (ascending (change_order of by)) (filter-turned changes) ∙ ascending-map (change_order of by) (change_order of by) turned (change_order-turned of by) (filter is_changed changes)
 

@@ -1,6 +1,6 @@
 -- What changed between two tables of the same columns.
-use Rattle.std.specs.{Ordering.{nat_cmp, ordering_then}, Prelude.{ℕ, ◌+◌, ◌++◌, Bool, not, List, map, filter, count_by}, declared.cmp.Ordering.Ordering}
-use Rattle.span_comparisons.specs.{ascending, Of, Spans, Async, By, SelfTime, Total, Closed, Open, Row, TableKey, key_cmp, gap, number_by, same_sums, Wanted, is_wanted, sums_at, declared.changes.Both.Both}
+use Rattle.std.specs.{Ordering.{nat_cmp, ordering_then}, Prelude.{ℕ, ◌++◌, Bool, not, List, [], ◌∷◌, map, filter, count_by}, declared.cmp.Ordering.Ordering}
+use Rattle.span_comparisons.specs.{ascending, Of, Number, Row, TableKey, key_cmp, gap, leading_numbers, number_by, same_sums, Wanted, is_wanted, sums_at, declared.changes.Both.Both}
 
 -- a key with its sums in both
 pub record Change : Type 0 where
@@ -26,25 +26,24 @@ abbrev pub is_changed : Change → Bool
 is_changed change = not (is_same change.both)
 
 -- how far a number lies apart in both
-abbrev pub gap_by : By → Change → ℕ
+abbrev pub gap_by : Number → Change → ℕ
 gap_by by change = gap (number_by by change.both.base) (number_by by change.both.other)
 
 -- the greater gap first
-abbrev pub by_gap : By → Change → Change → Ordering
+abbrev pub by_gap : Number → Change → Change → Ordering
 by_gap by a b = nat_cmp (gap_by by b) (gap_by by a)
 
--- of spans by the gap of the self times, and then of the totals; of asynchronous spans by that of the totals, then of how many are
--- open, and then of how many are closed; and then by key
-abbrev pub usual_order : Of → Change → Change → Ordering
-usual_order Spans a b = ordering_then (by_gap SelfTime a b) (ordering_then (by_gap Total a b) (key_cmp a.key b.key))
-usual_order Async a b = ordering_then (by_gap Total a b) (ordering_then (by_gap Open a b) (ordering_then (by_gap Closed a b) (key_cmp a.key b.key)))
+-- by the gaps of these numbers, one after another, and then by key
+abbrev pub gaps_order : List Number → Change → Change → Ordering
+gaps_order [] a b = key_cmp a.key b.key
+gaps_order (number ∷ numbers) a b = ordering_then (by_gap number a b) (gaps_order numbers a b)
 
--- by the gap of this number, and then as usual
-abbrev pub change_order : Of → By → Change → Change → Ordering
-change_order of by a b = ordering_then (by_gap by a b) (usual_order of a b)
+-- by the gap of this number, and then of those that lead
+abbrev pub change_order : Of → Number → Change → Change → Ordering
+change_order of by a b = gaps_order (by ∷ leading_numbers of) a b
 
 -- those of which some number differs, in this order
-abbrev pub changes_of : Of → By → List Change → List Change
+abbrev pub changes_of : Of → Number → List Change → List Change
 changes_of of by changes = ascending (change_order of by) (filter is_changed changes)
 
 -- how many have the same numbers in both

@@ -1,6 +1,6 @@
 -- The text of a comparison.
-use Rattle.std.specs.{Ordering.{match_ordering, nat_cmp}, Prelude.{ℕ, ◌-◌, ◌==◌, if◌then◌else◌, Bool, true, List, [], ◌∷◌, ◌++◌, flat_map, length, map, codes, decimal}}
-use Rattle.span_comparisons.specs.{Bytes, Unit, CountRow, count_line, first_line, line_of, right_in, seals_line, unit_line, Column, TableCounts, Of, Spans, Async, By, column_title, runs_line, shown_line, value_text, Wanted, SpanTable, Changes.{Change, changes_of, compared, same_count, shown_changes}}
+use Rattle.std.specs.{Ordering.{match_ordering, nat_cmp}, Prelude.{ℕ, ◌-◌, ◌==◌, if◌then◌else◌, Bool, true, List, [], ◌∷◌, ◌++◌, flat_map, length, codes, decimal}}
+use Rattle.span_comparisons.specs.{Bytes, Unit, CountRow, count_line, first_line, line_of, seals_line, unit_line, Column, TableCounts, Of, Number, compared_numbers, is_time, number_by, number_name, runs_line, shown_line, Cell, number_cell, row_line, titles_line, Wanted, SpanTable, Changes.{Change, changes_of, compared, same_count, shown_changes}, declared.changes.Both.Both}
 
 -- the head of the base but for its first line: each line has the word before it
 abbrev pub base_lines : CountRow → Bytes
@@ -19,35 +19,37 @@ unfoldable pub compared_heads : Bool → TableCounts → TableCounts → Bytes
 compared_heads says_runs base other =
     base_lines base.entries ++ (base_runs_line says_runs base ++ (other_lines other.entries ++ runs_line says_runs other))
 
+-- the titles of a number: how it differs, if it is a time, and what both sides have
+abbrev pub changed_titles : Number → List Cell
+changed_titles number =
+    (if is_time number then number_cell number (codes "d" ++ number_name number) ∷ [] else [])
+    ++ number_cell number (number_name number ++ codes "0") ∷ number_cell number (number_name number ++ codes "1") ∷ []
+
 -- the names of the columns
-unfoldable pub change_columns : Of → List Column → Bytes
-change_columns Spans columns = line_of (right_in 16 (codes "dself") ∷ right_in 16 (codes "self0") ∷ right_in 16 (codes "self1") ∷ right_in 16 (codes "dtotal") ∷ right_in 16 (codes "total0") ∷ right_in 16 (codes "total1") ∷
-    right_in 8 (codes "count0") ∷ right_in 8 (codes "count1") ∷ map column_title columns)
-change_columns Async columns = line_of (right_in 16 (codes "dtotal") ∷ right_in 16 (codes "total0") ∷ right_in 16 (codes "total1") ∷
-    right_in 8 (codes "closed0") ∷ right_in 8 (codes "closed1") ∷ right_in 8 (codes "open0") ∷ right_in 8 (codes "open1") ∷ map column_title columns)
+abbrev pub change_columns : Of → List Column → Bytes
+change_columns of columns = titles_line (flat_map changed_titles (compared_numbers of)) columns
 
 -- how much more the other has, with `+`, or how much less, with `-`
 abbrev pub difference_text : ℕ → ℕ → Bytes
 difference_text base other = match_ordering (nat_cmp base other) (codes "+" ++ decimal (other - base)) (codes "0") (codes "-" ++ decimal (base - other))
 
+-- a number on both sides, after how it differs, if it is a time
+abbrev pub changed_cells : Both → Number → List Cell
+changed_cells both number =
+    let base = number_by number both.base in let other = number_by number both.other in
+    (if is_time number then number_cell number (difference_text base other) ∷ [] else [])
+    ++ number_cell number (decimal base) ∷ number_cell number (decimal other) ∷ []
+
 -- the line of a change
-unfoldable pub change_line : Of → Change → Bytes
-change_line Spans change =
-    let base = change.both.base in let other = change.both.other in
-    line_of (right_in 16 (difference_text base.self_time other.self_time) ∷ right_in 16 (decimal base.self_time) ∷ right_in 16 (decimal other.self_time) ∷
-    right_in 16 (difference_text base.total other.total) ∷ right_in 16 (decimal base.total) ∷ right_in 16 (decimal other.total) ∷
-    right_in 8 (decimal base.count) ∷ right_in 8 (decimal other.count) ∷ map value_text change.key)
-change_line Async change =
-    let base = change.both.base in let other = change.both.other in
-    line_of (right_in 16 (difference_text base.total other.total) ∷ right_in 16 (decimal base.total) ∷ right_in 16 (decimal other.total) ∷
-    right_in 8 (decimal base.count) ∷ right_in 8 (decimal other.count) ∷ right_in 8 (decimal base.unclosed) ∷ right_in 8 (decimal other.unclosed) ∷ map value_text change.key)
+abbrev pub change_line : Of → Change → Bytes
+change_line of change = row_line (flat_map (changed_cells change.both) (compared_numbers of)) change.key
 
 -- how many keys did not change
 unfoldable pub same_line : ℕ → Bytes
 same_line count = line_of (codes "same" ∷ decimal count ∷ [])
 
 -- the unit where it isn't microseconds, both heads, how many keys are shown, the names of the columns, a line for each change, and then how many keys did not change
-abbrev pub comparison_of : Unit → By → Wanted → Bool → SpanTable → SpanTable → Bytes
+abbrev pub comparison_of : Unit → Number → Wanted → Bool → SpanTable → SpanTable → Bytes
 comparison_of unit by wanted says_runs base other =
     let all = compared base.rows other.rows in
     let shown = shown_changes wanted all in

@@ -1,44 +1,53 @@
 -- What differs between two tables for machines: JSON Lines.
-use Rattle.std.specs.{List.list_all, Prelude.{ℕ, Bool, ◌&&◌, List, [], ◌∷◌, ◌++◌, flat_map, length, codes}}
-use Rattle.span_comparisons.specs.{Bytes, Unit, Column, Of, Spans, Async, TableCounts, fit, usual_by, Wanted, SpanTable, counts_fit, columns_json, counts_members, member_of, number_member, object_of, value_members, version_member, Changes.{Change, changes_of, compared, same_count, shown_changes}, declared.changes.Both.Both}
+use Rattle.std.specs.{List.list_all, Prelude.{ℕ, ◌^◌, nat_lt, Bool, ◌&&◌, List, [], ◌∷◌, ◌++◌, flat_map, length, codes}}
+use Rattle.json.specs.Token.{Token, begin_object, end_object, key}
+use Rattle.span_comparisons.specs.{Bytes, Unit, Column, Number, Of, TableCounts, fit, number_by, number_name, numbers_of, usual_by, Wanted, SpanTable, counts_fit, counts_tokens, key_tokens, number_tokens, start_tokens, token_line, Changes.{Change, changes_of, compared, same_count, shown_changes}, declared.changes.Both.Both}
 
--- the sums of both sides
-abbrev pub both_members : Of → Both → List Bytes
-both_members Spans both =
-    number_member (codes "count0") both.base.count ∷ number_member (codes "count1") both.other.count ∷
-    number_member (codes "total0") both.base.total ∷ number_member (codes "total1") both.other.total ∷
-    number_member (codes "self0") both.base.self_time ∷ number_member (codes "self1") both.other.self_time ∷ []
-both_members Async both =
-    number_member (codes "closed0") both.base.count ∷ number_member (codes "closed1") both.other.count ∷
-    number_member (codes "total0") both.base.total ∷ number_member (codes "total1") both.other.total ∷
-    number_member (codes "open0") both.base.unclosed ∷ number_member (codes "open1") both.other.unclosed ∷
-    number_member (codes "points0") both.base.points ∷ number_member (codes "points1") both.other.points ∷ []
+-- these numbers of both sides
+abbrev pub both_tokens : List Number → Both → List Token
+both_tokens numbers both =
+    flat_map (λ n. number_tokens (number_name n ++ codes "0") (number_by n both.base) ++ number_tokens (number_name n ++ codes "1") (number_by n both.other)) numbers
 
 -- the line of a change
 unfoldable pub json_change : Of → List Column → Change → Bytes
-json_change of columns change = object_of (value_members columns change.key ++ both_members of change.both) ++ 10 ∷ []
+json_change of columns change = token_line (begin_object ∷ (key_tokens columns change.key ++ (both_tokens (numbers_of of) change.both ++ end_object ∷ [])))
+
+-- the counts of a side
+abbrev pub side_tokens : Bytes → TableCounts → List Token
+side_tokens name counts = key name ∷ begin_object ∷ (counts_tokens counts ++ end_object ∷ [])
+
+-- how many rows there are, how many keys are the same, and the counts of both sides
+abbrev pub both_counts_tokens : ℕ → ℕ → TableCounts → TableCounts → List Token
+both_counts_tokens rows same base other =
+    number_tokens (codes "rows") rows ++ (number_tokens (codes "same") same ++ (side_tokens (codes "base") base ++ side_tokens (codes "other") other))
 
 -- the first line of a comparison
 unfoldable pub json_heads : Of → Unit → List Column → ℕ → ℕ → TableCounts → TableCounts → Bytes
-json_heads of unit columns rows same base other =
-    object_of (version_member of unit ∷ member_of (codes "columns") (columns_json columns) ∷ number_member (codes "rows") rows ∷ number_member (codes "same") same ∷
-    member_of (codes "base") (object_of (counts_members base)) ∷ member_of (codes "other") (object_of (counts_members other)) ∷ []) ++ 10 ∷ []
+json_heads of unit columns rows same base other = token_line (start_tokens of unit columns (both_counts_tokens rows same base other ++ end_object ∷ []))
 
 -- the changes that are shown, in the order of a comparison where no number is named
 abbrev pub json_changes_of : Wanted → SpanTable → SpanTable → List Change
 json_changes_of wanted base other = changes_of other.of (usual_by other.of) (shown_changes wanted (compared base.rows other.rows))
 
+-- how many keys that are shown have the same numbers in both
+abbrev pub json_same_count : Wanted → SpanTable → SpanTable → ℕ
+json_same_count wanted base other = same_count (shown_changes wanted (compared base.rows other.rows))
+
 -- the first line, and then one for each of these
 abbrev pub json_comparison_of : Unit → Wanted → SpanTable → SpanTable → Bytes
 json_comparison_of unit wanted base other =
     let changes = json_changes_of wanted base other in
-    json_heads other.of unit other.columns (length changes) (same_count (shown_changes wanted (compared base.rows other.rows))) base.counts other.counts
+    json_heads other.of unit other.columns (length changes) (json_same_count wanted base other) base.counts other.counts
     ++ flat_map (json_change other.of other.columns) changes
 
 -- both sums have 64 bits
 abbrev pub both_fit : Change → Bool
 both_fit change = fit change.both.base && fit change.both.other
 
--- the counts of both tables, and all sums of the changes that are shown, have 64 bits
+-- the numbers of a first line have 64 bits
+abbrev pub heads_fit : ℕ → TableCounts → TableCounts → Bool
+heads_fit same base other = nat_lt same (2 ^ 64) && (counts_fit base && counts_fit other)
+
+-- they do, and so do all sums of the changes that are shown
 abbrev pub json_changes_fit : Wanted → SpanTable → SpanTable → Bool
-json_changes_fit wanted base other = (counts_fit base.counts && counts_fit other.counts) && list_all both_fit (json_changes_of wanted base other)
+json_changes_fit wanted base other = heads_fit (json_same_count wanted base other) base.counts other.counts && list_all both_fit (json_changes_of wanted base other)

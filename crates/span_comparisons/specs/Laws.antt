@@ -1,9 +1,9 @@
 -- The facts that hold of every comparison and every text of repeated runs.
 use Rattle.std.specs.{List.Sorted.{IsNonDecreasing, IsPermutation}, Prelude.{◌≡◌, ℕ, Bool, ◌+◌, ◌-◌, ◌<◌, List, ◌++◌, codes, decimal, length, map}}
-use Rattle.span_comparisons.specs.{Unit, first_line, unit_line, Column, Of, By, Row, shown_line, Wanted, shown_rows, RowsRise, SpanTable, Changes.{Change, changes_of, compared, same_count, shown_changes}, Comparison.{change_columns, compared_heads, comparison_of, difference_text, same_line}, Repeats.repeats_of, Spreads.{apart_spreads, overlap_count, same_spread_count, shown_spreads, sorted}}
+use Rattle.span_comparisons.specs.{Unit, first_line, unit_line, Column, Of, Number, Row, shown_line, Wanted, shown_rows, RowsRise, SpanTable, Changes.{Change, changes_of, compared, same_count, shown_changes}, Comparison.{change_columns, compared_heads, comparison_of, difference_text, same_line}, Repeats.repeats_of, Spreads.{apart_spreads, overlap_count, same_spread_count, shown_spreads, sorted}}
 
 -- between a table and itself nothing changed: below the names of the columns is how many keys are shown
-abbrev pub ComparesWithItself : Unit → By → Wanted → Bool → SpanTable → Type 0
+abbrev pub ComparesWithItself : Unit → Number → Wanted → Bool → SpanTable → Type 0
 ComparesWithItself unit by wanted says_runs table = let shown = length (shown_rows wanted table.rows) in
     comparison_of unit by wanted says_runs table table
     ≡ first_line ++ (unit_line unit ++ (compared_heads says_runs table.counts table.counts ++
@@ -11,7 +11,7 @@ ComparesWithItself unit by wanted says_runs table = let shown = length (shown_ro
 
 -- this holds of each table, in whatever unit and order
 abbrev pub TablesCompareWithThemselves : Type 0
-TablesCompareWithThemselves = (unit : Unit) (by : By) (wanted : Wanted) (says_runs : Bool) (table : SpanTable) → RowsRise table.rows → ComparesWithItself unit by wanted says_runs table
+TablesCompareWithThemselves = (unit : Unit) (by : Number) (wanted : Wanted) (says_runs : Bool) (table : SpanTable) → RowsRise table.rows → ComparesWithItself unit by wanted says_runs table
 
 -- a change the other way round
 abbrev pub turned : Change → Change
@@ -22,13 +22,13 @@ abbrev pub shown_between : Wanted → List Row → List Row → List Change
 shown_between wanted base other = shown_changes wanted (compared base other)
 
 -- the other way round the same keys changed, printed in the same order, and as many did not
-pub record TurnsEachChange (of : Of) (by : By) (wanted : Wanted) (base other : List Row) : Type 0 where
+pub record TurnsEachChange (of : Of) (by : Number) (wanted : Wanted) (base other : List Row) : Type 0 where
   pub changes : changes_of of by (shown_between wanted other base) ≡ map turned (changes_of of by (shown_between wanted base other))
   pub same : same_count (shown_between wanted other base) ≡ same_count (shown_between wanted base other)
 
 -- this holds of any two lists of rows, by whatever number
 abbrev pub ComparisonsTurn : Type 0
-ComparisonsTurn = (of : Of) (by : By) (wanted : Wanted) (base other : List Row) → TurnsEachChange of by wanted base other
+ComparisonsTurn = (of : Of) (by : Number) (wanted : Wanted) (base other : List Row) → TurnsEachChange of by wanted base other
 
 -- where one number is less than another, the difference is printed with `+` to the greater and with `-` back, and is as great
 abbrev pub DifferencesTurn : Type 0
@@ -45,10 +45,10 @@ ValuesAreSorted = (values : List ℕ) → SortsValues values
 
 -- each key that is shown has its line, overlaps, or is the same
 abbrev pub EachKeyIsCounted : Type 0
-EachKeyIsCounted = (by : By) (wanted : Wanted) (base other : List SpanTable) → let shown = shown_spreads by wanted base other in
+EachKeyIsCounted = (by : Number) (wanted : Wanted) (base other : List SpanTable) → let shown = shown_spreads by wanted base other in
     length (apart_spreads shown) + (overlap_count shown + same_spread_count shown) ≡ length shown
 
 -- the text of repeated runs is the same for the repetitions of a side in whatever order
 abbrev pub RepetitionsHaveNoOrder : Type 0
-RepetitionsHaveNoOrder = (unit : Unit) (by : By) (wanted : Wanted) (columns : List Column) (base other moved_base moved_other : List SpanTable) →
+RepetitionsHaveNoOrder = (unit : Unit) (by : Number) (wanted : Wanted) (columns : List Column) (base other moved_base moved_other : List SpanTable) →
     IsPermutation base moved_base → IsPermutation other moved_other → repeats_of unit by wanted columns base other ≡ repeats_of unit by wanted columns moved_base moved_other

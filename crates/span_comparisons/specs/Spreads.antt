@@ -1,6 +1,6 @@
 -- What repeated runs have of each key: on each side a value for each repetition, and how these are spread.
 use Rattle.std.specs.{Ordering.{nat_cmp, ordering_then}, Prelude.{ℕ, ◌-◌, ◌/◌, ◌==◌, nat_lt, if◌then◌else◌, Bool, not, ◌&&◌, ◌||◌, List, [], ◌∷◌, ◌++◌, map, flat_map, filter, length, get_or, count_by}, declared.cmp.Ordering.Ordering}
-use Rattle.span_comparisons.specs.{ascending, By, Row, sums_at, gap, number_by, TableKey, key_cmp, Wanted, is_wanted, SpanTable, declared.spreads.Spread.Spread}
+use Rattle.span_comparisons.specs.{ascending, Number, Row, sums_at, gap, number_by, TableKey, key_cmp, Wanted, is_wanted, SpanTable, declared.spreads.Spread.Spread}
 
 -- a number put before the first that isn't less
 abbrev pub put_in_order : ℕ → List ℕ → List ℕ
@@ -21,7 +21,7 @@ spread_of values = let ordered = sorted values in record {
 }
 
 -- what each repetition has of a number under a key; 0 where it lacks the key
-abbrev pub values_at : By → List SpanTable → TableKey → List ℕ
+abbrev pub values_at : Number → List SpanTable → TableKey → List ℕ
 values_at by tables key = map (λ (table : SpanTable). number_by by (sums_at table.rows key)) tables
 
 -- the keys of the rows of tables, as they come
@@ -42,11 +42,11 @@ pub record Spreads : Type 0 where
   pub base : Spread
   pub other : Spread
 
-abbrev pub spreads_at : By → List SpanTable → List SpanTable → TableKey → Spreads
+abbrev pub spreads_at : Number → List SpanTable → List SpanTable → TableKey → Spreads
 spreads_at by base other key = record { key = key; base = spread_of (values_at by base key); other = spread_of (values_at by other key) }
 
 -- each key that is shown with its spreads
-abbrev pub shown_spreads : By → Wanted → List SpanTable → List SpanTable → List Spreads
+abbrev pub shown_spreads : Number → Wanted → List SpanTable → List SpanTable → List Spreads
 shown_spreads by wanted base other = map (spreads_at by base other) (shown_keys wanted (base ++ other))
 
 -- the greatest value of one side is below the least of the other

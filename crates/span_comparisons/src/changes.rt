@@ -1,8 +1,8 @@
 //! What changed between two tables of the same columns.
 ghost use Rattle.std.specs.Prelude.{◌≡◌, ◌++◌, ◌∷◌, [], ◌<◌, ◌≤◌, ◌+◌, ◌-◌, ◌^◌, List, length, IfOk, OnOk};
-ghost use Rattle.span_comparisons.specs.{RowsRise, Changed.{Classifies, base_keys, new_key, new_keys}, Changes.{Change, by_gap, change_order, changes_of, compared, gap_by, is_changed, same_count, shown_changes, usual_order}};
+ghost use Rattle.span_comparisons.specs.{RowsRise, Changed.{Classifies, base_keys, new_key, new_keys}, Changes.{Change, by_gap, change_order, changes_of, compared, gap_by, gaps_order, is_changed, same_count, shown_changes}};
 
-use span_table::{By, Key, Of, Row, Sum, Sums, row_at, sums_at};
+use span_table::{Key, Number, Of, Row, Sum, Sums, row_at, sums_at};
 use span_table_text::Shown;
 use std::alloc::{AllocError, Global};
 use std::cmp::Ordering;
@@ -37,40 +37,33 @@ impl<'a> Changed<'a> {
         !self.both.base.equals(&self.both.other)
     }
 
-    fn gap(&self, by: By) -> Sum
+    fn gap(&self, by: Number) -> Sum
         ensures { result ≡ gap_by by self.now }
     {
         self.both.base.by(by).gap(&self.both.other.by(by))
     }
 
     // Which of two comes first.
-    fn compare(&self, other: &Changed<'a>, of: Of, by: By) -> Ordering
+    fn compare(&self, other: &Changed<'a>, of: Of, by: Number) -> Ordering
         ensures { result ≡ change_order of by self.now other.now }
     {
-        let usual = self.usual_order(other, of);
-        self.by_gap(other, by).then(usual)
+        let leading = self.compare_gaps(other, of.leading());
+        self.by_gap(other, by).then(leading)
     }
 
-    // Which of two comes first where no number is named.
-    fn usual_order(&self, other: &Changed<'a>, of: Of) -> Ordering
-        ensures { result ≡ usual_order of self.now other.now }
+    // Which of two comes first by how far these numbers lie apart, one after another, and then by key.
+    fn compare_gaps(&self, other: &Changed<'a>, numbers: &[Number]) -> Ordering
+        ensures { result ≡ gaps_order numbers.now self.now other.now }
     {
-        let by_key = self.key.cmp(other.key);
-        match of {
-            Of::Spans => {
-                let by_total = self.by_gap(other, By::Total).then(by_key);
-                self.by_gap(other, By::SelfTime).then(by_total)
-            }
-            Of::Async => {
-                let by_closed = self.by_gap(other, By::Closed).then(by_key);
-                let by_open = self.by_gap(other, By::Open).then(by_closed);
-                self.by_gap(other, By::Total).then(by_open)
-            }
-        }
+        let Some((number, numbers)) = numbers.split_first() else {
+            return self.key.cmp(other.key);
+        };
+        let rest = self.compare_gaps(other, numbers);
+        self.by_gap(other, *number).then(rest)
     }
 
     // Which of two comes first by how far a number lies apart.
-    fn by_gap(&self, other: &Changed<'a>, by: By) -> Ordering
+    fn by_gap(&self, other: &Changed<'a>, by: Number) -> Ordering
         ensures { result ≡ by_gap by self.now other.now }
     {
         other.gap(by).compare(&self.gap(by))
@@ -102,7 +95,7 @@ pub(crate) fn differences<'a>(
     base: &'a [Row],
     other: &'a [Row],
     shown: &Shown,
-    by: By,
+    by: Number,
 ) -> Result<ComparedTables<'a>, AllocError>
     requires base { RowsRise base.now }
     requires other { RowsRise other.now }

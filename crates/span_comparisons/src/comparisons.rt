@@ -1,15 +1,14 @@
 //! The text of a comparison of two tables.
 ghost use Rattle.std.specs.Prelude.{◌≡◌, ◌++◌, string_bytes, flat_map, OnOk, IfOk};
-ghost use Rattle.span_comparisons.specs.{Spans, Async, Comparison.{base_lines, base_runs_line, change_columns, change_line, compared_heads, comparison_of, difference_text, other_lines, same_line}, Pieces.{both_text, change_names, times_text}};
+ghost use Rattle.span_comparisons.specs.Comparison.{base_lines, base_runs_line, change_line, changed_cells, changed_titles, compared_heads, comparison_of, difference_text, other_lines, same_line};
 
 use crate::changes::{Both, Changed, differences};
 use span_event::Unit;
 use span_report::{first_line, put_unit};
-use span_table::{By, Column, EntryCounts, Of, Sum, Table, TableCounts};
+use span_table::{EntryCounts, Number, Of, Sum, Table, TableCounts};
 use span_table_text::Shown;
-use span_table_text::lines::{
-    put_count, put_counts, put_right, put_runs, put_seals, put_shown, put_titles, put_values,
-};
+use span_table_text::lines::{put_counts, put_runs, put_seals, put_shown};
+use span_table_text::rows::{Cell, put_row, put_titles};
 use std::alloc::{AllocError, Global};
 use std::cmp::Ordering;
 
@@ -21,7 +20,7 @@ pub fn comparison(
     base: &Table,
     other: &Table,
     shown: &Shown,
-    by: By,
+    by: Number,
     says_runs: bool,
 ) -> Result<Vec<u8>, AllocError>
     ensures { IfOk result (λ text. text.items
@@ -33,7 +32,8 @@ pub fn comparison(
     let of = other.kind();
     let found = differences(alloc, of, base.rows(), other.rows(), shown, by)?;
     put_shown(&mut out, shown, found.shown, found.all)?;
-    put_columns(alloc, &mut out, of, other.columns())?;
+    let titles = titles_of(alloc, of.compared())?;
+    put_titles(alloc, &mut out, &titles, other.columns())?;
     put_changes(alloc, &mut out, of, &found.changes)?;
     put_same(&mut out, found.same)?;
     Ok(out.into_bytes())
@@ -86,35 +86,6 @@ fn put_other(out: &mut String, entries: &EntryCounts) -> Result<(), AllocError>
     put_seals(out, entries.seals)
 }
 
-#[tactic(auto, using(crate::proofs::Pieces::change_columns_pieces, std::proofs::Common::append_assoc))]
-fn put_columns(
-    alloc: Global,
-    out: &mut String,
-    of: Of,
-    columns: &[Column],
-) -> Result<(), AllocError>
-    ensures { OnOk result (string_bytes out.new
-        ≡ string_bytes out.old ++ change_columns of columns.now) }
-{
-    put_names(out, of)?;
-    put_titles(alloc, out, columns)?;
-    out.push('\n')
-}
-
-#[tactic(auto, unfolding(crate::specs::Pieces::change_names))]
-fn put_names(out: &mut String, of: Of) -> Result<(), AllocError>
-    ensures { OnOk result (string_bytes out.new ≡ string_bytes out.old ++ change_names of) }
-{
-    match of {
-        Of::Spans => out.push_str(
-            "           dself            self0            self1           dtotal           total0           total1   count0   count1",
-        ),
-        Of::Async => out.push_str(
-            "          dtotal           total0           total1  closed0  closed1    open0    open1",
-        ),
-    }
-}
-
 fn put_changes(
     alloc: Global,
     out: &mut String,
@@ -125,75 +96,67 @@ fn put_changes(
         ≡ string_bytes out.old ++ flat_map (change_line of) changes.now) }
 {
     for change in changes {
-        put_change(alloc, out, of, change)?;
+        let cells = cells_of(alloc, of.compared(), &change.both)?;
+        put_row(alloc, out, &cells, change.key)?;
     }
     Ok(())
 }
 
-#[tactic(auto, using(crate::proofs::Pieces::change_line_pieces, std::proofs::Common::append_assoc))]
-fn put_change(alloc: Global, out: &mut String, of: Of, change: &Changed) -> Result<(), AllocError>
-    ensures { OnOk result (string_bytes out.new
-        ≡ string_bytes out.old ++ change_line of change.now) }
+// The titles of these numbers.
+fn titles_of(alloc: Global, numbers: &[Number]) -> Result<Vec<Cell>, AllocError>
+    ensures { IfOk result (λ cells. cells.items ≡ flat_map changed_titles numbers.now) }
 {
-    put_both(alloc, out, of, &change.both)?;
-    put_values(alloc, out, change.key.values())?;
-    out.push('\n')
-}
-
-fn put_both(alloc: Global, out: &mut String, of: Of, both: &Both) -> Result<(), AllocError>
-    ensures { OnOk result (string_bytes out.new ≡ string_bytes out.old ++ both_text of both.now) }
-{
-    match of {
-        Of::Spans => put_both_spans(alloc, out, both),
-        Of::Async => put_both_async(alloc, out, both),
+    let mut cells = Vec::new(alloc);
+    for number in numbers {
+        push_titles(alloc, &mut cells, *number)?;
     }
+    Ok(cells)
 }
 
-#[tactic(auto, using(std::proofs::Common::append_assoc))]
-fn put_both_async(alloc: Global, out: &mut String, both: &Both) -> Result<(), AllocError>
-    ensures { OnOk result (string_bytes out.new
-        ≡ string_bytes out.old ++ both_text Async both.now) }
+fn push_titles(alloc: Global, cells: &mut Vec<Cell>, number: Number) -> Result<(), AllocError>
+    ensures { OnOk result (cells.new.items ≡ cells.old.items ++ changed_titles number) }
 {
-    let (base, other) = (&both.base, &both.other);
-    put_times(alloc, out, &base.total, &other.total)?;
-    put_count(alloc, out, &base.count)?;
-    put_count(alloc, out, &other.count)?;
-    put_count(alloc, out, &base.unclosed)?;
-    put_count(alloc, out, &other.unclosed)
+    let name = number.name();
+    if number.is_time() {
+        cells.push(Cell::of(number, format!(in alloc; "d{name}")?))?;
+    }
+    cells.push(Cell::of(number, format!(in alloc; "{name}0")?))?;
+    cells.push(Cell::of(number, format!(in alloc; "{name}1")?))?;
+    Ok(())
 }
 
-#[tactic(auto, using(std::proofs::Common::append_assoc))]
-fn put_both_spans(alloc: Global, out: &mut String, both: &Both) -> Result<(), AllocError>
-    ensures { OnOk result (string_bytes out.new
-        ≡ string_bytes out.old ++ both_text Spans both.now) }
+// These numbers on both sides, times after how they differ.
+fn cells_of(alloc: Global, numbers: &[Number], both: &Both) -> Result<Vec<Cell>, AllocError>
+    ensures { IfOk result (λ cells. cells.items
+        ≡ flat_map (changed_cells both.now) numbers.now) }
 {
-    let (base, other) = (&both.base, &both.other);
-    put_times(alloc, out, &base.self_time, &other.self_time)?;
-    out.push(' ')?;
-    put_times(alloc, out, &base.total, &other.total)?;
-    put_count(alloc, out, &base.count)?;
-    put_count(alloc, out, &other.count)
+    let mut cells = Vec::new(alloc);
+    for number in numbers {
+        push_cells(alloc, &mut cells, *number, both)?;
+    }
+    Ok(cells)
 }
 
-/// Appends how far two sums lie apart, and the sums.
-#[tactic(auto, using(std::proofs::Common::append_assoc))]
-pub(crate) fn put_times(
+fn push_cells(
     alloc: Global,
-    out: &mut String,
-    base: &Sum,
-    other: &Sum,
+    cells: &mut Vec<Cell>,
+    number: Number,
+    both: &Both,
 ) -> Result<(), AllocError>
-    ensures { OnOk result (string_bytes out.new
-        ≡ string_bytes out.old ++ times_text base.now other.now) }
+    ensures { OnOk result (cells.new.items ≡ cells.old.items ++ changed_cells both.now number) }
 {
-    put_right(out, 16, &difference(alloc, base, other)?)?;
-    out.push(' ')?;
-    put_right(out, 16, &base.shown(alloc)?)?;
-    out.push(' ')?;
-    put_right(out, 16, &other.shown(alloc)?)
+    let (base, other) = (both.base.by(number), both.other.by(number));
+    if number.is_time() {
+        let apart = difference(alloc, &base, &other)?;
+        cells.push(Cell::of(number, apart))?;
+    }
+    cells.push(Cell::of(number, base.shown(alloc)?))?;
+    cells.push(Cell::of(number, other.shown(alloc)?))?;
+    Ok(())
 }
 
-fn difference(alloc: Global, base: &Sum, other: &Sum) -> Result<String, AllocError>
+/// How much more the other has, with `+`, or how much less, with `-`.
+pub(crate) fn difference(alloc: Global, base: &Sum, other: &Sum) -> Result<String, AllocError>
     ensures { IfOk result (λ text. string_bytes text ≡ difference_text base.now other.now) }
 {
     let apart = base.gap(other).shown(alloc)?;

@@ -1,11 +1,14 @@
 //! What changed between two tables for machines: JSON Lines.
-ghost use Rattle.std.specs.{List.list_all, Prelude.{◌≡◌, ◌++◌, ◌&&◌, true, false, flat_map, length, string_bytes, IfOk, IfErr, OnOk}};
-ghost use Rattle.span_comparisons.specs.{TooGreat, counts_fit, Spans, Async, JsonChanges.{both_fit, json_change, json_changes_fit, json_comparison_of, json_heads}, JsonPieces.{both_text, closed_text, compared_counts_text, ends_text, open_text, other_text, points_text, row_counts_text, selves_text, spans_text, totals_text}};
+ghost use Rattle.std.specs.{List.list_all, Prelude.{◌≡◌, ◌<◌, ◌^◌, ◌++◌, ◌∷◌, [], true, false, codes, flat_map, length, map, IfOk, IfErr, OnOk}};
+ghost use Rattle.json.specs.Token.{end_object};
+ghost use Rattle.span_table.specs.Columns.{column_name};
+ghost use Rattle.span_comparisons.specs.{Appends, TooGreat, counts_fit, fit, number_name, number_tokens, start_tokens, JsonChanges.{both_counts_tokens, both_fit, both_tokens, heads_fit, json_change, json_changes_fit, json_comparison_of, json_heads, side_tokens}};
 
 use crate::changes::{Both, Changed, ComparedTables, differences};
-use span_event::Unit;
-use span_table::{Column, Of, Table, TableCounts, counts_fit, fits};
-use span_table_text::json_lines::{put_columns, put_end, put_members, put_start, put_table_counts};
+use json::Writer;
+use span_event::{Text, Unit};
+use span_table::{Column, Number, Of, Sum, Table, TableCounts, counts_fit, fits};
+use span_table_text::members::{column_names, ended, put_counts, put_key, put_start, put_sum};
 use span_table_text::{JsonFault, Shown};
 use std::alloc::{AllocError, Global};
 
@@ -28,7 +31,7 @@ pub fn json_comparison(
     let Ok(found) = differences(alloc, of, base.rows(), other.rows(), shown, of.by()) else {
         return Err(JsonFault::Memory);
     };
-    if !both_counts_fit(base, other) || !all_fit(&found.changes) {
+    if !heads_fit(found.same, &base.counts(), &other.counts()) || !all_fit(&found.changes) {
         return Err(JsonFault::TooGreat);
     }
     match text_of(alloc, unit, base, other, &found) {
@@ -37,10 +40,11 @@ pub fn json_comparison(
     }
 }
 
-fn both_counts_fit(base: &Table, other: &Table) -> bool
-    ensures { result ≡ (counts_fit base.now.counts && counts_fit other.now.counts) }
+/// Whether 64 bits hold the numbers of a first line.
+pub(crate) fn heads_fit(same: u128, base: &TableCounts, other: &TableCounts) -> bool
+    ensures { result ≡ heads_fit same base.now other.now }
 {
-    counts_fit(&base.counts()) && counts_fit(&other.counts())
+    same < 1 << 64 && counts_fit(base) && counts_fit(other)
 }
 
 fn all_fit(changes: &[Changed]) -> bool
@@ -56,188 +60,151 @@ fn text_of(
     other: &Table,
     found: &ComparedTables,
 ) -> Result<Vec<u8>, AllocError>
+    requires heads { heads_fit found.now.same base.now.counts other.now.counts ≡ true }
+    requires changes { list_all both_fit found.now.changes.items ≡ true }
     ensures { IfOk result (λ text. text.items ≡ json_heads other.now.of unit other.now.columns
         (length found.now.changes.items) found.now.same base.now.counts other.now.counts
         ++ flat_map (json_change other.now.of other.now.columns) found.now.changes.items) }
 {
-    let mut out = String::new(alloc);
-    let of = other.kind();
-    let columns = other.columns();
-    let line = FirstLine {
+    let (of, columns) = (other.kind(), other.columns());
+    let names = column_names(alloc, columns)?;
+    let first = FirstLine {
         of,
         unit,
         columns,
-        rows: found.changes.len(),
-        same: found.same,
+        names: &names,
+        rows: found.changes.len() as u64,
+        same: found.same as u64,
         base: base.counts(),
         other: other.counts(),
     };
-    put_first(alloc, &mut out, &line)?;
+    let mut out = first.line(Vec::new(alloc))?;
+    // Each line is printed by itself, since behind a long text the writer of JSON first fills much room with zeros.
+    let mut line = Vec::new(alloc);
     for change in &found.changes {
-        put_change(alloc, &mut out, of, columns, change)?;
+        line.clear();
+        line = first.change(alloc, line, change)?;
+        out.extend_from_slice(&line)?;
     }
-    Ok(out.into_bytes())
+    Ok(out)
 }
 
-/// What the first line of a comparison says.
+/// What the first line of a comparison says. The columns have these names.
 #[derive(Drop)]
 pub(crate) struct FirstLine<'a> {
     pub(crate) of: Of,
     pub(crate) unit: Unit,
     pub(crate) columns: &'a [Column],
-    pub(crate) rows: usize,
-    pub(crate) same: u128,
+    pub(crate) names: &'a [Text],
+    pub(crate) rows: u64,
+    pub(crate) same: u64,
     pub(crate) base: TableCounts,
     pub(crate) other: TableCounts,
 }
 
-/// Appends the first line of a comparison.
-#[tactic(auto, using(crate::proofs::JsonPieces::json_heads_pieces, std::proofs::Common::append_assoc))]
-pub(crate) fn put_first(alloc: Global, out: &mut String, line: &FirstLine) -> Result<(), AllocError>
-    ensures { OnOk result (string_bytes out.new
-        ≡ string_bytes out.old ++ json_heads line.now.of line.now.unit line.now.columns.now
-        line.now.rows line.now.same line.now.base line.now.other) }
-{
-    put_start(out, line.of, line.unit)?;
-    put_columns(alloc, out, line.columns)?;
-    put_row_counts(out, line.rows, line.same)?;
-    put_compared_counts(out, line.base, line.other)
-}
+impl<'a> FirstLine<'a> {
+    /// A text with the line behind it.
+    #[tactic(auto, unfolding(crate::specs::JsonChanges::json_heads))]
+    pub(crate) fn line(&self, out: Vec<u8>) -> Result<Vec<u8>, AllocError>
+        requires names { self.now.names.now ≡ map column_name self.now.columns.now }
+        requires base { counts_fit self.now.base ≡ true }
+        requires other { counts_fit self.now.other ≡ true }
+        ensures { IfOk result (λ new. new.items ≡ out.items ++ json_heads self.now.of
+            self.now.unit self.now.columns.now self.now.rows self.now.same self.now.base
+            self.now.other) }
+    {
+        let mut writer = Writer::new(out);
+        self.put(&mut writer)?;
+        ended(writer)
+    }
 
-#[tactic(auto, using(std::proofs::Common::append_assoc))]
-fn put_compared_counts(
-    out: &mut String,
-    base: TableCounts,
-    other: TableCounts,
-) -> Result<(), AllocError>
-    ensures { OnOk result (string_bytes out.new
-        ≡ string_bytes out.old ++ compared_counts_text base other) }
-{
-    put_table_counts(out, base)?;
-    put_other(out)?;
-    put_table_counts(out, other)?;
-    put_ends(out)
-}
+    fn put(&self, writer: &mut Writer) -> Result<(), AllocError>
+        requires names { self.now.names.now ≡ map column_name self.now.columns.now }
+        requires base { counts_fit self.now.base ≡ true }
+        requires other { counts_fit self.now.other ≡ true }
+        ensures { Appends result writer.old writer.new (start_tokens self.now.of self.now.unit
+            self.now.columns.now (both_counts_tokens self.now.rows self.now.same self.now.base
+            self.now.other ++ end_object ∷ [])) }
+    {
+        put_start(writer, self.of, self.unit, self.columns, self.names)?;
+        self.put_numbers(writer)?;
+        writer.end_object()
+    }
 
-#[tactic(auto, unfolding(crate::specs::JsonPieces::row_counts_text))]
-fn put_row_counts(out: &mut String, rows: usize, same: u128) -> Result<(), AllocError>
-    ensures { OnOk result (string_bytes out.new
-        ≡ string_bytes out.old ++ row_counts_text rows same) }
-{
-    write!(out, ",\"rows\":{rows},\"same\":{same},\"base\":{{")
-}
+    fn put_numbers(&self, writer: &mut Writer) -> Result<(), AllocError>
+        requires base { counts_fit self.now.base ≡ true }
+        requires other { counts_fit self.now.other ≡ true }
+        ensures { Appends result writer.old writer.new (both_counts_tokens self.now.rows
+            self.now.same self.now.base self.now.other) }
+    {
+        writer.key("rows")?;
+        writer.u64(self.rows)?;
+        writer.key("same")?;
+        writer.u64(self.same)?;
+        put_side(writer, "base", &self.base)?;
+        put_side(writer, "other", &self.other)
+    }
 
-#[tactic(auto, unfolding(crate::specs::JsonPieces::other_text))]
-fn put_other(out: &mut String) -> Result<(), AllocError>
-    ensures { OnOk result (string_bytes out.new ≡ string_bytes out.old ++ other_text) }
-{
-    out.push_str("},\"other\":{")
-}
-
-#[tactic(auto, unfolding(crate::specs::JsonPieces::ends_text))]
-fn put_ends(out: &mut String) -> Result<(), AllocError>
-    ensures { OnOk result (string_bytes out.new ≡ string_bytes out.old ++ ends_text) }
-{
-    out.push_str("}}\n")
-}
-
-#[tactic(auto, using(crate::proofs::JsonPieces::json_change_pieces, std::proofs::Common::append_assoc))]
-fn put_change(
-    alloc: Global,
-    out: &mut String,
-    of: Of,
-    columns: &[Column],
-    change: &Changed,
-) -> Result<(), AllocError>
-    ensures { OnOk result (string_bytes out.new
-        ≡ string_bytes out.old ++ json_change of columns.now change.now) }
-{
-    out.push('{')?;
-    put_members(alloc, out, columns, change.key.values())?;
-    put_both(alloc, out, of, &change.both)?;
-    put_end(out)
-}
-
-fn put_both(alloc: Global, out: &mut String, of: Of, both: &Both) -> Result<(), AllocError>
-    ensures { OnOk result (string_bytes out.new ≡ string_bytes out.old ++ both_text of both.now) }
-{
-    match of {
-        Of::Spans => put_both_spans(alloc, out, both),
-        Of::Async => put_both_async(alloc, out, both),
+    // A text with the line of a change behind it.
+    #[tactic(auto, unfolding(crate::specs::JsonChanges::json_change), using(std::proofs::Common::append_assoc))]
+    fn change(&self, alloc: Global, out: Vec<u8>, change: &Changed) -> Result<Vec<u8>, AllocError>
+        requires names { self.now.names.now ≡ map column_name self.now.columns.now }
+        requires fits { both_fit change.now ≡ true }
+        ensures { IfOk result (λ new. new.items
+            ≡ out.items ++ json_change self.now.of self.now.columns.now change.now) }
+    {
+        let mut writer = Writer::new(out);
+        writer.begin_object()?;
+        put_key(&mut writer, self.columns, self.names, change.key.values())?;
+        put_both(alloc, &mut writer, self.of.numbers(), &change.both)?;
+        writer.end_object()?;
+        ended(writer)
     }
 }
 
-#[tactic(auto, using(std::proofs::Common::append_assoc))]
-fn put_both_spans(alloc: Global, out: &mut String, both: &Both) -> Result<(), AllocError>
-    ensures { OnOk result (string_bytes out.new
-        ≡ string_bytes out.old ++ both_text Spans both.now) }
+fn put_side(writer: &mut Writer, name: &str, counts: &TableCounts) -> Result<(), AllocError>
+    requires { counts_fit counts.now ≡ true }
+    ensures { Appends result writer.old writer.new (side_tokens name.now counts.now) }
 {
-    put_spans(alloc, out, both)?;
-    put_totals(alloc, out, both)?;
-    put_selves(alloc, out, both)
+    writer.key(name)?;
+    writer.begin_object()?;
+    put_counts(writer, counts)?;
+    writer.end_object()
 }
 
-#[tactic(auto, using(std::proofs::Common::append_assoc))]
-fn put_both_async(alloc: Global, out: &mut String, both: &Both) -> Result<(), AllocError>
-    ensures { OnOk result (string_bytes out.new
-        ≡ string_bytes out.old ++ both_text Async both.now) }
+// Writes these numbers of both sides.
+fn put_both(
+    alloc: Global,
+    writer: &mut Writer,
+    numbers: &[Number],
+    both: &Both,
+) -> Result<(), AllocError>
+    requires base { fit both.now.base ≡ true }
+    requires other { fit both.now.other ≡ true }
+    ensures { Appends result writer.old writer.new (both_tokens numbers.now both.now) }
 {
-    put_closed(alloc, out, both)?;
-    put_totals(alloc, out, both)?;
-    put_open(alloc, out, both)?;
-    put_points(alloc, out, both)
+    for number in numbers {
+        let (base, other) = (both.base.by(*number), both.other.by(*number));
+        put_sides(alloc, writer, *number, &base, &other)?;
+    }
+    Ok(())
 }
 
-#[tactic(auto, unfolding(crate::specs::JsonPieces::spans_text))]
-fn put_spans(alloc: Global, out: &mut String, both: &Both) -> Result<(), AllocError>
-    ensures { OnOk result (string_bytes out.new ≡ string_bytes out.old ++ spans_text both.now) }
+fn put_sides(
+    alloc: Global,
+    writer: &mut Writer,
+    number: Number,
+    base: &Sum,
+    other: &Sum,
+) -> Result<(), AllocError>
+    requires base { base.now < 2 ^ 64 }
+    requires other { other.now < 2 ^ 64 }
+    ensures { Appends result writer.old writer.new
+        (number_tokens (number_name number ++ codes "0") base.now
+        ++ number_tokens (number_name number ++ codes "1") other.now) }
 {
-    let base = both.base.count.shown(alloc)?;
-    let other = both.other.count.shown(alloc)?;
-    write!(out, "\"count0\":{base},\"count1\":{other},")
-}
-
-#[tactic(auto, unfolding(crate::specs::JsonPieces::totals_text))]
-fn put_totals(alloc: Global, out: &mut String, both: &Both) -> Result<(), AllocError>
-    ensures { OnOk result (string_bytes out.new ≡ string_bytes out.old ++ totals_text both.now) }
-{
-    let base = both.base.total.shown(alloc)?;
-    let other = both.other.total.shown(alloc)?;
-    write!(out, "\"total0\":{base},\"total1\":{other},")
-}
-
-#[tactic(auto, unfolding(crate::specs::JsonPieces::selves_text))]
-fn put_selves(alloc: Global, out: &mut String, both: &Both) -> Result<(), AllocError>
-    ensures { OnOk result (string_bytes out.new ≡ string_bytes out.old ++ selves_text both.now) }
-{
-    let base = both.base.self_time.shown(alloc)?;
-    let other = both.other.self_time.shown(alloc)?;
-    write!(out, "\"self0\":{base},\"self1\":{other}")
-}
-
-#[tactic(auto, unfolding(crate::specs::JsonPieces::closed_text))]
-fn put_closed(alloc: Global, out: &mut String, both: &Both) -> Result<(), AllocError>
-    ensures { OnOk result (string_bytes out.new ≡ string_bytes out.old ++ closed_text both.now) }
-{
-    let base = both.base.count.shown(alloc)?;
-    let other = both.other.count.shown(alloc)?;
-    write!(out, "\"closed0\":{base},\"closed1\":{other},")
-}
-
-#[tactic(auto, unfolding(crate::specs::JsonPieces::open_text))]
-fn put_open(alloc: Global, out: &mut String, both: &Both) -> Result<(), AllocError>
-    ensures { OnOk result (string_bytes out.new ≡ string_bytes out.old ++ open_text both.now) }
-{
-    let base = both.base.unclosed.shown(alloc)?;
-    let other = both.other.unclosed.shown(alloc)?;
-    write!(out, "\"open0\":{base},\"open1\":{other},")
-}
-
-#[tactic(auto, unfolding(crate::specs::JsonPieces::points_text))]
-fn put_points(alloc: Global, out: &mut String, both: &Both) -> Result<(), AllocError>
-    ensures { OnOk result (string_bytes out.new ≡ string_bytes out.old ++ points_text both.now) }
-{
-    let base = both.base.points.shown(alloc)?;
-    let other = both.other.points.shown(alloc)?;
-    write!(out, "\"points0\":{base},\"points1\":{other}")
+    let name = number.name();
+    let (first, second) = (format!(in alloc; "{name}0")?, format!(in alloc; "{name}1")?);
+    put_sum(writer, &first, base)?;
+    put_sum(writer, &second, other)
 }

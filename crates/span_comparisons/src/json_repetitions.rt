@@ -1,13 +1,16 @@
 //! Repeated runs for machines: JSON Lines.
-ghost use Rattle.std.specs.{List.{join_with_byte, list_all}, Prelude.{◌≡◌, ◌≤◌, ◌++◌, ◌&&◌, true, false, decimal, flat_map, length, map, string_bytes, IfErr, IfOk, OnOk}};
-ghost use Rattle.span_comparisons.specs.{TooGreat, JsonPieces.{base_values_text, other_values_text}, Repeats.{json_repeats_fit, json_repeats_of, json_values, json_values_at, key_fits, values_fit, values_json}};
+ghost use Rattle.std.specs.{List.list_all, Prelude.{◌≡◌, ◌<◌, ◌≤◌, ◌^◌, ◌++◌, ◌∷◌, [], true, false, decimal, flat_map, length, map, IfErr, IfOk, OnOk}};
+ghost use Rattle.json.specs.Token.{number as a_number};
+ghost use Rattle.span_table.specs.Columns.{column_name};
+ghost use Rattle.span_comparisons.specs.{Appends, TooGreat, Repeats.{json_repeats_fit, json_repeats_of, json_values, json_values_at, key_fits, values_fit, values_tokens}};
 
-use crate::json_changes::{FirstLine, put_first};
+use crate::json_changes::{FirstLine, heads_fit};
 use crate::repeated::repeated;
 use crate::sides::{Side, side_counts};
-use span_event::Unit;
-use span_table::{By, Column, Key, Of, Sum, Table, counts_fit};
-use span_table_text::json_lines::{put_end, put_members};
+use json::Writer;
+use span_event::{Text, Unit};
+use span_table::{Column, Key, Number, Of, Sum, Table};
+use span_table_text::members::{column_names, ended, put_key};
 use span_table_text::{JsonFault, Shown};
 use std::alloc::{AllocError, Global};
 
@@ -21,7 +24,7 @@ pub fn json_repeats(
     base: &[Table],
     other: &[Table],
     shown: &Shown,
-    by: By,
+    by: Number,
 ) -> Result<Vec<u8>, JsonFault>
     requires base { length base.now ≤ 64 }
     requires other { length other.now ≤ 64 }
@@ -32,73 +35,121 @@ pub fn json_repeats(
         → json_repeats_fit by shown.now base.now other.now ≡ false) }
 {
     let found = repeated(alloc, base, other, shown, by)?;
-    let line = FirstLine {
+    let (base_counts, other_counts) = (side_counts(base), side_counts(other));
+    if !heads_fit(found.same, &base_counts, &other_counts) {
+        return Err(JsonFault::TooGreat);
+    }
+    let names = column_names(alloc, columns)?;
+    let first = FirstLine {
         of,
         unit,
         columns,
-        rows: found.keys.len(),
-        same: found.same,
-        base: side_counts(base),
-        other: side_counts(other),
+        names: &names,
+        rows: found.keys.len() as u64,
+        same: found.same as u64,
+        base: base_counts,
+        other: other_counts,
     };
-    if !counts_fit(&line.base) || !counts_fit(&line.other) {
-        return Err(JsonFault::TooGreat);
-    }
-    let mut out = String::new(alloc);
-    put_first(alloc, &mut out, &line)?;
-    put_rows(alloc, &mut out, columns, base, other, &found.keys, by)?;
-    Ok(out.into_bytes())
+    let mut out = first.line(Vec::new(alloc))?;
+    let lines = Lines {
+        columns,
+        names: &names,
+        by,
+    };
+    lines.put_rows(alloc, &mut out, base, other, &found.keys)?;
+    Ok(out)
 }
 
-fn put_rows(
-    alloc: Global,
-    out: &mut String,
-    columns: &[Column],
-    base: &[Table],
-    other: &[Table],
-    keys: &[&Key],
-    by: By,
-) -> Result<(), JsonFault>
-    ensures text { OnOk result (string_bytes out.new ≡ string_bytes out.old
-        ++ flat_map (json_values_at by columns.now base.now other.now)
-        (map (λ key. key.now) keys.now)) }
-    ensures fits { OnOk result
-        (list_all (key_fits by base.now other.now) (map (λ key. key.now) keys.now) ≡ true) }
-    ensures too_great { IfErr result (λ fault. fault ≡ TooGreat
-        → list_all (key_fits by base.now other.now) (map (λ key. key.now) keys.now) ≡ false) }
-{
-    let mut base = Side::of(alloc, base)?;
-    let mut other = Side::of(alloc, other)?;
-    for key in keys {
-        put_row(alloc, out, columns, &mut base, &mut other, key, by)?;
-    }
-    Ok(())
+// What the lines of keys have: values by a number, beside those of columns of these names.
+#[derive(Clone, Copy)]
+struct Lines<'a> {
+    columns: &'a [Column],
+    names: &'a [Text],
+    by: Number,
 }
 
-fn put_row(
-    alloc: Global,
-    out: &mut String,
-    columns: &[Column],
-    base: &mut Side,
-    other: &mut Side,
-    key: &Key,
-    by: By,
-) -> Result<(), JsonFault>
-    ensures base { base.new.tables ≡ base.old.tables }
-    ensures other { other.new.tables ≡ other.old.tables }
-    ensures text { OnOk result (string_bytes out.new ≡ string_bytes out.old
-        ++ json_values_at by columns.now base.old.tables other.old.tables key.now) }
-    ensures fits { OnOk result (key_fits by base.old.tables other.old.tables key.now ≡ true) }
-    ensures too_great { IfErr result (λ fault. fault ≡ TooGreat
-        → key_fits by base.old.tables other.old.tables key.now ≡ false) }
-{
-    base.look_up(key, by)?;
-    other.look_up(key, by)?;
-    if !all_fit(base.values()) || !all_fit(other.values()) {
-        return Err(JsonFault::TooGreat);
+impl<'a> Lines<'a> {
+    // Appends the lines of these keys.
+    fn put_rows(
+        &self,
+        alloc: Global,
+        out: &mut Vec<u8>,
+        base: &[Table],
+        other: &[Table],
+        keys: &[&Key],
+    ) -> Result<(), JsonFault>
+        requires { self.now.names.now ≡ map column_name self.now.columns.now }
+        ensures text { OnOk result (out.new.items ≡ out.old.items
+            ++ flat_map (json_values_at self.now.by self.now.columns.now base.now other.now)
+            (map (λ key. key.now) keys.now)) }
+        ensures fits { OnOk result (list_all (key_fits self.now.by base.now other.now)
+            (map (λ key. key.now) keys.now) ≡ true) }
+        ensures too_great { IfErr result (λ fault. fault ≡ TooGreat
+            → list_all (key_fits self.now.by base.now other.now)
+            (map (λ key. key.now) keys.now) ≡ false) }
+    {
+        let mut base = Side::of(alloc, base)?;
+        let mut other = Side::of(alloc, other)?;
+        let mut line = Vec::new(alloc);
+        for key in keys {
+            line.clear();
+            line = self.with_row(line, &mut base, &mut other, key)?;
+            out.extend_from_slice(&line)?;
+        }
+        Ok(())
     }
-    put_values(alloc, out, columns, key, base.values(), other.values())?;
-    Ok(())
+
+    // A text with the line of a key behind it.
+    fn with_row(
+        &self,
+        out: Vec<u8>,
+        base: &mut Side,
+        other: &mut Side,
+        key: &Key,
+    ) -> Result<Vec<u8>, JsonFault>
+        requires { self.now.names.now ≡ map column_name self.now.columns.now }
+        ensures base { base.new.tables ≡ base.old.tables }
+        ensures other { other.new.tables ≡ other.old.tables }
+        ensures text { IfOk result (λ new. new.items ≡ out.items ++ json_values_at self.now.by
+            self.now.columns.now base.old.tables other.old.tables key.now) }
+        ensures fits { OnOk result
+            (key_fits self.now.by base.old.tables other.old.tables key.now ≡ true) }
+        ensures too_great { IfErr result (λ fault. fault ≡ TooGreat
+            → key_fits self.now.by base.old.tables other.old.tables key.now ≡ false) }
+    {
+        base.look_up(key, self.by)?;
+        other.look_up(key, self.by)?;
+        if !all_fit(base.values()) || !all_fit(other.values()) {
+            return Err(JsonFault::TooGreat);
+        }
+        match self.with_values(out, key, base.values(), other.values()) {
+            Ok(line) => Ok(line),
+            Err(_) => Err(JsonFault::Memory),
+        }
+    }
+
+    #[tactic(auto, unfolding(crate::specs::Repeats::json_values), using(std::proofs::Common::append_assoc))]
+    fn with_values(
+        &self,
+        out: Vec<u8>,
+        key: &Key,
+        base: &[Sum],
+        other: &[Sum],
+    ) -> Result<Vec<u8>, AllocError>
+        requires names { self.now.names.now ≡ map column_name self.now.columns.now }
+        requires base { values_fit base.now ≡ true }
+        requires other { values_fit other.now ≡ true }
+        ensures { IfOk result (λ new. new.items
+            ≡ out.items ++ json_values self.now.columns.now key.now base.now other.now) }
+    {
+        let mut writer = Writer::new(out);
+        writer.begin_object()?;
+        put_key(&mut writer, self.columns, self.names, key.values())?;
+        put_values(&mut writer, "values0", base)?;
+        put_values(&mut writer, "values1", other)?;
+        writer.end_object()?;
+        ended(writer)
+    }
 }
 
 fn all_fit(values: &[Sum]) -> bool
@@ -107,64 +158,35 @@ fn all_fit(values: &[Sum]) -> bool
     values.iter().all(|value| value.as_u64().is_some())
 }
 
-#[tactic(auto, using(crate::proofs::JsonPieces::json_values_pieces, std::proofs::Common::append_assoc))]
-fn put_values(
-    alloc: Global,
-    out: &mut String,
-    columns: &[Column],
-    key: &Key,
-    base: &[Sum],
-    other: &[Sum],
-) -> Result<(), AllocError>
-    ensures { OnOk result (string_bytes out.new
-        ≡ string_bytes out.old ++ json_values columns.now key.now base.now other.now) }
-{
-    out.push('{')?;
-    put_members(alloc, out, columns, key.values())?;
-    put_base(alloc, out, base)?;
-    out.push(',')?;
-    put_other(alloc, out, other)?;
-    put_end(out)
-}
-
-#[tactic(auto, unfolding(crate::specs::JsonPieces::base_values_text))]
-fn put_base(alloc: Global, out: &mut String, values: &[Sum]) -> Result<(), AllocError>
-    ensures { OnOk result (string_bytes out.new
-        ≡ string_bytes out.old ++ base_values_text values.now) }
-{
-    out.push_str("\"values0\":")?;
-    put_list(alloc, out, values)
-}
-
-#[tactic(auto, unfolding(crate::specs::JsonPieces::other_values_text))]
-fn put_other(alloc: Global, out: &mut String, values: &[Sum]) -> Result<(), AllocError>
-    ensures { OnOk result (string_bytes out.new
-        ≡ string_bytes out.old ++ other_values_text values.now) }
-{
-    out.push_str("\"values1\":")?;
-    put_list(alloc, out, values)
-}
-
+// Writes values under a name.
 #[tactic(auto, using(std::proofs::Common::append_assoc))]
-fn put_list(alloc: Global, out: &mut String, values: &[Sum]) -> Result<(), AllocError>
-    ensures { OnOk result (string_bytes out.new ≡ string_bytes out.old ++ values_json values.now) }
+fn put_values(writer: &mut Writer, name: &str, values: &[Sum]) -> Result<(), AllocError>
+    requires { values_fit values.now ≡ true }
+    ensures { Appends result writer.old writer.new (values_tokens name.now values.now) }
 {
-    out.push('[')?;
-    put_numbers(alloc, out, values)?;
-    out.push(']')
+    writer.key(name)?;
+    writer.begin_array()?;
+    put_list(writer, values)?;
+    writer.end_array()
 }
 
-fn put_numbers(alloc: Global, out: &mut String, numbers: &[Sum]) -> Result<(), AllocError>
-    ensures { OnOk result (string_bytes out.new
-        ≡ string_bytes out.old ++ join_with_byte 44 (map decimal numbers.now)) }
+fn put_list(writer: &mut Writer, values: &[Sum]) -> Result<(), AllocError>
+    requires { values_fit values.now ≡ true }
+    ensures { Appends result writer.old writer.new
+        (map (λ value. a_number (decimal value)) values.now) }
 {
-    let Some((first, later)) = numbers.split_first() else {
-        return Ok(());
-    };
-    out.push_str(&first.shown(alloc)?)?;
-    for number in later {
-        out.push(',')?;
-        out.push_str(&number.shown(alloc)?)?;
+    for value in values {
+        put_value(writer, value)?;
     }
     Ok(())
+}
+
+fn put_value(writer: &mut Writer, value: &Sum) -> Result<(), AllocError>
+    requires { value.now < 2 ^ 64 }
+    ensures { Appends result writer.old writer.new (a_number (decimal value.now) ∷ []) }
+{
+    match value.as_u64() {
+        Some(number) => writer.u64(number),
+        None => Ok(()),
+    }
 }

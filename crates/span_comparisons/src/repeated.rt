@@ -4,7 +4,7 @@ ghost use Rattle.span_comparisons.specs.{TableKey, Sides.ClassifiesSpreads, Spre
 
 use crate::sides::Side;
 use crate::spreads::Spreads;
-use span_table::{By, Key, Row, Table};
+use span_table::{Key, Number, Row, Table};
 use span_table_text::Shown;
 use std::alloc::{AllocError, Global};
 
@@ -33,7 +33,7 @@ pub(crate) fn repeated<'a>(
     base: &'a [Table],
     other: &'a [Table],
     shown: &Shown,
-    by: By,
+    by: Number,
 ) -> Result<RepeatedRuns<'a>, AllocError>
     ensures keys { IfOk result (λ found. map (λ key. key.now) found.keys.items
         ≡ shown_keys shown.now (base.now ++ other.now)) }
@@ -105,7 +105,7 @@ fn classify_all<'a>(
     base: &[Table],
     other: &[Table],
     keys: &[&'a Key],
-    by: By,
+    by: Number,
 ) -> Result<Classified<'a>, AllocError>
     ensures { IfOk result (λ found. ClassifiesSpreads
         (map (λ key. spreads_at by base.now other.now key.now) keys.now)
@@ -129,7 +129,7 @@ fn spreads_at<'a>(
     base: &mut Side,
     other: &mut Side,
     key: &'a Key,
-    by: By,
+    by: Number,
 ) -> Result<Spreads<'a>, AllocError>
     ensures base { base.new.tables ≡ base.old.tables }
     ensures other { other.new.tables ≡ other.old.tables }

@@ -1,17 +1,31 @@
 //! The text of repeated runs.
-ghost use Rattle.std.specs.Prelude.{◌≡◌, ◌≤◌, ◌++◌, flat_map, length, string_bytes, OnOk, IfOk};
-ghost use Rattle.span_comparisons.specs.{Pieces.{extent_text, spread_names}, Repeats.{overlap_line, repeats_of, spread_columns, spread_line}};
+ghost use Rattle.std.specs.Prelude.{◌≡◌, ◌≤◌, ◌++◌, ◌∷◌, [], decimal, flat_map, length, map, string_bytes, OnOk, IfOk};
+ghost use Rattle.span_comparisons.specs.Repeats.{overlap_line, repeats_of, spread_line, spread_titles, spread_words, wide};
 
-use crate::comparisons::{put_heads, put_times};
+use crate::comparisons::{difference, put_heads};
 use crate::repeated::repeated;
 use crate::sides::side_counts;
 use crate::spreads::{Spread, Spreads};
 use span_event::Unit;
 use span_report::{first_line, put_unit};
-use span_table::{By, Column, Table};
+use span_table::{Column, Number, Sum, Table};
 use span_table_text::Shown;
-use span_table_text::lines::{put_right, put_shown, put_titles, put_values};
+use span_table_text::lines::put_shown;
+use span_table_text::rows::{Cell, put_row, put_titles};
 use std::alloc::{AllocError, Global};
+
+// How wide the columns of spreads are at least.
+const WIDTH: usize = 16;
+
+const TITLES: [&str; 7] = [
+    "dmedian",
+    "median0",
+    "median1",
+    "least0",
+    "greatest0",
+    "least1",
+    "greatest1",
+];
 
 /// The text of runs that were repeated on each of two sides, in a unit: a table for each repetition, all of the same by the same
 /// columns. Of the keys that are shown those of which the sides are apart by a number, the greatest change of its median first.
@@ -22,7 +36,7 @@ pub fn repeats(
     base: &[Table],
     other: &[Table],
     shown: &Shown,
-    by: By,
+    by: Number,
 ) -> Result<Vec<u8>, AllocError>
     requires base { length base.now ≤ 64 }
     requires other { length other.now ≤ 64 }
@@ -34,29 +48,22 @@ pub fn repeats(
     put_heads(&mut out, &side_counts(base), &side_counts(other), true)?;
     let found = repeated(alloc, base, other, shown, by)?;
     put_shown(&mut out, shown, found.keys.len() as u128, found.all as u128)?;
-    put_columns(alloc, &mut out, columns)?;
+    let titles = titles_of(alloc)?;
+    put_titles(alloc, &mut out, &titles, columns)?;
     put_lines(alloc, &mut out, &found.apart)?;
     put_overlap(&mut out, found.overlap, found.same)?;
     Ok(out.into_bytes())
 }
 
-#[tactic(auto, using(crate::proofs::Pieces::spread_columns_pieces, std::proofs::Common::append_assoc))]
-fn put_columns(alloc: Global, out: &mut String, columns: &[Column]) -> Result<(), AllocError>
-    ensures { OnOk result (string_bytes out.new
-        ≡ string_bytes out.old ++ spread_columns columns.now) }
+// The titles of the spreads of both sides.
+fn titles_of(alloc: Global) -> Result<Vec<Cell>, AllocError>
+    ensures { IfOk result (λ cells. cells.items ≡ map wide spread_titles) }
 {
-    put_names(out)?;
-    put_titles(alloc, out, columns)?;
-    out.push('\n')
-}
-
-#[tactic(auto, unfolding(crate::specs::Pieces::spread_names))]
-fn put_names(out: &mut String) -> Result<(), AllocError>
-    ensures { OnOk result (string_bytes out.new ≡ string_bytes out.old ++ spread_names) }
-{
-    out.push_str(
-        "         dmedian          median0          median1           least0        greatest0           least1        greatest1",
-    )
+    let mut cells = Vec::with_capacity(alloc, TITLES.len())?;
+    for title in &TITLES {
+        cells.push(Cell::new(WIDTH, String::from_str(alloc, title)?))?;
+    }
+    Ok(cells)
 }
 
 fn put_lines(alloc: Global, out: &mut String, apart: &[Spreads]) -> Result<(), AllocError>
@@ -64,31 +71,42 @@ fn put_lines(alloc: Global, out: &mut String, apart: &[Spreads]) -> Result<(), A
         ≡ string_bytes out.old ++ flat_map spread_line apart.now) }
 {
     for spreads in apart {
-        put_line(alloc, out, spreads)?;
+        let cells = cells_of(alloc, spreads)?;
+        put_row(alloc, out, &cells, spreads.key)?;
     }
     Ok(())
 }
 
-#[tactic(auto, using(crate::proofs::Pieces::spread_line_pieces, std::proofs::Common::append_assoc))]
-fn put_line(alloc: Global, out: &mut String, spreads: &Spreads) -> Result<(), AllocError>
-    ensures { OnOk result (string_bytes out.new ≡ string_bytes out.old ++ spread_line spreads.now) }
+// The spreads of both sides, after how the medians differ.
+fn cells_of(alloc: Global, spreads: &Spreads) -> Result<Vec<Cell>, AllocError>
+    ensures { IfOk result (λ cells. cells.items ≡ map wide (spread_words spreads.now)) }
 {
-    put_times(alloc, out, &spreads.base.median, &spreads.other.median)?;
-    put_extent(alloc, out, &spreads.base)?;
-    put_extent(alloc, out, &spreads.other)?;
-    put_values(alloc, out, spreads.key.values())?;
-    out.push('\n')
+    let (base, other) = (&spreads.base, &spreads.other);
+    let mut cells = Vec::with_capacity(alloc, TITLES.len())?;
+    let apart = difference(alloc, &base.median, &other.median)?;
+    cells.push(Cell::new(WIDTH, apart))?;
+    push_sum(alloc, &mut cells, &base.median)?;
+    push_sum(alloc, &mut cells, &other.median)?;
+    push_extent(alloc, &mut cells, base)?;
+    push_extent(alloc, &mut cells, other)?;
+    Ok(cells)
 }
 
-// The least and the greatest, with a blank before each.
-#[tactic(auto, using(std::proofs::Common::append_assoc))]
-fn put_extent(alloc: Global, out: &mut String, spread: &Spread) -> Result<(), AllocError>
-    ensures { OnOk result (string_bytes out.new ≡ string_bytes out.old ++ extent_text spread.now) }
+// The least and the greatest.
+fn push_extent(alloc: Global, cells: &mut Vec<Cell>, spread: &Spread) -> Result<(), AllocError>
+    ensures { OnOk result (cells.new.items ≡ cells.old.items
+        ++ wide (decimal spread.now.least) ∷ wide (decimal spread.now.greatest) ∷ []) }
 {
-    out.push(' ')?;
-    put_right(out, 16, &spread.least.shown(alloc)?)?;
-    out.push(' ')?;
-    put_right(out, 16, &spread.greatest.shown(alloc)?)
+    push_sum(alloc, cells, &spread.least)?;
+    push_sum(alloc, cells, &spread.greatest)?;
+    Ok(())
+}
+
+fn push_sum(alloc: Global, cells: &mut Vec<Cell>, sum: &Sum) -> Result<(), AllocError>
+    ensures { OnOk result (cells.new.items ≡ cells.old.items ++ wide (decimal sum.now) ∷ []) }
+{
+    cells.push(Cell::new(WIDTH, sum.shown(alloc)?))?;
+    Ok(())
 }
 
 #[tactic(auto, unfolding(crate::specs::Repeats::overlap_line))]

@@ -3,7 +3,7 @@ ghost use Rattle.std.specs.Prelude.{◌≡◌, ◌≤◌, map, length, OnOk, IfO
 ghost use Rattle.span_comparisons.specs.{Repeats.side_counts, Spreads.{spread_of, values_at}};
 
 use crate::spreads::Spread;
-use span_table::{By, Key, Sum, Table, TableCounts, sums_at};
+use span_table::{Key, Number, Sum, Table, TableCounts, sums_at};
 use std::alloc::{AllocError, Global};
 use std::marker::Model;
 
@@ -39,7 +39,7 @@ impl<'a> Side<'a> {
     }
 
     /// Finds the values of a key, in the order of the tables.
-    pub(crate) fn look_up(&mut self, key: &Key, by: By) -> Result<(), AllocError>
+    pub(crate) fn look_up(&mut self, key: &Key, by: Number) -> Result<(), AllocError>
         ensures tables { self.new.tables ≡ self.old.tables }
         ensures values { OnOk result (self.new.values ≡ values_at by self.old.tables key.now) }
     {

@@ -1,6 +1,6 @@
 use Rattle.std.specs.Prelude.{flat_map}
 use Rattle.std.proofs.Common.{◌≡◌, List, ◌++◌, length, refl, ap, ap₂, ◌∙◌, append_assoc}
-use Rattle.span_comparisons.specs.{Bytes, first_line, unit_line, Row, shown_line, Changes.{changes_of, compared, same_count, shown_changes}, Comparison.{change_columns, change_line, compared_heads, same_line}}
+use Rattle.span_comparisons.specs.{Bytes, compared_numbers, first_line, unit_line, titles_line, Row, shown_line, Changes.{changes_of, compared, same_count, shown_changes}, Comparison.{change_line, changed_titles, compared_heads, same_line}}
 use Rattle.span_comparisons.proofs.comparisons.comparison.Goals as goal
 
 -- a text to which six more were appended
@@ -27,8 +27,9 @@ returns c =
     let shown = found.shown ∙ ap₂ (λ (b o : List Row). length (shown_changes wanted (compared b o))) rows others in
     let all = found.all ∙ ap₂ (λ (b o : List Row). length (compared b o)) rows others in
     let same = found.same ∙ ap₂ (λ (b o : List Row). same_count (shown_changes wanted (compared b o))) rows others in
-    let changes = c.deref.ensures.value ∙ found.changes ∙ (λ i. changes_of (of i) c.args.by (shown_changes wanted (compared (rows i) (others i)))) in
+    let titles = c.deref.ensures.value ∙ c.in_ok-titles.ensures ∙ ap (flat_map changed_titles) (c.compared.ensures ∙ ap compared_numbers of) in
+    let changes = c.deref-2.ensures.value ∙ found.changes ∙ (λ i. changes_of (of i) c.args.by (shown_changes wanted (compared (rows i) (others i)))) in
     (λ i. (c.into_bytes.ensures.value i).items)
-    ∙ appended _ _ _ _ _ _ _ _ _ _ _ _ _ _ c.in_ok-out.ensures c.in_ok-put_unit.ensures c.in_ok-put_heads.ensures c.in_ok-put_shown.ensures c.in_ok-put_columns.ensures c.in_ok-put_changes.ensures c.in_ok-put_same.ensures
+    ∙ appended _ _ _ _ _ _ _ _ _ _ _ _ _ _ c.in_ok-out.ensures c.in_ok-put_unit.ensures c.in_ok-put_heads.ensures c.in_ok-put_shown.ensures c.in_ok-put_titles.ensures c.in_ok-put_changes.ensures c.in_ok-put_same.ensures
     ∙ (λ i. first_line ++ (unit_line c.args.unit ++ (compared_heads c.args.says_runs (counts i) (other_counts i) ++ (shown_line wanted (shown i) (all i) ++
-    (change_columns (of i) (columns i) ++ (flat_map (change_line (of i)) (changes i) ++ same_line (same i)))))))
+    (titles_line (titles i) (columns i) ++ (flat_map (change_line (of i)) (changes i) ++ same_line (same i)))))))

@@ -1,6 +1,6 @@
 use Rattle.std.specs.Prelude.{decimal}
 use Rattle.std.proofs.Common.{ap, ◌∙◌}
-use Rattle.span_comparisons.proofs.Pieces.{difference_text-equal}
+use Rattle.span_comparisons.proofs.Differences.{difference_text-equal}
 use Rattle.span_comparisons.proofs.comparisons.difference.Goals as goal
 
 pub returns-in-Equal : goal.returns-in-Equal
