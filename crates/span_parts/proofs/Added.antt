@@ -3,7 +3,7 @@ use Rattle.std.specs.{List.{AllByRecursion, Sorted.IsStrictlySortedBy}, Ordering
 use Rattle.std.proofs.{Common.{◌≡◌, ◌≢◌, ℕ, ◌+◌, ◌<◌, true, true≢false, List, [], ◌∷◌, ◌++◌, Option, Some, None, length, get_or, refl, sym, ap, subst, ◌∙◌, append_assoc, append-nil, arith}, Math.Seq.get_or-append_seam, lemmas.{Grind.flat_map-append, List.{length-append, Elements.{All-nil, All-push}}}}
 use Rattle.json.specs.Print.{print}
 use Rattle.span_journal.proofs.Sorted.{AllByRecursion-append}
-use Rattle.span_table_text.proofs.{Printed.json_line-print, PrintedLines.{IsRowOf-determined, print_row-line}}
+use Rattle.span_table_text.proofs.PrintedLines.{IsRowOf-determined, json_line-print, print_row-line}
 use Rattle.span_parts.specs.{Bytes, Column, Of, Row, with_row, json_line, key_cmp_total, key_cmp, IsRowOf, RowsRise, SpanTable, row_tokens, Rows.{AllAdded, AreAdded, AreNoRows, AreRows, IsNextRow, RowFails, RowsFail, comes_after, last_row, row_at}, declared.fault.PartFault.{PartFault, TheVariants.{NotTable, OtherColumns, Memory, TooMany}}}
 use Rattle.span_parts.proofs.{Lists.All-at, Summing.with_rows-push}
 

@@ -1,7 +1,7 @@
 -- The lines of a part, as tokens.
 use Rattle.std.proofs.{Common.{◌≡◌, ℕ, List, [], ◌∷◌, ◌++◌, ap, ◌∙◌}, lemmas.List.append_cancel_right}
 use Rattle.json.specs.{Lex.tokens, Print.print}
-use Rattle.span_table_text.proofs.{Printed.{json_head-print, json_line-print}, PrintedLines.{IsRowOf-determined, tokens-head, tokens-row}}
+use Rattle.span_table_text.proofs.PrintedLines.{IsRowOf-determined, json_head-print, json_line-print, tokens-head, tokens-row}
 use Rattle.span_parts.specs.{Bytes, Unit as TimeUnit, Column, TableCounts, Of, Row, json_head, head_tokens, row_tokens, First.MayBegin, Rows.IsRowLine}
 
 -- the tokens of a first line are those that were printed

@@ -2,7 +2,7 @@
 use Rattle.std.specs.Prelude.{All, flat_map}
 use Rattle.std.proofs.Common.{◌≡◌, ◌≢◌, ℕ, List, [], ◌∷◌, ◌++◌, length, refl, sym, ap, subst, ◌∙◌, append_assoc, arith}
 use Rattle.json.specs.Print.{print}
-use Rattle.span_table_text.proofs.{Printed.json_head-print, PrintedLines.print_head-line}
+use Rattle.span_table_text.proofs.PrintedLines.{json_head-print, print_head-line}
 use Rattle.span_parts.specs.{Bytes, Unit as TimeUnit, Row, with_counts, json_head, json_line, IsPart, IsRowOf, SpanTable, head_tokens, First.{Begins, MayBegin}, Rows.{AllAdded, AreRows, RowsFail}, Sum.{IsAdded, IsNoPart, SumFails}, declared.{fault.PartFault.{PartFault, TheVariants.{NotTable, OtherColumns, Memory, TooMany}}, guess.FirstLine.FirstLine}}
 use Rattle.span_parts.proofs.Added.{EndsLine}
 

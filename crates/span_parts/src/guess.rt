@@ -2,13 +2,13 @@
 //! missed is what the contracts say.
 ghost use Rattle.std.specs.{Fmt.signed_decimal, Int.w64, Prelude.{◌≡◌, ◌≢◌, ◌<◌, ◌^◌, ◌++◌, ◌∷◌, ℕ, ℤ, FitsSigned, List, None, Some, true, codes, map, IfOk}};
 ghost use Rattle.json.specs.{Reads.token_of, Token.{Token as TheToken, end_array, key}};
-ghost use Rattle.span_parts.specs.{Bytes, ArgValue as TheValue, Whole, Unit as TheUnit, Column as TheColumn, TableCounts as TheCounts, Of as TheOf, Async, Spans, Sums as TheSums, Row as TheRow, column_name, counts_fit, fit, TableKey, AreColumns, AreDistinct, HasOwn, IsKeyOf, IsOfArgument, IsRowOf, entry_counts_tokens, head_tokens, key_tokens, name_tokens, number_tokens, numbers_tokens, of_tokens, row_tokens, sums_tokens, unit_tokens, value_tokens, First.{MayBegin, Says}, Guess.{Finds, Found, MayFollow, Remains}};
+ghost use Rattle.span_parts.specs.{Bytes, ArgValue as TheValue, Whole, Unit as TheUnit, Column as TheColumn, TableCounts as TheCounts, Of as TheOf, Sums as TheSums, Row as TheRow, column_name, counts_fit, fit, numbers_of, only, TableKey, AreColumns, AreDistinct, IsKeyOf, IsOfArgument, IsRowOf, entry_counts_tokens, head_tokens, key_tokens, name_tokens, number_tokens, numbers_tokens, of_tokens, row_tokens, sums_tokens, unit_tokens, value_tokens, First.{MayBegin, Says}, Guess.{Finds, Found, MayFollow, Remains}};
 
 use crate::heads::MOST_COLUMNS;
 use crate::tokens::{after_one, key_after, number_after, text_after};
 use json::Token;
 use span_event::{ArgValue, Text, Unit};
-use span_table::{Column, EntryCounts, Key, Of, Row, Sum, Sums, TableCounts};
+use span_table::{Column, EntryCounts, Key, Number, Of, Row, Sum, Sums, TableCounts};
 use std::alloc::{AllocError, Global};
 
 /// What a first line says: what is summed, the unit, the columns, the number of rows and the counts.
@@ -163,7 +163,7 @@ pub(crate) fn row_of(
         return Ok(None);
     };
     let (key, rest) = key_of(alloc, names, members)?;
-    match sums_of(of, rest) {
+    match sums_of(of.numbers(), rest) {
         Some(sums) => Ok(Some(Row { key, sums })),
         None => Ok(None),
     }
@@ -178,8 +178,8 @@ fn key_of<'t, 'a>(
     ensures { IfOk result (λ found. (of : TheOf) (columns : List TheColumn)
         (values : TableKey) (sums : TheSums) (rest : List TheToken)
         → AreDistinct names.now → IsKeyOf columns values → names.now ≡ map column_name columns
-        → map token_of tokens.now ≡ key_tokens columns values ++ (sums_tokens of sums ++ rest)
-        → Found values (sums_tokens of sums ++ rest) found) }
+        → map token_of tokens.now ≡ key_tokens columns values ++ (sums_tokens (numbers_of of) sums ++ rest)
+        → Found values (sums_tokens (numbers_of of) sums ++ rest) found) }
 {
     let mut values = Vec::with_capacity(alloc, names.len())?;
     let rest = put_values(alloc, names, tokens, &mut values)?;
@@ -195,8 +195,8 @@ fn put_values<'t, 'a>(
     ensures { IfOk result (λ left. (of : TheOf) (columns : List TheColumn)
         (more : TableKey) (sums : TheSums) (rest : List TheToken)
         → AreDistinct names.now → IsKeyOf columns more → names.now ≡ map column_name columns
-        → map token_of tokens.now ≡ key_tokens columns more ++ (sums_tokens of sums ++ rest)
-        → Found (values.old.items ++ more) (sums_tokens of sums ++ rest) (values.new.items, left)) }
+        → map token_of tokens.now ≡ key_tokens columns more ++ (sums_tokens (numbers_of of) sums ++ rest)
+        → Found (values.old.items ++ more) (sums_tokens (numbers_of of) sums ++ rest) (values.new.items, left)) }
 {
     let Some((name, names)) = names.split_first() else {
         return Ok(tokens);
@@ -209,47 +209,19 @@ fn put_values<'t, 'a>(
     }
 }
 
-fn sums_of(of: Of, tokens: &[Token]) -> Option<Sums>
-    ensures { (sums : TheSums) (rest : List TheToken) → HasOwn of sums → fit sums ≡ true
-        → map token_of tokens.now ≡ sums_tokens of sums ++ rest → result ≡ Some sums }
+// These numbers of a row; the others are 0.
+fn sums_of(numbers: &[Number], tokens: &[Token]) -> Option<Sums>
+    ensures { (sums : TheSums) (rest : List TheToken) → fit sums ≡ true
+        → map token_of tokens.now ≡ sums_tokens numbers.now sums ++ rest
+        → result ≡ Some (only numbers.now sums) }
 {
-    match of {
-        Of::Spans => span_sums_of(tokens),
-        Of::Async => async_sums_of(tokens),
-    }
-}
-
-fn span_sums_of(tokens: &[Token]) -> Option<Sums>
-    ensures { (sums : TheSums) (rest : List TheToken) → HasOwn Spans sums → fit sums ≡ true
-        → map token_of tokens.now ≡ sums_tokens Spans sums ++ rest → result ≡ Some sums }
-{
-    let (count, rest) = number_after(tokens, "count")?;
-    let (total, rest) = number_after(rest, "total")?;
-    let (self_time, _) = number_after(rest, "self")?;
-    Some(Sums {
-        count: Sum::of(u128::from(count)),
-        total: Sum::of(u128::from(total)),
-        self_time: Sum::of(u128::from(self_time)),
-        unclosed: Sum::of(0),
-        points: Sum::of(0),
-    })
-}
-
-fn async_sums_of(tokens: &[Token]) -> Option<Sums>
-    ensures { (sums : TheSums) (rest : List TheToken) → HasOwn Async sums → fit sums ≡ true
-        → map token_of tokens.now ≡ sums_tokens Async sums ++ rest → result ≡ Some sums }
-{
-    let (closed, rest) = number_after(tokens, "closed")?;
-    let (total, rest) = number_after(rest, "total")?;
-    let (unclosed, rest) = number_after(rest, "open")?;
-    let (points, _) = number_after(rest, "points")?;
-    Some(Sums {
-        count: Sum::of(u128::from(closed)),
-        total: Sum::of(u128::from(total)),
-        self_time: Sum::of(0),
-        unclosed: Sum::of(u128::from(unclosed)),
-        points: Sum::of(u128::from(points)),
-    })
+    let Some((number, numbers)) = numbers.split_first() else {
+        return Some(Sums::of_none());
+    };
+    let (value, rest) = number_after(tokens, number.name())?;
+    let mut sums = sums_of(numbers, rest)?;
+    sums.put(*number, Sum::of(u128::from(value)));
+    Some(sums)
 }
 
 // The value behind a key, if this key is next, and the tokens behind it.

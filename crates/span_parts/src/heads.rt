@@ -1,6 +1,6 @@
 //! The first line of a part.
-ghost use Rattle.std.specs.{List.list_any, Prelude.{◌≡◌, ◌↔◌, ◌==◌, ◌++◌, ◌∷◌, [], ℕ, List, map, IfErr, IfOk, IfSome, IsTrue}};
-ghost use Rattle.span_parts.specs.{Bytes, Unit as TheUnit, Column as TheColumn, TableCounts as TheCounts, Of as TheOf, column_name, json_head, is_column, AreColumns, AreDistinct, First.{Begins, IsFirstLine, MayBegin, Says}, Sum.FailsToBegin};
+ghost use Rattle.std.specs.{List.list_any, Prelude.{◌≡◌, ◌↔◌, ◌==◌, ◌++◌, ◌∷◌, [], true, ℕ, List, map, IfErr, IfOk, IfSome, IsTrue}};
+ghost use Rattle.span_parts.specs.{Bytes, Unit as TheUnit, Column as TheColumn, TableCounts as TheCounts, Of as TheOf, column_name, counts_fit, json_head, is_column, AreColumns, AreDistinct, First.{Begins, IsFirstLine, MayBegin, Says}, Sum.FailsToBegin};
 
 use crate::fault::PartFault;
 use crate::guess::{FirstLine, first_line_of};
@@ -8,7 +8,7 @@ use crate::room::{LineRoom, is_line};
 use crate::tokens::tokens_of;
 use span_event::Text;
 use span_table::{Column, Of, counts_fit};
-use span_table_text::{column_names, put_json_head};
+use span_table_text::{Head, column_names, with_json_head};
 use std::alloc::{AllocError, Global};
 
 /// A table has at most so many.
@@ -60,29 +60,30 @@ fn head_of_line(
     if !counts_fit(&first.counts) {
         return Ok(None);
     }
-    if !is_head(alloc, &first, line)? {
+    if !is_head(alloc, &first, &names, line)? {
         return Ok(None);
     }
     Ok(Some(first))
 }
 
 // Whether this is printed as the line.
-fn is_head(alloc: Global, first: &FirstLine, line: &str) -> Result<bool, AllocError>
+fn is_head(alloc: Global, first: &FirstLine, names: &[Text], line: &str) -> Result<bool, AllocError>
+    requires names { names.now ≡ map column_name first.now.columns.items }
+    requires counts { counts_fit first.now.counts ≡ true }
     ensures { IfOk result (λ same. IsTrue same ↔ line.now ++ 10 ∷ []
         ≡ json_head first.now.of first.now.unit first.now.columns.items
         first.now.rows first.now.counts) }
 {
-    let mut printed = String::new(alloc);
-    put_json_head(
-        alloc,
-        &mut printed,
-        first.of,
-        first.unit,
-        &first.columns,
-        first.rows as usize,
-        first.counts,
-    )?;
-    Ok(is_line(printed.as_bytes(), line))
+    let head = Head {
+        of: first.of,
+        unit: first.unit,
+        columns: &first.columns,
+        names,
+        rows: first.rows,
+        counts: first.counts,
+    };
+    let printed = with_json_head(Vec::new(alloc), &head)?;
+    Ok(is_line(&printed, line))
 }
 
 // Whether a table that sums this may have these columns, of these names.

@@ -75,10 +75,7 @@ fn is_row_of(of: Of, columns: &[Column], row: &Row) -> bool
 fn has_own(of: Of, sums: &Sums) -> bool
     ensures { IsTrue result ↔ HasOwn of sums.now }
 {
-    match of {
-        Of::Spans => is_none(&sums.unclosed) && is_none(&sums.points),
-        Of::Async => is_none(&sums.self_time),
-    }
+    sums.equals(&sums.only(of.numbers()))
 }
 
 // Whether a key of spans has one.
