@@ -6,7 +6,8 @@ use Rattle.span_journal.proofs.{Selected.filter-ascending, Sorted.{AllByRecursio
 use Rattle.span_ledger.proofs.Sorting.{ascending-permutation}
 use Rattle.span_table.proofs.Alike.{has_key-append, same_keys}
 use Rattle.span_table_text.proofs.Ranked.{filter-sorted}
-use Rattle.span_comparisons.specs.{ascending, Of, Number, leading_numbers, Row, found_at, key_cmp_total, key_cmp-same, TableKey, key_cmp, Wanted, is_wanted, RowsRise, Changed.{base_keys, is_new, new_keys}, Changes.{Change, by_gap, change_order, compared, compared_at, is_changed, is_same, same_count, shown_changes, gaps_order}}
+use Rattle.span_comparisons.proofs.Comparing.{change_order-total}
+use Rattle.span_comparisons.specs.{ascending, Of, Number, leading_numbers, Row, found_at, key_cmp_total, key_cmp-same, TableKey, key_cmp, Wanted, is_wanted, RowsRise, Changed.{base_keys, is_new, new_keys}, Changes.{Change, by_gap, change_order, compared, compared_at, gaps_order, is_changed, is_same, same_count, shown_changes}, Laws.ComparisonsHaveEachChange}
 
 abbrev pub key_of : Row → TableKey
 key_of row = row.key
@@ -219,3 +220,9 @@ changes-distinct of by wanted base other =
     IsDistinct-sorted of by (filter is_changed (shown_changes wanted (compared base other)))
     (filter-sorted by_key is_changed (shown_changes wanted (compared base other)) (filter-sorted by_key (λ (c : Change). is_wanted wanted c.key) (compared base other)
     (map-sorted key_cmp (λ (c : Change). c.key) (compared_at base other) (λ key. refl) (ascending key_cmp keys) (ascending-sorted key_cmp_total keys))))
+
+-- so each has its place
+pub changes-each : ComparisonsHaveEachChange
+changes-each of by wanted base other =
+    let changes = filter is_changed (shown_changes wanted (compared base other)) in
+    record { places = ascending-permutation (change_order-total of by) changes (changes-distinct of by wanted base other); order = ascending-sorted (change_order-total of by) changes }

@@ -1,6 +1,6 @@
 -- The facts that hold of every comparison and every text of repeated runs.
-use Rattle.std.specs.{List.Sorted.{IsNonDecreasing, IsPermutation}, Prelude.{◌≡◌, ℕ, Bool, ◌+◌, ◌-◌, ◌<◌, List, ◌++◌, codes, decimal, length, map}}
-use Rattle.span_comparisons.specs.{Unit, first_line, unit_line, Column, Of, Number, Row, shown_line, Wanted, shown_rows, RowsRise, SpanTable, Changes.{Change, changes_of, compared, same_count, shown_changes}, Comparison.{change_columns, compared_heads, comparison_of, difference_text, same_line}, Repeats.repeats_of, Spreads.{apart_spreads, overlap_count, same_spread_count, shown_spreads, sorted}}
+use Rattle.std.specs.{List.Sorted.{IsNonDecreasing, IsPermutation, IsStrictlySortedBy}, Prelude.{◌≡◌, ℕ, Bool, ◌+◌, ◌-◌, ◌<◌, List, ◌++◌, codes, decimal, filter, length, map}}
+use Rattle.span_comparisons.specs.{Unit, first_line, unit_line, Column, Of, Number, Row, shown_line, Wanted, shown_rows, RowsRise, SpanTable, Changes.{Change, change_order, changes_of, compared, is_changed, same_count, shown_changes}, Comparison.{change_columns, compared_heads, comparison_of, difference_text, same_line}, Repeats.repeats_of, Spreads.{Spreads, apart_spreads, is_apart, overlap_count, same_spread_count, shown_spreads, sorted, spread_order}}
 
 -- between a table and itself nothing changed: below the names of the columns is how many keys are shown
 abbrev pub ComparesWithItself : Unit → Number → Wanted → Bool → SpanTable → Type 0
@@ -30,6 +30,15 @@ pub record TurnsEachChange (of : Of) (by : Number) (wanted : Wanted) (base other
 abbrev pub ComparisonsTurn : Type 0
 ComparisonsTurn = (of : Of) (by : Number) (wanted : Wanted) (base other : List Row) → TurnsEachChange of by wanted base other
 
+-- each key of which a number differs has its place, and no two stand at one place
+pub record ShowsEachChange (of : Of) (by : Number) (keys : List Change) : Type 0 where
+  pub places : IsPermutation (filter is_changed keys) (changes_of of by keys)
+  pub order : IsStrictlySortedBy (change_order of by) (changes_of of by keys)
+
+-- this holds of the keys that are shown of any two lists of rows, by whatever number
+abbrev pub ComparisonsHaveEachChange : Type 0
+ComparisonsHaveEachChange = (of : Of) (by : Number) (wanted : Wanted) (base other : List Row) → ShowsEachChange of by (shown_between wanted base other)
+
 -- where one number is less than another, the difference is printed with `+` to the greater and with `-` back, and is as great
 abbrev pub DifferencesTurn : Type 0
 DifferencesTurn = (m n : ℕ) → m < n → (difference_text m n ≡ codes "+" ++ decimal (n - m)) × (difference_text n m ≡ codes "-" ++ decimal (n - m))
@@ -42,6 +51,15 @@ pub record SortsValues (values : List ℕ) : Type 0 where
 -- this holds of any values
 abbrev pub ValuesAreSorted : Type 0
 ValuesAreSorted = (values : List ℕ) → SortsValues values
+
+-- each key whose sides are apart has its place, and no two stand at one place
+pub record ShowsEachSpread (spreads : List Spreads) : Type 0 where
+  pub places : IsPermutation (filter is_apart spreads) (apart_spreads spreads)
+  pub order : IsStrictlySortedBy spread_order (apart_spreads spreads)
+
+-- this holds of the keys that are shown of repeated runs
+abbrev pub RepetitionsHaveEachKey : Type 0
+RepetitionsHaveEachKey = (by : Number) (wanted : Wanted) (base other : List SpanTable) → ShowsEachSpread (shown_spreads by wanted base other)
 
 -- each key that is shown has its line, overlaps, or is the same
 abbrev pub EachKeyIsCounted : Type 0
