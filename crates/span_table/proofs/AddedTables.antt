@@ -4,7 +4,7 @@ use Rattle.std.proofs.{Common.{◌≡◌, ℕ, ◌+◌, ◌||◌, List, [], ◌�
 use Rattle.span_self_time.proofs.Mapped.{sum_by-map}
 use Rattle.span_keyed_tracks.proofs.{Keyed.has_key, SameKeys.step_keys}
 use Rattle.span_table.specs.{Thread, AsyncRow, Keyed, keys_in, steps_at, CountRow, accepted, async_rows, thread_keys, Timed, timed_spans, Adding.{AddingLosesNothing, DroppingAdds, OrderIsNothing, keyed_by, keyed_rows, picked}, Columns.{async_value_at, value_at}, KeyLaws.{key_cmp_total, key_cmp-same}, Keys.{TableKey, key_cmp}, Tables.{KeyedSums, Run, SpanTable, counts_of, counts_together, keyed_async, keyed_span, row_of, rows_of, run_sums, sums_together, table_of, thread_sums}, declared.{column.Column.Column, counts.TableCounts.TableCounts, of.Of.{Of, TheVariants.{Spans, Async}}, sums.Sums.Sums, table.Row.Row}}
-use Rattle.span_table.proofs.{Alike.{AddUpAlike, AddUpAlike-flat_map, AddUpAlike-grouped, has_key-append, summed-alike}, Tallies.{made_of, tally, tally-append, under}}
+use Rattle.span_table.proofs.{Alike.{AddUpAlike, AddUpAlike-append, AddUpAlike-flat_map, AddUpAlike-grouped, AddUpAlike-refl, has_key-append, summed-alike}, Tallies.{made_of, sums-same, tally, tally-append, under}}
 
 -- sums that add up alike give the same rows
 pub rows_of-alike : (es fs : KeyedSums) → AddUpAlike es fs → rows_of es ≡ rows_of fs
@@ -35,10 +35,18 @@ rows-regrouped g es = keys (keys_in key_cmp es)
     keys (k ∷ ks) = ap (λ l. record { key = g k; step = sums_together (steps_at key_cmp k es) } ∷ l) (keys ks)
 
 -- the rows of sums add up as these do
-pub rows-back : (es : KeyedSums) → AddUpAlike (keyed_rows (rows_of es)) es
+rows-back : (es : KeyedSums) → AddUpAlike (keyed_rows (rows_of es)) es
 rows-back es =
     subst (λ l. AddUpAlike l es) (sym (rows-regrouped (λ k. k) es))
     (subst (AddUpAlike (regrouped (λ k. k) es)) (map-id es) (AddUpAlike-grouped key_cmp_total key_cmp-same (λ k. k) es))
+
+-- sums behind the rows of others are behind these
+pub rows-then : (sums more : KeyedSums) → rows_of (keyed_rows (rows_of sums) ++ more) ≡ rows_of (sums ++ more)
+rows-then sums more = rows_of-alike (keyed_rows (rows_of sums) ++ more) (sums ++ more) (AddUpAlike-append (keyed_rows (rows_of sums)) more sums more (rows-back sums) (AddUpAlike-refl more))
+
+-- so are the rows of sums
+pub rows-behind : (sums more : KeyedSums) → rows_of (sums ++ keyed_rows (rows_of more)) ≡ rows_of (sums ++ more)
+rows-behind sums more = rows_of-alike (sums ++ keyed_rows (rows_of more)) (sums ++ more) (AddUpAlike-append sums (keyed_rows (rows_of more)) sums more (AddUpAlike-refl sums) (rows-back more))
 
 -- a number of counts that are added is that of these together
 module _ (f : TableCounts → ℕ) (adds : (all : List TableCounts) → f (counts_together all) ≡ sum_by f all) where
@@ -140,12 +148,9 @@ module _ (F : Run → KeyedSums) (k : TableKey) where
 
     sums-moved : sums_together (steps_at key_cmp k (flat_map F runs)) ≡ sums_together (steps_at key_cmp k (flat_map F other))
     sums-moved =
-        let count = tally-moved (λ (s : Sums). s.count) in
-        let total = tally-moved (λ (s : Sums). s.total) in
-        let self_time = tally-moved (λ (s : Sums). s.self_time) in
-        let unclosed = tally-moved (λ (s : Sums). s.unclosed) in
-        let points = tally-moved (λ (s : Sums). s.points) in
-        λ i. record { count = count i; total = total i; self_time = self_time i; unclosed = unclosed i; points = points i }
+        let mine = steps_at key_cmp k (flat_map F runs) in
+        let its = steps_at key_cmp k (flat_map F other) in
+        sums-same (sums_together mine) (sums_together its) (λ f is. is.together mine ∙ tally-moved f ∙ sym (is.together its))
 
 -- a table is the same for runs in whatever order
 pub table_of-moved : OrderIsNothing

@@ -1,10 +1,10 @@
 -- Sums under keys that add up alike are kept alike.
 use Rattle.std.specs.{BTreeSet.insert_key, Cmp.{IsTotalOrder, eq_by_cmp_equiv, tied_itself}, List.{AllByRecursion, Contains, Sorted.IsStrictlySortedBy}, Ordering.{eq_by_cmp, is_eq}, Prelude.{flat_map, fold}, declared.cmp.Ordering.{Ordering, TheVariants.Equal}}
-use Rattle.std.proofs.{Common.{◌≡◌, ℕ, Bool, true, false, ◌||◌, List, [], ◌∷◌, ◌++◌, map, refl, sym, ap, ap₂, ◌∙◌}, lemmas.{List.map-append, Map.Views.list_any-from_Contains}}
+use Rattle.std.proofs.{Common.{◌≡◌, ℕ, ◌+◌, Bool, true, false, ◌||◌, List, [], ◌∷◌, ◌++◌, map, refl, sym, ap, ap₂, ◌∙◌}, lemmas.{List.map-append, Map.Views.list_any-from_Contains}}
 use Rattle.indexmap.proofs.CallerLemmas.{Contains-list_any}
 use Rattle.span_keyed_tracks.proofs.{KeyOrder.has_key-insert_key, Keyed.{has_key, same_from_is_eq}, SameKeys.{ascending-members, step_keys}, Sorted.{AllByRecursion-map, ascending-sorted}}
 use Rattle.span_table.specs.{Keyed, ascending, entry_of, keys_in, steps_at, Collected.with_sums, KeyLaws.{key_cmp_total, key_cmp-same}, Keys.{TableKey, key_cmp}, Tables.{KeyedSums, summed, sums_together}, declared.sums.Sums.Sums}
-use Rattle.span_table.proofs.Tallies.{made_of, tally, tally-append, tally-made, under}
+use Rattle.span_table.proofs.Tallies.{made_of, sums-same, tally, tally-append, tally-made, under}
 
 either : (a b : Bool) → b ≡ true → (a || b) ≡ true
 either true b h = refl
@@ -36,8 +36,8 @@ summed-alike es fs alike =
 pub AddUpAlike-refl : (es : KeyedSums) → AddUpAlike es es
 AddUpAlike-refl es = record { there = λ k h. h; back = λ k h. h; sums = λ k. refl }
 
-pub AddUpAlike-sym : (es fs : KeyedSums) → AddUpAlike es fs → AddUpAlike fs es
-AddUpAlike-sym es fs alike = record { there = alike.back; back = alike.there; sums = λ k. sym (alike.sums k) }
+pub AddUpAlike-trans : (es fs gs : KeyedSums) → AddUpAlike es fs → AddUpAlike fs gs → AddUpAlike es gs
+AddUpAlike-trans es fs gs one other = record { there = λ k h. other.there k (one.there k h); back = λ k h. one.back k (other.back k h); sums = λ k. one.sums k ∙ other.sums k }
 
 -- a key is among two lists where it is among one of them
 pub has_key-append : {K : Type 0} (cmp : K → K → Ordering) (k : K) (xs ys : List K) → has_key cmp k (xs ++ ys) ≡ (has_key cmp k xs || has_key cmp k ys)
@@ -48,18 +48,16 @@ has_key-append cmp k (x ∷ xs) ys = ap (λ b. is_eq (cmp k x) || b) (has_key-ap
     grouped true b c = refl
     grouped false b c = refl
 
-step_keys-append : (k : TableKey) (es fs : KeyedSums) → has_key key_cmp k (step_keys (es ++ fs)) ≡ (has_key key_cmp k (step_keys es) || has_key key_cmp k (step_keys fs))
+pub step_keys-append : (k : TableKey) (es fs : KeyedSums) → has_key key_cmp k (step_keys (es ++ fs)) ≡ (has_key key_cmp k (step_keys es) || has_key key_cmp k (step_keys fs))
 step_keys-append k es fs = ap (has_key key_cmp k) (map-append (λ (e : Keyed TableKey Sums). e.key) es fs) ∙ has_key-append key_cmp k (step_keys es) (step_keys fs)
 
 -- the sums of a key among two lists
 pub sums_at-append : (k : TableKey) (es fs : KeyedSums) → sums_together (steps_at key_cmp k (es ++ fs)) ≡ with_sums (sums_together (steps_at key_cmp k es)) (sums_together (steps_at key_cmp k fs))
 sums_at-append k es fs =
-    let count = tally-append key_cmp (λ (s : Sums). s.count) k es fs in
-    let total = tally-append key_cmp (λ (s : Sums). s.total) k es fs in
-    let self_time = tally-append key_cmp (λ (s : Sums). s.self_time) k es fs in
-    let unclosed = tally-append key_cmp (λ (s : Sums). s.unclosed) k es fs in
-    let points = tally-append key_cmp (λ (s : Sums). s.points) k es fs in
-    λ i. record { count = count i; total = total i; self_time = self_time i; unclosed = unclosed i; points = points i }
+    let one = steps_at key_cmp k es in
+    let other = steps_at key_cmp k fs in
+    sums-same (sums_together (steps_at key_cmp k (es ++ fs))) (with_sums (sums_together one) (sums_together other))
+    (λ f is. is.together (steps_at key_cmp k (es ++ fs)) ∙ tally-append key_cmp f k es fs ∙ sym (is.both (sums_together one) (sums_together other) ∙ ap₂ (λ m n. m + n) (is.together one) (is.together other)))
 
 Within-append : (es fs es' fs' : KeyedSums) → Within key_cmp (step_keys es) (step_keys es') → Within key_cmp (step_keys fs) (step_keys fs') → Within key_cmp (step_keys (es ++ fs)) (step_keys (es' ++ fs'))
 Within-append es fs es' fs' first second k h =
@@ -159,10 +157,7 @@ module _ {K : Type 0} {cmp : K → K → Ordering} (o : IsTotalOrder cmp) (same 
       there = λ j h. ap (has_key key_cmp j) (keys_under es) ∙ Within-map (keys_in cmp es) (step_keys es) (λ k has. sym (has_key-ascending k (step_keys es)) ∙ has) j (sym (ap (has_key key_cmp j) (keys_grouped (keys_in cmp es))) ∙ h);
       back = λ j h. ap (has_key key_cmp j) (keys_grouped (keys_in cmp es)) ∙ Within-map (step_keys es) (keys_in cmp es) (λ k has. has_key-ascending k (step_keys es) ∙ has) j (sym (ap (has_key key_cmp j) (keys_under es)) ∙ h);
       sums = λ j.
-          let count = one_sum (λ (s : Sums). s.count) (λ k. refl) j in
-          let total = one_sum (λ (s : Sums). s.total) (λ k. refl) j in
-          let self_time = one_sum (λ (s : Sums). s.self_time) (λ k. refl) j in
-          let unclosed = one_sum (λ (s : Sums). s.unclosed) (λ k. refl) j in
-          let points = one_sum (λ (s : Sums). s.points) (λ k. refl) j in
-          λ i. record { count = count i; total = total i; self_time = self_time i; unclosed = unclosed i; points = points i };
+          let mine = steps_at key_cmp j grouped in
+          let its = steps_at key_cmp j (map (under g) es) in
+          sums-same (sums_together mine) (sums_together its) (λ f is. is.together mine ∙ one_sum f (λ k. is.together (steps_at cmp k es)) j ∙ sym (is.together its));
     }

@@ -6,6 +6,7 @@ pub mod ByName
 pub mod FewRows
 pub mod Kept
 pub mod KeyPlaces
+pub mod Merged
 pub mod OwnRows
 pub mod Rows
 pub mod SameTables

@@ -2,7 +2,7 @@
 use Rattle.std.specs.{Cmp.IsTotalOrder, List.{AllByRecursion, Sorted.IsStrictlySortedBy}, Ordering.is_eq, Prelude.{filter, sum_by}, declared.cmp.Ordering.{Ordering, TheVariants.{Less, Equal}}}
 use Rattle.std.proofs.{Common.{◌≡◌, ℕ, ◌+◌, Bool, true, false, ◌||◌, cond, List, [], ◌∷◌, ◌++◌, map, refl, sym, ap, ap₂, ◌∙◌, arith}, lemmas.List.{map-append, Elements.filter-append, Sums.{sum_by-append, sum_by-cons}}}
 use Rattle.span_keyed_tracks.proofs.Keyed.{has_key, same_from_is_eq}
-use Rattle.span_table.specs.{Keyed, steps_at}
+use Rattle.span_table.specs.{Keyed, steps_at, Collected.with_sums, Tables.sums_together, declared.sums.Sums.Sums}
 
 -- what the steps of one key come to by a number
 module _ {K A : Type 0} (cmp : K → K → Ordering) (f : A → ℕ) where
@@ -117,3 +117,18 @@ module _ {K J A : Type 0} {cmp : K → K → Ordering} (o : IsTotalOrder cmp) (s
   pub tally-made : (F : K → A) (j : J) (es : List (Keyed K A)) (ks : List K) → IsStrictlySortedBy cmp ks → AllByRecursion (λ (e : Keyed K A). has_key cmp e.key ks ≡ true) es → ((k : K) → f (F k) ≡ tally cmp f k es) →
       tally other f j (map (under g) (map (made_of F) ks)) ≡ tally other f j (map (under g) es)
   tally-made F j es ks sorted known gives = put_under-made F j es ks gives ∙ put_under-all j es ks sorted known
+
+-- one of the numbers of sums
+pub record IsNumber (f : Sums → ℕ) : Type 0 where
+  pub together : (sums : List Sums) → f (sums_together sums) ≡ sum_by f sums
+  pub both : (a b : Sums) → f (with_sums a b) ≡ f a + f b
+
+-- sums, where each number of them is the same
+pub sums-same : (a b : Sums) → ((f : Sums → ℕ) → IsNumber f → f a ≡ f b) → a ≡ b
+sums-same a b same =
+    let count = same (λ s. s.count) (record { together = λ sums. refl; both = λ a b. refl }) in
+    let total = same (λ s. s.total) (record { together = λ sums. refl; both = λ a b. refl }) in
+    let self_time = same (λ s. s.self_time) (record { together = λ sums. refl; both = λ a b. refl }) in
+    let unclosed = same (λ s. s.unclosed) (record { together = λ sums. refl; both = λ a b. refl }) in
+    let points = same (λ s. s.points) (record { together = λ sums. refl; both = λ a b. refl }) in
+    λ i. record { count = count i; total = total i; self_time = self_time i; unclosed = unclosed i; points = points i }

@@ -1,5 +1,5 @@
 -- Tables are added, and lose nothing by it.
-use Rattle.std.specs.{List.Sorted.IsPermutation, Prelude.{◌≡◌, ℕ, List, [], ◌∷◌, ◌++◌, map, filter_map, flat_map, slice_get}}
+use Rattle.std.specs.{List.Sorted.IsPermutation, Prelude.{◌≡◌, ℕ, List, [], ◌∷◌, ◌++◌, map, filter_map, flat_map, length, slice_get}}
 use Rattle.span_table.specs.{Keyed, Keys.TableKey, Tables.{KeyedSums, Run, SpanTable, counts_together, rows_of, table_of}, declared.{column.Column.Column, counts.TableCounts.TableCounts, of.Of.Of, sums.Sums.Sums, table.Row.Row}}
 
 -- the sums of a row, under its key
@@ -8,6 +8,11 @@ keyed_row row = record { key = row.key; step = row.sums }
 
 abbrev pub keyed_rows : List Row → KeyedSums
 keyed_rows rows = map keyed_row rows
+
+-- a table, and of how many parts it is: runs, or tables that were added
+pub record SummedTable : Type 0 where
+  pub parts : ℕ
+  pub table : SpanTable
 
 -- tables of the same columns, that sum the same, added: counts added, and for each key that one of them has its sums
 abbrev pub add_tables : Of → List Column → List SpanTable → SpanTable
@@ -30,13 +35,18 @@ with_row table row = record { of = table.of; columns = table.columns; counts = t
 abbrev pub with_run : SpanTable → Run → SpanTable
 with_run table run = add_tables table.of table.columns (table ∷ table_of table.of table.columns (run ∷ []) ∷ [])
 
--- where one is the table of some runs, the other is that of these and more
-abbrev pub TakesRuns : SpanTable → List Run → SpanTable → Type 0
-TakesRuns old more new = (of : Of) (columns : List Column) (runs : List Run) → old ≡ table_of of columns runs → new ≡ table_of of columns (runs ++ more)
+-- the sum of these runs
+pub record IsSumOf (of : Of) (columns : List Column) (runs : List Run) (sum : SummedTable) : Type 0 where
+  pub table : sum.table ≡ table_of of columns runs
+  pub parts : sum.parts ≡ length runs
 
--- where two are tables of some runs each, the third is that of all of these
-abbrev pub JoinsRuns : SpanTable → SpanTable → SpanTable → Type 0
-JoinsRuns one other both = (of : Of) (columns : List Column) (runs others : List Run) → one ≡ table_of of columns runs → other ≡ table_of of columns others → both ≡ table_of of columns (runs ++ others)
+-- where one is the sum of some runs, the other is that of these and more
+abbrev pub TakesRuns : SummedTable → List Run → SummedTable → Type 0
+TakesRuns old more new = (of : Of) (columns : List Column) (runs : List Run) → IsSumOf of columns runs old → IsSumOf of columns (runs ++ more) new
+
+-- where two are sums of some runs each, the third is that of all of these
+abbrev pub JoinsRuns : SummedTable → SummedTable → SummedTable → Type 0
+JoinsRuns one other both = (of : Of) (columns : List Column) (runs others : List Run) → IsSumOf of columns runs one → IsSumOf of columns others other → IsSumOf of columns (runs ++ others) both
 
 -- the tables of lists of runs, added, are the table of all these runs together
 abbrev pub AddingLosesNothing : Type 0

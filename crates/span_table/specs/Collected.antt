@@ -1,6 +1,6 @@
 -- How the sums of a table are collected: row by row of a ledger's names or asynchronous keys, or span by span.
 use Rattle.std.specs.{Map.{lookup, values_of}, Ordering.eq_by_cmp, Prelude.{◌≡◌, ℕ, ◌+◌, ◌≤◌, List, [], ◌++◌, All, map, slice_get, Option, Some, None}}
-use Rattle.span_table.specs.{Keyed, SpanRow, thread_of_span, span_rows, Columns.{Run, value_at}, Keys.{TableKey, key_cmp}, Tables.{KeyedSums, SumsByKey, summed}, declared.{column.Column.Column, sums.Sums.Sums}}
+use Rattle.span_table.specs.{Keyed, SpanRow, thread_of_span, span_rows, Columns.{Run, value_at}, Keys.{TableKey, key_cmp}, Tables.{KeyedSums, SumsByKey, summed}, declared.{column.Column.Column, sums.Sums.Sums, table.Row.Row}}
 
 -- the sums of a row
 abbrev pub sums_of_row : SpanRow → Sums
@@ -28,13 +28,14 @@ pub record IsWithin (most : ℕ) (sums : Sums) : Type 0 where
 abbrev pub AllWithin : ℕ → SumsByKey → Type 0
 AllWithin most kept = All (IsWithin most) (values_of kept)
 
--- the sums of no key grow by more than this
-abbrev pub GrowsBy : ℕ → SumsByKey → SumsByKey → Type 0
-GrowsBy more old new = (most : ℕ) → AllWithin most old → AllWithin (most + more) new
+-- those of no row are
+abbrev pub RowsWithin : ℕ → List Row → Type 0
+RowsWithin most rows = All (λ (row : Row). IsWithin most row.sums) rows
 
--- what is kept of some sums becomes what is kept of them and more
-abbrev pub Takes : SumsByKey → SumsByKey → KeyedSums → Type 0
-Takes old new more = (sums : KeyedSums) → old ≡ summed sums → new ≡ summed (sums ++ more)
+-- what is kept of some sums becomes what is kept of them and more, and those of no key grow by more than this
+pub record Takes (most : ℕ) (old new : SumsByKey) (more : KeyedSums) : Type 0 where
+  pub sums : (sums : KeyedSums) → old ≡ summed sums → new ≡ summed (sums ++ more)
+  pub grows : (own : ℕ) → AllWithin own old → AllWithin (own + most) new
 
 -- a row of a thread's names, under the key that its spans have
 abbrev pub keyed_span_row : List Column → Run → SpanRow → Keyed TableKey Sums

@@ -7,6 +7,7 @@ pub mod KeyLaws
 pub mod KeyWrites
 pub mod Keys
 pub mod Laws
+pub mod Merging
 pub mod Numbers
 pub mod RowSearch
 pub mod SumLaws

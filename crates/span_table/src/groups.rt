@@ -1,9 +1,10 @@
 //! The sums of each key.
-ghost use Rattle.std.specs.{BTreeMap.is_at, Map.lookup, Prelude.{◌≡◌, ◌^◌, ◌∷◌, [], ℕ, false, None, IfOk, IsTrue, OnErr, OnOk}};
-ghost use Rattle.span_table.specs.{Collected.{AllWithin, GrowsBy, IsPlaceOf, IsWithin, Takes}, Keys.key_cmp};
+ghost use Rattle.std.specs.{BTreeMap.is_at, Map.lookup, Prelude.{◌≡◌, ◌^◌, ◌∷◌, [], ℕ, false, map, None, IfOk, IsTrue, OnErr, OnOk}};
+ghost use Rattle.span_table.specs.{Collected.{AllWithin, IsPlaceOf, IsWithin, RowsWithin, Takes}, Keys.key_cmp, Tables.{RowsRise, row_of}};
 
 use crate::key::Key;
 use crate::sums::Sums;
+use crate::table::Row;
 use indexmap::IndexMap;
 use span_names::HashKeys;
 use std::alloc::{AllocError, Global};
@@ -44,17 +45,19 @@ impl Groups {
         }
     }
 
-    pub(crate) fn allocator(&self) -> Global {
-        *self.kept.allocator()
+    /// No sums of any key, which are hashed by the same keys.
+    pub(crate) fn none_beside(&self) -> Groups
+        ensures { result ≡ [] }
+    {
+        Groups::new(*self.kept.allocator(), *self.kept.hasher())
     }
 
     /// Adds sums to those of a key.
     pub(crate) fn add(&mut self, key: Key, more: Sums) -> Result<(), AllocError>
         requires all { AllWithin (2 ^ 200) self.old }
         requires more { IsWithin (2 ^ 200) more }
-        ensures takes { OnOk result
-            (Takes self.old self.new (record { key = key; step = more } ∷ [])) }
-        ensures bound { OnOk result ((n : ℕ) → IsWithin n more → GrowsBy n self.old self.new) }
+        ensures takes { OnOk result ((n : ℕ) → IsWithin n more
+            → Takes n self.old self.new (record { key = key; step = more } ∷ [])) }
         ensures err { OnErr result (self.new ≡ self.old) }
     {
         if self.add_known(&key, &more) {
@@ -67,15 +70,14 @@ impl Groups {
     pub(crate) fn add_copy(&mut self, key: &Key, more: &Sums) -> Result<(), AllocError>
         requires all { AllWithin (2 ^ 200) self.old }
         requires more { IsWithin (2 ^ 200) more.now }
-        ensures takes { OnOk result
-            (Takes self.old self.new (record { key = key.now; step = more.now } ∷ [])) }
-        ensures bound { OnOk result ((n : ℕ) → IsWithin n more.now → GrowsBy n self.old self.new) }
+        ensures takes { OnOk result ((n : ℕ) → IsWithin n more.now
+            → Takes n self.old self.new (record { key = key.now; step = more.now } ∷ [])) }
         ensures err { OnErr result (self.new ≡ self.old) }
     {
         if self.add_known(key, more) {
             return Ok(());
         }
-        let key = key.try_clone(self.allocator())?;
+        let key = key.try_clone(*self.kept.allocator())?;
         self.insert(key, *more)
     }
 
@@ -83,10 +85,8 @@ impl Groups {
     fn add_known(&mut self, key: &Key, more: &Sums) -> bool
         requires all { AllWithin (2 ^ 200) self.old }
         requires more { IsWithin (2 ^ 200) more.now }
-        ensures takes { IsTrue result
-            → Takes self.old self.new (record { key = key.now; step = more.now } ∷ []) }
-        ensures bound { IsTrue result → (n : ℕ) → IsWithin n more.now
-            → GrowsBy n self.old self.new }
+        ensures takes { IsTrue result → (n : ℕ) → IsWithin n more.now
+            → Takes n self.old self.new (record { key = key.now; step = more.now } ∷ []) }
         ensures same { result ≡ false → self.new ≡ self.old }
         ensures new { result ≡ false → lookup (is_at (key_cmp key.now)) self.new ≡ None }
     {
@@ -104,9 +104,8 @@ impl Groups {
     fn insert(&mut self, key: Key, more: Sums) -> Result<(), AllocError>
         requires new { lookup (is_at (key_cmp key)) self.old ≡ None }
         requires all { AllWithin (2 ^ 200) self.old }
-        ensures takes { OnOk result
-            (Takes self.old self.new (record { key = key; step = more } ∷ [])) }
-        ensures bound { OnOk result ((n : ℕ) → IsWithin n more → GrowsBy n self.old self.new) }
+        ensures takes { OnOk result ((n : ℕ) → IsWithin n more
+            → Takes n self.old self.new (record { key = key; step = more } ∷ [])) }
         ensures err { OnErr result (self.new ≡ self.old) }
     {
         self.kept.insert(key, more)?;
@@ -114,14 +113,14 @@ impl Groups {
     }
 
     /// The keys in ascending order, with the sums of each.
-    pub(crate) fn into_entries(self) -> Result<Vec<(Key, Sums)>, AllocError>
-        ensures { IfOk result (λ entries. entries.items ≡ self) }
+    pub(crate) fn into_rows(self) -> Result<Vec<Row>, AllocError>
+        ensures rows { IfOk result (λ rows. rows.items ≡ map row_of self) }
+        ensures rise { IfOk result (λ rows. RowsRise rows.items) }
+        ensures bound { IfOk result (λ rows. (n : ℕ) → AllWithin n self → RowsWithin n rows.items) }
     {
-        let Groups { kept, .. } = self;
-        let alloc = *kept.allocator();
-        let mut entries = entries_of(alloc, kept)?;
-        entries.sort_unstable_by(|a, b| a.0.cmp(&b.0));
-        Ok(entries)
+        let mut rows = rows_of(self.kept)?;
+        rows.sort_unstable_by(|a, b| a.key.cmp(&b.key));
+        Ok(rows)
     }
 }
 
@@ -150,16 +149,13 @@ fn place_of(kept: &IndexMap<Key, Sums, HashKeys>, guess: Option<usize>, key: &Ke
     }
 }
 
-// The entries in the order of their first uses.
-fn entries_of(
-    alloc: Global,
-    kept: IndexMap<Key, Sums, HashKeys>,
-) -> Result<Vec<(Key, Sums)>, AllocError>
-    ensures { IfOk result (λ entries. entries.items ≡ kept.entries) }
+// The rows in the order of their first uses.
+fn rows_of(kept: IndexMap<Key, Sums, HashKeys>) -> Result<Vec<Row>, AllocError>
+    ensures { IfOk result (λ rows. rows.items ≡ map row_of kept.entries) }
 {
-    let mut entries = Vec::with_capacity(alloc, kept.len())?;
-    for entry in kept {
-        entries.push(entry)?;
+    let mut rows = Vec::with_capacity(*kept.allocator(), kept.len())?;
+    for (key, sums) in kept {
+        rows.push(Row { key, sums })?;
     }
-    Ok(entries)
+    Ok(rows)
 }

@@ -1,13 +1,13 @@
 //! Tables: the closed spans of runs, or their asynchronous spans, summed by columns.
 #![tactic(auto)]
 
-mod addition;
 mod collected;
 mod column;
 mod counts;
 mod groups;
 mod key;
 pub mod laws;
+mod merging;
 mod number;
 mod of;
 mod row_search;
@@ -17,7 +17,6 @@ mod sums;
 mod table;
 mod table_sum;
 
-pub use addition::Addition;
 pub use column::{Column, copies_of};
 pub use counts::{EntryCounts, TableCounts, counts_fit};
 pub use key::Key;

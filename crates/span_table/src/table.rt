@@ -1,10 +1,9 @@
 //! A table of spans.
-ghost use Rattle.std.specs.Prelude.{◌≡◌, ◌^◌, ◌∷◌, [], map, option_copied, IfOk};
-ghost use Rattle.span_table.specs.{Columns.run_of, Counts.AreCountsWithin, Kept.IsTabled, Tables.{RowsRise, row_of, table_of}};
+ghost use Rattle.std.specs.Prelude.{◌≡◌, ◌^◌, ◌∷◌, [], option_copied, IfOk};
+ghost use Rattle.span_table.specs.{Columns.run_of, Counts.AreCountsWithin, Tables.{RowsRise, table_of}};
 
 use crate::column::Column;
 use crate::counts::TableCounts;
-use crate::groups::Groups;
 use crate::key::Key;
 use crate::of::Of;
 use crate::run::LedgerRun;
@@ -26,10 +25,10 @@ pub struct Row {
 /// Spans summed by columns: a row for each key that a span has, in ascending order of keys.
 #[derive(Drop)]
 pub struct Table {
-    of: Of,
-    columns: Vec<Column>,
-    counts: TableCounts,
-    rows: Vec<Row>,
+    pub(crate) of: Of,
+    pub(crate) columns: Vec<Column>,
+    pub(crate) counts: TableCounts,
+    pub(crate) rows: Vec<Row>,
 }
 
 impl Model for Table {
@@ -68,24 +67,6 @@ impl Table {
         sum.with_run(&run)?.into_table()
     }
 
-    pub(crate) fn from_rows(
-        of: Of,
-        columns: Vec<Column>,
-        counts: TableCounts,
-        rows: Vec<Row>,
-    ) -> Table
-        requires { IsTabled counts rows.items }
-        ensures { result
-            ≡ record { of = of; columns = columns.items; counts = counts; rows = rows.items } }
-    {
-        Table {
-            of,
-            columns,
-            counts,
-            rows,
-        }
-    }
-
     /// What the table sums.
     pub fn kind(&self) -> Of
         ensures { result ≡ self.now.of }
@@ -113,31 +94,4 @@ impl Table {
     {
         &self.rows
     }
-}
-
-/// The table of what is kept, its rows put in order.
-pub(crate) fn table_of_groups(
-    of: Of,
-    columns: Vec<Column>,
-    counts: TableCounts,
-    groups: Groups,
-) -> Result<Table, AllocError>
-    requires { IsTabled counts (map row_of groups) }
-    ensures { IfOk result (λ table. table
-        ≡ record { of = of; columns = columns.items; counts = counts; rows = map row_of groups }) }
-{
-    let alloc = groups.allocator();
-    let rows = rows_of(alloc, groups.into_entries()?)?;
-    Ok(Table::from_rows(of, columns, counts, rows))
-}
-
-// The rows of keys with their sums.
-fn rows_of(alloc: Global, sums: Vec<(Key, Sums)>) -> Result<Vec<Row>, AllocError>
-    ensures { IfOk result (λ rows. rows.items ≡ map row_of sums.items) }
-{
-    let mut rows = Vec::with_capacity(alloc, sums.len())?;
-    for (key, sums) in sums {
-        rows.push(Row { key, sums })?;
-    }
-    Ok(rows)
 }

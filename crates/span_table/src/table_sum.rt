@@ -1,29 +1,33 @@
-//! Tables of runs, added as they come.
-ghost use Rattle.std.specs.Prelude.{◌≡◌, ◌+◌, ◌<◌, ◌≤◌, ◌^◌, ◌∷◌, [], option_copied, IfOk, IfErr, OnOk};
-ghost use Rattle.span_table.specs.{Adding.{JoinsRuns, TakesRuns, add_tables, with_run}, Columns.run_of, Tables.table_of, declared.table_sum.SumFault.TheVariants.TooMany};
+//! Tables of runs, and tables that were printed, added as they come.
+ghost use Rattle.std.specs.Prelude.{◌≡◌, ◌+◌, ◌<◌, ◌≤◌, ◌^◌, ◌∷◌, [], ℕ, true, option_copied, IfOk, IfErr, OnErr, OnOk};
+ghost use Rattle.span_table.specs.{Adding.{JoinsRuns, TakesRuns, add_tables, with_counts, with_row, with_run}, Collected.{AllWithin, RowsWithin}, Columns.run_of, Counts.counts_fit, Kept.rows_with, Sums.fit, Tables.{RowsRise, table_of}, declared.table_sum.SumFault.TheVariants.TooMany};
 
-use crate::collected::{add_entries, add_run};
+use crate::collected::RunColumns;
 use crate::column::{Column, copies_of};
 use crate::counts::TableCounts;
 use crate::groups::Groups;
+use crate::merging::merged;
 use crate::of::Of;
 use crate::run::LedgerRun;
-use crate::table::{Table, table_of_groups};
+use crate::table::{Row, Table};
 use span_event::Text;
 use span_ledger::Ledger;
 use span_names::HashKeys;
 use std::alloc::{AllocError, Global};
 use std::marker::Model;
 
-// A sum has fewer runs than this, so that no number of it is too great.
-const RUNS: u128 = 1 << 32;
+// A sum has fewer parts than this, so that no number of it is too great.
+const PARTS: u64 = 1 << 32;
+
+// So many rows of each part are added at most.
+const ROWS: u128 = 1 << 64;
 
 /// Why nothing was added. A sum that was handed over is lost.
 #[derive(Clone, Copy, Debug, PartialEq, Eq)]
 pub enum SumFault {
     /// 31: memory was refused.
     Memory,
-    /// There would be 2^32 runs or more.
+    /// There would be 2^32 runs or tables or more.
     TooMany,
 }
 
@@ -38,42 +42,57 @@ impl From<AllocError> for SumFault {
     }
 }
 
-/// The table of the runs so far. A run costs a look-up for each of its rows, however many there were before.
+/// The table of the parts so far, which are runs, or tables of the same by the same columns. What is added costs a look-up for each of
+/// its rows, however many there were before.
 #[derive(Drop)]
 pub struct TableSum {
     of: Of,
     columns: Vec<Column>,
     counts: TableCounts,
+    // Rows in order, and what was added to them since.
+    rows: Vec<Row>,
     groups: Groups,
+    // How many parts there are, and how many rows were added one by one.
+    parts: u64,
+    row_count: u128,
 }
 
 impl Model for TableSum {
-    ghost use Rattle.std.specs.Prelude.{map};
-    ghost use Rattle.span_table.specs.{Kept.IsKept, Tables.{SpanTable, row_of}};
+    ghost use Rattle.span_table.specs.{Adding.SummedTable, Kept.{IsSummed, rows_with}};
 
-    ghost Value = { SpanTable };
+    ghost Value = { SummedTable };
 
-    ghost view = { λ s. record { of = s.of; columns = s.columns.items; counts = s.counts; rows = map row_of s.groups } };
+    ghost view = { λ s. record { parts = s.parts; table = record { of = s.of; columns = s.columns.items; counts = s.counts; rows = rows_with s.rows.items s.groups } } };
 
-    ghost invariant = { λ s. IsKept s.counts s.groups };
+    ghost invariant = { λ s. IsSummed s.parts s.row_count s.counts s.rows.items s.groups };
 }
 
 impl TableSum {
-    /// The table of no runs, of what it is to sum, by these columns. Maps that files fill are hashed by these keys.
+    /// The table of no parts, of what they sum, by these columns. Maps that files fill are hashed by these keys.
     pub fn new(
         alloc: Global,
         keys: HashKeys,
         of: Of,
         columns: &[Column],
     ) -> Result<TableSum, AllocError>
-        ensures { IfOk result (λ sum. sum ≡ table_of of columns.now []) }
+        ensures table { IfOk result (λ sum. sum.table ≡ table_of of columns.now []) }
+        ensures parts { IfOk result (λ sum. sum.parts ≡ 0) }
     {
         Ok(TableSum {
             of,
             columns: copies_of(alloc, columns)?,
             counts: TableCounts::of_none(),
+            rows: Vec::new(alloc),
             groups: Groups::new(alloc, keys),
+            parts: 0,
+            row_count: 0,
         })
+    }
+
+    pub fn columns(&self) -> &[Column]
+        ensures { result.now ≡ self.now.table.columns }
+    {
+        &self.columns
     }
 
     /// With a run: that of a ledger of so many files, of which so many were refused as a whole, with the name of its file if it has
@@ -85,14 +104,15 @@ impl TableSum {
         unread: u64,
         file: Option<&Text>,
     ) -> Result<TableSum, SumFault>
-        ensures added { IfOk result (λ sum. sum
-            ≡ with_run self (run_of ledger.now.journal files unread (option_copied file.entry))) }
-        ensures runs { IfOk result (λ sum. TakesRuns self
-            (run_of ledger.now.journal files unread (option_copied file.entry) ∷ []) sum) }
-        ensures few { OnOk result (self.counts.runs + 1 < 2 ^ 32) }
-        ensures too_many { IfErr result (λ fault. fault ≡ TooMany → 2 ^ 32 ≤ self.counts.runs + 1) }
+        ensures added { IfOk result (λ sum. sum.table
+            ≡ with_run self.table (run_of ledger.now.journal files unread (option_copied file.entry))) }
+        ensures runs { IfOk result (TakesRuns self
+            (run_of ledger.now.journal files unread (option_copied file.entry) ∷ [])) }
+        ensures parts { IfOk result (λ sum. sum.parts ≡ self.parts + 1) }
+        ensures few { OnOk result (self.parts + 1 < 2 ^ 32) }
+        ensures too_many { IfErr result (λ fault. fault ≡ TooMany → 2 ^ 32 ≤ self.parts + 1) }
     {
-        if self.counts.runs + 1 >= RUNS {
+        if self.parts + 1 >= PARTS {
             return Err(SumFault::TooMany);
         }
         let run = LedgerRun {
@@ -101,88 +121,126 @@ impl TableSum {
             unread,
             file,
         };
-        match self.with_run(&run) {
-            Ok(sum) => Ok(sum),
-            Err(_) => Err(SumFault::Memory),
-        }
+        Ok(self.with_run(&run)?)
     }
 
-    /// With a run, where it is one of fewer than 2^32.
+    /// With a run, where it is one of fewer than 2^32 parts.
     pub(crate) fn with_run(self, run: &LedgerRun) -> Result<TableSum, AllocError>
-        requires { self.counts.runs + 1 < 2 ^ 32 }
-        ensures { IfOk result (λ sum. sum ≡ with_run self run.now) }
+        requires { self.parts + 1 < 2 ^ 32 }
+        ensures added { IfOk result (λ sum. sum.table ≡ with_run self.table run.now) }
+        ensures parts { IfOk result (λ sum. sum.parts ≡ self.parts + 1) }
     {
-        let TableSum {
-            of,
-            columns,
-            mut counts,
-            mut groups,
-        } = self;
-        let alloc = groups.allocator();
-        add_run(alloc, &mut groups, run, of, &columns)?;
+        let (mut counts, mut groups) = (self.counts, self.groups);
+        let by = RunColumns {
+            alloc: *self.rows.allocator(),
+            run,
+            columns: &self.columns,
+        };
+        by.add_to(&mut groups, self.of)?;
         counts.add(&TableCounts::of(run));
         Ok(TableSum {
-            of,
-            columns,
             counts,
             groups,
+            parts: self.parts + 1,
+            ..self
         })
     }
 
-    /// With the runs of another sum of the same by the same columns. It costs a look-up for each row of the other.
-    pub fn add(self, other: TableSum) -> Result<TableSum, SumFault>
-        ensures added { IfOk result (λ sum.
-            sum ≡ add_tables self.of self.columns (self ∷ other ∷ [])) }
-        ensures runs { IfOk result (λ sum. JoinsRuns self other sum) }
-        ensures few { OnOk result (self.counts.runs + other.counts.runs < 2 ^ 32) }
-        ensures too_many { IfErr result (λ fault. fault ≡ TooMany
-            → 2 ^ 32 ≤ self.counts.runs + other.counts.runs) }
+    /// With the counts of a table, whose rows are then added. It is one part.
+    pub fn add_counts(&mut self, counts: &TableCounts) -> Result<(), SumFault>
+        requires { counts_fit counts.now ≡ true }
+        ensures added { OnOk result (self.new.table ≡ with_counts self.old.table counts.now) }
+        ensures parts { OnOk result (self.new.parts ≡ self.old.parts + 1) }
+        ensures refused { OnErr result (self.new ≡ self.old) }
+        ensures too_many { IfErr result (λ fault.
+            (fault ≡ TooMany) × (2 ^ 32 ≤ self.old.parts + 1)) }
     {
-        if self.counts.runs + other.counts.runs >= RUNS {
+        if self.parts + 1 >= PARTS {
             return Err(SumFault::TooMany);
         }
-        match self.joined(other) {
-            Ok(sum) => Ok(sum),
-            Err(_) => Err(SumFault::Memory),
-        }
+        self.counts.add(counts);
+        self.parts += 1;
+        Ok(())
     }
 
-    fn joined(self, other: TableSum) -> Result<TableSum, AllocError>
-        requires { self.counts.runs + other.counts.runs < 2 ^ 32 }
-        ensures { IfOk result (λ sum. sum ≡ add_tables self.of self.columns (self ∷ other ∷ [])) }
+    /// Adds a row of a table. 2^64 of them are added for each part, and one that is refused changes nothing.
+    pub fn add_row(&mut self, row: &Row) -> Result<(), SumFault>
+        requires { fit row.now.sums ≡ true }
+        ensures added { OnOk result (self.new.table ≡ with_row self.old.table row.now) }
+        ensures parts { self.new.parts ≡ self.old.parts }
+        ensures refused { OnErr result (self.new ≡ self.old) }
     {
-        let TableSum {
-            of,
-            columns,
-            mut counts,
-            mut groups,
-        } = self;
-        let TableSum {
-            of: _,
-            columns: _,
-            counts: more,
-            groups: others,
-        } = other;
-        add_entries(&mut groups, others.into_entries()?)?;
-        counts.add(&more);
+        if self.row_count >= u128::from(self.parts) * ROWS {
+            return Err(SumFault::TooMany);
+        }
+        self.groups.add_copy(&row.key, &row.sums)?;
+        self.row_count += 1;
+        Ok(())
+    }
+
+    /// The same sum, its rows put in order. To join such a sum with another takes no look-up and no sorting.
+    pub fn in_order(self) -> Result<TableSum, AllocError>
+        ensures { IfOk result (λ sum. sum ≡ self) }
+    {
+        let groups = self.groups.none_beside();
+        let rows = all_in_order(self.rows, self.groups)?;
         Ok(TableSum {
-            of,
-            columns,
-            counts,
+            rows,
             groups,
+            ..self
         })
     }
 
-    /// The table, its rows put in order.
-    pub fn into_table(self) -> Result<Table, AllocError>
-        ensures { IfOk result (λ table. table ≡ self) }
+    /// With the parts of another sum of the same by the same columns. Both are put in order, and it costs a comparison for each row.
+    pub fn join(self, other: TableSum) -> Result<TableSum, SumFault>
+        ensures added { IfOk result (λ sum. sum.table
+            ≡ add_tables self.table.of self.table.columns (self.table ∷ other.table ∷ [])) }
+        ensures runs { IfOk result (JoinsRuns self other) }
+        ensures parts { IfOk result (λ sum. sum.parts ≡ self.parts + other.parts) }
+        ensures few { OnOk result (self.parts + other.parts < 2 ^ 32) }
+        ensures too_many { IfErr result (λ fault. fault ≡ TooMany
+            → 2 ^ 32 ≤ self.parts + other.parts) }
     {
-        let TableSum {
-            of,
-            columns,
+        if self.parts + other.parts >= PARTS {
+            return Err(SumFault::TooMany);
+        }
+        let groups = self.groups.none_beside();
+        let rows = all_in_order(self.rows, self.groups)?;
+        let more = all_in_order(other.rows, other.groups)?;
+        let mut counts = self.counts;
+        counts.add(&other.counts);
+        Ok(TableSum {
             counts,
+            rows: merged(rows, more)?,
             groups,
-        } = self;
-        table_of_groups(of, columns, counts, groups)
+            parts: self.parts + other.parts,
+            row_count: self.row_count + other.row_count,
+            ..self
+        })
     }
+
+    /// The table.
+    pub fn into_table(self) -> Result<Table, AllocError>
+        ensures { IfOk result (λ table. table ≡ self.table) }
+    {
+        Ok(Table {
+            of: self.of,
+            columns: self.columns,
+            counts: self.counts,
+            rows: all_in_order(self.rows, self.groups)?,
+        })
+    }
+}
+
+// Rows in order, with what was added to them since.
+fn all_in_order(rows: Vec<Row>, groups: Groups) -> Result<Vec<Row>, AllocError>
+    requires rise { RowsRise rows.items }
+    requires mine { RowsWithin (2 ^ 198) rows.items }
+    requires its { AllWithin (2 ^ 198) groups }
+    ensures rows { IfOk result (λ all. all.items ≡ rows_with rows.items groups) }
+    ensures rise { IfOk result (λ all. RowsRise all.items) }
+    ensures bound { IfOk result (λ all. (m n : ℕ) → RowsWithin m rows.items → AllWithin n groups
+        → RowsWithin (m + n) all.items) }
+{
+    merged(rows, groups.into_rows()?)
 }

@@ -36,19 +36,6 @@ returns-clause-takes c = λ known.
     let now = c.add.new.self in
     let at = place-value kept.entries key place was c.place_of-at.ensures (sym c.in-Some.ensures.value) in
     let written = written-at kept place key was now c.self.invariant c.place_of-at.ensures (sym c.in-Some.ensures.value) in
-    (sums-added key was c.args.more.now now c.args.self.now (in_key_order key_cmp (with_value_at kept place now).entries)
+    sums-added key was c.args.more.now now c.args.self.now (in_key_order key_cmp (with_value_at kept place now).entries)
     (kept-found kept.entries c.args.self.now key (Some was) c.self.invariant c.self.view_is (sym at.1)) c.add.ensures.value
-    (written ∙ ap (λ (kept : SumsByKey). insert_entry key_cmp kept key now) c.self.view_is)).0
-
-pub returns-clause-bound : goal.returns-clause-bound
-returns-clause-bound c = λ known.
-    let kept = c.self.inside.kept in
-    let key = c.args.key.now in
-    let place = c.place_of-at.result in
-    let was = c.in-Some.sums.now in
-    let now = c.add.new.self in
-    let at = place-value kept.entries key place was c.place_of-at.ensures (sym c.in-Some.ensures.value) in
-    let written = written-at kept place key was now c.self.invariant c.place_of-at.ensures (sym c.in-Some.ensures.value) in
-    (sums-added key was c.args.more.now now c.args.self.now (in_key_order key_cmp (with_value_at kept place now).entries)
-    (kept-found kept.entries c.args.self.now key (Some was) c.self.invariant c.self.view_is (sym at.1)) c.add.ensures.value
-    (written ∙ ap (λ (kept : SumsByKey). insert_entry key_cmp kept key now) c.self.view_is)).1
+    (written ∙ ap (λ (kept : SumsByKey). insert_entry key_cmp kept key now) c.self.view_is)

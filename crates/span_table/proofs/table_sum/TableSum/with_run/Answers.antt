@@ -1,31 +1,24 @@
-use Rattle.std.proofs.Common.{◌≡◌, ◌+◌, ◌*◌, ◌^◌, ◌<◌, List, [], ◌∷◌, sym, ap, subst, ◌∙◌, arith}
-use Rattle.span_table.specs.{Adding.with_run, Collected.{AllWithin, Takes}, Counts.AreCountsWithin, Kept.IsKept, Tables.{SpanTable, counts_together, run_sums}, declared.{column.Column.Column, counts.TableCounts.TableCounts}}
-use Rattle.span_table.proofs.Kept.{IsKept-taken, table_kept, with_run-taken}
+use Rattle.std.proofs.Common.{◌+◌, ◌<◌, ◌^◌, List, [], ◌∷◌, sym, ap, subst, ◌∙◌, arith}
+use Rattle.span_table.specs.{Adding.{SummedTable, with_run}, Collected.Takes, Kept.IsSummed, Tables.{counts_together, run_sums}, declared.{column.Column.Column, counts.TableCounts.TableCounts}}
+use Rattle.span_table.proofs.Kept.{IsSummed-part, counts-run, rows_with-run}
 use Rattle.span_table.proofs.table_sum.TableSum.with_run.Goals as goal
 
 pub invariant_of-result : goal.invariant_of-result
 invariant_of-result c =
-    let counts = c.self.inside.counts in
-    let more = c.of.result in
-    let new = c.add_run.new.groups in
-    let one : more.runs ≡ 1 = ap (λ (counts : TableCounts). counts.runs) c.of.ensures.value in
-    let same : counts.runs ≡ c.args.self.counts.runs = ap (λ (t : SpanTable). t.counts.runs) c.self.view_is in
-    let few : counts.runs + more.runs < 2 ^ 32 = omega (arith, one, same, c.requires) in
-    let numbers : 2 ^ 64 ≡ more.runs * 2 ^ 64 = omega (arith, one) in
-    let sums : counts.runs * 2 ^ 160 + 2 ^ 160 ≡ counts.runs * 2 ^ 160 + more.runs * 2 ^ 160 = omega (arith, one) in
-    subst (λ (h : TableCounts). IsKept h new) (sym c.add.ensures)
-    (IsKept-taken counts more c.self.inside.groups new _ few c.self.invariant (subst (λ n. AreCountsWithin n more) numbers c.of.ensures.bound) c.in_ok-add_run.ensures.takes
-    (subst (λ n. AllWithin n new) sums (c.in_ok-add_run.ensures.bound (counts.runs * 2 ^ 160) c.self.invariant.within)))
+    let own = c.self.inside in
+    let new = c.add_to.new.groups in
+    let same = ap (λ (sum : SummedTable). sum.parts) c.self.view_is in
+    let few : own.parts + 1 < 2 ^ 32 = omega (arith, same, c.requires) in
+    subst (λ (counts : TableCounts). IsSummed (own.parts + 1) own.row_count counts own.rows.items new) (sym c.add.ensures)
+    (IsSummed-part c.self.invariant c.of.result new _ few c.of.ensures.bound c.in_ok-add_to.ensures)
 
-pub returns : goal.returns
-returns c =
-    let counts = c.self.inside.counts in
-    let of = c.self.inside.of in
-    let columns = c.self.inside.columns.items in
-    let old = c.self.inside.groups in
-    let new = c.add_run.new.groups in
+pub returns-clause-added : goal.returns-clause-added
+returns-clause-added c =
+    let own = c.self.inside in
+    let new = c.add_to.new.groups in
     let run = c.args.run.now in
-    let takes = subst (λ (cs : List Column). Takes old new (run_sums of cs run)) c.deref.ensures.value c.in_ok-add_run.ensures.takes in
-    ap (λ (h : TableCounts). table_kept of columns h new) (c.add.ensures ∙ ap (λ (h : TableCounts). counts_together (counts ∷ h ∷ [])) c.of.ensures.value)
-    ∙ with_run-taken of columns counts old new run c.self.invariant.rise takes
-    ∙ ap (λ t. with_run t run) c.self.view_is
+    let takes = subst (λ (columns : List Column). Takes (2 ^ 160) own.groups new (run_sums own.of columns run)) c.deref.ensures.value c.in_ok-add_to.ensures in
+    let counts = c.add.ensures ∙ ap (λ (more : TableCounts). counts_together (own.counts ∷ more ∷ [])) c.of.ensures.value ∙ counts-run own.counts run in
+    let rows = rows_with-run own.rows.items own.groups new (run_sums own.of own.columns.items run) c.self.invariant.kept_rise takes in
+    (λ i. record { of = own.of; columns = own.columns.items; counts = counts i; rows = rows i })
+    ∙ ap (λ (sum : SummedTable). with_run sum.table run) c.self.view_is

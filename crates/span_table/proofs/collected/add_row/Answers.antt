@@ -1,6 +1,0 @@
-use Rattle.std.proofs.Common.{◌^◌}
-use Rattle.span_table.proofs.Summing.{bounded}
-use Rattle.span_table.proofs.collected.add_row.Goals as goal
-
-pub returns-clause-bound : goal.returns-clause-bound
-returns-clause-bound c = bounded (2 ^ 128) c.add.result c.of_row.result c.args.groups.now c.add.new.self c.of_row.ensures.bound c.add.ensures.bound
