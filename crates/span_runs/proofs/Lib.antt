@@ -1,6 +1,5 @@
 pub mod AlikeRuns
 pub mod Alone
-pub mod CountedRuns
 pub mod GatheredFiles
 pub mod InTurn
 pub mod Listing

@@ -1,10 +1,6 @@
--- What runs come to: one table of all, or a table of each.
+-- What runs come to where each has a table of its own, and what takes one more.
 use Rattle.std.specs.Prelude.{◌≡◌, List, [], ◌∷◌, ◌++◌, map}
-use Rattle.span_runs.specs.{Column, Of, Run, AreAlikeRuns, SpanTable, table_of, Runs.table_of_run}
-
--- one table of all
-abbrev pub IsTableOf : Of → List Column → List Run → SpanTable → Type 0
-IsTableOf of columns runs table = table ≡ table_of of columns runs
+use Rattle.span_runs.specs.{Column, Of, Run, AreAlikeRuns, SpanTable, Runs.table_of_run}
 
 -- a table of each, in their order
 abbrev pub AreTablesOf : Of → List Column → List Run → List SpanTable → Type 0

@@ -94,10 +94,11 @@ fn gather_in_job<T: Gathering, S: Source, R: Threads + Wait + RandomSource + Syn
     ensures { GathersOrStops (S.bytes work.now.source.now) names.now work.now.settings
         (T.come_to work.now.of work.now.columns.now) result }
 {
-    let mut gathered = match Gathered::of_none(work.alloc, work.keys, work.of, work.columns) {
-        Ok(none) => none,
-        Err(_) => return Err(Halt::Memory),
+    let (alloc, keys, of, columns) = (work.alloc, work.keys, work.of, work.columns);
+    let Ok(none) = Gathered::of_none(alloc, keys, of, columns) else {
+        return Err(Halt::Memory);
     };
+    let mut gathered: Gathered<T> = none;
     let mut place = place;
     for name in names {
         if work.stopped.is_before(place) {
@@ -113,7 +114,10 @@ fn gather_in_job<T: Gathering, S: Source, R: Threads + Wait + RandomSource + Syn
         };
         place = place.saturating_add(1);
     }
-    Ok(gathered)
+    match gathered.runs.in_order() {
+        Ok(runs) => Ok(Gathered { runs, ..gathered }),
+        Err(_) => Err(Halt::Memory),
+    }
 }
 
 // With the file of this name.

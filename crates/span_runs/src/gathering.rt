@@ -34,6 +34,13 @@ pub trait Gathering: Sized + Drop + Send {
         ensures too_many { IfErr result (λ fault. fault ≡ TooMany → (runs : List Run)
             → come_to of columns.now runs self → 2 ^ 32 ≤ length runs + 1) };
 
+    /// The same, made ready to be joined with another.
+    fn in_order(self) -> Result<Self, AllocError>
+        ensures { IfOk result (λ same. same ≡ self) }
+    {
+        Ok(self)
+    }
+
     /// With the runs of another, which come after these.
     fn joined(self, other: Self) -> Result<Self, SumFault>
         ensures runs { IfOk result (λ both.
@@ -48,9 +55,9 @@ pub trait Gathering: Sized + Drop + Send {
 
 /// One table of all.
 impl Gathering for TableSum {
-    ghost use Rattle.span_runs.specs.Gathering.{IsTableOf};
+    ghost use Rattle.span_runs.specs.{IsSumOf};
 
-    ghost come_to = { IsTableOf };
+    ghost come_to = { IsSumOf };
 
     fn of_none(
         alloc: Global,
@@ -78,8 +85,12 @@ impl Gathering for TableSum {
         )
     }
 
+    fn in_order(self) -> Result<TableSum, AllocError> {
+        self.in_order()
+    }
+
     fn joined(self, other: TableSum) -> Result<TableSum, SumFault> {
-        self.add(other)
+        self.join(other)
     }
 }
 

@@ -1,4 +1,4 @@
-use Rattle.std.proofs.{Common.{take, sym}, lemmas.List.{take_all, take_more}}
+use Rattle.std.proofs.{Common.{take, sym}, lemmas.List.{take_more}}
 use Rattle.span_runs.specs.Stops.{StopsAmong}
 use Rattle.span_runs.proofs.{GatheredFiles.{AreGathered-none, AreGathered-push}, Stopping.{OfStop-weaker, StopsAmong-at}}
 use Rattle.span_runs.proofs.apart.gather_in_job.Goals as goal
@@ -14,15 +14,11 @@ loop-name-preserved g c =
     rw (take_more c.args.names.now c.loop-name.name-index c.name-item.result c.loop-name-test.true, sym c.name-item.is)
     (AreGathered-push (g.S.Source.bytes c.args.work.now.source.now) (take c.loop-name.name-index c.args.names.now) c.name-item.result c.args.work.now.settings (g.T.Gathering.come_to c.args.work.now.of c.args.work.now.columns.now) c.loop-name.gathered c.in-Ok-add_file.more c.loop-name.invariant c.in-Ok-add_file.ensures)
 
--- all are
-pub returns : goal.returns
-returns g c = rw (take_all c.loop-name.name-index c.args.names.now c.loop-name-test.false) at c.loop-name.invariant
-
 -- something stopped at the next one
-pub returns-in-Err-add_file : goal.returns-in-Err-add_file
-returns-in-Err-add_file g c =
+pub returns-in-Err : goal.returns-in-Err
+returns-in-Err g c =
     let source = g.S.Source.bytes c.args.work.now.source.now in
     let settings = c.args.work.now.settings in
     OfStop-weaker _ (StopsAmong source settings c.args.names.now)
     (StopsAmong-at source settings c.args.names.now c.loop-name.name-index c.name-item.result (g.T.Gathering.come_to c.args.work.now.of c.args.work.now.columns.now) c.loop-name.gathered c.loop-name-test.true c.name-item.is c.loop-name.invariant)
-    c.in-Err-add_file.halt c.in-Err-add_file.ensures
+    c.in-Err.halt c.in-Err.ensures
