@@ -1,12 +1,8 @@
 -- Rows that are added one by one, and the part that they make.
 use Rattle.std.specs.Prelude.{flat_map, sum_by}
 use Rattle.std.proofs.{Common.{◌≡◌, ℕ, ◌+◌, List, [], ◌∷◌, ◌++◌, map, refl, sym, ap, ap₂, ◌∙◌, append_assoc, append-nil, arith}, lemmas.{Grind.flat_map-append, List.{map-append, Sums.sum_by-append}}}
-use Rattle.span_table.proofs.{AddedTables.{counts-same, rows-back, rows_of-alike}, Alike.{AddUpAlike-append, AddUpAlike-refl, AddUpAlike-sym}, Kept.counts_together-one, OwnRows.rows_of-own}
+use Rattle.span_table.proofs.{AddedTables.{counts-same, rows-behind, rows-then}, Kept.counts_together-one, OwnRows.rows_of-own}
 use Rattle.span_parts.specs.{Column, TableCounts, Of, Row, add_tables, keyed_by, keyed_rows, with_columns, with_counts, with_row, KeyedSums, RowsRise, SpanTable, counts_together, rows_of, Rows.{row_at, with_rows}}
-
--- rows of rows and of more are those of all
-rows-then : (sums more : KeyedSums) → rows_of (keyed_rows (rows_of sums) ++ more) ≡ rows_of (sums ++ more)
-rows-then sums more = rows_of-alike (keyed_rows (rows_of sums) ++ more) (sums ++ more) (AddUpAlike-append (keyed_rows (rows_of sums)) more sums more (rows-back sums) (AddUpAlike-refl more))
 
 -- a table whose rows are those of some sums
 abbrev table_with : SpanTable → KeyedSums → SpanTable
@@ -22,10 +18,7 @@ with_rows-of places (row ∷ rows) table sums =
 
 -- rows of sums and of the rows of more are those of all
 rows-with : (sums more : KeyedSums) → rows_of (sums ++ more) ≡ rows_of (sums ++ (keyed_rows (rows_of more) ++ []))
-rows-with sums more =
-    rows_of-alike (sums ++ more) (sums ++ keyed_rows (rows_of more))
-    (AddUpAlike-append sums more sums (keyed_rows (rows_of more)) (AddUpAlike-refl sums) (AddUpAlike-sym (keyed_rows (rows_of more)) more (rows-back more)))
-    ∙ ap (λ l. rows_of (sums ++ l)) (sym (append-nil (keyed_rows (rows_of more))))
+rows-with sums more = sym (rows-behind sums more) ∙ ap (λ l. rows_of (sums ++ l)) (sym (append-nil (keyed_rows (rows_of more))))
 
 -- the counts and the rows of a part added are the part added
 pub with_rows-part : (places : List ℕ) (old part : SpanTable) → RowsRise old.rows →

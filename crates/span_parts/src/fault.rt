@@ -1,5 +1,6 @@
 //! Why a part is not added.
 
+use span_table::SumFault;
 use std::alloc::AllocError;
 
 /// Why a part is not added, and the sum is lost.
@@ -23,5 +24,18 @@ impl From<AllocError> for PartFault {
 
     fn from(_refused: AllocError) -> PartFault {
         PartFault::Memory
+    }
+}
+
+impl From<SumFault> for PartFault {
+    ghost use Rattle.span_parts.specs.Rows.{IsOfSum};
+
+    ghost from_gives = { λ _ own. IsOfSum own };
+
+    fn from(fault: SumFault) -> PartFault {
+        match fault {
+            SumFault::Memory => PartFault::Memory,
+            SumFault::TooMany => PartFault::TooMany,
+        }
     }
 }

@@ -10,7 +10,7 @@ use crate::room::LineRoom;
 use crate::sums::{add_part, look_through};
 use span_event::Unit;
 use span_names::HashKeys;
-use span_table::{Addition, Column, Of, SumFault, Table, copies_of};
+use span_table::{Column, Of, Table, TableSum, copies_of};
 use std::alloc::{AllocError, Global};
 use std::marker::Model;
 
@@ -25,7 +25,7 @@ pub struct Parts {
     columns: Vec<Column>,
     // Which of them the sum has, in its order.
     places: Vec<usize>,
-    sum: Addition,
+    sum: TableSum,
 }
 
 impl Model for Parts {
@@ -33,9 +33,9 @@ impl Model for Parts {
 
     ghost Value = { PartSum };
 
-    ghost view = { λ p. record { of = p.of; unit = p.unit; columns = p.columns.items; places = p.places.items; sum = p.sum } };
+    ghost view = { λ p. record { of = p.of; unit = p.unit; columns = p.columns.items; places = p.places.items; sum = p.sum.table } };
 
-    ghost invariant = { λ p. IsByThese p.of p.columns.items p.places.items p.sum };
+    ghost invariant = { λ p. IsByThese p.of p.columns.items p.places.items p.sum.table };
 }
 
 impl Parts {
@@ -61,7 +61,7 @@ impl Parts {
             Ok(None) => return Err(fault_of_others(alloc, &first, rest, &mut room)),
             Err(_) => return Err(PartFault::Memory),
         };
-        let sum = match Addition::new(alloc, keys, first.of, wanted) {
+        let sum = match TableSum::new(alloc, keys, first.of, wanted) {
             Ok(sum) => sum,
             Err(_) => return Err(PartFault::Memory),
         };
@@ -86,7 +86,7 @@ impl Parts {
             unit: self.unit,
             columns: copies_of(alloc, &self.columns)?,
             places: copy_of_places(alloc, &self.places)?,
-            sum: Addition::new(alloc, keys, self.of, self.sum.columns())?,
+            sum: TableSum::new(alloc, keys, self.of, self.sum.columns())?,
         })
     }
 
@@ -95,63 +95,36 @@ impl Parts {
         ensures sum { IfOk result (TakesPart text.now self) }
         ensures fault { IfErr result (PartFails self.of self.unit self.columns text.now) }
     {
-        let Parts {
-            of,
-            unit,
-            columns,
-            places,
-            sum,
-        } = self;
         let mut room = LineRoom::new(alloc);
         let (first, rest) = match begin(alloc, text, &mut room) {
             Ok(begun) => begun,
             Err(fault) => return Err(fault),
         };
-        if !is_alike(&first, of, unit, &columns) {
+        if !is_alike(&first, self.of, self.unit, &self.columns) {
             return Err(fault_of_others(alloc, &first, rest, &mut room));
         }
-        match add_part(alloc, &places, &first, rest, sum, &mut room) {
-            Ok(sum) => Ok(Parts {
-                of,
-                unit,
-                columns,
-                places,
-                sum,
-            }),
+        let sum = self.sum;
+        match add_part(alloc, &self.places, &first, rest, sum, &mut room) {
+            Ok(sum) => Ok(Parts { sum, ..self }),
             Err(fault) => Err(fault),
         }
     }
 
-    /// With the parts of another sum, which sum the same, in the same unit and by the same columns. It costs a look-up for each row
-    /// of the other.
+    /// The same sum, its rows put in order. To join such a sum with another takes no look-up and no sorting.
+    pub fn in_order(self) -> Result<Parts, AllocError>
+        ensures { IfOk result (λ parts. parts ≡ self) }
+    {
+        let sum = self.sum.in_order()?;
+        Ok(Parts { sum, ..self })
+    }
+
+    /// With the parts of another sum, which sum the same, in the same unit and by the same columns. Both are put in order, and it
+    /// costs a comparison for each row.
     pub fn join(self, other: Parts) -> Result<Parts, PartFault>
         ensures { IfOk result (JoinsParts self other) }
     {
-        let Parts {
-            of,
-            unit,
-            columns,
-            places,
-            sum,
-        } = self;
-        let Parts {
-            of: _,
-            unit: _,
-            columns: _,
-            places: _,
-            sum: more,
-        } = other;
-        match sum.join(more) {
-            Ok(sum) => Ok(Parts {
-                of,
-                unit,
-                columns,
-                places,
-                sum,
-            }),
-            Err(SumFault::Memory) => Err(PartFault::Memory),
-            Err(SumFault::TooMany) => Err(PartFault::TooMany),
-        }
+        let sum = self.sum.join(other.sum)?;
+        Ok(Parts { sum, ..self })
     }
 
     /// What each part sums, and so the sum.

@@ -1,5 +1,5 @@
 //! The rows of a part, which are added one after another.
-ghost use Rattle.std.specs.Prelude.{◌≡◌, ◌++◌, ◌∷◌, [], true, List, ℕ, map, IfErr, IfOk, IsTrue, OnErr, OnOk};
+ghost use Rattle.std.specs.Prelude.{◌≡◌, ◌++◌, ◌∷◌, [], true, map, IfErr, IfOk, IsTrue, OnOk};
 ghost use Rattle.span_parts.specs.{Row as TheRow, picked, with_row, column_name, fit, AreColumns, Bytes, First.{Begins, MayBegin}, Rows.{AllAdded, IsNextRow, IsOfSum, RowFails, RowsFail, comes_after, row_at}, Sum.{HasColumns, IsAdded, SumFails}};
 
 use crate::fault::PartFault;
@@ -8,7 +8,7 @@ use crate::room::LineRoom;
 use crate::rows::row_of_line;
 use span_event::{ArgValue, Text};
 use span_names::HashKeys;
-use span_table::{Addition, Column, Key, Of, Row, SumFault};
+use span_table::{Column, Key, Of, Row, TableSum};
 use span_table_text::column_names;
 use std::alloc::{AllocError, Global};
 
@@ -18,19 +18,18 @@ pub(crate) fn add_part(
     places: &[usize],
     first: &FirstLine,
     rest: &str,
-    sum: Addition,
+    sum: TableSum,
     room: &mut LineRoom,
-) -> Result<Addition, PartFault>
+) -> Result<TableSum, PartFault>
     requires { MayBegin first.now.of first.now.columns.items first.now.rows first.now.counts }
     ensures added { IfOk result (λ new. (text : Bytes) → Begins text first.now rest.now
-        → IsAdded first.now.of first.now.unit first.now.columns.items places.now text sum new) }
+        → IsAdded first.now.of first.now.unit first.now.columns.items places.now text sum.table
+        new.table) }
     ensures fault { IfErr result (λ fault. (text : Bytes) → Begins text first.now rest.now
         → SumFails text fault) }
 {
-    let mut sum = match sum.add_counts(&first.counts) {
-        Ok(sum) => sum,
-        Err(_) => return Err(PartFault::TooMany),
-    };
+    let mut sum = sum;
+    sum.add_counts(&first.counts)?;
     add_rows(
         alloc,
         first.of,
@@ -58,7 +57,7 @@ pub(crate) fn look_through(
         → SumFails text fault) }
 {
     // All rows have one key, of no values, so there is nothing to keep.
-    let sum = Addition::new(alloc, HashKeys::fixed(), first.of, &[])?;
+    let sum = TableSum::new(alloc, HashKeys::fixed(), first.of, &[])?;
     match add_part(alloc, &[], first, rest, sum, room) {
         Ok(sum) => {
             drop(sum);
@@ -77,12 +76,12 @@ fn add_rows(
     places: &[usize],
     text: &str,
     count: u64,
-    sum: &mut Addition,
+    sum: &mut TableSum,
     room: &mut LineRoom,
 ) -> Result<(), PartFault>
     requires { AreColumns of columns.now }
     ensures added { OnOk result
-        (AllAdded of columns.now places.now text.now count sum.old sum.new) }
+        (AllAdded of columns.now places.now text.now count sum.old.table sum.new.table) }
     ensures fault { IfErr result (RowsFail of columns.now text.now count) }
 {
     let names = column_names(alloc, columns)?;
@@ -143,33 +142,20 @@ fn comes_after(row: &Row, last: &Option<Row>) -> bool
 }
 
 // Adds a row, which has the values at these places of this one's key.
-fn add_row(alloc: Global, sum: &mut Addition, places: &[usize], row: &Row) -> Result<(), PartFault>
+fn add_row(alloc: Global, sum: &mut TableSum, places: &[usize], row: &Row) -> Result<(), PartFault>
     requires { fit row.now.sums ≡ true }
-    ensures added { OnOk result (sum.new ≡ with_row sum.old (row_at places.now row.now)) }
+    ensures added { OnOk result
+        (sum.new.table ≡ with_row sum.old.table (row_at places.now row.now)) }
     ensures fault { IfErr result IsOfSum }
-    ensures refused { OnErr result (sum.new ≡ sum.old) }
 {
     if takes_all(places, row.key.values()) {
-        return add_whole_row(sum, row);
+        return Ok(sum.add_row(row)?);
     }
     let row = Row {
         key: key_at(alloc, places, &row.key)?,
         sums: row.sums,
     };
-    add_whole_row(sum, &row)
-}
-
-fn add_whole_row(sum: &mut Addition, row: &Row) -> Result<(), PartFault>
-    requires { fit row.now.sums ≡ true }
-    ensures added { OnOk result (sum.new ≡ with_row sum.old row.now) }
-    ensures fault { IfErr result IsOfSum }
-    ensures refused { OnErr result (sum.new ≡ sum.old) }
-{
-    match sum.add_row(row) {
-        Ok(()) => Ok(()),
-        Err(SumFault::Memory) => Err(PartFault::Memory),
-        Err(SumFault::TooMany) => Err(PartFault::TooMany),
-    }
+    Ok(sum.add_row(&row)?)
 }
 
 // Whether these are the places of all the values, in their order.

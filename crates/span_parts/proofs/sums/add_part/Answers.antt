@@ -8,13 +8,13 @@ returns-clause-added c = λ text begins.
     let first = c.args.first.now in
     let places = c.args.places.now in
     let rest = c.args.rest.now in
-    let new = c.add_rows.new.sum in
-    let by = subst (λ columns. AllAdded first.of columns places rest first.rows c.in-Ok.sum new) c.deref.ensures.value c.in_ok-add_rows.ensures.added in
-    IsAdded-rows text rest first begins places c.args.sum new (subst (λ sum. AllAdded first.of first.columns.items places rest first.rows sum new) c.in-Ok.ensures.added by)
+    let new = c.add_rows.new.sum.table in
+    let by = subst (λ columns. AllAdded first.of columns places rest first.rows c.add_counts.new.self.table new) c.deref.ensures.value c.in_ok-add_rows.ensures.added in
+    IsAdded-rows text rest first begins places c.args.sum.table new (subst (λ sum. AllAdded first.of first.columns.items places rest first.rows sum new) c.in_ok-add_counts.ensures.added by)
 
 pub returns-in_err-add_rows-clause-fault : goal.returns-in_err-add_rows-clause-fault
 returns-in_err-add_rows-clause-fault c =
-    let p = err_from_is_err_and c.from_residual.result c.from_residual.ensures.1 in
+    let p = err_from_is_err_and c.from_residual-in_err-add_rows.result c.from_residual-in_err-add_rows.ensures.1 in
     rw (p.1, p.2) (λ text begins.
     let first = c.args.first.now in
     SumFails-rows text c.args.rest.now first begins c.in_err-add_rows.field-0.0

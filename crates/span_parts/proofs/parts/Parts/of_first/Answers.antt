@@ -12,9 +12,9 @@ invariant_of-result c =
     let asked = c.chosen-wanted.ensures ∙ ap (chosen c.args.wanted.now) c.deref.ensures.value in
     let found = subst (FindsPlaces c.chosen-wanted.result.now c.deref-2.result.now) c.in-Ok-Some.field-0-is c.in-Ok-Some.ensures in
     let at = subst (AreAt places c.chosen-wanted.result.now) c.deref-2.ensures.value found in
-    let by = subst (λ l. IsAdded of unit first l c.args.text.now c.in-Ok-new.sum c.in-Ok-add_part.sum) c.deref-3.ensures.value (c.in-Ok-add_part.ensures.added c.args.text.now c.in-Ok.ensures.begins) in
-    IsByThese-added of unit first places c.args.text.now c.in-Ok-new.sum c.in-Ok-add_part.sum
-    (record { fit = c.in-Ok.ensures.begins.may.columns_fit; kind = ap (λ (t : SpanTable). t.of) c.in-Ok-new.ensures; by = ap (λ (t : SpanTable). t.columns) c.in-Ok-new.ensures ∙ sym (picked-at places c.chosen-wanted.result.now first at) }) by
+    let by = subst (λ l. IsAdded of unit first l c.args.text.now c.in-Ok-new.sum.table c.in-Ok-add_part.sum.table) c.deref-3.ensures.value (c.in-Ok-add_part.ensures.added c.args.text.now c.in-Ok.ensures.begins) in
+    IsByThese-added of unit first places c.args.text.now c.in-Ok-new.sum.table c.in-Ok-add_part.sum.table
+    (record { fit = c.in-Ok.ensures.begins.may.columns_fit; kind = ap (λ (t : SpanTable). t.of) c.in-Ok-new.ensures.table; by = ap (λ (t : SpanTable). t.columns) c.in-Ok-new.ensures.table ∙ sym (picked-at places c.chosen-wanted.result.now first at) }) by
 
 pub returns-in-Ok-add_part-clause-sum : goal.returns-in-Ok-add_part-clause-sum
 returns-in-Ok-add_part-clause-sum c =
@@ -25,9 +25,9 @@ returns-in-Ok-add_part-clause-sum c =
     let asked = c.chosen-wanted.ensures ∙ ap (chosen c.args.wanted.now) c.deref.ensures.value in
     let found = subst (FindsPlaces c.chosen-wanted.result.now c.deref-2.result.now) c.in-Ok-Some.field-0-is c.in-Ok-Some.ensures in
     let at = subst (AreAt places c.chosen-wanted.result.now) c.deref-2.ensures.value found in
-    let by = subst (λ l. IsAdded of unit first l c.args.text.now c.in-Ok-new.sum c.in-Ok-add_part.sum) c.deref-3.ensures.value (c.in-Ok-add_part.ensures.added c.args.text.now c.in-Ok.ensures.begins) in
-    TakesFirst-added of unit c.args.wanted.now first places c.args.text.now c.in-Ok-new.sum c.in-Ok-add_part.sum
-    (subst (λ l. AreAt places l first) asked at) (c.in-Ok-new.ensures ∙ ap (λ l. add_tables of l []) asked) by
+    let by = subst (λ l. IsAdded of unit first l c.args.text.now c.in-Ok-new.sum.table c.in-Ok-add_part.sum.table) c.deref-3.ensures.value (c.in-Ok-add_part.ensures.added c.args.text.now c.in-Ok.ensures.begins) in
+    TakesFirst-added of unit c.args.wanted.now first places c.args.text.now c.in-Ok-new.sum.table c.in-Ok-add_part.sum.table
+    (subst (λ l. AreAt places l first) asked at) (c.in-Ok-new.ensures.table ∙ ap (λ l. add_tables of l []) asked) by
 
 pub returns-in-Ok-None-clause-fault : goal.returns-in-Ok-None-clause-fault
 returns-in-Ok-None-clause-fault c =

@@ -8,8 +8,8 @@ invariant_of-result c =
     let places = c.in_ok-copy_of_places.ensures ∙ c.deref-2.ensures.value in
     record {
       fit = subst (AreColumns c.self.inside.of) (sym columns) c.self.invariant.fit;
-      kind = ap (λ (t : SpanTable). t.of) c.in_ok-new.ensures;
-      by = ap (λ (t : SpanTable). t.columns) c.in_ok-new.ensures ∙ c.columns.ensures ∙ c.self.invariant.by ∙ (λ i. picked (sym places i) (sym columns i));
+      kind = ap (λ (t : SpanTable). t.of) c.in_ok-new.ensures.table;
+      by = ap (λ (t : SpanTable). t.columns) c.in_ok-new.ensures.table ∙ c.columns.ensures ∙ c.self.invariant.by ∙ (λ i. picked (sym places i) (sym columns i));
     }
 
 pub returns : goal.returns
@@ -26,6 +26,6 @@ returns c =
         are = tt;
         kinds = All-nil _;
         columns = All-nil _;
-        adds = c.in_ok-new.ensures ∙ ap (λ l. add_tables c.self.inside.of l []) (c.columns.ensures ∙ c.self.invariant.by ∙ (λ i. picked (sym places i) (sym columns i)));
+        adds = c.in_ok-new.ensures.table ∙ ap (λ l. add_tables c.self.inside.of l []) (c.columns.ensures ∙ c.self.invariant.by ∙ (λ i. picked (sym places i) (sym columns i)));
       };
     }
