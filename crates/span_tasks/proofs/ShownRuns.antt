@@ -4,7 +4,7 @@ use Rattle.std.proofs.{Common.{◌≡◌, ◌<◌, ◌≤◌, true, false, cond,
 use Rattle.span_collect.proofs.{InTurn.Accounted.{AreAlike-in_turn, end_lines-in_turn, refusals_of-in_turn}, OneFile.AreSeparate-one}
 use Rattle.span_page.proofs.{RunsSoFar.Holds-alike, SamePages.{left_behind-follows, run_json-alike}}
 use Rattle.span_runs.proofs.GatheredFiles.{AreGathered-none, AreGathered-push}
-use Rattle.span_tasks.specs.{Input, Settings, ends_from, journal_in_turn, SpanColumn, BegunPage, Holds, ShownRun, TakesRun, table_of, FileRun, IsFileRun, AreInputs, IsInput, Name, SourceBytes, PageView, Pages.{AreHeld, ShowsFile, asked_for, shown_alone, shown_run, shown_runs}, declared.pages.ShownFiles.ShownFiles}
+use Rattle.span_tasks.specs.{Input, Settings, ends_from, journal_in_turn, SpanColumn, BegunPage, Holds, ShownRun, TakesRun, FileRun, IsFileRun, AreInputs, IsInput, Name, SourceBytes, PageView, Pages.{AreHeld, ShowsFile, asked_for, shown_alone, shown_run, shown_runs}, declared.pages.ShownFiles.ShownFiles}
 
 -- what was collected of a file may stand for the run in which its items stand in their order
 pub TakesRun-alone : (labels : List SpanColumn) (source : SourceBytes) (name : Name) (settings : Settings) (run : FileRun) (old new : BegunPage) →
@@ -25,7 +25,7 @@ TakesRun-alone labels source name settings run old new is takes runs holds =
 
 module _ (source : SourceBytes) (settings : Settings) (view : PageView) where
   -- no files
-  pub AreHeld-none : (shown : ShownFiles) → shown.summed.runs ≡ table_of view.options.of view.options.columns.items [] → shown.summed.lines.items ≡ [] → Holds settings.unit view.labels.items [] shown.page →
+  pub AreHeld-none : (shown : ShownFiles) → asked_for view [] shown.summed.runs → shown.summed.lines.items ≡ [] → Holds settings.unit view.labels.items [] shown.page →
       AreHeld (map (shown_alone settings)) source [] settings view shown
   AreHeld-none shown sum lines runs = record {
     sums = AreGathered-none source settings (λ runs. asked_for view runs shown.summed.runs) shown.summed.lines.items sum lines;

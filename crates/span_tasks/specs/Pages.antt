@@ -1,6 +1,6 @@
 -- A page of files each of which is a run of its own.
 use Rattle.std.specs.Prelude.{◌≡◌, ◌⊎◌, false, nat_le, if◌then◌else◌, List, [], ◌∷◌, length, map, Result, MatchResult}
-use Rattle.span_tasks.specs.{Bytes, TooGreatFault, number_of, run_line, Unit, Input, Settings, ends_from, journal_in_turn, Holds, ShownRun, TakesRun, page_of_runs, FileRun, AddsFile, GathersFiles, IsTableOf, Halt, OfStop, StopsAfter, StopsAmong, Name, SourceBytes, PageView, Run, SpanTable, AllFit, json_fits, json_of, shown_table, Gathered, declared.pages.ShownFiles.ShownFiles}
+use Rattle.span_tasks.specs.{Bytes, TooGreatFault, number_of, run_line, Unit, Input, Settings, ends_from, journal_in_turn, Holds, ShownRun, TakesRun, page_of_runs, FileRun, AddsFile, GathersFiles, IsSumOf, Halt, OfStop, StopsAfter, StopsAmong, Name, SourceBytes, PageView, Run, SpanTable, SummedTable, AllFit, json_fits, json_of, shown_table, Gathered, declared.pages.ShownFiles.ShownFiles}
 
 -- the run of a file alone, in which its items stand in their order, as a page shows it
 abbrev pub shown_alone : Settings → Input → ShownRun
@@ -11,8 +11,8 @@ abbrev pub shown_runs : Settings → List Input → List ShownRun
 shown_runs settings files = if nat_le (length files) 64 then map (shown_alone settings) files else []
 
 -- the runs come to the table that the page has of them
-abbrev pub asked_for : PageView → List Run → SpanTable → Type 0
-asked_for view = IsTableOf view.options.of view.options.columns.items
+abbrev pub asked_for : PageView → List Run → SummedTable → Type 0
+asked_for view = IsSumOf view.options.of view.options.columns.items
 
 -- the page of these runs, with this table
 abbrev pub page_with : Unit → PageView → SpanTable → List ShownRun → Bytes
@@ -20,17 +20,17 @@ page_with unit view table runs = page_of_runs unit view.labels.items (json_of un
 
 -- Each file was collected alone; the page of their runs, with the table of their sum, is printed, and their lines are said.
 pub record PrintsPage (source : SourceBytes) (names : List Name) (settings : Settings) (view : PageView) (text lines : Bytes) : Type 0 where
-  pub summed : Gathered SpanTable
+  pub summed : Gathered SummedTable
   pub sums : GathersFiles source names settings (asked_for view) summed
-  pub fits : AllFit (shown_table view.options.shown summed.runs)
-  pub page : text ≡ page_with settings.unit view summed.runs (shown_runs settings sums.files)
+  pub fits : AllFit (shown_table view.options.shown summed.runs.table)
+  pub page : text ≡ page_with settings.unit view summed.runs.table (shown_runs settings sums.files)
   pub said : lines ≡ summed.lines.items
 
 -- the files were summed, and a number of the table has more than 64 bits, as the line says
 pub record HasTooGreat (source : SourceBytes) (names : List Name) (settings : Settings) (view : PageView) (lines : Bytes) : Type 0 where
-  pub summed : Gathered SpanTable
+  pub summed : Gathered SummedTable
   pub sums : GathersFiles source names settings (asked_for view) summed
-  pub exceeds : json_fits view.options.shown summed.runs ≡ false
+  pub exceeds : json_fits view.options.shown summed.runs.table ≡ false
   pub said : lines ≡ run_line (number_of TooGreatFault)
 
 -- this is said where no page is printed

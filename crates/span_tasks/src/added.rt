@@ -170,7 +170,10 @@ fn add_in_job<S: Source>(work: &AddWork<S>, names: &[Name], place: u64) -> Resul
         };
         place = place.saturating_add(1);
     }
-    Ok(added)
+    match added.in_order() {
+        Ok(added) => Ok(added),
+        Err(_) => Err(Halt::Memory),
+    }
 }
 
 // The sum of two groups of names, of which those of the second come after those of the first.

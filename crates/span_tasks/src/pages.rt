@@ -1,6 +1,6 @@
 //! A page of files each of which is a run of its own.
 ghost use Rattle.std.specs.Prelude.{◌≡◌, [], false, List, length, map, IfErr, IfOk};
-ghost use Rattle.span_tasks.specs.{Unit as TheUnit, Holds, OfStop, ShownRun, StopsAmong, TakesRun, TooGreatFault, AllFit, json_fits, number_of, run_line, shown_table, table_of, Outcome.PrintsOrStops, Pages.{AddsShown, AreHeld, PrintsPage, StopsPage, page_with, shown_alone, shown_run, shown_runs}};
+ghost use Rattle.span_tasks.specs.{Unit as TheUnit, Holds, OfStop, ShownRun, StopsAmong, TakesRun, TooGreatFault, AllFit, json_fits, number_of, run_line, shown_table, Outcome.PrintsOrStops, Pages.{AddsShown, AreHeld, PrintsPage, StopsPage, asked_for, page_with, shown_alone, shown_run, shown_runs}};
 
 use crate::outcome::Print;
 use crate::place::Place;
@@ -121,8 +121,7 @@ impl<'a, R: Threads + Wait + RandomSource + Sync, S: Source + Sync> Place<'a, R,
     }
 
     fn show_none(&self, view: &PageView) -> Result<ShownFiles, AllocError>
-        ensures sum { IfOk result (λ none. none.summed.runs
-            ≡ table_of view.now.options.of view.now.options.columns.items []) }
+        ensures sum { IfOk result (λ none. asked_for view.now [] none.summed.runs) }
         ensures lines { IfOk result (λ none. none.summed.lines.items ≡ []) }
         ensures runs { IfOk result (λ none. (unit : TheUnit)
             → Holds unit view.now.labels.items [] none.page) }

@@ -1,4 +1,4 @@
-use Rattle.std.proofs.{Common.{take, sym}, lemmas.List.{take_all, take_more}}
+use Rattle.std.proofs.{Common.{take, sym}, lemmas.List.{take_more}}
 use Rattle.span_runs.proofs.Stopping.{OfStop-weaker}
 use Rattle.span_tasks.proofs.Adding.{AddsBeside-none, AddsBeside-push, StopsLater-sum}
 use Rattle.span_tasks.proofs.added.add_in_job.Goals as goal
@@ -12,10 +12,6 @@ pub loop-name-preserved : goal.loop-name-preserved
 loop-name-preserved g c =
     rw (take_more c.args.names.now c.loop-name.name-index c.name-item.result c.loop-name-test.true, sym c.name-item.is)
     (AddsBeside-push (g.S.Source.bytes c.args.work.now.source.now) c.args.work.now.kind.now (take c.loop-name.name-index c.args.names.now) c.name-item.result c.loop-name.added c.in-Ok-add_name.more c.loop-name.invariant c.in-Ok-add_name.ensures.sum)
-
--- all are
-pub returns : goal.returns
-returns g c = rw (take_all c.loop-name.name-index c.args.names.now c.loop-name-test.false) at c.loop-name.invariant
 
 -- the next one stopped
 pub returns-in-Err-add_name : goal.returns-in-Err-add_name
