@@ -48,28 +48,14 @@ abbrev pub first_number : Of → Bytes
 first_number Spans = codes "count"
 first_number Async = codes "closed"
 
--- no column is called so: none begins with `co` or `cl`
+-- no column is called so: it would be the category's
 pub column_name-not_first_number : (of : Of) (column : Column) → column_name column ≢ first_number of
-column_name-not_first_number Spans Pid e = omega (arith, ap (λ l. get_or l 0 0) e)
-column_name-not_first_number Spans Tid e = omega (arith, ap (λ l. get_or l 0 0) e)
-column_name-not_first_number Spans Process e = omega (arith, ap (λ l. get_or l 0 0) e)
-column_name-not_first_number Spans Thread e = omega (arith, ap (λ l. get_or l 0 0) e)
-column_name-not_first_number Spans Name e = omega (arith, ap (λ l. get_or l 0 0) e)
-column_name-not_first_number Spans File e = omega (arith, ap (λ l. get_or l 0 0) e)
-column_name-not_first_number Spans Cat e = omega (arith, ap (λ l. get_or l 1 0) e)
-column_name-not_first_number Spans Scope e = omega (arith, ap (λ l. get_or l 0 0) e)
-column_name-not_first_number Spans Id e = omega (arith, ap (λ l. get_or l 0 0) e)
-column_name-not_first_number Spans (Argument name) e = omega (arith, ap (λ l. get_or l 0 0) e)
-column_name-not_first_number Async Pid e = omega (arith, ap (λ l. get_or l 0 0) e)
-column_name-not_first_number Async Tid e = omega (arith, ap (λ l. get_or l 0 0) e)
-column_name-not_first_number Async Process e = omega (arith, ap (λ l. get_or l 0 0) e)
-column_name-not_first_number Async Thread e = omega (arith, ap (λ l. get_or l 0 0) e)
-column_name-not_first_number Async Name e = omega (arith, ap (λ l. get_or l 0 0) e)
-column_name-not_first_number Async File e = omega (arith, ap (λ l. get_or l 0 0) e)
-column_name-not_first_number Async Cat e = omega (arith, ap (λ l. get_or l 1 0) e)
-column_name-not_first_number Async Scope e = omega (arith, ap (λ l. get_or l 0 0) e)
-column_name-not_first_number Async Id e = omega (arith, ap (λ l. get_or l 0 0) e)
-column_name-not_first_number Async (Argument name) e = omega (arith, ap (λ l. get_or l 0 0) e)
+unfolding column_called
+column_name-not_first_number of column e = by of (sym (ap column_name (sym (column_called-name column) ∙ ap column_called e)) ∙ e)
+  where
+    by : (of : Of) → column_name (column_called (first_number of)) ≡ first_number of → ⊥
+    by Spans same = omega (arith, ap length same)
+    by Async same = omega (arith, ap length same)
 
 names-determined : (columns others : List Column) (ts us : List Token) → name_tokens columns ++ end_array ∷ ts ≡ name_tokens others ++ end_array ∷ us → (columns ≡ others) × (ts ≡ us)
 names-determined [] [] ts us e = (refl, ap (drop 1) e)
