@@ -27,7 +27,7 @@ pub fn ranking(
 {
     let mut out = head(alloc, unit, &table.counts().entries)?;
     put_runs(&mut out, &table.counts(), says_runs)?;
-    let rows = shown.rows(alloc, table.rows())?;
+    let mut rows = shown.rows(alloc, table.rows())?;
     put_shown(
         &mut out,
         shown,
@@ -37,8 +37,8 @@ pub fn ranking(
     let of = table.kind();
     let titles = number_titles(alloc, of.ranked())?;
     put_titles(alloc, &mut out, &titles, table.columns())?;
-    let rows = in_order(rows, by);
-    put_first(alloc, &mut out, of, &rows, most)?;
+    let first = first_ranked(&mut rows, by, most as usize);
+    put_rows(alloc, &mut out, of, first)?;
     Ok(out.into_bytes())
 }
 
@@ -62,26 +62,29 @@ fn compare(shown: &ShownRow, other: &ShownRow, by: Number) -> Ordering
     next.sums.by(by).compare(&row.sums.by(by)).then(by_key)
 }
 
-fn in_order<'a>(mut rows: Vec<ShownRow<'a>>, by: Number) -> Vec<ShownRow<'a>>
-    requires { IsDistinct (eq_by_cmp (ranking_order by)) rows.items }
-    ensures { result.items ≡ ranked by rows.entry.items }
+// The first rows in the order of a ranking, so many at most. The others are told from them, and not put in order.
+fn first_ranked<'r, 'a>(
+    rows: &'r mut [ShownRow<'a>],
+    by: Number,
+    most: usize,
+) -> &'r mut [ShownRow<'a>]
+    requires { IsDistinct (eq_by_cmp (ranking_order by)) rows.old }
+    ensures { result.now ≡ take most (ranked by rows.old) }
 {
-    rows.sort_unstable_by(|a, b| compare(a, b, by));
-    rows
+    if rows.len() <= most {
+        rows.sort_unstable_by(|a, b| compare(a, b, by));
+        return rows;
+    }
+    let (first, _, _) = rows.select_nth_unstable_by(most, |a, b| compare(a, b, by));
+    first.sort_unstable_by(|a, b| compare(a, b, by));
+    first
 }
 
-fn put_first(
-    alloc: Global,
-    out: &mut String,
-    of: Of,
-    rows: &[ShownRow],
-    most: u32,
-) -> Result<(), AllocError>
+fn put_rows(alloc: Global, out: &mut String, of: Of, rows: &[ShownRow]) -> Result<(), AllocError>
     ensures { OnOk result (string_bytes out.new
-        ≡ string_bytes out.old ++ flat_map (ranked_line of) (take most rows.now)) }
+        ≡ string_bytes out.old ++ flat_map (ranked_line of) rows.now) }
 {
-    let shown = rows.len().min(most as usize);
-    for ranked in &rows[..shown] {
+    for ranked in rows {
         let cells = value_cells(alloc, of.ranked(), &ranked.row.sums)?;
         put_row(alloc, out, &cells, &ranked.row.key)?;
     }

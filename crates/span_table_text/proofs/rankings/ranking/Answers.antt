@@ -4,7 +4,7 @@ use Rattle.span_table_text.specs.{Ranks.ranking_order, Shown.shown_rows}
 use Rattle.span_table_text.proofs.Ranked.{shown_rows-distinct}
 use Rattle.span_table_text.proofs.rankings.ranking.Goals as goal
 
-pub in_order-rows-requires : goal.in_order-rows-requires
-in_order-rows-requires c =
-    subst (IsDistinct (eq_by_cmp (ranking_order c.args.by))) (sym (c.in_ok-rows.ensures ∙ ap (shown_rows c.args.shown.now) c.rows.ensures.rows))
+pub first_ranked-first-requires : goal.first_ranked-first-requires
+first_ranked-first-requires c =
+    subst (IsDistinct (eq_by_cmp (ranking_order c.args.by))) (sym (c.deref_mut.ensures.value ∙ c.in_ok-rows.ensures ∙ ap (shown_rows c.args.shown.now) c.rows.ensures.rows))
     (shown_rows-distinct c.args.by c.args.shown.now c.args.table.now.rows c.rows.ensures.rise)
