@@ -2,8 +2,8 @@
 #![tactic(auto)]
 
 use span_tasks::{
-    Number, Column, DEFAULT_SETTINGS, Files, Items, LinesTo, Named, Of, Place, Request, Session, Shown,
-    TableForm, TableOptions, TableText, Tabulation, Task, Text, Unwatched, Writer,
+    Column, DEFAULT_SETTINGS, Files, Items, LinesTo, Named, Number, Of, Place, Request, Session,
+    Shown, TableForm, TableOptions, TableText, Tabulation, Task, Text, Unwatched, Writer,
 };
 use std::alloc::{AllocError, Global};
 use std::process::ExitCode;

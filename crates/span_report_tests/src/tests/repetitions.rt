@@ -4,7 +4,7 @@ use super::told::told;
 use span_comparisons::{json_repeats, repeats};
 use span_event::{Text, Unit};
 use span_names::HashKeys;
-use span_table::{Number, Column, Of, Table};
+use span_table::{Column, Number, Of, Table};
 use span_table_text::Shown;
 use std::alloc::Global;
 use std::test::Fail;
