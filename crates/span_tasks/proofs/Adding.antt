@@ -110,15 +110,15 @@ module _ (source : SourceBytes) where
   AddsBeside-of : (kind : PartSum) (names : List Name) (table : SpanTable) → Adds source kind names table → AddsBeside source kind names (with_sum kind table)
   AddsBeside-of kind names table adds = record { texts = adds.texts; read = adds.read; of = refl; unit = refl; columns = refl; places = refl; sums = adds.sums }
 
-  -- at the name of this place
-  pub StopsLater-sum : (names : List Name) (place : ℕ) (name : Name) (kind middle : PartSum) (lines : Bytes) → place < length names → name ≡ get_or names place name →
-      AddsBeside source kind (take place names) middle → StopsAdding source (HasOtherColumns middle.of middle.unit middle.columns) name lines → StopsLater source false kind names lines
-  StopsLater-sum names place name kind middle lines low is beside stops = record {
-    done = take place names;
+  -- at the name of this place, behind others
+  pub StopsLater-sum : (done names : List Name) (place : ℕ) (name : Name) (kind middle : PartSum) (lines : Bytes) → place < length names → name ≡ get_or names place name →
+      AddsBeside source kind (done ++ take place names) middle → StopsAdding source (HasOtherColumns middle.of middle.unit middle.columns) name lines → StopsLater source false kind (done ++ names) lines
+  StopsLater-sum done names place name kind middle lines low is beside stops = record {
+    done = done ++ take place names;
     later = name ∷ drop (suc place) names;
-    split = split-at names place name low is;
+    split = ap (λ ns. done ++ ns) (split-at names place name low is) ∙ sym (append_assoc done (take place names) (name ∷ drop (suc place) names));
     tables = middle.sum ∷ [];
-    added = (middle.sum, Adds-beside kind (take place names) middle beside, refl);
+    added = (middle.sum, Adds-beside kind (done ++ take place names) middle beside, refl);
     cause = subst (λ (columns : List Column). StopsAdding source (HasOtherColumns kind.of kind.unit columns) name lines) beside.columns
         (subst (λ (unit : TimeUnit). StopsAdding source (HasOtherColumns kind.of unit middle.columns) name lines) beside.unit
         (subst (λ (of : Of). StopsAdding source (HasOtherColumns of middle.unit middle.columns) name lines) beside.of stops));

@@ -1,7 +1,7 @@
 -- Tables as they are gathered: those of one side, or of two that are compared.
 use Rattle.std.specs.Prelude.{◌≡◌, ◌⊎◌, ⊤, Bool, true, false, List, [], ◌∷◌, ◌++◌, map, Option, MatchResult, Result}
 use Rattle.span_request.specs.declared.tasks.Items.TheVariants.{Apart as EachApart, Printed, Together}
-use Rattle.span_tasks.specs.{Bytes, AreSeparate, Settings, AreGathered, Halt, OfStop, StopsAmong, run_in_turn, run_of_files, table_of_run, SourceBytes, Name, PartSum, Column, Of, Number, Run, SpanTable, picked, table_of, Items, TableOptions, Added.{Adds, AddsBeside, AddsEach, AreOfFirst, AreTooMany, StopsFirst, StopsNext}, Together.{EndsWell, StopsTogether}, declared.{printed.PrintedBase.PrintedBase, side.Side.Side, together.TogetherRun.TogetherRun}}
+use Rattle.span_tasks.specs.{Bytes, AreSeparate, Settings, AreGathered, Halt, OfStop, StopsAmong, run_in_turn, run_of_files, table_of_run, SourceBytes, Name, PartSum, Column, Of, Number, Run, SpanTable, picked, table_of, Items, TableOptions, Added.{Adds, AddsBeside, AddsEach, AreOfFirst, AreTooMany, BeginsWith, StopsFirst, StopsNext}, Together.{EndsWell, StopsTogether}, declared.{printed.PrintedBase.PrintedBase, side.Side.Side, together.TogetherRun.TogetherRun}}
 
 -- one table of all runs, or a table of each
 abbrev pub ComeTo : Bool → Of → List Column → List Run → List SpanTable → Type 0
@@ -25,6 +25,16 @@ pub record StopsLater (source : SourceBytes) (each : Bool) (parts : PartSum) (na
 -- the tables of these names are added, or this is said of one
 abbrev pub AddsOrStops : SourceBytes → PartSum → List Name → Result PartSum Halt → Type 0
 AddsOrStops source kind names result = MatchResult result (AddsBeside source kind names) (OfStop (StopsLater source false kind names))
+
+-- the tables of these names are added behind those that gave this sum, or this is said of one
+abbrev pub AddsBehind : SourceBytes → PartSum → List Name → Result PartSum Halt → Type 0
+AddsBehind source sum names result = MatchResult result (λ both. (kind : PartSum) (done : List Name) → AddsBeside source kind done sum → AddsBeside source kind (done ++ names) both)
+    (OfStop (λ lines. (kind : PartSum) (done : List Name) → AddsBeside source kind done sum → StopsLater source false kind (done ++ names) lines))
+
+-- the tables of these names are added to that of a first name, with which parts begin, or this is said of one
+abbrev pub AddsToFirst : SourceBytes → PartSum → List Name → Result PartSum Halt → Type 0
+AddsToFirst source first later result = MatchResult result (λ sum. (name : Name) → BeginsWith source name first → AddsBeside source first (name ∷ later) sum)
+    (OfStop (λ lines. (name : Name) → BeginsWith source name first → StopsLater source false first (name ∷ later) lines))
 
 -- where this is what becomes of the tables of these names, and that of those, the result is what becomes of them together
 abbrev pub JoinsSums : Result PartSum Halt → Result PartSum Halt → Result PartSum Halt → Type 0

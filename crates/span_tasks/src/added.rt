@@ -1,6 +1,6 @@
 //! Tables that were printed: they are read back, and added in several jobs at once.
 ghost use Rattle.std.specs.Prelude.{◌≡◌, ◌≤◌, length, true, IfErr, IfOk};
-ghost use Rattle.span_tasks.specs.{HasOtherColumns, OfStop, Added.{AddsEach, AreAsked, BeginsWith, IsNoText, IsTableBeside, IsText, LacksAsked, SaysPart, StopsAdding, TakesName}, Sides.{AddsOrStops, JoinsSums, StopsLater}, places};
+ghost use Rattle.span_tasks.specs.{HasOtherColumns, OfStop, Added.{AddsEach, AreAsked, BeginsWith, IsNoText, IsTableBeside, IsText, LacksAsked, SaysPart, StopsAdding, TakesName}, Sides.{AddsBehind, AddsOrStops, AddsToFirst, JoinsSums, StopsLater}, places};
 
 use crate::place::Place;
 use span_event::Fault;
@@ -17,13 +17,11 @@ use std::thread::Threads;
 // The most bytes that a table may have.
 const MOST_ADDED: u64 = 1_099_511_627_776;
 
-// What jobs have in common that add tables of one kind. Maps that files fill are hashed by these keys.
+// What jobs have in common that add tables.
 #[derive(Drop)]
 struct AddWork<'a, S> {
     alloc: Global,
     source: &'a S,
-    keys: HashKeys,
-    kind: &'a Parts,
     stopped: &'a Stopped,
 }
 
@@ -68,14 +66,56 @@ impl<'a, R: Threads + Wait + RandomSource + Sync, S: Source + Sync> Place<'a, R,
             return Err(Halt::Memory);
         };
         let stopped = Stopped::nowhere();
+        let work = &AddWork {
+            alloc: self.alloc,
+            source: self.source,
+            stopped: &stopped,
+        };
+        let take = move |from: usize, to: usize| -> Result<Parts, Halt>
+            requires { (from ≤ to) × (to ≤ length names.now) }
+            ensures { AddsOrStops (S.bytes work.entry.now.source.now) kind.entry.now
+                (places from to names.entry.now) result }
+        { add_in_job(work, kind, keys, &names[from..to], from as u64) };
+        let join = move |first, second| -> Result<Parts, Halt>
+            ensures { JoinsSums first second result }
+        { joined(first, second) };
+        in_jobs(self.rt, &sizes, self.jobs_of(None), &take, &join)
+    }
+
+    /// The sum of a first table and those of the names behind it.
+    pub(crate) fn sum_from(
+        &self,
+        keys: HashKeys,
+        first: Parts,
+        later: &[Name],
+    ) -> Result<Parts, Halt>
+        ensures { AddsToFirst (S.bytes self.now.source.now) first later.now result }
+    {
+        if self.jobs_of(None) == 1 {
+            // One job has nothing to join.
+            return self.add_here(first, later);
+        }
+        let rest = match self.sum_beside(keys, &first, later) {
+            Ok(rest) => rest,
+            Err(halt) => return Err(halt),
+        };
+        match first.join(rest) {
+            Ok(sum) => Ok(sum),
+            Err(_) => Err(Halt::Memory),
+        }
+    }
+
+    // Parts with the tables of these names added to them, one after another.
+    fn add_here(&self, parts: Parts, names: &[Name]) -> Result<Parts, Halt>
+        ensures { AddsBehind (S.bytes self.now.source.now) parts names.now result }
+    {
+        let stopped = Stopped::nowhere();
         let work = AddWork {
             alloc: self.alloc,
             source: self.source,
-            keys,
-            kind,
             stopped: &stopped,
         };
-        add_in_jobs(self.rt, &work, names, &sizes, self.jobs_of(None))
+        add_names(&work, parts, names, 0)
     }
 
     /// The tables of these names, each of which is of the kind of these parts.
@@ -125,36 +165,41 @@ impl<'a, R: Threads + Wait + RandomSource + Sync, S: Source + Sync> Place<'a, R,
     }
 }
 
-// Adds the tables of these names, whose texts are so large, in so many jobs.
-fn add_in_jobs<R: Threads + Sync, S: Source + Sync>(
-    rt: &R,
+// Adds the tables of these names, of which the first has this place, to none of a kind, in order for what is joined.
+fn add_in_job<S: Source>(
     work: &AddWork<S>,
+    kind: &Parts,
+    keys: HashKeys,
     names: &[Name],
-    sizes: &[u64],
-    jobs: u32,
+    place: u64,
 ) -> Result<Parts, Halt>
-    requires { length sizes.now ≡ length names.now }
-    ensures { AddsOrStops (S.bytes work.now.source.now) work.now.kind.now names.now result }
+    ensures { AddsOrStops (S.bytes work.now.source.now) kind.now names.now result }
 {
-    let take = move |from: usize, to: usize| -> Result<Parts, Halt>
-        requires { (from ≤ to) × (to ≤ length names.now) }
-        ensures { AddsOrStops (S.bytes work.entry.now.source.now) work.entry.now.kind.now
-            (places from to names.entry.now) result }
-    { add_in_job(work, &names[from..to], from as u64) };
-    let join = move |first, second| -> Result<Parts, Halt>
-        ensures { JoinsSums first second result }
-    { joined(first, second) };
-    in_jobs(rt, sizes, jobs, &take, &join)
-}
-
-// Adds the tables from this place on, one after another, unless one before has stopped in another job.
-fn add_in_job<S: Source>(work: &AddWork<S>, names: &[Name], place: u64) -> Result<Parts, Halt>
-    ensures { AddsOrStops (S.bytes work.now.source.now) work.now.kind.now names.now result }
-{
-    let mut added = match work.kind.of_none_beside(work.alloc, work.keys) {
+    let none = match kind.of_none_beside(work.alloc, keys) {
         Ok(none) => none,
         Err(_) => return Err(Halt::Memory),
     };
+    let added = match add_names(work, none, names, place) {
+        Ok(added) => added,
+        Err(halt) => return Err(halt),
+    };
+    match added.in_order() {
+        Ok(added) => Ok(added),
+        Err(_) => Err(Halt::Memory),
+    }
+}
+
+// Parts with the tables of these names added, of which the first has this place, one after another, unless one before has stopped in
+// another job.
+fn add_names<S: Source>(
+    work: &AddWork<S>,
+    parts: Parts,
+    names: &[Name],
+    place: u64,
+) -> Result<Parts, Halt>
+    ensures { AddsBehind (S.bytes work.now.source.now) parts names.now result }
+{
+    let mut added = parts;
     let mut place = place;
     for name in names {
         if work.stopped.is_before(place) {
@@ -170,10 +215,7 @@ fn add_in_job<S: Source>(work: &AddWork<S>, names: &[Name], place: u64) -> Resul
         };
         place = place.saturating_add(1);
     }
-    match added.in_order() {
-        Ok(added) => Ok(added),
-        Err(_) => Err(Halt::Memory),
-    }
+    Ok(added)
 }
 
 // The sum of two groups of names, of which those of the second come after those of the first.

@@ -123,13 +123,9 @@ impl<'a, R: Threads + Wait + RandomSource + Sync, S: Source + Sync> Place<'a, R,
                 Err(halt) => Err(halt),
             };
         }
-        let rest = match self.sum_beside(taking.keys, &first, later) {
-            Ok(rest) => rest,
-            Err(halt) => return Err(halt),
-        };
-        match first.join(rest) {
+        match self.sum_from(taking.keys, first, later) {
             Ok(sum) => only_sum(self.alloc, sum),
-            Err(_) => Err(Halt::Memory),
+            Err(halt) => Err(halt),
         }
     }
 
