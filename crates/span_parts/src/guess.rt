@@ -1,7 +1,8 @@
 //! What a line would have to be, if a table was printed. It is printed again and compared, so an answer needs no trust; that none is
 //! missed is what the contracts say.
-ghost use Rattle.std.specs.{Fmt.signed_decimal, Int.w64, Prelude.{◌≡◌, ◌≢◌, ◌<◌, ◌^◌, ◌++◌, ◌∷◌, ℕ, ℤ, FitsSigned, List, None, Some, true, codes, map, IfOk}};
+ghost use Rattle.std.specs.{Fmt.signed_decimal, Int.w64, Prelude.{◌≡◌, ◌≢◌, ◌<◌, ◌^◌, ◌++◌, ◌∷◌, [], ℕ, ℤ, FitsSigned, List, None, Some, true, codes, map, IfOk}};
 ghost use Rattle.json.specs.{Reads.token_of, Token.{Token as TheToken, end_array, key}};
+ghost use Rattle.span_table.specs.Tables.{sums_together};
 ghost use Rattle.span_parts.specs.{Bytes, ArgValue as TheValue, Whole, Unit as TheUnit, Column as TheColumn, TableCounts as TheCounts, Of as TheOf, Sums as TheSums, Row as TheRow, column_name, counts_fit, fit, numbers_of, only, TableKey, AreColumns, AreDistinct, IsKeyOf, IsOfArgument, IsRowOf, entry_counts_tokens, head_tokens, key_tokens, name_tokens, number_tokens, numbers_tokens, of_tokens, row_tokens, sums_tokens, unit_tokens, value_tokens, First.{MayBegin, Says}, Guess.{Finds, Found, MayFollow, Remains}};
 
 use crate::heads::MOST_COLUMNS;
@@ -163,8 +164,9 @@ pub(crate) fn row_of(
         return Ok(None);
     };
     let (key, rest) = key_of(alloc, names, members)?;
-    match sums_of(of.numbers(), rest) {
-        Some(sums) => Ok(Some(Row { key, sums })),
+    let mut sums = Sums::of_none();
+    match put_sums(of.numbers(), rest, &mut sums) {
+        Some(_) => Ok(Some(Row { key, sums })),
         None => Ok(None),
     }
 }
@@ -209,19 +211,24 @@ fn put_values<'t, 'a>(
     }
 }
 
-// These numbers of a row; the others are 0.
-fn sums_of(numbers: &[Number], tokens: &[Token]) -> Option<Sums>
-    ensures { (sums : TheSums) (rest : List TheToken) → fit sums ≡ true
-        → map token_of tokens.now ≡ sums_tokens numbers.now sums ++ rest
-        → result ≡ Some (only numbers.now sums) }
+// Gives these numbers of a row the values behind their names, and gives the tokens behind those.
+fn put_sums<'t, 'a>(
+    numbers: &[Number],
+    tokens: &'t [Token<'a>],
+    sums: &mut Sums,
+) -> Option<&'t [Token<'a>]>
+    requires { sums.old ≡ sums_together [] }
+    ensures { (all : TheSums) (rest : List TheToken) → fit all ≡ true
+        → map token_of tokens.now ≡ sums_tokens numbers.now all ++ rest
+        → Remains rest result × (sums.new ≡ only numbers.now all) }
 {
     let Some((number, numbers)) = numbers.split_first() else {
-        return Some(Sums::of_none());
+        return Some(tokens);
     };
     let (value, rest) = number_after(tokens, number.name())?;
-    let mut sums = sums_of(numbers, rest)?;
+    let rest = put_sums(numbers, rest, sums)?;
     sums.put(*number, Sum::of(u128::from(value)));
-    Some(sums)
+    Some(rest)
 }
 
 // The value behind a key, if this key is next, and the tokens behind it.

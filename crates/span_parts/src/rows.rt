@@ -75,7 +75,10 @@ fn is_row_of(of: Of, columns: &[Column], row: &Row) -> bool
 fn has_own(of: Of, sums: &Sums) -> bool
     ensures { IsTrue result ↔ HasOwn of sums.now }
 {
-    sums.equals(&sums.only(of.numbers()))
+    match of {
+        Of::Spans => is_none(&sums.unclosed) && is_none(&sums.points),
+        Of::Async => is_none(&sums.self_time),
+    }
 }
 
 // Whether a key of spans has one.

@@ -1,6 +1,6 @@
 //! What spans come to together.
 ghost use Rattle.std.specs.Prelude.{◌≡◌, ◌+◌, ◌≤◌, ◌^◌, ℕ, []};
-ghost use Rattle.span_table.specs.{Collected.{IsWithin, sums_of_row, with_sums}, Numbers.{number_by, only, with_number}, Sums.{fit, same_sums}, Tables.{sums_of_async, sums_together}};
+ghost use Rattle.span_table.specs.{Collected.{IsWithin, sums_of_row, with_sums}, Numbers.{number_by, with_number}, Sums.{fit, same_sums}, Tables.{sums_of_async, sums_together}};
 
 use crate::number::Number;
 use crate::sum::Sum;
@@ -116,18 +116,6 @@ impl Sums {
             Number::Open => self.unclosed = value,
             Number::Points => self.points = value,
         }
-    }
-
-    /// With these of its numbers; the others are 0.
-    pub fn only(&self, numbers: &[Number]) -> Sums
-        ensures { result ≡ only numbers.now self.now }
-    {
-        let Some((number, numbers)) = numbers.split_first() else {
-            return Sums::of_none();
-        };
-        let mut sums = self.only(numbers);
-        sums.put(*number, self.by(*number));
-        sums
     }
 
     /// Whether all numbers are equal.
