@@ -4,8 +4,8 @@ use Rattle.std.proofs.Common.{◌≡◌, ℕ, zero, suc, ◌+◌, ◌-◌, ◌*�
 use Rattle.fast_float.specs.Text.{minus, Parts, scan, digits_of, nearest as nearest_float, with_sign}
 use Rattle.serde_json.specs.{Data.{Num, number, unsigned, negative, float}, Read.{is_integer, float_of, number_from, number_of}}
 use Rattle.fast_float.proofs.ExactLemmas.{ten_to_pos}
-use Rattle.span_read.specs.{Decimals.{ShortDecimalsAreExact, nanoseconds_of_text, own_nanoseconds, parts_of}, Fields.field_value, Time.{nanoseconds, nanoseconds_of}}
-use Rattle.span_read.proofs.Times.{compare-lt, compare-eq, compare-gt}
+use Rattle.span_read.specs.{greatest_time, Nanoseconds, Decimals.{ShortDecimalsAreExact, nanoseconds_of_text, own_nanoseconds, parts_of}, Fields.field_value, Time.{nanoseconds, nanoseconds_of, time_in, within}}
+use Rattle.span_read.proofs.Times.{compare-lt, compare-eq, compare-gt, within-sign}
 use Prim.Native.Nat.{compare}
 use mathlib.Core.Logic.{inl, inr}
 use native.Mathlib.Nat.{pow-le-pow_right, eq-zero-or-pos, le_of_eq, lt_of_lt_of_le, lt_of_le_of_lt, mul_right_comm, mul_comm, mul_assoc, mul-one, mul-le-mul_right, mul-le-mul_left, mul-lt-mul_of_pos_right, lt_of_mul-lt-mul_right, div-lt_iff_lt-mul, div-add-mod', mod-lt, mul-pos}
@@ -154,6 +154,14 @@ module _ (s : Bool) (d c : ℕ) (some : 0 < c) (small : d < 2 ^ 43 * c) where
 abbrev as_nanoseconds : Option Num → Option ℤ
 as_nanoseconds o = option_and_then (λ n. nanoseconds_of (field_value (number n))) o
 
+abbrev as_time : Option Num → Option ℤ
+as_time o = option_and_then (λ n. time_in Nanoseconds (field_value (number n))) o
+
+-- nanoseconds in range are a time
+as_time-in : (o : Option Num) (s : Bool) (n : ℕ) → n ≤ greatest_time → as_nanoseconds o ≡ Some (with_sign s n) → as_time o ≡ Some (with_sign s n)
+as_time-in None s n few is = cc
+as_time-in (Some x) s n few is = ap (option_and_then (within greatest_time)) is ∙ within-sign n few s
+
 -- the digits with zeros up to three places
 abbrev own : Parts → ℕ
 own p = digits_of p * 10 ^ (3 - length p.fraction)
@@ -208,6 +216,15 @@ module _ (p : Parts) (places : length p.fraction ≤ 3) (none : p.exponent ≡ [
       by true is = negative-own (pointless (grind arith))
       by false is = float-own true
 
+  in_time : own p ≤ greatest_time
+  in_time =
+      let places_of = 10 ^ length p.fraction in
+      let less : own p * places_of < 1_000 * 2 ^ 43 * places_of = omega (arith, own-is p places, small) in
+      omega (arith, lt_of_mul-lt-mul_right places_of less)
+
+  time-own : (s : Bool) → (p.point ≡ false → p.fraction ≡ []) → as_time (number_from s p) ≡ Some (with_sign s (own p))
+  time-own s pointless = as_time-in (number_from s p) s (own p) in_time (number-own s pointless)
+
 -- without a point there is no fraction
 pointless : (text : List ℕ) → (scan text).point ≡ false → (scan text).fraction ≡ []
 unfolding scan
@@ -218,5 +235,5 @@ unfolding number_of
 decimals-exact text is = by (get_or text 0 0 == minus) refl is.places is.no_exponent is.small
   where
     by : (b : Bool) → (get_or text 0 0 == minus) ≡ b → length (parts_of text).fraction ≤ 3 → (parts_of text).exponent ≡ [] → digits_of (parts_of text) < 2 ^ 43 * 10 ^ length (parts_of text).fraction → nanoseconds_of_text text ≡ Some (own_nanoseconds text)
-    by true minus_is places none small = rw minus_is (number-own (scan (drop 1 text)) (rw minus_is at places) (rw minus_is at none) (rw minus_is at small) true (pointless (drop 1 text)))
-    by false minus_is places none small = rw minus_is (number-own (scan text) (rw minus_is at places) (rw minus_is at none) (rw minus_is at small) false (pointless text))
+    by true minus_is places none small = rw minus_is (time-own (scan (drop 1 text)) (rw minus_is at places) (rw minus_is at none) (rw minus_is at small) true (pointless (drop 1 text)))
+    by false minus_is places none small = rw minus_is (time-own (scan text) (rw minus_is at places) (rw minus_is at none) (rw minus_is at small) false (pointless text))

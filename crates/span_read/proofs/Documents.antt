@@ -2,8 +2,8 @@
 use Rattle.std.specs.{Prelude.IfErr, Str.{IsUtf8, is_utf8}}
 use Rattle.std.proofs.{Common.{◌≡◌, ℕ, ◌≤◌, List, length, refl, sym, ap, arith, Bool, true, false, Option, None, Some, Result, Ok, Err, IfOk, All, nat_lt, if◌then◌else◌, rules, tests}, lemmas.Str.{is_utf8-from_IsUtf8, IsUtf8-from_is_utf8}}
 use Rattle.serde_json.specs.{Data.{Data, Items, no_items, item}, Events.items_len}
-use Rattle.span_read.specs.{Item, Unit, IsGoodItem, Document.{document, candidates, first_read, elements_of, doc, doc_of_document, doc_of_elements, items_of, most_bytes, most_items}, declared.error.ReadError.TheVariants.{TooLarge, NotJson, TooMany}}
-use Rattle.span_read.proofs.Good.{All-good_items_of}
+use Rattle.span_read.specs.{Item, Unit, IsGoodItem, Document.{document, candidates, first_read, elements_of, doc, doc_of_document, doc_of_elements, items_of, most_bytes, most_items}, Time.IsItemInRange, declared.error.ReadError.TheVariants.{TooLarge, NotJson, TooMany}}
+use Rattle.span_read.proofs.Good.{All-good_items_of, All-in_range_items_of}
 use borrow.Author.Tests.{ltb-false}
 
 pub doc-of_utf8 : (unit : Unit) (bytes : List ℕ) → length bytes ≤ most_bytes → IsUtf8 bytes → doc unit bytes ≡ doc_of_document unit (first_read (candidates bytes))
@@ -36,6 +36,9 @@ of_document unit (Some d) is e = of_elements unit (elements_of d) is e
 
 pub All-good_document : (unit : Unit) (o : Option Data) (is : List Item) → doc_of_document unit o ≡ Ok is → All IsGoodItem is
 All-good_document unit o is e = let of = of_document unit o is e in All-good_items_of unit of.elements is of.are
+
+pub All-in_range_document : (unit : Unit) (o : Option Data) (is : List Item) → doc_of_document unit o ≡ Ok is → All (IsItemInRange unit) is
+All-in_range_document unit o is e = let of = of_document unit o is e in All-in_range_items_of unit of.elements is of.are
 
 length-items_of : (unit : Unit) (ds : Items) → length (items_of unit ds) ≡ items_len ds
 length-items_of unit no_items = refl

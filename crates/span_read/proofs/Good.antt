@@ -1,9 +1,9 @@
 -- Members without a fault give a good event, so each item of an element is good.
 use Rattle.std.specs.{Int.RustNames.int_le, List.AllByRecursion as ByRecursion}
-use Rattle.std.proofs.{Common.{◌≡◌, ℕ, ℤ, pos, negsuc, neg_ℤ, ◌≤◌, ◌≤ℤ◌, List, [], ◌∷◌, Bool, true, false, ◌&&◌, ◌||◌, Option, Some, None, IsSome, IfSome, ◌⊎◌, inl, inr, is_some, All, unwrap_or, option_map, option_and_then, codes, if◌then◌else◌, refl, sym, subst, ◌∙◌, arith}, lemmas.{Int.ints, List.Elements.All-from_recursion}}
+use Rattle.std.proofs.{Common.{◌≡◌, ℕ, ℤ, pos, negsuc, neg_ℤ, ◌≤◌, ◌≤ℤ◌, List, [], ◌∷◌, Bool, true, false, ◌&&◌, ◌||◌, Option, Some, None, IsSome, IfSome, ◌⊎◌, inl, inr, is_some, All, unwrap_or, option_map, option_and_then, codes, if◌then◌else◌, refl, sym, subst, ◌∙◌, arith}, lemmas.{Int.ints, List.Elements.{All-from_recursion, All-weaker}}}
 use Rattle.serde_json.specs.Data.{Data, null, boolean, number, string, array, object, Items, no_items, item}
 use Rattle.span_event.specs.declared.event.Phase.{Phase}
-use Rattle.span_read.specs.{ArgValue, Whole, Words, Flag, Nil, Other, SpanBegin, SpanEnd, Complete, AsyncBegin, AsyncPoint, AsyncEnd, FlowStart, FlowStep, FlowEnd, Counter, Instant, Meta, IdKey, Id, Item, Good, Bad, ItemFault, NotWhole, BadField, NoId, BadReach, BadSeries, IsTime, IsKnownAt, IsGood, IsGoodAt, greatest_time, IsGoodItem, value_of, AllWhole, all_whole, natural, Unit, Microseconds, Nanoseconds, Document.items_of, Element.{unless, where_read, time_fault, duration_fault, is_length, time_or_zero, duration_or_zero, id_fault, first_fault, faults, fault_of, event_of, item_of_phase, item_of_letter, item_of_fields, item_of_data}, Fields.{fields_of, whole, words, pairs, whole_or_zero, id_text, parts_key, key_of, reach_of, args_of}, Phase.{reads_time, reads_duration, reads_id, needs_id, reads_reach, wants_whole_args, phase_of}, Time.{greatest_microseconds, nanoseconds_of, time_in, within}, declared.fields.{FieldValue.{FieldValue, TheVariants.{Plain, Float, Pairs}}, Fields.Fields}}
+use Rattle.span_read.specs.{ArgValue, Whole, Words, Flag, Nil, Other, SpanBegin, SpanEnd, Complete, AsyncBegin, AsyncPoint, AsyncEnd, FlowStart, FlowStep, FlowEnd, Counter, Instant, Meta, IdKey, Id, Item, Good, Bad, ItemFault, NotWhole, BadField, NoId, BadReach, BadSeries, IsTime, IsKnownAt, IsGood, IsGoodAt, greatest_time, IsGoodItem, value_of, AllWhole, all_whole, natural, Unit, Microseconds, Nanoseconds, Document.items_of, Element.{unless, where_read, time_fault, duration_fault, is_length, time_or_zero, duration_or_zero, id_fault, first_fault, faults, fault_of, event_of, item_of_phase, item_of_letter, item_of_fields, item_of_data}, Fields.{fields_of, whole, words, pairs, whole_or_zero, id_text, parts_key, key_of, reach_of, args_of}, Phase.{reads_time, reads_duration, reads_id, needs_id, reads_reach, wants_whole_args, phase_of}, Time.{IsInRange, IsItemInRange, IsTimeIn, greatest_in, number_in, time_in, within}, declared.fields.{FieldValue.{FieldValue, TheVariants.{Plain, Float, Pairs}}, Fields.Fields}}
 
 -- ---- no fault in a list is no fault in each
 
@@ -22,8 +22,9 @@ holds false fault none = cc
 abbrev key_record : Option ℤ → List ℕ → IdKey
 key_record home id = record { home = home; id = id }
 
-zero_time : IsTime (pos 0)
-zero_time = (omega (arith, ints), omega (arith, ints))
+zero_time : (unit : Unit) → IsTimeIn unit (pos 0)
+zero_time Microseconds = (omega (arith, ints), omega (arith, ints))
+zero_time Nanoseconds = (omega (arith, ints), omega (arith, ints))
 
 -- a number is in range where a test says so
 within_is : (greatest : ℕ) (n z : ℤ) → within greatest n ≡ Some z → (neg_ℤ (pos greatest) ≤ℤ z) × (z ≤ℤ pos greatest)
@@ -37,32 +38,41 @@ in_range : (greatest : ℕ) (o : Option ℤ) (z : ℤ) → option_and_then (with
 in_range greatest None z none = cc
 in_range greatest (Some n) z is = within_is greatest n z is
 
--- a time in either unit is in the range of all times
-time_of_number : (unit : Unit) (v : FieldValue) (z : ℤ) → time_in unit v ≡ Some z → IsTime z
-time_of_number Microseconds v z is = let here = in_range greatest_microseconds (whole v) z is in (omega (arith, ints, here), omega (arith, ints, here))
-time_of_number Nanoseconds v z is = let here = in_range greatest_time (nanoseconds_of v) z is in (omega (arith, ints, here), omega (arith, ints, here))
+time_of_number : (unit : Unit) (v : FieldValue) (z : ℤ) → time_in unit v ≡ Some z → IsTimeIn unit z
+time_of_number unit v z is = in_range (greatest_in unit) (number_in unit v) z is
 
 -- the time of an event, where it is read, is in range; else it is 0
-time_at : (unit : Unit) (read : Bool) (f : Option FieldValue) → where_read read (time_fault unit f) ≡ None → IsTime (if read then time_or_zero unit f else pos 0)
-time_at unit false f none = zero_time
+time_at : (unit : Unit) (read : Bool) (f : Option FieldValue) → where_read read (time_fault unit f) ≡ None → IsTimeIn unit (if read then time_or_zero unit f else pos 0)
+time_at unit false f none = zero_time unit
 time_at unit true None none = cc
 time_at unit true (Some v) none = by (time_in unit v) refl (holds _ NotWhole none)
   where
-    by : (o : Option ℤ) → time_in unit v ≡ o → is_some o ≡ true → IsTime (unwrap_or o (pos 0))
+    by : (o : Option ℤ) → time_in unit v ≡ o → is_some o ≡ true → IsTimeIn unit (unwrap_or o (pos 0))
     by None is right = cc
     by (Some z) is right = time_of_number unit v z is
 
-natural-within : (z : ℤ) → z ≤ℤ pos greatest_time → natural z ≤ greatest_time
-natural-within (pos n) below = omega (arith, ints)
-natural-within (negsuc n) below = omega arith
+natural-within : (greatest : ℕ) (z : ℤ) → z ≤ℤ pos greatest → natural z ≤ greatest
+natural-within greatest (pos n) below = omega (arith, ints)
+natural-within greatest (negsuc n) below = omega arith
 
-duration_at : (unit : Unit) (f : Option FieldValue) → duration_fault unit f ≡ None → duration_or_zero unit f ≤ greatest_time
-duration_at unit None none = cc
-duration_at unit (Some v) none = by (time_in unit v) refl (holds _ NotWhole none)
+-- the length of an event, where it is read, is in range; else it is 0
+duration_at : (unit : Unit) (read : Bool) (f : Option FieldValue) → where_read read (duration_fault unit f) ≡ None → (if read then duration_or_zero unit f else 0) ≤ greatest_in unit
+duration_at unit false f none = omega arith
+duration_at unit true None none = cc
+duration_at unit true (Some v) none = by (time_in unit v) refl (holds _ NotWhole none)
   where
-    by : (o : Option ℤ) → time_in unit v ≡ o → is_length o ≡ true → natural (unwrap_or o (pos 0)) ≤ greatest_time
+    by : (o : Option ℤ) → time_in unit v ≡ o → is_length o ≡ true → natural (unwrap_or o (pos 0)) ≤ greatest_in unit
     by None is right = cc
-    by (Some z) is right = natural-within z (time_of_number unit v z is).1
+    by (Some z) is right = natural-within (greatest_in unit) z (time_of_number unit v z is).1
+
+-- what is in the range of a unit is in the range of all times
+IsTime-in : (unit : Unit) (t : ℤ) → IsTimeIn unit t → IsTime t
+IsTime-in Microseconds t here = (omega (arith, ints, here), omega (arith, ints, here))
+IsTime-in Nanoseconds t here = (omega (arith, ints, here), omega (arith, ints, here))
+
+length-in : (unit : Unit) (n : ℕ) → n ≤ greatest_in unit → n ≤ greatest_time
+length-in Microseconds n here = omega (arith, here)
+length-in Nanoseconds n here = here
 
 -- whether there is a key doesn't turn on the process
 same_home : (home other : Option ℤ) (t : Option (List ℕ)) → is_some (option_map (key_record home) t) ≡ is_some (option_map (key_record other) t)
@@ -141,7 +151,7 @@ no_faults unit phase f none =
 good_at : (unit : Unit) (phase : Phase) (f : Fields) → NoFaults unit phase f → IsGoodAt phase (event_of unit phase f)
 good_at unit SpanBegin f none = (refl, refl, refl, refl)
 good_at unit SpanEnd f none = (refl, refl, refl, refl)
-good_at unit Complete f none = (duration_at unit f.dur none.no_duration, refl, refl, refl)
+good_at unit Complete f none = (length-in unit _ (duration_at unit true f.dur none.no_duration), refl, refl, refl)
 good_at unit AsyncBegin f none = (refl, key_there _ _ _ none.no_id none.no_lack, refl)
 good_at unit AsyncPoint f none = (refl, key_there _ _ _ none.no_id none.no_lack, refl)
 good_at unit AsyncEnd f none = (refl, key_there _ _ _ none.no_id none.no_lack, refl)
@@ -152,37 +162,58 @@ good_at unit Counter f none = (refl, refl, refl, AllWhole-from_test (args_of f.a
 good_at unit Instant f none = (refl, refl, refl, holds _ BadReach none.no_reach)
 good_at unit Meta f none = (refl, refl, refl, refl, refl)
 
-IsGood-event_of : (unit : Unit) (phase : Phase) (f : Fields) → NoFaults unit phase f → IsGood (event_of unit phase f)
-IsGood-event_of unit phase f none = record { in_time = time_at unit (reads_time phase) f.ts none.no_time; by_home = home_at (reads_id phase) (whole_or_zero f.pid) f.id f.id2; by_phase = good_at unit phase f none }
+-- what holds of the event that fields without a fault give
+abbrev IsRead : Unit → Item → Type 0
+IsRead unit read = IsGoodItem read × IsItemInRange unit read
+
+IsRead-event_of : (unit : Unit) (phase : Phase) (f : Fields) → NoFaults unit phase f → IsRead unit (Good (event_of unit phase f))
+IsRead-event_of unit phase f none =
+    let time = time_at unit (reads_time phase) f.ts none.no_time in (
+      record { in_time = IsTime-in unit _ time; by_home = home_at (reads_id phase) (whole_or_zero f.pid) f.id f.id2; by_phase = good_at unit phase f none },
+      record { time = time; length = duration_at unit (reads_duration phase) f.dur none.no_duration },
+    )
 
 -- ---- the items
 
-good_item_at : (unit : Unit) (phase : Phase) (f : Fields) (fault : Option ItemFault) → fault_of unit phase f ≡ fault → IsGoodItem (unwrap_or (option_map Bad fault) (Good (event_of unit phase f)))
-good_item_at unit phase f None is = IsGood-event_of unit phase f (no_faults unit phase f is)
-good_item_at unit phase f (Some fault) is = tt
+read_item_at : (unit : Unit) (phase : Phase) (f : Fields) (fault : Option ItemFault) → fault_of unit phase f ≡ fault → IsRead unit (unwrap_or (option_map Bad fault) (Good (event_of unit phase f)))
+read_item_at unit phase f None is = IsRead-event_of unit phase f (no_faults unit phase f is)
+read_item_at unit phase f (Some fault) is = (tt, tt)
 
-good_item_of_phase : (unit : Unit) (f : Fields) (phase : Option Phase) → IsGoodItem (item_of_phase unit f phase)
-good_item_of_phase unit f None = tt
-good_item_of_phase unit f (Some phase) = good_item_at unit phase f _ refl
+read_item_of_phase : (unit : Unit) (f : Fields) (phase : Option Phase) → IsRead unit (item_of_phase unit f phase)
+read_item_of_phase unit f None = (tt, tt)
+read_item_of_phase unit f (Some phase) = read_item_at unit phase f _ refl
 
-good_item_of_letter : (unit : Unit) (f : Fields) (letter : Option (List ℕ)) → IsGoodItem (item_of_letter unit f letter)
-good_item_of_letter unit f None = tt
-good_item_of_letter unit f (Some letter) = good_item_of_phase unit f (phase_of letter)
+read_item_of_letter : (unit : Unit) (f : Fields) (letter : Option (List ℕ)) → IsRead unit (item_of_letter unit f letter)
+read_item_of_letter unit f None = (tt, tt)
+read_item_of_letter unit f (Some letter) = read_item_of_phase unit f (phase_of letter)
+
+read_item_of_fields : (unit : Unit) (f : Fields) → IsRead unit (item_of_fields unit f)
+read_item_of_fields unit f = read_item_of_letter unit f (option_and_then words f.ph)
 
 pub IsGoodItem-item_of_fields : (unit : Unit) (f : Fields) → IsGoodItem (item_of_fields unit f)
-IsGoodItem-item_of_fields unit f = good_item_of_letter unit f (option_and_then words f.ph)
+IsGoodItem-item_of_fields unit f = (read_item_of_fields unit f).0
 
-pub IsGoodItem-item_of_data : (unit : Unit) (d : Data) → IsGoodItem (item_of_data unit d)
-IsGoodItem-item_of_data unit (object ms) = IsGoodItem-item_of_fields unit (fields_of ms)
-IsGoodItem-item_of_data unit null = tt
-IsGoodItem-item_of_data unit (boolean b) = tt
-IsGoodItem-item_of_data unit (number n) = tt
-IsGoodItem-item_of_data unit (string s) = tt
-IsGoodItem-item_of_data unit (array ds) = tt
+pub IsItemInRange-item_of_fields : (unit : Unit) (f : Fields) → IsItemInRange unit (item_of_fields unit f)
+IsItemInRange-item_of_fields unit f = (read_item_of_fields unit f).1
 
-are_good : (unit : Unit) (ds : Items) → ByRecursion IsGoodItem (items_of unit ds)
-are_good unit no_items = tt
-are_good unit (item d ds) = (IsGoodItem-item_of_data unit d, are_good unit ds)
+read_item_of_data : (unit : Unit) (d : Data) → IsRead unit (item_of_data unit d)
+read_item_of_data unit (object ms) = read_item_of_fields unit (fields_of ms)
+read_item_of_data unit null = (tt, tt)
+read_item_of_data unit (boolean b) = (tt, tt)
+read_item_of_data unit (number n) = (tt, tt)
+read_item_of_data unit (string s) = (tt, tt)
+read_item_of_data unit (array ds) = (tt, tt)
 
-pub All-good_items_of : (unit : Unit) (ds : Items) (items : List Item) → items ≡ items_of unit ds → All IsGoodItem items
-All-good_items_of unit ds items is = All-from_recursion IsGoodItem items (subst (ByRecursion IsGoodItem) (sym is) (are_good unit ds))
+are_read : (unit : Unit) (ds : Items) → ByRecursion (IsRead unit) (items_of unit ds)
+are_read unit no_items = tt
+are_read unit (item d ds) = (read_item_of_data unit d, are_read unit ds)
+
+module _ (unit : Unit) (ds : Items) (items : List Item) (is : items ≡ items_of unit ds) where
+  all_read : All (IsRead unit) items
+  all_read = All-from_recursion (IsRead unit) items (subst (ByRecursion (IsRead unit)) (sym is) (are_read unit ds))
+
+  pub All-good_items_of : All IsGoodItem items
+  All-good_items_of = All-weaker (IsRead unit) IsGoodItem (λ one read. read.0) items all_read
+
+  pub All-in_range_items_of : All (IsItemInRange unit) items
+  All-in_range_items_of = All-weaker (IsRead unit) (IsItemInRange unit) (λ one read. read.1) items all_read

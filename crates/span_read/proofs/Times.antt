@@ -106,6 +106,11 @@ module _ (x : Float) (holds : T (fits binary64 x)) (finite : float_is_finite x �
 within-in : (greatest : ℕ) (z : ℤ) → neg_ℤ (pos greatest) ≤ℤ z → z ≤ℤ pos greatest → within greatest z ≡ Some z
 within-in greatest z from to = search (rules, tests)
 
+-- a size in range, with either sign
+pub within-sign : (n : ℕ) → n ≤ greatest_time → (negative : Bool) → within greatest_time (with_sign negative n) ≡ Some (with_sign negative n)
+within-sign n small true = within-in greatest_time (neg_ℤ (pos n)) (omega (arith, ints)) (omega (arith, ints))
+within-sign n small false = within-in greatest_time (pos n) (omega (arith, ints)) (omega (arith, ints))
+
 pub nanoseconds-none : (x : Float) → float_is_finite x ≡ false → option_and_then (within greatest_time) (nanoseconds x) ≡ None
 unfolding float_is_finite
 nanoseconds-none nan infinite = refl
@@ -116,8 +121,4 @@ pub nanoseconds-in : (x : Float) (n : ℕ) → float_is_finite x ≡ true → n 
 unfolding float_is_finite is_sign_negative
 nanoseconds-in nan n finite is small = absurd (cc)
 nanoseconds-in (inf s) n finite is small = absurd (cc)
-nanoseconds-in (fin s m e) n finite is small = rw (← is) (signed s)
-  where
-    signed : (negative : Bool) → within greatest_time (with_sign negative n) ≡ Some (with_sign negative n)
-    signed true = within-in greatest_time (neg_ℤ (pos n)) (omega (arith, ints)) (omega (arith, ints))
-    signed false = within-in greatest_time (pos n) (omega (arith, ints)) (omega (arith, ints))
+nanoseconds-in (fin s m e) n finite is small = rw (← is) (within-sign n small s)

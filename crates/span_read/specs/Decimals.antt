@@ -2,7 +2,7 @@
 use Rattle.std.specs.Prelude.{◌≡◌, ℕ, ◌-◌, ◌*◌, ◌^◌, ◌<◌, ◌≤◌, ◌==◌, ℤ, List, [], length, drop, slice_index, Option, Some, option_and_then, if◌then◌else◌}
 use Rattle.fast_float.specs.Text.{minus, Parts, scan, digits_of, with_sign}
 use Rattle.serde_json.specs.{Data.number, Read.number_of}
-use Rattle.span_read.specs.{Fields.field_value, Time.nanoseconds_of}
+use Rattle.span_read.specs.{Nanoseconds, Fields.field_value, Time.time_in}
 
 -- the digits of a number's text, without its sign
 abbrev pub parts_of : List ℕ → Parts
@@ -18,9 +18,9 @@ pub record IsShortDecimal (text : List ℕ) : Type 0 where
 abbrev pub own_nanoseconds : List ℕ → ℤ
 own_nanoseconds text = with_sign (slice_index text 0 == minus) (digits_of (parts_of text) * 10 ^ (3 - length (parts_of text).fraction))
 
--- the nanoseconds of a text's number of microseconds, as it is read
+-- the time in nanoseconds that a text's number is read as, where it is a time
 abbrev pub nanoseconds_of_text : List ℕ → Option ℤ
-nanoseconds_of_text text = option_and_then (λ n. nanoseconds_of (field_value (number n))) (number_of text)
+nanoseconds_of_text text = option_and_then (λ n. time_in Nanoseconds (field_value (number n))) (number_of text)
 
 -- a short decimal is read as its own nanoseconds
 abbrev pub ShortDecimalsAreExact : Type 0

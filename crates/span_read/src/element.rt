@@ -1,7 +1,7 @@
 //! The item of one element of a trace.
 ghost use Rattle.std.specs.Prelude.{◌≡◌, IfOk};
 ghost use Rattle.serde_json.specs.View.{view};
-ghost use Rattle.span_read.specs.{IsGoodItem, Element.{item_of_data, item_of_fields}};
+ghost use Rattle.span_read.specs.{IsGoodItem, Element.{item_of_data, item_of_fields}, Time.IsItemInRange};
 
 mod event;
 mod id;
@@ -21,6 +21,7 @@ use std::alloc::{AllocError, Global};
 pub fn item_of(alloc: Global, unit: Unit, value: &Value) -> Result<Item, AllocError>
     ensures item { IfOk result (λ item. item ≡ item_of_data unit (view value.now)) }
     ensures good { IfOk result IsGoodItem }
+    ensures in_range { IfOk result (IsItemInRange unit) }
 {
     match value {
         Value::Object(members) => {

@@ -1,6 +1,6 @@
 //! The items of a file.
 ghost use Rattle.std.specs.Prelude.{◌≡◌, ◌≢◌, ◌<◌, ◌↔◌, length, IfOk, IfErr, Ok, Err, All};
-ghost use Rattle.span_read.specs.{IsGoodItem, Microseconds, Document.{doc, most_bytes}, declared.error.ReadError.TheVariants.{TooLarge, Memory}};
+ghost use Rattle.span_read.specs.{IsGoodItem, Microseconds, Document.{doc, most_bytes}, Time.IsItemInRange, declared.error.ReadError.TheVariants.{TooLarge, Memory}};
 
 use crate::candidates::read_first;
 use crate::error::ReadError;
@@ -16,6 +16,7 @@ pub fn read_items(alloc: Global, bytes: &[u8]) -> Result<Items, ReadError>
     ensures refused { IfErr result (λ error. error ≢ Memory
         → doc Microseconds bytes.now ≡ Err error) }
     ensures good { IfOk result (All IsGoodItem) }
+    ensures in_range { IfOk result (All (IsItemInRange Microseconds)) }
     ensures too_large { (result ≡ Err TooLarge) ↔ (most_bytes < length bytes.now) }
 {
     read_items_in(alloc, Unit::Microseconds, bytes)
@@ -34,6 +35,7 @@ pub fn read_items_in(alloc: Global, unit: Unit, bytes: &[u8]) -> Result<Items, R
     ensures items { IfOk result (λ items. doc unit bytes.now ≡ Ok items) }
     ensures refused { IfErr result (λ error. error ≢ Memory → doc unit bytes.now ≡ Err error) }
     ensures good { IfOk result (All IsGoodItem) }
+    ensures in_range { IfOk result (All (IsItemInRange unit)) }
     ensures too_large { (result ≡ Err TooLarge) ↔ (most_bytes < length bytes.now) }
 {
     if bytes.len() > MOST_BYTES {

@@ -1,7 +1,7 @@
 use Rattle.std.specs.Prelude.{IfErr}
 use Rattle.std.proofs.{Common.{◌≡◌, Ok, Err, All, IfOk, sym, ap, subst, ◌∙◌, arith}, lemmas.Result.IfOk-weaker}
-use Rattle.span_read.specs.{IsGoodItem, Document.{doc, doc_of_document, first_read, candidates}, declared.error.ReadError.TheVariants.Memory}
-use Rattle.span_read.proofs.{Documents.{doc-of_utf8, doc-of_no_utf8, right_items, right_refusal, All-good_document}, file.read_items_in.Goals.In-Ok}
+use Rattle.span_read.specs.{IsGoodItem, Document.{doc, doc_of_document, first_read, candidates}, Time.IsItemInRange, declared.error.ReadError.TheVariants.Memory}
+use Rattle.span_read.proofs.{Documents.{doc-of_utf8, doc-of_no_utf8, right_items, right_refusal, All-good_document, All-in_range_document}, file.read_items_in.Goals.In-Ok}
 use Rattle.span_read.proofs.file.read_items_in.Goals as goal
 
 -- the text is the bytes
@@ -18,6 +18,12 @@ pub returns-in-Ok-clause-good : goal.returns-in-Ok-clause-good
 returns-in-Ok-clause-good c =
     let found = first_read (candidates c.in-Ok.text.now) in
     IfOk-weaker c.read_first.result (λ items. doc_of_document c.args.unit found ≡ Ok items) (All IsGoodItem) (All-good_document c.args.unit found) (right_items Memory c.read_first.result _ c.read_first.ensures)
+
+pub returns-in-Ok-clause-in_range : goal.returns-in-Ok-clause-in_range
+returns-in-Ok-clause-in_range c =
+    let found = first_read (candidates c.in-Ok.text.now) in
+    IfOk-weaker c.read_first.result (λ items. doc_of_document c.args.unit found ≡ Ok items) (All (IsItemInRange c.args.unit)) (All-in_range_document c.args.unit found)
+    (right_items Memory c.read_first.result _ c.read_first.ensures)
 
 pub returns-in-Err-clause-refused : goal.returns-in-Err-clause-refused
 returns-in-Err-clause-refused c = λ other. doc-of_no_utf8 c.args.unit c.args.bytes.now (omega arith) c.in-Err.ensures.cases.0
