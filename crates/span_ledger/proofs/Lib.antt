@@ -5,7 +5,6 @@ pub mod FlowAnswers
 pub mod Following
 pub mod Grouping
 pub mod KeyTelling
-pub mod Later
 pub mod Listing
 pub mod NamedSpans
 pub mod PhaseTelling

@@ -4,7 +4,7 @@ use Rattle.std.proofs.{Common.{◌≡◌, ℕ, ◌+◌, ◌≤◌, Bool, true, f
 use Rattle.span_event.proofs.Orders.{thread_cmp-same, thread_cmp-total}
 use Rattle.span_keyed_tracks.proofs.{Keyed.same_from_is_eq, Matching.{Closed.{closed_of-append, length-closed_with}, Open.{opener-open_of, open_of-closes, open_of-closes_all, open_of-opens, open_of-other}}, Sorted.ascending-sorted}
 use Rattle.span_track.proofs.Threads.Sealing.{length-sealed_spans}
-use Rattle.span_ledger.proofs.Later.{filter_map-length}
+use Rattle.span_journal.proofs.Later.{filter_map-length}
 use Rattle.span_table.specs.{Thread, thread_cmp, Bytes, text_cmp, AsyncEvent, async_cmp, async_row, async_spans, Keyed, ascending, entries_in, entry_of, keys_in, steps_at, opens, closes, closes_all, other, closed_with, opener, Entry, Accepted, Act, accepted, accepted_by, accepted_from, placed, async_rows, span_row, span_rows, thread_keys, thread_span_rows, async_events, listed_by, span_events, thread_events, to_async_at, to_thread_at, told, ThreadEvent, closed_spans, open_spans, span_between, span_sealed, whole_span}
 use Rattle.span_table.proofs.Tallies.{sum_by-both, sum_by-same}
 

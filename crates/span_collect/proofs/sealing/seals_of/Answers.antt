@@ -1,6 +1,6 @@
 use Rattle.std.specs.Prelude.{filter_map, option_to_list, IfSome}
 use Rattle.std.proofs.{Common.{rules, ◌≡◌, ◌+◌, [], ◌∷◌, ◌++◌, take, Option, Some, None, sym, ap, subst, ◌∙◌, append-nil}, lemmas.List.{take_more, Elements.All-push}}
-use Rattle.span_ledger.proofs.Later.{filter_map-push}
+use Rattle.span_journal.proofs.Later.{filter_map-push}
 use Rattle.span_collect.specs.{Op, ThreadRow, IsGoodOp, Seals.seal_for}
 use Rattle.span_collect.proofs.sealing.seals_of.Goals.{in-Some+in_ok-push, in_default}
 use Rattle.span_collect.proofs.sealing.seals_of.Goals as goal
