@@ -4,7 +4,8 @@ use Rattle.std.proofs.{Common.{◌≡◌, Bool, true, false, ◌||◌, cond, Lis
 use Rattle.span_event.proofs.Orders.{thread_cmp-same, thread_cmp-total}
 use Rattle.span_self_time.proofs.{Mapped.{filter-map, sum_by-map}, SelfTimes.sum_by-self_time}
 use Rattle.span_keyed_tracks.proofs.{Keyed.{has_key, neither, same_from_is_eq}, Sorted.ascending-sorted, Uses.is_eq-turned}
-use Rattle.span_table.specs.{Thread, thread_cmp, Bytes, steps_at, SpanRow, accepted, span_row, span_rows, thread_keys, thread_span_rows, Timed, timed_in, timed_spans, listed_by, thread_events, AreSpans, Span, busy_time, closed_spans, Collected.{keyed_span_row, sums_of_row}, Columns.Run, Keys.key_cmp, Laws.{RowsAddUpToBusy, of_span_row, rows_of_thread, thread_key}, Tables.{keyed_span, sums_of}, declared.{sums.Sums.Sums, table.Row.Row}}
+use Rattle.span_journal.proofs.LegalSpans.{legal-spans}
+use Rattle.span_table.specs.{Thread, thread_cmp, Bytes, steps_at, SpanRow, accepted, span_row, span_rows, thread_keys, thread_span_rows, Timed, timed_in, timed_spans, listed_by, thread_events, AreSpans, Span, busy_time, closed_spans, Collected.{keyed_span_row, sums_of_row}, Columns.Run, Keys.key_cmp, Laws.{AddUpToBusy, RowsAddUpToBusy, of_span_row, rows_of_thread, thread_key}, Tables.{keyed_span, sums_of}, declared.{sums.Sums.Sums, table.Row.Row}}
 use Rattle.span_table.proofs.{ByName.thread-alike, OwnRows.rows-are_span_rows, Unlisted.closed_spans-unlisted}
 
 -- the keys of threads are in the order of these
@@ -87,9 +88,9 @@ module _ (run : Run) (thread : Thread) where
       ∙ ap (sum_by of_sums) (steps-spans (timed_spans run.journal thread)) ∙ sum_by-map of_sums sums_of (timed_spans run.journal thread)
       ∙ sum_by-map (λ (t : Timed). t.self_time) (timed_in spans) spans ∙ sum_by-self_time spans are
 
--- by process, thread and name the self times of a thread's rows add up to its busy time
-pub rows-busy : RowsAddUpToBusy
-rows-busy run thread are =
+-- where the closed spans of a thread are spans, the self times of its rows add up to its busy time
+rows-busy_of_spans : (run : Run) (thread : Thread) → AreSpans (closed_spans (thread_events thread run.journal)) → AddUpToBusy run thread
+rows-busy_of_spans run thread are =
     let of_row = λ (row : Row). row.sums.self_time in
     let threads = thread_keys (accepted run.journal) in
     let mine_of = mine run thread in
@@ -106,3 +107,7 @@ rows-busy run thread are =
     by false none =
         ap (sum_by (λ (row : SpanRow). row.self_time)) (filter-others run thread (thread_keys (accepted run.journal)) none)
         ∙ ap busy_time (sym (closed_spans-unlisted thread run.journal none))
+
+-- those of a run, whose journal is legal, are
+pub rows-busy : RowsAddUpToBusy
+rows-busy strict run thread legal = rows-busy_of_spans run thread (legal-spans strict run.journal thread legal)

@@ -1,6 +1,6 @@
 -- The facts that hold of every table.
-use Rattle.std.specs.{List.{IsDistinct, Sorted.IsPermutation}, Ordering.{eq_by_cmp, is_eq}, Prelude.{◌≡◌, List, [], ◌∷◌, filter, map, sum_by, take, Some}}
-use Rattle.span_table.specs.{Whole, Words, Thread, AsyncRow, AreSpans, closed_spans, SpanRow, async_rows, span_rows, thread_row, thread_events, AreAlike, with_home, Collected.sums_of_row, Keys.{TableKey, key_cmp}, Tables.{Run, RowsRise, sums_of_async, table_of}, declared.{column.Column.{Column, TheVariants.{Pid, Tid, Name, Cat, Scope, Id}}, of.Of.{Of, TheVariants.{Spans, Async}}, table.Row.Row}}
+use Rattle.std.specs.{List.{IsDistinct, Sorted.IsPermutation}, Ordering.{eq_by_cmp, is_eq}, Prelude.{◌≡◌, Bool, List, [], ◌∷◌, filter, map, sum_by, take, Some}}
+use Rattle.span_table.specs.{Whole, Words, Thread, AsyncRow, SpanRow, async_rows, span_rows, thread_row, IsLegal, AreAlike, with_home, Collected.sums_of_row, Keys.{TableKey, key_cmp}, Tables.{Run, RowsRise, sums_of_async, table_of}, declared.{column.Column.{Column, TheVariants.{Pid, Tid, Name, Cat, Scope, Id}}, of.Of.{Of, TheVariants.{Spans, Async}}, table.Row.Row}}
 
 -- two runs have journals that are alike, and as many files, of which as many were refused, and the same name of an only file
 pub record AreAlikeRuns (run other : Run) : Type 0 where
@@ -46,9 +46,9 @@ rows_of_thread thread rows = filter (λ (row : Row). is_eq (key_cmp (take 2 row.
 abbrev pub AddUpToBusy : Run → Thread → Type 0
 AddUpToBusy run thread = sum_by (λ (row : Row). row.sums.self_time) (rows_of_thread thread (table_of Spans row_columns (run ∷ [])).rows) ≡ (thread_row run.journal thread).busy
 
--- this holds of each thread, if its spans have positions that differ, and none ends before it starts
+-- this holds of each thread of a run, whose journal is legal
 abbrev pub RowsAddUpToBusy : Type 0
-RowsAddUpToBusy = (run : Run) (thread : Thread) → AreSpans (closed_spans (thread_events thread run.journal)) → AddUpToBusy run thread
+RowsAddUpToBusy = (strict : Bool) (run : Run) (thread : Thread) → IsLegal strict run.journal → AddUpToBusy run thread
 
 -- the columns of the asynchronous rows, and such a row as one of a table
 abbrev pub async_columns : List Column

@@ -25,8 +25,8 @@ pub fn async_law()
     ensures totals { RowsAddUpToAsync }
 {}
 
-/// By process, thread and name the self times of a thread's rows add up to its busy time. The function does nothing: its contract is
-/// the law.
+/// By process, thread and name the self times of a thread's rows add up to its busy time, in the table of one run whose journal is
+/// legal. The function does nothing: its contract is the law.
 pub fn busy_law()
     ensures { RowsAddUpToBusy }
 {}
