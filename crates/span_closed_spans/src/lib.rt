@@ -8,3 +8,4 @@ pub mod walk;
 
 pub use closed::ClosedSpans;
 pub use name_totals::NameTotal;
+pub use span_self_time::{ClosedSpan, Segment};

@@ -16,3 +16,6 @@ pub use comparisons::comparison;
 pub use json_changes::json_comparison;
 pub use json_repetitions::json_repeats;
 pub use repetitions::repeats;
+pub use span_event::Unit;
+pub use span_table::{Column, Number, Of, Table};
+pub use span_table_text::{JsonFault, Shown};

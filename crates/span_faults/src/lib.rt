@@ -8,3 +8,5 @@ mod remedies;
 pub use hints::{hint_line, hints_of, many_files};
 pub use lines::{fault_text, run_line};
 pub use remedies::{Hint, Reason};
+pub use span_collect::{Collected, Input, RunEnd};
+pub use span_event::{Text, Unit};

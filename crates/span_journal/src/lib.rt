@@ -17,3 +17,4 @@ pub use query::Query;
 pub use refusal::{Back, Cause};
 pub use reply::{BoxedReply, Reply, copy_of};
 pub use rows::{CountRow, ProcessRow, SpanRow, ThreadRow};
+pub use span_event::Text;

@@ -19,3 +19,4 @@ pub use flow_track::{FlowClosed, FlowRow, FlowTotals, FlowTrack};
 pub use keys::{AsyncKey, FlowKey, SeriesKey};
 pub use meta_track::{InstantRow, MetaTrack, ProcessNames, ThreadNames, names_thread};
 pub use span_event::{BoxedId, Event, IdKey, Reach, Text, Thread};
+pub use span_names::HashKeys;

@@ -10,3 +10,4 @@ mod parsing;
 pub use command::DEFAULT_LIMIT;
 pub use options::Options;
 pub use parsing::{Parsed, options_of, refusal};
+pub use span_event::Text;

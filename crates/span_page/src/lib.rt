@@ -12,4 +12,5 @@ mod text;
 pub use runs::RunsPage;
 pub use span_collect::{FileEnd, Input, Ledger, Sink, WriteFault};
 pub use span_event::Unit;
+pub use span_report::stacks::SpanColumn;
 pub use text::page;

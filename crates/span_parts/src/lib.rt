@@ -14,3 +14,6 @@ mod tokens;
 
 pub use fault::PartFault;
 pub use parts::Parts;
+pub use span_event::Unit;
+pub use span_names::HashKeys;
+pub use span_table::{Column, Of, Table};

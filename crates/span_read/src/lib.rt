@@ -19,6 +19,6 @@ pub use element::item_of;
 pub use error::ReadError;
 pub use file::{read_items, read_items_in};
 pub use span_event::{
-    ArgValue, Args, BoxedId, Event, Field, IdKey, Item, ItemFault, Items, Phase, Reach, Text, Unit,
-    merge_args,
+    ArgValue, Args, BoxedId, Event, Fault, Field, IdKey, Item, ItemFault, Items, Phase, Reach,
+    Text, Unit, merge_args,
 };

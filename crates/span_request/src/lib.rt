@@ -11,5 +11,7 @@ mod views;
 
 pub use numbers::goes_by;
 pub use request::{DEFAULT_SETTINGS, request_of};
+pub use span_event::Text;
+pub use span_table::{Number, Of};
 pub use tasks::{Changes, Items, Repetitions, Request, TableText, Tabulation, Task};
 pub use views::{ComparisonForm, PageView, RepeatsForm, TableForm, TableOptions, View};

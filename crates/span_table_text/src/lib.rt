@@ -13,3 +13,5 @@ pub use json_lines::{Head, JsonFault, json_table, with_json_head, with_json_row}
 pub use members::column_names;
 pub use rankings::ranking;
 pub use shown::Shown;
+pub use span_event::{ArgValue, Text, Unit};
+pub use span_table::{Column, EntryCounts, Key, Number, Of, Row, Sum, Sums, Table, TableCounts};
