@@ -17,8 +17,8 @@ const RECENT: usize = 16;
 pub(crate) struct Listed {
     pub(crate) processes: IndexSet<i64, HashKeys>,
     pub(crate) threads: IndexSet<Thread, HashKeys>,
-    // At a place of its number's choice, where a thread stands that an event was on lately. It is looked up there before it is
-    // believed, so any number may stand here.
+    // Where in `threads` those stand that events were on lately, each at a place that the thread's number gives. The thread that stands
+    // there is compared before it is taken for the event's, so any number may stand here.
     recent: [usize; RECENT],
 }
 

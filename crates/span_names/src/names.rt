@@ -15,8 +15,8 @@ const RECENT: usize = 256;
 #[derive(Drop)]
 pub struct Names {
     texts: IndexSet<Text, HashKeys>,
-    // At a place of its bytes' choice, the number of a text that was asked for lately. It is looked up there before it is believed,
-    // so any number may stand here.
+    // The numbers of texts that were asked for lately, each at a place that the text's length and last bytes give. The text of a number
+    // is compared before the number is used, so any number may stand here.
     recent: [usize; RECENT],
 }
 
