@@ -4,10 +4,20 @@ PREFIX ?= /usr/local
 DESTDIR ?=
 # What is installed and packed.
 PROGRAM ?= tracebook
+# What runs the commands that are scripts: for tracebook_dask it must have Dask.
+PYTHON ?= /usr/bin/python3
+
+# The scripts of the examples that are commands where they are installed, and all commands.
+SCRIPTS = convert_trace.py split_by_process.py
+COMMANDS = tracebook tracebook_dask tracebook_convert tracebook_split
+BIN = $(DESTDIR)$(PREFIX)/bin
+SHARED = $(DESTDIR)$(PREFIX)/share/tracebook
+MANUALS = $(DESTDIR)$(PREFIX)/share/man/man1
+COMPLETIONS = $(DESTDIR)$(PREFIX)/share/bash-completion/completions
 
 SOURCES := crates.txt HANDLES $(shell find crates -name out -prune -o -type f -print)
 
-.PHONY: all demo test check bench install dist clean
+.PHONY: all demo test check bench install uninstall dist clean
 
 all: tracebook
 
@@ -49,13 +59,22 @@ bench: tracebook
 	bench/several_files
 
 install: $(PROGRAM)
-	install -d $(DESTDIR)$(PREFIX)/bin
-	install -m 755 $(PROGRAM) $(DESTDIR)$(PREFIX)/bin/tracebook
-	install -m 755 cluster/tracebook_dask.py $(DESTDIR)$(PREFIX)/bin/tracebook_dask
-	install -d $(DESTDIR)$(PREFIX)/share/man/man1
-	install -m 644 docs/tracebook.1 $(DESTDIR)$(PREFIX)/share/man/man1/tracebook.1
-	install -d $(DESTDIR)$(PREFIX)/share/bash-completion/completions
-	install -m 644 docs/tracebook.bash $(DESTDIR)$(PREFIX)/share/bash-completion/completions/tracebook
+	install -d $(BIN) $(SHARED) $(MANUALS) $(COMPLETIONS)
+	install -m 755 $(PROGRAM) $(BIN)/tracebook
+	install -m 755 cluster/tracebook_dask.py $(BIN)/tracebook_dask
+	install -m 755 $(addprefix examples/,$(SCRIPTS)) $(SHARED)
+	install -m 644 examples/trace_reader.py $(SHARED)
+	sed -i '1s|.*|#!$(PYTHON)|' $(BIN)/tracebook_dask $(addprefix $(SHARED)/,$(SCRIPTS))
+	ln -sf ../share/tracebook/convert_trace.py $(BIN)/tracebook_convert
+	ln -sf ../share/tracebook/split_by_process.py $(BIN)/tracebook_split
+	install -m 644 docs/tracebook.1 $(MANUALS)/tracebook.1
+	install -m 644 docs/tracebook.bash $(COMPLETIONS)/tracebook
+
+# Takes away what was installed with the same PREFIX and DESTDIR.
+uninstall:
+	rm -f $(addprefix $(BIN)/,$(COMMANDS)) $(MANUALS)/tracebook.1 $(COMPLETIONS)/tracebook
+	rm -f $(addprefix $(SHARED)/,$(SCRIPTS) trace_reader.py)
+	[ ! -d $(SHARED) ] || rmdir --ignore-fail-on-non-empty $(SHARED)
 
 # A package for Debian and a tar file, with the same files.
 dist: $(PROGRAM)

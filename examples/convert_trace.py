@@ -19,17 +19,22 @@ memory.
 import argparse
 import io
 import json
+import os
 import re
 import sys
 from collections import Counter
 from decimal import Decimal, getcontext
 from math import floor
 
+# Where this is installed, nothing is to be left beside it.
+sys.dont_write_bytecode = True
 from trace_reader import Cut, NoTrace, Source, elements_of, is_whole
 
 # Enough digits that no sum of a start and a duration is rounded.
 getcontext().prec = 60
 
+# What this is called where it runs: it is installed as tracebook_convert.
+NAME = os.path.basename(sys.argv[0]).removesuffix(".py")
 MOST = 2**63
 # The power of ten that is the microseconds in a unit of time.
 UNITS = {"s": 6, "ms": 3, "us": 0, "ns": -3}
@@ -248,9 +253,9 @@ def main():
         cut = copy(source, converter, asked.cut)
         out.flush()
     except (NoTrace, UnicodeError, OSError) as error:
-        sys.exit(f"convert_trace: {error}")
+        sys.exit(f"{NAME}: {error}")
     for line in notes(converter, cut):
-        print(f"convert_trace: {line}", file=sys.stderr)
+        print(f"{NAME}: {line}", file=sys.stderr)
 
 
 def notes(converter, cut):

@@ -17,8 +17,12 @@ import json
 import os
 import sys
 
+# Where this is installed, nothing is to be left beside it.
+sys.dont_write_bytecode = True
 from trace_reader import MOST_BYTES, NoTrace, Source, elements_of, is_whole
 
+# What this is called where it runs: it is installed as tracebook_split.
+NAME = os.path.basename(sys.argv[0]).removesuffix(".py")
 MOST_ELEMENTS = 4_194_304
 MOST_PARTS = 64
 NO_PROCESS = "no process"
@@ -161,12 +165,12 @@ def main():
         places, too_large = parts_of(groups, words.bytes, words.elements)
         names = write_parts(words.file, words.folder, places)
     except (NoTrace, UnicodeDecodeError, OSError) as error:
-        sys.exit(f"split_by_process: {words.file}: {error}")
+        sys.exit(f"{NAME}: {words.file}: {error}")
     print(*names, sep="\n")
     for members, size, count in too_large:
-        print(f"split_by_process: too large for one part: {named(members)}: {size} bytes, {count} elements", file=sys.stderr)
+        print(f"{NAME}: too large for one part: {named(members)}: {size} bytes, {count} elements", file=sys.stderr)
     if len(names) > MOST_PARTS:
-        print(f"split_by_process: {len(names)} parts, but tracebook takes {MOST_PARTS} files at once", file=sys.stderr)
+        print(f"{NAME}: {len(names)} parts, but tracebook takes {MOST_PARTS} files at once", file=sys.stderr)
     sys.exit(bool(too_large) or len(names) > MOST_PARTS)
 
 
