@@ -1,31 +1,43 @@
 #!/usr/bin/env python3
-"""Sums traces by tracebook on the workers of a Dask cluster: prints what `tracebook --apart` prints for the same files and flags, byte for
-byte, with the same fault lines and the same status. README.md beside this says how the work is divided, and what is kept.
+"""Sums traces by tracebook on the workers of a Dask cluster: prints what `tracebook --apart` prints for the same files and options, byte
+for byte, with the same fault lines and the same status. README.md beside this says how the work is divided, and what is kept.
 """
-import argparse
+import signal
+
+# Until something is to be taken along, Ctrl-C just ends this, also while modules are loaded; where it is ignored, it stays so.
+if signal.getsignal(signal.SIGINT) is signal.default_int_handler:
+    signal.signal(signal.SIGINT, signal.SIG_DFL)
+
+import glob
 import hashlib
 import json
 import logging
+import mmap
 import os
+import re
 import shutil
 import subprocess
 import sys
 import tempfile
-import traceback
+import threading
+import time
 import uuid
-from contextlib import contextmanager, redirect_stdout
+import warnings
+from collections import deque
+from contextlib import contextmanager, redirect_stdout, suppress
 from dataclasses import dataclass, replace
+from functools import partial
 from typing import Optional
-
-try:
-    from distributed import CancelledError, Client, KilledWorker, LocalCluster, as_completed
-    from distributed.diagnostics.progressbar import TextProgressBar
-except ImportError:
-    sys.stderr.write("tracebook_dask: Dask is missing: python3-distributed in Debian, or `pip install distributed`\n")
-    sys.exit(2)
 
 NAME = "tracebook_dask"
 PROGRAM = "tracebook"
+# The options of the program that have a value, and this command's own, with what their values are called.
+VALUED = {"--limit", "--top", "--by", "--of", "--base", "--jobs", "--group-by", "--only", "--skip", "--files-from"}
+OWN = {"--scheduler": "<ADDRESS>", "--workers": "<N>", "--parts": "<FOLDER>"}
+LIST = "--files-from"
+# Those that tables follow from, and those that only the text follows from.
+OF_TABLES = ("--of", "--limit", "--nanoseconds", "--seal", "--strict")
+OF_TEXT = ("--json", "--top", "--by", "--only", "--skip")
 # The columns without --group-by, as the program has them.
 RANKED_BY = "pid,tid,thread,name"
 COMPARED_BY = "process,thread,name"
@@ -37,8 +49,38 @@ CHUNKS_EACH = 8
 OPENING = 10_000
 # So many tables are added at a time.
 WIDTH = 16
+# The room for addresses that Dask takes at least, and with each worker of this machine.
+ROOM, ROOM_EACH = 320 << 20, 8 << 20
+# The seconds that a scheduler has to answer, and that a run goes on without a worker.
+ANSWER, WORKERLESS = 5, 10
+# The seconds between two looks at tasks, and at workers.
+LOOK, CENSUS = 0.02, 1
 # The program's statuses: a file that is no trace, and no text at all.
 FAULTY, STOPPED = 1, 2
+WITHOUT_MEMORY = f"{PROGRAM}: 31 Memory\n"
+# The signals that end this.
+ENDINGS = (signal.SIGINT, signal.SIGTERM, signal.SIGHUP)
+
+HELP = f"""\
+Prints what tracebook --apart prints for the same files and options; the workers
+of a Dask cluster read the files.
+
+Usage: {NAME} [OPTIONS] [FILE]...
+
+Options:
+      --scheduler <ADDRESS>
+          The scheduler of a cluster that runs; without it this machine works
+          alone
+      --workers <N>
+          How many files this machine reads at once
+          [default: the processors that the system grants]
+      --parts <FOLDER>
+          Keep a part of each file here, and take those that stand
+  -h, --help
+          Print help
+
+All other options are those of tracebook, but for --jobs and --page.
+"""
 
 
 @dataclass(frozen=True)
@@ -52,12 +94,13 @@ class Trace:
 
 @dataclass(frozen=True)
 class Work:
-    """What every task is given: the folder in which names begin, one for what isn't kept, the flags that tables follow from, the program
-    that all are to run, and the folder of parts, if they are kept."""
+    """What every task is given: the folder in which names begin, one for what isn't kept, the flags that tables follow from, what the
+    head of a file's table says of them, the program that all are to run, and the folder of parts, if they are kept."""
 
     place: str
     room: str
     flags: list
+    head: dict
     program: str
     parts: Optional[str]
 
@@ -84,17 +127,21 @@ def names_of(traces):
     return [trace.name for trace in traces]
 
 
+def in_one_line(error):
+    return " ".join(str(error).split()) or type(error).__name__
+
+
 # What workers do
 
 
 def run_program(work, words, names):
     """Runs the program on files and keeps its text. Only if it ended well its table is there."""
     table = os.path.join(work.room, uuid.uuid4().hex)
+    # A list can't have the empty name, which is alone.
+    words = [PROGRAM, *words, "--json", *(["--", ""] if names == [""] else [LIST, "-"])]
     listed = "".join(f"{name}\0" for name in names)
     with open(table, "xb") as text:
-        ended = subprocess.run(
-            [PROGRAM, *words, "--json", "--files-from", "-"], cwd=work.place, input=listed.encode(), stdout=text, stderr=subprocess.PIPE
-        )
+        ended = subprocess.run(words, cwd=work.place, input=listed.encode(), stdout=text, stderr=subprocess.PIPE)
     if ended.returncode in (0, FAULTY):
         return Sum(ended.returncode, ended_lines(ended), table)
     os.remove(table)
@@ -150,22 +197,26 @@ def faults_path(part):
     return part.removesuffix(".jsonl") + ".faults"
 
 
-def kept_faults(part):
-    """The fault lines of a part that was kept; none, where they or the head of its table aren't whole."""
+def kept_faults(work, part):
+    """The fault lines of a part that was kept; None, where they aren't whole, or the head of its table isn't that of such a part."""
     try:
         with open(part, encoding="utf-8") as table:
-            unread = json.loads(table.readline())["unread"]
-        if unread == 0:
+            head = json.loads(table.readline())
+        if any(head.get(member) != value for member, value in work.head.items()):
+            return None
+        if head["unread"] == 0:
             return ""
         with open(faults_path(part), encoding="utf-8") as faults:
             said = faults.read()
-    except (OSError, ValueError, KeyError, TypeError):
+    except (OSError, ValueError, KeyError, AttributeError):
         return None
-    return said if said.count("\n") == unread else None
+    return said if said.count("\n") == head["unread"] else None
 
 
 def make_part(work, trace):
     """Reads a file and keeps its part, which stands under its name only when it is whole, and its fault lines before it."""
+    if trace.part is not None and os.path.dirname(work.room) != work.parts:
+        raise NoText(f"{NAME}: nothing can be written in {quoted(work.parts)}\n")
     made = collect(work, [trace])
     if made.status == STOPPED or trace.part is None:
         return made
@@ -180,15 +231,15 @@ def make_part(work, trace):
 
 def make_part_again(work, trace):
     made = make_part(work, trace)
-    note = f"{NAME}: {quoted(trace.name)}: its part was not whole, and is made anew\n"
+    note = f"{NAME}: {quoted(trace.name)}: its part was not whole, or of another kind, and is made anew\n"
     return replace(made, said=note + made.said)
 
 
 def part_of(work, trace):
-    """The part of a file, made if none is kept. That the table of a kept part is whole is seen when it is added."""
+    """The part of a file, made if none is kept. That the rows of a kept part are whole is seen when it is added."""
     if trace.part is None or not os.path.exists(trace.part):
         return make_part(work, trace)
-    said = kept_faults(trace.part)
+    said = kept_faults(work, trace.part)
     return make_part_again(work, trace) if said is None else Sum(FAULTY if said else 0, said, trace.part)
 
 
@@ -228,7 +279,7 @@ def sum_chunk(work, traces):
             raise NoText(f"{NAME}: {os.uname().nodename} has another {PROGRAM}\n")
         return collect(work, traces) if work.parts is None else sum_parts(work, traces)
     except (OSError, NoText) as error:
-        said = str(error) if isinstance(error, NoText) else f"{NAME}: {error} on {os.uname().nodename}\n"
+        said = str(error) if isinstance(error, NoText) else f"{NAME}: {in_one_line(error)} on {os.uname().nodename}\n"
         return Sum(STOPPED, said + stopped_line(names_of(traces)), None)
 
 
@@ -252,11 +303,11 @@ def part_path(work, name, status):
 
 
 def sizes_of_parts(work):
-    """The sizes of the parts that stand, by their paths."""
+    """The sizes of the parts that stand, by their paths; None where that is no file."""
     if work.parts is None:
         return {}
     with os.scandir(work.parts) as entries:
-        return {entry.path: entry.stat().st_size for entry in entries if entry.name.endswith(".jsonl")}
+        return {entry.path: entry.stat().st_size if entry.is_file() else None for entry in entries if entry.name.endswith(".jsonl")}
 
 
 def traces_of(work, names, sizes):
@@ -268,14 +319,17 @@ def traces_of(work, names, sizes):
             yield Trace(name, None, OPENING)  # The program will say why.
             continue
         part = None if work.parts is None else part_path(work, name, status)
-        yield Trace(name, part, OPENING + sizes.get(part, status.st_size))
+        size = sizes.get(part, status.st_size)
+        if size is None:
+            raise NoText(f"{NAME}: {quoted(name)}: its part would be {quoted(part)}, which is no file\n")
+        yield Trace(name, part, OPENING + size)
 
 
 def chunks_of(traces, most):
-    """Runs of files of at most this cost, or of one file."""
+    """Runs of files of at most this cost, or of one file. A file without a name, which no list can have, is alone."""
     chunk, cost = [], 0
     for trace in traces:
-        if chunk and cost + trace.cost > most:
+        if chunk and (cost + trace.cost > most or "" in (trace.name, chunk[-1].name)):
             yield chunk
             chunk, cost = [], 0
         chunk.append(trace)
@@ -287,8 +341,23 @@ def chunks_of(traces, most):
 # The run
 
 
+def expect_dask(workers):
+    """Says that Dask is missing, where it is, or that there is no memory for it, which it says in many ways, or never."""
+    try:
+        mmap.mmap(-1, ROOM + ROOM_EACH * workers, flags=mmap.MAP_PRIVATE | mmap.MAP_ANONYMOUS, prot=mmap.PROT_READ).close()
+    except OSError:
+        raise MemoryError from None
+    try:
+        import distributed  # noqa: F401
+    except ModuleNotFoundError as error:
+        remedy = "python3-distributed in Debian, or `pip install distributed`"
+        raise NoText(f"{NAME}: Dask is missing for {sys.executable} ({error}): {remedy}\n") from None
+
+
 def sum_of(future, traces):
     """What became of files, also where the workers or the scheduler are lost."""
+    from distributed import CancelledError, KilledWorker
+
     try:
         return future.result()
     except KilledWorker:
@@ -297,11 +366,29 @@ def sum_of(future, traces):
         return Sum(STOPPED, f"{NAME}: the scheduler was lost\n{stopped_line(names_of(traces))}", None)
 
 
+def ended(client, futures):
+    """The futures, each when it has ended. Looks now and then whether there is a worker that may end them."""
+    from distributed import as_completed
+
+    waiting, seen, asked = as_completed(futures), time.monotonic(), time.monotonic()
+    while not waiting.is_empty():
+        yield from waiting.next_batch(block=False)
+        time.sleep(LOOK)
+        now = time.monotonic()
+        if now - asked < CENSUS:
+            continue
+        asked = now
+        with suppress(OSError):  # Without a scheduler the futures end.
+            seen = now if client.nthreads() else seen
+        if now - seen >= WORKERLESS:
+            raise NoText(f"{NAME}: for {WORKERLESS} seconds the scheduler has had no worker\n")
+
+
 def wait_for(client, futures, chunks):
     """Waits for the sums of chunks, or, where one stops, of those before it. Gives their status, and what is said of them."""
     places = {future.key: place for place, future in enumerate(futures)}
     sums, waiting = {}, set(places.values())
-    for future in as_completed(futures):
+    for future in ended(client, futures):
         place = places[future.key]
         if place not in waiting:
             continue
@@ -309,7 +396,8 @@ def wait_for(client, futures, chunks):
         sums[place] = sum_of(future, chunks[place])
         if sums[place].status == STOPPED:
             waiting = {other for other in waiting if other < place}
-            client.cancel(futures[place + 1 :])
+            with suppress(OSError):  # It may be the scheduler that is lost.
+                client.cancel(futures[place + 1 :])
         if not waiting:
             break
     return joined([sums[place] for place in sorted(sums)])
@@ -328,7 +416,9 @@ def submit(client, work, chunks):
 @contextmanager
 def progress(client, futures):
     """Shows the bar of Dask where standard error is a terminal."""
-    if not sys.stderr.isatty() or os.environ.get("TERM") == "dumb" or os.environ.get("NO_COLOR"):
+    from distributed.diagnostics.progressbar import TextProgressBar
+
+    if not os.isatty(2) or os.environ.get("TERM") == "dumb" or os.environ.get("NO_COLOR"):
         yield
         return
     with redirect_stdout(sys.stderr):
@@ -351,6 +441,8 @@ def sum_files(client, work, sides):
         status, said = wait_for(client, futures, sum(chunked, []))
         if status == STOPPED:
             raise NoText(said)
+        for _ in ended(client, [future for _, level in submitted for future in level]):
+            pass
         return [[sum_of(future, side) for future in level] for side, (_, level) in zip(sides, submitted)]
 
 
@@ -360,7 +452,7 @@ def print_text(line, base, sums):
     if status == STOPPED:
         return status, said
     bases = [f"--base={each.table}" for each in base]
-    words = ["--add", *text_flags(line), *bases, "--", *(each.table for each in sums)]
+    words = ["--add", *line.flags(OF_TEXT), *bases, "--", *(each.table for each in sums)]
     ended = subprocess.run([PROGRAM, *words], stdin=subprocess.DEVNULL, stderr=subprocess.PIPE)
     if ended.returncode != 0:
         return STOPPED, ended_lines(ended)
@@ -370,127 +462,279 @@ def print_text(line, base, sums):
 # The command line
 
 
-def words_of_line():
-    parser = argparse.ArgumentParser(
-        prog=NAME,
-        allow_abbrev=False,
-        usage=f"{NAME} [--scheduler ADDRESS | --workers N] [--parts FOLDER] [--limit N] [--nanoseconds] [--seal]\n"
-        "         [--strict] [--of spans|async] [--group-by COLUMNS] [--only TEXT].. [--skip TEXT]..\n"
-        "         (--top N [--by SUM] | --json [--base FILE].. | --base FILE.. [--by SUM]) [--files-from FILE] [FILE...]",
-        description="Prints what tracebook --apart prints for the same files, which the workers of a Dask cluster read.",
-        epilog="The other flags are those of tracebook.",
-    )
-    parser.add_argument("--scheduler", metavar="ADDRESS", help="the scheduler of a cluster that runs; else this machine works alone")
-    parser.add_argument("--workers", metavar="N", type=int, help="how many files this machine reads at once; else one a processor")
-    parser.add_argument("--parts", metavar="FOLDER", help="keep a part of each file here, and take those that stand")
-    for switch in "--apart", "--nanoseconds", "--seal", "--strict", "--json":
-        parser.add_argument(switch, action="store_true", help=argparse.SUPPRESS)
-    for word in "--limit", "--top", "--by", "--of", "--group-by", "--files-from":
-        parser.add_argument(word, help=argparse.SUPPRESS)
-    for several in "--only", "--skip", "--base":
-        parser.add_argument(several, action="append", default=[], help=argparse.SUPPRESS)
-    parser.add_argument("files", nargs="*", metavar="FILE", help=argparse.SUPPRESS)
-    line = parser.parse_intermixed_args()
-    if line.workers is not None and line.workers < 1:
-        parser.error("argument --workers: there must be one")
-    if any("\ud800" <= letter <= "\udfff" for word in sys.argv for letter in word):
-        parser.error("a word of the command line is not UTF-8 text")
-    return line
+class Line:
+    """The words of the command line, parted as the program parts them: options, each with its value or None, and files."""
+
+    def __init__(self, words):
+        self.words, self.options, self.files = words, [], []
+        left = deque(words)
+        while left:
+            word = left.popleft()
+            if word == "--":
+                self.files += left
+                break
+            if not is_option(word):
+                self.files.append(word)
+                continue
+            name, equals, value = word.partition("=")
+            takes_next = not equals and name in VALUED | OWN.keys() and left and not is_option(left[0])
+            self.options.append((name, left.popleft() if takes_next else value if equals else None))
+
+    def has(self, name):
+        return any(name == other for other, _ in self.options)
+
+    def values(self, name):
+        return [value for other, value in self.options if name == other]
+
+    def value(self, name):
+        return next(iter(self.values(name)), None)
+
+    def flags(self, names):
+        """Those of the options that have these names."""
+        return [spelled(name, value) for name, value in self.options if name in names]
 
 
-def journal_flags(line):
-    limit = [] if line.limit is None else [f"--limit={line.limit}"]
-    return limit + ["--nanoseconds"] * line.nanoseconds + ["--seal"] * line.seal + ["--strict"] * line.strict
+def is_option(word):
+    return word.startswith("-") and word != "-"
 
 
-def of_flags(line):
-    return [] if line.of is None else [f"--of={line.of}"]
+def spelled(name, value):
+    return name if value is None else f"{name}={value}"
 
 
-def usual_columns(line):
-    """The columns without --group-by."""
-    if line.of == "async":
-        return ASYNC_BY
-    return COMPARED_BY if line.top is None else RANKED_BY
+def broken_rule(line):
+    """What is said of this command's own options, and of those of the program that it doesn't take, where they aren't as they are to be."""
+    for name, called in OWN.items():
+        if None in line.values(name):
+            return f"a value is required for '{name} {called}' but none was supplied"
+        if len(line.values(name)) > 1:
+            return f"the argument '{name} {called}' cannot be used multiple times"
+    if line.has("--scheduler") and line.has("--workers"):
+        return "the argument '--workers <N>' cannot be used with '--scheduler <ADDRESS>'"
+    if not all(re.fullmatch("0*[1-9][0-9]*", number) for number in line.values("--workers")):
+        return f"invalid value '{line.value('--workers')}' for '--workers <N>': it is no number from 1 on"
+    for name in "--jobs", "--page":
+        if line.has(name):
+            return f"the argument '{name}' cannot be used with {NAME}"
+    return None
 
 
-def table_flags(line):
-    """The flags that a file's table follows from."""
-    return [*of_flags(line), f"--group-by={line.group_by or usual_columns(line)}", *journal_flags(line)]
+def refusal(rule):
+    """What is said of words that are no command, as the program says it."""
+    return f"error: {rule}\n\nUsage: {NAME} [OPTIONS] [FILE]...\n\nFor more information, try '--help'.\n"
 
 
-def text_flags(line):
-    """Those that only the text follows from."""
-    given = {"--top": line.top, "--by": line.by}
-    flags = ["--json"] * line.json + [f"{flag}={word}" for flag, word in given.items() if word is not None]
-    return flags + [f"--only={text}" for text in line.only] + [f"--skip={text}" for text in line.skip]
+def is_text(word):
+    return not any("\ud800" <= letter <= "\udfff" for letter in word)
 
 
-def expect_flags(line):
-    """Lets the program look at the flags before anything is read: without files it says that there are none."""
-    columns = [] if line.group_by is None else [f"--group-by={line.group_by}"]
-    bases = [f"--base={name}" for name in line.base]
-    words = ["--apart", *of_flags(line), *columns, *journal_flags(line), *text_flags(line), *bases, "--files-from", os.devnull]
-    ended = subprocess.run([PROGRAM, *words], stdin=subprocess.DEVNULL, stdout=subprocess.DEVNULL, stderr=subprocess.PIPE)
-    said = ended_lines(ended)
+def shown_by_program(line):
+    """Lets the program look at the words before anything is read, with a list of no names for the files. Gives what it shows, if it is
+    to show something; otherwise it says that there are no files, or what is wrong."""
+    words = [] if line.has("--apart") else ["--apart"]
+    for name, value in line.options:
+        if name not in OWN:
+            words.append(spelled(name, os.devnull if name == LIST and value is not None else value))
+    words += [] if line.has(LIST) else [f"{LIST}={os.devnull}"]
+    words += [word for word in line.words if not is_text(word)]
+    looked = subprocess.run([PROGRAM, *words], stdin=subprocess.DEVNULL, stdout=subprocess.PIPE, stderr=subprocess.PIPE)
+    if looked.returncode == 0:
+        return looked.stdout.decode()
+    said = ended_lines(looked)
     if said != f"{PROGRAM}: 41 FileCount\n":
         raise NoText(said)
+    return None
+
+
+def columns_of(line):
+    """The columns of the table that is asked for, as the program has them without --group-by."""
+    if line.has("--group-by"):
+        return line.value("--group-by")
+    if line.value("--of") == "async":
+        return ASYNC_BY
+    return RANKED_BY if line.has("--top") else COMPARED_BY
+
+
+def head_of(line):
+    """What the head of a file's table has to say."""
+    head = {"columns": columns_of(line).split(","), "runs": 1, "files": 1}
+    head["of"] = "async" if line.value("--of") == "async" else None
+    head["unit"] = "ns" if line.has("--nanoseconds") else None
+    return head
+
+
+# What is left
+
+
+def remove(room):
+    """Removes a folder, which no task finds from then on."""
+    gone = f"{room}.gone"
+    with suppress(OSError):
+        os.rename(room, gone)
+    shutil.rmtree(gone, ignore_errors=True)
+
+
+def end_programs():
+    """Ends the programs that this process has begun, where the system lists them."""
+    for path in glob.glob("/proc/self/task/*/children"):
+        with suppress(OSError), open(path, encoding="ascii") as children:
+            for child in children.read().split():
+                os.kill(int(child), signal.SIGKILL)
+
+
+def take_along(rooms):
+    """Removes what isn't kept, and ends who writes it."""
+    end_programs()
+    for room in rooms:
+        remove(room)
+    end_programs()
+
+
+def end_by_signal(rooms, number, _):
+    for other in ENDINGS:
+        signal.signal(other, signal.SIG_IGN)
+    take_along(rooms)
+    signal.signal(number, signal.SIG_DFL)
+    os.kill(os.getpid(), number)
+
+
+def end_by_thread(rooms, failed):
+    """Ends this where a thread of Dask found no memory, for which the others would wait."""
+    if not issubclass(failed.exc_type, MemoryError):
+        threading.__excepthook__(failed)
+        return
+    say(WITHOUT_MEMORY)
+    take_along(rooms)
+    os._exit(STOPPED)
 
 
 @contextmanager
-def client_of(line):
+def room_in(places):
+    """A folder for what isn't kept, in the first of these places where one can be made. It goes away, whatever ends this."""
+    name = f"{NAME}-{uuid.uuid4().hex}"
+    rooms = [os.path.join(place, name) for place in places]
+    threading.excepthook = partial(end_by_thread, rooms)
+    for number in ENDINGS:
+        if signal.getsignal(number) != signal.SIG_IGN:
+            signal.signal(number, partial(end_by_signal, rooms))
+    room = first_made(rooms)
+    try:
+        yield room
+    finally:
+        remove(room)
+
+
+def first_made(rooms):
+    for room in rooms[:-1]:
+        with suppress(OSError):
+            os.mkdir(room, 0o700)
+            return room
+    os.mkdir(rooms[-1], 0o700)
+    return rooms[-1]
+
+
+# The command
+
+
+def workers_of(line):
+    """How many files this machine reads at once."""
+    if line.has("--scheduler"):
+        return 0
+    return int(line.value("--workers") or len(os.sched_getaffinity(0)))
+
+
+@contextmanager
+def client_of(line, room):
     """A client of the cluster that is named, or of one within this process, whose threads wait for the programs that they run."""
-    logging.disable()  # Standard error is for the program's lines, and what goes wrong is said there.
-    if line.scheduler is None:
-        count = line.workers or len(os.sched_getaffinity(0))
-        terms = {"n_workers": 1, "threads_per_worker": count, "processes": False, "dashboard_address": ":0", "memory_limit": 0}
-        with LocalCluster(**terms) as cluster, Client(cluster) as client:
+    from distributed import Client, LocalCluster
+
+    address = line.value("--scheduler")
+    if address is None:
+        terms = {"n_workers": 1, "threads_per_worker": workers_of(line), "processes": False, "dashboard_address": ":0", "memory_limit": 0}
+        with LocalCluster(**terms, local_directory=room) as cluster, Client(cluster) as client:
             yield client
         return
     try:
-        client = Client(line.scheduler)
-    except (OSError, ValueError) as error:
-        raise NoText(f"{NAME}: no scheduler at {line.scheduler}: {error}\n") from None
+        client = Client(address, timeout=ANSWER)
+    except Exception as error:  # There are many for an address at which there is no scheduler.
+        raise NoText(f"{NAME}: no scheduler at {quoted(address)}: {in_one_line(error)}\n") from None
     with client:
         yield client
 
 
-def room_for(line, parts):
-    """A folder that all workers see, for what isn't kept: among the parts, or in the current folder, or, where this machine is alone,
-    among its temporary files."""
-    parent = parts or (None if line.scheduler is None else os.getcwd())
-    return tempfile.TemporaryDirectory(prefix=f"{NAME}-", dir=parent, ignore_cleanup_errors=True)
+def folder_of_parts(line):
+    """The folder of parts, if they are kept, which is made if there is none."""
+    folder = line.value("--parts")
+    if folder is None:
+        return None
+    os.makedirs(folder, exist_ok=True)
+    return os.path.abspath(folder)
 
 
 def run(line):
+    """Gives the status, and what is said."""
+    rule = broken_rule(line)
+    if rule is not None:
+        raise NoText(refusal(rule))
     program = program_digest()
-    expect_flags(line)
-    names = line.files + ([] if line.files_from is None else names_from(line.files_from))
+    shown = shown_by_program(line)
+    if shown is not None:
+        return show(shown)
+    names = line.files + (names_from(line.value(LIST)) if line.has(LIST) else [])
     if not names:
         raise NoText(f"{PROGRAM}: 41 FileCount\n")
-    parts = line.parts and os.path.abspath(line.parts)
-    if parts:
-        os.makedirs(parts, exist_ok=True)
-    with client_of(line) as client, room_for(line, parts) as room:
-        work = Work(os.getcwd(), room, table_flags(line), program, parts)
+    expect_dask(workers_of(line))
+    # All workers see the current folder, and the folder of parts.
+    parts, rest = folder_of_parts(line), os.getcwd() if line.has("--scheduler") else tempfile.gettempdir()
+    with room_in([rest] if parts is None else [parts, rest]) as room, client_of(line, room) as client:
+        flags = [f"--group-by={columns_of(line)}", *sorted(line.flags(OF_TABLES))]
+        work = Work(os.getcwd(), room, flags, head_of(line), program, parts)
         sizes = sizes_of_parts(work)
-        sides = [list(traces_of(work, side, sizes)) for side in (line.base, names)]
+        sides = [list(traces_of(work, side, sizes)) for side in (line.values("--base"), names)]
         return print_text(line, *sum_files(client, work, sides))
 
 
-def main():
-    line = words_of_line()
+def show(text):
+    """Prints a text that is no sum."""
     try:
-        status, said = run(line)
+        with open(1, "wb", closefd=False) as output:
+            output.write(text.encode())
+    except OSError:
+        raise NoText(f"{PROGRAM}: 51 Output\n") from None
+    return 0, ""
+
+
+def say(said):
+    """Writes to standard error. Where that fails nothing can be done."""
+    with suppress(OSError), open(2, "wb", closefd=False) as lines:
+        lines.write(said.encode(errors="replace"))
+
+
+def hold_streams():
+    """Holds the numbers of standard streams that are closed, so that no file gets them; for the programs they stay closed."""
+    for number in range(3):
+        try:
+            os.fstat(number)
+        except OSError:
+            os.open(os.devnull, os.O_RDWR)
+
+
+def main():
+    hold_streams()
+    logging.disable()  # Standard error is for the program's lines, and what goes wrong is said there.
+    warnings.simplefilter("ignore")
+    line = Line(sys.argv[1:])
+    try:
+        status, said = show(HELP) if line.has("-h") or line.has("--help") else run(line)
     except NoText as fault:
         status, said = STOPPED, str(fault)
+    except MemoryError:
+        status, said = STOPPED, WITHOUT_MEMORY
     except OSError as error:
-        status, said = STOPPED, f"{NAME}: {error}\n"
-    except KeyboardInterrupt:
-        status, said = 130, ""
-    except Exception:  # Python's own status would say that there is a text.
-        status, said = STOPPED, traceback.format_exc()
-    sys.stderr.write(said)
+        status, said = STOPPED, f"{NAME}: {in_one_line(error)}\n"
+    except Exception as error:  # Python's own status would say that there is a text.
+        status, said = STOPPED, f"{NAME}: {type(error).__name__}: {in_one_line(error)}\n"
+    say(said)
     return status
 
 

@@ -36,10 +36,13 @@ class Cluster:
             self.processes.append(subprocess.Popen(command, stdout=log, stderr=log, **terms))
 
     def begin(self, workers):
+        self.begin_scheduler()
+        self.have_workers(workers)
+
+    def begin_scheduler(self):
         where = os.path.join(self.folder, "scheduler.json")
         self.start("scheduler", ["--host", "127.0.0.1", "--port", "0", "--no-dashboard", "--scheduler-file", where])
         self.address = wait_until(lambda: address_in(where), "a scheduler")
-        self.have_workers(workers)
 
     def have_workers(self, count):
         """Starts workers until so many answer."""

@@ -12,7 +12,7 @@ names=$(mktemp -p .)
 tr '\\0' '\\n' > "$names"
 cat "$names" >> read
 if mv hold held 2>/dev/null; then
-    echo "$PPID" > holder.tmp
+    echo "$PPID $$" > holder.tmp
     mv holder.tmp holder
     while [ -e held ]; do sleep 0.1; done
 fi
@@ -60,8 +60,14 @@ class Watched:
 
     def holder(self):
         """The worker whose task is held."""
+        return self.held_processes()[0]
+
+    def held_program(self):
+        return self.held_processes()[1]
+
+    def held_processes(self):
         with open(self.path("holder"), encoding="utf-8") as file:
-            return int(file.read())
+            return [int(process) for process in file.read().split()]
 
     def let_go(self):
         os.remove(self.path("holder"))
