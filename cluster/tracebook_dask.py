@@ -529,8 +529,8 @@ def is_text(word):
 
 
 def shown_by_program(line):
-    """Lets the program look at the words before anything is read, with a list of no names for the files. Gives what it shows, if it is
-    to show something; otherwise it says that there are no files, or what is wrong."""
+    """Lets the program look at the words before anything is read, with a list of no names for the files. Gives the version or the help, if
+    the program is to show one; otherwise it says that there are no files, or what is wrong."""
     words = [] if line.has("--apart") else ["--apart"]
     for name, value in line.options:
         if name not in OWN:
@@ -539,7 +539,7 @@ def shown_by_program(line):
     words += [word for word in line.words if not is_text(word)]
     looked = subprocess.run([PROGRAM, *words], stdin=subprocess.DEVNULL, stdout=subprocess.PIPE, stderr=subprocess.PIPE)
     if looked.returncode == 0:
-        return looked.stdout.decode()
+        return HELP if looked.stdout.count(b"\n") > 1 else looked.stdout.decode()  # The version is a line.
     said = ended_lines(looked)
     if said != f"{PROGRAM}: 41 FileCount\n":
         raise NoText(said)
@@ -591,6 +591,7 @@ def take_along(rooms):
 
 
 def end_by_signal(rooms, number, _):
+    """Ends this as a signal does that nobody handles."""
     for other in ENDINGS:
         signal.signal(other, signal.SIG_IGN)
     take_along(rooms)
@@ -676,6 +677,8 @@ def run(line):
     rule = broken_rule(line)
     if rule is not None:
         raise NoText(refusal(rule))
+    if shutil.which(PROGRAM) is None and (line.has("-h") or line.has("--help")):
+        return show(HELP)
     program = program_digest()
     shown = shown_by_program(line)
     if shown is not None:
@@ -711,12 +714,13 @@ def say(said):
 
 
 def hold_streams():
-    """Holds the numbers of standard streams that are closed, so that no file gets them; for the programs they stay closed."""
-    for number in range(3):
+    """Holds the numbers of standard streams that are closed, so that no file gets them. Reading and writing them fails as before, and
+    for the programs they are closed."""
+    for number, wrong_way in enumerate((os.O_WRONLY, os.O_RDONLY, os.O_RDONLY)):
         try:
             os.fstat(number)
         except OSError:
-            os.open(os.devnull, os.O_RDWR)
+            os.open(os.devnull, wrong_way)
 
 
 def main():
@@ -725,7 +729,7 @@ def main():
     warnings.simplefilter("ignore")
     line = Line(sys.argv[1:])
     try:
-        status, said = show(HELP) if line.has("-h") or line.has("--help") else run(line)
+        status, said = run(line)
     except NoText as fault:
         status, said = STOPPED, str(fault)
     except MemoryError:

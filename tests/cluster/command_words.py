@@ -15,7 +15,8 @@ SAME = {
     "an empty name before a file that is no trace": ["--json", "", "cut.json"],
     "an empty name behind a file that is no trace": ["--json", "cut.json", ""],
     "an empty name of a base": ["--base", "", "3.json"],
-    "names like options": ["--json", "3.json", "--", *ODD_NAMES],
+    "names like options": ["--json", "--", "3.json", *ODD_NAMES],
+    "a name that ends options": ["--json", "--", "--"],
     "a hyphen": ["--json", "-", "3.json"],
     "options behind files": ["3.json", "--top=3", "7.json", "--group-by=name"],
     "two texts to be shown": ["--only", "a", "--only=S", "--skip", "9", "--top", "3", "--group-by", "name,args.detail", "3.json"],
@@ -43,6 +44,7 @@ SAME = {
     "tables": ["--add", "--json", "3.json"],
     "repeated runs": ["--repeats", "--base", "3.json", "7.json"],
     "the version": ["--version"],
+    "help behind an unknown option": ["--sael", "--help"],
     "a word that is not text": ["--json", b"\xff"],
 }
 # Words of the command's own, and what is said of them.
@@ -57,8 +59,9 @@ OWN = {
     "--jobs": (["--jobs", "2"], "'--jobs' cannot be used with tracebook_dask"),
     "--page": (["--page"], "'--page' cannot be used with tracebook_dask"),
 }
-# Runs what follows without a standard stream.
-WITHOUT = {"standard error": '"$@" 2>&-', "standard output and error": '"$@" >&- 2>&-', "standard input": '"$@" <&-'}
+# Runs what follows without standard streams.
+WITHOUT = {"standard error": '"$@" 2>&-', "standard output": '"$@" >&-', "output and error": '"$@" >&- 2>&-', "standard input": '"$@" <&-'}
+STREAMED = ["3.json", "none.json"], ["3.json", "4.json"], ["--files-from", "-"], ["--version"]
 
 
 def engine(*words):
@@ -90,25 +93,25 @@ def try_own(bench):
 def try_closed_streams(bench):
     """The text and the status stay what they are without a place for lines, or for the text."""
     for what, script in WITHOUT.items():
-        outcomes = []
-        for command in [bench.program, "--apart"], engine():
-            words = ["sh", "-c", script, "sh", *command, "--top", "3", "--group-by", "name", "3.json", "none.json", "7.json"]
-            outcomes.append(bench.outcome(words))
-            words[-2] = "4.json"
-            outcomes.append(bench.outcome(words))
-        if outcomes[:2] != outcomes[2:]:
-            fail(f"without {what}: {outcomes[2:]}, and not {outcomes[:2]}")
+        for words in STREAMED:
+            begun = "sh", "-c", script, "sh"
+            wanted = bench.outcome([*begun, bench.program, "--apart", "--top", "3", *words])
+            found = bench.outcome([*begun, *engine("--top", "3", *words)])
+            if found != wanted:
+                fail(f"without {what}: {words} gave {found}, and not {wanted}")
     print("closed streams", flush=True)
 
 
 def try_without_dask(bench):
-    """Python without what is installed for it."""
+    """Python without what is installed for it, and a path without the program."""
     bare = [sys.executable, "-S", "-B", ENGINE]
-    environment = {**os.environ, "PATH": bench.path}
-    for words, status, told in (["--help"], 0, b""), (["--json", "3.json"], 2, b"tracebook_dask: Dask is missing"):
-        ended = subprocess.run([*bare, *words], cwd=bench.folder, env=environment, capture_output=True, timeout=PATIENCE)
-        if (ended.returncode, bool(ended.stdout)) != (status, status == 0) or not ended.stderr.startswith(told):
-            fail(f"without Dask: status {ended.returncode} of {words}, {ended.stdout!r}, {ended.stderr!r}")
+    status, text, said = bench.outcome([*bare, "--json", "3.json"])
+    if (status, text) != (2, b"") or not said.startswith("tracebook_dask: Dask is missing"):
+        fail(f"without Dask: status {status}, {text!r}, {said!r}")
+    for path in bench.path, os.devnull:
+        ended = subprocess.run([*bare, "--help"], env={**os.environ, "PATH": path}, capture_output=True, timeout=PATIENCE)
+        if (ended.returncode, ended.stderr) != (0, b"") or b"Usage: tracebook_dask " not in ended.stdout or b"--parts" not in ended.stdout:
+            fail(f"help without Dask: status {ended.returncode}, {ended.stdout!r}, {ended.stderr!r}")
     print("without Dask", flush=True)
 
 

@@ -110,14 +110,30 @@ def try_signals(bench):
         expect_signal(f"after {moment} s", run, number)
     os.remove(bench.watched.path("slow"))
     for number in signal.SIGINT, signal.SIGTERM, signal.SIGHUP:
-        bench.watched.hold()
-        run = Run(bench)
-        wait_until(bench.watched.holds, "a held task")
-        program = bench.watched.held_program()
-        expect_signal("in a task", run, number)
+        program = end_in_task(bench, number)
         wait_until(lambda: not runs(program), "the end of a held program")
         bench.watched.let_go()
     print("signals", flush=True)
+
+
+def try_signal_on_cluster(bench):
+    """On a cluster what isn't kept is among the traces, and a task that runs goes on."""
+    program = end_in_task(bench, signal.SIGINT, "--scheduler", bench.cluster.address)
+    if not runs(program):
+        fail("a signal ended a program of a worker")
+    bench.watched.let_go()
+    wait_until(lambda: not runs(program), "the end of a program that was let go")
+    print("a signal on a cluster", flush=True)
+
+
+def end_in_task(bench, number, *words):
+    """Ends a run by a signal when a task of it is held, and gives the program that was begun for it."""
+    bench.watched.hold()
+    run = Run(bench, *words)
+    wait_until(bench.watched.holds, "a held task")
+    program = bench.watched.held_program()
+    expect_signal("in a task", run, number)
+    return program
 
 
 def runs(process):
