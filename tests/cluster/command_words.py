@@ -1,5 +1,6 @@
 """Words of the command for Dask: what is said of them, and which files they name, must be what the program says with --apart."""
 import os
+import re
 import subprocess
 import sys
 
@@ -20,6 +21,10 @@ SAME = {
     "a hyphen": ["--json", "-", "3.json"],
     "options behind files": ["3.json", "--top=3", "7.json", "--group-by=name"],
     "two texts to be shown": ["--only", "a", "--only=S", "--skip", "9", "--top", "3", "--group-by", "name,args.detail", "3.json"],
+    "how files are read": ["--limit", "90", "--nanoseconds", "--seal", "--strict", "--json", "3.json", "7.json"],
+    "a limit that is reached": ["--json", "--limit=2", "3.json", "7.json"],
+    "another sum": ["--top", "3", "--by", "total", "3.json", "7.json"],
+    "async spans": ["--of", "async", "--json", "--base", "4.json", "3.json"],
     "--apart": ["--apart", "--json", "3.json"],
     "a missing list": ["--json", "--files-from", "none", "3.json"],
     "a list without a name": ["--json", "--files-from="],
@@ -41,6 +46,7 @@ SAME = {
     "an empty list of columns": ["--json", "--group-by=", "3.json"],
     "no table": ["3.json"],
     "folded stacks": ["--folded", "3.json"],
+    "refused elements": ["--refused", "3.json"],
     "tables": ["--add", "--json", "3.json"],
     "repeated runs": ["--repeats", "--base", "3.json", "7.json"],
     "the version": ["--version"],
@@ -66,6 +72,15 @@ STREAMED = ["3.json", "none.json"], ["3.json", "4.json"], ["--files-from", "-"],
 
 def engine(*words):
     return [sys.executable, "-B", ENGINE, *words]
+
+
+def expect_all_options(bench):
+    """That each option of the program's help is among the words, so that a new one isn't forgotten."""
+    known = set(re.findall(r"^ +(?:-\w, )?(--[a-z-]+)", bench.outcome([bench.program, "--help"])[1].decode(), re.MULTILINE))
+    tried = [*SAME.values(), *(words for words, _ in OWN.values())]
+    options = {word.partition("=")[0] for words in tried for word in words if isinstance(word, str)}
+    if "--top" not in known or known - options:
+        fail(f"no words have {sorted(known - options)}")
 
 
 def try_same(bench):
@@ -116,6 +131,7 @@ def try_without_dask(bench):
 
 
 def try_words(bench):
+    expect_all_options(bench)
     try_same(bench)
     try_own(bench)
     try_closed_streams(bench)
