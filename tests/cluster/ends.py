@@ -13,7 +13,7 @@ from loopback import Cluster, wait_until
 # An end without a scheduler or a worker must come within so many seconds, and one by a signal within so many.
 SOON, AT_ONCE = 30, 5
 # When signals come, in seconds after the start: while modules are loaded, while a cluster begins, and in tasks.
-MOMENTS = [0.1, 0.3, 0.5, 0.5, 0.7, 0.9, 1.2, 2.0]
+MOMENTS = [0.3, 0.4, 0.5, 0.5, 0.7, 0.9, 1.2, 2.0]
 # Room for addresses, in bytes: too little for Dask, and enough.
 TOO_LITTLE, ENOUGH = [30_000_000, 60_000_000, 100_000_000, 200_000_000, 300_000_000], 4_000_000_000
 WORDS = ["--json", "--group-by", "name"]
@@ -76,11 +76,18 @@ def try_without_workers(bench):
         found = Run(bench, "--scheduler", cluster.address).end(SOON)
         expect_line("no workers", found, "tracebook_dask: for 10 seconds the scheduler has had no worker\n")
         run = Run(bench, "--scheduler", cluster.address)
-        time.sleep(3)
+        wait_until(lambda: clients_of(cluster) == 2, "a second client")
+        time.sleep(1)
     status, text, said = run.end(SOON)
     if (status, text) != (2, b"") or not said.startswith("tracebook_dask: the scheduler was lost\n"):
         fail(f"the scheduler was lost: status {status}, {text[:2_000]}, {said!r}")
     print("no workers", flush=True)
+
+
+def clients_of(cluster):
+    """How many clients a scheduler has had."""
+    with open(os.path.join(cluster.folder, "scheduler-0.log"), encoding="utf-8") as log:
+        return log.read().count("Receive client connection")
 
 
 def try_without_memory(bench):
