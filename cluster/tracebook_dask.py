@@ -79,7 +79,7 @@ Options:
   -h, --help
           Print help
 
-All other options are those of tracebook, but for --jobs and --page.
+All other options are those of tracebook --apart, but for --jobs and --page.
 """
 
 
