@@ -33,10 +33,7 @@ fn main(rt: HostRuntime) -> io::Result<ExitCode> {
     for word in env::args(&rt)?.skip(1) {
         files.push(Text::of(alloc, word.as_str())?)?;
     }
-    let source = Files {
-        rt: &rt,
-        watcher: Unwatched,
-    };
+    let source = Files::new(&rt, Unwatched);
     let mut session = Session {
         place: Place {
             rt: &rt,

@@ -16,6 +16,8 @@ pub enum Reason {
     Folder,
     /// It is a list of names, and not UTF-8.
     NotText,
+    /// It is standard input, and was read before.
+    Taken,
     Other,
 }
 
@@ -27,6 +29,7 @@ impl Reason {
             Reason::Denied => "it may not be read by this user",
             Reason::Folder => "it is a folder",
             Reason::NotText => "it is not UTF-8 text",
+            Reason::Taken => "standard input was read before, and can be read only once",
             Reason::Other => "reading it failed",
         }
     }
@@ -229,8 +232,8 @@ impl RefusalCounts {
 // What helps where most elements are refused with this number.
 fn remedy_of(code: u16) -> &'static str {
     match code {
-        16 => "examples/convert_trace.py gives numbers to processes and threads that are strings",
-        19 => "examples/convert_trace.py makes the values of counters whole numbers",
+        16 => "tracebook_convert gives numbers to processes and threads that are strings",
+        19 => "tracebook_convert makes the values of counters whole numbers",
         21 | 22 | 23 | 24 | 26 => "events count in the order in which they stand",
         27 => "without --strict an end closes its span whatever its name",
         _ => "--refused says which is the first",
@@ -250,11 +253,9 @@ impl fmt::Display for Hint {
             Hint::Empty => f.write_str("it is empty"),
             Hint::CutOff { whole } => write!(
                 f,
-                "it is cut off behind byte {whole}: examples/convert_trace.py --cut keeps the whole elements before that"
+                "it is cut off behind byte {whole}: tracebook_convert --cut keeps the whole elements before that"
             ),
-            Hint::TooLarge => {
-                f.write_str("a file may have 64 MiB: examples/split_by_process.py splits it")
-            }
+            Hint::TooLarge => { f.write_str("a file may have 64 MiB: tracebook_split splits it") }
             Hint::Refused {
                 count,
                 items,

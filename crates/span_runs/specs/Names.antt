@@ -18,17 +18,21 @@ is_name (byte ∷ name) = true
 abbrev pub names_in : Bytes → List Bytes
 names_in bytes = filter is_name (slice_split (λ byte. byte == separator_of bytes) bytes)
 
--- what a list stands for: `-` is standard input
-abbrev pub name_of_list : Bytes → Name
-name_of_list list = if bytes_eq list (codes "-") then Standard else File list
+-- the word for standard input
+abbrev pub is_standard : Bytes → Bool
+is_standard word = bytes_eq word (codes "-")
 
-abbrev pub files_of : List Bytes → List Name
-files_of names = map (λ name. File name) names
+-- what a word stands for
+abbrev pub name_of : Bytes → Name
+name_of word = if is_standard word then Standard else File word
+
+abbrev pub names_of : List Bytes → List Name
+names_of words = map name_of words
 
 -- the bytes of a list were read, and the names are these and those in it
 pub record IsListRead (source : SourceBytes) (list : Bytes) (given names : List Bytes) : Type 0 where
   pub bytes : Bytes
-  pub read : AreFirst most_listed (source (name_of_list list)) bytes
+  pub read : AreFirst most_listed (source (name_of list)) bytes
   pub all : names ≡ given ++ names_in bytes
 
 -- the files of these names, and of those of a list behind them, which are some together
@@ -36,12 +40,12 @@ pub record AreListed (source : SourceBytes) (list : Bytes) (given : List Bytes) 
   pub listed : List Bytes
   pub read : IsListRead source list given listed
   pub some : 0 < length listed
-  pub files : names ≡ files_of listed
+  pub files : names ≡ names_of listed
 
 -- the files that are given, or those of the list too, where there is one; standard input where nothing is named
 abbrev pub NamedBy : SourceBytes → List Bytes → Option Bytes → List Name → Type 0
 NamedBy source [] None names = names ≡ Standard ∷ []
-NamedBy source (name ∷ given) None names = names ≡ files_of (name ∷ given)
+NamedBy source (name ∷ given) None names = names ≡ names_of (name ∷ given)
 NamedBy source given (Some list) names = AreListed source list given names
 
 abbrev pub AreNamed : SourceBytes → Named → List Name → Type 0

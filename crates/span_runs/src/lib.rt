@@ -20,7 +20,7 @@ pub use files::{read_input, unread};
 pub use gathered::Gathered;
 pub use gathering::Gathering;
 pub use jobs::{Stopped, in_jobs};
-pub use names::{Named, files_of, names_of};
+pub use names::{Named, is_standard, names_of, names_of_words};
 pub use runs::table_of_run;
 pub use source::{Name, Source, SourceFault, sizes_of};
 pub use span_collect::{Collected, Input, Settings};

@@ -1,6 +1,6 @@
 //! The files that a command line names.
 ghost use Rattle.std.specs.{List.list_any, Prelude.{◌≡◌, ◌==◌, ◌++◌, ◌∷◌, List, ℕ, None, Some, IfErr, IfOk, OnOk}};
-ghost use Rattle.span_runs.specs.{Listing.{kept, names_from}, Names.{AreListed, AreNamed, NamedBy, SaysOfList, SaysOfNames, files_of, name_of_list, names_in, separator_of}, Source.SourceBytes, Stops.OfStop};
+ghost use Rattle.span_runs.specs.{Listing.{kept, names_from}, Names.{AreListed, AreNamed, NamedBy, SaysOfList, SaysOfNames, is_standard, name_of as the_name, names_in, names_of as the_names, separator_of}, Source.SourceBytes, Stops.OfStop};
 
 use crate::files::unread;
 use crate::source::{Name, Source, SourceFault};
@@ -12,11 +12,11 @@ use std::alloc::{AllocError, Global};
 // The most bytes that are read of a list.
 const MOST_LISTED: u64 = 1_099_511_627_776;
 
-/// The files that a command line names: these, and then those of a list, where there is one.
+/// The files that a command line names: these, and then those of a list, where there is one. `-` is standard input, also in a list.
 #[derive(Drop)]
 pub struct Named {
     pub given: Vec<Text>,
-    /// The file of the list; `-` is standard input.
+    /// The file of the list.
     pub list: Option<Text>,
 }
 
@@ -52,18 +52,35 @@ fn given_names(alloc: Global, given: Vec<Text>) -> Result<Vec<Name>, AllocError>
         names.push(Name::Standard)?;
         return Ok(names);
     }
-    files_of(alloc, given)
+    names_of_words(alloc, given)
 }
 
-/// The files of these names.
-pub fn files_of(alloc: Global, given: Vec<Text>) -> Result<Vec<Name>, AllocError>
-    ensures { IfOk result (λ names. names.items ≡ files_of given.items) }
+/// What these words stand for.
+pub fn names_of_words(alloc: Global, words: Vec<Text>) -> Result<Vec<Name>, AllocError>
+    ensures { IfOk result (λ names. names.items ≡ the_names words.items) }
 {
-    let mut names = Vec::with_capacity(alloc, given.len())?;
-    for name in given {
-        names.push(Name::File(name))?;
+    let mut names = Vec::with_capacity(alloc, words.len())?;
+    for word in words {
+        names.push(name_of_word(word))?;
     }
     Ok(names)
+}
+
+// What a word stands for.
+fn name_of_word(word: Text) -> Name
+    ensures { result ≡ the_name word }
+{
+    if is_standard(&word) {
+        return Name::Standard;
+    }
+    Name::File(word)
+}
+
+/// Whether a word stands for standard input.
+pub fn is_standard(word: &Text) -> bool
+    ensures { result ≡ is_standard word.now }
+{
+    word.as_str() == "-"
 }
 
 // The files that are named, and those of a list behind them.
@@ -78,7 +95,7 @@ fn listed_names<S: Source>(
     ensures stop { IfErr result
         (OfStop (SaysOfList (S.bytes source.now) given.items (Some list))) }
 {
-    let file = name_of_list(alloc, &list)?;
+    let file = name_of_word(list.try_clone(alloc)?);
     let bytes = match source.read(&file, MOST_LISTED) {
         Ok(bytes) => bytes,
         Err(fault) => return Err(unread(alloc, &Name::File(list), fault)),
@@ -94,20 +111,10 @@ fn listed_names<S: Source>(
     if names.is_empty() {
         return Err(Halt::of_run(alloc, Fault::FileCount.code()).with_hint(many_files(alloc)));
     }
-    match files_of(alloc, names) {
-        Ok(files) => Ok(files),
+    match names_of_words(alloc, names) {
+        Ok(names) => Ok(names),
         Err(_) => Err(Halt::Memory),
     }
-}
-
-// What a list stands for: `-` is standard input.
-fn name_of_list(alloc: Global, list: &Text) -> Result<Name, AllocError>
-    ensures { IfOk result (λ name. name ≡ name_of_list list.now) }
-{
-    if list.as_str() == "-" {
-        return Ok(Name::Standard);
-    }
-    Ok(Name::File(list.try_clone(alloc)?))
 }
 
 fn with_names(alloc: Global, given: Vec<Text>, bytes: &[u8]) -> Result<Vec<Text>, ListFault>

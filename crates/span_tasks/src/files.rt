@@ -2,10 +2,11 @@
 ghost use Rattle.std.specs.Prelude.{◌≤◌, IfOk, vec_len};
 
 use crate::reading::{read_up_to, reason_of};
-use span_runs::{Name, Source, SourceFault};
+use span_runs::{Name, Reason, Source, SourceFault};
 use std::fs::{File, metadata};
 use std::io;
 use std::io::Read;
+use std::sync::atomic::{AtomicBool, Ordering};
 
 /// Learns what is read, as it is read, by whichever thread reads.
 pub trait Watcher {
@@ -31,11 +32,13 @@ pub struct Unwatched;
 
 impl Watcher for Unwatched {}
 
-/// The real files and standard input.
+/// The real files and standard input, which can be read once.
 #[derive(Drop)]
 pub struct Files<'a, W> {
-    pub rt: &'a HostRuntime,
-    pub watcher: W,
+    rt: &'a HostRuntime,
+    watcher: W,
+    // Standard input is read.
+    is_read: AtomicBool,
 }
 
 impl<'a, W: Watcher> Source for Files<'a, W> {
@@ -71,9 +74,20 @@ impl<'a, W: Watcher> Source for Files<'a, W> {
 }
 
 impl<'a, W: Watcher> Files<'a, W> {
+    pub fn new(rt: &'a HostRuntime, watcher: W) -> Files<'a, W> {
+        Files {
+            rt,
+            watcher,
+            is_read: AtomicBool::new(false),
+        }
+    }
+
     fn read_standard(&self, most: u64) -> Result<Vec<u8>, SourceFault>
         ensures within { IfOk result (λ read. vec_len read ≤ most) }
     {
+        if self.is_read.swap(true, Ordering::SeqCst) {
+            return Err(SourceFault::NotOpened(Reason::Taken));
+        }
         self.watcher.open_standard();
         let mut reader = Watched {
             inner: self.rt.stdin(),

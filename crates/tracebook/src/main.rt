@@ -48,10 +48,8 @@ fn main(rt: HostRuntime) -> ExitCode {
     };
     let is_terminal = rt.stderr().is_terminal();
     let shows_progress = is_terminal && !is_plain(&rt);
-    let source = Files {
-        rt: &rt,
-        watcher: Progress::new(&rt, shows_progress, is_terminal),
-    };
+    let progress = Progress::new(&rt, shows_progress, is_terminal);
+    let source = Files::new(&rt, progress);
     let mut session = Session {
         place: Place {
             rt: &rt,

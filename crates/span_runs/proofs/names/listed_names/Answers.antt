@@ -1,5 +1,5 @@
 use Rattle.std.proofs.{Common.{◌≡◌, [], length, sym, subst, ap, inr, ◌∙◌, arith}, lemmas.{Grind.common_steps, List.nil_from_length}}
-use Rattle.span_runs.specs.{run_line, Names.most_listed, Source.AreFirst, declared.source.Name.Name}
+use Rattle.span_runs.specs.{run_line, Names.{most_listed, name_of}, Source.AreFirst, declared.source.Name.Name}
 use Rattle.span_runs.proofs.Stopping.{OfStop-hinted, OfStop-weaker}
 use Rattle.span_runs.proofs.names.listed_names.Goals as goal
 
@@ -15,7 +15,7 @@ returns-then-is_empty-clause-stop g c =
     (λ lines is. inr (
       record {
         bytes = bytes;
-        read = subst (λ (name : Name). AreFirst most_listed (source name) bytes) c.in_ok-file.ensures c.in-Ok.ensures.first;
+        read = subst (λ (name : Name). AreFirst most_listed (source name) bytes) (c.name_of_word-file.ensures ∙ ap name_of c.in_ok-try_clone.ensures) c.in-Ok.ensures.first;
         all = sym empty ∙ (rw c.deref.ensures.value at c.in-Ok-with_names.ensures);
       },
       is ∙ ap run_line c.code.ensures,
