@@ -3,7 +3,7 @@ use Rattle.std.specs.{List.{list_any, sum_by, Sorted.IsPermutation}, Prelude.{fi
 use Rattle.std.proofs.{Common.{◌≡◌, ℕ, ◌+◌, ◌-◌, ◌/◌, ◌≤◌, Bool, true, false, cond, ◌||◌, List, [], ◌∷◌, ◌++◌, length, get_or, map, refl, sym, ap, ◌∙◌, arith}, lemmas.List.{Sorted.{IsPermutation-append, IsPermutation-map, length_permutation, list_any-IsPermutation, sum_by-IsPermutation}, Sums.{length-filter, sum_by-cons}}}
 use Rattle.span_keyed_tracks.proofs.{Keyed.has_key, Sorting.ascending-permutation}
 use Rattle.span_table.proofs.{AddedTables.counts-same, Alike.{has_key-append, same_keys}}
-use Rattle.span_comparisons.specs.{first_line, unit_line, Number, Row, sums_at, TableKey, key_cmp, shown_line, number_by, is_wanted, SpanTable, Comparison.compared_heads, Laws.{EachKeyIsCounted, RepetitionsHaveNoOrder, ValuesAreSorted}, Repeats.{overlap_line, side_counts, spread_columns, spread_line}, Spreads.{Spreads, all_keys, apart_spreads, has_same_spread, is_apart, is_overlap, keys_of, overlap_count, same_spread_count, shown_keys, shown_spreads, spread_of, spreads_at, values_at}}
+use Rattle.span_comparisons.specs.{first_line, unit_line, Number, Row, sums_at, TableKey, key_cmp, shown_line, number_by, is_wanted, SpanTable, Comparison.compared_heads, First.first_lines, Laws.{EachKeyIsCounted, RepetitionsHaveNoOrder, ValuesAreSorted}, Repeats.{overlap_line, side_counts, spread_columns, spread_line}, Spreads.{Spreads, all_keys, apart_spreads, has_same_spread, is_apart, is_overlap, keys_of, overlap_count, same_spread_count, shown_keys, shown_spreads, spread_of, spreads_at, values_at}}
 use Rattle.span_comparisons.proofs.{Sorts.{sorted-ends, sorted-moved, sorted-non_decreasing, sorted-permutation}, SpreadOrder.{spread_order-total, spreads-distinct}}
 
 -- sorted values are these values, and don't fall
@@ -43,9 +43,9 @@ side-moved by tables moved is key =
 
 -- the text of repeated runs is the same for the repetitions of a side in whatever order
 pub repeats_of-moved : RepetitionsHaveNoOrder
-repeats_of-moved unit by wanted columns base other moved_base moved_other is_base is_other = λ i.
+repeats_of-moved unit by most wanted columns base other moved_base moved_other is_base is_other = λ i.
     first_line ++ (unit_line unit ++ (compared_heads true (side_counts-moved base moved_base is_base i) (side_counts-moved other moved_other is_other i)
-    ++ (shown_line wanted (length (shown i)) (length (keys i)) ++ (spread_columns columns ++ (flat_map spread_line (apart_spreads (shown i)) ++ overlap_line (overlap_count (shown i)) (same_spread_count (shown i)))))))
+    ++ (shown_line wanted (length (shown i)) (length (keys i)) ++ (spread_columns columns ++ (first_lines spread_line most (apart_spreads (shown i)) ++ overlap_line (overlap_count (shown i)) (same_spread_count (shown i)))))))
   where
     keys : all_keys (base ++ other) ≡ all_keys (moved_base ++ moved_other)
     keys = all_keys-moved (base ++ other) (moved_base ++ moved_other) (IsPermutation-append base moved_base other moved_other is_base is_other)

@@ -1,12 +1,12 @@
 -- A table compared with itself.
 use Rattle.std.specs.Prelude.{filter, flat_map, not}
-use Rattle.std.proofs.{Common.{◌≡◌, Bool, true, false, cond, ◌&&◌, ◌||◌, ◌==◌, List, [], ◌∷◌, ◌++◌, length, map, refl, sym, ap, ap₂, ◌∙◌, arith, eq-eqb}, lemmas.List.{length-map, map-append}}
+use Rattle.std.proofs.{Common.{◌≡◌, ℕ, zero, suc, ◌-◌, take, Bool, Option, Some, None, true, false, cond, ◌&&◌, ◌||◌, ◌==◌, List, [], ◌∷◌, ◌++◌, length, map, refl, sym, ap, ap₂, ◌∙◌, arith, eq-eqb}, lemmas.List.{length-map, map-append}}
 use Rattle.span_self_time.proofs.Mapped.{filter-map}
 use Rattle.span_keyed_tracks.proofs.Keyed.{has_key}
 use Rattle.span_journal.proofs.Sorted.{map-map}
 use Rattle.span_table.proofs.{Alike.{has_key-append, same_keys}, OwnRows.{ascending-own, keys-sorted}}
-use Rattle.span_comparisons.specs.{ascending, first_line, unit_line, Sums, Row, sums_at, key_cmp_total, TableKey, key_cmp, shown_line, Wanted, is_wanted, shown_rows, RowsRise, Changes.{Change, change_order, compared, compared_at, is_changed, is_same, same_count, shown_changes}, Comparison.{change_columns, change_line, compared_heads, same_line}, Laws.TablesCompareWithThemselves}
-use Rattle.span_comparisons.proofs.{Comparing.length-changes, Permuted.key_of}
+use Rattle.span_comparisons.specs.{Bytes, ascending, first_line, unit_line, Sums, Row, sums_at, key_cmp_total, TableKey, key_cmp, shown_line, Wanted, is_wanted, shown_rows, RowsRise, Changes.{Change, change_order, compared, compared_at, is_changed, is_same, same_count, shown_changes}, Comparison.{change_columns, change_line, compared_heads, same_line}, First.{first_lines, more_line}, Laws.TablesCompareWithThemselves}
+use Rattle.span_comparisons.proofs.{Compared.length-changes, Permuted.key_of}
 
 module _ (rows : List Row) where
   -- the keys of two lists of the same rows are those of one
@@ -44,9 +44,19 @@ module _ (rows : List Row) where
   none_changed [] = refl
   none_changed (x ∷ xs) = ap₂ (λ (b : Bool) (rest : List Change). cond (not b) (made x ∷ rest) rest) (same_as_itself (sums_at rows x.key)) (none_changed xs)
 
+take-none : {A : Type 0} (n : ℕ) → let none : List A = [] in take n none ≡ none
+take-none zero = refl
+take-none (suc n) = refl
+
+-- of none there is no line, and none is left out
+first_lines-none : {A : Type 0} (line : A → Bytes) (most : Option ℕ) → first_lines line most [] ≡ []
+unfolding more_line
+first_lines-none line None = refl
+first_lines-none {A = A} line (Some most) = ap (λ (first : List A). flat_map line first ++ more_line (0 - length first)) (take-none most)
+
 -- nothing changed between a table and itself
 pub comparison_of-itself : TablesCompareWithThemselves
-comparison_of-itself unit by wanted says_runs table rise =
+comparison_of-itself unit by most wanted says_runs table rise =
     let rows = table.rows in
     let all = compared rows rows in
     let shown = shown_changes wanted all in
@@ -55,5 +65,7 @@ comparison_of-itself unit by wanted says_runs table rise =
     let many : length shown ≡ length (shown_rows wanted rows) = ap length are ∙ length-map (shown_rows wanted rows) (made rows) in
     let every : length all ≡ length rows = ap length (compared-itself rows rise) ∙ length-map rows (made rows) in
     let same : same_count shown ≡ length (shown_rows wanted rows) = omega (arith, length-changes shown, ap length none, many) in
-    λ i. first_line ++ (unit_line unit ++ (compared_heads says_runs table.counts table.counts ++ (shown_line wanted (many i) (every i) ++ (change_columns table.of table.columns ++
-    (flat_map (change_line table.of) (ascending (change_order table.of by) (none i)) ++ same_line (same i))))))
+    (λ i. first_line ++ (unit_line unit ++ (compared_heads says_runs table.counts table.counts ++ (shown_line wanted (many i) (every i) ++ (change_columns table.of table.columns ++
+    (first_lines (change_line table.of) most (ascending (change_order table.of by) (none i)) ++ same_line (same i)))))))
+    ∙ ap (λ lines. first_line ++ (unit_line unit ++ (compared_heads says_runs table.counts table.counts ++ (shown_line wanted (length (shown_rows wanted rows)) (length rows) ++
+    (change_columns table.of table.columns ++ (lines ++ same_line (length (shown_rows wanted rows)))))))) (first_lines-none (change_line table.of) most)

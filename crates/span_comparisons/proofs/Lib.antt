@@ -1,5 +1,5 @@
 pub mod AnyOrder
-pub mod Comparing
+pub mod Compared
 pub mod Differences
 pub mod Itself
 pub mod Permuted

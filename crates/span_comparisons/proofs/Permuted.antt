@@ -6,7 +6,7 @@ use Rattle.span_journal.proofs.{Selected.filter-ascending, Sorted.{AllByRecursio
 use Rattle.span_ledger.proofs.Sorting.{ascending-permutation}
 use Rattle.span_table.proofs.Alike.{has_key-append, same_keys}
 use Rattle.span_table_text.proofs.Ranked.{filter-sorted}
-use Rattle.span_comparisons.proofs.Comparing.{change_order-total}
+use Rattle.span_comparisons.proofs.Compared.{change_order-total}
 use Rattle.span_comparisons.specs.{ascending, Of, Number, leading_numbers, Row, found_at, key_cmp_total, key_cmp-same, TableKey, key_cmp, Wanted, is_wanted, RowsRise, Changed.{base_keys, is_new, new_keys}, Changes.{Change, by_gap, change_order, compared, compared_at, gaps_order, is_changed, is_same, same_count, shown_changes}, Laws.ComparisonsHaveEachChange}
 
 abbrev pub key_of : Row → TableKey

@@ -5,7 +5,7 @@ use Rattle.span_self_time.proofs.Mapped.{filter-map}
 use Rattle.span_keyed_tracks.proofs.SameKeys.{ascending-members}
 use Rattle.span_journal.proofs.Sorted.{map-map}
 use Rattle.span_comparisons.specs.{ascending, Of, Number, leading_numbers, Row, gap, number_by, key_cmp_total, key_cmp-same, TableKey, key_cmp, Wanted, is_wanted, Changes.{Change, by_gap, change_order, changes_of, compared, compared_at, gap_by, is_changed, is_same, same_count, shown_changes, gaps_order}, Laws.{ComparisonsTurn, DifferencesTurn, turned}}
-use Rattle.span_comparisons.proofs.{Comparing.length-changes, Permuted.key_of}
+use Rattle.span_comparisons.proofs.{Compared.length-changes, Permuted.key_of}
 
 keys-turned : (base other : List Row) → ascending key_cmp (map key_of (other ++ base)) ≡ ascending key_cmp (map key_of (base ++ other))
 keys-turned base other = ascending-members key_cmp_total key_cmp-same (map key_of (other ++ base)) (map key_of (base ++ other)) (moved other base) (moved base other)

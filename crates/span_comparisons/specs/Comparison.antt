@@ -1,6 +1,6 @@
 -- The text of a comparison.
-use Rattle.std.specs.{Ordering.{match_ordering, nat_cmp}, Prelude.{ℕ, ◌-◌, ◌==◌, if◌then◌else◌, Bool, true, List, [], ◌∷◌, ◌++◌, flat_map, length, codes, decimal}}
-use Rattle.span_comparisons.specs.{Bytes, Unit, CountRow, count_line, first_line, line_of, seals_line, unit_line, Column, TableCounts, Of, Number, compared_numbers, is_time, number_by, number_name, runs_line, shown_line, Cell, number_cell, row_line, titles_line, Wanted, SpanTable, Changes.{Change, changes_of, compared, same_count, shown_changes}, declared.changes.Both.Both}
+use Rattle.std.specs.{Ordering.{match_ordering, nat_cmp}, Prelude.{ℕ, ◌-◌, ◌==◌, if◌then◌else◌, Bool, true, List, [], ◌∷◌, ◌++◌, flat_map, length, Option, codes, decimal}}
+use Rattle.span_comparisons.specs.{Bytes, Unit, CountRow, count_line, first_line, line_of, seals_line, unit_line, Column, TableCounts, Of, Number, compared_numbers, is_time, number_by, number_name, runs_line, shown_line, Cell, number_cell, row_line, titles_line, Wanted, SpanTable, Changes.{Change, changes_of, compared, same_count, shown_changes}, First.first_lines, declared.changes.Both.Both}
 
 -- the head of the base but for its first line: each line has the word before it
 abbrev pub base_lines : CountRow → Bytes
@@ -48,10 +48,10 @@ change_line of change = row_line (flat_map (changed_cells change.both) (compared
 unfoldable pub same_line : ℕ → Bytes
 same_line count = line_of (codes "same" ∷ decimal count ∷ [])
 
--- the unit where it isn't microseconds, both heads, how many keys are shown, the names of the columns, a line for each change, and then how many keys did not change
-abbrev pub comparison_of : Unit → Number → Wanted → Bool → SpanTable → SpanTable → Bytes
-comparison_of unit by wanted says_runs base other =
+-- the unit where it isn't microseconds, both heads, how many keys are shown, the names of the columns, a line for each of the first changes, how many more there are, and then how many keys did not change
+abbrev pub comparison_of : Unit → Number → Option ℕ → Wanted → Bool → SpanTable → SpanTable → Bytes
+comparison_of unit by most wanted says_runs base other =
     let all = compared base.rows other.rows in
     let shown = shown_changes wanted all in
     first_line ++ (unit_line unit ++ (compared_heads says_runs base.counts other.counts ++ (shown_line wanted (length shown) (length all) ++
-    (change_columns other.of other.columns ++ (flat_map (change_line other.of) (changes_of other.of by shown) ++ same_line (same_count shown))))))
+    (change_columns other.of other.columns ++ (first_lines (change_line other.of) most (changes_of other.of by shown) ++ same_line (same_count shown))))))

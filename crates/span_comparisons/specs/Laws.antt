@@ -1,17 +1,17 @@
 -- The facts that hold of every comparison and every text of repeated runs.
-use Rattle.std.specs.{List.Sorted.{IsNonDecreasing, IsPermutation, IsStrictlySortedBy}, Prelude.{◌≡◌, ℕ, Bool, ◌+◌, ◌-◌, ◌<◌, List, ◌++◌, codes, decimal, filter, length, map}}
+use Rattle.std.specs.{List.Sorted.{IsNonDecreasing, IsPermutation, IsStrictlySortedBy}, Prelude.{◌≡◌, ℕ, Bool, ◌+◌, ◌-◌, ◌<◌, List, ◌++◌, codes, decimal, filter, length, map, Option}}
 use Rattle.span_comparisons.specs.{Unit, first_line, unit_line, Column, Of, Number, Row, shown_line, Wanted, shown_rows, RowsRise, SpanTable, Changes.{Change, change_order, changes_of, compared, is_changed, same_count, shown_changes}, Comparison.{change_columns, compared_heads, comparison_of, difference_text, same_line}, Repeats.repeats_of, Spreads.{Spreads, apart_spreads, is_apart, overlap_count, same_spread_count, shown_spreads, sorted, spread_order}}
 
 -- between a table and itself nothing changed: below the names of the columns is how many keys are shown
-abbrev pub ComparesWithItself : Unit → Number → Wanted → Bool → SpanTable → Type 0
-ComparesWithItself unit by wanted says_runs table = let shown = length (shown_rows wanted table.rows) in
-    comparison_of unit by wanted says_runs table table
+abbrev pub ComparesWithItself : Unit → Number → Option ℕ → Wanted → Bool → SpanTable → Type 0
+ComparesWithItself unit by most wanted says_runs table = let shown = length (shown_rows wanted table.rows) in
+    comparison_of unit by most wanted says_runs table table
     ≡ first_line ++ (unit_line unit ++ (compared_heads says_runs table.counts table.counts ++
     (shown_line wanted shown (length table.rows) ++ (change_columns table.of table.columns ++ same_line shown))))
 
 -- this holds of each table, in whatever unit and order
 abbrev pub TablesCompareWithThemselves : Type 0
-TablesCompareWithThemselves = (unit : Unit) (by : Number) (wanted : Wanted) (says_runs : Bool) (table : SpanTable) → RowsRise table.rows → ComparesWithItself unit by wanted says_runs table
+TablesCompareWithThemselves = (unit : Unit) (by : Number) (most : Option ℕ) (wanted : Wanted) (says_runs : Bool) (table : SpanTable) → RowsRise table.rows → ComparesWithItself unit by most wanted says_runs table
 
 -- a change the other way round
 abbrev pub turned : Change → Change
@@ -68,5 +68,5 @@ EachKeyIsCounted = (by : Number) (wanted : Wanted) (base other : List SpanTable)
 
 -- the text of repeated runs is the same for the repetitions of a side in whatever order
 abbrev pub RepetitionsHaveNoOrder : Type 0
-RepetitionsHaveNoOrder = (unit : Unit) (by : Number) (wanted : Wanted) (columns : List Column) (base other moved_base moved_other : List SpanTable) →
-    IsPermutation base moved_base → IsPermutation other moved_other → repeats_of unit by wanted columns base other ≡ repeats_of unit by wanted columns moved_base moved_other
+RepetitionsHaveNoOrder = (unit : Unit) (by : Number) (most : Option ℕ) (wanted : Wanted) (columns : List Column) (base other moved_base moved_other : List SpanTable) →
+    IsPermutation base moved_base → IsPermutation other moved_other → repeats_of unit by most wanted columns base other ≡ repeats_of unit by most wanted columns moved_base moved_other

@@ -1,6 +1,7 @@
 pub mod Changed
 pub mod Changes
 pub mod Comparison
+pub mod First
 pub mod JsonChanges
 pub mod Laws
 pub mod Repeats

@@ -1,7 +1,7 @@
 -- The texts of repeated runs: for people, and for machines.
-use Rattle.std.specs.{List.list_all, Prelude.{ℕ, ◌^◌, nat_lt, Bool, true, ◌&&◌, List, [], ◌∷◌, ◌++◌, flat_map, length, map, codes, decimal}}
+use Rattle.std.specs.{List.list_all, Prelude.{ℕ, ◌^◌, nat_lt, Bool, true, ◌&&◌, List, [], ◌∷◌, ◌++◌, flat_map, length, map, Option, codes, decimal}}
 use Rattle.json.specs.Token as token
-use Rattle.span_comparisons.specs.{Bytes, Unit, first_line, line_of, unit_line, Column, TableCounts, Of, Number, TableKey, shown_line, Cell, row_line, titles_line, Wanted, SpanTable, counts_together, key_tokens, token_line, Comparison.{compared_heads, difference_text}, JsonChanges.{heads_fit, json_heads}, Spreads.{Spreads, all_keys, apart_spreads, overlap_count, same_spread_count, shown_keys, shown_spreads, values_at}}
+use Rattle.span_comparisons.specs.{Bytes, Unit, first_line, line_of, unit_line, Column, TableCounts, Of, Number, TableKey, shown_line, Cell, row_line, titles_line, Wanted, SpanTable, counts_together, key_tokens, token_line, Comparison.{compared_heads, difference_text}, First.first_lines, JsonChanges.{heads_fit, json_heads}, Spreads.{Spreads, all_keys, apart_spreads, overlap_count, same_spread_count, shown_keys, shown_spreads, values_at}}
 
 -- the counts of a side's repetitions added
 abbrev pub side_counts : List SpanTable → TableCounts
@@ -32,12 +32,12 @@ spread_line s = row_line (map wide (spread_words s)) s.key
 unfoldable pub overlap_line : ℕ → ℕ → Bytes
 overlap_line overlap same = line_of (codes "overlap" ∷ decimal overlap ∷ codes "same" ∷ decimal same ∷ [])
 
--- the heads as in a comparison, how many keys are shown, the names of the columns, a line for each key whose sides are apart, and how many are not
-abbrev pub repeats_of : Unit → Number → Wanted → List Column → List SpanTable → List SpanTable → Bytes
-repeats_of unit by wanted columns base other =
+-- the heads as in a comparison, how many keys are shown, the names of the columns, a line for each of the first keys whose sides are apart, how many more there are, and how many are not
+abbrev pub repeats_of : Unit → Number → Option ℕ → Wanted → List Column → List SpanTable → List SpanTable → Bytes
+repeats_of unit by most wanted columns base other =
     let shown = shown_spreads by wanted base other in
     first_line ++ (unit_line unit ++ (compared_heads true (side_counts base) (side_counts other) ++ (shown_line wanted (length shown) (length (all_keys (base ++ other))) ++
-    (spread_columns columns ++ (flat_map spread_line (apart_spreads shown) ++ overlap_line (overlap_count shown) (same_spread_count shown))))))
+    (spread_columns columns ++ (first_lines spread_line most (apart_spreads shown) ++ overlap_line (overlap_count shown) (same_spread_count shown))))))
 
 -- the values of a side, in the order of its repetitions
 abbrev pub values_tokens : Bytes → List ℕ → List token.Token

@@ -1,31 +1,35 @@
 //! The text of a comparison of two tables.
 ghost use Rattle.std.specs.Prelude.{◌≡◌, ◌++◌, string_bytes, flat_map, OnOk, IfOk};
 ghost use Rattle.span_comparisons.specs.Comparison.{base_lines, base_runs_line, change_line, changed_cells, changed_titles, compared_heads, comparison_of, difference_text, other_lines, same_line};
+ghost use Rattle.span_comparisons.specs.First.{first_lines};
 
 use crate::changes::{Both, Changed, differences};
-use span_event::Unit;
+use crate::comparing::{Comparing, first_of, put_more};
 use span_report::{first_line, put_unit};
 use span_table::{EntryCounts, Number, Of, Sum, Table, TableCounts};
-use span_table_text::Shown;
 use span_table_text::lines::{put_counts, put_runs, put_seals, put_shown};
 use span_table_text::rows::{Cell, put_row, put_titles};
 use std::alloc::{AllocError, Global};
 use std::cmp::Ordering;
 
-/// The text of the comparison of two tables, of the same by the same columns, in a unit: of the keys that are shown those of which a number differs, the greatest
-/// change of this number first. The heads say how many runs there are or don't.
+/// The text of the comparison of two tables, of the same by the same columns: of the keys that are shown those of which a number
+/// differs, the greatest change of this number first. The heads say how many runs there are or don't.
 pub fn comparison(
     alloc: Global,
-    unit: Unit,
     base: &Table,
     other: &Table,
-    shown: &Shown,
-    by: Number,
+    asked: &Comparing,
     says_runs: bool,
 ) -> Result<Vec<u8>, AllocError>
-    ensures { IfOk result (λ text. text.items
-        ≡ comparison_of unit by shown.now says_runs base.now other.now) }
+    ensures { IfOk result (λ text. text.items ≡ comparison_of asked.now.unit asked.now.by
+        asked.now.most asked.now.shown.now says_runs base.now other.now) }
 {
+    let Comparing {
+        unit,
+        by,
+        shown,
+        most,
+    } = *asked;
     let mut out = first_line(alloc)?;
     put_unit(&mut out, unit)?;
     put_heads(&mut out, &base.counts(), &other.counts(), says_runs)?;
@@ -34,7 +38,7 @@ pub fn comparison(
     put_shown(&mut out, shown, found.shown, found.all)?;
     let titles = titles_of(alloc, of.compared())?;
     put_titles(alloc, &mut out, &titles, other.columns())?;
-    put_changes(alloc, &mut out, of, &found.changes)?;
+    put_first_changes(alloc, &mut out, of, &found.changes, most)?;
     put_same(&mut out, found.same)?;
     Ok(out.into_bytes())
 }
@@ -84,6 +88,22 @@ fn put_other(out: &mut String, entries: &EntryCounts) -> Result<(), AllocError>
 {
     put_counts(out, entries)?;
     put_seals(out, entries.seals)
+}
+
+// Appends a line for each of the first changes, and how many more there are.
+fn put_first_changes(
+    alloc: Global,
+    out: &mut String,
+    of: Of,
+    changes: &[Changed],
+    most: Option<u32>,
+) -> Result<(), AllocError>
+    ensures { OnOk result (string_bytes out.new
+        ≡ string_bytes out.old ++ first_lines (change_line of) most changes.now) }
+{
+    let first = first_of(changes, most);
+    put_changes(alloc, out, of, first)?;
+    put_more(out, changes.len() - first.len())
 }
 
 fn put_changes(

@@ -4,36 +4,42 @@ ghost use Rattle.json.specs.Token.{number as a_number};
 ghost use Rattle.span_table.specs.Columns.{column_name};
 ghost use Rattle.span_comparisons.specs.{Appends, TooGreat, Repeats.{json_repeats_fit, json_repeats_of, json_values, json_values_at, key_fits, values_fit, values_tokens}};
 
+use crate::comparing::Comparing;
 use crate::json_changes::{FirstLine, heads_fit};
 use crate::repeated::repeated;
 use crate::sides::{Side, side_counts};
 use json::Writer;
-use span_event::{Text, Unit};
+use span_event::Text;
 use span_table::{Column, Key, Number, Of, Sum, Table};
+use span_table_text::JsonFault;
 use span_table_text::members::{column_names, ended, put_key};
-use span_table_text::{JsonFault, Shown};
 use std::alloc::{AllocError, Global};
 
-/// What runs that were repeated on each of two sides have by a number, in a unit, for machines: a table for each repetition, all of
-/// the same by the same columns. Of each key that is shown the values in the order of the repetitions.
+/// What runs that were repeated on each of two sides have by a number, for machines: a table for each repetition, all of the same by
+/// the same columns. Of each key that is shown the values in the order of the repetitions.
 pub fn json_repeats(
     alloc: Global,
-    unit: Unit,
     of: Of,
     columns: &[Column],
     base: &[Table],
     other: &[Table],
-    shown: &Shown,
-    by: Number,
+    asked: &Comparing,
 ) -> Result<Vec<u8>, JsonFault>
     requires base { length base.now ≤ 64 }
     requires other { length other.now ≤ 64 }
-    ensures text { IfOk result (λ text. text.items
-        ≡ json_repeats_of unit of by shown.now columns.now base.now other.now) }
-    ensures fits { OnOk result (json_repeats_fit by shown.now base.now other.now ≡ true) }
+    ensures text { IfOk result (λ text. text.items ≡ json_repeats_of asked.now.unit of
+        asked.now.by asked.now.shown.now columns.now base.now other.now) }
+    ensures fits { OnOk result (json_repeats_fit asked.now.by asked.now.shown.now base.now
+        other.now ≡ true) }
     ensures too_great { IfErr result (λ fault. fault ≡ TooGreat
-        → json_repeats_fit by shown.now base.now other.now ≡ false) }
+        → json_repeats_fit asked.now.by asked.now.shown.now base.now other.now ≡ false) }
 {
+    let Comparing {
+        unit,
+        by,
+        shown,
+        ..
+    } = *asked;
     let found = repeated(alloc, base, other, shown, by)?;
     let (base_counts, other_counts) = (side_counts(base), side_counts(other));
     if !heads_fit(found.same, &base_counts, &other_counts) {

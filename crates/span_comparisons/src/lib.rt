@@ -2,6 +2,7 @@
 #![tactic(auto)]
 
 mod changes;
+mod comparing;
 mod comparisons;
 mod json_changes;
 mod json_repetitions;
@@ -12,6 +13,7 @@ mod sides;
 mod spreads;
 
 pub use changes::Both;
+pub use comparing::Comparing;
 pub use comparisons::comparison;
 pub use json_changes::json_comparison;
 pub use json_repetitions::json_repeats;

@@ -1,15 +1,15 @@
 //! The text of repeated runs.
 ghost use Rattle.std.specs.Prelude.{◌≡◌, ◌≤◌, ◌++◌, ◌∷◌, [], decimal, flat_map, length, map, string_bytes, OnOk, IfOk};
 ghost use Rattle.span_comparisons.specs.Repeats.{overlap_line, repeats_of, spread_line, spread_titles, spread_words, wide};
+ghost use Rattle.span_comparisons.specs.First.{first_lines};
 
+use crate::comparing::{Comparing, first_of, put_more};
 use crate::comparisons::{difference, put_heads};
 use crate::repeated::repeated;
 use crate::sides::side_counts;
 use crate::spreads::{Spread, Spreads};
-use span_event::Unit;
 use span_report::{first_line, put_unit};
-use span_table::{Column, Number, Sum, Table};
-use span_table_text::Shown;
+use span_table::{Column, Sum, Table};
 use span_table_text::lines::put_shown;
 use span_table_text::rows::{Cell, put_row, put_titles};
 use std::alloc::{AllocError, Global};
@@ -27,22 +27,26 @@ const TITLES: [&str; 7] = [
     "greatest1",
 ];
 
-/// The text of runs that were repeated on each of two sides, in a unit: a table for each repetition, all of the same by the same
-/// columns. Of the keys that are shown those of which the sides are apart by a number, the greatest change of its median first.
+/// The text of runs that were repeated on each of two sides: a table for each repetition, all of the same by the same columns. Of the
+/// keys that are shown those of which the sides are apart by a number, the greatest change of its median first.
 pub fn repeats(
     alloc: Global,
-    unit: Unit,
     columns: &[Column],
     base: &[Table],
     other: &[Table],
-    shown: &Shown,
-    by: Number,
+    asked: &Comparing,
 ) -> Result<Vec<u8>, AllocError>
     requires base { length base.now ≤ 64 }
     requires other { length other.now ≤ 64 }
-    ensures { IfOk result (λ text. text.items
-        ≡ repeats_of unit by shown.now columns.now base.now other.now) }
+    ensures { IfOk result (λ text. text.items ≡ repeats_of asked.now.unit asked.now.by
+        asked.now.most asked.now.shown.now columns.now base.now other.now) }
 {
+    let Comparing {
+        unit,
+        by,
+        shown,
+        most,
+    } = *asked;
     let mut out = first_line(alloc)?;
     put_unit(&mut out, unit)?;
     put_heads(&mut out, &side_counts(base), &side_counts(other), true)?;
@@ -50,7 +54,7 @@ pub fn repeats(
     put_shown(&mut out, shown, found.keys.len() as u128, found.all as u128)?;
     let titles = titles_of(alloc)?;
     put_titles(alloc, &mut out, &titles, columns)?;
-    put_lines(alloc, &mut out, &found.apart)?;
+    put_first_lines(alloc, &mut out, &found.apart, most)?;
     put_overlap(&mut out, found.overlap, found.same)?;
     Ok(out.into_bytes())
 }
@@ -64,6 +68,21 @@ fn titles_of(alloc: Global) -> Result<Vec<Cell>, AllocError>
         cells.push(Cell::new(WIDTH, String::from_str(alloc, title)?))?;
     }
     Ok(cells)
+}
+
+// Appends a line for each of the first keys, and how many more there are.
+fn put_first_lines(
+    alloc: Global,
+    out: &mut String,
+    apart: &[Spreads],
+    most: Option<u32>,
+) -> Result<(), AllocError>
+    ensures { OnOk result (string_bytes out.new
+        ≡ string_bytes out.old ++ first_lines spread_line most apart.now) }
+{
+    let first = first_of(apart, most);
+    put_lines(alloc, out, first)?;
+    put_more(out, apart.len() - first.len())
 }
 
 fn put_lines(alloc: Global, out: &mut String, apart: &[Spreads]) -> Result<(), AllocError>

@@ -16,7 +16,8 @@ close, which then stays open; for a trace that may have lost begins"#;
 
 pub(crate) const TOP_HELP: &str =
     r#"Print the first N rows of a table of all spans instead of the report;
-without --group-by a row is a process, a thread and a name"#;
+without --group-by a row is a process, a thread and a name. Where an
+option asks for a table and none for a text, it is --top 20"#;
 
 pub(crate) const BY_HELP: &str =
     r#"The number that --top goes by, or whose change --base goes by: self,
@@ -25,16 +26,16 @@ total or count of spans; total, closed, open or points of async spans
 
 pub(crate) const OF_HELP: &str =
     r#"What a table sums: the spans of threads, or async spans, whose columns
-are cat, scope, id, name, and with --apart file; without --group-by
-these are summed by cat and name; with --top, --json and --base
+are cat, scope, id, name, and with --apart or --repeats file; without
+--group-by these are summed by cat and name
 [default: spans] [possible values: spans, async]"#;
 
 pub(crate) const GROUP_BY_HELP: &str =
     r#"Sum the spans of a table by these columns, 1 to 8 of them: pid, tid,
 process, thread, name, args.KEY (an argument of the span), and with
---apart file; with --add keep just these columns of the tables; with
---top, --json, --base and --page. With --folded, and in the graphs of
---page, name and args.KEY say what a frame is called"#;
+--apart or --repeats file; with --add keep just these columns of the
+tables; with --top, --json, --base and --page. With --folded, and in the
+graphs of --page, name and args.KEY say what a frame is called"#;
 
 pub(crate) const APART_HELP: &str =
     r#"Take each FILE as a run of its own, whatever processes they share, and
@@ -61,12 +62,12 @@ pub(crate) const FILES_FROM_HELP: &str =
 where it holds one; - is standard input"#;
 
 pub(crate) const ONLY_HELP: &str =
-    r#"Show only rows that have this text in a string; repeat it for rows
-that have several texts"#;
+    r#"Show only rows that have this text in a string of their columns;
+repeat it for rows that have several texts"#;
 
 pub(crate) const SKIP_HELP: &str =
-    r#"Leave out rows that have this text in a string; repeat it for several
-texts"#;
+    r#"Leave out rows that have this text in a string of their columns;
+repeat it for several texts"#;
 
 pub(crate) const JSON_HELP: &str =
     r#"Print the rows of a table for other programs, as JSON Lines; with
@@ -114,8 +115,8 @@ Examples:
   tracebook --top 20 --skip 'Total ' build.json
 shows the names that took the most self time, each with its process and thread,
 without clang's own sums.
-  tracebook --top 20 --by total --group-by args.detail --only .h build.json
-shows which headers took the most time.
+  tracebook --by total --group-by name,args.detail build.json
+shows which headers (Source), templates and functions took clang the most time.
   tracebook --apart --json --group-by name,args.detail a/*.json > a.jsonl
   tracebook --add --top 20 a.jsonl b.jsonl
 adds what two machines summed."#;

@@ -7,7 +7,7 @@ use Rattle.std.proofs.lemmas.List.Splits.{length-slice_split}
 use Rattle.std.proofs.lemmas.List.Sums.{AllPass-from_list_all, list_all-from_AllPass}
 use Rattle.std.proofs.lemmas.List.Elements.{All-cons, All-nil}
 use Rattle.std.proofs.lemmas.Slice.Eq.{bytes_eq-Decides}
-use Rattle.span_request.specs.{AreColumns, AreDistinct, Async, Bytes, Column, Name, Of, Options, Spans, column_name, goes_with, is_column, Columns.{AreGiven, AreNamed, alike, has_twice, is_comma, names_in, paged, ranked, usual_columns}, Laws.{AddedTablesMayHaveThem, TablesMayHaveThem}, Rules.{is_broken, unsuited}}
+use Rattle.span_request.specs.{AreColumns, AreDistinct, Async, Bytes, Column, Name, Of, Options, Spans, column_name, goes_with, is_column, Columns.{AreGiven, AreNamed, alike, has_twice, is_comma, names_in, paged, ranked, usual_columns}, Laws.{AddedTablesMayHaveThem, TablesMayHaveThem}, Rules.{is_broken, unsuited}, Texts.{are_given, most_rows}}
 use Rattle.std.proofs.lemmas.Bool.{or_parts}
 
 -- a name that is none of the others differs from each
@@ -34,13 +34,16 @@ record MayHave (columns : List Column) : Type 0 where
 
 usual : (of : Of) (options : Options) → options.add ≡ false → MayHave (usual_columns of options)
 usual Async options own = rw own (record { some = omega arith; few = omega arith; each = refl; once = refl })
-usual Spans options own = rw own (go (is_some options.top) options.folded options.page)
+usual Spans options own =
+    subst (λ add. MayHave (cond add [] (cond (are_given options.base.items) alike (cond (is_some (most_rows options)) ranked (cond options.folded (Name ∷ []) (cond options.page paged alike))))))
+    (sym own) (go (are_given options.base.items) (is_some (most_rows options)) options.folded options.page)
   where
-    go : (top folded page : Bool) → MayHave (cond top ranked (cond folded (Name ∷ []) (cond page paged alike)))
-    go true folded page = record { some = omega arith; few = omega arith; each = refl; once = refl }
-    go false true page = record { some = omega arith; few = omega arith; each = refl; once = refl }
-    go false false true = record { some = omega arith; few = omega arith; each = refl; once = refl }
-    go false false false = record { some = omega arith; few = omega arith; each = refl; once = refl }
+    go : (base top folded page : Bool) → MayHave (cond base alike (cond top ranked (cond folded (Name ∷ []) (cond page paged alike))))
+    go true top folded page = record { some = omega arith; few = omega arith; each = refl; once = refl }
+    go false true folded page = record { some = omega arith; few = omega arith; each = refl; once = refl }
+    go false false true page = record { some = omega arith; few = omega arith; each = refl; once = refl }
+    go false false false true = record { some = omega arith; few = omega arith; each = refl; once = refl }
+    go false false false false = record { some = omega arith; few = omega arith; each = refl; once = refl }
 
 named : (names : Bytes) (columns : List Column) → AreNamed (names_in names) columns → MayHave columns
 named names columns are =

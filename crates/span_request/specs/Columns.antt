@@ -1,6 +1,6 @@
 -- The columns that a command line names, and those of a text where it names none.
 use Rattle.std.specs.{Global.Global, List.{list_any, slice_split}, Prelude.{◌≡◌, ◌≤◌, ◌==◌, ◌||◌, if◌then◌else◌, ℕ, Bool, true, false, List, [], ◌∷◌, All, is_some, length, map, Option, Some, None, Vec}, Str.bytes_eq}
-use Rattle.span_request.specs.{Async, Bytes, Cat, Column, File, Name, Of, Options, Pid, Process, Spans, Thread, Tid, column_name, is_argument, is_column}
+use Rattle.span_request.specs.{Async, Bytes, Cat, Column, File, Name, Of, Options, Pid, Process, Spans, Thread, Tid, column_name, is_argument, is_column, Texts.{are_given, most_rows}}
 
 abbrev pub is_comma : ℕ → Bool
 is_comma byte = byte == 44
@@ -48,7 +48,7 @@ alike = Process ∷ Thread ∷ Name ∷ []
 abbrev pub usual_columns : Of → Options → List Column
 usual_columns Async options = if options.add then [] else (Cat ∷ Name ∷ [])
 usual_columns Spans options =
-    if options.add then [] else if is_some options.top then ranked else if options.folded then (Name ∷ []) else if options.page then paged else alike
+    if options.add then [] else if are_given options.base.items then alike else if is_some (most_rows options) then ranked else if options.folded then (Name ∷ []) else if options.page then paged else alike
 
 abbrev pub AreGiven : Of → Options → Option Bytes → List Column → Type 0
 AreGiven of options None columns = columns ≡ usual_columns of options

@@ -4,10 +4,11 @@ pub mod Numbers
 pub mod Request
 pub mod Rules
 pub mod Tasks
+pub mod Texts
 pub use Rattle.span_event.specs.{Text.Bytes, declared.unit.Unit.TheVariants.{Microseconds, Nanoseconds}}
 pub use Rattle.span_report.specs.declared.stacks.label.SpanColumn.{SpanColumn}
 pub use Rattle.span_collect.specs.declared.settings.Settings.{Settings}
 pub use Rattle.span_table.specs.{Columns.{column_name, goes_with, is_argument, is_column}, Numbers.{has_number, number_named}, declared.{column.Column.{Column, TheVariants.{Argument, Cat, File, Name, Pid, Process, Thread, Tid}}, number.Number.Number, of.Of.{Of, TheVariants.{Async, Spans}}}}
 pub use Rattle.span_table_text.specs.Printed.{AreColumns, AreDistinct}
-pub use Rattle.span_runs.specs.{Names.files_of, declared.names.Named.Named}
+pub use Rattle.span_runs.specs.{Names.{is_standard, names_of}, declared.names.Named.Named}
 pub use Rattle.span_options.specs.{Laws.is_plain, Parsing.ParsesTo, declared.options.Options.Options}

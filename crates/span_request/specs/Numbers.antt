@@ -31,7 +31,7 @@ table_by Json = None
 
 -- the same of a form of what changed
 abbrev pub changes_by : ComparisonForm → Option Number
-changes_by (Text by) = by
+changes_by (Text most by) = by
 changes_by changes.Json = None
 
 -- the number that a text names

@@ -1,30 +1,23 @@
 -- Which options go together, and which columns and numbers go with them: a rule a line. Each says what must not hold.
-use Rattle.std.specs.{List.{list_all, list_any}, Prelude.{◌&&◌, ◌||◌, not, nat_lt, Bool, false, List, [], ◌∷◌, is_some, length}}
-use Rattle.span_request.specs.{Bytes, Column, Of, Options, goes_with, Columns.{is_file, is_of_span}, Numbers.{by_of, goes_by}}
+use Rattle.std.specs.{List.{list_all, list_any}, Option.option_map_or, Prelude.{ℕ, ◌+◌, ◌==◌, ◌&&◌, ◌||◌, if◌then◌else◌, not, nat_lt, Bool, false, List, [], ◌∷◌, filter, is_some, length}}
+use Rattle.span_request.specs.{Column, Of, Options, goes_with, is_standard, Columns.{is_file, is_of_span}, Numbers.{by_of, goes_by}, Texts.{are_given, has_table, is_any, most_rows, prints_table, texts}}
 
 -- one of the rules holds
 abbrev pub is_broken : List Bool → Bool
-is_broken rules = list_any (λ holds. holds) rules
-
--- it is given once or more
-abbrev pub are_given : List Bytes → Bool
-are_given texts = nat_lt 0 (length texts)
-
--- a table is printed
-abbrev pub prints_table : Options → Bool
-prints_table options = is_some options.top || options.json || are_given options.base.items
-
--- a table is printed, or shown on a page
-abbrev pub has_table : Options → Bool
-has_table options = prints_table options || options.page
+is_broken rules = is_any rules
 
 -- each file is a run of its own
 abbrev pub takes_apart : Options → Bool
 takes_apart options = options.apart || options.repeats
 
--- the texts that are printed instead of the report; rows for other programs may be those of a comparison
-abbrev pub texts : Options → List Bool
-texts options = is_some options.top ∷ options.refused ∷ options.folded ∷ options.page ∷ are_given options.base.items ∷ []
+-- the list is standard input, or there is none and no FILE, so that standard input is meant
+abbrev pub means_standard : Options → Bool
+means_standard options = option_map_or is_standard options.files_from (length options.files.items == 0)
+
+-- how often standard input is named, or meant
+abbrev pub standard_uses : Options → ℕ
+standard_uses options =
+    length (filter is_standard options.files.items) + (length (filter is_standard options.base.items) + (if means_standard options then 1 else 0))
 
 -- two of them hold
 abbrev pub are_several : List Bool → Bool
@@ -35,6 +28,7 @@ are_several (given ∷ more) = (given && is_broken more) || are_several more
 abbrev pub excluded : Options → List Bool
 excluded options =
     are_several (texts options)
+    ∷ nat_lt 1 (standard_uses options)
     ∷ (options.json && is_some options.top)
     ∷ (options.json && options.refused)
     ∷ (options.json && options.folded)
@@ -52,11 +46,11 @@ excluded options =
 -- options that have no effect on the text that is asked for
 abbrev pub idle : Options → List Bool
 idle options =
-    (is_some options.by && not (is_some options.top || are_given options.base.items))
+    (is_some options.by && not (is_some (most_rows options) || are_given options.base.items))
     ∷ (is_some options.of && not (prints_table options))
     ∷ (is_some options.group_by && not (has_table options || options.folded))
-    ∷ (are_given options.only.items && not (prints_table options))
-    ∷ (are_given options.skip.items && not (prints_table options))
+    ∷ (are_given options.only.items && not (has_table options))
+    ∷ (are_given options.skip.items && not (has_table options))
     ∷ (options.add && not (prints_table options))
     ∷ (options.apart && not (has_table options))
     ∷ (options.repeats && not (are_given options.base.items))
@@ -68,7 +62,7 @@ abbrev pub unsuited : Options → Of → List Column → List Bool
 unsuited options of columns =
     (is_some options.by && not (is_some (by_of options)))
     ∷ (not options.add && not (list_all (goes_with of) columns))
-    ∷ (list_any is_file columns && not (options.apart || options.add))
+    ∷ (list_any is_file columns && not (takes_apart options || options.add))
     ∷ (options.folded && not (list_all is_of_span columns))
     ∷ (not options.add && not (goes_by of (by_of options)))
     ∷ (options.json && is_some options.by && not options.repeats)

@@ -1,6 +1,6 @@
 -- The task that the options ask for, by these columns.
 use Rattle.std.specs.{Prelude.{◌≡◌, ◌&&◌, ◌||◌, if◌then◌else◌, ℕ, true, false, List, [], ◌∷◌, Option, Some, None, filter_map, unwrap_or}, Option.option_map_or}
-use Rattle.span_request.specs.{Argument, Column, Microseconds, Name, Named, Nanoseconds, Of, Options, Settings, SpanColumn, files_of, Numbers.by_of, Rules.{are_given, prints_table, takes_apart}}
+use Rattle.span_request.specs.{Argument, Column, Microseconds, Name, Named, Nanoseconds, Of, Options, Settings, SpanColumn, names_of, Numbers.by_of, Rules.takes_apart, Texts.{are_given, most_rows, prints_table}}
 use Rattle.span_request.specs.declared.tasks.{Items.{Items, TheVariants.{Apart, Printed, Together}}, TableText.{TableText, TheVariants.{Changes, Repetitions, Table}}, Task.{Task, TheVariants.{Collect, Pages, Tabulate}}}
 use Rattle.span_request.specs.declared.views.{ComparisonForm.ComparisonForm, PageView.PageView, RepeatsForm.RepeatsForm, TableForm.{TableForm, TheVariants.{Json, Ranking}}, TableOptions.TableOptions, View.{View, TheVariants.{Folded, Page, Refusals, Report}}}
 use Rattle.span_report.specs.declared.stacks.label.SpanColumn.TheVariants as label
@@ -53,22 +53,22 @@ abbrev pub items_of : Options → Items
 items_of options = if options.add then Printed else if takes_apart options then Apart (settings_of options) else Together (settings_of options)
 
 abbrev pub table_form : Options → TableForm
-table_form options = option_map_or (λ most. Ranking most (by_of options)) options.top Json
+table_form options = option_map_or (λ most. Ranking most (by_of options)) (most_rows options) Json
 
 abbrev pub comparison_form : Options → ComparisonForm
-comparison_form options = if options.json then changes.Json else changes.Text (by_of options)
+comparison_form options = if options.json then changes.Json else changes.Text options.top (by_of options)
 
 abbrev pub repeats_form : Options → RepeatsForm
-repeats_form options = if options.json then repeats.Json else repeats.Text
+repeats_form options = if options.json then repeats.Json else repeats.Text options.top
 
 -- the text that is made of tables
 abbrev pub IsText : Options → TableText → Type 0
 IsText options (Table form) = (are_given options.base.items ≡ false) × (form ≡ table_form options)
 IsText options (Changes since) =
-    (are_given options.base.items ≡ true) × (options.repeats ≡ false) × (since.form ≡ comparison_form options) × (since.base.items ≡ files_of options.base.items)
+    (are_given options.base.items ≡ true) × (options.repeats ≡ false) × (since.form ≡ comparison_form options) × (since.base.items ≡ names_of options.base.items)
 IsText options (Repetitions of) =
     (are_given options.base.items ≡ true) × (options.repeats ≡ true) × (of.by ≡ by_of options) × (of.form ≡ repeats_form options)
-    × (of.base.items ≡ files_of options.base.items)
+    × (of.base.items ≡ names_of options.base.items)
 
 abbrev pub IsTask : Options → Of → List Column → Task → Type 0
 IsTask options of columns (Collect settings view) =

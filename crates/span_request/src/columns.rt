@@ -1,7 +1,8 @@
 //! The columns of a table, as the command line names them.
 ghost use Rattle.std.specs.{List.{list_all, list_any}, Prelude.{◌≡◌, false, IfOk, map}, Str.bytes_eq};
-ghost use Rattle.span_request.specs.{goes_with, Columns.{AreAsked, AreEach, AreNamed, Finds, has_comma, has_twice, is_file, is_of_span, names_in, usual_columns}, Tasks.{label_of, labels_of}};
+ghost use Rattle.span_request.specs.{goes_with, Columns.{alike, AreAsked, AreEach, AreNamed, Finds, has_comma, has_twice, is_file, is_of_span, names_in, usual_columns}, Tasks.{label_of, labels_of}};
 
+use crate::texts::most_rows;
 use span_options::Options;
 use span_report::stacks::SpanColumn;
 use span_table::{Column, Of};
@@ -10,20 +11,20 @@ use std::alloc::{AllocError, Global};
 const MOST: usize = 8;
 
 const RULE: &str =
-    "the columns of '--group-by' are pid, tid, process, thread, name, args.KEY, and with '--apart' or '--add' file: 1 to 8 of them, with commas between, none twice";
+    "the columns of '--group-by' are pid, tid, process, thread, name, args.KEY, and with '--apart', '--repeats' or '--add' file: 1 to 8 of them, with commas between, none twice";
 
 const ASYNC_RULE: &str =
-    "the columns of '--group-by' with '--of async' are cat, scope, id, name, and with '--apart' file: at least one of them, with commas between, none twice";
+    "the columns of '--group-by' with '--of async' are cat, scope, id, name, and with '--apart' or '--repeats' file: at least one of them, with commas between, none twice";
 
 // Said of columns that asynchronous spans alone have.
 const OTHERS_RULE: &str =
     "the columns cat, scope, id go with '--of async' alone; others are pid, tid, process, thread, name, args.KEY";
 
 const FILE_RULE: &str =
-    "the column 'file' goes with '--apart' and '--add' alone; others are pid, tid, process, thread, name, args.KEY";
+    "the column 'file' goes with '--apart', '--repeats' and '--add' alone; others are pid, tid, process, thread, name, args.KEY";
 
 const ASYNC_FILE_RULE: &str =
-    "the column 'file' goes with '--apart' and '--add' alone; others with '--of async' are cat, scope, id, name";
+    "the column 'file' goes with '--apart', '--repeats' and '--add' alone; others with '--of async' are cat, scope, id, name";
 
 /// Said of other columns of folded stacks.
 pub(crate) const LABEL_RULE: &str =
@@ -76,7 +77,10 @@ fn usual_columns(alloc: Global, of: Of, options: &Options) -> Result<Vec<Column>
     if let Of::Async = of {
         return Ok(vec![in alloc; Column::Cat, Column::Name]?);
     }
-    if options.top.is_some() {
+    if !options.base.is_empty() {
+        return alike(alloc);
+    }
+    if most_rows(options).is_some() {
         return Ok(vec![in alloc; Column::Pid, Column::Tid, Column::Thread, Column::Name]?);
     }
     if options.folded {
@@ -91,6 +95,12 @@ fn usual_columns(alloc: Global, of: Of, options: &Options) -> Result<Vec<Column>
             Column::Name,
         ]?);
     }
+    alike(alloc)
+}
+
+fn alike(alloc: Global) -> Result<Vec<Column>, AllocError>
+    ensures { IfOk result (λ columns. columns.items ≡ alike) }
+{
     Ok(vec![in alloc; Column::Process, Column::Thread, Column::Name]?)
 }
 

@@ -7,6 +7,7 @@ mod numbers;
 mod request;
 mod rules;
 mod tasks;
+mod texts;
 mod views;
 
 pub use numbers::goes_by;

@@ -4,13 +4,14 @@ ghost use Rattle.span_request.specs.{Request.{AreUnsound, Asks, AsksFor, IsOf}, 
 
 use crate::columns::{columns_asked, labels_of, rule_of};
 use crate::numbers::{OF_RULE, by_of, of_of};
-use crate::rules::{broken_rule, prints_table, takes_apart, unsuited_rule};
+use crate::rules::{broken_rule, takes_apart, unsuited_rule};
 use crate::tasks::{Changes, Items, Repetitions, Request, TableText, Tabulation, Task};
+use crate::texts::{most_rows, prints_table};
 use crate::views::{ComparisonForm, PageView, RepeatsForm, TableForm, TableOptions, View};
 use span_collect::Settings;
 use span_event::{Text, Unit};
 use span_options::{DEFAULT_LIMIT, Options, Parsed, options_of, refusal};
-use span_runs::{Named, files_of};
+use span_runs::{Named, names_of_words};
 use span_table::{Column, Of};
 use span_table_text::Shown;
 use std::alloc::{AllocError, Global};
@@ -181,7 +182,7 @@ fn text_of(alloc: Global, options: &Options) -> Result<TableText, AllocError>
     if options.base.is_empty() {
         return Ok(TableText::Table(table_form(options)));
     }
-    let base = files_of(alloc, copies(alloc, &options.base)?)?;
+    let base = names_of_words(alloc, copies(alloc, &options.base)?)?;
     if options.repeats {
         let by = by_of(options);
         let form = repeats_form(options);
@@ -194,7 +195,7 @@ fn text_of(alloc: Global, options: &Options) -> Result<TableText, AllocError>
 fn table_form(options: &Options) -> TableForm
     ensures { result ≡ table_form options.now }
 {
-    match options.top {
+    match most_rows(options) {
         Some(most) => {
             let by = by_of(options);
             TableForm::Ranking { most, by }
@@ -209,8 +210,9 @@ fn comparison_form(options: &Options) -> ComparisonForm
     if options.json {
         return ComparisonForm::Json;
     }
+    let most = options.top;
     let by = by_of(options);
-    ComparisonForm::Text { by }
+    ComparisonForm::Text { most, by }
 }
 
 fn repeats_form(options: &Options) -> RepeatsForm
@@ -219,7 +221,7 @@ fn repeats_form(options: &Options) -> RepeatsForm
     if options.json {
         RepeatsForm::Json
     } else {
-        RepeatsForm::Text
+        RepeatsForm::Text { most: options.top }
     }
 }
 

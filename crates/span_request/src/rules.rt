@@ -1,10 +1,14 @@
 //! Which options of the command line go together, and which columns and numbers go with them.
-ghost use Rattle.std.specs.{List.list_any, Prelude.{◌≡◌, ◌||◌, is_some}};
-ghost use Rattle.span_request.specs.Rules.{are_given, are_several, excluded, has_table, idle, is_broken, prints_table, takes_apart, texts, unsuited};
+ghost use Rattle.std.specs.{List.list_any, Prelude.{◌≡◌, ◌<◌, ◌^◌, ◌||◌, filter, is_some, length}};
+ghost use Rattle.span_request.specs.Rules.{are_several, excluded, idle, is_broken, means_standard, standard_uses, takes_apart, unsuited};
+ghost use Rattle.span_request.specs.{is_standard};
 
 use crate::columns::{LABEL_RULE, are_of_spans, file_rule_of, go_with, have_file, others_rule_of};
 use crate::numbers::{NUMBER_RULE, by_of, goes_by};
+use crate::texts::{has_table, is_any, most_rows, prints_table, texts};
+use span_event::Text;
 use span_options::Options;
+use span_runs::is_standard;
 use span_table::{Column, Of};
 
 // Whether the rule is broken, and what is said then.
@@ -45,6 +49,7 @@ fn excluded_rule(options: &Options) -> Option<&'static str>
     let top = options.top.is_some();
     first_broken(&[
         Rule(are_several(&texts(options)), TEXTS_RULE),
+        Rule(standard_uses(options) > 1, STANDARD_RULE),
         Rule(
             json & top,
             "the argument '--json' cannot be used with '--top <N>'",
@@ -97,19 +102,43 @@ fn excluded_rule(options: &Options) -> Option<&'static str>
 }
 
 const TEXTS_RULE: &str =
-    "only one of the arguments '--top <N>', '--refused', '--folded', '--page' and '--base <FILE>' can be used";
+    "only one of the arguments '--top <N>', '--refused', '--folded', '--page' and '--base <FILE>' can be used, but '--top <N>' beside '--base <FILE>'";
 
-// Which texts are asked for instead of the report.
-fn texts(options: &Options) -> [bool; 5]
-    ensures { result ≡ texts options.now }
+const STANDARD_RULE: &str =
+    "standard input can be read only once: as a FILE '-', as '--files-from -', or where no FILE is named";
+
+// How often standard input is named, or meant.
+fn standard_uses(options: &Options) -> u128
+    ensures { result ≡ standard_uses options.now }
 {
-    [
-        options.top.is_some(),
-        options.refused,
-        options.folded,
-        options.page,
-        !options.base.is_empty(),
-    ]
+    let named = standard_words(&options.files) + standard_words(&options.base);
+    if means_standard(options) {
+        return named + 1;
+    }
+    named
+}
+
+// Whether the list is standard input, or there is none and no FILE.
+fn means_standard(options: &Options) -> bool
+    ensures { result ≡ means_standard options.now }
+{
+    match &options.files_from {
+        Some(list) => is_standard(list),
+        None => options.files.is_empty(),
+    }
+}
+
+fn standard_words(words: &[Text]) -> u128
+    ensures count { result ≡ length (filter is_standard words.now) }
+    ensures few { result < 2 ^ 64 }
+{
+    let mut count = 0;
+    for word in words {
+        if is_standard(word) {
+            count += 1;
+        }
+    }
+    count
 }
 
 fn are_several(given: &[bool]) -> bool
@@ -121,12 +150,6 @@ fn are_several(given: &[bool]) -> bool
     }
 }
 
-fn is_any(given: &[bool]) -> bool
-    ensures { result ≡ is_broken given.now }
-{
-    given.iter().any(|given| *given)
-}
-
 fn idle_rule(options: &Options) -> Option<&'static str>
     ensures { is_some result ≡ is_broken (idle options.now) }
 {
@@ -134,7 +157,7 @@ fn idle_rule(options: &Options) -> Option<&'static str>
     let base = !options.base.is_empty();
     first_broken(&[
         Rule(
-            options.by.is_some() & !(options.top.is_some() | base),
+            options.by.is_some() & !(most_rows(options).is_some() | base),
             "the argument '--by <SUM>' goes with '--top <N>' and '--base <FILE>' alone",
         ),
         Rule(
@@ -146,12 +169,12 @@ fn idle_rule(options: &Options) -> Option<&'static str>
             "the argument '--group-by <COLUMNS>' goes with '--top <N>', '--json', '--base <FILE>', '--folded' and '--page' alone",
         ),
         Rule(
-            !options.only.is_empty() & !table,
-            "the argument '--only <TEXT>' goes with '--top <N>', '--json' and '--base <FILE>' alone",
+            !options.only.is_empty() & !has_table(options),
+            "the argument '--only <TEXT>' goes with '--top <N>', '--json', '--base <FILE>' and '--page' alone",
         ),
         Rule(
-            !options.skip.is_empty() & !table,
-            "the argument '--skip <TEXT>' goes with '--top <N>', '--json' and '--base <FILE>' alone",
+            !options.skip.is_empty() & !has_table(options),
+            "the argument '--skip <TEXT>' goes with '--top <N>', '--json', '--base <FILE>' and '--page' alone",
         ),
         Rule(
             options.add & !table,
@@ -180,7 +203,7 @@ pub(crate) fn unsuited_rule(options: &Options, of: Of, columns: &[Column]) -> Op
         Rule(options.by.is_some() & by_of(options).is_none(), NUMBER_RULE),
         Rule(!options.add & !go_with(of, columns), others_rule_of(of)),
         Rule(
-            have_file(columns) & !(options.apart | options.add),
+            have_file(columns) & !(takes_apart(options) | options.add),
             file_rule_of(of),
         ),
         Rule(options.folded & !are_of_spans(columns), LABEL_RULE),
@@ -190,20 +213,6 @@ pub(crate) fn unsuited_rule(options: &Options, of: Of, columns: &[Column]) -> Op
             "the argument '--json' cannot be used with '--by <SUM>'",
         ),
     ])
-}
-
-/// Whether a table is printed.
-pub(crate) fn prints_table(options: &Options) -> bool
-    ensures { result ≡ prints_table options.now }
-{
-    options.top.is_some() | options.json | !options.base.is_empty()
-}
-
-// Whether a table is printed, or shown on a page.
-fn has_table(options: &Options) -> bool
-    ensures { result ≡ has_table options.now }
-{
-    prints_table(options) | options.page
 }
 
 /// Whether each file is a run of its own.

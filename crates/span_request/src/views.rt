@@ -58,8 +58,11 @@ impl TableForm {
 /// How a comparison is printed.
 #[derive(Clone, Copy)]
 pub enum ComparisonForm {
-    /// For people, with the greatest change of this number first.
-    Text { by: Option<Number> },
+    /// For people, with the greatest change of this number first; at most so many, where a number is named.
+    Text {
+        most: Option<u32>,
+        by: Option<Number>,
+    },
     /// For other programs.
     Json,
 }
@@ -70,7 +73,7 @@ impl ComparisonForm {
         ensures { result ≡ changes_by self }
     {
         match self {
-            ComparisonForm::Text { by } => by,
+            ComparisonForm::Text { most: _, by } => by,
             ComparisonForm::Json => None,
         }
     }
@@ -79,8 +82,8 @@ impl ComparisonForm {
 /// How repeated runs are printed.
 #[derive(Clone, Copy)]
 pub enum RepeatsForm {
-    /// For people: the keys whose sides are apart.
-    Text,
+    /// For people: the keys whose sides are apart; at most so many, where a number is named.
+    Text { most: Option<u32> },
     /// For other programs: the values of each key.
     Json,
 }

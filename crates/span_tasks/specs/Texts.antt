@@ -21,18 +21,18 @@ TableExceeds Json shown table = json_fits shown table ≡ false
 
 -- what changed between two tables
 abbrev pub changes_text : Unit → ComparisonForm → Wanted → Bool → SpanTable → SpanTable → Bytes
-changes_text unit (changes.Text by) shown says_runs base other = comparison_of unit (asked_by other.of by) shown says_runs base other
+changes_text unit (changes.Text most by) shown says_runs base other = comparison_of unit (asked_by other.of by) most shown says_runs base other
 changes_text unit changes.Json shown says_runs base other = json_comparison_of unit shown base other
 
 abbrev pub changes_fit : ComparisonForm → Wanted → SpanTable → SpanTable → Bool
-changes_fit (changes.Text by) shown base other = true
+changes_fit (changes.Text most by) shown base other = true
 changes_fit changes.Json shown base other = json_changes_fit shown base other
 
 -- how the numbers of the tables of two sides are spread, which sum this, by these columns
 abbrev pub repeats_text : Unit → Of → List Column → Option Number → RepeatsForm → Wanted → List SpanTable → List SpanTable → Bytes
-repeats_text unit of columns by repeats.Text shown base other = repeats_of unit (asked_by of by) shown columns base other
+repeats_text unit of columns by (repeats.Text most) shown base other = repeats_of unit (asked_by of by) most shown columns base other
 repeats_text unit of columns by repeats.Json shown base other = json_repeats_of unit of (asked_by of by) shown columns base other
 
 abbrev pub repeats_fit : Of → Option Number → RepeatsForm → Wanted → List SpanTable → List SpanTable → Bool
-repeats_fit of by repeats.Text shown base other = true
+repeats_fit of by (repeats.Text most) shown base other = true
 repeats_fit of by repeats.Json shown base other = json_repeats_fit (asked_by of by) shown base other

@@ -4,7 +4,7 @@ ghost use Rattle.span_table_text.specs.declared.json_lines.JsonFault.TheVariants
 ghost use Rattle.span_tasks.specs.{OfStop, TooGreatFault, number_of, run_line, Texts.{IsTableText, TableExceeds, asked_by, changes_fit, changes_text, repeats_fit, repeats_text}};
 
 use crate::side::Side;
-use span_comparisons::{comparison, json_comparison, json_repeats, repeats};
+use span_comparisons::{Comparing, comparison, json_comparison, json_repeats, repeats};
 use span_event::{Fault, Unit};
 use span_request::{ComparisonForm, RepeatsForm, Repetitions, TableForm};
 use span_runs::Halt;
@@ -61,10 +61,9 @@ impl<'a> TableTexts<'a> {
             × (lines ≡ run_line (number_of TooGreatFault)))) }
     {
         match form {
-            ComparisonForm::Text { by } => {
-                let by = asked_by(other.kind(), by);
-                let (alloc, unit, says_runs) = (self.alloc, self.unit, self.says_runs);
-                match comparison(alloc, unit, base, other, self.shown, by, says_runs) {
+            ComparisonForm::Text { most, by } => {
+                let asked = self.comparing(asked_by(other.kind(), by), most);
+                match comparison(self.alloc, base, other, &asked, self.says_runs) {
                     Ok(text) => Ok(text),
                     Err(_) => Err(Halt::Memory),
                 }
@@ -97,31 +96,39 @@ impl<'a> TableTexts<'a> {
             base.now.tables.items other.now.tables.items ≡ false)
             × (lines ≡ run_line (number_of TooGreatFault)))) }
     {
-        let (alloc, unit, shown) = (self.alloc, self.unit, self.shown);
+        let alloc = self.alloc;
         let by = asked_by(base.of, asked.by);
         let columns = &base.columns;
         match asked.form {
-            RepeatsForm::Text => {
-                match repeats(alloc, unit, columns, &base.tables, &other.tables, shown, by) {
+            RepeatsForm::Text { most } => {
+                let asked = self.comparing(by, most);
+                match repeats(alloc, columns, &base.tables, &other.tables, &asked) {
                     Ok(text) => Ok(text),
                     Err(_) => Err(Halt::Memory),
                 }
             }
             RepeatsForm::Json => {
-                match json_repeats(
-                    alloc,
-                    unit,
-                    base.of,
-                    columns,
-                    &base.tables,
-                    &other.tables,
-                    shown,
-                    by,
-                ) {
+                let asked = self.comparing(by, None);
+                let (of, tables, others) = (base.of, &base.tables, &other.tables);
+                match json_repeats(alloc, of, columns, tables, others, &asked) {
                     Ok(text) => Ok(text),
                     Err(fault) => Err(halt_of_text(alloc, fault)),
                 }
             }
+        }
+    }
+
+    fn comparing(&self, by: Number, most: Option<u32>) -> Comparing<'a>
+        ensures unit { result.unit ≡ self.now.unit }
+        ensures by { result.by ≡ by }
+        ensures shown { result.shown ≡ self.now.shown }
+        ensures most { result.most ≡ most }
+    {
+        Comparing {
+            unit: self.unit,
+            by,
+            shown: self.shown,
+            most,
         }
     }
 }

@@ -1,7 +1,7 @@
 //! Repeated runs of which a side has none, by the column `file`. The program asks for neither.
 
 use super::told::told;
-use span_comparisons::{json_repeats, repeats};
+use span_comparisons::{Comparing, json_repeats, repeats};
 use span_event::{Text, Unit};
 use span_names::HashKeys;
 use span_table::{Column, Number, Of, Table};
@@ -43,9 +43,15 @@ fn a_side_may_have_no_repetitions(rt: HostRuntime) -> Result<(), Fail> {
         only: Vec::new(alloc),
         skip: Vec::new(alloc),
     };
-    let text = repeats(alloc, unit, &columns, &[], &one, &all, by)?;
+    let asked = Comparing {
+        unit,
+        by,
+        shown: &all,
+        most: None,
+    };
+    let text = repeats(alloc, &columns, &[], &one, &asked)?;
     assert!(rt; text.as_slice() == TEXT.as_bytes());
-    let Ok(lines) = json_repeats(alloc, unit, Of::Spans, &columns, &one, &[], &all, by) else {
+    let Ok(lines) = json_repeats(alloc, Of::Spans, &columns, &one, &[], &asked) else {
         return Err(Fail::from("no text"));
     };
     assert!(rt; lines.as_slice() == LINES.as_bytes());

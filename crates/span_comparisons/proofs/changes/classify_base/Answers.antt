@@ -1,7 +1,7 @@
 use Rattle.std.proofs.{Common.{◌≡◌, ◌+◌, ◌∷◌, [], ◌++◌, map, take, sym, ap, subst, ◌∙◌, arith}, lemmas.List.map_more}
 use Rattle.span_table.proofs.Searched.{sums_at-own}
 use Rattle.span_comparisons.specs.{Row, Changed.Classifies, Changes.{Change, compared_at}}
-use Rattle.span_comparisons.proofs.Comparing.{Classifies-few}
+use Rattle.span_comparisons.proofs.Compared.{Classifies-few}
 use Rattle.span_comparisons.proofs.changes.classify_base.Goals as goal
 
 pub classify-requires-clause-same : goal.classify-requires-clause-same

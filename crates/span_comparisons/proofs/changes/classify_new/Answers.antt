@@ -1,7 +1,7 @@
 use Rattle.std.specs.Prelude.{filter}
 use Rattle.std.proofs.{Common.{◌≡◌, ◌+◌, Bool, true, false, cond, List, ◌∷◌, [], ◌++◌, map, take, refl, sym, ap, subst, ◌∙◌, append_assoc, arith}, lemmas.List.{map-append, take_all, take_more, Elements.filter-append}}
 use Rattle.span_comparisons.specs.{Row, Changed.{Classifies, base_keys, from_other, is_new, new_key}, Changes.{Change, compared_at}}
-use Rattle.span_comparisons.proofs.Comparing.{Classifies-few, from_other-is}
+use Rattle.span_comparisons.proofs.Compared.{Classifies-few, from_other-is}
 use Rattle.span_comparisons.proofs.changes.classify_new.Goals as goal
 
 pub classify_if_new-requires-clause-same : goal.classify_if_new-requires-clause-same

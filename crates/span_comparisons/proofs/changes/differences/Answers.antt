@@ -2,7 +2,7 @@ use Rattle.std.specs.{List.Sorted.IsPermutation, Prelude.filter}
 use Rattle.std.proofs.{Common.{rules, ◌++◌, sym, subst, ◌∙◌, arith}, lemmas.List.Sorted.{IsPermutation-trans, length_permutation}}
 use Rattle.span_keyed_tracks.proofs.Sorting.{IsSorted-from_sort_by, sorted-ascending}
 use Rattle.span_comparisons.specs.{Changed.{base_keys, new_keys}, Changes.{compared, is_changed, shown_changes}}
-use Rattle.span_comparisons.proofs.{Comparing.{Classifies-few, change_order-total, length-changes}, Permuted.{changes-distinct, length-classified, same_count-classified, shown-permuted}}
+use Rattle.span_comparisons.proofs.{Compared.{Classifies-few, change_order-total, length-changes}, Permuted.{changes-distinct, length-classified, same_count-classified, shown-permuted}}
 use Rattle.span_comparisons.proofs.changes.differences.Goals as goal
 
 pub overflow_add-shown : goal.overflow_add-shown
