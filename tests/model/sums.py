@@ -21,8 +21,8 @@ class Of:
     ranked: tuple
     compared: tuple
     order: tuple
-    # How many spans a key has at least.
-    least: int
+    # A key has some of these.
+    counted: tuple
 
     def nothing(self):
         return (0,) * len(self.numbers)
@@ -48,7 +48,7 @@ SPANS = Of(
     ranked=("self", "total", "count"),
     compared=("self", "total", "count"),
     order=("self", "total"),
-    least=1,
+    counted=("count",),
 )
 ASYNC = Of(
     columns=("cat", "scope", "id", "name", "file"),
@@ -57,7 +57,7 @@ ASYNC = Of(
     ranked=("total", "closed", "open", "points"),
     compared=("total", "closed", "open"),
     order=("total", "open", "closed"),
-    least=0,
+    counted=("closed", "open", "points"),
 )
 
 # Values, each in a tuple with its place in the order of kinds, so that they compare as keys do.

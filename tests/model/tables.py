@@ -300,15 +300,17 @@ def printed_value(column, members):
     return value
 
 
-def printed_number(members, name, least=0):
-    if type(members[name]) is not int or not least <= members[name] < BEYOND:
+def printed_number(members, name):
+    if type(members[name]) is not int or not 0 <= members[name] < BEYOND:
         raise ValueError(name)
     return members[name]
 
 
 def printed_numbers(of, members):
-    """The numbers of the object of a row; the first of them counts spans."""
-    return tuple(printed_number(members, name, 0 if place else of.least) for place, name in enumerate(of.numbers))
+    """The numbers of the object of a row."""
+    if not any(members[name] for name in of.counted):
+        raise ValueError(of.counted)
+    return tuple(printed_number(members, name) for name in of.numbers)
 
 
 def table_of_text(data):

@@ -81,13 +81,13 @@ fn has_own(of: Of, sums: &Sums) -> bool
     }
 }
 
-// Whether a key of spans has one.
+// Whether a key of spans has one, and an asynchronous key a span or a point.
 fn has_some(of: Of, sums: &Sums) -> bool
     ensures { IsTrue result ↔ HasSome of sums.now }
 {
     match of {
         Of::Spans => !is_none(&sums.count),
-        Of::Async => true,
+        Of::Async => { !(is_none(&sums.count) && is_none(&sums.unclosed) && is_none(&sums.points)) }
     }
 }
 

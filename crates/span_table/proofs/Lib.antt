@@ -11,6 +11,7 @@ pub mod OwnRows
 pub mod Rows
 pub mod SameTables
 pub mod Searched
+pub mod SomeAsync
 pub mod SumText
 pub mod Summing
 pub mod Tallies

@@ -3,8 +3,8 @@ use Rattle.std.specs.{Cmp.{IsTotalOrder, eq_by_cmp_equiv}, List.{list_all, list_
 use Rattle.std.proofs.{Common.{◌≡◌, ℕ, ◌+◌, ◌<◌, ◌==◌, Bool, true, false, cond, not, ◌&&◌, ◌||◌, List, [], ◌∷◌, All, Contains, filter, flat_map, get_or, is_some, length, map, sum_by, Option, Some, None, option_map, refl, sym, ap, ap₂, subst, ◌∙◌, arith}, lemmas.{Bool.{and_parts, eqb-true}, List.{length-map, Elements.{All-append, All-contains, All-contains_itself, All-filter, All-head, All-map, All-nil, All-tail, All-weaker}}, Map.Views.list_any-from_Contains}}
 use Rattle.span_event.specs.declared.thread.Thread.{Thread}
 use Rattle.span_keyed_tracks.proofs.{Keyed.has_key, SameKeys.{All-ascending, step_keys}, Uses.is_eq-turned}
-use Rattle.span_table.proofs.{Rows.RowsRise-rows_of, Tallies.{tally, tally-cons}}
-use Rattle.span_table_text.specs.{Words, Arguments, Bytes, Unit, AsyncRow, AsyncKey, Keyed, entry_of, keys_in, steps_at, accepted, async_rows, names_of, thread_keys, Timed, timed_spans, Column, Pid, Tid, Process, Thread as OfThread, Name, File, Cat, Scope, Id, Argument, Of, Spans, Async, Sums, Row, Run, async_value_at, goes_with, value_at, key_cmp_total, TableKey, key_cmp, KeyedSums, RowsRise, SpanTable, keyed_async, keyed_span, row_of, rows_of, run_sums, sums_together, table_of, thread_sums, Json.shown_table, Printed.{AllFit, AllIsPrinted, AreColumns, HasFile, HasOwn, HasSome, HaveFiles, IsKeyOf, IsName, IsOfArgument, IsPart, IsPrint, IsTable, IsWords, KeyFits, MayHave, PrintsAreParts}, Shown.{Wanted, is_wanted, key_has, wants_all}}
+use Rattle.span_table.proofs.{Rows.RowsRise-rows_of, SomeAsync.async_rows-some, Tallies.{sum_by-both, tally, tally-cons}}
+use Rattle.span_table_text.specs.{Words, Arguments, Bytes, Unit, AsyncRow, AsyncKey, Keyed, entry_of, keys_in, steps_at, accepted, async_rows, names_of, thread_keys, Timed, timed_spans, Column, Pid, Tid, Process, Thread as OfThread, Name, File, Cat, Scope, Id, Argument, Of, Spans, Async, Sums, Row, Run, async_value_at, goes_with, value_at, key_cmp_total, TableKey, key_cmp, KeyedSums, RowsRise, SpanTable, keyed_async, keyed_span, row_of, rows_of, run_sums, sums_together, table_of, thread_sums, Json.shown_table, Printed.{AllFit, AllIsPrinted, AreColumns, HasFile, HasOwn, HasSome, HaveFiles, IsKeyOf, IsOfLegal, IsName, IsOfArgument, IsPart, IsPrint, IsTable, IsWords, KeyFits, MayHave, PrintsAreParts}, Shown.{Wanted, is_wanted, key_has, wants_all}}
 use Rattle.span_table_text.proofs.{Determined.{HasOwnNumbers, HasWholeKeys, prints-determined}, PrintedLines.numbers_fit-each, Ranked.filter-sorted}
 
 -- what holds of all that each gives holds of all that they give
@@ -69,7 +69,7 @@ All-none f adds es each = All-rows (λ row. f row.sums ≡ 0) es (λ k has. adds
 -- what everything has that a table sums of a run, under its key
 abbrev OfRun : Of → List Column → (Keyed TableKey Sums → Type 0) → Run → Type 0
 OfRun Spans columns P run = (thread : Thread) (t : Timed) → P (keyed_span columns run thread t)
-OfRun Async columns P run = (row : AsyncRow) → P (keyed_async columns run row)
+OfRun Async columns P run = All (λ row. P (keyed_async columns run row)) (async_rows run.journal)
 
 module _ (columns : List Column) (P : Keyed TableKey Sums → Type 0) where
   All-thread : (run : Run) (thread : Thread) → ((t : Timed) → P (keyed_span columns run thread t)) → All P (thread_sums columns run thread)
@@ -81,7 +81,7 @@ module _ (columns : List Column) (P : Keyed TableKey Sums → Type 0) where
   All-run Spans run each =
       let threads = thread_keys (accepted run.journal) in
       All-flat_map P (thread_sums columns run) threads (All-every (λ thread. All P (thread_sums columns run thread)) (λ thread. All-thread run thread (each thread)) threads)
-  All-run Async run each = All-map P (keyed_async columns run) (async_rows run.journal) (All-every (λ row. P (keyed_async columns run row)) each (async_rows run.journal))
+  All-run Async run each = All-map P (keyed_async columns run) (async_rows run.journal) each
 
   -- what that of each run has, that of all runs has
   All-runs : (of : Of) (runs : List Run) → All (OfRun of columns P) runs → All P (flat_map (run_sums of columns) runs)
@@ -132,7 +132,12 @@ All-own Async es own =
 -- where all sums count a span, so do all rows
 All-some : (of : Of) (es : KeyedSums) → All (λ (e : Keyed TableKey Sums). HasSome of e.step) es → All (λ (row : Row). HasSome of row.sums) (rows_of es)
 All-some Spans es some = All-counts es some
-All-some Async es some = All-every (λ row. HasSome Async row.sums) (λ row. tt) (rows_of es)
+All-some Async es some =
+    All-rows (λ row. HasSome Async row.sums) es
+    (λ k has.
+    let steps = steps_at key_cmp k es in
+    let own = tally-some key_cmp_total (λ (s : Sums). s.count + (s.unclosed + s.points)) k es some (list_any-from_Contains (eq_by_cmp_equiv key_cmp_total) k (step_keys es) has) in
+    omega (arith, own, sum_by-both (λ (s : Sums). s.count) (λ (s : Sums). s.unclosed + s.points) steps, sum_by-both (λ (s : Sums). s.unclosed) (λ (s : Sums). s.points) steps))
 
 -- the rows of sums that suit its columns are those that a table may have
 pub HasRows-rows_of : (table : SpanTable) (es : KeyedSums) → table.rows ≡ rows_of es → All (Suits table.of table.columns) es → HasRows table
@@ -218,16 +223,21 @@ module _ (columns : List Column) where
   -- each key of what is summed has a value for each column
   run-whole : (of : Of) (run : Run) → OfRun of columns (λ e. length e.key ≡ length columns) run
   run-whole Spans run = λ thread t. length-map columns (value_at run thread t.span.name t.span.args)
-  run-whole Async run = λ row. length-map columns (async_value_at run row.key)
+  run-whole Async run = λ k d low. length-map columns (async_value_at run (get_or (async_rows run.journal) k d).key)
 
   -- it has no numbers that are not its own
   run-own : (of : Of) (run : Run) → OfRun of columns (λ e. HasOwn of e.step) run
   run-own Spans run = λ thread t. refl
-  run-own Async run = λ row. refl
+  run-own Async run = λ k d low. refl
 
-  run-Suits : (of : Of) → All (λ column. goes_with of column ≡ true) columns → (run : Run) → All (HasFile run) columns → OfRun of columns (Suits of columns) run
-  run-Suits Spans suited run files = λ thread t. record { key = key-MayBeKey run thread t.span.name t.span.args columns suited files; own = refl; some = omega arith }
-  run-Suits Async suited run files = λ row. record { key = async_key-MayBeKey run row.key columns suited files; own = refl; some = tt }
+  run-Suits : (of : Of) → All (λ column. goes_with of column ≡ true) columns → (run : Run) → All (HasFile run) columns → IsOfLegal run → OfRun of columns (Suits of columns) run
+  run-Suits Spans suited run files legal = λ thread t. record { key = key-MayBeKey run thread t.span.name t.span.args columns suited files; own = refl; some = omega arith }
+  run-Suits Async suited run files legal =
+      λ k d low. record {
+        key = async_key-MayBeKey run (get_or (async_rows run.journal) k d).key columns suited files;
+        own = refl;
+        some = async_rows-some legal.0 run.journal legal.1 k d low;
+      }
 
   module _ (runs : List Run) where
     pub table_of-HasWholeKeys : (of : Of) → HasWholeKeys (table_of of columns runs)
@@ -240,8 +250,8 @@ module _ (columns : List Column) where
     table_of-HasOwnNumbers of = All-own of (flat_map (run_sums of columns) runs) (All-runs-every columns (λ e. HasOwn of e.step) of (run-own of) runs)
 
     -- what a table sums of runs that have their files suits its columns
-    runs-Suits : (of : Of) → All (λ column. goes_with of column ≡ true) columns → HaveFiles columns runs → All (Suits of columns) (flat_map (run_sums of columns) runs)
-    runs-Suits of suited files = All-runs columns (Suits of columns) of runs (All-weaker (λ (run : Run). All (HasFile run) columns) (OfRun of columns (Suits of columns)) (run-Suits of suited) runs files)
+    runs-Suits : (of : Of) → All (λ column. goes_with of column ≡ true) columns → HaveFiles columns runs → All IsOfLegal runs → All (Suits of columns) (flat_map (run_sums of columns) runs)
+    runs-Suits of suited files legal = All-runs columns (Suits of columns) of runs (λ k d low. run-Suits of suited (get_or runs k d) (files k d low) (legal k d low))
 
 module _ (of : Of) (columns : List Column) (runs : List Run) where
   -- a table that was read of what is printed of runs is the table of these
@@ -250,14 +260,14 @@ module _ (of : Of) (columns : List Column) (runs : List Run) where
   IsPart-table_of unit second text part is print =
       prints-determined unit second text part (table_of of columns runs) is print (table_of-HasWholeKeys columns runs of) (table_of-HasOwnNumbers columns runs of)
 
-  table_of-HasRows : AreColumns of columns → HaveFiles columns runs → HasRows (table_of of columns runs)
-  table_of-HasRows are files = HasRows-rows_of (table_of of columns runs) (flat_map (run_sums of columns) runs) refl (runs-Suits columns runs of are.suited files)
+  table_of-HasRows : AreColumns of columns → HaveFiles columns runs → All IsOfLegal runs → HasRows (table_of of columns runs)
+  table_of-HasRows are files legal = HasRows-rows_of (table_of of columns runs) (flat_map (run_sums of columns) runs) refl (runs-Suits columns runs of are.suited files legal)
 
 -- so what is printed of the rows that are shown of such runs is a part
 pub prints-parts : PrintsAreParts
-prints-parts unit of columns runs wanted text are files print =
+prints-parts unit of columns runs wanted text are files legal print =
     let table = table_of of columns runs in
-    IsPart-print unit text (shown_table wanted table) are (HasRows-shown wanted table (table_of-HasRows of columns runs are files)) print
+    IsPart-print unit text (shown_table wanted table) are (HasRows-shown wanted table (table_of-HasRows of columns runs are files legal)) print
 
 filter-every : {A : Type 0} (p : A → Bool) → ((x : A) → p x ≡ true) → (xs : List A) → filter p xs ≡ xs
 filter-every p each [] = refl

@@ -1,6 +1,6 @@
 -- Tables that are printed as JSON Lines, and those whose text can be read back.
-use Rattle.std.specs.{Int.w64, Prelude.{◌≡◌, ◌≢◌, ◌<◌, ◌≤◌, ◌^◌, true, List, [], ◌∷◌, All, is_some, length, map, Some, None, FitsSigned, ⊤}, Str.IsUtf8}
-use Rattle.span_table_text.specs.{Whole, Words, Bytes, Unit, Column, Pid, Tid, Process, Thread, Name, File, Cat, Scope, Id, Argument, Of, Spans, Async, Sums, Row, Run, Value, column_name, goes_with, is_column, counts_fit, fit, numbers_of, only, TableKey, RowsRise, SpanTable, table_of, Json.{numbers_fit, shown_table, text_of}, Shown.{Wanted, wants_all}}
+use Rattle.std.specs.{Int.w64, Prelude.{◌≡◌, ◌≢◌, ◌<◌, ◌≤◌, ◌^◌, ◌+◌, Bool, true, List, [], ◌∷◌, All, is_some, length, map, Some, None, FitsSigned, ⊤}, Str.IsUtf8}
+use Rattle.span_table_text.specs.{Whole, Words, Bytes, IsLegal, Unit, Column, Pid, Tid, Process, Thread, Name, File, Cat, Scope, Id, Argument, Of, Spans, Async, Sums, Row, Run, Value, column_name, goes_with, is_column, counts_fit, fit, numbers_of, only, TableKey, RowsRise, SpanTable, add_tables, table_of, Json.{numbers_fit, shown_table, text_of}, Shown.{Wanted, wants_all}}
 
 -- a number, which has 64 bits
 abbrev pub IsWhole : Value → Type 0
@@ -61,6 +61,10 @@ HasFile run column = ⊤
 abbrev pub HaveFiles : List Column → List Run → Type 0
 HaveFiles columns runs = All (λ run. All (HasFile run) columns) runs
 
+-- the run is that of a legal journal
+abbrev pub IsOfLegal : Run → Type 0
+IsOfLegal run = (strict : Bool) × IsLegal strict run.journal
+
 -- a value for each column
 abbrev pub IsKeyOf : List Column → TableKey → Type 0
 IsKeyOf [] [] = ⊤
@@ -71,10 +75,10 @@ IsKeyOf columns key = ⊥
 abbrev pub HasOwn : Of → Sums → Type 0
 HasOwn of sums = sums ≡ only (numbers_of of) sums
 
--- a key of spans has one; an asynchronous key may have no closed span
+-- a key of spans has one; an asynchronous key has a span, closed or open, or a point
 abbrev pub HasSome : Of → Sums → Type 0
 HasSome Spans sums = 0 < sums.count
-HasSome Async sums = ⊤
+HasSome Async sums = 0 < sums.count + (sums.unclosed + sums.points)
 
 -- a row that a table by these columns may have
 pub record IsRowOf (of : Of) (columns : List Column) (row : Row) : Type 0 where
@@ -118,7 +122,11 @@ PartsAreDetermined = (unit second : Unit) (text : Bytes) (one other : SpanTable)
 abbrev pub AllIsPrinted : Type 0
 AllIsPrinted = (unit : Unit) (wanted : Wanted) (table : SpanTable) (text : Bytes) → wants_all wanted ≡ true → IsPrint unit text (shown_table wanted table) → IsPrint unit text table
 
--- what is printed of the rows that are shown of runs is a part, if the runs have their files
+-- what is printed of the rows that are shown of runs is a part, if the runs have their files, and legal journals
 abbrev pub PrintsAreParts : Type 0
-PrintsAreParts = (unit : Unit) (of : Of) (columns : List Column) (runs : List Run) (wanted : Wanted) (text : Bytes) → AreColumns of columns → HaveFiles columns runs →
+PrintsAreParts = (unit : Unit) (of : Of) (columns : List Column) (runs : List Run) (wanted : Wanted) (text : Bytes) → AreColumns of columns → HaveFiles columns runs → All IsOfLegal runs →
     IsPrint unit text (shown_table wanted (table_of of columns runs)) → IsPart unit text (shown_table wanted (table_of of columns runs))
+
+-- of tables that are added, the rows that are shown are those of each that are, added
+abbrev pub ShownRowsAdd : Type 0
+ShownRowsAdd = (wanted : Wanted) (of : Of) (columns : List Column) (tables : List SpanTable) → shown_table wanted (add_tables of columns tables) ≡ add_tables of columns (map (shown_table wanted) tables)
