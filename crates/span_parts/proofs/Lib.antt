@@ -5,7 +5,7 @@ pub mod Lists
 pub mod Picked
 pub mod Places
 pub mod PrintedSums
+pub mod RunSums
 pub mod Summing
 pub mod Taken
-pub mod Trees
 pub mod Whole

@@ -35,7 +35,7 @@ rows-regrouped g es = keys (keys_in key_cmp es)
     keys (k ∷ ks) = ap (λ l. record { key = g k; step = sums_together (steps_at key_cmp k es) } ∷ l) (keys ks)
 
 -- the rows of sums add up as these do
-rows-back : (es : KeyedSums) → AddUpAlike (keyed_rows (rows_of es)) es
+pub rows-back : (es : KeyedSums) → AddUpAlike (keyed_rows (rows_of es)) es
 rows-back es =
     subst (λ l. AddUpAlike l es) (sym (rows-regrouped (λ k. k) es))
     (subst (AddUpAlike (regrouped (λ k. k) es)) (map-id es) (AddUpAlike-grouped key_cmp_total key_cmp-same (λ k. k) es))

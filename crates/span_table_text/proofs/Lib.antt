@@ -4,5 +4,6 @@ pub mod PrintedLines
 pub mod Ranked
 pub mod Selected
 pub mod RunTables
+pub mod ShownSums
 pub mod Substrings
 pub mod Written

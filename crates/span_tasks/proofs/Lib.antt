@@ -1,6 +1,6 @@
 pub mod Adding
 pub mod BothSides
-pub mod FleetTrees
+pub mod Fleets
 pub mod InTurn
 pub mod Outcomes
 pub mod ReadBack

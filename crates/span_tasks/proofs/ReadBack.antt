@@ -2,7 +2,7 @@
 use Rattle.std.specs.{List.list_any, Prelude.{All, Contains, IfSome, slice_get}}
 use Rattle.std.proofs.{Common.{◌≡◌, ◌⊎◌, ℕ, zero, suc, ◌+◌, ◌&&◌, ◌||◌, Bool, true, false, cond, not, List, [], ◌∷◌, ◌++◌, get_or, length, map, take, Some, None, inl, inr, refl, ap, ap₂, sym, subst, ◌∙◌, arith, true≢false}, lemmas.{Bool.or_parts, List.{take_all, Elements.{All-contains, All-cons, All-head, All-map, All-nil, All-tail, Contains-append_right}}}}
 use Rattle.span_event.specs.Text.{Bytes}
-use Rattle.span_table_text.specs.Printed.{HasFile}
+use Rattle.span_table_text.specs.Printed.{HasFile, IsOfLegal}
 use Rattle.span_table_text.proofs.{Determined.parts-determined, RunTables.prints-parts}
 use Rattle.span_parts.specs.Sum.{SumsAreParts}
 use Rattle.span_parts.proofs.Places.{AreAt-each, picked-at}
@@ -11,7 +11,7 @@ use Rattle.span_request.specs.declared.tasks.Items.{Items, TheVariants.{Apart, P
 use Rattle.span_table.specs.Columns.{goes_with}
 use Rattle.span_table.specs.declared.column.Column.TheVariants as of
 use Rattle.span_tasks.specs.{AreColumns, Column, HasOtherColumns, Input, IsPart, IsPrint, Json, Name, Of, PartSum, Run, Settings, SourceBytes, SpanTable, TableOptions, TimeUnit, chosen, goes_by, printed, run_alone, run_of_files, shown_table, table_of, unread_line, AreAt, Added.{AreAsked, AreOfFirst, AreTooMany, IsOfKind, IsRead, IsText, LacksAsked, StopsAdding, StopsNext, most_added, with_sum}, ReadBack.{HasPart, JsonLinesAreParts, PartsAreAdded}, Tabulations.{PrintsTable, PrintsText}}
-use Rattle.span_tasks.proofs.FleetTrees.{only-same}
+use Rattle.span_tasks.proofs.{Fleets.only-same, InTurn.journal_in_turn-legal}
 
 -- each column stands somewhere among them
 each-at : (columns : List Column) → (places : List ℕ) × AreAt places columns columns
@@ -133,6 +133,7 @@ module _ (source : SourceBytes) (options : TableOptions) (names : List Name) (te
         prints.one.side.unit,
         shown_table options.shown (table_of options.of options.columns.items (run ∷ [])),
         prints-parts prints.one.side.unit options.of options.columns.items (run ∷ []) options.shown text are files
+            (All-cons IsOfLegal run [] (settings.strict, side.1.ended.is.account.legal) (All-nil IsOfLegal))
             (subst (λ t. IsPrint prints.one.side.unit text (shown_table options.shown t)) table prints.is),
       )
 
@@ -148,6 +149,7 @@ module _ (source : SourceBytes) (options : TableOptions) (names : List Name) (te
         prints.one.side.unit,
         shown_table options.shown (table_of options.of options.columns.items runs),
         prints-parts prints.one.side.unit options.of options.columns.items runs options.shown text are have
+            (All-map IsOfLegal (run_alone settings) files (λ k d low. (settings.strict, journal_in_turn-legal settings (get_or files k d ∷ []))))
             (subst (λ t. IsPrint prints.one.side.unit text (shown_table options.shown t)) table prints.is),
       )
 
@@ -194,9 +196,9 @@ module _ (source : SourceBytes) (options : TableOptions) (names : List Name) (te
 file-none : (options : Options) (of : Of) (columns : List Column) → is_broken (unsuited options of columns) ≡ false → options.add ≡ false → takes_apart options ≡ false → list_any is_file columns ≡ false
 file-none options of columns suited own together = by (list_any is_file columns) (or_parts _ _ (or_parts _ _ (or_parts _ _ suited).1).1).0
   where
-    by : (has : Bool) → (has && not (options.apart || options.add)) ≡ false → has ≡ false
+    by : (has : Bool) → (has && not (takes_apart options || options.add)) ≡ false → has ≡ false
     by false e = refl
-    by true e = absurd (true≢false (sym (ap₂ (λ apart add. not (apart || add)) (or_parts options.apart options.repeats together).0 own) ∙ e))
+    by true e = absurd (true≢false (sym (ap₂ (λ apart add. not (apart || add)) together own) ∙ e))
 
 pub json-parts : TablesMayHaveThem → AddedTablesMayHaveThem → SumsAreParts → JsonLinesAreParts
 json-parts made added sums source words task files outcome asks rows is below = elim is.1 [

@@ -1,26 +1,102 @@
--- Files that are summed on many machines, and tables that are added in whatever groups: what is printed of them is what is printed of
--- trees of their runs.
-use Rattle.std.specs.{List.AllZip, Prelude.{◌≡◌, true, List, map, All}}
-use Rattle.span_request.specs.declared.tasks.Items.TheVariants.{Apart as EachApart, Printed}
-use Rattle.span_tasks.specs.{Bytes, Input, Settings, chosen, ArePrinted, IsPrinted, Trees, of_parts, of_runs, IsAccounted, run_alone, AreInputs, Name, SourceBytes, wants_all, Json, Run, TableOptions, Added.IsText, Tabulations.PrintsTable}
+-- Files that are summed on many machines, and tables that are added in whatever groups.
+use Rattle.std.specs.{List.{AllZip, Sorted.IsPermutation}, Prelude.{◌≡◌, ◌⊎◌, Bool, true, false, List, [], ◌∷◌, ◌++◌, map, All, Contains, Some}}
+use Rattle.span_request.specs.declared.tasks.Items.TheVariants.{Apart as EachApart, Printed, Together}
+use Rattle.span_tasks.specs.{Bytes, Input, Settings, IsAccounted, run_alone, run_of_files, AreInputs, Name, SourceBytes, TimeUnit, Column, Of, Run, SpanTable, table_of, IsPrint, Wanted, shown_table, chosen, Items, Json, TableOptions, Tabulations.PrintsTable, Together.EndsWell, declared.together.TogetherRun.TogetherRun}
 
--- the runs of the files of these names, each alone
-pub record AreRunsOf (source : SourceBytes) (names : List Name) (settings : Settings) (runs : List Run) : Type 0 where
-  pub files : List Input
-  pub read : AreInputs source names files
-  pub accounted : All (IsAccounted settings) files
-  pub are : runs ≡ map (run_alone settings) files
+mutual
+  -- A run of the program that prints a table as JSON Lines: of files, each apart or together, or of tables that others printed.
+  pub data Fleet : Type 0 where
+    of_files : SourceBytes → Bool → Settings → TableOptions → List Name → Fleet
+    of_printed : SourceBytes → TableOptions → List Name → Fleets → Fleet
 
--- what is printed of files apart, as JSON Lines with all rows, is what a tree wants of their runs
-abbrev pub SumsArePrinted : Type 0
-SumsArePrinted = (source : SourceBytes) (settings : Settings) (options : TableOptions) (names : List Name) (text lines : Bytes) → wants_all options.shown ≡ true
-    → PrintsTable source (EachApart settings) options names Json text lines →
-    (runs : List Run) × AreRunsOf source names settings runs × IsPrinted options.of settings.unit options.columns.items (of_runs runs) text
+  -- one such run or more
+  pub data Fleets : Type 0 where
+    one : Fleet → Fleets
+    more : Fleet → Fleets → Fleets
 
--- what is printed so of tables that are added is what a tree wants of a sum, whatever trees they were printed of
-abbrev pub AddsAreTrees : Type 0
-AddsAreTrees = (source : SourceBytes) (options : TableOptions) (names : List Name) (text lines : Bytes) → wants_all options.shown ≡ true
-    → (prints : PrintsTable source Printed options names Json text lines) →
-    (texts : List Bytes) × AllZip (IsText source) names texts
-    × ((parts : Trees) → ArePrinted prints.one.is.parts.of prints.one.is.parts.unit prints.one.is.parts.columns parts texts
-    → IsPrinted prints.one.is.parts.of prints.one.is.parts.unit (chosen options.columns.items prints.one.is.parts.columns) (of_parts parts) text)
+abbrev pub items_of : Bool → Settings → Items
+items_of true settings = EachApart settings
+items_of false settings = Together settings
+
+-- a table of these items is printed, by such options
+abbrev pub PrintsLines : SourceBytes → Items → TableOptions → List Name → Bytes → Type 0
+PrintsLines source items options names text = (lines : Bytes) × PrintsTable source items options names Json text lines
+
+abbrev mutual
+  -- the fleet prints this text; where it adds tables, each name stands for what one of its parts prints
+  pub Prints : Fleet → Bytes → Type 0
+  Prints (of_files source apart settings options names) text = PrintsLines source (items_of apart settings) options names text
+  Prints (of_printed source options names parts) text = PrintsLines source Printed options names text
+      × ((texts : List Bytes) × AllZip (λ name held. source name ≡ Some held) names texts × PrintEach parts texts)
+
+  pub PrintEach : Fleets → List Bytes → Type 0
+  PrintEach (one part) (text ∷ []) = Prints part text
+  PrintEach (more part parts) (text ∷ texts) = Prints part text × PrintEach parts texts
+  PrintEach parts texts = ⊥
+
+-- the runs of the files of these names: of each alone, or of all together
+abbrev pub AreRunsOfFiles : SourceBytes → Bool → Settings → List Name → List Run → Type 0
+AreRunsOfFiles source true settings names runs = (files : List Input) × AreInputs source names files × All (IsAccounted settings) files × (runs ≡ map (run_alone settings) files)
+AreRunsOfFiles source false settings names runs = (run : TogetherRun) × EndsWell source names settings run
+    × (runs ≡ run_of_files run.inputs.items run.collected.end.ends.items run.collected.ledger.journal ∷ [])
+
+abbrev mutual
+  -- the runs of all files of a fleet
+  pub AreRunsOf : Fleet → List Run → Type 0
+  AreRunsOf (of_files source apart settings options names) runs = AreRunsOfFiles source apart settings names runs
+  AreRunsOf (of_printed source options names parts) runs = AreRunsOfEach parts runs
+
+  pub AreRunsOfEach : Fleets → List Run → Type 0
+  AreRunsOfEach (one part) runs = AreRunsOf part runs
+  AreRunsOfEach (more part parts) runs = (own : List Run) × (later : List Run) × AreRunsOf part own × AreRunsOfEach parts later × (runs ≡ own ++ later)
+
+-- what a table sums, in which unit and by which columns
+pub record TableKind : Type 0 where
+  pub of : Of
+  pub unit : TimeUnit
+  pub columns : List Column
+
+abbrev mutual
+  -- the kind of what a fleet prints
+  pub kind_of : Fleet → TableKind
+  kind_of (of_files source apart settings options names) = record { of = options.of; unit = settings.unit; columns = options.columns.items }
+  kind_of (of_printed source options names parts) = record { of = (kind_of_first parts).of; unit = (kind_of_first parts).unit; columns = chosen options.columns.items (kind_of_first parts).columns }
+
+  -- that of the first of some tables, which the others have too
+  pub kind_of_first : Fleets → TableKind
+  kind_of_first (one part) = kind_of part
+  kind_of_first (more part parts) = kind_of part
+
+-- all rows
+abbrev pub all_rows : Wanted
+all_rows = record { only = []; skip = [] }
+
+-- no column of tables that are added is dropped
+abbrev pub KeepsColumns : TableOptions → Fleets → Type 0
+KeepsColumns options parts = All (Contains (chosen options.columns.items (kind_of_first parts).columns)) (kind_of_first parts).columns
+
+abbrev mutual
+  -- A fleet shows these rows: it is asked for them, of all rows of its parts; or each of the parts shows them, none of their columns is
+  -- dropped, and it is asked for the same, or for all.
+  pub Shows : Wanted → Fleet → Type 0
+  Shows wanted (of_files source apart settings options names) = options.shown ≡ wanted
+  Shows wanted (of_printed source options names parts) = ((options.shown ≡ wanted) × ShowEach all_rows parts)
+      ⊎ (((options.shown ≡ wanted) ⊎ (options.shown ≡ all_rows)) × KeepsColumns options parts × ShowEach wanted parts)
+
+  pub ShowEach : Wanted → Fleets → Type 0
+  ShowEach wanted (one part) = Shows wanted part
+  ShowEach wanted (more part parts) = Shows wanted part × ShowEach wanted parts
+
+-- Whatever a fleet prints is the table of the runs of all its files, or the rows of it that it shows.
+abbrev pub FleetsLoseNothing : Type 0
+FleetsLoseNothing = (wanted : Wanted) (fleet : Fleet) (text : Bytes) → Shows wanted fleet → Prints fleet text →
+    (runs : List Run) × AreRunsOf fleet runs × IsPrint (kind_of fleet).unit text (shown_table wanted (table_of (kind_of fleet).of (kind_of fleet).columns runs))
+
+-- whatever the runs of the files of one fleet are, they are those of the other, in some order
+abbrev pub HaveSameRuns : Fleet → Fleet → Type 0
+HaveSameRuns fleet other = (runs others : List Run) → AreRunsOf fleet runs → AreRunsOf other others → IsPermutation runs others
+
+-- So two fleets of the same files print alike, however these are divided.
+abbrev pub FleetsPrintAlike : Type 0
+FleetsPrintAlike = (wanted : Wanted) (fleet other : Fleet) (text other_text : Bytes) → HaveSameRuns fleet other → kind_of fleet ≡ kind_of other → Shows wanted fleet → Shows wanted other
+    → Prints fleet text → Prints other other_text → text ≡ other_text

@@ -3,7 +3,7 @@ use Rattle.std.specs.Prelude.{◌≡◌, ℕ, ◌<◌, ◌≤◌, ◌⊎◌, ◌
 use Rattle.span_runs.specs.declared.stop.Halt.TheVariants.{Memory, Stopped}
 use Rattle.span_tasks.specs.{Bytes, OutputFault, MemoryFault, number_of, SinkState, TakesBytes, Fails, IsHint, run_line, OfStop, Halt, declared.outcome.{Outcome.Outcome, Print.Print}}
 
--- the outcome has a text, by which the status is 1 where a fault line is said, else 0; or it stopped with 2, and there is no text
+-- the outcome has a text, with status 1 if there are lines, else 0; or it stopped with 2, and there is no text
 abbrev pub Ends : (Bytes → Bytes → Type 0) → (Bytes → Type 0) → Outcome → Type 0
 Ends Prints Stops outcome = IsHint outcome.hints.items
     × (((outcome.status ≡ (if length outcome.lines.items == 0 then 0 else 1)) × Prints outcome.output.items outcome.lines.items)

@@ -1,14 +1,15 @@
 //! What holds of tables that are printed, read back and added, as a fleet does whose machines sum files.
-ghost use Rattle.span_tasks.specs.{Fleet.{AddsAreTrees, SumsArePrinted}, ReadBack.{JsonLinesAreParts, PartsAreAdded}};
+ghost use Rattle.span_tasks.specs.{Fleet.{FleetsLoseNothing, FleetsPrintAlike}, ReadBack.{JsonLinesAreParts, PartsAreAdded}};
 
 use span_parts::laws::sum_law;
 use span_request::laws::columns_law;
 
-/// What is printed of files apart, and of tables that are added, is what trees of the files' runs are printed as; so the law of trees
-/// holds of it, from the files' bytes on. The function does nothing: its contract is the law.
+/// However files are divided over runs of the program, and in whatever groups and order the tables that these print are added, the last
+/// text is that of the table of all files, each a run as it was read, or of those rows of it that are shown. The function does nothing:
+/// its contract is the law.
 pub fn fleet_law()
-    ensures sums { SumsArePrinted }
-    ensures adds { AddsAreTrees }
+    ensures whole { FleetsLoseNothing }
+    ensures alike { FleetsPrintAlike }
 {}
 
 /// What is printed as JSON Lines, by whatever words, can be read back; and such tables of one kind are added, none is refused. The

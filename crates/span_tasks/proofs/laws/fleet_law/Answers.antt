@@ -1,8 +1,8 @@
-use Rattle.span_tasks.proofs.FleetTrees.{adds-trees, sums-leaves}
+use Rattle.span_tasks.proofs.Fleets.{fleets-alike, fleets-whole}
 use Rattle.span_tasks.proofs.laws.fleet_law.Goals as goal
 
-pub returns-clause-sums : goal.returns-clause-sums
-returns-clause-sums c = sums-leaves
+pub returns-clause-whole : goal.returns-clause-whole
+returns-clause-whole c = fleets-whole
 
-pub returns-clause-adds : goal.returns-clause-adds
-returns-clause-adds c = adds-trees
+pub returns-clause-alike : goal.returns-clause-alike
+returns-clause-alike c = fleets-alike

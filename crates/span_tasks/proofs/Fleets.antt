@@ -1,0 +1,217 @@
+-- Whatever a fleet prints is the table of the runs of all its files.
+use Rattle.std.specs.{List.AllZip, Prelude.{flat_map, IfSome}}
+use Rattle.std.proofs.{Common.{◌≡◌, ◌⊎◌, ℕ, ◌+◌, ◌<◌, ◌≤◌, Bool, true, false, cond, List, [], ◌∷◌, ◌++◌, All, Contains, filter, length, map, take, Option, Some, None, inl, inr, refl, sym, ap, ap₂, subst, ◌∙◌, arith}, lemmas.List.{append-nil, length-take, take_all, Elements.{All-filter, All-head, All-tail}}}
+use Rattle.span_table.proofs.AddedTables.{table_of-moved}
+use Rattle.span_table_text.specs.{Printed.{AreDistinct, HasOwn}, Shown.is_wanted, Json.text_of}
+use Rattle.span_table_text.proofs.{Determined.prints-determined, RunTables.{shown_table-all, table_of-HasOwnNumbers, table_of-HasWholeKeys}}
+use Rattle.span_table.specs.{Columns.column_name, Adding.{add_tables, with_columns}, declared.table.Row.Row}
+use Rattle.span_parts.proofs.RunSums.{sum-runs, sum-shown}
+use Rattle.span_request.specs.declared.tasks.Items.TheVariants.{Apart as EachApart, Printed, Together}
+use Rattle.span_tasks.specs.{Bytes, Settings, run_alone, run_of_files, Number, Column, IsPart, IsPrint, Name, Of, PartSum, Run, SumsParts, SourceBytes, TimeUnit, SpanTable, TableOptions, Wanted, shown_table, table_of, picked, chosen, AreAt, AreParts, Json, Added.{AreAsked, AreOfFirst, IsText, most_added, with_sum}, Tabulations.PrintsTable, Fleet.{AreRunsOf, AreRunsOfEach, Fleet, Fleets, FleetsLoseNothing, FleetsPrintAlike, KeepsColumns, PrintEach, Prints, ShowEach, Shows, TableKind, all_rows, kind_of, kind_of_first, more, of_files, of_printed, one}}
+
+-- the one table of a list
+pub only-same : (first other : SpanTable) → first ∷ [] ≡ other ∷ [] → first ≡ other
+only-same first other same = cc
+
+-- what is asked for, a first table has
+pub AreAsked-first : (source : SourceBytes) (wanted : List Column) (by : Option Number) (names : List Name) (parts : PartSum) → AreOfFirst source wanted by names parts → AreAsked wanted by parts
+AreAsked-first source wanted by [] parts of = absurd of
+AreAsked-first source wanted by (name ∷ later) parts of = of.0
+
+-- a text that is added is all that its name stands for
+texts-held : (source : SourceBytes) (names : List Name) (texts held : List Bytes) → AllZip (IsText source) names texts → AllZip (λ name text. source name ≡ Some text) names held → texts ≡ held
+texts-held source [] [] [] read known = refl
+texts-held source [] (text ∷ texts) held read known = absurd read
+texts-held source [] [] (text ∷ held) read known = absurd known
+texts-held source (name ∷ names) [] held read known = absurd read
+texts-held source (name ∷ names) (text ∷ texts) [] read known = absurd known
+texts-held source (name ∷ names) (text ∷ texts) (own ∷ held) read known = ap₂ (λ t l. t ∷ l) same (texts-held source names texts held read.1 known.1)
+  where
+    taken : text ≡ take (most_added + 1) own
+    taken = subst (λ all. IfSome all (λ bytes. text ≡ take (most_added + 1) bytes)) known.0 read.0.read
+
+    same : text ≡ own
+    same = taken ∙ take_all (most_added + 1) own (whole-le (most_added + 1) own (let within = subst (λ (t : Bytes). length t ≤ most_added) taken read.0.within in omega (arith, within)))
+      where
+        whole-le : (n : ℕ) (bytes : Bytes) → length (take n bytes) < n → length bytes ≤ n
+        whole-le n bytes within = omega (arith, within, length-take n bytes)
+
+-- what is printed of a part is the table that is read of it
+part-same : (unit second : TimeUnit) (of : Of) (columns : List Column) (wanted : Wanted) (runs : List Run) (text : Bytes) (table : SpanTable) → IsPart unit text table
+    → IsPrint second text (shown_table wanted (table_of of columns runs)) → (unit ≡ second) × (table ≡ shown_table wanted (table_of of columns runs))
+part-same unit second of columns wanted runs text table is print =
+    prints-determined unit second text table (shown_table wanted all) is print (All-filter shown (λ (row : Row). length row.key ≡ length columns) all.rows (table_of-HasWholeKeys columns runs of))
+    (All-filter shown (λ (row : Row). HasOwn of row.sums) all.rows (table_of-HasOwnNumbers columns runs of))
+  where
+    all : SpanTable
+    all = table_of of columns runs
+
+    shown : Row → Bool
+    shown row = is_wanted wanted row.key
+
+-- rows that are shown are shown once more, or all of them
+filter-again : {A : Type 0} (p : A → Bool) (xs : List A) → filter p (filter p xs) ≡ filter p xs
+filter-again p [] = refl
+filter-again {A = A} p (x ∷ xs) = by (p x) refl (filter-again p xs)
+  where
+    by : (b : Bool) → p x ≡ b → filter p (filter p xs) ≡ filter p xs → filter p (cond b (x ∷ filter p xs) (filter p xs)) ≡ cond b (x ∷ filter p xs) (filter p xs)
+    by true e rest = ap (λ b. cond b (x ∷ filter p (filter p xs)) (filter p (filter p xs))) e ∙ ap (λ l. x ∷ l) rest
+    by false e rest = rest
+
+shown-again : (wanted : Wanted) (table : SpanTable) → shown_table wanted (shown_table wanted table) ≡ shown_table wanted table
+shown-again wanted table = λ i. record { of = table.of; columns = table.columns; counts = table.counts; rows = filter-again (λ (row : Row). is_wanted wanted row.key) table.rows i }
+
+-- what stands for a fleet: the runs of its files, whose table it prints
+abbrev HasRuns : Wanted → Fleet → Bytes → Type 0
+HasRuns wanted fleet text = (runs : List Run) × AreRunsOf fleet runs × IsPrint (kind_of fleet).unit text (shown_table wanted (table_of (kind_of fleet).of (kind_of fleet).columns runs))
+
+-- the runs of a part, whose table was read
+record OwnRuns (wanted : Wanted) (known : TableKind) (part : Fleet) (printed : SpanTable) : Type 0 where
+  pub runs : List Run
+  pub are : AreRunsOf part runs
+  pub kind : kind_of part ≡ known
+  pub table : printed ≡ shown_table wanted (table_of known.of known.columns runs)
+  pub distinct : AreDistinct (map column_name known.columns)
+
+-- those of each part
+record HaveRuns (wanted : Wanted) (known : TableKind) (parts : Fleets) (printed : List SpanTable) : Type 0 where
+  pub lists : List (List Run)
+  pub are : AreRunsOfEach parts (flat_map (λ runs. runs) lists)
+  pub kind : kind_of_first parts ≡ known
+  pub tables : printed ≡ map (λ runs. shown_table wanted (table_of known.of known.columns runs)) lists
+  pub distinct : AreDistinct (map column_name known.columns)
+
+-- the runs of a part whose text was read
+part-whole : (wanted : Wanted) (kind : TableKind) (part : Fleet) (text : Bytes) (table : SpanTable) → HasRuns wanted part text → IsPart kind.unit text table → table.of ≡ kind.of → table.columns ≡ kind.columns →
+    OwnRuns wanted kind part table
+part-whole wanted kind part text table found is own_of own_columns =
+    let same = part-same kind.unit (kind_of part).unit (kind_of part).of (kind_of part).columns wanted found.0 text table is found.2 in
+    let ofs : (kind_of part).of ≡ kind.of = sym (ap (λ (t : SpanTable). t.of) same.1) ∙ own_of in
+    let by : (kind_of part).columns ≡ kind.columns = sym (ap (λ (t : SpanTable). t.columns) same.1) ∙ own_columns in
+    record {
+      runs = found.0;
+      are = found.1;
+      kind = λ i. record { of = ofs i; unit = sym same.0 i; columns = by i };
+      table = same.1 ∙ (λ i. shown_table wanted (table_of (ofs i) (by i) found.0));
+      distinct = subst (λ (columns : List Column). AreDistinct (map column_name columns)) own_columns is.is.columns.distinct;
+    }
+
+-- what is printed of files
+files-print : (settings : Settings) (options : TableOptions) (wanted : Wanted) (runs : List Run) (text : Bytes) (unit : TimeUnit) (table : SpanTable) → options.shown ≡ wanted → unit ≡ settings.unit
+    → table ≡ table_of options.of options.columns.items runs → IsPrint unit text (shown_table options.shown table)
+    → IsPrint settings.unit text (shown_table wanted (table_of options.of options.columns.items runs))
+files-print settings options wanted runs text unit table shows in_unit is print =
+    let all = table_of options.of options.columns.items runs in
+    subst (λ (u : TimeUnit). IsPrint u text (shown_table wanted all)) in_unit
+    (subst (λ (w : Wanted). IsPrint unit text (shown_table w all)) shows (subst (λ (t : SpanTable). IsPrint unit text (shown_table options.shown t)) is print))
+
+-- the kind of what is added
+abbrev kind_of_sum : PartSum → TableKind
+kind_of_sum parts = record { of = parts.of; unit = parts.unit; columns = parts.columns }
+
+module _ (wanted : Wanted) (source : SourceBytes) (options : TableOptions) (names : List Name) (parts : Fleets) (text lines : Bytes) (prints : PrintsTable source Printed options names Json text lines) where
+  abbrev own_parts : PartSum
+  own_parts = prints.one.is.parts
+
+  abbrev own_sum : SpanTable
+  own_sum = prints.one.is.is.1.0
+
+  abbrev own_columns : List Column
+  own_columns = chosen options.columns.items own_parts.columns
+
+  own-at : AreAt own_parts.places own_columns own_parts.columns
+  own-at = (AreAsked-first source options.columns.items None names own_parts prints.one.is.kind).chooses
+
+  own-print : IsPrint own_parts.unit text (shown_table options.shown own_sum)
+  own-print =
+      let side = prints.one.is.is in
+      let table = only-same prints.one.table own_sum (sym prints.one.only ∙ side.1.2) in
+      subst (λ (unit : TimeUnit). IsPrint unit text (shown_table options.shown own_sum)) side.0.unit (subst (λ (t : SpanTable). IsPrint prints.one.side.unit text (shown_table options.shown t)) table prints.is)
+
+  -- the sum of tables of runs, of which these are shown
+  sum-of_runs : (runs : List Run) → AreRunsOfEach parts runs → kind_of_first parts ≡ kind_of_sum own_parts → shown_table options.shown own_sum ≡ shown_table wanted (table_of own_parts.of own_columns runs) →
+      HasRuns wanted (of_printed source options names parts) text
+  sum-of_runs runs are kind shown = (
+    runs,
+    are,
+    subst (λ (k : TableKind). IsPrint k.unit text (shown_table wanted (table_of k.of (chosen options.columns.items k.columns) runs))) (sym kind) (subst (IsPrint own_parts.unit text) shown own-print),
+  )
+
+  -- the tables that are added
+  module _ (texts : List Bytes) (sums : SumsParts texts (with_sum own_parts own_sum)) where
+    sum-all : HaveRuns all_rows (kind_of_sum own_parts) parts sums.parts → options.shown ≡ wanted → HasRuns wanted (of_printed source options names parts) text
+    sum-all have shows =
+        let added = sums.adds ∙ ap (λ l. add_tables own_parts.of (picked own_parts.places own_parts.columns) (map (with_columns own_parts.places) l)) (have.tables ∙ whole have.lists)
+        ∙ sum-runs own_parts.of own_columns own_parts.columns own_parts.places own-at have.lists in
+        sum-of_runs (flat_map (λ runs. runs) have.lists) have.are have.kind (ap₂ shown_table shows added)
+      where
+        whole : (lists : List (List Run)) → map (λ runs. shown_table all_rows (table_of own_parts.of own_parts.columns runs)) lists ≡ map (table_of own_parts.of own_parts.columns) lists
+        whole [] = refl
+        whole (runs ∷ lists) = ap₂ (λ (t : SpanTable) l. t ∷ l) (shown_table-all all_rows (table_of own_parts.of own_parts.columns runs) refl) (whole lists)
+
+    sum-each : HaveRuns wanted (kind_of_sum own_parts) parts sums.parts → KeepsColumns options parts → (options.shown ≡ wanted) ⊎ (options.shown ≡ all_rows) → HasRuns wanted (of_printed source options names parts) text
+    sum-each have keeps shows =
+        let kept = subst (λ (k : TableKind). All (Contains (chosen options.columns.items k.columns)) k.columns) have.kind keeps in
+        let added = sums.adds ∙ ap (λ l. add_tables own_parts.of (picked own_parts.places own_parts.columns) (map (with_columns own_parts.places) l)) have.tables
+        ∙ sum-shown own_parts.of own_columns own_parts.columns own_parts.places own-at wanted kept have.distinct have.lists in
+        sum-of_runs (flat_map (λ runs. runs) have.lists) have.are have.kind (ap (shown_table options.shown) added ∙ again (table_of own_parts.of own_columns (flat_map (λ runs. runs) have.lists)) shows)
+      where
+        again : (table : SpanTable) → (options.shown ≡ wanted) ⊎ (options.shown ≡ all_rows) → shown_table options.shown (shown_table wanted table) ≡ shown_table wanted table
+        again table (inl same) = ap (λ (w : Wanted). shown_table w (shown_table wanted table)) same ∙ shown-again wanted table
+        again table (inr all) = ap (λ (w : Wanted). shown_table w (shown_table wanted table)) all ∙ shown_table-all all_rows (shown_table wanted table) refl
+
+mutual
+  -- whatever a fleet prints is the table of the runs of all its files
+  pub fleets-whole : FleetsLoseNothing
+  fleets-whole wanted (of_files source true settings options names) text shows (lines, prints) =
+      let side = prints.one.is.is in
+      let runs = map (run_alone settings) side.1.files in
+      let table = only-same prints.one.table (table_of options.of options.columns.items runs) (sym prints.one.only ∙ side.1.runs) in
+      (runs, (side.1.files, side.1.read, side.1.accounted, refl), files-print settings options wanted runs text prints.one.side.unit prints.one.table shows side.0.unit table prints.is)
+  fleets-whole wanted (of_files source false settings options names) text shows (lines, prints) =
+      let side = prints.one.is.is in
+      let run = side.1.run in
+      let runs = run_of_files run.inputs.items run.collected.end.ends.items run.collected.ledger.journal ∷ [] in
+      let table = only-same prints.one.table (table_of options.of options.columns.items runs) (sym prints.one.only ∙ side.1.is) in
+      (runs, (run, side.1.ended, refl), files-print settings options wanted runs text prints.one.side.unit prints.one.table shows side.0.unit table prints.is)
+  fleets-whole wanted (of_printed source options names parts) text (inl (shows, all)) ((lines, prints), (texts, held, each)) =
+      let adds = prints.one.is.is.1.1 in
+      let own = prints.one.is.parts in
+      let sums = subst (λ ts. SumsParts ts (with_sum own prints.one.is.is.1.0)) (texts-held source names adds.texts texts adds.read held) adds.sums in
+      sum-all wanted source options names parts text lines prints texts sums (parts-whole all_rows (kind_of_sum own) parts texts sums.parts all each sums.are sums.kinds sums.columns) shows
+  fleets-whole wanted (of_printed source options names parts) text (inr (shows, keeps, shown)) ((lines, prints), (texts, held, each)) =
+      let adds = prints.one.is.is.1.1 in
+      let own = prints.one.is.parts in
+      let sums = subst (λ ts. SumsParts ts (with_sum own prints.one.is.is.1.0)) (texts-held source names adds.texts texts adds.read held) adds.sums in
+      sum-each wanted source options names parts text lines prints texts sums (parts-whole wanted (kind_of_sum own) parts texts sums.parts shown each sums.are sums.kinds sums.columns) keeps shows
+
+  parts-whole : (wanted : Wanted) (kind : TableKind) (parts : Fleets) (texts : List Bytes) (tables : List SpanTable) → ShowEach wanted parts → PrintEach parts texts → AreParts kind.unit texts tables →
+      All (λ table. table.of ≡ kind.of) tables → All (λ table. table.columns ≡ kind.columns) tables → HaveRuns wanted kind parts tables
+  parts-whole wanted kind (one part) [] tables shows prints are kinds columns = absurd prints
+  parts-whole wanted kind (one part) (text ∷ (next ∷ texts)) tables shows prints are kinds columns = absurd prints
+  parts-whole wanted kind (one part) (text ∷ []) [] shows prints are kinds columns = absurd are
+  parts-whole wanted kind (one part) (text ∷ []) (table ∷ (next ∷ tables)) shows prints are kinds columns = absurd are.1
+  parts-whole wanted kind (one part) (text ∷ []) (table ∷ []) shows prints are kinds columns =
+      let own = part-whole wanted kind part text table (fleets-whole wanted part text shows prints) are.0 (All-head (λ t. t.of ≡ kind.of) table [] kinds) (All-head (λ t. t.columns ≡ kind.columns) table [] columns) in
+      record { lists = own.runs ∷ []; are = subst (AreRunsOf part) (sym (append-nil own.runs)) own.are; kind = own.kind; tables = ap (λ (t : SpanTable). t ∷ []) own.table; distinct = own.distinct }
+  parts-whole wanted kind (more part parts) [] tables shows prints are kinds columns = absurd prints
+  parts-whole wanted kind (more part parts) (text ∷ texts) [] shows prints are kinds columns = absurd are
+  parts-whole wanted kind (more part parts) (text ∷ texts) (table ∷ tables) shows prints are kinds columns =
+      let own = part-whole wanted kind part text table (fleets-whole wanted part text shows.0 prints.0) are.0 (All-head (λ t. t.of ≡ kind.of) table tables kinds) (All-head (λ t. t.columns ≡ kind.columns) table tables columns) in
+      let later = parts-whole wanted kind parts texts tables shows.1 prints.1 are.1 (All-tail (λ t. t.of ≡ kind.of) table tables kinds) (All-tail (λ t. t.columns ≡ kind.columns) table tables columns) in
+      record {
+        lists = own.runs ∷ later.lists;
+        are = (own.runs, flat_map (λ runs. runs) later.lists, own.are, later.are, refl);
+        kind = own.kind;
+        tables = ap₂ (λ (t : SpanTable) l. t ∷ l) own.table later.tables;
+        distinct = own.distinct;
+      }
+
+-- two fleets of the same files print alike
+pub fleets-alike : FleetsPrintAlike
+fleets-alike wanted fleet other text other_text same kinds shows others prints other_prints =
+    let first = fleets-whole wanted fleet text shows prints in
+    let second = fleets-whole wanted other other_text others other_prints in
+    let moved = table_of-moved (kind_of fleet).of (kind_of fleet).columns first.0 second.0 (same first.0 second.0 first.1 second.1) in
+    first.2.printed ∙ ap (λ (t : SpanTable). text_of (kind_of fleet).unit (shown_table wanted t)) moved
+    ∙ ap (λ (k : TableKind). text_of k.unit (shown_table wanted (table_of k.of k.columns second.0))) kinds ∙ sym second.2.printed
