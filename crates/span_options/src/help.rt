@@ -34,8 +34,8 @@ pub(crate) const GROUP_BY_HELP: &str =
     r#"Sum the spans of a table by these columns, 1 to 8 of them: pid, tid,
 process, thread, name, args.KEY (an argument of the span), and with
 --apart or --repeats file; with --add keep just these columns of the
-tables; with --top, --json, --base and --page. With --folded, and in the
-graphs of --page, name and args.KEY say what a frame is called"#;
+tables; with --top, --json, --base and --page. With --folded, and in
+the graphs of --page, name and args.KEY say what a frame is called"#;
 
 pub(crate) const APART_HELP: &str =
     r#"Take each FILE as a run of its own, whatever processes they share, and
