@@ -552,7 +552,7 @@ def columns_of(line):
         return line.value("--group-by")
     if line.value("--of") == "async":
         return ASYNC_BY
-    return RANKED_BY if line.has("--top") else COMPARED_BY
+    return COMPARED_BY if line.has("--base") or line.has("--json") else RANKED_BY
 
 
 def head_of(line):

@@ -363,7 +363,7 @@ ODD = {
     '"quoted" \'name\' ; $(x) `y`': '"quoted" \'name\' ; $(x) `y`',
     RIGHT: RIGHT,
     TURNED: TURNED_SHOWN,
-    "-": "-",
+    "./-": "./-",
 }
 
 

@@ -7,8 +7,8 @@ import sys
 from bench import ENGINE, fail
 from loopback import PATIENCE
 
-# A file with the name of what ends options, and one that looks like an option.
-ODD_NAMES = ["--", "--json", "-"]
+# Files with the name of what ends options, of an option, and of standard input.
+ODD_NAMES = ["--", "--json", "./-"]
 # Words of which the program says the same with --apart.
 SAME = {
     "an empty name": ["--json", "3.json", "", "7.json"],
@@ -18,7 +18,6 @@ SAME = {
     "an empty name of a base": ["--base", "", "3.json"],
     "names like options": ["--json", "--", "3.json", *ODD_NAMES],
     "a name that ends options": ["--json", "--", "--"],
-    "a hyphen": ["--json", "-", "3.json"],
     "options behind files": ["3.json", "--top=3", "7.json", "--group-by=name"],
     "two texts to be shown": ["--only", "a", "--only=S", "--skip", "9", "--top", "3", "--group-by", "name,args.detail", "3.json"],
     "how files are read": ["--limit", "90", "--nanoseconds", "--seal", "--strict", "--json", "3.json", "7.json"],
