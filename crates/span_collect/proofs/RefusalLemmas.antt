@@ -1,2 +1,5 @@
+pub mod Counted
+pub mod Most
+pub mod NoWarnings
 pub mod Refused
 pub mod Tallying

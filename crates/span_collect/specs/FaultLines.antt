@@ -22,12 +22,12 @@ end_line name (Refused caller code) = fault_line name code
 end_line name (Stopped caller done cause) = stop_line name (code_of cause) done
 end_line name NotStarted = fault_line name (number_of NotStartedFault)
 
--- what a text says of each file by its name and its end, in the files' order
-abbrev pub lines_of_ends : (List ℕ → FileEnd → List ℕ) → List Input → List FileEnd → List ℕ
-lines_of_ends lines [] ends = []
-lines_of_ends lines (file ∷ files) [] = []
-lines_of_ends lines (file ∷ files) (end ∷ ends) = lines file.name end ++ lines_of_ends lines files ends
+-- what each file gives by its name and its end, in the files' order
+abbrev pub of_each_end : {A : Type 0} → (List ℕ → FileEnd → List A) → List Input → List FileEnd → List A
+of_each_end given [] ends = []
+of_each_end given (file ∷ files) [] = []
+of_each_end given (file ∷ files) (end ∷ ends) = given file.name end ++ of_each_end given files ends
 
 -- the lines of all files, each with its end
 abbrev pub end_lines : List Input → List FileEnd → List ℕ
-end_lines files ends = lines_of_ends end_line files ends
+end_lines files ends = of_each_end end_line files ends

@@ -1,8 +1,19 @@
 -- Which numbers refused items, how many each, and which item first.
 pub mod Tallies
 pub mod Text
-use Rattle.std.specs.{Ordering.nat_cmp, Prelude.{ℕ, ◌+◌, List, [], ◌∷◌, ◌++◌, length, Option, Some, None}}
-use Rattle.span_collect.specs.{Keyed, entries_in, Answer, Refused, declared.refusals.tally.Refused.Refused as RefusedRow}
+pub mod Warnings
+use Rattle.std.specs.{Ordering.nat_cmp, Prelude.{ℕ, ◌+◌, List, [], ◌∷◌, ◌++◌, count_by, length, Option, Some, None}}
+use Rattle.span_collect.specs.{Keyed, entries_in, Answer, Accepted, CountRow, Refused, Replied, Sealed, Skipped, is_of, refused_kind, declared.refusals.tally.Refused.Refused as RefusedRow}
+
+-- how many answers are of each kind
+abbrev pub counts_in : List Answer → CountRow
+counts_in answers = record {
+  accepted = count_by (is_of Accepted) answers;
+  refused = count_by (is_of refused_kind) answers;
+  skipped = count_by (is_of Skipped) answers;
+  queries = count_by (is_of Replied) answers;
+  seals = count_by (is_of Sealed) answers;
+}
 
 -- a number that refused an item, with the item's place among those of its caller
 abbrev pub Refusal : Type 0

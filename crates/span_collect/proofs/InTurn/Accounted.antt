@@ -3,8 +3,8 @@ use Rattle.std.specs.{List.{AllZip, list_any, range_with_len}, Option.is_some, P
 use Rattle.std.proofs.{Common.{◌≡◌, ◌≢◌, inl, inr, ℕ, ◌<◌, List, [], ◌∷◌, ◌++◌, length, take, map, Bool, true, false, cond, ◌||◌, Contains, Option, Some, None, Ok, Err, refl, sym, ap, ap₂, subst, ◌∙◌, arith}, Math.Seq.take-length}
 use Rattle.span_journal.proofs.Topics.{Answers.answers-follow, Rows.rows-follow}
 use Rattle.span_share.proofs.CallersLists.{calls-append_other}
-use Rattle.span_collect.specs.{Unit, doc, Answer, Entry, Op, Query, Cause, next_entry, AreAlike, CountRow, head_lines, calls, caller_of, Account.{Account, Document, EachEndsAs, IsRead, IsRefused, StopsAsking, callers_named, operations, telling}, FaultLines.end_lines, InTurn.{AnswersAsInTurn, AreSeparate, answers_of, ends_from, items_in, journal_in_turn, told_in_turn}, Refusals.Text.refusals_of, Run.{is_cut, is_refused, status_of, unread_of}, Seals.{SealedAccount, SealsAfter, StopsSealing, seals_of, with_seals}, declared.{files.{FileEnd.{FileEnd, TheVariants.{Read, Refused, Stopped, NotStarted}}, Input.Input}, queries.Asked.Asked, sealing.Sealing.Sealing, settings.Settings.Settings}}
-use Rattle.span_collect.proofs.InTurn.{Alike.{Contains-place, acts_on-told, exchanges-alone}, Counts.{AllZip-files, count_row-told}, Exchanges.exchanges, FileLines.{end_lines-same, file_lines-same, unread_of-same}, OneByOne.told_in_turn-tells, Sealed.AreAlike-sealed, Shared.TellsFiles}
+use Rattle.span_collect.specs.{Unit, doc, Answer, Entry, Op, Query, Cause, next_entry, AreAlike, CountRow, head_lines, calls, caller_of, Account.{Account, Document, EachEndsAs, IsRead, IsRefused, StopsAsking, callers_named, operations, telling}, FaultLines.end_lines, InTurn.{AnswersAsInTurn, AreSeparate, answers_of, ends_from, items_in, journal_in_turn, told_in_turn}, Refusals.{Text.{file_lines, refusals_of}, Warnings.{file_warnings, warnings_of}}, Run.{is_cut, is_refused, status_of, unread_of}, Seals.{SealedAccount, SealsAfter, StopsSealing, seals_of, with_seals}, declared.{files.{FileEnd.{FileEnd, TheVariants.{Read, Refused, Stopped, NotStarted}}, Input.Input}, queries.Asked.Asked, sealing.Sealing.Sealing, settings.Settings.Settings}}
+use Rattle.span_collect.proofs.InTurn.{Alike.{Contains-place, acts_on-told, exchanges-alone}, Counts.{AllZip-files, count_row-told}, Exchanges.exchanges, FileLines.{end_lines-same, file_lines-same, file_warnings-same, of_each_end-same, unread_of-same}, OneByOne.told_in_turn-tells, Sealed.AreAlike-sealed, Shared.TellsFiles}
 
 read-tells : (journal : List Entry) (document : Document) (c count : ℕ) → IsRead journal document c count → operations journal c ≡ telling (items_in document)
 read-tells journal (Ok items) c count is = is.1
@@ -138,7 +138,14 @@ module _ (files : List Input) (asks : List Query) (settings : Settings) (ends : 
     pub refusals_of-in_turn : refusals_of settings.unit files ends journal ≡ refusals_of settings.unit files (ends_from settings.unit 1 files) (journal_in_turn settings files asks)
     refusals_of-in_turn =
         ap₂ (λ (counts : CountRow) (lines : List ℕ). head_lines settings.unit counts ++ lines) AreAlike-in_turn.counts
-        (file_lines-same settings.unit journal (journal_in_turn settings files asks) sealed.told settings.limit 1 files ends sealed.account.each_file_once_in_order all.0 (SealedAccount-answers separate all.0))
+        (of_each_end-same file_lines settings.unit journal (journal_in_turn settings files asks) sealed.told settings.limit (file_lines-same journal (journal_in_turn settings files asks))
+        1 files ends sealed.account.each_file_once_in_order all.0 (SealedAccount-answers separate all.0))
+
+    -- and so are its warnings
+    pub warnings_of-in_turn : warnings_of files ends journal ≡ warnings_of files (ends_from settings.unit 1 files) (journal_in_turn settings files asks)
+    warnings_of-in_turn =
+        of_each_end-same file_warnings settings.unit journal (journal_in_turn settings files asks) sealed.told settings.limit (file_warnings-same journal (journal_in_turn settings files asks))
+        1 files ends sealed.account.each_file_once_in_order all.0 (SealedAccount-answers separate all.0)
 
     -- and as many files are refused as a whole
     pub unread_of-in_turn : unread_of ends ≡ unread_of (ends_from settings.unit 1 files)

@@ -1,30 +1,40 @@
--- What is said of files that were all read or refused, and how many were refused.
+-- What files give that were all read or refused, and how many were refused.
 use Rattle.std.specs.{List.{list_any, range_with_len}, Prelude.flat_map}
 use Rattle.std.proofs.Common.{◌≡◌, ℕ, suc, ◌+◌, List, [], ◌∷◌, ◌++◌, length, map, false, Some, Ok, Err, refl, sym, ap, ap₂, ◌∙◌}
-use Rattle.span_collect.specs.{Unit, doc, Answer, Entry, Account.{Document, EachEndsAs, IsRead, IsRefused, caller_named, callers_named}, FaultLines.{end_line, end_lines, fault_line, lines_of_ends}, InTurn.{answers_of, ends_from}, Refusals.{refused_by, Text.{caller_lines, file_lines, refused_line}}, Run.{end_by, is_cut, unread_of}, declared.files.{FileEnd.{FileEnd, TheVariants.{Read, Refused, Stopped, NotStarted}}, Input.Input}}
+use Rattle.span_collect.specs.{Unit, doc, Answer, Entry, Account.{Document, EachEndsAs, IsRead, IsRefused, caller_named, callers_named}, FaultLines.{end_line, end_lines, fault_line, of_each_end}, InTurn.{answers_of, ends_from}, Refusals.{counts_in, refused_by, Text.{caller_lines, file_lines, refused_line}, Warnings.{caller_warnings, file_warnings, warning_in}}, Run.{end_by, is_cut, unread_of}, declared.files.{FileEnd.{FileEnd, TheVariants.{Read, Refused, Stopped, NotStarted}}, Input.Input}}
 
 caller_named-end_by : (caller : ℕ) (document : Document) → caller_named (end_by caller document) ≡ Some caller
 caller_named-end_by caller (Ok items) = refl
 caller_named-end_by caller (Err error) = refl
 
--- a file has the same lines where its caller got the same answers as another
-caller_lines-same : (journal other : List Entry) (name : List ℕ) (document : Document) (c d : ℕ) → answers_of journal c ≡ answers_of other d → caller_lines journal name (Some c) ≡ file_lines other name (end_by d document)
-caller_lines-same journal other name document c d same =
-    ap (λ (answers : List Answer). flat_map (refused_line name) (refused_by answers)) same ∙ sym (ap (caller_lines other name) (caller_named-end_by d document))
+-- What each file gives by the journal and its end: the same, where its caller got the same answers. So it is for all files, where the
+-- callers from one number on got the answers of those that the ends name.
+module _ {A : Type 0} (given : List Entry → List ℕ → FileEnd → List A) (unit : Unit) (journal other told : List Entry) (limit : ℕ)
+    (same : (name : List ℕ) (document : Document) (end : FileEnd) (c d : ℕ) → caller_named end ≡ Some c → answers_of journal c ≡ answers_of other d → given journal name end ≡ given other name (end_by d document)) where
+  pub of_each_end-same : (k : ℕ) (files : List Input) (ends : List FileEnd) → EachEndsAs unit told limit files ends → list_any is_cut ends ≡ false →
+      map (answers_of journal) (callers_named ends) ≡ map (answers_of other) (range_with_len k (length files)) →
+      of_each_end (given journal) files ends ≡ of_each_end (given other) files (ends_from unit k files)
+  of_each_end-same k [] [] each none answers = refl
+  of_each_end-same k [] (end ∷ ends) each none answers = absurd each
+  of_each_end-same k (f ∷ fs) [] each none answers = absurd each
+  of_each_end-same k (f ∷ fs) (Read c count ∷ ends) each none answers =
+      ap₂ (λ (x y : List A). x ++ y) (same f.name (doc unit f.bytes.items) (Read c count) c k refl (cc)) (of_each_end-same (k + 1) fs ends each.1 none (cc))
+  of_each_end-same k (f ∷ fs) (Refused c code ∷ ends) each none answers =
+      ap₂ (λ (x y : List A). x ++ y) (same f.name (doc unit f.bytes.items) (Refused c code) c k refl (cc)) (of_each_end-same (k + 1) fs ends each.1 none (cc))
+  of_each_end-same k (f ∷ fs) (Stopped c done cause ∷ ends) each none answers = absurd cc
+  of_each_end-same k (f ∷ fs) (NotStarted ∷ ends) each none answers = absurd cc
 
--- the lines of all files, where the callers from one number on got the answers of those that the ends name
-pub file_lines-same : (unit : Unit) (journal other told : List Entry) (limit k : ℕ) (files : List Input) (ends : List FileEnd) → EachEndsAs unit told limit files ends → list_any is_cut ends ≡ false →
-    map (answers_of journal) (callers_named ends) ≡ map (answers_of other) (range_with_len k (length files)) →
-    lines_of_ends (file_lines journal) files ends ≡ lines_of_ends (file_lines other) files (ends_from unit k files)
-file_lines-same unit journal other told limit k [] [] each none same = refl
-file_lines-same unit journal other told limit k [] (end ∷ ends) each none same = absurd each
-file_lines-same unit journal other told limit k (f ∷ fs) [] each none same = absurd each
-file_lines-same unit journal other told limit k (f ∷ fs) (Read c count ∷ ends) each none same =
-    ap₂ (λ (x y : List ℕ). x ++ y) (caller_lines-same journal other f.name (doc unit f.bytes.items) c k (cc)) (file_lines-same unit journal other told limit (k + 1) fs ends each.1 none (cc))
-file_lines-same unit journal other told limit k (f ∷ fs) (Refused c code ∷ ends) each none same =
-    ap₂ (λ (x y : List ℕ). x ++ y) (caller_lines-same journal other f.name (doc unit f.bytes.items) c k (cc)) (file_lines-same unit journal other told limit (k + 1) fs ends each.1 none (cc))
-file_lines-same unit journal other told limit k (f ∷ fs) (Stopped c done cause ∷ ends) each none same = absurd cc
-file_lines-same unit journal other told limit k (f ∷ fs) (NotStarted ∷ ends) each none same = absurd cc
+-- its lines of refusals
+pub file_lines-same : (journal other : List Entry) (name : List ℕ) (document : Document) (end : FileEnd) (c d : ℕ) → caller_named end ≡ Some c → answers_of journal c ≡ answers_of other d →
+    file_lines journal name end ≡ file_lines other name (end_by d document)
+file_lines-same journal other name document end c d named same =
+    ap (caller_lines journal name) named ∙ ap (λ (answers : List Answer). flat_map (refused_line name) (refused_by answers)) same ∙ sym (ap (caller_lines other name) (caller_named-end_by d document))
+
+-- its warnings
+pub file_warnings-same : (journal other : List Entry) (name : List ℕ) (document : Document) (end : FileEnd) (c d : ℕ) → caller_named end ≡ Some c → answers_of journal c ≡ answers_of other d →
+    file_warnings journal name end ≡ file_warnings other name (end_by d document)
+file_warnings-same journal other name document end c d named same =
+    ap (caller_warnings journal name) named ∙ ap (λ (answers : List Answer). warning_in name (counts_in answers) (refused_by answers)) same ∙ sym (ap (caller_warnings other name) (caller_named-end_by d document))
 
 unread_of-read : (told : List Entry) (document : Document) (c count k : ℕ) (rest : List FileEnd) → IsRead told document c count → unread_of (end_by k document ∷ rest) ≡ unread_of rest
 unread_of-read told (Ok items) c count k rest is = refl

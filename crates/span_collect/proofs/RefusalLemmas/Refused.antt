@@ -1,7 +1,6 @@
 -- How refusals grow with one more answer.
-use Rattle.std.specs.Prelude.{if◌then◌else◌}
-use Rattle.std.proofs.{Common.{◌≡◌, ℕ, ◌+◌, ◌≤◌, List, [], ◌∷◌, ◌++◌, length, Option, Some, None, sym, ap, ◌∙◌, append_assoc, append-nil, refl, ap₂, cond, false, ◌==◌, arith}, lemmas.{Bool.Decides.nat_tests, List.length_push}}
-use Rattle.span_collect.specs.{Answer, Refusals.{first_of, number_in, refusal_at, refused_at, refusals_from}}
+use Rattle.std.proofs.{Common.{◌≡◌, ℕ, ◌+◌, ◌≤◌, List, [], ◌∷◌, ◌++◌, length, Option, Some, None, sym, ap, ◌∙◌, append_assoc, append-nil, arith}}
+use Rattle.span_collect.specs.{Answer, Refusals.{number_in, refusal_at, refusals_from}}
 
 -- the refusal of one more answer comes last
 pub refusals_from-push : (place : ℕ) (answers : List Answer) (answer : Answer) → refusals_from place (answers ++ answer ∷ []) ≡ refusals_from place answers ++ refusal_at (place + length answers) (number_in answer)

@@ -2,8 +2,8 @@
 use Rattle.std.specs.{BTreeMap.{insert_entry, is_at}, Cmp.unsigned_ties, List.Sorted.IsStrictlySortedBy, Map.{keys_of, lookup, set_value}, Ordering.{is_eq, nat_cmp}, Prelude.{filter, slice_get}}
 use Rattle.std.proofs.{Common.{◌≡◌, ℕ, ◌+◌, ◌-◌, ◌^◌, ◌<◌, Bool, true, false, cond, ◌==◌, List, [], ◌∷◌, ◌++◌, length, map, Option, Some, None, refl, sym, ap, ap₂, ◌∙◌, append-nil, inl, inr, arith}, lemmas.{Cmp.nat_cmp_total, List.{length-map, length_push, map_push}, Map.Lookups.exact_unsigned, Option.slice_get_cases}}
 use Rattle.span_keyed_tracks.proofs.{KeyChange.insert_entry-found, Keyed.{entries_in-insert_entry, kept_at-entries_in, length-steps_at, lookup-entries_in, steps_at-absent}}
-use Rattle.span_collect.specs.{Keyed, entries_in, kept_at, steps_at, Answer, Entry, InTurn.answers_of, Refusals.{number_in, refusal_at, refused_at, refused_by, refusals_from, Tallies.{HasRoom, HasRoomFor, Tallied, Takes, answer_in, tallies_of, tally_of}}, declared.refusals.tally.Refused.Refused}
-use Rattle.span_collect.proofs.RefusalLemmas.Refused.{length-refusals_from, refusals_from-push}
+use Rattle.span_collect.specs.{Keyed, entries_in, kept_at, steps_at, Answer, CountRow, Entry, counted, InTurn.answers_of, Refusals.{counts_in, number_in, refusal_at, refused_at, refused_by, refusals_from, Tallies.{HasRoom, HasRoomFor, Tallied, Takes, answer_in, tallies_of, tally_of}}, declared.refusals.tally.Refused.Refused}
+use Rattle.span_collect.proofs.RefusalLemmas.{Counted.counts_in-push, Refused.{length-refusals_from, refusals_from-push}}
 
 -- the steps of a caller are the answers to it
 pub steps_at-answers : (journal : List Entry) (caller : ℕ) → steps_at nat_cmp caller (map answer_in journal) ≡ answers_of journal caller
@@ -32,29 +32,36 @@ module _ (answers : List Answer) (answer : Answer) where
       let place : 0 + length answers ≡ length answers = omega arith in
       refusals_from-push 0 answers answer ∙ ap₂ (λ p o. refusals_from 0 answers ++ refusal_at p o) place is
 
+  -- one more item is counted
+  counts-more : (old : Tallied) (counts : CountRow) → old ≡ tally_of answers → counts ≡ counted old.counts answer → counts ≡ counts_in (answers ++ answer ∷ [])
+  counts-more old counts is counts_it = counts_it ∙ ap (λ (t : Tallied). counted t.counts answer) is ∙ sym (counts_in-push answers answer)
+
   -- an answer that refuses nothing is one more item
-  pub Takes-other : (old new : Tallied) → number_in answer ≡ None → old ≡ tally_of answers → new.items ≡ old.items + 1 → new.refused ≡ old.refused → new ≡ tally_of (answers ++ answer ∷ [])
-  Takes-other old new none is items refused =
+  pub Takes-other : (old new : Tallied) → number_in answer ≡ None → old ≡ tally_of answers → new.items ≡ old.items + 1 → new.counts ≡ counted old.counts answer → new.refused ≡ old.refused →
+      new ≡ tally_of (answers ++ answer ∷ [])
+  Takes-other old new none is items counts refused =
       let more : new.items ≡ length (answers ++ answer ∷ []) = items ∙ ap (λ (t : Tallied). t.items + 1) is ∙ sym (length_push answers answer) in
+      let row = counts-more old new.counts is counts in
       let same : new.refused ≡ refused_by (answers ++ answer ∷ []) =
       refused ∙ ap (λ (t : Tallied). t.refused) is ∙ ap (entries_in nat_cmp refused_at) (sym (append-nil (refusals_from 0 answers)) ∙ sym (refusals None none)) in
-      ap₂ (λ i r. record { items = i; refused = r }) more same
+      λ i. record { items = more i; counts = row i; refused = same i }
 
   -- a refusal is one more item, and comes last among those of its number
   pub Takes-refusal : (old new : Tallied) (code : ℕ) (refused : Refused) → number_in answer ≡ Some code → old ≡ tally_of answers → IsStrictlySortedBy nat_cmp (keys_of old.refused) →
       ((places : List ℕ) → kept_at nat_cmp (refused_at []) old.refused code ≡ refused_at places → refused ≡ refused_at (places ++ old.items ∷ [])) →
-      new.items ≡ old.items + 1 → new.refused ≡ insert_entry nat_cmp old.refused code refused → new ≡ tally_of (answers ++ answer ∷ [])
-  Takes-refusal old new code refused some is sorted value items written =
+      new.items ≡ old.items + 1 → new.counts ≡ counted old.counts answer → new.refused ≡ insert_entry nat_cmp old.refused code refused → new ≡ tally_of (answers ++ answer ∷ [])
+  Takes-refusal old new code refused some is sorted value items counts written =
       let earlier = refusals_from 0 answers in
       let kept = ap (λ (t : Tallied). kept_at nat_cmp (refused_at []) t.refused code) is ∙ kept_at-entries_in nat_cmp_total exact_unsigned refused_at earlier code in
       let becomes : refused ≡ refused_at (steps_at nat_cmp code earlier ++ length answers ∷ []) =
       value (steps_at nat_cmp code earlier) kept ∙ ap (λ (t : Tallied). refused_at (steps_at nat_cmp code earlier ++ t.items ∷ [])) is in
       let more : new.items ≡ length (answers ++ answer ∷ []) = items ∙ ap (λ (t : Tallied). t.items + 1) is ∙ sym (length_push answers answer) in
+      let row = counts-more old new.counts is counts in
       let same : new.refused ≡ refused_by (answers ++ answer ∷ []) =
       written
       ∙ entries_in-insert_entry nat_cmp_total exact_unsigned refused_at earlier (record { key = code; step = length answers }) old.refused refused (ap (λ (t : Tallied). t.refused) is) sorted becomes
       ∙ ap (entries_in nat_cmp refused_at) (sym (refusals (Some code) some)) in
-      ap₂ (λ i r. record { items = i; refused = r }) more same
+      λ i. record { items = more i; counts = row i; refused = same i }
 
 module _ (journal : List Entry) (old : List (ℕ × Tallied)) (stands : old ≡ tallies_of journal) where
   -- a tally that is found is what the answers to its caller give
@@ -86,9 +93,9 @@ HasRoom-found old key was (journal, stands, few) found =
     (steps_at nat_cmp key (map answer_in journal), tally_of-found journal old stands key was found, omega (arith, length-steps_at nat_cmp key (map answer_in journal), length-map journal answer_in, few))
 
 module _ (journal : List Entry) (tallies : List (ℕ × Tallied)) (stands : tallies ≡ tallies_of journal) (caller : ℕ) where
-  -- what is kept for a caller is what refused its items
-  pub refused_by-found : (tally : Tallied) → lookup (is_at (nat_cmp caller)) tallies ≡ Some tally → tally.refused ≡ refused_by (answers_of journal caller)
-  refused_by-found tally found = ap (λ (t : Tallied). t.refused) (tally_of-found journal tallies stands caller tally found) ∙ ap refused_by (steps_at-answers journal caller)
+  -- what is kept for a caller is what its items gave
+  pub tally_of-answers : (tally : Tallied) → lookup (is_at (nat_cmp caller)) tallies ≡ Some tally → tally ≡ tally_of (answers_of journal caller)
+  tally_of-answers tally found = tally_of-found journal tallies stands caller tally found ∙ ap tally_of (steps_at-answers journal caller)
 
   -- a caller of which nothing is kept has no entry
   pub answers_of-absent : lookup (is_at (nat_cmp caller)) tallies ≡ None → answers_of journal caller ≡ []

@@ -1,15 +1,16 @@
 -- What is kept of the answers to each caller.
 use Rattle.std.specs.{Ordering.nat_cmp, Prelude.{◌≡◌, ℕ, ◌-◌, ◌^◌, ◌<◌, List, [], ◌∷◌, ◌++◌, length, map}}
-use Rattle.span_collect.specs.{Keyed, entries_in, Answer, Entry, Refusals.refused_by, declared.refusals.tally.Refused.Refused}
+use Rattle.span_collect.specs.{Keyed, entries_in, Answer, CountRow, Entry, Refusals.{counts_in, refused_by}, declared.refusals.tally.Refused.Refused}
 
--- how many items a caller told, and what refused some of them
+-- how many items a caller told, what became of them, and what refused some of them
 pub record Tallied : Type 0 where
   pub items : ℕ
+  pub counts : CountRow
   pub refused : List (ℕ × Refused)
 
 -- what these answers give
 abbrev pub tally_of : List Answer → Tallied
-tally_of answers = record { items = length answers; refused = refused_by answers }
+tally_of answers = record { items = length answers; counts = counts_in answers; refused = refused_by answers }
 
 -- it stands for answers of which there can be one more
 abbrev pub HasRoom : Tallied → Type 0

@@ -1,6 +1,6 @@
 -- The text that says which items were refused.
 use Rattle.std.specs.Prelude.{ℕ, List, [], ◌∷◌, ◌++◌, flat_map, Option, Some, None, codes, decimal}
-use Rattle.span_collect.specs.{Unit, Entry, count_row, json_text_of, line_of, right_in, head_lines, Account.caller_named, FaultLines.lines_of_ends, InTurn.answers_of, Refusals.refused_by, Words.numbered, declared.{files.{FileEnd.FileEnd, Input.Input}, refusals.tally.Refused.Refused}}
+use Rattle.span_collect.specs.{Unit, Entry, count_row, json_text_of, line_of, right_in, head_lines, Account.caller_named, FaultLines.of_each_end, InTurn.answers_of, Refusals.refused_by, Words.numbered, declared.{files.{FileEnd.FileEnd, Input.Input}, refusals.tally.Refused.Refused}}
 
 -- the line of a file and a number
 unfoldable pub refused_line : List ℕ → ℕ × Refused → List ℕ
@@ -18,4 +18,4 @@ file_lines journal name end = caller_lines journal name (caller_named end)
 
 -- the head of the report, and then the lines of the files
 abbrev pub refusals_of : Unit → List Input → List FileEnd → List Entry → List ℕ
-refusals_of unit files ends journal = head_lines unit (count_row journal) ++ lines_of_ends (file_lines journal) files ends
+refusals_of unit files ends journal = head_lines unit (count_row journal) ++ of_each_end (file_lines journal) files ends

@@ -1,8 +1,8 @@
-//! How many of one caller's items each number refused, and which first.
+//! What became of one caller's items: how many were accepted, and how many each number refused, and which first.
 ghost use Rattle.std.specs.{Ordering.nat_cmp, Prelude.{◌≡◌, ◌-◌, ◌^◌, ◌<◌, ℕ, List, [], ◌∷◌, ◌++◌, OnOk}};
 ghost use Rattle.span_collect.specs.{kept_at, Refusals.{number_in, refused_at, Tallies.{HasRoom, Takes, tally_of}}};
 
-use span_journal::Answer;
+use span_journal::{Answer, CountRow};
 use std::alloc::{AllocError, Global};
 use std::collections::BTreeMap;
 use std::marker::Model;
@@ -33,6 +33,7 @@ impl Refused {
 #[derive(Drop)]
 pub(crate) struct Tally {
     items: u32,
+    pub(crate) counts: CountRow,
     pub(crate) refused: BTreeMap<u16, Refused>,
 }
 
@@ -41,7 +42,7 @@ impl Model for Tally {
 
     ghost Value = { Tallied };
 
-    ghost view = { λ t. record { items = t.items; refused = t.refused.entries } };
+    ghost view = { λ t. record { items = t.items; counts = t.counts; refused = t.refused.entries } };
 }
 
 impl Tally {
@@ -50,6 +51,7 @@ impl Tally {
     {
         Tally {
             items: 0,
+            counts: CountRow::of_no_entries(),
             refused: BTreeMap::new(alloc),
         }
     }
@@ -63,6 +65,7 @@ impl Tally {
             let refused = self.refused_with(code).and(self.items);
             self.refused.insert(code, refused)?;
         }
+        self.counts.count(answer);
         self.items += 1;
         Ok(())
     }

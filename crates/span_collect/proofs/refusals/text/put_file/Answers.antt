@@ -1,7 +1,7 @@
 use Rattle.std.proofs.Common.{◌≡◌, ◌++◌, Some, string_bytes, flat_map, sym, ap, ◌∙◌, append-nil}
 use Rattle.span_keyed_tracks.proofs.Results.{on_ok-map}
-use Rattle.span_collect.specs.{Account.caller_named, Refusals.{refused_by, Text.{caller_lines, refused_line}}}
-use Rattle.span_collect.proofs.RefusalLemmas.Tallying.{answers_of-absent, refused_by-found}
+use Rattle.span_collect.specs.{Account.caller_named, Refusals.{refused_by, Tallies.Tallied, Text.{caller_lines, refused_line}}}
+use Rattle.span_collect.proofs.RefusalLemmas.Tallying.{answers_of-absent, tally_of-answers}
 use Rattle.span_collect.proofs.refusals.text.put_file.Goals as goal
 
 pub returns-in-Some-get : goal.returns-in-Some-get
@@ -10,7 +10,7 @@ returns-in-Some-get c =
     let named : Some c.in-Some.caller ≡ caller_named c.args.end = sym c.in-Some.is ∙ c.caller.ensures in
     on_ok-map c.put_refused.result _ _
     (λ put journal stands. put
-    ∙ ap (λ refused. before ++ flat_map (refused_line c.args.name.now) refused) (refused_by-found journal c.args.tallies.now.entries stands c.in-Some.caller c.in-Some-get.tally.now (sym c.in-Some-get.ensures.value))
+    ∙ ap (λ refused. before ++ flat_map (refused_line c.args.name.now) refused) (ap (λ (t : Tallied). t.refused) (tally_of-answers journal c.args.tallies.now.entries stands c.in-Some.caller c.in-Some-get.tally.now (sym c.in-Some-get.ensures.value)))
     ∙ ap (λ caller. before ++ caller_lines journal c.args.name.now caller) named)
     c.put_refused.ensures
 
