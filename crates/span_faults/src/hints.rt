@@ -40,8 +40,17 @@ pub fn hints_of(alloc: Global, files: &[Input], collected: &Collected, unit: Uni
 fn hint_of_end(file: &Input, end: &FileEnd, counts: &RefusalCounts) -> Option<Hint> {
     match end {
         FileEnd::Read { caller, items } => counts.most_of(*caller, *items),
-        FileEnd::Refused { code, .. } if *code == Fault::TooLarge.code() => Some(Hint::TooLarge),
-        FileEnd::Refused { .. } => hint_of_bytes(&file.bytes),
+        FileEnd::Refused { code, .. } => hint_of_refusal(&file.bytes, *code),
+        _ => None,
+    }
+}
+
+// What may help with a file of these bytes that was refused as a whole, with this number.
+fn hint_of_refusal(bytes: &[u8], code: u16) -> Option<Hint> {
+    match Fault::of_code(code)? {
+        Fault::NotJson => Some(hint_of_bytes(bytes)),
+        Fault::NotTrace => Some(Hint::NotTrace),
+        Fault::TooLarge => Some(Hint::TooLarge),
         _ => None,
     }
 }

@@ -4,9 +4,12 @@
 mod hints;
 mod lines;
 mod remedies;
+mod warnings;
 
 pub use hints::{hint_line, hints_of, many_files};
 pub use lines::{fault_text, run_line};
 pub use remedies::{Hint, Reason};
+pub use span_collect::refusals::Warning;
 pub use span_collect::{Collected, Input, RunEnd};
 pub use span_event::{Text, Unit};
+pub use warnings::warning_lines;

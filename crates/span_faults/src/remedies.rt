@@ -53,6 +53,10 @@ pub enum Hint {
     CutOff {
         whole: usize,
     },
+    /// The file has neither an array of events nor an object with one.
+    NotTrace,
+    /// Nor is it JSON.
+    NotJson,
     /// The file is larger than a file may be.
     TooLarge,
     /// So many of the file's elements were refused with this number, and this may help.
@@ -67,20 +71,23 @@ pub enum Hint {
 }
 
 /// What the bytes of a text that is not JSON look like.
-pub(crate) fn hint_of_bytes(bytes: &[u8]) -> Option<Hint> {
+pub(crate) fn hint_of_bytes(bytes: &[u8]) -> Hint {
     if let Some(unpacker) = unpacker_of(bytes) {
-        return Some(Hint::Compressed { unpacker });
+        return Hint::Compressed { unpacker };
     }
     if bytes.starts_with(b"\xef\xbb\xbf") {
-        return Some(Hint::ByteOrderMark);
+        return Hint::ByteOrderMark;
     }
     if bytes.starts_with(b"\xff\xfe") || bytes.starts_with(b"\xfe\xff") {
-        return Some(Hint::Utf16);
+        return Hint::Utf16;
     }
     if bytes.iter().all(|byte| is_blank(*byte)) {
-        return Some(Hint::Empty);
+        return Hint::Empty;
     }
-    Brackets::new().cut_of(bytes)
+    match Brackets::new().cut_of(bytes) {
+        Some(cut) => cut,
+        None => Hint::NotJson,
+    }
 }
 
 // The program that prints what a compressed file holds.
@@ -229,6 +236,9 @@ impl RefusalCounts {
     }
 }
 
+// What a trace is, for a file that is none.
+const TRACE: &str = r#"a trace is an array of events, or an object that has one as "traceEvents""#;
+
 // What helps where most elements are refused with this number.
 fn remedy_of(code: u16) -> &'static str {
     match code {
@@ -255,6 +265,8 @@ impl fmt::Display for Hint {
                 f,
                 "it is cut off behind byte {whole}: tracebook_convert --cut keeps the whole elements before that"
             ),
+            Hint::NotTrace => write!(f, "it has no events: {TRACE}"),
+            Hint::NotJson => write!(f, "it is not JSON: {TRACE}"),
             Hint::TooLarge => { f.write_str("a file may have 64 MiB: tracebook_split splits it") }
             Hint::Refused {
                 count,
